@@ -1,0 +1,131 @@
+-- What a script does: generations, transactions, refusals (nft(8): a file is applied in whole transactions).
+use Rattle.std.specs.Prelude.{ℕ, ◌+◌, Bool, true, false, List, [], ◌∷◌, ◌++◌, map, if◌then◌else◌, not, Option, Some, None, slice_get, slice_set, fold, count_by}
+use Rattle.std.specs.List.{sum_by as total_by}
+use Rattle.set_model.specs.declared.kind.Interval.{Interval}
+use Rattle.set_model.specs.declared.script.Step.{Step}
+use Rattle.set_model.specs.declared.script.Step.TheVariants.{Change, Flush, Commit, Abort}
+use Rattle.set_model.specs.declared.script.Verb.{Verb}
+use Rattle.set_model.specs.declared.script.Verb.TheVariants as verbs
+use Rattle.set_model.specs.declared.report.Why.{Why}
+use Rattle.set_model.specs.declared.report.Why.TheVariants as causes
+use Rattle.set_model.specs.declared.report.Event.{Event}
+use Rattle.set_model.specs.declared.report.Event.TheVariants as events
+use Rattle.set_model.specs.declared.script.SetDecl.{SetDecl}
+use Rattle.set_model.specs.Expiry.{live}
+use Rattle.set_model.specs.SetState.{State, Added, New, Already, Renewed, Refused, add, removed, purged, cleared, empty_set}
+
+-- A committed version of all sets, and its number.
+pub record Generation : Type 0 where
+  pub number : ℕ
+  pub sets : List State
+
+-- What a refused change does to its transaction: it fails, or the change is skipped.
+pub data Mode : Type 0 where
+  Strict : Mode
+  KeepGoing : Mode
+
+-- The generations so far and the last of them again, the sets with the open changes, whether the
+-- open transaction has failed, and what was told.
+pub record Control : Type 0 where
+  pub committed : List Generation
+  pub last : Generation
+  pub sets : List State
+  pub failed : Bool
+  pub events : List Event
+
+-- Generation 0: every declared set, empty.
+abbrev pub first_generation : List SetDecl → Generation
+first_generation schema = record { number = 0; sets = map (λ d. empty_set d.kinds d.size d.disjoint) schema }
+
+abbrev pub start : List SetDecl → Control
+start schema = let g = first_generation schema in record { committed = g ∷ []; last = g; sets = g.sets; failed = false; events = [] }
+
+abbrev pub told : Control → Event → Control
+told c event = record c { events = c.events ++ event ∷ [] }
+
+-- A refused change is told and leaves the open sets. In strict mode the transaction has failed.
+abbrev pub refused : Mode → Control → ℕ → ℕ → Why → Control
+refused Strict c line set why = record (told c (events.Refused line set why)) { failed = true }
+refused KeepGoing c line set why = told c (events.Refused line set why)
+
+-- what an addition is to `add`: refused, or the set that it leaves
+abbrev pub as_added : Added × State → Option Why × State
+as_added (Refused why, s) = (Some why, s)
+as_added (New id, s) = (None, s)
+as_added (Already id, s) = (None, s)
+as_added (Renewed id, s) = (None, s)
+
+-- what an addition to the set s is to `create`, which refuses elements that exist
+abbrev pub as_created : State → Added × State → Option Why × State
+as_created s (Refused why, t) = (Some why, s)
+as_created s (New id, t) = (None, t)
+as_created s (Already id, t) = (Some (causes.Exists id), s)
+as_created s (Renewed id, t) = (Some (causes.Exists id), s)
+
+-- what a removal from the set s is to `delete`
+abbrev pub as_deleted : State → Option (ℕ × State) → Option Why × State
+as_deleted s None = (Some causes.Missing, s)
+as_deleted s (Some found) = (None, found.1)
+
+-- what a removal from the set s is to `destroy`, which doesn't mind a missing element
+abbrev pub as_destroyed : State → Option (ℕ × State) → Option Why × State
+as_destroyed s None = (None, s)
+as_destroyed s (Some found) = (None, found.1)
+
+-- The answer to a change of one set: the cause that refuses it or none, and the set that it leaves.
+abbrev pub changed_set : Verb → State → List Interval → Option ℕ → List ℕ → ℕ → Option Why × State
+changed_set verbs.Add s parts expiry comment now = as_added (add s parts expiry comment now)
+changed_set verbs.Create s parts expiry comment now = as_created s (add s parts expiry comment now)
+changed_set verbs.Delete s parts expiry comment now = as_deleted s (removed s parts now)
+changed_set verbs.Destroy s parts expiry comment now = as_destroyed s (removed s parts now)
+
+abbrev pub with_set : Control → ℕ → State → Control
+with_set c set s = record c { sets = slice_set c.sets set s }
+
+-- the control after a change of the set at a place was answered
+abbrev pub answered : Mode → Control → ℕ → ℕ → Option Why × State → Control
+answered mode c line set (Some why, s) = refused mode c line set why
+answered mode c line set (None, s) = with_set c set s
+
+-- a change of a set that is there
+abbrev pub changed : Mode → Control → ℕ → ℕ → Verb → List Interval → Option ℕ → List ℕ → ℕ → Option State → Control
+changed mode c line set verb parts expiry comment now None = c
+changed mode c line set verb parts expiry comment now (Some s) = answered mode c line set (changed_set verb s parts expiry comment now)
+
+abbrev pub flushed : Control → ℕ → Option State → Control
+flushed c set None = c
+flushed c set (Some s) = with_set c set (cleared s)
+
+-- how many elements of all sets are expired at a moment
+abbrev pub expired_count : List State → ℕ → ℕ
+expired_count sets now = total_by (λ s. count_by (λ e. not (live e now)) s.elements) sets
+
+-- the next generation: the open sets, purged
+abbrev pub next_generation : Control → ℕ → Generation
+next_generation c now = record { number = c.last.number + 1; sets = map (λ s. purged s now) c.sets }
+
+-- A commit publishes the open sets, purged, as the next generation.
+abbrev pub committed : Control → ℕ → Control
+committed c now =
+    let g = next_generation c now in
+    record (told c (events.Committed g.number (expired_count c.sets now))) { committed = c.committed ++ g ∷ []; last = g; sets = g.sets }
+
+-- The open changes are gone: the open sets are those of the last generation, and nothing has failed.
+abbrev pub rewound : Control → Event → Control
+rewound c event = record (told c event) { sets = c.last.sets; failed = false }
+
+-- One step of a script. A failed transaction does nothing until its end, which drops it.
+abbrev pub step : Mode → Control → Step → Control
+step mode c (Change line set verb parts expiry comment now) =
+    if c.failed then c else changed mode c line set verb parts expiry comment now (slice_get c.sets set)
+step mode c (Flush line set now) = if c.failed then c else flushed c set (slice_get c.sets set)
+step mode c (Commit now) = if c.failed then rewound c (events.Dropped c.last.number) else committed c now
+step mode c Abort = rewound c (events.Aborted c.last.number)
+
+-- A section: its steps, one after another.
+abbrev pub section : Mode → Control → List Step → Control
+section mode c steps = fold (step mode) c steps
+
+-- Sections, one after another, from generation 0 on.
+abbrev pub history : Mode → List SetDecl → List (List Step) → Control
+history mode schema sections = fold (section mode) (start schema) sections

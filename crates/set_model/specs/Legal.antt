@@ -1,0 +1,77 @@
+-- Which transcripts are legal: what the packets of a run may be told.
+use Rattle.std.specs.Prelude.{ℕ, ◌+◌, ◌-◌, ◌/◌, ◌<◌, ◌≤◌, ◌≡◌, List, [], ◌∷◌, ◌++◌, length, map, take, drop, Option, Some, None, slice_get}
+use Rattle.std.specs.List.{enumerate_from}
+use Rattle.set_model.specs.declared.script.Script.{Script}
+use Rattle.set_model.specs.declared.packet.Packet.{Packet}
+use Rattle.set_model.specs.declared.packet.Verdict.{Verdict}
+use Rattle.set_model.specs.declared.packet.Verdict.TheVariants as verdicts
+use Rattle.set_model.specs.declared.report.Line.{Line}
+use Rattle.set_model.specs.declared.report.Event.{Event}
+use Rattle.set_model.specs.declared.element.Element.{Element}
+use Rattle.set_model.specs.SetState.{State, first}
+use Rattle.set_model.specs.Control.{Mode, Generation, Control, history}
+
+-- the control before section j of a script, and after it
+abbrev pub before : Mode → Script → ℕ → Control
+before mode script j = history mode script.schema (take j script.sections)
+
+abbrev pub after : Mode → Script → ℕ → Control
+after mode script j = before mode script (j + 1)
+
+-- the number of the last generation after sections 0 to j
+abbrev pub last : Mode → Script → ℕ → ℕ
+last mode script j = (after mode script j).last.number
+
+-- the events of section j: what its steps told
+abbrev pub section_events : Mode → Script → ℕ → List Event
+section_events mode script j = drop (length (before mode script j).events) (after mode script j).events
+
+-- a packet, its section, and its place in the section
+pub record Placed : Type 0 where
+  pub section : ℕ
+  pub place : ℕ
+  pub packet : Packet
+
+abbrev pub placed_from : ℕ → List (List Packet) → List Placed
+placed_from j [] = []
+placed_from j (packets ∷ sections) = map (λ p. record { section = j; place = p.0; packet = p.1 }) (enumerate_from 0 packets) ++ placed_from (j + 1) sections
+
+-- The packets of a key file in file order. Its first section is section 1.
+abbrev pub placed : List (List Packet) → List Placed
+placed keys = placed_from 1 keys
+
+-- what a lookup's answer is as a verdict
+abbrev pub verdict_of : Option Element → Verdict
+verdict_of None = verdicts.None
+verdict_of (Some e) = verdicts.Element e.id
+
+-- The verdict on a packet in the generation of a number: that generation is committed, and the
+-- verdict is the first element of the packet's set that is live and holds its key.
+pub record IsVerdict (committed : List Generation) (packet : Packet) (number : ℕ) (verdict : Verdict) : Type 0 where
+  pub generation : Generation
+  pub state : State
+  pub is_committed : slice_get committed number ≡ Some generation
+  pub is_set : slice_get generation.sets packet.set ≡ Some state
+  pub first_match : verdict ≡ verdict_of (first state packet.key packet.now)
+
+-- The line of packet p names it and a thread, and a generation no older than the last one before its
+-- section and no newer than the last one after it, with that generation's verdict.
+pub record IsLegalLine (mode : Mode) (script : Script) (threads p : ℕ) (at : Placed) (line : Line) : Type 0 where
+  pub names_packet : line.packet ≡ p
+  pub thread : line.thread < threads
+  pub not_too_old : last mode script (at.section - 1) ≤ line.generation
+  pub not_too_new : line.generation ≤ last mode script at.section
+  pub verdict : IsVerdict (after mode script at.section).committed at.packet line.generation line.verdict
+
+-- Two lines: the packets of one batch of sixteen have one thread, and a thread's generations never fall.
+pub record IsLegalPair (a b : Placed) (earlier later : Line) : Type 0 where
+  pub one_batch : a.section ≡ b.section → a.place / 16 ≡ b.place / 16 → earlier.thread ≡ later.thread
+  pub never_falls : earlier.thread ≡ later.thread → earlier.generation ≤ later.generation
+
+-- The lines of a run: one for each packet, each of them legal, and each two of them.
+pub record Legal (script : Script) (keys : List (List Packet)) (threads : ℕ) (mode : Mode) (lines : List Line) : Type 0 where
+  pub one_each : length lines ≡ length (placed keys)
+  pub each : (p : ℕ) (at : Placed) (line : Line) → slice_get (placed keys) p ≡ Some at → slice_get lines p ≡ Some line → IsLegalLine mode script threads p at line
+  pub pairs : (p q : ℕ) (a b : Placed) (earlier later : Line) → p < q
+      → slice_get (placed keys) p ≡ Some a → slice_get (placed keys) q ≡ Some b
+      → slice_get lines p ≡ Some earlier → slice_get lines q ≡ Some later → IsLegalPair a b earlier later

@@ -1,0 +1,9 @@
+pub mod Contents
+pub mod Kind
+pub mod Key
+pub mod Blocks
+pub mod Expiry
+pub mod SetState
+pub mod Control
+pub mod Legal
+pub mod Text

@@ -1,0 +1,50 @@
+ghost use Rattle.std.specs.Prelude.{◌≡◌, ◌<◌, length, slice_get, Some, slice_set};
+ghost use Rattle.set_model.specs.Expiry.{renewed_at};
+
+use crate::kind::Interval;
+use crate::listed::{Duplicate, Listed};
+use crate::memory::Memory;
+use crate::shared::Shared;
+use std::alloc::Global;
+
+/// One interval per field. Copies share their contents.
+pub type Parts = Shared<Interval>;
+
+/// The bytes of an element's comment. Copies share their contents.
+pub type Comment = Shared<u8>;
+
+/// An element of a set: it holds each key whose every value lies in the interval of its field.
+#[derive(Drop)]
+pub struct Element {
+    /// Its number in the order of insertion, never given twice in one set.
+    pub id: u64,
+    pub parts: Parts,
+    /// The moment, in milliseconds, from which on it is expired; `None` where it never is.
+    pub expiry: Option<u64>,
+    /// Kept and printed, and no part of matching.
+    pub comment: Comment,
+}
+
+impl Duplicate for Element {
+    fn copy(&self, alloc: Global) -> Result<Self, Memory> {
+        Ok(Element {
+            id: self.id,
+            parts: self.parts.copy(alloc)?,
+            expiry: self.expiry,
+            comment: self.comment.copy(alloc)?,
+        })
+    }
+}
+
+/// The elements of a set, in order of insertion.
+pub type Elements = Listed<Element>;
+
+impl Listed<Element> {
+    /// Changes the expiry of the element at place `i`, and nothing else. It takes no memory.
+    pub fn set_expiry(&mut self, i: u64, expiry: Option<u64>)
+        requires { i < length self.old }
+        ensures { self.new ≡ renewed_at self.old i expiry }
+    {
+        self.items[i as usize].expiry = expiry;
+    }
+}

@@ -1,0 +1,94 @@
+ghost use Rattle.std.specs.Prelude.{◌≡◌, ◌<◌, ◌^◌, List, [], ◌∷◌, ◌++◌, length, IfOk, OnOk, OnErr, slice_get, remove, Some};
+
+use crate::memory::Memory;
+use std::alloc::Global;
+use std::marker::Model;
+
+/// A value that can be made once more, if there is memory for it.
+pub trait Duplicate {
+    /// The same value once more.
+    fn copy(&self, alloc: Global) -> Result<Self, Memory>
+        ensures { IfOk result (λ other. other ≡ self.now) };
+}
+
+/// A list that grows at its end. Contracts see it as the list of its items.
+#[derive(Drop)]
+pub struct Listed<T> {
+    pub(crate) items: Vec<T>,
+}
+
+impl<T> Model for Listed<T> {
+    ghost Value = { List T };
+
+    ghost view = { λ a. a.items.items };
+}
+
+impl<T> Listed<T> {
+    /// The empty list. It takes no memory.
+    pub fn new(alloc: Global) -> Self
+        ensures { result ≡ [] }
+    {
+        Listed {
+            items: Vec::new(alloc),
+        }
+    }
+
+    /// The list of a vector's items. It takes no memory.
+    pub fn from_vec(items: Vec<T>) -> Self
+        ensures { result ≡ items.items }
+    {
+        Listed { items }
+    }
+
+    /// How many items there are.
+    pub fn len(&self) -> u64
+        ensures { result ≡ length self.now }
+    {
+        self.items.len() as u64
+    }
+
+    /// The item at place `i`.
+    pub fn at(&self, i: u64) -> &T
+        requires { i < length self.now }
+        ensures { slice_get self.now i ≡ Some result.now }
+    {
+        &self.items[i as usize]
+    }
+
+    /// The items in a row.
+    pub fn as_slice(&self) -> &[T]
+        ensures { result.now ≡ self.now }
+    {
+        self.items.as_slice()
+    }
+
+    /// Adds an item at the end. After `Memory` the list is as it was.
+    pub fn push(&mut self, item: T) -> Result<(), Memory>
+    where
+        T: Drop,
+        ensures ok { OnOk result (self.new ≡ self.old ++ item ∷ []) }
+        ensures err { OnErr result (self.new ≡ self.old) }
+    {
+        self.items.push(item)?;
+        Ok(())
+    }
+
+    /// Takes the item at place `i` out. The later items close up. It takes no memory.
+    pub fn remove(&mut self, i: u64) -> T
+        requires { i < length self.old }
+        ensures item { slice_get self.old i ≡ Some result }
+        ensures others { self.new ≡ remove self.old i }
+    {
+        self.items.remove(i as usize)
+    }
+}
+
+impl<T: Duplicate + Drop> Duplicate for Listed<T> {
+    fn copy(&self, alloc: Global) -> Result<Self, Memory> {
+        let mut other = Listed::new(alloc);
+        for item in &self.items {
+            other.push(item.copy(alloc)?)?;
+        }
+        Ok(other)
+    }
+}

@@ -1,0 +1,30 @@
+use crate::kind::Key;
+use crate::listed::Listed;
+
+/// A packet: the set that it is looked up in, its key and its moment in milliseconds.
+#[derive(Drop)]
+pub struct Packet {
+    pub set: u32,
+    pub key: Key,
+    pub now: u64,
+}
+
+/// The packets of a section.
+pub type Packets = Listed<Packet>;
+
+/// The packets of a key file, section by section. The first is section 1.
+pub type Keys = Listed<Packets>;
+
+/// Where a lookup found an element, and its id.
+#[derive(Clone, Copy, Debug, PartialEq, Eq)]
+pub struct Found {
+    pub place: u64,
+    pub id: u64,
+}
+
+/// What a lookup says of a packet.
+#[derive(Clone, Copy, Debug, PartialEq, Eq)]
+pub enum Verdict {
+    None,
+    Element { id: u64 },
+}

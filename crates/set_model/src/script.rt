@@ -1,0 +1,87 @@
+use crate::element::{Comment, Parts};
+use crate::kind::Kinds;
+use crate::listed::Listed;
+
+/// The bytes of a table's or set's name.
+pub type Name = Listed<u8>;
+
+/// The address family of a table, as nft(8) has them.
+#[derive(Clone, Copy, Debug, PartialEq, Eq)]
+pub enum Family {
+    Ip,
+    Ip6,
+    Inet,
+    Arp,
+    Bridge,
+    Netdev,
+}
+
+/// A set as a script declares it.
+#[derive(Drop)]
+pub struct SetDecl {
+    pub family: Family,
+    pub table: Name,
+    pub name: Name,
+    pub kinds: Kinds,
+    /// The flag `interval`: intervals of more than one value may stand in it.
+    pub interval: bool,
+    /// The flag `timeout`: elements may expire.
+    pub timed: bool,
+    /// The flag `disjoint`: no two live elements may share a key.
+    pub disjoint: bool,
+    /// The life of an element that names none, in milliseconds.
+    pub timeout: Option<u64>,
+    /// How many elements it may have.
+    pub size: Option<u32>,
+}
+
+/// The four ways to change an element.
+#[derive(Clone, Copy, Debug, PartialEq, Eq)]
+pub enum Verb {
+    Add,
+    Create,
+    Delete,
+    Destroy,
+}
+
+/// What a script does, one step after another. Lines count from 1, sets from 0 in the order of the
+/// schema, and moments are milliseconds.
+#[derive(Drop)]
+pub enum Step {
+    Change {
+        line: u64,
+        set: u32,
+        verb: Verb,
+        parts: Parts,
+        expiry: Option<u64>,
+        comment: Comment,
+        now: u64,
+    },
+    Flush {
+        line: u64,
+        set: u32,
+        now: u64,
+    },
+    Commit {
+        now: u64,
+    },
+    Abort,
+}
+
+/// The sets that a script declares, in order.
+pub type Schema = Listed<SetDecl>;
+
+/// The steps of a section.
+pub type Steps = Listed<Step>;
+
+/// The sections of a script, from 0 on.
+pub type Sections = Listed<Steps>;
+
+/// What a script's text stands for.
+#[derive(Drop)]
+pub struct Script {
+    pub schema: Schema,
+    pub sections: Sections,
+    /// The last moment of the script.
+    pub last: u64,
+}
