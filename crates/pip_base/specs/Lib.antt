@@ -1,0 +1,6 @@
+pub mod Causes
+pub mod Picks
+pub mod Whole
+pub mod Schedule
+pub mod MemShelf
+pub mod MemSink

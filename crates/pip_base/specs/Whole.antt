@@ -1,0 +1,9 @@
+-- A piece that was taken in part.
+use Rattle.std.specs.Prelude.{◌≡◌, ◌<◌, ℕ, List, length, take, Option}
+use Rattle.std.specs.Io.KnownBytes.{Appends}
+
+-- Known bytes grew by a part from the front of a piece, and not by the whole of it.
+pub record AppendsFront (old new : Option (List ℕ)) (piece : List ℕ) : Type 0 where
+  pub count : ℕ
+  pub part : count < length piece
+  pub front : Appends old new (take count piece)

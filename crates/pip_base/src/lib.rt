@@ -1,0 +1,22 @@
+//! The outside: files that are read by their names, a sink that bytes go to, and the faults of both.
+//! A `Shelf` and a `Sink` may tell their content, as those in memory do. The real ones tell none.
+#![tactic(auto)]
+
+mod dir_shelf;
+mod mem_shelf;
+mod mem_sink;
+mod out_sink;
+mod schedule;
+mod shelf;
+mod sink;
+#[cfg(test)]
+mod tests;
+mod whole;
+
+pub use dir_shelf::DirShelf;
+pub use mem_shelf::MemShelf;
+pub use mem_sink::MemSink;
+pub use out_sink::OutSink;
+pub use shelf::{Failed, PickError, Shelf};
+pub use sink::Sink;
+pub use whole::{FILE_LIMIT, ReadError, WriteFault, read_whole, write_whole};

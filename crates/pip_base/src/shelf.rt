@@ -1,0 +1,71 @@
+ghost use Rattle.std.specs.Prelude.{◌≡◌, ◌≢◌, ◌+◌, ◌-◌, ◌<◌, ◌≤◌, ◌^◌, List, [], ◌∷◌, ◌++◌, ℕ, length, Option, IfOk, OnOk, OnErr, Err};
+ghost use Rattle.std.specs.Io.{ReadsAtMost};
+ghost use Rattle.std.specs.Io.KnownBytes.{ReadConsumes};
+ghost use Rattle.pip_base.specs.Causes.{HasCause, Rose};
+ghost use Rattle.pip_base.specs.Picks.{IsPickOf, KeepsLeft};
+
+use std::alloc::Global;
+
+/// The outside failed: a file isn't there or can't be read, or a write was refused.
+#[derive(Clone, Copy, Debug, PartialEq, Eq)]
+pub struct Failed;
+
+/// Why no file was picked.
+#[derive(Clone, Copy, Debug, PartialEq, Eq)]
+pub enum PickError {
+    /// There is no such file, or it can't be opened.
+    Failed,
+    /// Want of memory.
+    Memory,
+}
+
+/// Files by their names.
+pub trait Shelf {
+    /// The bytes under a name, where the shelf tells them.
+    ghost told: { Self → List ℕ → Option (List ℕ) };
+
+    /// Which numbers were given to files.
+    ghost is_picked: { Self → ℕ → Type 0 };
+
+    /// What a picked file has left, where the shelf tells it.
+    ghost left: { Self → ℕ → Option (List ℕ) };
+
+    /// The names that were asked for.
+    ghost asked: { Self → List (List ℕ) };
+
+    /// How often the outside has failed.
+    ghost faults: { Self → ℕ };
+
+    /// A new number for the file of that name, which then has all its bytes left.
+    fn pick(&mut self, alloc: Global, name: &str) -> Result<u32, PickError>
+        requires { length (asked self.old) < 4294967295 }
+        ensures ok { IfOk result (λ n. IsPickOf (is_picked self.old) (is_picked self.new) n × (left self.new n ≡ told self.old name.now)) }
+
+        // The name joins those asked for, also in vain. Want of memory changes nothing.
+        ensures asked { OnOk result (asked self.new ≡ asked self.old ++ name.now ∷ []) }
+        ensures asked_in_vain { result ≡ Err PickError.Failed → asked self.new ≡ asked self.old ++ name.now ∷ [] }
+        ensures memory { result ≡ Err PickError.Memory → (asked self.new ≡ asked self.old) × (faults self.new ≡ faults self.old) }
+
+        // The bytes under names stay, and what the files picked before have left.
+        ensures told { (name : List ℕ) → told self.new name ≡ told self.old name }
+        ensures kept { KeepsLeft (is_picked self.old) (is_picked self.new) (left self.old) (left self.new) }
+
+        // A failure has its cause.
+        ensures later { faults self.old ≤ faults self.new }
+        ensures cause { result ≡ Err PickError.Failed → Rose (faults self.old) (faults self.new) }
+        ensures no_fault { OnOk result (faults self.new ≡ faults self.old) };
+
+    /// How many of the file's next bytes it put at the front of `into`. 0 is the end of the file.
+    fn read(&mut self, file: u32, into: &mut [u8]) -> Result<usize, Failed>
+        requires picked { is_picked self.old file }
+        requires room { 0 < length into.old }
+        ensures bound { ReadsAtMost result into.new }
+        ensures bytes { ReadConsumes (left self.old file) (left self.new file) result into.new }
+
+        // Names and their bytes stay, and all other files.
+        ensures told { (name : List ℕ) → told self.new name ≡ told self.old name }
+        ensures asked { asked self.new ≡ asked self.old }
+        ensures kept { (m : ℕ) → is_picked self.old m → is_picked self.new m }
+        ensures others { (m : ℕ) → m ≢ file → left self.new m ≡ left self.old m }
+        ensures cause { HasCause (faults self.old) (faults self.new) result };
+}
