@@ -1,5 +1,5 @@
 -- What reading one token gives, and passing over tokens, and lines.
-use Rattle.std.proofs.Common.{◌≡◌, ◌⊎◌, inl, inr, refl, sym, ◌∙◌, ap, subst, ℕ, List, [], ◌∷◌, ◌++◌, length, Bool, true, false, ◌&&◌, ◌||◌, Option, Some, None, cond, append-nil}
+use Rattle.std.proofs.Common.{◌≡◌, ◌⊎◌, inl, inr, refl, sym, ◌∙◌, ap, subst, ℕ, List, [], ◌∷◌, ◌++◌, length, Bool, true, false, ◌&&◌, ◌||◌, Option, Some, None, option_map, cond, append-nil}
 use Rattle.std.specs.Str.{bytes_eq}
 use Rattle.std.proofs.lemmas.Slice.Eq.{bytes_eq-Decides}
 use Rattle.token_forms.specs.declared.token.TokenKind.{TokenKind}
@@ -113,6 +113,30 @@ word_is_reads sorts d = one_reads sorts (is_decides d)
 
 pub word_is_begins : {A : Type 0} (sorts : List Reason) (Is : List ℕ → A → Type 0) → Begins (form.word_is sorts Is) any_word
 word_is_begins sorts Is = one_heads sorts any_word (λ t a i. rw (i.0) refl) (λ q t i w. w)
+
+-- the same with the line of the word
+lined_decides : {A : Type 0} {Is : List ℕ → A → Type 0} {value : List ℕ → Option A} → TextDecides Is value
+    → Decides {A = ℕ × A} (λ t a. (t.kind ≡ kinds.Word) × (a.0 ≡ t.line) × Is t.bytes a.1) (word_value (λ t. option_map (λ a. (t.line, a)) (value t.bytes)))
+lined_decides {A} {Is} {value} d = record {
+  sound = λ t a h. let w = word_some (λ t. option_map (λ a. (t.line, a)) (value t.bytes)) t a h in let k = word_kind t.kind w in found t a k (inside t a (is_word t.kind) w h);
+  complete = λ t a i. rw (i.0) (rw (d.complete t.bytes a.1 i.2) (ap (λ z. Some (z, a.1)) (sym i.1)));
+  no_end = λ t a i. rw (i.0) refl;
+} where
+  inside : (t : Lexeme) (a : ℕ × A) (b : Bool) → b ≡ true → (elim b as (λ _. Option (ℕ × A)) [ true ↦ option_map (λ a. (t.line, a)) (value t.bytes) | false ↦ None ]) ≡ Some a → option_map (λ a. (t.line, a)) (value t.bytes) ≡ Some a
+  inside t a true e h = h
+  inside t a false e h = absurd (cc e)
+
+  found : (t : Lexeme) (a : ℕ × A) → t.kind ≡ kinds.Word → option_map (λ a. (t.line, a)) (value t.bytes) ≡ Some a → (t.kind ≡ kinds.Word) × (a.0 ≡ t.line) × Is t.bytes a.1
+  found t a k h = go (value t.bytes) refl h where
+    go : (v : Option A) → value t.bytes ≡ v → option_map (λ a. (t.line, a)) v ≡ Some a → (t.kind ≡ kinds.Word) × (a.0 ≡ t.line) × Is t.bytes a.1
+    go None e h = absurd (cc h)
+    go (Some b) e h = let same : (t.line, b) ≡ a = cc h in (k, ap (λ z. z.0) (sym same), d.sound t.bytes a.1 (e ∙ ap (λ z. Some z.1) same))
+
+pub lined_word_is_reads : {A : Type 0} (sorts : List Reason) {Is : List ℕ → A → Type 0} {value : List ℕ → Option A} → TextDecides Is value → Reads (form.lined_word_is sorts Is) never (reading.lined_word_by sorts value)
+lined_word_is_reads sorts d = one_reads sorts (lined_decides d)
+
+pub lined_word_is_begins : {A : Type 0} (sorts : List Reason) (Is : List ℕ → A → Type 0) → Begins (form.lined_word_is sorts Is) any_word
+lined_word_is_begins sorts Is = one_heads sorts any_word (λ t a i. rw (i.0) refl) (λ q t i w. w)
 
 pub word_reads : (text : List ℕ) → Reads (form.word text) never (reading.word text)
 word_reads text = word_by_reads [] (this_word text)

@@ -21,6 +21,10 @@ word_by sorts value = one sorts (λ t a. word_value value t ≡ Some a)
 abbrev pub word_is : {A : Type 0} → List Reason → (List ℕ → A → Type 0) → Form A
 word_is sorts Is = one sorts (λ t a. (t.kind ≡ kinds.Word) × Is t.bytes a)
 
+-- the same with the line of the word
+abbrev pub lined_word_is : {A : Type 0} → List Reason → (List ℕ → A → Type 0) → Form (ℕ × A)
+lined_word_is sorts Is = one sorts (λ t a. (t.kind ≡ kinds.Word) × (a.0 ≡ t.line) × Is t.bytes a.1)
+
 -- this word
 abbrev pub this_word : List ℕ → Lexeme → Option (Unit {0})
 this_word text t = if_true (bytes_eq t.bytes text)

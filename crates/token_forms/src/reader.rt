@@ -65,7 +65,7 @@ fn is_a_change_word(t: &Spelled) -> bool
 impl<'a> Reader<'a> {
     ghost use Rattle.token_forms.specs.View.{IsFirst};
     ghost use Rattle.token_forms.specs.Gives.{Gives};
-    ghost use Rattle.token_forms.specs.Reading.{Read};
+    ghost use Rattle.token_forms.specs.Reading.{Read, begins_with};
     ghost use Rattle.token_forms.specs.WordReading as reading;
 
     pub fn new(text: &'a [u8]) -> Self
@@ -192,6 +192,26 @@ impl<'a> Reader<'a> {
             Some(t) if t.is_break() => Ok(()),
             Some(t) => Err(t.refused(&[])),
             None => Err(short()),
+        }
+    }
+
+    /// Whether a separator comes next.
+    pub fn is_at_separator(&self) -> bool
+        ensures { result ≡ begins_with separates self.now }
+    {
+        match self.peek() {
+            Some(t) => t.is_separator(),
+            None => false,
+        }
+    }
+
+    /// Whether a line break comes next.
+    pub fn is_at_break(&self) -> bool
+        ensures { result ≡ begins_with breaks_off self.now }
+    {
+        match self.peek() {
+            Some(t) => t.is_break(),
+            None => false,
         }
     }
 
