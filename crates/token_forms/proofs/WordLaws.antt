@@ -263,7 +263,7 @@ pub record AreStatements {S : Type 0} (test starts : Lexeme → Bool) (goes : S 
   pub goes_more : (s s1 : S) (t : Lexeme) → goes s s1 t ≡ true → starts t ≡ true
 
 -- only behind a statement may its own tokens go on
-abbrev line_goes : {S : Type 0} → (S → S → Lexeme → Bool) → S × Bool → S × Bool → Lexeme → Bool
+abbrev pub line_goes : {S : Type 0} → (S → S → Lexeme → Bool) → S × Bool → S × Bool → Lexeme → Bool
 line_goes goes (s, true) (s1, false) t = goes s s1 t
 line_goes goes (s, true) (s1, true) t = false
 line_goes goes (s, false) s1 t = false
@@ -292,7 +292,7 @@ module _ {S : Type 0} (test starts : Lexeme → Bool) (goes : S → S → Lexeme
   statement_begins : (s : S) → Begins {A = S × Bool} (statement s >>=f λ s1. done (s1, false)) starts
   statement_begins s = bind_begins (k.laws s) (k.begins s)
 
-  line_laws : (s : S) (b : Bool) → Reads (form.line test statement (s, b)) (line_goes goes (s, b)) (reading.line test read (s, b))
+  pub line_laws : (s : S) (b : Bool) → Reads (form.line test statement (s, b)) (line_goes goes (s, b)) (reading.line test read (s, b))
   line_laws s true = either_reads (weaken (line_goes goes (s, true)) (λ a t h. absurd (cc h)) (pass_law s)) (statement_law s) (pass_begins s) (statement_begins s) k.apart
   line_laws s false = pass_law s
 
@@ -302,7 +302,7 @@ module _ {S : Type 0} (test starts : Lexeme → Bool) (goes : S → S → Lexeme
   starts_also : (s : S) (t : Lexeme) → starts t ≡ true → reading.line_starts test starts (s, true) t ≡ true
   starts_also s t h = rw (k.apart t h, reading.line_starts) h
 
-  line_begins : (s : S) (b : Bool) → Begins (form.line test statement (s, b)) (reading.line_starts test starts (s, b))
+  pub line_begins : (s : S) (b : Bool) → Begins (form.line test statement (s, b)) (reading.line_starts test starts (s, b))
   line_begins s true = either_begins (widen (starts_true s) (pass_begins s)) (widen (starts_also s) (statement_begins s))
   line_begins s false = pass_begins s
 
