@@ -1,0 +1,3 @@
+pub mod ValueDecides
+pub mod ScriptLaws
+pub mod ScriptWhole
