@@ -14,6 +14,7 @@ ghost use Rattle.set_script.specs.ScriptReading.{any_word};
 ghost use Rattle.set_script.specs.Changes.{Draft as Drafted};
 ghost use Rattle.set_script.specs.Script.{script};
 ghost use Rattle.set_script.specs.ScriptText.{IsScriptText};
+ghost use Rattle.set_script.specs.Plain.{IsPlainScript};
 
 use crate::draft::{Draft, make_declaration};
 use crate::elements::element;
@@ -157,6 +158,8 @@ pub fn read_script(alloc: Global, text: &[u8]) -> Result<Script, ScriptError>
     ensures only { (s : Script) → IsScriptText text.now s → IsReadAs (λ x. x) result s }
     // A text that is refused stands for no script.
     ensures bad { (line : ℕ) (reason : Reason) → result ≡ Err (Bad line reason) → (line ≡ 0) × (reason ≡ LeftOut) × ((s : Script) → IsScriptText text.now s → ⊥) }
+    // At most one set without size, and at most 4,096 additions of fitting single values to it.
+    ensures plain { IfOk result IsPlainScript }
 {
     match read_placed(alloc, text) {
         Ok(s) => Ok(s),
