@@ -13,6 +13,7 @@ ghost use Rattle.set_script.specs.ScriptReading.{any_word};
 ghost use Rattle.key_file.specs.KeysReading as reading;
 ghost use Rattle.key_file.specs.Keys.{key_file};
 ghost use Rattle.key_file.specs.KeysText.{IsKeysText};
+ghost use Rattle.key_file.specs.Fits.{IsPlainKeys};
 
 use crate::packets::packet;
 use set_model::{Keys, Listed, Memory, Packets, Schema, SetDecl};
@@ -129,6 +130,8 @@ pub fn read_keys(alloc: Global, schema: &Schema, text: &[u8]) -> Result<Keys, Ke
     ensures only { (keys : List (List Packet)) → IsKeysText schema.now text.now keys → IsReadAs (λ x. x) result keys }
     // A text that is refused stands for no key file.
     ensures bad { (line : ℕ) (reason : Reason) → result ≡ Err (Bad line reason) → (line ≡ 0) × (reason ≡ LeftOut) × ((keys : List (List Packet)) → IsKeysText schema.now text.now keys → ⊥) }
+    // Each packet's set is declared, and its key fits the set's kinds.
+    ensures fits { IfOk result (IsPlainKeys schema.now) }
 {
     match read_placed(alloc, schema, text) {
         Ok(keys) => Ok(keys),
