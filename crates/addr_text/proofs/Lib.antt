@@ -1,0 +1,6 @@
+pub mod NumberLaws
+pub mod ProtocolLaws
+pub mod EtherLaws
+pub mod ValueLaws
+pub mod AddressLaws
+pub mod FitLaws

@@ -1,0 +1,4 @@
+pub mod Numbers
+pub mod Protocols
+pub mod Values
+pub mod ValuesRead

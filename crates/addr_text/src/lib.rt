@@ -1,0 +1,8 @@
+//! Addresses, ports, protocols, marks, intervals and times as text.
+#![tactic(auto)]
+
+mod number;
+mod protocol;
+mod value;
+
+pub use value::{BadValue, one_value_law, read_value, value_bits_law, value_of_law};

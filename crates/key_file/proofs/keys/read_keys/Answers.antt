@@ -1,0 +1,16 @@
+use Rattle.std.proofs.Common.{◌≡◌, ap, Err, ◌∙◌}
+use Rattle.token_forms.specs.Gives.{placeless}
+use Rattle.token_forms.specs.declared.error.ReadError.{ReadError}
+use Rattle.token_forms.specs.declared.error.ReadError.TheVariants.{Bad}
+use Rattle.token_forms.proofs.AnswerLaws.{of_placeless}
+use Rattle.key_file.proofs.FitLaws.{keys_are_plain}
+use Rattle.key_file.proofs.keys.read_keys.Goals as goal
+
+pub returns-in-Err-clause-bad : goal.returns-in-Err-clause-bad
+returns-in-Err-clause-bad c = λ line reason h.
+    let same : placeless c.in-Err.e ≡ Bad line reason = cc in
+    let k = of_placeless c.in-Err.e line reason same in
+    (k.0, k.1, (c.in-Err.ensures.bad k.2 k.3 (ap Err k.4)).outside)
+
+pub returns-in-Ok-clause-fits : goal.returns-in-Ok-clause-fits
+returns-in-Ok-clause-fits c = keys_are_plain c.args.schema.now c.args.text.now _ c.in-Ok.ensures.found

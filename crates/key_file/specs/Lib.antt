@@ -1,0 +1,4 @@
+pub mod Keys
+pub mod KeysText
+pub mod Fits
+pub mod KeysReading

@@ -1,0 +1,106 @@
+ghost use Rattle.std.specs.Prelude.{◌≡◌};
+ghost use Rattle.token_forms.specs.Gives.{Gives};
+ghost use Rattle.key_file.specs.KeysReading as reading;
+
+use addr_text::read_value;
+use set_model::{Key, Kind, Listed, Packet, Packets, SetDecl};
+use set_script::{table_place, used_set};
+use std::alloc::Global;
+use token_forms::{ReadError, Reader, Reason, short};
+
+#[tactic(auto, unfolding(token_forms::specs::Gives::Refuses))]
+fn value(reader: &mut Reader, kind: Kind) -> Result<u128, ReadError>
+    ensures { Gives (λ x. x) result reader.new (reading.value kind reader.old) }
+{
+    match reader.take() {
+        Some(t) if t.is_word() => match read_value(kind, t.bytes) {
+            Ok(value) => Ok(value),
+            Err(_) => Err(t.refused(&[Reason::Value])),
+        },
+        Some(t) => Err(t.refused(&[Reason::Value])),
+        None => Err(short()),
+    }
+}
+
+/// `.` and the next value, for each of these kinds.
+#[tactic(auto, using(token_forms::proofs::Refusals::refusals), unfolding(crate::specs::KeysReading::more_values))]
+fn more_values(reader: &mut Reader, kinds: &[Kind], key: &mut Key) -> Result<(), ReadError>
+    ensures { Gives (λ _. key.new) result reader.new (reading.more_values kinds.now key.old reader.old) }
+{
+    match kinds {
+        [] => Ok(()),
+        [kind, others @ ..] => {
+            reader.word(b".")?;
+            let next = value(reader, *kind)?;
+            key.push(next)?;
+            more_values(reader, others, key)
+        }
+    }
+}
+
+#[tactic(auto, using(token_forms::proofs::Refusals::refusals))]
+fn some_values(reader: &mut Reader, alloc: Global, kind: Kind, others: &[Kind]) -> Result<Key, ReadError>
+    ensures { Gives (λ x. x) result reader.new (reading.some_values kind others.now reader.old) }
+{
+    let first = value(reader, kind)?;
+    let mut key = Listed::new(alloc);
+    key.push(first)?;
+    more_values(reader, others, &mut key)?;
+    Ok(key)
+}
+
+/// One value for each kind.
+#[tactic(auto, using(token_forms::proofs::Refusals::refusals), unfolding(crate::specs::KeysReading::all_values, token_forms::specs::Gives::Refuses))]
+fn all_values(reader: &mut Reader, alloc: Global, kinds: &[Kind]) -> Result<Key, ReadError>
+    ensures { Gives (λ x. x) result reader.new (reading.all_values kinds.now reader.old) }
+{
+    match kinds {
+        [] => match reader.take() {
+            Some(t) => Err(t.refused(&[])),
+            None => Err(short()),
+        },
+        [kind, others @ ..] => some_values(reader, alloc, *kind, others),
+    }
+}
+
+/// The packet of the set at a place.
+#[tactic(auto, using(token_forms::proofs::Refusals::refusals), unfolding(crate::specs::KeysReading::packet_of, token_forms::specs::Gives::Refuses))]
+fn packet_at(
+    reader: &mut Reader,
+    alloc: Global,
+    schema: &[SetDecl],
+    packets: &mut Packets,
+    place: usize,
+) -> Result<(), ReadError>
+    ensures { Gives (λ _. packets.new) result reader.new (reading.packet_at schema.now packets.old place reader.old) }
+{
+    match schema.get(place) {
+        None => match reader.take() {
+            Some(t) => Err(t.refused(&[])),
+            None => Err(short()),
+        },
+        Some(decl) => {
+            let key = all_values(reader, alloc, decl.kinds.as_slice())?;
+            // No memory holds a schema in which a set has a place above 32 bits.
+            if place > u32::MAX as usize {
+                return Err(ReadError::Memory);
+            }
+            packets.push(Packet {
+                set: place as u32,
+                key,
+                now: 0,
+            })?;
+            Ok(())
+        }
+    }
+}
+
+/// One more packet.
+#[tactic(auto, using(token_forms::proofs::Refusals::refusals), unfolding(crate::specs::KeysReading::packet))]
+pub fn packet(reader: &mut Reader, alloc: Global, schema: &[SetDecl], packets: &mut Packets) -> Result<(), ReadError>
+    ensures { Gives (λ _. packets.new) result reader.new (reading.packet schema.now packets.old reader.old) }
+{
+    let (family, table) = table_place(reader)?;
+    let place = used_set(reader, schema, family, table)?;
+    packet_at(reader, alloc, schema, packets, place)
+}

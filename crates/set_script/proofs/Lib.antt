@@ -1,0 +1,4 @@
+pub mod ValueDecides
+pub mod ScriptLaws
+pub mod ScriptWhole
+pub mod PlainLaws

@@ -1,0 +1,20 @@
+-- What reading a whole script says of its text.
+use Rattle.std.proofs.Common.{◌≡◌, sym, subst, List, ℕ, Result}
+use Rattle.set_model.specs.declared.script.Script.{Script}
+use Rattle.token_forms.specs.Token.{Lexeme}
+use Rattle.token_forms.specs.declared.error.ReadError.{ReadError}
+use Rattle.token_forms.specs.Gives.{Gives}
+use Rattle.token_forms.specs.TextTokens.{text_tokens}
+use Rattle.token_forms.proofs.WholeLaws.{Ends, text_answer}
+use Rattle.token_forms.proofs.EndsLaw.{text_ends}
+use Rattle.token_forms.proofs.AnswerLaws.{TextGives, text_gives}
+use Rattle.token_forms.proofs.KindLaws.{end_no_line}
+use Rattle.set_script.specs.Script as form
+use Rattle.set_script.specs.ScriptReading as reading
+use Rattle.set_script.proofs.ScriptLaws.{body_reads}
+
+pub script_gives : (text : List ℕ) (ts : List Lexeme) (r : Result Script ReadError) (new : List Lexeme) → ts ≡ text_tokens text → Gives (λ x. x) r new (reading.script ts) → TextGives form.body (text_tokens text) (λ x. x) r
+unfolding reading.script
+script_gives text ts r new e g =
+    subst (λ z. TextGives form.body z (λ x. x) r) e
+    (text_gives form.body ts (λ x. x) r new (reading.body ts) (text_answer body_reads (λ _. end_no_line) ts (subst Ends (sym e) (text_ends text))) g)

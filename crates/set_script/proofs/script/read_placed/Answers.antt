@@ -1,0 +1,11 @@
+use Rattle.set_script.proofs.ScriptWhole.{script_gives}
+use Rattle.set_script.proofs.script.read_placed.Goals as goal
+
+pub returns-clause-found : goal.returns-clause-found
+returns-clause-found c = (script_gives c.args.text.now _ c.whole.result _ c.new-reader.ensures c.whole.ensures).found
+
+pub returns-clause-only : goal.returns-clause-only
+returns-clause-only c = (script_gives c.args.text.now _ c.whole.result _ c.new-reader.ensures c.whole.ensures).only
+
+pub returns-clause-bad : goal.returns-clause-bad
+returns-clause-bad c = (script_gives c.args.text.now _ c.whole.result _ c.new-reader.ensures c.whole.ensures).bad

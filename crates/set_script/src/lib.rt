@@ -1,0 +1,13 @@
+//! The reader of scripts: the statements of nft(8) that declare a set and add elements to it.
+#![tactic(auto)]
+
+mod draft;
+mod elements;
+mod place;
+mod script;
+mod sets;
+mod words;
+
+pub use place::{table_place, used_set};
+pub use script::{ScriptError, read_script};
+pub use token_forms::{Reason, Token, TokenKind, Tokens};

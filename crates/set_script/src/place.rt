@@ -1,0 +1,63 @@
+ghost use Rattle.std.specs.Prelude.{◌≡◌, ◌<◌, length, IfSome, IfOk};
+ghost use Rattle.token_forms.specs.Gives.{Gives};
+ghost use Rattle.set_script.specs.Names.{family_number, is_set, set_place};
+ghost use Rattle.set_script.specs.ScriptReading as reading;
+
+use set_model::{Family, SetDecl};
+use token_forms::{ReadError, Reader, Reason, short};
+
+fn number_of_family(family: Family) -> u8
+    ensures { result ≡ family_number family }
+{
+    match family {
+        Family::Ip => 0,
+        Family::Ip6 => 1,
+        Family::Inet => 2,
+        Family::Arp => 3,
+        Family::Bridge => 4,
+        Family::Netdev => 5,
+    }
+}
+
+fn is_the_set(family: Family, table: &[u8], name: &[u8], decl: &SetDecl) -> bool
+    ensures { result ≡ is_set family table.now name.now decl.now }
+{
+    number_of_family(decl.family) == number_of_family(family)
+        && decl.table.as_slice() == table
+        && decl.name.as_slice() == name
+}
+
+fn place_of_set(schema: &[SetDecl], family: Family, table: &[u8], name: &[u8]) -> Option<usize>
+    ensures place { result ≡ set_place schema.now family table.now name.now }
+    ensures within { IfSome result (λ i. i < length schema.now) }
+{
+    schema
+        .iter()
+        .position(|decl| is_the_set(family, table, name, decl))
+}
+
+/// Reads the family and the table of a set.
+#[tactic(auto, using(token_forms::proofs::Refusals::refusals), unfolding(crate::specs::ScriptReading::table_place))]
+pub fn table_place<'a>(reader: &mut Reader<'a>) -> Result<(Family, &'a [u8]), ReadError>
+    ensures { Gives (λ x. (x.0, x.1.now)) result reader.new (reading.table_place reader.old) }
+{
+    reader.word(b"ip")?;
+    let table = reader.name()?;
+    Ok((Family::Ip, table))
+}
+
+/// Reads the name of a declared set, and gives its place among the declared sets.
+#[tactic(auto, unfolding(token_forms::specs::Gives::Refuses))]
+pub fn used_set(reader: &mut Reader, schema: &[SetDecl], family: Family, table: &[u8]) -> Result<usize, ReadError>
+    ensures gives { Gives (λ x. x) result reader.new (reading.used_set schema.now (family, table.now) reader.old) }
+    ensures within { IfOk result (λ place. place < length schema.now) }
+{
+    match reader.take() {
+        Some(t) if t.is_word() => match place_of_set(schema, family, table, t.bytes) {
+            Some(place) => Ok(place),
+            None => Err(t.refused(&[Reason::Set])),
+        },
+        Some(t) => Err(t.refused(&[Reason::Set])),
+        None => Err(short()),
+    }
+}

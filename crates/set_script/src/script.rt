@@ -1,0 +1,168 @@
+ghost use Rattle.std.specs.Prelude.{◌≡◌, ◌<◌, List, ℕ, length, OnOk, IfOk, Err};
+ghost use Rattle.token_forms.specs.Gives.{Gives, IsReadAs};
+ghost use Rattle.token_forms.specs.View.{lexeme_of};
+ghost use Rattle.token_forms.specs.Words.{separates};
+ghost use Rattle.token_forms.specs.WordReading.{line_starts};
+ghost use Rattle.token_forms.specs.TextTokens.{text_tokens};
+ghost use Rattle.token_forms.specs.Faults.{IsFault};
+ghost use Rattle.token_forms.specs.declared.token.Reason.{Reason};
+ghost use Rattle.token_forms.specs.declared.token.Reason.TheVariants.{LeftOut};
+ghost use Rattle.token_forms.specs.declared.error.ReadError.TheVariants.{Bad};
+ghost use Rattle.set_model.specs.declared.script.Script.{Script};
+ghost use Rattle.set_script.specs.ScriptReading as reading;
+ghost use Rattle.set_script.specs.ScriptReading.{any_word};
+ghost use Rattle.set_script.specs.Changes.{Draft as Drafted};
+ghost use Rattle.set_script.specs.Script.{script};
+ghost use Rattle.set_script.specs.ScriptText.{IsScriptText};
+ghost use Rattle.set_script.specs.Plain.{IsPlainScript};
+
+use crate::draft::{Draft, make_declaration};
+use crate::elements::element;
+use crate::place::{table_place, used_set};
+use crate::sets::{new_set, set_body};
+use crate::words::{AddWord, add_word_of};
+use set_model::Script;
+use std::alloc::Global;
+use token_forms::{ReadError, Reader, Seen, short};
+
+/// Why a text isn't read as a script.
+pub type ScriptError = ReadError;
+
+#[tactic(auto, unfolding(token_forms::specs::Gives::Refuses))]
+fn add_word(reader: &mut Reader, d: &Draft) -> Result<AddWord, ReadError>
+    ensures { Gives (λ x. x) result reader.new (reading.add_word d.now reader.old) }
+{
+    match reader.take() {
+        Some(t) if t.is_word() => match add_word_of(d, t.bytes) {
+            Some(word) => Ok(word),
+            None => Err(t.refused(&[])),
+        },
+        Some(t) => Err(t.refused(&[])),
+        None => Err(short()),
+    }
+}
+
+/// What stands behind the word `add` and what it adds.
+#[tactic(auto, using(token_forms::proofs::Refusals::refusals), unfolding(crate::specs::ScriptReading::add_behind))]
+fn add_behind(reader: &mut Reader, alloc: Global, d: &mut Draft, word: AddWord) -> Result<(), ReadError>
+    ensures { Gives (λ _. d.new) result reader.new (reading.add_behind d.old word reader.old) }
+{
+    let (family, table) = table_place(reader)?;
+    match word {
+        AddWord::Set => {
+            let name = new_set(reader, d)?;
+            let kinds = set_body(reader, alloc)?;
+            d.declare(make_declaration(alloc, family, table, name, kinds)?)?;
+            Ok(())
+        }
+        AddWord::Element => {
+            let place = used_set(reader, d.schema(), family, table)?;
+            element(reader, alloc, d, place as u32)
+        }
+    }
+}
+
+#[tactic(auto, using(token_forms::proofs::Refusals::refusals), unfolding(crate::specs::ScriptReading::statement))]
+fn statement(reader: &mut Reader, alloc: Global, d: &mut Draft) -> Result<(), ReadError>
+    ensures { Gives (λ _. d.new) result reader.new (reading.statement d.old reader.old) }
+{
+    reader.word(b"add")?;
+    let word = add_word(reader, d)?;
+    add_behind(reader, alloc, d, word)
+}
+
+/// A separator, or a statement where one may come next.
+#[tactic(auto, using(token_forms::proofs::Refusals::refusals))]
+fn statement_line(reader: &mut Reader, alloc: Global, d: &mut Draft, next: bool) -> Result<bool, ReadError>
+    ensures { Gives (λ x. (d.new, x)) result reader.new (reading.statement_line (d.old, next) reader.old) }
+{
+    if next && !reader.is_at_separator() {
+        statement(reader, alloc, d)?;
+        Ok(false)
+    } else {
+        reader.separator()?;
+        Ok(true)
+    }
+}
+
+fn next_statement_line(reader: &mut Reader, alloc: Global, d: &mut Draft, next: bool) -> Result<bool, ReadError>
+    ensures gives { Gives (λ x. (d.new, x)) result reader.new (reading.statement_line (d.old, next) reader.old) }
+    ensures shorter { OnOk result (length reader.new < length reader.old) }
+{
+    statement_line(reader, alloc, d, next)
+}
+
+fn starts_a_line(t: &Seen, next: bool) -> bool
+    ensures { (s : Drafted) → result ≡ line_starts separates any_word (s, next) (lexeme_of t.now) }
+{
+    if next {
+        t.is_separator() || t.is_word()
+    } else {
+        t.is_separator()
+    }
+}
+
+/// The statements, as far as they go, and whether one more may come next.
+fn statements(reader: &mut Reader, alloc: Global) -> Result<(Draft, bool), ReadError>
+    ensures { Gives (λ x. (x.0, x.1)) result reader.new (reading.statements reader.old) }
+{
+    let mut d = Draft::new(alloc);
+    let mut next = true;
+    'lines: while let Some(t) = reader.peek() {
+        let starts = starts_a_line(&t, next);
+        if !starts {
+            return Ok((d, next));
+        }
+        match next_statement_line(reader, alloc, &mut d, next) {
+            Ok(then) => next = then,
+            Err(e) => return Err(e),
+        }
+    }
+    Ok((d, next))
+}
+
+/// What stands before the end.
+#[tactic(auto, using(token_forms::proofs::Refusals::refusals), unfolding(crate::specs::ScriptReading::body))]
+fn body(reader: &mut Reader, alloc: Global) -> Result<Script, ReadError>
+    ensures { Gives (λ x. x) result reader.new (reading.body reader.old) }
+{
+    let (d, _) = statements(reader, alloc)?;
+    Ok(d.finish(alloc)?)
+}
+
+#[tactic(auto, using(token_forms::proofs::Refusals::refusals), unfolding(crate::specs::ScriptReading::script))]
+fn whole(reader: &mut Reader, alloc: Global) -> Result<Script, ReadError>
+    ensures { Gives (λ x. x) result reader.new (reading.script reader.old) }
+{
+    let s = body(reader, alloc)?;
+    reader.the_end()?;
+    Ok(s)
+}
+
+/// The script of a text, or the line of its first token that doesn't fit and the reason.
+fn read_placed(alloc: Global, text: &[u8]) -> Result<Script, ReadError>
+    ensures found { IfOk result (IsScriptText text.now) }
+    ensures only { (s : Script) → IsScriptText text.now s → IsReadAs (λ x. x) result s }
+    ensures bad { (line : ℕ) (reason : Reason) → result ≡ Err (Bad line reason) → IsFault script (text_tokens text.now) line reason }
+{
+    let mut reader = Reader::new(text);
+    whole(&mut reader, alloc)
+}
+
+/// The script that a text stands for. A text outside the grammar is answered by `Bad` with line 0 and the reason
+/// `LeftOut`, since no place is given yet.
+pub fn read_script(alloc: Global, text: &[u8]) -> Result<Script, ScriptError>
+    // What is read is the script that the text stands for.
+    ensures found { IfOk result (IsScriptText text.now) }
+    // A text that stands for a script is read as that one, unless memory runs out; so it stands for one at most.
+    ensures only { (s : Script) → IsScriptText text.now s → IsReadAs (λ x. x) result s }
+    // A text that is refused stands for no script.
+    ensures bad { (line : ℕ) (reason : Reason) → result ≡ Err (Bad line reason) → (line ≡ 0) × (reason ≡ LeftOut) × ((s : Script) → IsScriptText text.now s → ⊥) }
+    // At most one set without size, and at most 4,096 additions of fitting single values to it.
+    ensures plain { IfOk result IsPlainScript }
+{
+    match read_placed(alloc, text) {
+        Ok(s) => Ok(s),
+        Err(e) => Err(e.without_place()),
+    }
+}

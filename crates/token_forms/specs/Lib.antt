@@ -1,0 +1,13 @@
+pub mod Bytes
+pub mod Token
+pub mod Tokens
+pub mod TextTokens
+pub mod Form
+pub mod Words
+pub mod Faults
+pub mod Reading
+pub mod WordReading
+pub mod Reasons
+pub mod Gives
+pub mod TokensLeft
+pub mod View

@@ -1,0 +1,95 @@
+ghost use Rattle.std.specs.Prelude.{◌≡◌, ◌+◌, ◌<◌, ◌≤◌, ◌^◌, [], ◌∷◌, length, count_by, IsNone, IfSome};
+ghost use Rattle.token_forms.specs.Tokens.{tokens};
+ghost use Rattle.token_forms.specs.Bytes.{is_line_feed};
+
+use crate::piece::piece_at;
+use crate::token::TokenKind;
+use std::marker::Model;
+
+/// A token with its bytes.
+#[derive(Clone, Copy, Debug)]
+pub struct Spelled<'a> {
+    pub kind: TokenKind,
+    pub line: u64,
+    pub from: u64,
+    pub bytes: &'a [u8],
+}
+
+/// The tokens that are left of a text, one after another.
+#[derive(Drop)]
+pub struct Lexer<'a> {
+    rest: &'a [u8],
+    line: u64,
+    place: u64,
+    ended: bool,
+}
+
+impl<'a> Model for Lexer<'a> {
+    ghost use Rattle.std.specs.Prelude.{List, ◌+◌, ◌<◌, ◌^◌, length};
+    ghost use Rattle.token_forms.specs.Token.{Spelling};
+    ghost use Rattle.token_forms.specs.TokensLeft.{tokens_left};
+
+    ghost Value = { List Spelling };
+
+    ghost view = { λ a. tokens_left a.ended a.line a.place a.rest.now };
+
+    ghost invariant = { λ a. (a.line + length a.rest.now < 2 ^ 64) × (a.place + length a.rest.now < 2 ^ 64) };
+}
+
+impl<'a> Lexer<'a> {
+    ghost use Rattle.token_forms.specs.View.{spelling_of};
+
+    pub fn new(text: &'a [u8]) -> Self
+        ensures { result ≡ tokens text.now }
+    {
+        Lexer {
+            rest: text,
+            line: 1,
+            place: 0,
+            ended: false,
+        }
+    }
+
+    /// The next token. The end is the last one.
+    pub fn next_token(&mut self) -> Option<Spelled<'a>>
+        ensures none { IsNone result → (self.old ≡ []) × (self.new ≡ []) }
+        ensures some { IfSome result (λ t. self.old ≡ spelling_of t ∷ self.new) }
+        ensures fits { IfSome result (λ t. t.from + length t.bytes.now < 2 ^ 64) }
+    {
+        if self.ended {
+            return None;
+        }
+        'pieces: while !self.rest.is_empty() {
+            let piece = piece_at(self.rest);
+            let (bytes, behind) = self.rest.split_at(piece.size);
+            let line = self.line;
+            let from = self.place;
+            self.line = line + line_feeds(bytes);
+            self.place = from + piece.size as u64;
+            self.rest = behind;
+            if let Some(kind) = piece.kind {
+                return Some(Spelled {
+                    kind,
+                    line,
+                    from,
+                    bytes,
+                });
+            }
+        }
+        self.ended = true;
+        Some(Spelled {
+            kind: TokenKind::End,
+            line: self.line,
+            from: self.place,
+            bytes: self.rest,
+        })
+    }
+}
+
+fn line_feeds(bytes: &[u8]) -> u64
+    requires { length bytes.now < 2 ^ 63 }
+    ensures count { result ≡ count_by is_line_feed bytes.now }
+    ensures within { result ≤ length bytes.now }
+{
+    bytes.iter().filter(|b| **b == b'\n').count() as u64
+}

@@ -1,0 +1,16 @@
+//! Tokens of scripts and key files, and the forms that texts of them have: which lists of tokens are whole, what they
+//! stand for, and which token is the first that doesn't fit.
+#![tactic(auto)]
+
+mod error;
+mod lexer;
+mod piece;
+mod reader;
+mod reasons;
+mod token;
+mod tokens;
+
+pub use error::ReadError;
+pub use reader::{Reader, Seen, is_a_name, short};
+pub use token::{Reason, Token, TokenKind};
+pub use tokens::Tokens;

@@ -1,0 +1,135 @@
+ghost use Rattle.std.specs.Prelude.{◌≡◌, ◌+◌, ◌<◌, ◌≤◌, ◌^◌, length, not};
+ghost use Rattle.std.specs.List.{prefix_len};
+ghost use Rattle.token_forms.specs.Bytes.{is_blank, is_mark_byte, is_word_byte, is_string_byte, is_line_feed};
+ghost use Rattle.token_forms.specs.Tokens.{string_piece, joined_lines, piece, first_piece};
+
+use crate::token::TokenKind;
+
+/// What a text begins with: a token, or a gap, which is a blank or a comment; and how many bytes it has.
+#[derive(Clone, Copy, Debug, PartialEq, Eq)]
+pub struct Piece {
+    pub kind: Option<TokenKind>,
+    pub size: usize,
+}
+
+fn is_a_blank(b: u8) -> bool
+    ensures { result ≡ is_blank b }
+{
+    b == b' ' || b == b'\t' || b == b'\r'
+}
+
+fn is_a_mark(b: u8) -> bool
+    ensures { result ≡ is_mark_byte b }
+{
+    b == b'{' || b == b'}' || b == b',' || b == b';' || b == b'=' || b == b'*'
+}
+
+fn is_in_a_word(b: u8) -> bool
+    ensures { result ≡ is_word_byte b }
+{
+    (b'A' <= b && b <= b'Z')
+        || (b'a' <= b && b <= b'z')
+        || (b'0' <= b && b <= b'9')
+        || b == b'_'
+        || b == b'.'
+        || b == b'/'
+        || b == b':'
+        || b == b'-'
+}
+
+fn is_in_a_string(b: u8) -> bool
+    ensures { result ≡ is_string_byte b }
+{
+    b != b'"' && 32 <= b
+}
+
+fn word_len(bytes: &[u8]) -> usize
+    ensures run { result ≡ prefix_len is_word_byte bytes.now }
+    ensures within { result ≤ length bytes.now }
+{
+    bytes.iter().take_while(|b| is_in_a_word(**b)).count()
+}
+
+fn string_len(bytes: &[u8]) -> usize
+    ensures run { result ≡ prefix_len is_string_byte bytes.now }
+    ensures within { result ≤ length bytes.now }
+{
+    bytes.iter().take_while(|b| is_in_a_string(**b)).count()
+}
+
+fn comment_len(bytes: &[u8]) -> usize
+    ensures run { result ≡ prefix_len (λ b. not (is_line_feed b)) bytes.now }
+    ensures within { result ≤ length bytes.now }
+{
+    bytes.iter().take_while(|b| **b != b'\n').count()
+}
+
+fn gap(size: usize) -> Piece
+    ensures { result ≡ record { kind = None; size = size } }
+{
+    Piece { kind: None, size }
+}
+
+fn token(kind: TokenKind, size: usize) -> Piece
+    ensures { result ≡ record { kind = Some kind; size = size } }
+{
+    Piece {
+        kind: Some(kind),
+        size,
+    }
+}
+
+fn string_at(bytes: &[u8]) -> Piece
+    ensures piece { result ≡ string_piece bytes.now }
+    ensures within { (0 < result.size) × (result.size ≤ length bytes.now + 1) }
+{
+    let n = string_len(bytes);
+    match bytes.get(n) {
+        Some(b'"') if n <= 128 => token(TokenKind::Text, n + 2),
+        _ => token(TokenKind::Faulty, 1),
+    }
+}
+
+fn joined_at(bytes: &[u8]) -> Piece
+    ensures piece { result ≡ joined_lines bytes.now }
+    ensures within { (0 < result.size) × (result.size ≤ length bytes.now + 1) }
+{
+    match bytes.first() {
+        Some(b'\n') => gap(2),
+        _ => token(TokenKind::Faulty, 1),
+    }
+}
+
+fn piece_behind(b: u8, bytes: &[u8]) -> Piece
+    requires { length bytes.now < 2 ^ 63 }
+    ensures piece { result ≡ piece b bytes.now }
+    ensures within { (0 < result.size) × (result.size ≤ length bytes.now + 1) }
+{
+    if is_a_blank(b) {
+        gap(1)
+    } else if b == b'\\' {
+        joined_at(bytes)
+    } else if b == b'#' {
+        gap(1 + comment_len(bytes))
+    } else if b == b'\n' {
+        token(TokenKind::Break, 1)
+    } else if is_a_mark(b) {
+        token(TokenKind::Mark, 1)
+    } else if b == b'"' {
+        string_at(bytes)
+    } else if is_in_a_word(b) {
+        token(TokenKind::Word, 1 + word_len(bytes))
+    } else {
+        token(TokenKind::Faulty, 1)
+    }
+}
+
+/// What a text that isn't empty begins with.
+pub fn piece_at(text: &[u8]) -> Piece
+    requires some { 0 < length text.now }
+    requires fits { length text.now < 2 ^ 63 }
+    ensures piece { result ≡ first_piece text.now }
+    ensures within { (0 < result.size) × (result.size ≤ length text.now) }
+{
+    piece_behind(text[0], &text[1..])
+}
