@@ -1,0 +1,69 @@
+-- How a call ends, and what follows of its status.
+use Rattle.std.proofs.Common.{◌≡◌, ◌≢◌, refl, sym, ◌∙◌, ap, subst, ℕ, List, [], ◌∷◌, ◌++◌, map, length, Option, Some, None, inl, inr, arith, append-nil}
+use Rattle.std.specs.Prelude.{◌⊎◌}
+use Rattle.std.specs.Io.KnownBytes.{Appends, Keeps}
+use Rattle.pip_base.specs.Causes.{Rose}
+use Rattle.pipapo_cli.specs.declared.fault.Fault.{Fault}
+use Rattle.pipapo_cli.specs.declared.fault.Fault.TheVariants.{Usage, BadScript, BadKeys, ReadFault, TooLarge, Memory}
+use Rattle.pipapo_cli.specs.Words.{Run, IsRun, IsNoCommand}
+use Rattle.pipapo_cli.specs.Transcript.{IsTranscript, IsOutput}
+use Rattle.pipapo_cli.specs.Causes.{IsCause, FileCause, IsScriptCause, IsKeysCause, IsReadable}
+use Rattle.pipapo_cli.specs.Answers.{Ends, written, cut, memory, IsDue, output, refusal, IsExactly, Transcribes, status_of, line_of}
+use Rattle.set_model.specs.Control.{Strict}
+
+-- a fault of a file is a fault of the call
+pub from-file : (words : List (List ℕ)) (told : List ℕ → Option (List ℕ)) (asked : List (List ℕ)) (before now : ℕ) (fault : Fault)
+    → FileCause words told asked before now fault → IsCause words told asked before now fault
+from-file words told asked before now Usage h = absurd (elim (h.2) as (λ _. ⊥) [ inl a ↦ a | inr b ↦ b.1 ])
+from-file words told asked before now BadScript h = h
+from-file words told asked before now BadKeys h = h
+from-file words told asked before now (ReadFault name) h = h
+from-file words told asked before now (TooLarge name) h = h
+from-file words told asked before now Memory h = h
+
+-- a row that is due with status 0 is an output
+due-output : (words : List (List ℕ)) (told : List ℕ → Option (List ℕ)) (asked : List (List ℕ)) (before now status : ℕ) (text : List ℕ)
+    → IsDue words told asked before now status text → status ≡ 0 → (run : Run) × IsRun words run × IsOutput run told text
+due-output words told asked before now status text (output run t is_run names quiet readable is_output) e = (run, is_run, is_output)
+due-output words told asked before now status text (refusal Usage cause) e = absurd (omega (arith, e))
+due-output words told asked before now status text (refusal BadScript cause) e = absurd (omega (arith, e))
+due-output words told asked before now status text (refusal BadKeys cause) e = absurd (omega (arith, e))
+due-output words told asked before now status text (refusal (ReadFault name) cause) e = absurd (omega (arith, e))
+due-output words told asked before now status text (refusal (TooLarge name) cause) e = absurd (omega (arith, e))
+due-output words told asked before now status text (refusal Memory cause) e = absurd (omega (arith, e))
+
+-- words ask for one run at most
+pub one-run : (words : List (List ℕ)) (a b : Run) → IsRun words a → IsRun words b → a ≡ b
+one-run words a b h k = let e : a.script ≡ b.script = cc (h.words_are, k.words_are) in let f : a.keys ≡ b.keys = cc (h.words_are, k.words_are) in ap (λ s. record { script = s; keys = a.keys }) e ∙ ap (λ s. record { script = b.script; keys = s }) f
+
+pub headline : (words : List (List ℕ)) (told : List ℕ → Option (List ℕ)) (asked : List (List ℕ)) (before now : ℕ) (taken_before taken_now : Option (List ℕ)) (b n result : ℕ)
+    → Ends (IsDue words told asked before now) taken_before taken_now b n result → result ≡ 0 → Transcribes words told taken_before taken_now
+headline words told asked before now taken_before taken_now b n result (written status text due appends quiet) e run script_text keys_text old new is_run script_told keys_told is_old is_new =
+    let d = due-output words told asked before now status text due e in
+    let same : d.0 ≡ run = one-run words d.0 run d.1 is_run in
+    let given : IsOutput run told text = subst (λ (r : Run). IsOutput r told text) same d.2 in
+    let grown : new ≡ old ++ text = subst (λ (o : Option (List ℕ)). Appends (Some old) o text) is_new (subst (λ (o : Option (List ℕ)). Appends o taken_now text) is_old appends) in
+    (text, grown, given script_text keys_text script_told keys_told)
+headline words told asked before now taken_before taken_now b n result (cut status text due front rose) e run script_text keys_text old new is_run script_told keys_told is_old is_new = absurd (omega (arith, e))
+headline words told asked before now taken_before taken_now b n result (memory due keeps quiet) e run script_text keys_text old new is_run script_told keys_told is_old is_new = absurd (omega (arith, e))
+
+-- what is due of a fault with its cause
+pub due-refusal : (words : List (List ℕ)) (told : List ℕ → Option (List ℕ)) (asked : List (List ℕ)) (before now : ℕ) (fault : Fault) → IsCause words told asked before now fault
+    → (status : ℕ) (text : List ℕ) → IsExactly (status_of fault) (line_of fault) status text → IsDue words told asked before now status text
+due-refusal words told asked before now fault cause status text e = rw (e.0, e.1) (refusal fault cause)
+
+-- what is due of an output
+pub due-of-output : (words : List (List ℕ)) (told : List ℕ → Option (List ℕ)) (asked : List (List ℕ)) (before now : ℕ) (out : List ℕ)
+    → (run : Run) × IsRun words run × (asked ≡ run.script ∷ run.keys ∷ []) × (now ≡ before) × IsReadable run told × IsOutput run told out
+    → (status : ℕ) (text : List ℕ) → IsExactly 0 out status text → IsDue words told asked before now status text
+due-of-output words told asked before now out h status text e = rw (e.0, e.1) (output h.0 out h.1 h.2 h.3 h.4 h.5)
+
+-- A cause in the key file is said of what the shelf tells, however that is named.
+pub keys-cause : (run : Run) (told other : List ℕ → Option (List ℕ)) (asked : List (List ℕ)) (before now : ℕ) (fault : Fault) → ((name : List ℕ) → told name ≡ other name)
+    → IsKeysCause run told asked before now fault → IsKeysCause run other asked before now fault
+keys-cause run told other asked before now Usage same h = absurd h
+keys-cause run told other asked before now BadScript same h = absurd h
+keys-cause run told other asked before now BadKeys same h = (h.0, h.1, λ text keys_text a b. h.2 text keys_text (same run.script ∙ a) (same run.keys ∙ b))
+keys-cause run told other asked before now (ReadFault name) same h = h
+keys-cause run told other asked before now (TooLarge name) same h = (h.0, h.1, h.2, λ text a. h.3 text (same run.keys ∙ a))
+keys-cause run told other asked before now Memory same h = h

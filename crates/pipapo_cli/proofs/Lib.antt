@@ -1,0 +1,7 @@
+mod Lists
+mod Singles
+mod PlainLines
+mod PlainHistory
+mod PlainTranscript
+mod Deliveries
+mod Endings

@@ -1,0 +1,45 @@
+use Rattle.std.proofs.Common.{◌≡◌, refl, sym, ◌∙◌, ap, subst, map, List, ℕ, ◌∷◌, [], inl, inr, Some}
+use Rattle.std.specs.String.{string_bytes}
+use Rattle.pipapo_cli.specs.Words.{Run, IsRun}
+use Rattle.pipapo_cli.specs.Causes.{IsReadable, IsKeysCause}
+use Rattle.pipapo_cli.proofs.Endings.{from-file, keys-cause}
+use Rattle.pipapo_cli.proofs.path.output_of.Goals as goal
+
+pub returns-in-Err-clause-cause : goal.returns-in-Err-clause-cause
+returns-in-Err-clause-cause g c =
+    let run : Run = record { script = c.in-Some.run'.script.now; keys = c.in-Some.run'.keys.now } in
+    from-file _ _ _ _ _ c.in-Err.fault (run, c.in-Some.ensures.found, inl (c.in-Err.ensures.cause run.keys))
+
+pub returns-in-Err-keys_of-clause-cause : goal.returns-in-Err-keys_of-clause-cause
+returns-in-Err-keys_of-clause-cause g c =
+    let run : Run = record { script = c.in-Some.run'.script.now; keys = c.in-Some.run'.keys.now } in
+    let readable : IsReadable run (g.F.Shelf.told c.args.shelf.now) = λ text t. let r = c.in-Ok.ensures.read text t in (r.0, (c.in-Ok.script, r.1)) in
+    let cause = c.in-Err-keys_of.ensures.cause run.script c.in-Ok.ensures.quiet.0 (λ text t. let r = c.in-Ok.ensures.read text (sym (c.in-Ok.ensures.told run.script) ∙ t) in (c.in-Ok.script, r.1, refl)) in
+    from-file _ _ _ _ _ c.in-Err-keys_of.fault (run, c.in-Some.ensures.found, inr (readable, keys-cause run _ _ _ _ _ c.in-Err-keys_of.fault c.in-Ok.ensures.told (rw c.in-Ok.ensures.quiet.1 at cause)))
+
+pub returns-in-Ok-transcript-clause-output : goal.returns-in-Ok-transcript-clause-output
+returns-in-Ok-transcript-clause-output g c =
+    let run : Run = record { script = c.in-Some.run'.script.now; keys = c.in-Some.run'.keys.now } in
+    let readable : IsReadable run (g.F.Shelf.told c.args.shelf.now) = λ text t. let r = c.in-Ok.ensures.read text t in (r.0, (c.in-Ok.script, r.1)) in
+    let t = c.in-Ok-transcript.ensures in (
+      run,
+      c.in-Some.ensures.found,
+      rw c.in-Ok.ensures.quiet.0 at c.in-Ok-keys_of.ensures.quiet.0,
+      c.in-Ok-keys_of.ensures.quiet.1 ∙ c.in-Ok.ensures.quiet.1,
+      readable,
+      λ script_text keys_text a b. record {
+        script = c.in-Ok.script;
+        keys = c.in-Ok-keys_of.keys;
+        lines = t.0;
+        script_is = (c.in-Ok.ensures.read script_text a).1;
+        keys_are = c.in-Ok-keys_of.ensures.read keys_text (c.in-Ok.ensures.told run.keys ∙ b);
+        legal = t.1;
+        text = t.2;
+      },
+    )
+
+pub returns-clause-cause : goal.returns-clause-cause
+returns-clause-cause g c =
+    let run : Run = record { script = c.in-Some.run'.script.now; keys = c.in-Some.run'.keys.now } in
+    let readable : IsReadable run (g.F.Shelf.told c.args.shelf.now) = λ text t. let r = c.in-Ok.ensures.read text t in (r.0, (c.in-Ok.script, r.1)) in
+    (run, c.in-Some.ensures.found, inr (readable, (inr (rw c.in-Ok.ensures.quiet.0 at c.in-Ok-keys_of.ensures.quiet.0), c.in-Ok-keys_of.ensures.quiet.1 ∙ c.in-Ok.ensures.quiet.1)))

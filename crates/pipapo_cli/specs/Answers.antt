@@ -1,0 +1,61 @@
+-- How a call ends: the status, what was written, and the counts of faults.
+use Rattle.std.specs.Prelude.{◌≡◌, ℕ, List, [], ◌∷◌, ◌++◌, Option, Some, codes}
+use Rattle.std.specs.Io.KnownBytes.{Appends, Keeps}
+use Rattle.pip_base.specs.Causes.{Rose}
+use Rattle.pip_base.specs.Whole.{AppendsFront}
+use Rattle.pipapo_cli.specs.declared.fault.Fault.{Fault}
+use Rattle.pipapo_cli.specs.declared.fault.Fault.TheVariants.{Usage, BadScript, BadKeys, ReadFault, TooLarge, Memory}
+use Rattle.pipapo_cli.specs.Words.{Run, IsRun}
+use Rattle.set_model.specs.Control.{Strict}
+use Rattle.pipapo_cli.specs.Transcript.{IsOutput, IsTranscript}
+use Rattle.pipapo_cli.specs.Causes.{IsCause, IsReadable}
+
+-- the status of a fault
+abbrev pub status_of : Fault → ℕ
+status_of Usage = 2
+status_of BadScript = 3
+status_of BadKeys = 4
+status_of (ReadFault name) = 5
+status_of (TooLarge name) = 8
+status_of Memory = 7
+
+abbrev pub usage_line : List ℕ
+usage_line = codes "pipapo: usage: run SCRIPT KEYS [--threads N] [--keep-going] | list SCRIPT [--keep-going] | dump SCRIPT [--keep-going] | drill SEED COUNT [--threads N]\n"
+
+abbrev pub named_line : List ℕ → List ℕ → List ℕ
+named_line front name = (front ++ name) ++ codes "\n"
+
+-- the line of a fault; want of memory has none
+abbrev pub line_of : Fault → List ℕ
+line_of Usage = usage_line
+line_of BadScript = codes "pipapo: script line 0: left out\n"
+line_of BadKeys = codes "pipapo: keys line 0: left out\n"
+line_of (ReadFault name) = named_line (codes "pipapo: read fault: ") name.now
+line_of (TooLarge name) = named_line (codes "pipapo: too large: ") name.now
+line_of Memory = []
+
+-- The status and text that are due: the output of a run with 0, or a fault's status and line where the
+-- fault has its cause.
+pub data IsDue (words : List (List ℕ)) (told : List ℕ → Option (List ℕ)) (asked : List (List ℕ)) (before now : ℕ) : ℕ → List ℕ → Type 0 where
+  output : (run : Run) (text : List ℕ) → IsRun words run → asked ≡ run.script ∷ run.keys ∷ [] → now ≡ before → IsReadable run told → IsOutput run told text → IsDue words told asked before now 0 text
+  refusal : (fault : Fault) → IsCause words told asked before now fault → IsDue words told asked before now (status_of fault) (line_of fault)
+
+-- this status and this text, and no other
+abbrev pub IsExactly : ℕ → List ℕ → ℕ → List ℕ → Type 0
+IsExactly status text other_status other_text = (other_status ≡ status) × (other_text ≡ text)
+
+-- A call ends by its status: the text that is due was written whole; or the sink failed, and a front of
+-- it was written; or memory was wanting, and nothing was written.
+pub data Ends (due : ℕ → List ℕ → Type 0) (taken_before taken_now : Option (List ℕ)) (before now : ℕ) : ℕ → Type 0 where
+  written : (status : ℕ) (text : List ℕ) → due status text → Appends taken_before taken_now text → now ≡ before → Ends due taken_before taken_now before now status
+  cut : (status : ℕ) (text : List ℕ) → due status text → AppendsFront taken_before taken_now text → Rose before now → Ends due taken_before taken_now before now 6
+  memory : due 7 [] → Keeps taken_before taken_now → now ≡ before → Ends due taken_before taken_now before now 7
+
+-- The headline, of a call that ended with status 0: where the words are a run, the shelf tells the bytes
+-- under both names and the sink tells what it took, what it took in this call is the text of a legal
+-- transcript of the script and the key file.
+abbrev pub Transcribes : List (List ℕ) → (List ℕ → Option (List ℕ)) → Option (List ℕ) → Option (List ℕ) → Type 0
+Transcribes words told before after =
+    (run : Run) (script_text keys_text taken_before taken_now : List ℕ) → IsRun words run
+    → told run.script ≡ Some script_text → told run.keys ≡ Some keys_text → before ≡ Some taken_before → after ≡ Some taken_now
+    → (output : List ℕ) × (taken_now ≡ taken_before ++ output) × IsTranscript script_text keys_text 1 Strict output

@@ -1,0 +1,5 @@
+pub mod Words
+pub mod PlainRun
+pub mod Transcript
+pub mod Causes
+pub mod Answers

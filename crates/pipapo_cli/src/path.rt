@@ -1,0 +1,67 @@
+ghost use Rattle.std.specs.Prelude.{◌≡◌, ◌≢◌, ◌⊎◌, [], ◌∷◌, map, IfOk, IfErr};
+ghost use Rattle.std.specs.String.{string_bytes};
+ghost use Rattle.pipapo_cli.specs.Words.{Run, IsRun};
+ghost use Rattle.pipapo_cli.specs.Transcript.{IsOutput};
+ghost use Rattle.pipapo_cli.specs.Causes.{IsCause, IsReadable};
+ghost use Rattle.pipapo_cli.specs.Answers.{Ends, IsDue, Transcribes};
+
+use crate::delivery::{deliver, tell};
+use crate::fault::Fault;
+use crate::inputs::{keys_of, script_of};
+use crate::plain_run::transcript;
+use crate::words::run_of;
+use pip_base::{Shelf, Sink};
+use std::alloc::Global;
+
+/// The output that the command's words ask for.
+fn output_of<'a, F: Shelf>(
+    alloc: Global,
+    words: &'a [String],
+    shelf: &mut F,
+) -> Result<String, Fault<'a>>
+    requires { F.asked shelf.old ≡ [] }
+    ensures output { IfOk result (λ out. (run : Run) × IsRun (map string_bytes words.now) run × (F.asked shelf.new ≡ run.script ∷ run.keys ∷ []) × (F.faults shelf.new ≡ F.faults shelf.old) × IsReadable run (F.told shelf.old) × IsOutput run (F.told shelf.old) (string_bytes out)) }
+    ensures cause { IfErr result (IsCause (map string_bytes words.now) (F.told shelf.old) (F.asked shelf.new) (F.faults shelf.old) (F.faults shelf.new)) }
+{
+    let Some(run) = run_of(words) else {
+        return Err(Fault::Usage);
+    };
+    let script = match script_of(alloc, shelf, run.script) {
+        Ok(script) => script,
+        Err(fault) => return Err(fault),
+    };
+    let keys = match keys_of(alloc, shelf, &script.schema, run.keys) {
+        Ok(keys) => keys,
+        Err(fault) => return Err(fault),
+    };
+    match transcript(alloc, &script, &keys) {
+        Ok(out) => Ok(out),
+        Err(_) => Err(Fault::Memory),
+    }
+}
+
+/// The command `pipapo`: `run SCRIPT KEYS` runs a script and looks up the packets of a key file. It
+/// writes the transcript, or one line where the words, a file or its reading is at fault, and answers
+/// the status:
+///
+/// - 0: the whole transcript was written;
+/// - 2: the words are no command, and the usage line was written;
+/// - 3, 4: the script, the key file isn't in its grammar;
+/// - 5: a file couldn't be opened or read;
+/// - 6: the sink failed, after a front of what was to be written;
+/// - 7: want of memory, and nothing was written;
+/// - 8: a file has more than 67,108,864 bytes.
+pub fn pipapo<F: Shelf, K: Sink>(alloc: Global, words: &[String], shelf: &mut F, sink: &mut K) -> u8
+    requires { F.asked shelf.old ≡ [] }
+
+    // With status 0 the sink took the text of a legal transcript.
+    ensures run { result ≡ 0 → Transcribes (map string_bytes words.now) (F.told shelf.old) (K.taken sink.old) (K.taken sink.new) }
+
+    // Every status has its cause, and what was written is due.
+    ensures ends { Ends (IsDue (map string_bytes words.now) (F.told shelf.old) (F.asked shelf.new) (F.faults shelf.old) (F.faults shelf.new)) (K.taken sink.old) (K.taken sink.new) (K.faults sink.old) (K.faults sink.new) result }
+{
+    match output_of(alloc, words, shelf) {
+        Ok(output) => deliver(sink, 0, output.as_bytes()),
+        Err(fault) => tell(sink, fault),
+    }
+}
