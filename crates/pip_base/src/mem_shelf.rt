@@ -82,6 +82,14 @@ impl MemShelf {
         }
     }
 
+    /// Whether there are bytes under a name.
+    #[tactic(auto, using(crate::proofs::Shelves::places))]
+    pub fn has(&self, name: &str) -> bool
+        ensures { result ≡ has_file self.now.files name.now }
+    {
+        place_of(self.files.as_slice(), name).is_some()
+    }
+
     /// Puts bytes under a name that isn't there yet. After `Memory`, its one error, nothing has
     /// changed.
     pub fn add(&mut self, alloc: Global, name: &str, bytes: &[u8]) -> Result<(), PickError>

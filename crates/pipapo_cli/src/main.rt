@@ -8,6 +8,8 @@ mod lookup;
 mod path;
 mod plain_run;
 mod plain_set;
+#[cfg(test)]
+mod tests;
 mod text;
 mod words;
 

@@ -1,0 +1,245 @@
+ghost use Rattle.std.specs.Prelude.{◌≡◌, [], IfOk};
+
+use crate::path::pipapo;
+use pip_base::{MemShelf, MemSink, Sink};
+use std::alloc::Global;
+use std::test::Fail;
+
+const SET: &str = "add set ip filter s { type ipv4_addr . inet_service ; flags interval ; }\n";
+
+const SCRIPT: &str =
+    "add set ip filter s { type ipv4_addr . inet_service ; flags interval ; }\nadd element ip filter s { 10.0.0.5 . 1024 }\nadd element ip filter s { 10.0.0.6 . 1024 }\n";
+
+const KEYS: &str = "ip filter s 10.0.0.6 . 1024\nip filter s 10.0.0.7 . 1024\n";
+
+const TRANSCRIPT: &str =
+    "commit generation 1 purged 0\npacket 0 thread 0 generation 1 element 1\npacket 1 thread 0 generation 1 none\n";
+
+const USAGE: &str =
+    "pipapo: usage: run SCRIPT KEYS [--threads N] [--keep-going] | list SCRIPT [--keep-going] | dump SCRIPT [--keep-going] | drill SEED COUNT [--threads N]\n";
+
+/// A shelf with a script under `a.nft` and a key file under `keys`, where they are given, whose call of
+/// this number fails.
+fn shelf_with(
+    alloc: Global,
+    script: Option<&[u8]>,
+    keys: Option<&[u8]>,
+    failing: u64,
+) -> Result<MemShelf, Fail>
+    ensures { IfOk result (λ shelf. shelf.asked ≡ []) }
+{
+    let mut shelf = MemShelf::new(alloc);
+    if let Some(bytes) = script {
+        if !shelf.has("a.nft") {
+            shelf.add(alloc, "a.nft", bytes)?;
+        }
+    }
+    if let Some(bytes) = keys {
+        if !shelf.has("keys") {
+            shelf.add(alloc, "keys", bytes)?;
+        }
+    }
+    shelf.fail_at(failing)?;
+    Ok(shelf)
+}
+
+/// Runs words over a shelf, and a sink that takes 7 bytes at once and so many in all.
+fn run_words(
+    alloc: Global,
+    words: &[&str],
+    shelf: MemShelf,
+    room: usize,
+) -> Result<(u8, MemSink), Fail>
+    requires { shelf.asked ≡ [] }
+{
+    let mut shelf = shelf;
+    let mut command = Vec::new(alloc);
+    for word in words {
+        command.push(String::from_str(alloc, word)?)?;
+    }
+    let mut sink = MemSink::new(alloc, 7, room)?;
+    let status = pipapo(alloc, command.as_slice(), &mut shelf, &mut sink);
+    Ok((status, sink))
+}
+
+/// `run a.nft keys` over a script and a key file, where they are given.
+fn run_files(
+    alloc: Global,
+    script: Option<&[u8]>,
+    keys: Option<&[u8]>,
+    failing: u64,
+    room: usize,
+) -> Result<(u8, MemSink), Fail> {
+    let shelf = shelf_with(alloc, script, keys, failing)?;
+    run_words(alloc, &["run", "a.nft", "keys"], shelf, room)
+}
+
+/// The status and output of `run a.nft keys` over a script and a key file.
+fn run(alloc: Global, script: &str, keys: &str) -> Result<(u8, MemSink), Fail> {
+    run_files(
+        alloc,
+        Some(script.as_bytes()),
+        Some(keys.as_bytes()),
+        0,
+        1000,
+    )
+}
+
+#[test]
+fn two_single_values(rt: HostRuntime) -> Result<(), Fail> {
+    let (status, sink) = run(rt.alloc(), SCRIPT, KEYS)?;
+    assert_eq!(rt; sink.bytes(), TRANSCRIPT.as_bytes());
+    assert_eq!(rt; status, 0);
+    Ok(())
+}
+
+#[test]
+fn an_element_again_is_there_already(rt: HostRuntime) -> Result<(), Fail> {
+    let script =
+        "add set ip t p { type ipv4_addr . inet_service ; flags interval ; }\nadd element ip t p { 10.0.0.5 . 80 }\nadd element ip t p { 10.0.0.5 . 80 }\nadd element ip t p { 10.0.0.5 . 81 }";
+    let (status, sink) = run(
+        rt.alloc(),
+        script,
+        "ip t p 10.0.0.5 . 80\nip t p 10.0.0.5 . 81",
+    )?;
+    assert_eq!(rt;
+        sink.bytes(),
+        b"commit generation 1 purged 0\npacket 0 thread 0 generation 1 element 0\npacket 1 thread 0 generation 1 element 1\n".as_slice()
+    );
+    assert_eq!(rt; status, 0);
+    Ok(())
+}
+
+#[test]
+fn empty_files(rt: HostRuntime) -> Result<(), Fail> {
+    let (status, sink) = run(rt.alloc(), "", "")?;
+    assert_eq!(rt; sink.bytes(), b"".as_slice());
+    assert_eq!(rt; status, 0);
+    let (status, sink) = run(rt.alloc(), SET, "ip filter s 10.0.0.6 . 1024\n")?;
+    assert_eq!(rt;
+        sink.bytes(),
+        b"packet 0 thread 0 generation 0 none\n".as_slice()
+    );
+    assert_eq!(rt; status, 0);
+    Ok(())
+}
+
+#[test]
+fn bad_words(rt: HostRuntime) -> Result<(), Fail> {
+    let commands: [&[&str]; 8] = [
+        &[],
+        &["run", "a"],
+        &["run", "a", "b", "--threads", "17"],
+        &["run", "a", "b", "--threads", "01"],
+        &["run", "-a", "b"],
+        &["run", "a", ""],
+        &["list", "a"],
+        &["run", "a", "b", "c"],
+    ];
+    for words in commands {
+        let (status, sink) = run_words(
+            rt.alloc(),
+            words,
+            shelf_with(rt.alloc(), None, None, 0)?,
+            1000,
+        )?;
+        assert_eq!(rt; sink.bytes(), USAGE.as_bytes());
+        assert_eq!(rt; status, 2);
+    }
+    Ok(())
+}
+
+#[test]
+fn bad_files(rt: HostRuntime) -> Result<(), Fail> {
+    let (status, sink) = run(rt.alloc(), "add set\n", KEYS)?;
+    assert_eq!(rt;
+        sink.bytes(),
+        b"pipapo: script line 0: left out\n".as_slice()
+    );
+    assert_eq!(rt; status, 3);
+    let (status, sink) = run(rt.alloc(), SCRIPT, "ip filter s 10.0.0.6\n")?;
+    assert_eq!(rt; sink.bytes(), b"pipapo: keys line 0: left out\n".as_slice());
+    assert_eq!(rt; status, 4);
+    Ok(())
+}
+
+#[test]
+fn missing_file(rt: HostRuntime) -> Result<(), Fail> {
+    let (status, sink) = run_files(rt.alloc(), None, Some(b""), 0, 1000)?;
+    assert_eq!(rt; sink.bytes(), b"pipapo: read fault: a.nft\n".as_slice());
+    assert_eq!(rt; status, 5);
+    let (status, sink) = run_files(rt.alloc(), Some(SCRIPT.as_bytes()), None, 0, 1000)?;
+    assert_eq!(rt; sink.bytes(), b"pipapo: read fault: keys\n".as_slice());
+    assert_eq!(rt; status, 5);
+    Ok(())
+}
+
+#[test]
+fn each_call_of_the_shelf_may_fail(rt: HostRuntime) -> Result<(), Fail> {
+    for call in 1..=6u64 {
+        let (status, sink) = run_files(
+            rt.alloc(),
+            Some(SCRIPT.as_bytes()),
+            Some(KEYS.as_bytes()),
+            call,
+            1000,
+        )?;
+        let line: &[u8] = if call <= 3 {
+            b"pipapo: read fault: a.nft\n"
+        } else {
+            b"pipapo: read fault: keys\n"
+        };
+        assert_eq!(rt; sink.bytes(), line);
+        assert_eq!(rt; status, 5);
+    }
+    let (status, _) = run_files(
+        rt.alloc(),
+        Some(SCRIPT.as_bytes()),
+        Some(KEYS.as_bytes()),
+        7,
+        1000,
+    )?;
+    assert_eq!(rt; status, 0);
+    Ok(())
+}
+
+#[test]
+fn cut_output(rt: HostRuntime) -> Result<(), Fail> {
+    let (status, sink) = run_files(
+        rt.alloc(),
+        Some(SCRIPT.as_bytes()),
+        Some(KEYS.as_bytes()),
+        0,
+        10,
+    )?;
+    assert_eq!(rt; sink.bytes(), b"commit gen".as_slice());
+    assert_eq!(rt; status, 6);
+    let (status, sink) = run_words(
+        rt.alloc(),
+        &["run"],
+        shelf_with(rt.alloc(), None, None, 0)?,
+        10,
+    )?;
+    assert_eq!(rt; sink.bytes(), b"pipapo: us".as_slice());
+    assert_eq!(rt; status, 6);
+    let (status, sink) = run_files(rt.alloc(), None, None, 0, 24)?;
+    assert_eq!(rt; sink.bytes(), b"pipapo: read fault: a.nf".as_slice());
+    assert_eq!(rt; status, 6);
+    Ok(())
+}
+
+#[test]
+fn file_limit(rt: HostRuntime) -> Result<(), Fail> {
+    let mut line_feeds = vec![in rt.alloc(); 10u8; 67_108_865]?;
+    let (status, sink) = run_files(rt.alloc(), Some(line_feeds.as_slice()), Some(b""), 0, 1000)?;
+    assert_eq!(rt; sink.bytes(), b"pipapo: too large: a.nft\n".as_slice());
+    assert_eq!(rt; status, 8);
+    let (status, sink) = run_files(rt.alloc(), Some(b""), Some(line_feeds.as_slice()), 0, 1000)?;
+    assert_eq!(rt; sink.bytes(), b"pipapo: too large: keys\n".as_slice());
+    assert_eq!(rt; status, 8);
+    let _ = line_feeds.pop();
+    let (status, sink) = run_files(rt.alloc(), Some(line_feeds.as_slice()), Some(b""), 0, 1000)?;
+    assert_eq!(rt; sink.bytes(), b"".as_slice());
+    assert_eq!(rt; status, 0);
+    Ok(())
+}
