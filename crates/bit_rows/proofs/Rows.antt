@@ -1,11 +1,29 @@
 -- What each change of the words makes of the row.
-use Rattle.std.proofs.Common.{◌≡◌, refl, sym, ◌∙◌, ap, subst, ℕ, zero, suc, ◌+◌, ◌-◌, ◌*◌, ◌/◌, ◌%◌, ◌^◌, ◌<◌, ◌≤◌, ◌⊎◌, Bool, true, false, cond, not, ◌&&◌, ◌||◌, nat_le, nat_lt, List, [], ◌∷◌, ◌++◌, map, length, get_or, take, drop, replicate, zip, arith, inl, inr}
-use Rattle.std.proofs.lemmas.Bool.{cases_lt, le-leb, lt-leb, lt-ltb, le-ltb}
+use Rattle.std.proofs.Common.{◌≡◌, refl, sym, ◌∙◌, ap, ℕ, zero, suc, ◌+◌, ◌-◌, ◌*◌, ◌/◌, ◌%◌, ◌^◌, ◌<◌, ◌≤◌, ◌⊎◌, Bool, true, false, cond, not, ◌&&◌, ◌||◌, nat_lt, List, [], ◌∷◌, ◌++◌, map, length, get_or, take, drop, replicate, zip, arith, inl, inr}
+use Rattle.std.proofs.lemmas.Bool.{cases_lt, cond-true, cond-false, lt-ltb}
 use Rattle.std.proofs.lemmas.List.{get_or_past, length-map, length-append, length-take, length-drop, length-replicate, take_all, get_or_append_left, get_or-append_right, get_or-replicate, get_or-take, get_or-drop, get_or_push, length_push}
 use Rattle.std.proofs.lemmas.Slice.Zip.{length-zip}
-use Rattle.bit_rows.specs.Row.{bit, at, both, either, with_run, without_run, lies, IsNextSet}
+use Rattle.bit_rows.specs.Row.{bit, at, both, either, with_run, without_run, lies, IsNextSet, IsCleared}
 use Rattle.bit_rows.specs.Words.{place, bits_of, IsRow, IsClearFrom, IsNextPlace}
-use Rattle.bit_rows.proofs.Bits.{place-is, place-past, bit-zero, bits-same, bits-read, bits-at, length-bits}
+use Rattle.bit_rows.proofs.Tests.{and-false, and-true, or-false, or-true, lies-in, lies-below, lies-above, by-run}
+use Rattle.bit_rows.proofs.Bits.{place-is, place-past, bits-same, bits-read, bits-at, length-bits}
+
+-- ---- the row behind a list of words
+
+-- words of the same number, whose places from len on are clear
+pub row-kept : (old new : List ℕ) (before len : ℕ) → IsRow old before → length new ≡ length old → len ≤ 64 * length old → IsClearFrom new len → IsRow new len
+row-kept old new before len row e within clear = record {
+  steps = ap (λ n. n % 8) e ∙ row.steps;
+  small = let s = row.small in omega arith;
+  within = omega arith;
+  clear = clear;
+}
+
+pub row-zeros : (new : List ℕ) (m len : ℕ) → m % 8 ≡ 0 → m ≤ 2 ^ 26 → len ≤ 64 * m → length new ≡ m → ((i : ℕ) → place new i ≡ false) → IsRow new len
+row-zeros new m len a b c e clear = record { steps = ap (λ n. n % 8) e ∙ a; small = omega arith; within = omega arith; clear = λ i h. clear i }
+
+pub bits-zeros : (new : List ℕ) (len : ℕ) → ((i : ℕ) → place new i ≡ false) → bits_of new len ≡ replicate len false
+bits-zeros new len clear = bits-same new len (replicate len false) (length-replicate len false) (λ i h. clear i ∙ sym (get_or-replicate len i false false h))
 
 -- ---- more words
 
@@ -23,117 +41,43 @@ grown-word old m k h = rw (take_all m old h) (go (cases_lt k (length old)) (case
       get_or-append_right old (replicate (m - length old) 0) (length old) k 0 refl l ∙ get_or_past (replicate (m - length old) 0) (k - length old) 0 (rw length-replicate b)
       ∙ sym (get_or_past old k 0 l)
 
-pub grown-place : (old new : List ℕ) (m : ℕ) → length old ≤ m → new ≡ take m old ++ replicate (m - length old) 0 → (i : ℕ) → place new i ≡ place old i
-grown-place old new m h e i =
+pub grown-place : (old new : List ℕ) (m : ℕ) → new ≡ take m old ++ replicate (m - length old) 0 → length old ≤ m → (i : ℕ) → place new i ≡ place old i
+grown-place old new m e h i =
     place-is new i ∙ ap (λ words. bit (get_or words (i / 64) 0) (i % 64)) e ∙ ap (λ w. bit w (i % 64)) (grown-word old m (i / 64) h) ∙ sym (place-is old i)
 
--- the same places, of a row
-pub row-like : (old new : List ℕ) (len : ℕ) → IsRow old len → length new % 8 ≡ 0 → length new ≤ 2 ^ 26 → length old ≤ length new → ((i : ℕ) → place new i ≡ place old i) → IsRow new len
-row-like old new len row a b c same = record {
-  steps = a;
-  small = b;
-  within = let w = row.within in omega arith;
-  clear = λ i h. same i ∙ row.clear i h;
-}
-
-pub cleared-row : (old new last : List ℕ) (before len used : ℕ) (b : Bool) → IsRow old before → before ≤ 64 * used → ((i : ℕ) → place new i ≡ false) → len ≤ 64 * length old
-    → length new ≡ length old → length last ≡ length new → ((i : ℕ) → place last i ≡ (place new i || (b && lies 0 len i))) → IsRow last len
-cleared-row old new last before len used b row far clear room long more places = record {
-  steps = ap (λ n. n % 8) (more ∙ long) ∙ row.steps;
-  small = let s = row.small in omega arith;
-  within = omega arith;
-  clear = λ i h. places i ∙ ap (λ t. t || (b && lies 0 len i)) (clear i) ∙ none b (lies 0 len i) (above i h);
-} where
-  none : (p q : Bool) → q ≡ false → (p && q) ≡ false
-  none true q e = e
-  none false q e = refl
-
-  above : (i : ℕ) → len ≤ i → lies 0 len i ≡ false
-  above i h = none (nat_le 0 i) (nat_lt i len) (le-ltb i len h)
-
+-- the same places
 pub bits-like : (old new : List ℕ) (len : ℕ) → ((i : ℕ) → place new i ≡ place old i) → bits_of new len ≡ bits_of old len
 bits-like old new len same = bits-same new len (bits_of old len) (length-bits old len) (λ i h. same i ∙ sym (bits-at old len i h))
 
--- words of the same number, whose places from len on are clear
-pub row-kept : (old new : List ℕ) (before len : ℕ) → IsRow old before → length new ≡ length old → len ≤ 64 * length old → IsClearFrom new len → IsRow new len
-row-kept old new before len row e within clear = record {
-  steps = ap (λ n. n % 8) e ∙ row.steps;
-  small = let s = row.small in omega arith;
-  within = omega arith;
-  clear = clear;
-}
+-- ---- places at the end
 
-pub row-zeros : (new : List ℕ) (m len : ℕ) → m % 8 ≡ 0 → m ≤ 2 ^ 26 → len ≤ 64 * m → length new ≡ m → ((i : ℕ) → place new i ≡ false) → IsRow new len
-row-zeros new m len a b c e clear = record { steps = ap (λ n. n % 8) e ∙ a; small = omega arith; within = omega arith; clear = λ i h. clear i }
-
-pub bits-zeros : (new : List ℕ) (len : ℕ) → ((i : ℕ) → place new i ≡ false) → bits_of new len ≡ replicate len false
-bits-zeros new len clear = bits-same new len (replicate len false) (length-replicate len false) (λ i h. clear i ∙ sym (get_or-replicate len i false false h))
-
--- ---- push
-
-at-push : (xs : List Bool) (b : Bool) (i : ℕ) → (i < length xs) ⊎ (i ≡ length xs) → at (xs ++ b ∷ []) i ≡ cond (nat_lt i (length xs)) (at xs i) b
-at-push xs b i (inl h) = get_or_append_left xs (b ∷ []) false i h ∙ sym (ap (λ t. cond t (at xs i) b) (lt-ltb i (length xs) h))
-at-push xs b i (inr h) = get_or_push xs b false i (sym h) ∙ sym (ap (λ t. cond t (at xs i) b) (le-ltb i (length xs) (omega arith)))
-
-pub bits-push : (old new : List ℕ) (len : ℕ) (b : Bool) → ((i : ℕ) → i < len → place new i ≡ place old i) → place new len ≡ b
+pub bits-push : (old new : List ℕ) (len : ℕ) (b : Bool) → IsClearFrom old len → ((i : ℕ) → place new i ≡ (place old i || (b && lies len (len + 1) i)))
     → bits_of new (len + 1) ≡ bits_of old len ++ b ∷ []
-bits-push old new len b same last =
-    bits-same new (len + 1) (bits_of old len ++ b ∷ []) (length_push (bits_of old len) b ∙ ap (λ n. n + 1) (length-bits old len)) (λ i h. go i (cases_lt i len) h) where
-      go : (i : ℕ) → (i < len) ⊎ (len ≤ i) → i < len + 1 → place new i ≡ at (bits_of old len ++ b ∷ []) i
+bits-push old new len b clear places =
+    bits-same new (len + 1) (bits_of old len ++ b ∷ []) (length_push (bits_of old len) b ∙ ap (λ n. n + 1) (length-bits old len)) (λ i h. places i ∙ go i (cases_lt i len) h) where
+      go : (i : ℕ) → (i < len) ⊎ (len ≤ i) → i < len + 1 → (place old i || (b && lies len (len + 1) i)) ≡ at (bits_of old len ++ b ∷ []) i
       go i (inl l) h =
-          same i l ∙ sym (bits-at old len i l) ∙ sym (get_or_append_left (bits_of old len) (b ∷ []) false i (omega (arith, length-bits old len)))
+          or-false (place old i) _ (and-false b _ (lies-below len (len + 1) i l)) ∙ sym (bits-at old len i l)
+          ∙ sym (get_or_append_left (bits_of old len) (b ∷ []) false i (omega (arith, length-bits old len)))
       go i (inr l) h =
           let e : i ≡ len = omega arith in
-          ap (place new) e ∙ last ∙ sym (get_or_push (bits_of old len) b false i (length-bits old len ∙ sym e))
+          ap (λ t. t || (b && lies len (len + 1) i)) (clear i l) ∙ and-true b _ (lies-in len (len + 1) i l h)
+          ∙ sym (get_or_push (bits_of old len) b false i (length-bits old len ∙ sym e))
 
-pub push-bit : (old new : List ℕ) (len : ℕ) (b : Bool) → IsClearFrom old len → ((i : ℕ) → place new i ≡ (place old i || (b && lies len (len + 1) i)))
-    → bits_of new (len + 1) ≡ bits_of old len ++ b ∷ []
-push-bit old new len b clear places = bits-push old new len b
-    (λ i h. places i ∙ ap (λ t. place old i || (b && t)) (outside i h) ∙ or_false (place old i) b)
-    (places len ∙ ap (λ t. t || (b && lies len (len + 1) len)) (clear len (omega arith)) ∙ ap (λ t. b && t) inside ∙ and_true b) where
-      outside : (i : ℕ) → i < len → lies len (len + 1) i ≡ false
-      outside i h = ap (λ t. t && nat_lt i (len + 1)) (lt-leb len i h)
-
-      inside : lies len (len + 1) len ≡ true
-      inside = ap (λ t. t && nat_lt len (len + 1)) (le-leb len len (omega arith)) ∙ lt-ltb len (len + 1) (omega arith)
-
-      or_false : (p q : Bool) → (p || (q && false)) ≡ p
-      or_false true q = refl
-      or_false false true = refl
-      or_false false false = refl
-
-      and_true : (p : Bool) → (p && true) ≡ p
-      and_true true = refl
-      and_true false = refl
+pub bits-push_zeros : (words : List ℕ) (len n : ℕ) → IsClearFrom words len → bits_of words (len + n) ≡ bits_of words len ++ replicate n false
+bits-push_zeros words len n clear =
+    bits-same words (len + n) (bits_of words len ++ replicate n false) (simp (length-append, length-replicate, length-bits) refl) (λ i h. go i (cases_lt i len) h) where
+      go : (i : ℕ) → (i < len) ⊎ (len ≤ i) → i < len + n → place words i ≡ at (bits_of words len ++ replicate n false) i
+      go i (inl l) h = sym (bits-at words len i l) ∙ sym (get_or_append_left (bits_of words len) (replicate n false) false i (omega (arith, length-bits words len)))
+      go i (inr l) h =
+          clear i l
+          ∙ sym (get_or-append_right (bits_of words len) (replicate n false) len i false (length-bits words len) l ∙ get_or-replicate n (i - len) false false (omega arith))
 
 -- ---- runs
 
-or-none : (p t : Bool) → t ≡ false → (p || t) ≡ p
-or-none true t e = refl
-or-none false t e = e
-
-or-all : (p t : Bool) → t ≡ true → (p || t) ≡ true
-or-all true t e = refl
-or-all false t e = e
-
-lies-below : (from to i : ℕ) → i < from → lies from to i ≡ false
-lies-below from to i h = ap (λ t. t && nat_lt i to) (lt-leb from i h)
-
-lies-above : (from to i : ℕ) → to ≤ i → lies from to i ≡ false
-lies-above from to i h = go (nat_le from i) (nat_lt i to) (le-ltb i to h) where
-  go : (p q : Bool) → q ≡ false → (p && q) ≡ false
-  go true q e = e
-  go false q e = refl
-
-lies-inside : (from to i : ℕ) → from ≤ i → i < to → lies from to i ≡ true
-lies-inside from to i h k = ap (λ t. t && nat_lt i to) (le-leb from i h) ∙ lt-ltb i to k
-
-pub clear-run : (old new : List ℕ) (before len from to : ℕ) (b : Bool) → before ≤ len → to ≤ len → IsClearFrom old before → ((i : ℕ) → place new i ≡ (place old i || (b && lies from to i))) → IsClearFrom new len
+clear-run : (old new : List ℕ) (before len from to : ℕ) (b : Bool) → before ≤ len → to ≤ len → IsClearFrom old before → ((i : ℕ) → place new i ≡ (place old i || (b && lies from to i))) → IsClearFrom new len
 clear-run old new before len from to b more within clear places i h =
-    places i ∙ or-none (place old i) (b && lies from to i) (none b (lies from to i) (lies-above from to i (omega arith))) ∙ clear i (omega arith) where
-      none : (p q : Bool) → q ≡ false → (p && q) ≡ false
-      none true q e = e
-      none false q e = refl
+    places i ∙ or-false (place old i) (b && lies from to i) (and-false b (lies from to i) (lies-above from to i (omega arith))) ∙ clear i (omega arith)
 
 pub row-run : (old new : List ℕ) (before len from to : ℕ) (b : Bool) → IsRow old before → before ≤ len → to ≤ len → len ≤ 64 * length old → length new ≡ length old
     → ((i : ℕ) → place new i ≡ (place old i || (b && lies from to i))) → IsRow new len
@@ -145,26 +89,27 @@ length-run xs from n h =
     simp (length-append, length-take, length-replicate, length-drop) (omega arith)
 
 pub at-run : (xs : List Bool) (from n i : ℕ) → from + n ≤ length xs → at (with_run xs from n) i ≡ (at xs i || lies from (from + n) i)
-at-run xs from n i h = go (cases_lt i from) (cases_lt i (from + n)) where
-  rest : List Bool
-  rest = replicate n true ++ drop (from + n) xs
-
+at-run xs from n i h = by-run from (from + n) i (λ t. at (take from xs ++ (replicate n true ++ drop (from + n) xs)) i ≡ (at xs i || t)) inside below above where
   front : length (take from xs) ≡ from
   front = omega (arith, length-take from xs)
 
-  go : (i < from) ⊎ (from ≤ i) → (i < from + n) ⊎ (from + n ≤ i) → at (take from xs ++ (replicate n true ++ drop (from + n) xs)) i ≡ (at xs i || lies from (from + n) i)
-  go (inl a) b =
-      get_or_append_left (take from xs) (replicate n true ++ drop (from + n) xs) false i (omega (arith, front)) ∙ get_or-take from xs i false a
-      ∙ sym (or-none (at xs i) (lies from (from + n) i) (lies-below from (from + n) i a))
-  go (inr a) (inl b) =
+  inside : from ≤ i → i < from + n → at (take from xs ++ (replicate n true ++ drop (from + n) xs)) i ≡ (at xs i || true)
+  inside a b =
       get_or-append_right (take from xs) (replicate n true ++ drop (from + n) xs) from i false front a
       ∙ get_or_append_left (replicate n true) (drop (from + n) xs) false (i - from) (rw length-replicate (omega (arith, front))) ∙ get_or-replicate n (i - from) true false (omega arith)
-      ∙ sym (or-all (at xs i) (lies from (from + n) i) (lies-inside from (from + n) i a b))
-  go (inr a) (inr b) =
+      ∙ sym (or-true (at xs i) true refl)
+
+  below : i < from → at (take from xs ++ (replicate n true ++ drop (from + n) xs)) i ≡ (at xs i || false)
+  below a =
+      get_or_append_left (take from xs) (replicate n true ++ drop (from + n) xs) false i (omega (arith, front)) ∙ get_or-take from xs i false a
+      ∙ sym (or-false (at xs i) false refl)
+
+  above : from + n ≤ i → at (take from xs ++ (replicate n true ++ drop (from + n) xs)) i ≡ (at xs i || false)
+  above b =
       let e : from + n + (i - from - n) ≡ i = omega arith in
-      get_or-append_right (take from xs) (replicate n true ++ drop (from + n) xs) from i false front a
+      get_or-append_right (take from xs) (replicate n true ++ drop (from + n) xs) from i false front (omega arith)
       ∙ get_or-append_right (replicate n true) (drop (from + n) xs) n (i - from) false (length-replicate n true) (omega arith) ∙ get_or-drop (from + n) xs (i - from - n) false
-      ∙ ap (at xs) e ∙ sym (or-none (at xs i) (lies from (from + n) i) (lies-above from (from + n) i b))
+      ∙ ap (at xs) e ∙ sym (or-false (at xs i) false refl)
 
 pub bits-run : (old new : List ℕ) (len from n : ℕ) → from + n ≤ len → ((i : ℕ) → place new i ≡ (place old i || lies from (from + n) i))
     → bits_of new len ≡ with_run (bits_of old len) from n
@@ -175,28 +120,36 @@ bits-run old new len from n h places =
 
 -- ---- fill
 
-pub all-clear : (old new : List ℕ) (len used : ℕ) → IsClearFrom old len → len ≤ 64 * used → ((i : ℕ) → place new i ≡ (place old i && not (lies (64 * 0) (64 * used) i))) → (i : ℕ) → place new i ≡ false
-all-clear old new len used clear far places i = places i ∙ go (cases_lt i (64 * used)) where
-  gone : (p t : Bool) → t ≡ true → (p && not t) ≡ false
-  gone true t e = ap not e
-  gone false t e = refl
+-- from the first cleared word on no place is set
+clear-after : (old mid : List ℕ) (before kept used : ℕ) → IsClearFrom old before → before ≤ 64 * used → ((i : ℕ) → place mid i ≡ cond (lies (64 * kept) (64 * used) i) false (place old i))
+    → IsClearFrom mid (64 * kept)
+clear-after old mid before kept used clear far places i h =
+    places i ∙ by-run (64 * kept) (64 * used) i (λ t. cond t false (place old i) ≡ false) (λ a b. refl) (λ a. absurd (omega arith)) (λ a. clear i (omega arith))
 
-  none : (p t : Bool) → p ≡ false → (p && t) ≡ false
-  none p t e = ap (λ q. q && t) e
+pub row-filled : (old mid new : List ℕ) (before len kept used : ℕ) (b : Bool) → IsRow old before → before ≤ 64 * used → 64 * kept ≤ cond b len 0 → len ≤ 64 * length old
+    → ((i : ℕ) → place mid i ≡ cond (lies (64 * kept) (64 * used) i) false (place old i)) → length mid ≡ length old → length new ≡ length mid
+    → ((i : ℕ) → place new i ≡ (place mid i || (b && lies 0 len i))) → IsRow new len
+row-filled old mid new before len kept used b row far few room cleared a e places = row-kept old new before len row (e ∙ a) room clear where
+  low : (b : Bool) → 64 * kept ≤ cond b len 0 → 64 * kept ≤ len
+  low true h = h
+  low false h = omega arith
 
-  go : (i < 64 * used) ⊎ (64 * used ≤ i) → (place old i && not (lies (64 * 0) (64 * used) i)) ≡ false
-  go (inl h) = gone (place old i) (lies (64 * 0) (64 * used) i) (lies-inside (64 * 0) (64 * used) i (omega arith) h)
-  go (inr h) = none (place old i) _ (clear i (omega arith))
+  clear : (i : ℕ) → len ≤ i → place new i ≡ false
+  clear i h =
+      places i ∙ or-false (place mid i) _ (and-false b _ (lies-above 0 len i h))
+      ∙ clear-after old mid before kept used row.clear far cleared i (let l = low b few in omega arith)
 
-pub bits-filled : (old new : List ℕ) (len : ℕ) (b : Bool) → ((i : ℕ) → place old i ≡ false) → ((i : ℕ) → place new i ≡ (place old i || (b && lies 0 len i))) → bits_of new len ≡ replicate len b
-bits-filled old new len b clear places =
+pub bits-filled : (old mid new : List ℕ) (before len kept used : ℕ) (b : Bool) → IsClearFrom old before → before ≤ 64 * used → 64 * kept ≤ cond b len 0
+    → ((i : ℕ) → place mid i ≡ cond (lies (64 * kept) (64 * used) i) false (place old i))
+    → ((i : ℕ) → place new i ≡ (place mid i || (b && lies 0 len i))) → bits_of new len ≡ replicate len b
+bits-filled old mid new before len kept used b clear far few cleared places =
     bits-same new len (replicate len b) (length-replicate len b)
-    (λ i h. places i ∙ ap (λ t. t || (b && lies 0 len i)) (clear i) ∙ ap (λ t. b && t) (lies-inside 0 len i (omega arith) h) ∙ and_true b ∙ sym (get_or-replicate len i b false h)) where
-      and_true : (p : Bool) → (p && true) ≡ p
-      and_true true = refl
-      and_true false = refl
+    (λ i h. places i ∙ go b few i (lies-in 0 len i (omega arith) h) ∙ sym (get_or-replicate len i b false h)) where
+      go : (b : Bool) → 64 * kept ≤ cond b len 0 → (i : ℕ) → lies 0 len i ≡ true → (place mid i || (b && lies 0 len i)) ≡ b
+      go true few i h = or-true (place mid i) (lies 0 len i) h
+      go false few i h = or-false (place mid i) false refl ∙ clear-after old mid before kept used clear far cleared i (omega arith)
 
--- ---- and, or
+-- ---- two rows, place by place
 
 length-pairs : (f : Bool × Bool → Bool) (xs ys : List Bool) → length xs ≡ length ys → length (map f (zip xs ys)) ≡ length xs
 length-pairs f xs ys e = length-map (zip xs ys) f ∙ length-zip xs ys ∙ omega arith
@@ -219,57 +172,43 @@ length-both xs ys e = length-pairs (λ p. p.0 && p.1) xs ys e
 pub length-either : (xs ys : List Bool) → length xs ≡ length ys → length (either xs ys) ≡ length xs
 length-either xs ys e = length-pairs (λ p. p.0 || p.1) xs ys e
 
-pub clear-and : (old other new : List ℕ) (n len : ℕ) → IsClearFrom old len → ((i : ℕ) → place new i ≡ (place old i && (place other i || nat_le (64 * n) i))) → IsClearFrom new len
-clear-and old other new n len clear places i h = places i ∙ ap (λ t. t && (place other i || nat_le (64 * n) i)) (clear i h)
-
-pub bits-and : (old other new : List ℕ) (n len : ℕ) → len ≤ 64 * n → ((i : ℕ) → place new i ≡ (place old i && (place other i || nat_le (64 * n) i)))
-    → bits_of new len ≡ both (bits_of old len) (bits_of other len)
-bits-and old other new n len far places =
-    bits-same new len (both (bits_of old len) (bits_of other len))
-    (length-pairs (λ p. p.0 && p.1) (bits_of old len) (bits_of other len) (length-bits old len ∙ sym (length-bits other len)) ∙ length-bits old len)
-    (λ i h. places i ∙ ap (λ t. place old i && t) (or-none (place other i) (nat_le (64 * n) i) (lt-leb (64 * n) i (omega arith))) ∙ two (sym (bits-at old len i h)) (sym (bits-at other len i h))
-    ∙ sym (at-pairs (λ p. p.0 && p.1) (bits_of old len) (bits_of other len) i (omega (arith, length-bits old len)) (omega (arith, length-bits other len)))) where
-      two : {p q r t : Bool} → p ≡ q → r ≡ t → (p && r) ≡ (q && t)
-      two x y = cc
-
-pub clear-or : (old other new : List ℕ) (n len : ℕ) → IsClearFrom old len → IsClearFrom other len → ((i : ℕ) → place new i ≡ (place old i || (place other i && nat_lt i (64 * n)))) → IsClearFrom new len
-clear-or old other new n len clear there places i h =
-    places i ∙ ap (λ t. t || (place other i && nat_lt i (64 * n))) (clear i h) ∙ ap (λ t. t && nat_lt i (64 * n)) (there i h)
-
-pub bits-or : (old other new : List ℕ) (n len : ℕ) → len ≤ 64 * n → ((i : ℕ) → place new i ≡ (place old i || (place other i && nat_lt i (64 * n))))
-    → bits_of new len ≡ either (bits_of old len) (bits_of other len)
-bits-or old other new n len far places =
-    bits-same new len (either (bits_of old len) (bits_of other len))
-    (length-pairs (λ p. p.0 || p.1) (bits_of old len) (bits_of other len) (length-bits old len ∙ sym (length-bits other len)) ∙ length-bits old len)
-    (λ i h. places i ∙ ap (λ t. place old i || t) (and-all (place other i) (nat_lt i (64 * n)) (lt-ltb i (64 * n) (omega arith))) ∙ two (sym (bits-at old len i h)) (sym (bits-at other len i h))
-    ∙ sym (at-pairs (λ p. p.0 || p.1) (bits_of old len) (bits_of other len) i (omega (arith, length-bits old len)) (omega (arith, length-bits other len)))) where
-      two : {p q r t : Bool} → p ≡ q → r ≡ t → (p || r) ≡ (q || t)
-      two x y = cc
-
-      and-all : (p t : Bool) → t ≡ true → (p && t) ≡ p
-      and-all true t e = e
-      and-all false t e = refl
-
 same-length : (old other : List ℕ) (len there : ℕ) → length (bits_of old len) ≡ length (bits_of other there) → len ≡ there
 same-length old other len there e = sym (length-bits old len) ∙ e ∙ length-bits other there
 
-pub bits-and-rows : (old other new : List ℕ) (n len there : ℕ) → length (bits_of old len) ≡ length (bits_of other there) → len ≤ 64 * n
-    → ((i : ℕ) → place new i ≡ (place old i && (place other i || nat_le (64 * n) i))) → bits_of new len ≡ both (bits_of old len) (bits_of other there)
-bits-and-rows old other new n len there e far places =
-    subst (λ t. bits_of new len ≡ both (bits_of old len) (bits_of other t)) (same-length old other len there e) (bits-and old other new n len far places)
+pub bits-zipped : (test : Bool → Bool → Bool) (old other new : List ℕ) (n len there : ℕ) → length (bits_of old len) ≡ length (bits_of other there) → len ≤ 64 * n
+    → ((i : ℕ) → place new i ≡ cond (nat_lt i (64 * n)) (test (place old i) (place other i)) (place old i))
+    → bits_of new len ≡ map (λ p. test p.0 p.1) (zip (bits_of old len) (bits_of other there))
+bits-zipped test old other new n len there e far places =
+    bits-same new len (map (λ p. test p.0 p.1) (zip (bits_of old len) (bits_of other there)))
+    (length-pairs (λ p. test p.0 p.1) (bits_of old len) (bits_of other there) e ∙ length-bits old len)
+    (λ i h. places i ∙ cond-true _ (test (place old i) (place other i)) (place old i) (lt-ltb i (64 * n) (omega arith))
+    ∙ two (sym (bits-at old len i h)) (sym (bits-at other there i (let s = same-length old other len there e in omega arith)))
+    ∙ sym (at-pairs (λ p. test p.0 p.1) (bits_of old len) (bits_of other there) i (omega (arith, length-bits old len)) (omega (arith, e, length-bits old len)))) where
+      two : {p q r t : Bool} → p ≡ q → r ≡ t → test p r ≡ test q t
+      two x y = cc
 
-pub bits-or-rows : (old other new : List ℕ) (n len there : ℕ) → length (bits_of old len) ≡ length (bits_of other there) → len ≤ 64 * n
-    → ((i : ℕ) → place new i ≡ (place old i || (place other i && nat_lt i (64 * n)))) → bits_of new len ≡ either (bits_of old len) (bits_of other there)
-bits-or-rows old other new n len there e far places =
-    subst (λ t. bits_of new len ≡ either (bits_of old len) (bits_of other t)) (same-length old other len there e) (bits-or old other new n len far places)
+pub row-zipped : (test : Bool → Bool → Bool) (old other new : List ℕ) (n len there : ℕ) → test false false ≡ false → IsRow old len → IsRow other there
+    → length (bits_of old len) ≡ length (bits_of other there) → length new ≡ length old
+    → ((i : ℕ) → place new i ≡ cond (nat_lt i (64 * n)) (test (place old i) (place other i)) (place old i)) → IsRow new len
+row-zipped test old other new n len there none row two e long places = row-kept old new len len row long row.within clear where
+  chosen : (t p q : Bool) → p ≡ false → q ≡ false → cond t (test p q) p ≡ false
+  chosen true p q a b = both p q a b where
+    both : (p q : Bool) → p ≡ false → q ≡ false → test p q ≡ false
+    both p q a b = ap (λ x. test x q) a ∙ ap (test false) b ∙ none
+  chosen false p q a b = a
+
+  clear : (i : ℕ) → len ≤ i → place new i ≡ false
+  clear i h = places i ∙ chosen (nat_lt i (64 * n)) (place old i) (place other i) (row.clear i h) (two.clear i (let s = same-length old other len there e in omega arith))
+
+pub row-and : (old other new : List ℕ) (n len there : ℕ) → IsRow old len → IsRow other there → length (bits_of old len) ≡ length (bits_of other there) → length new ≡ length old
+    → ((i : ℕ) → place new i ≡ cond (nat_lt i (64 * n)) (place old i && place other i) (place old i)) → IsRow new len
+row-and old other new n len there row two e long places = row-zipped (λ p q. p && q) old other new n len there refl row two e long places
 
 pub row-or : (old other new : List ℕ) (n len there : ℕ) → IsRow old len → IsRow other there → length (bits_of old len) ≡ length (bits_of other there) → length new ≡ length old
-    → ((i : ℕ) → place new i ≡ (place old i || (place other i && nat_lt i (64 * n)))) → IsRow new len
-row-or old other new n len there row two e long places =
-    row-kept old new len len row long row.within
-    (clear-or old other new n len row.clear (subst (λ t. IsClearFrom other t) (sym (same-length old other len there e)) two.clear) places)
+    → ((i : ℕ) → place new i ≡ cond (nat_lt i (64 * n)) (place old i || place other i) (place old i)) → IsRow new len
+row-or old other new n len there row two e long places = row-zipped (λ p q. p || q) old other new n len there refl row two e long places
 
--- ---- next set
+-- ---- the next set place
 
 pub next-in-row : (words : List ℕ) (len from n r : ℕ) → IsRow words len → IsNextPlace words from (64 * n) r → IsNextSet (bits_of words len) from r
 next-in-row words len from n r row next = go (cases_lt r len) where
@@ -290,38 +229,60 @@ none-in-row words len from n row far none i h = bits-read words len row i ∙ go
 
 -- ---- closing up
 
-pub clear-closed : (old new : List ℕ) (len from n : ℕ) → from + n ≤ len → IsClearFrom old len → ((i : ℕ) → place new i ≡ place old (cond (nat_lt i from) i (i + n))) → IsClearFrom new (len - n)
-clear-closed old new len from n within clear places i h =
-    places i ∙ ap (λ t. place old (cond t i (i + n))) (le-ltb i from (omega arith)) ∙ clear (i + n) (omega arith)
+-- past the used words nothing is set, so every later place is what was n further on
+closed-place : (old new : List ℕ) (len from n used i : ℕ) → IsClearFrom old len → len ≤ 64 * used → ((i : ℕ) → place new i ≡ cond (lies from (64 * used) i) (place old (i + n)) (place old i))
+    → from ≤ i → place new i ≡ place old (i + n)
+closed-place old new len from n used i clear far places h =
+    places i ∙ by-run from (64 * used) i (λ t. cond t (place old (i + n)) (place old i) ≡ place old (i + n)) (λ a b. refl) (λ a. absurd (omega arith))
+    (λ a. clear i (omega arith) ∙ sym (clear (i + n) (omega arith)))
 
-pub bits-closed : (old new : List ℕ) (len from n : ℕ) → from + n ≤ len → ((i : ℕ) → place new i ≡ place old (cond (nat_lt i from) i (i + n)))
+pub row-closed : (old new : List ℕ) (len from n used : ℕ) → IsRow old len → from + n ≤ len → len ≤ 64 * used → length new ≡ length old
+    → ((i : ℕ) → place new i ≡ cond (lies from (64 * used) i) (place old (i + n)) (place old i)) → IsRow new (len - n)
+row-closed old new len from n used row within far long places =
+    row-kept old new len (len - n) row long (let w = row.within in omega arith)
+    (λ i h. closed-place old new len from n used i row.clear far places (omega arith) ∙ row.clear (i + n) (omega arith))
+
+pub bits-closed : (old new : List ℕ) (len from n used : ℕ) → IsClearFrom old len → from + n ≤ len → len ≤ 64 * used
+    → ((i : ℕ) → place new i ≡ cond (lies from (64 * used) i) (place old (i + n)) (place old i))
     → bits_of new (len - n) ≡ without_run (bits_of old len) from n
-bits-closed old new len from n within places =
-    bits-same new (len - n) (without_run (bits_of old len) from n) long (λ i h. places i ∙ go i h (cases_lt i from)) where
+bits-closed old new len from n used clear within far places =
+    bits-same new (len - n) (without_run (bits_of old len) from n) long (λ i h. go i h (cases_lt i from)) where
       front : length (take from (bits_of old len)) ≡ from
       front = omega (arith, length-take from (bits_of old len), length-bits old len)
 
       long : length (take from (bits_of old len) ++ drop (from + n) (bits_of old len)) ≡ len - n
       long = simp (length-append, length-take, length-drop, length-bits) (omega arith)
 
-      go : (i : ℕ) → i < len - n → (i < from) ⊎ (from ≤ i) → place old (cond (nat_lt i from) i (i + n)) ≡ at (take from (bits_of old len) ++ drop (from + n) (bits_of old len)) i
+      go : (i : ℕ) → i < len - n → (i < from) ⊎ (from ≤ i) → place new i ≡ at (take from (bits_of old len) ++ drop (from + n) (bits_of old len)) i
       go i h (inl l) =
-          ap (λ t. place old (cond t i (i + n))) (lt-ltb i from l) ∙ sym (bits-at old len i (omega arith)) ∙ sym (get_or-take from (bits_of old len) i false l)
+          places i ∙ cond-false _ (place old (i + n)) (place old i) (lies-below from (64 * used) i l) ∙ sym (bits-at old len i (omega arith)) ∙ sym (get_or-take from (bits_of old len) i false l)
           ∙ sym (get_or_append_left (take from (bits_of old len)) (drop (from + n) (bits_of old len)) false i (omega (arith, front)))
       go i h (inr l) =
           let e : i + n ≡ from + n + (i - from) = omega arith in
-          ap (λ t. place old (cond t i (i + n))) (le-ltb i from l) ∙ sym (bits-at old len (i + n) (omega arith)) ∙ ap (at (bits_of old len)) e
+          closed-place old new len from n used i clear far places l ∙ sym (bits-at old len (i + n) (omega arith)) ∙ ap (at (bits_of old len)) e
           ∙ sym (get_or-drop (from + n) (bits_of old len) (i - from) false)
           ∙ sym (get_or-append_right (take from (bits_of old len)) (drop (from + n) (bits_of old len)) from i false front l)
 
-pub row-closed : (old new : List ℕ) (len from n : ℕ) → IsRow old len → from + n ≤ len → length new ≡ length old
-    → ((i : ℕ) → place new i ≡ place old (cond (nat_lt i from) i (i + n))) → IsRow new (len - n)
-row-closed old new len from n row within long places =
-    row-kept old new len (len - n) row long (let w = row.within in omega arith) (clear-closed old new len from n within row.clear places)
+-- ---- clearing
 
-pub grown-place-of : (old new : List ℕ) (m : ℕ) → new ≡ take m old ++ replicate (m - length old) 0 → length old ≤ m → (i : ℕ) → place new i ≡ place old i
-grown-place-of old new m e h i = grown-place old new m h e i
+pub row-cleared : (old new : List ℕ) (len from to : ℕ) → IsRow old len → length new ≡ length old → ((i : ℕ) → place new i ≡ cond (lies from to i) false (place old i)) → IsRow new len
+row-cleared old new len from to row long places = row-kept old new len len row long row.within (λ i h. places i ∙ chosen (lies from to i) (place old i) (row.clear i h)) where
+  chosen : (t p : Bool) → p ≡ false → cond t false p ≡ false
+  chosen true p e = refl
+  chosen false p e = e
 
-pub ruleset grown = (grown-place-of)
+pub bits-cleared : (old new : List ℕ) (len from to : ℕ) → IsRow old len → IsRow new len → ((i : ℕ) → place new i ≡ cond (lies from to i) false (place old i))
+    → IsCleared from to (bits_of old len) (bits_of new len)
+bits-cleared old new len from to row after places = record {
+  long = length-bits new len ∙ sym (length-bits old len);
+  places = λ i. bits-read new len after i ∙ places i ∙ chosen (lies from to i) (place old i) ∙ ap (λ t. t && not (lies from to i)) (sym (bits-read old len row i));
+} where
+  chosen : (t p : Bool) → cond t false p ≡ (p && not t)
+  chosen true true = refl
+  chosen true false = refl
+  chosen false true = refl
+  chosen false false = refl
+
+pub ruleset grown = (grown-place)
 
 pub ruleset reads = (length-bits, bits-read, place-is)

@@ -1,5 +1,5 @@
 -- A row as a list of bools.
-use Rattle.std.specs.Prelude.{◌≡◌, ℕ, ◌+◌, ◌*◌, ◌/◌, ◌%◌, ◌^◌, ◌<◌, ◌≤◌, Bool, true, false, ◌&&◌, ◌||◌, ◌==◌, nat_le, nat_lt, List, ◌++◌, take, drop, replicate, map, length, zip, slice_index, get_or}
+use Rattle.std.specs.Prelude.{◌≡◌, ℕ, ◌+◌, ◌*◌, ◌/◌, ◌%◌, ◌^◌, ◌<◌, ◌≤◌, Bool, true, false, not, ◌&&◌, ◌||◌, ◌==◌, nat_le, nat_lt, List, ◌++◌, take, drop, replicate, map, length, zip, slice_index, get_or}
 
 -- what a contract sees of a row: its places, and how many more it has room for
 pub record Row : Type 0 where
@@ -36,6 +36,11 @@ pub record IsNextSet (bits : List Bool) (from r : ℕ) : Type 0 where
   pub within : r < length bits
   pub set : at bits r ≡ true
   pub least : (i : ℕ) → from ≤ i → i < r → at bits i ≡ false
+
+-- the places from `from` up to `to` are no longer set, and the others are as they were
+pub record IsCleared (from to : ℕ) (old new : List Bool) : Type 0 where
+  pub long : length new ≡ length old
+  pub places : (i : ℕ) → at new i ≡ (at old i && not (lies from to i))
 
 -- bit k of a word, the lowest first
 unfoldable pub bit : ℕ → ℕ → Bool

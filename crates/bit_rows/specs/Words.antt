@@ -1,7 +1,7 @@
 -- The words that keep a row.
-use Rattle.std.specs.Prelude.{◌≡◌, ℕ, ◌-◌, ◌*◌, ◌/◌, ◌%◌, ◌^◌, ◌<◌, ◌≤◌, min, Bool, true, false, List, map, length, slice_index}
+use Rattle.std.specs.Prelude.{◌≡◌, ℕ, ◌-◌, ◌*◌, ◌/◌, ◌%◌, ◌^◌, ◌<◌, ◌≤◌, min, Bool, true, false, cond, List, map, length, slice_index}
 use Rattle.std.specs.List.{range_with_len}
-use Rattle.bit_rows.specs.Row.{bit}
+use Rattle.bit_rows.specs.Row.{bit, lies}
 
 -- the bit at place i, over all words, 64 to a word
 unfoldable pub place : List ℕ → ℕ → Bool
@@ -32,3 +32,7 @@ pub record IsNextPlace (words : List ℕ) (from end r : ℕ) : Type 0 where
   pub within : r < end
   pub set : place words r ≡ true
   pub least : (i : ℕ) → from ≤ i → i < r → place words i ≡ false
+
+-- the words from `from` up to `to` are what f gives for their number, and the others are as they were
+pub record IsWritten (f : ℕ → ℕ) (from to : ℕ) (old new : List ℕ) : Type 0 where
+  pub word : (k : ℕ) → slice_index new k ≡ cond (lies from to k) (f k) (slice_index old k)

@@ -5,6 +5,7 @@
 //! first place in the lowest bit, and takes its memory in steps of 512 bits.
 #![tactic(auto)]
 
+mod lanes;
 mod row;
 mod storage;
 mod words;

@@ -1,5 +1,5 @@
-ghost use Rattle.std.specs.Prelude.{◌≡◌, ℕ, ◌+◌, ◌-◌, ◌*◌, ◌%◌, ◌^◌, ◌<◌, ◌≤◌, false, [], ◌∷◌, ◌++◌, length, replicate, IfOk, OnOk, OnErr, MatchOption};
-ghost use Rattle.bit_rows.specs.Row.{Row, at, both, either, with_run, without_run, bit, IsNextSet, IsSpelling};
+ghost use Rattle.std.specs.Prelude.{◌≡◌, ℕ, ◌+◌, ◌-◌, ◌*◌, ◌%◌, ◌^◌, ◌<◌, ◌≤◌, false, [], ◌∷◌, ◌++◌, length, replicate, cond, IfOk, OnOk, OnErr, MatchOption};
+ghost use Rattle.bit_rows.specs.Row.{Row, at, both, either, with_run, without_run, bit, IsNextSet, IsCleared, IsSpelling};
 ghost use Rattle.bit_rows.specs.Words.{bits_of, room_of, IsRow};
 
 use crate::{storage, words};
@@ -41,6 +41,15 @@ fn words_used(places: u32) -> usize
     ensures least { 64 * result ≤ places + 63 }
 {
     (places as usize + 63) / 64
+}
+
+/// How many of the `used` words need no clearing before a fill, since it sets all their places.
+#[inline(always)]
+fn words_kept(len: u32, bit: bool, used: usize) -> usize
+    ensures within { result ≤ used }
+    ensures kept { 64 * result ≤ cond bit len 0 }
+{
+    if bit { used.min(len as usize / 64) } else { 0 }
 }
 
 #[tactic(auto, using(crate::proofs::Rows::reads))]
@@ -136,6 +145,16 @@ impl BitRow {
         self.len += 1;
     }
 
+    /// Adds `n` places at the end, none of them set.
+    #[inline(always)]
+    pub fn push_zeros(&mut self, n: u32)
+        requires { n ≤ self.old.spare }
+        ensures bits { self.new.bits ≡ self.old.bits ++ replicate n false }
+        ensures spare { self.new.spare + n ≡ self.old.spare }
+    {
+        self.len += n;
+    }
+
     /// Makes the row `len` places that are all set, or all not, as `bit` says.
     pub fn fill(&mut self, len: u32, bit: bool)
         requires { len ≤ length self.old.bits + self.old.spare }
@@ -143,7 +162,8 @@ impl BitRow {
         ensures room { length self.new.bits + self.new.spare ≡ length self.old.bits + self.old.spare }
     {
         let used = words_used(self.len);
-        storage::clear_words(&mut self.words, 0, used);
+        let kept = words_kept(len, bit, used);
+        storage::clear_words(&mut self.words, kept, used);
         storage::set_places(&mut self.words, 0, len as usize, bit);
         self.len = len;
     }
@@ -157,6 +177,17 @@ impl BitRow {
     {
         let from = from as usize;
         storage::set_places(&mut self.words, from, from + n as usize, true);
+    }
+
+    /// Gives the 64 places from place `64 * i` on as [`BitRow::word`] does, and clears them.
+    #[inline(always)]
+    pub fn take_word(&mut self, i: u32) -> u64
+        requires { 64 * i < length self.old.bits }
+        ensures word { (k : ℕ) → k < 64 → bit result k ≡ at self.old.bits (64 * i + k) }
+        ensures bits { IsCleared (64 * i) (64 * (i + 1)) self.old.bits self.new.bits }
+        ensures spare { self.new.spare ≡ self.old.spare }
+    {
+        storage::take_word(&mut self.words, i as usize)
     }
 
     /// Leaves a place set where it is set in the other row too.
@@ -197,7 +228,8 @@ impl BitRow {
         ensures room { length self.new.bits + self.new.spare ≡ length self.old.bits + self.old.spare }
     {
         if n != 0 {
-            storage::close_up(&mut self.words, from as usize, n as usize);
+            let used = words_used(self.len);
+            storage::close_up(&mut self.words, from as usize, n as usize, used);
             self.len -= n;
         }
     }

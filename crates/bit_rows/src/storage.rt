@@ -1,5 +1,5 @@
 // The functions on words, over the vector that keeps a row.
-ghost use Rattle.std.specs.Prelude.{◌≡◌, ℕ, ◌+◌, ◌*◌, ◌^◌, ◌<◌, ◌≤◌, cond, not, ◌&&◌, ◌||◌, nat_le, nat_lt, length, OnOk, OnErr};
+ghost use Rattle.std.specs.Prelude.{◌≡◌, ℕ, ◌+◌, ◌*◌, ◌^◌, ◌<◌, ◌≤◌, false, cond, ◌&&◌, ◌||◌, nat_lt, length, slice_index, OnOk, OnErr};
 ghost use Rattle.bit_rows.specs.Row.{lies};
 ghost use Rattle.bit_rows.specs.Words.{place};
 
@@ -41,9 +41,20 @@ pub(crate) fn clear_words(words: &mut Vec<u64>, from: usize, to: usize)
     requires order { from ≤ to }
     requires within { to ≤ length words.old.items }
     ensures length { length words.new.items ≡ length words.old.items }
-    ensures places { (i : ℕ) → place words.new.items i ≡ (place words.old.items i && not (lies (64 * from) (64 * to) i)) }
+    ensures places { (i : ℕ) → place words.new.items i ≡ cond (lies (64 * from) (64 * to) i) false (place words.old.items i) }
 {
-    words::clear_words(words.as_mut_slice(), from, to);
+    words::fill_words(words.as_mut_slice(), from, to, false);
+}
+
+/// Gives word `w`, and clears it.
+#[inline(always)]
+pub(crate) fn take_word(words: &mut Vec<u64>, w: usize) -> u64
+    requires { w < length words.old.items }
+    ensures word { result ≡ slice_index words.old.items w }
+    ensures length { length words.new.items ≡ length words.old.items }
+    ensures places { (i : ℕ) → place words.new.items i ≡ cond (lies (64 * w) (64 * (w + 1)) i) false (place words.old.items i) }
+{
+    words::take_word(words.as_mut_slice(), w)
 }
 
 /// ANDs the first `n` words with those of `other`.
@@ -52,7 +63,7 @@ pub(crate) fn and_words(words: &mut Vec<u64>, other: &[u64], n: usize)
     requires here { n ≤ length words.old.items }
     requires there { n ≤ length other.now }
     ensures length { length words.new.items ≡ length words.old.items }
-    ensures places { (i : ℕ) → place words.new.items i ≡ (place words.old.items i && (place other.now i || nat_le (64 * n) i)) }
+    ensures places { (i : ℕ) → place words.new.items i ≡ cond (nat_lt i (64 * n)) (place words.old.items i && place other.now i) (place words.old.items i) }
 {
     words::and_words(words.as_mut_slice(), other, n);
 }
@@ -63,19 +74,20 @@ pub(crate) fn or_words(words: &mut Vec<u64>, other: &[u64], n: usize)
     requires here { n ≤ length words.old.items }
     requires there { n ≤ length other.now }
     ensures length { length words.new.items ≡ length words.old.items }
-    ensures places { (i : ℕ) → place words.new.items i ≡ (place words.old.items i || (place other.now i && nat_lt i (64 * n))) }
+    ensures places { (i : ℕ) → place words.new.items i ≡ cond (nat_lt i (64 * n)) (place words.old.items i || place other.now i) (place words.old.items i) }
 {
     words::or_words(words.as_mut_slice(), other, n);
 }
 
-/// Moves the places behind the `n` from `from` on down by `n`.
+/// Moves the places behind the `n` from `from` on down by `n`, within the first `used` words.
 #[inline(always)]
-pub(crate) fn close_up(words: &mut Vec<u64>, from: usize, n: usize)
-    requires within { from < 64 * length words.old.items }
+pub(crate) fn close_up(words: &mut Vec<u64>, from: usize, n: usize, used: usize)
+    requires within { from < 64 * used }
+    requires here { used ≤ length words.old.items }
     requires small { n < 2 ^ 32 }
     requires words { length words.old.items ≤ 2 ^ 26 }
     ensures length { length words.new.items ≡ length words.old.items }
-    ensures places { (i : ℕ) → place words.new.items i ≡ place words.old.items (cond (nat_lt i from) i (i + n)) }
+    ensures places { (i : ℕ) → place words.new.items i ≡ cond (lies from (64 * used) i) (place words.old.items (i + n)) (place words.old.items i) }
 {
-    words::close_up(words.as_mut_slice(), from, n);
+    words::close_up(words.as_mut_slice(), from, n, used);
 }

@@ -1,5 +1,5 @@
 use Rattle.std.proofs.Common.{refl}
-use Rattle.bit_rows.proofs.Loops.{set-in-word}
+use Rattle.bit_rows.proofs.Places.{set-in-word}
 use Rattle.bit_rows.proofs.words.set_in_word.Goals as goal
 
 pub returns-clause-places : goal.returns-clause-places

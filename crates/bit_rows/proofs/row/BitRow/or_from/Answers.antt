@@ -1,7 +1,7 @@
-use Rattle.std.proofs.Common.{◌≡◌, sym, ◌∙◌, ap, length}
+use Rattle.std.proofs.Common.{◌≡◌, sym, ◌∙◌, ap, length, ◌||◌}
 use Rattle.bit_rows.specs.Row.{Row}
 use Rattle.bit_rows.specs.Words.{bits_of}
-use Rattle.bit_rows.proofs.Rows.{bits-or-rows}
+use Rattle.bit_rows.proofs.Rows.{bits-zipped}
 use Rattle.bit_rows.proofs.row.BitRow.or_from.Goals as goal
 
 pub returns-clause-bits : goal.returns-clause-bits
@@ -10,4 +10,4 @@ returns-clause-bits c =
     let f : bits_of c.other.inside.words.items c.other.inside.len ≡ c.args.other.now.bits = ap (λ (r : Row). r.bits) c.other.view_is in
     let g : c.deref.result.now ≡ c.other.inside.words.items = c.deref.ensures.value in
     let same : length (bits_of c.self.inside.words.items c.self.inside.len) ≡ length (bits_of c.other.inside.words.items c.other.inside.len) = ap length e ∙ c.requires ∙ sym (ap length f) in
-    rw (← e, ← f) (bits-or-rows _ _ _ _ _ _ same c.words_used-used.ensures.within (λ i. rw g at (c.or_words.ensures.places i)))
+    rw (← e, ← f) (bits-zipped (λ p q. p || q) _ _ _ _ _ _ same c.words_used-used.ensures.within (λ i. rw g at (c.or_words.ensures.places i)))

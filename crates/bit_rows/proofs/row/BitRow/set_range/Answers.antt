@@ -1,9 +1,9 @@
-use Rattle.std.proofs.Common.{◌≡◌, ◌≤◌, ◌+◌, ap, arith, length}
+use Rattle.std.proofs.Common.{◌≡◌, ◌≤◌, ◌+◌, ap, length, arith}
 use Rattle.bit_rows.specs.Row.{Row}
 use Rattle.bit_rows.specs.Words.{bits_of}
 use Rattle.bit_rows.proofs.Rows.{bits-run}
-use Rattle.bit_rows.proofs.row.BitRow.set_range.Goals as goal
 use Rattle.bit_rows.proofs.Bits.{length-bits}
+use Rattle.bit_rows.proofs.row.BitRow.set_range.Goals as goal
 
 pub returns-clause-bits : goal.returns-clause-bits
 returns-clause-bits c =

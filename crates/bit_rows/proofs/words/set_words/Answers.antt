@@ -1,6 +1,0 @@
-use Rattle.std.proofs.Common.{arith}
-use Rattle.bit_rows.proofs.Loops.{set-words-places, written-until}
-use Rattle.bit_rows.proofs.words.set_words.Goals as goal
-
-pub returns-clause-places : goal.returns-clause-places
-returns-clause-places c = set-words-places _ _ _ _ (written-until _ _ _ _ _ _ (omega arith) c.words.invariant)

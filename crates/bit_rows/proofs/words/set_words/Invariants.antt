@@ -1,6 +1,0 @@
-use Rattle.std.proofs.Common.{◌^◌, ◌-◌}
-use Rattle.bit_rows.proofs.Loops.{Written}
-use Rattle.bit_rows.proofs.words.set_words.Given as goal
-
-abbrev pub invariant-words : goal.invariant-words
-invariant-words l = Written (λ _. 2 ^ 64 - 1) l.initial.words l.from l.w l.words
