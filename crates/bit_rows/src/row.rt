@@ -248,3 +248,6 @@ impl BitRow {
         })
     }
 }
+
+#[cfg(test)]
+mod tests;
