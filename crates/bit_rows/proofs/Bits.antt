@@ -79,13 +79,6 @@ bit-high_ones low k h = elim (cases_lt k low) [
   | inr l ↦ ap (λ x. x == 1) (bit_at_mask_inside low 64 k l h) ∙ grind (arith, nat_tests)
 ]
 
-pub bit-power : (n k : ℕ) → bit (2 ^ n) k ≡ (k == n)
-unfolding bit
-bit-power n k = elim (cases_eq k n) [
-  | inl e ↦ ap (λ i. bit_at (2 ^ n) i == 1) e ∙ ap (λ x. x == 1) (bit_at-pow_same n) ∙ grind (arith, nat_tests)
-  | inr e ↦ ap (λ x. x == 1) (bit_at-pow_other n k e) ∙ grind (arith, nat_tests)
-]
-
 pub mask-bit : (low high k : ℕ) → low < 64 → high ≤ 64 → k < 64
     → bit (bit_and ((2 ^ 64 - 1) * 2 ^ low % 2 ^ 64) ((2 ^ 64 - 1) / 2 ^ (64 - high))) k ≡ (nat_le low k && nat_lt k high)
 mask-bit low high k a b h =

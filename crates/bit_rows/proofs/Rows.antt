@@ -3,7 +3,7 @@ use Rattle.std.proofs.Common.{◌≡◌, refl, sym, ◌∙◌, ap, ℕ, zero, su
 use Rattle.std.proofs.lemmas.Bool.{cases_lt, cond-true, cond-false, lt-ltb}
 use Rattle.std.proofs.lemmas.List.{get_or_past, length-map, length-append, length-take, length-drop, length-replicate, take_all, get_or_append_left, get_or-append_right, get_or-replicate, get_or-take, get_or-drop, get_or_push, length_push}
 use Rattle.std.proofs.lemmas.Slice.Zip.{length-zip}
-use Rattle.bit_rows.specs.Row.{bit, at, both, either, with_run, without_run, lies, IsNextSet, IsCleared}
+use Rattle.bit_rows.specs.Row.{bit, at, both, either, with_run, without_run, lies, IsNextSet, IsCleared, IsSpelling}
 use Rattle.bit_rows.specs.Words.{place, bits_of, IsRow, IsClearFrom, IsNextPlace}
 use Rattle.bit_rows.proofs.Tests.{and-false, and-true, or-false, or-true, lies-in, lies-below, lies-above, by-run}
 use Rattle.bit_rows.proofs.Bits.{place-is, place-past, bits-same, bits-read, bits-at, length-bits}
@@ -282,6 +282,14 @@ bits-cleared old new len from to row after places = record {
   chosen true false = refl
   chosen false true = refl
   chosen false false = refl
+
+-- ---- the words as a slice
+
+-- a place is a bit of its word
+pub place-of-word : (words : List ℕ) (bits : List Bool) (i : ℕ) → IsSpelling words bits → at bits i ≡ bit (get_or words (i / 64) 0) (i % 64)
+place-of-word words bits i spelling =
+    let e : 64 * (i / 64) + i % 64 ≡ i = omega arith in
+    ap (at bits) (sym e) ∙ sym (spelling.same (i / 64) (i % 64) (omega arith))
 
 pub ruleset grown = (grown-place)
 

@@ -10,7 +10,8 @@ pub(crate) fn and_lanes(words: &mut [u64], other: &[u64], w: usize)
     requires here { w + 8 ≤ length words.old }
     requires there { w + 8 ≤ length other.now }
     ensures length { length words.new ≡ length words.old }
-    ensures written { IsWritten (λ k. bit_and (slice_index words.old k) (slice_index other.now k)) w (w + 8) words.old words.new }
+    ensures written { IsWritten (λ k. bit_and (slice_index words.old k) (slice_index other.now k))
+        w (w + 8) words.old words.new }
 {
     let lanes = u64x8::from_slice(&words[w..]) & u64x8::from_slice(&other[w..]);
     lanes.copy_to_slice(&mut words[w..]);
@@ -22,7 +23,8 @@ pub(crate) fn or_lanes(words: &mut [u64], other: &[u64], w: usize)
     requires here { w + 8 ≤ length words.old }
     requires there { w + 8 ≤ length other.now }
     ensures length { length words.new ≡ length words.old }
-    ensures written { IsWritten (λ k. bit_or (slice_index words.old k) (slice_index other.now k)) w (w + 8) words.old words.new }
+    ensures written { IsWritten (λ k. bit_or (slice_index words.old k) (slice_index other.now k))
+        w (w + 8) words.old words.new }
 {
     let lanes = u64x8::from_slice(&words[w..]) | u64x8::from_slice(&other[w..]);
     lanes.copy_to_slice(&mut words[w..]);

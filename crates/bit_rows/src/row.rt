@@ -20,7 +20,9 @@ pub struct BitRow {
 impl Model for BitRow {
     ghost Value = { Row };
 
-    ghost view = { λ r. record { bits = bits_of r.words.items r.len; spare = room_of (length r.words.items) - r.len } };
+    ghost view = { λ r. record {
+        bits = bits_of r.words.items r.len;
+        spare = room_of (length r.words.items) - r.len } };
 
     ghost invariant = { λ r. IsRow r.words.items r.len };
 }
@@ -80,11 +82,7 @@ impl BitRow {
     {
         let _len = self.len;
         let places = self.words.len() * 64;
-        if places < 4294967295 {
-            places as u32
-        } else {
-            4294967295
-        }
+        places.min(u32::MAX as usize) as u32
     }
 
     /// Whether place `i` is set.
@@ -93,7 +91,7 @@ impl BitRow {
         requires { i < length self.now.bits }
         ensures { result ≡ at self.now.bits i }
     {
-        words::is_set(words::word_at(&self.words, i as usize / 64), i % 64)
+        words::is_set(self.words[i as usize / 64], i % 64)
     }
 
     /// The 64 places from place `64 * i` on, the first in the lowest bit. A bit past the row's end
@@ -212,7 +210,8 @@ impl BitRow {
 
     /// The least set place that is not below `from`, if there is one.
     pub fn next_set(&self, from: u32) -> Option<u32>
-        ensures { MatchOption result ((i : ℕ) → from ≤ i → at self.now.bits i ≡ false) (IsNextSet self.now.bits from) }
+        ensures { MatchOption result ((i : ℕ) → from ≤ i → at self.now.bits i ≡ false)
+            (IsNextSet self.now.bits from) }
     {
         let used = words_used(self.len);
         match words::next_place(&self.words, from as usize, used) {

@@ -28,7 +28,8 @@ pub(crate) fn set_places(words: &mut Vec<u64>, from: usize, to: usize, bit: bool
     requires order { from ≤ to }
     requires within { to ≤ 64 * length words.old.items }
     ensures length { length words.new.items ≡ length words.old.items }
-    ensures places { (i : ℕ) → place words.new.items i ≡ (place words.old.items i || (bit && lies from to i)) }
+    ensures places { (i : ℕ) → place words.new.items i
+        ≡ (place words.old.items i || (bit && lies from to i)) }
 {
     if bit {
         words::set_places(words.as_mut_slice(), from, to);
@@ -41,7 +42,8 @@ pub(crate) fn clear_words(words: &mut Vec<u64>, from: usize, to: usize)
     requires order { from ≤ to }
     requires within { to ≤ length words.old.items }
     ensures length { length words.new.items ≡ length words.old.items }
-    ensures places { (i : ℕ) → place words.new.items i ≡ cond (lies (64 * from) (64 * to) i) false (place words.old.items i) }
+    ensures places { (i : ℕ) → place words.new.items i
+        ≡ cond (lies (64 * from) (64 * to) i) false (place words.old.items i) }
 {
     words::fill_words(words.as_mut_slice(), from, to, false);
 }
@@ -52,7 +54,8 @@ pub(crate) fn take_word(words: &mut Vec<u64>, w: usize) -> u64
     requires { w < length words.old.items }
     ensures word { result ≡ slice_index words.old.items w }
     ensures length { length words.new.items ≡ length words.old.items }
-    ensures places { (i : ℕ) → place words.new.items i ≡ cond (lies (64 * w) (64 * (w + 1)) i) false (place words.old.items i) }
+    ensures places { (i : ℕ) → place words.new.items i
+        ≡ cond (lies (64 * w) (64 * (w + 1)) i) false (place words.old.items i) }
 {
     words::take_word(words.as_mut_slice(), w)
 }
@@ -63,7 +66,8 @@ pub(crate) fn and_words(words: &mut Vec<u64>, other: &[u64], n: usize)
     requires here { n ≤ length words.old.items }
     requires there { n ≤ length other.now }
     ensures length { length words.new.items ≡ length words.old.items }
-    ensures places { (i : ℕ) → place words.new.items i ≡ cond (nat_lt i (64 * n)) (place words.old.items i && place other.now i) (place words.old.items i) }
+    ensures places { (i : ℕ) → place words.new.items i
+        ≡ cond (nat_lt i (64 * n)) (place words.old.items i && place other.now i) (place words.old.items i) }
 {
     words::and_words(words.as_mut_slice(), other, n);
 }
@@ -74,7 +78,8 @@ pub(crate) fn or_words(words: &mut Vec<u64>, other: &[u64], n: usize)
     requires here { n ≤ length words.old.items }
     requires there { n ≤ length other.now }
     ensures length { length words.new.items ≡ length words.old.items }
-    ensures places { (i : ℕ) → place words.new.items i ≡ cond (nat_lt i (64 * n)) (place words.old.items i || place other.now i) (place words.old.items i) }
+    ensures places { (i : ℕ) → place words.new.items i
+        ≡ cond (nat_lt i (64 * n)) (place words.old.items i || place other.now i) (place words.old.items i) }
 {
     words::or_words(words.as_mut_slice(), other, n);
 }
@@ -87,7 +92,8 @@ pub(crate) fn close_up(words: &mut Vec<u64>, from: usize, n: usize, used: usize)
     requires small { n < 2 ^ 32 }
     requires words { length words.old.items ≤ 2 ^ 26 }
     ensures length { length words.new.items ≡ length words.old.items }
-    ensures places { (i : ℕ) → place words.new.items i ≡ cond (lies from (64 * used) i) (place words.old.items (i + n)) (place words.old.items i) }
+    ensures places { (i : ℕ) → place words.new.items i
+        ≡ cond (lies from (64 * used) i) (place words.old.items (i + n)) (place words.old.items i) }
 {
     words::close_up(words.as_mut_slice(), from, n, used);
 }

@@ -54,7 +54,8 @@ pub(crate) fn word_at(words: &[u64], w: usize) -> u64
 #[tactic(auto, using(crate::proofs::Places::joins))]
 fn joined(low: u64, high: u64, by: u32) -> u64
     requires { by < 64 }
-    ensures { (k : ℕ) → k < 64 → bit result k ≡ (bit low (by + k) || (nat_le 64 (by + k) && bit high (by + k - 64))) }
+    ensures { (k : ℕ) → k < 64 → bit result k
+        ≡ (bit low (by + k) || (nat_le 64 (by + k) && bit high (by + k - 64))) }
 {
     low >> by | high << 1 << (63 - by)
 }
@@ -127,7 +128,8 @@ pub(crate) fn fill_words(words: &mut [u64], from: usize, to: usize, bit: bool)
     requires order { from ≤ to }
     requires within { to ≤ length words.old }
     ensures length { length words.new ≡ length words.old }
-    ensures places { (i : ℕ) → place words.new i ≡ cond (lies (64 * from) (64 * to) i) bit (place words.old i) }
+    ensures places { (i : ℕ) → place words.new i
+        ≡ cond (lies (64 * from) (64 * to) i) bit (place words.old i) }
 {
     let word = if bit { u64::MAX } else { 0 };
     let blocks = (to - from) / 8;
@@ -145,7 +147,8 @@ pub(crate) fn take_word(words: &mut [u64], w: usize) -> u64
     requires { w < length words.old }
     ensures word { result ≡ slice_index words.old w }
     ensures length { length words.new ≡ length words.old }
-    ensures places { (i : ℕ) → place words.new i ≡ cond (lies (64 * w) (64 * (w + 1)) i) false (place words.old i) }
+    ensures places { (i : ℕ) → place words.new i
+        ≡ cond (lies (64 * w) (64 * (w + 1)) i) false (place words.old i) }
 {
     let word = words[w];
     words[w] = 0;
@@ -157,7 +160,8 @@ pub(crate) fn and_words(words: &mut [u64], other: &[u64], n: usize)
     requires here { n ≤ length words.old }
     requires there { n ≤ length other.now }
     ensures length { length words.new ≡ length words.old }
-    ensures places { (i : ℕ) → place words.new i ≡ cond (nat_lt i (64 * n)) (place words.old i && place other.now i) (place words.old i) }
+    ensures places { (i : ℕ) → place words.new i
+        ≡ cond (nat_lt i (64 * n)) (place words.old i && place other.now i) (place words.old i) }
 {
     let blocks = n / 8;
     'lanes: for b in 0..blocks {
@@ -173,7 +177,8 @@ pub(crate) fn or_words(words: &mut [u64], other: &[u64], n: usize)
     requires here { n ≤ length words.old }
     requires there { n ≤ length other.now }
     ensures length { length words.new ≡ length words.old }
-    ensures places { (i : ℕ) → place words.new i ≡ cond (nat_lt i (64 * n)) (place words.old i || place other.now i) (place words.old i) }
+    ensures places { (i : ℕ) → place words.new i
+        ≡ cond (nat_lt i (64 * n)) (place words.old i || place other.now i) (place words.old i) }
 {
     let blocks = n / 8;
     'lanes: for b in 0..blocks {
@@ -191,7 +196,8 @@ pub(crate) fn close_up(words: &mut [u64], from: usize, n: usize, used: usize)
     requires small { n < 2 ^ 32 }
     requires words { length words.old ≤ 2 ^ 26 }
     ensures length { length words.new ≡ length words.old }
-    ensures places { (i : ℕ) → place words.new i ≡ cond (lies from (64 * used) i) (place words.old (i + n)) (place words.old i) }
+    ensures places { (i : ℕ) → place words.new i
+        ≡ cond (lies from (64 * used) i) (place words.old (i + n)) (place words.old i) }
 {
     let first = from / 64;
     let moved = word_from(words, first * 64 + n);
@@ -210,7 +216,8 @@ pub(crate) fn close_up(words: &mut [u64], from: usize, n: usize, used: usize)
 pub(crate) fn next_place(words: &[u64], from: usize, n: usize) -> Option<usize>
     requires here { n ≤ length words.now }
     requires small { n ≤ 2 ^ 26 }
-    ensures { MatchOption result ((i : ℕ) → from ≤ i → i < 64 * n → place words.now i ≡ false) (IsNextPlace words.now from (64 * n)) }
+    ensures { MatchOption result ((i : ℕ) → from ≤ i → i < 64 * n → place words.now i
+        ≡ false) (IsNextPlace words.now from (64 * n)) }
 {
     let first = from / 64;
     if first >= n {
