@@ -1,11 +1,11 @@
 -- Bits of words, and a list of bools over words.
 use Rattle.std.proofs.Common.{◌≡◌, refl, sym, ◌∙◌, ap, ℕ, zero, suc, ◌+◌, ◌-◌, ◌*◌, ◌/◌, ◌%◌, ◌^◌, ◌<◌, ◌≤◌, ◌≢◌, ◌⊎◌, min, max, Bool, true, false, ◌&&◌, ◌||◌, nat_le, nat_lt, ◌==◌, List, length, get_or, bit_and, bit_or, arith, w64, inl, inr}
 use Rattle.std.specs.Int.{bit_at, trailing_zeros}
-use Rattle.std.proofs.lemmas.Bool.{cases_lt, cases_eq, le-leb, lt-leb}
+use Rattle.std.proofs.lemmas.Bool.{cases_lt, le-leb, lt-leb}
 use Rattle.std.proofs.lemmas.Bool.Decides.{nat_tests}
 use Rattle.std.proofs.lemmas.List.{get_or_past, ext_get_or}
 use Rattle.std.proofs.lemmas.List.FromFn.{length-map-range_with_len, get_or-map-range_with_len}
-use Rattle.std.proofs.lemmas.Nat.Bits.{bit_at_and, bit_at_or, bit_at-lt, bit_at-zero, bit_at_ones, bit_at_ones_above, bit_at_mask_inside, bit_at_mask_below, ones_shr, ones_shl, bit_at-trailing_zeros, bit_at-pow_same, bit_at-pow_other, shr_and_one, bit_at_above, bit_at_cat_low, bit_at_cat_high}
+use Rattle.std.proofs.lemmas.Nat.Bits.{bit_at_and, bit_at_or, bit_at-lt, bit_at-zero, bit_at_ones, bit_at_ones_above, bit_at_mask_inside, bit_at_mask_below, ones_shr, ones_shl, bit_at-trailing_zeros, shr_and_one, bit_at_above, bit_at_cat_low, bit_at_cat_high}
 use Rattle.std.proofs.lemmas.Nat.{shr-shr, one_shl, div-add-mod', pow_pos}
 use Rattle.bit_rows.specs.Row.{bit, at}
 use Rattle.bit_rows.specs.Words.{place, bits_of, IsRow}

@@ -21,8 +21,9 @@ impl Model for BitRow {
     ghost Value = { Row };
 
     ghost view = { λ r. record {
-        bits = bits_of r.words.items r.len;
-        spare = room_of (length r.words.items) - r.len } };
+      bits = bits_of r.words.items r.len;
+      spare = room_of (length r.words.items) - r.len;
+    } };
 
     ghost invariant = { λ r. IsRow r.words.items r.len };
 }

@@ -87,7 +87,12 @@ fn fills(rt: HostRuntime) -> Result<(), Fail> {
                 let mut row = row_of(&rt, rt.alloc(), &bools(rt.alloc(), len, 2)?)?;
                 if to <= row.room() {
                     row.fill(to, bit);
-                    expect_bools(&rt, &row, &copies(rt.alloc(), to, bit)?, (len, to, bit as u32));
+                    expect_bools(
+                        &rt,
+                        &row,
+                        &copies(rt.alloc(), to, bit)?,
+                        (len, to, bit as u32),
+                    );
                 }
             }
         }
