@@ -1,0 +1,6 @@
+use Rattle.bit_rows.proofs.Rows.{bits-filled}
+use Rattle.bit_rows.proofs.row.BitRow.fill.Goals as goal
+
+pub returns-clause-bits : goal.returns-clause-bits
+returns-clause-bits c =
+    bits-filled _ _ _ _ _ _ _ _ c.self.invariant.clear c.words_used-used.ensures.within c.words_kept-kept.ensures.kept c.clear_words.ensures.places c.set_places.ensures.places

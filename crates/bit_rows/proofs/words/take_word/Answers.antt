@@ -1,0 +1,5 @@
+use Rattle.bit_rows.proofs.Places.{word-cleared}
+use Rattle.bit_rows.proofs.words.take_word.Goals as goal
+
+pub returns-clause-places : goal.returns-clause-places
+returns-clause-places c = word-cleared c.args.words.now c.args.w c.requires

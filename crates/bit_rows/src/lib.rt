@@ -1,0 +1,13 @@
+//! Bitmaps of rules: rows of bits that grow at their end.
+//!
+//! A [`BitRow`] has a bit for each rule of a field. Contracts see it as a list of bools, beside the
+//! number of places that it can still grow by without memory. It is kept in words of 64 bits, the
+//! first place in the lowest bit, and takes its memory in steps of 512 bits.
+#![tactic(auto)]
+
+mod lanes;
+mod row;
+mod storage;
+mod words;
+
+pub use row::BitRow;

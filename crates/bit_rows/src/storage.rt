@@ -1,0 +1,99 @@
+// The functions on words, over the vector that keeps a row.
+ghost use Rattle.std.specs.Prelude.{◌≡◌, ℕ, ◌+◌, ◌*◌, ◌^◌, ◌<◌, ◌≤◌, false, cond, ◌&&◌, ◌||◌, nat_lt, length, slice_index, OnOk, OnErr};
+ghost use Rattle.bit_rows.specs.Row.{lies};
+ghost use Rattle.bit_rows.specs.Words.{place};
+
+use crate::words;
+use set_model::Memory;
+
+/// Adds words that are 0, up to `n` words.
+///
+/// # Errors
+/// `Memory` if there is none left. The words are as they were.
+#[inline(always)]
+#[tactic(auto, using(crate::proofs::Rows::grown))]
+pub(crate) fn grow(words: &mut Vec<u64>, n: usize) -> Result<(), Memory>
+    requires { length words.old.items ≤ n }
+    ensures length { OnOk result (length words.new.items ≡ n) }
+    ensures places { OnOk result ((i : ℕ) → place words.new.items i ≡ place words.old.items i) }
+    ensures err { OnErr result (words.new.items ≡ words.old.items) }
+{
+    words.resize(n, 0)?;
+    Ok(())
+}
+
+/// Sets the places from `from` up to `to` if `bit` is set.
+#[inline(always)]
+pub(crate) fn set_places(words: &mut Vec<u64>, from: usize, to: usize, bit: bool)
+    requires order { from ≤ to }
+    requires within { to ≤ 64 * length words.old.items }
+    ensures length { length words.new.items ≡ length words.old.items }
+    ensures places { (i : ℕ) → place words.new.items i
+        ≡ (place words.old.items i || (bit && lies from to i)) }
+{
+    if bit {
+        words::set_places(words.as_mut_slice(), from, to);
+    }
+}
+
+/// Clears the words from `from` up to `to`.
+#[inline(always)]
+pub(crate) fn clear_words(words: &mut Vec<u64>, from: usize, to: usize)
+    requires order { from ≤ to }
+    requires within { to ≤ length words.old.items }
+    ensures length { length words.new.items ≡ length words.old.items }
+    ensures places { (i : ℕ) → place words.new.items i
+        ≡ cond (lies (64 * from) (64 * to) i) false (place words.old.items i) }
+{
+    words::fill_words(words.as_mut_slice(), from, to, false);
+}
+
+/// Gives word `w`, and clears it.
+#[inline(always)]
+pub(crate) fn take_word(words: &mut Vec<u64>, w: usize) -> u64
+    requires { w < length words.old.items }
+    ensures word { result ≡ slice_index words.old.items w }
+    ensures length { length words.new.items ≡ length words.old.items }
+    ensures places { (i : ℕ) → place words.new.items i
+        ≡ cond (lies (64 * w) (64 * (w + 1)) i) false (place words.old.items i) }
+{
+    words::take_word(words.as_mut_slice(), w)
+}
+
+/// ANDs the first `n` words with those of `other`.
+#[inline(always)]
+pub(crate) fn and_words(words: &mut Vec<u64>, other: &[u64], n: usize)
+    requires here { n ≤ length words.old.items }
+    requires there { n ≤ length other.now }
+    ensures length { length words.new.items ≡ length words.old.items }
+    ensures places { (i : ℕ) → place words.new.items i
+        ≡ cond (nat_lt i (64 * n)) (place words.old.items i && place other.now i) (place words.old.items i) }
+{
+    words::and_words(words.as_mut_slice(), other, n);
+}
+
+/// ORs the first `n` words with those of `other`.
+#[inline(always)]
+pub(crate) fn or_words(words: &mut Vec<u64>, other: &[u64], n: usize)
+    requires here { n ≤ length words.old.items }
+    requires there { n ≤ length other.now }
+    ensures length { length words.new.items ≡ length words.old.items }
+    ensures places { (i : ℕ) → place words.new.items i
+        ≡ cond (nat_lt i (64 * n)) (place words.old.items i || place other.now i) (place words.old.items i) }
+{
+    words::or_words(words.as_mut_slice(), other, n);
+}
+
+/// Moves the places behind the `n` from `from` on down by `n`, within the first `used` words.
+#[inline(always)]
+pub(crate) fn close_up(words: &mut Vec<u64>, from: usize, n: usize, used: usize)
+    requires within { from < 64 * used }
+    requires here { used ≤ length words.old.items }
+    requires small { n < 2 ^ 32 }
+    requires words { length words.old.items ≤ 2 ^ 26 }
+    ensures length { length words.new.items ≡ length words.old.items }
+    ensures places { (i : ℕ) → place words.new.items i
+        ≡ cond (lies from (64 * used) i) (place words.old.items (i + n)) (place words.old.items i) }
+{
+    words::close_up(words.as_mut_slice(), from, n, used);
+}
