@@ -3,7 +3,7 @@ use Rattle.std.proofs.Common.{◌≡◌, refl, sym, ◌∙◌, ap, subst, ℕ, s
 use Rattle.std.proofs.lemmas.Bool.{cases_lt, cases_eq, lt-ltb, le-ltb, le-leb, lt-leb, eq-eqb, ne_eqb}
 use Rattle.std.proofs.lemmas.List.{get_or-set_same, get_or-set_other, length-set, get_or_default, get_or_append_left, get_or_push, length_push}
 use Rattle.std.proofs.lemmas.List.Elements.{All-push}
-use Rattle.std.proofs.lemmas.Nat.{mul-add-lt, shl_whole, one_shl}
+use Rattle.std.proofs.lemmas.Nat.{shl_whole, one_shl}
 use Rattle.std.proofs.Math.Bool.{and-true, and-false, or-false}
 use Rattle.std.proofs.Math.Nat.{mul-le-mul_right}
 use Rattle.std.proofs.Math.Seq.{take-suc}
@@ -11,7 +11,7 @@ use Rattle.set_model.specs.declared.block.Block.{Block}
 use Rattle.set_model.specs.Blocks.{IsWithin}
 use Rattle.bit_rows.specs.Row.{Row, at, lies, with_run}
 use Rattle.bit_rows.proofs.Rows.{at-run, length-run}
-use Rattle.field_groups.specs.Groups.{IsWidth, group, fixed, agrees, first_agreeing, agreeing_count}
+use Rattle.field_groups.specs.Groups.{group, fixed, agrees, first_agreeing, agreeing_count}
 use Rattle.field_groups.proofs.RunLaws.{run-fits, agrees-run}
 use Rattle.lookup_table.specs.Table.{bucket_at, bucket_place, cell, block_at}
 use Rattle.lookup_table.specs.Rows.{IsSameSize, IsMarked, IsBlockMarked, HasRules}

@@ -1,5 +1,5 @@
 -- Rules whose block holds a value, by an AND over one bucket per group.
-use Rattle.std.proofs.Common.{◌≡◌, refl, sym, ◌∙◌, ap, ℕ, zero, suc, ◌+◌, ◌*◌, ◌/◌, ◌^◌, ◌<◌, ◌≤◌, Bool, true, ◌&&◌, List, length, arith, Some, slice_get}
+use Rattle.std.proofs.Common.{◌≡◌, refl, sym, ◌∙◌, ap, ℕ, suc, ◌+◌, ◌/◌, ◌^◌, ◌<◌, Bool, ◌&&◌, List, length, arith, Some, slice_get}
 use Rattle.std.proofs.lemmas.List.Elements.{All-get_or}
 use Rattle.std.proofs.Math.Bool.{and-true, and_assoc}
 use Rattle.set_model.specs.declared.block.Block.{Block}
@@ -9,8 +9,7 @@ use Rattle.bit_rows.proofs.Rows.{at-both, length-both}
 use Rattle.field_groups.specs.Groups.{IsWidth, group, agrees, every}
 use Rattle.field_groups.proofs.RangeTests.{every-same}
 use Rattle.field_groups.proofs.GroupLaws.{groups-hold, group-below}
-use Rattle.lookup_table.specs.declared.table.FieldTable.{FieldTable}
-use Rattle.lookup_table.specs.Table.{bucket_place, cell, IsShaped, block_at, StandsFor}
+use Rattle.lookup_table.specs.Table.{bucket_place, cell, block_at, StandsFor}
 use Rattle.lookup_table.specs.Laws.{HeldByBuckets}
 use Rattle.lookup_table.proofs.RowsLaws.{cell-read}
 

@@ -1,6 +1,6 @@
 -- A table in groups of four bits, from one in groups of eight.
-use Rattle.std.proofs.Common.{◌≡◌, refl, sym, ◌∙◌, ap, ℕ, ◌+◌, ◌*◌, ◌/◌, ◌%◌, ◌^◌, ◌<◌, ◌≤◌, ◌⊎◌, Bool, true, false, cond, ◌==◌, ◌&&◌, List, length, arith, inl, inr}
-use Rattle.std.proofs.lemmas.Bool.{cases_lt, cases_eq, cases_Bool, eq-eqb, ne_eqb, and_from}
+use Rattle.std.proofs.Common.{◌≡◌, refl, sym, ◌∙◌, ap, ℕ, ◌+◌, ◌*◌, ◌/◌, ◌%◌, ◌^◌, ◌<◌, ◌≤◌, ◌⊎◌, true, false, cond, ◌==◌, ◌&&◌, List, arith, inl, inr}
+use Rattle.std.proofs.lemmas.Bool.{cases_eq, cases_Bool, eq-eqb, ne_eqb, and_from}
 use Rattle.std.proofs.Math.Bool.{and-false}
 use Rattle.set_model.specs.declared.block.Block.{Block}
 use Rattle.bit_rows.specs.Row.{Row}
@@ -8,7 +8,7 @@ use Rattle.field_groups.specs.Groups.{IsWidth, group, agrees, some_from}
 use Rattle.field_groups.proofs.RangeTests.{some-false, some-true, some-same}
 use Rattle.field_groups.proofs.GroupLaws.{group-below, agrees-own}
 use Rattle.field_groups.proofs.HalfLaws.{agrees-halves}
-use Rattle.lookup_table.specs.Table.{bucket_at, bucket_place, cell, IsShaped, block_at, StandsFor}
+use Rattle.lookup_table.specs.Table.{bucket_place, cell, IsShaped, block_at, StandsFor}
 use Rattle.lookup_table.specs.Rows.{IsJoined, halves_start, halves_step}
 use Rattle.lookup_table.proofs.RowsLaws.{cell-is}
 use Rattle.lookup_table.proofs.WideLaws.{Made, made-shape}

@@ -1,7 +1,6 @@
 -- Changes of rows, one by one.
-use Rattle.std.proofs.Common.{◌≡◌, refl, sym, ◌∙◌, ap, subst, ℕ, zero, suc, ◌+◌, ◌<◌, ◌≤◌, ◌⊎◌, [], ◌∷◌, ◌++◌, Bool, false, List, length, get_or, set, map, replicate, arith, inl, inr, All, Some, slice_get}
-use Rattle.std.proofs.lemmas.Bool.{cases_lt, cases_eq}
-use Rattle.std.proofs.lemmas.List.{get_or-set_same, get_or-set_other, length-set, length-map, get_or-map, ext_get_or, length-append, length-replicate}
+use Rattle.std.proofs.Common.{◌≡◌, refl, sym, ◌∙◌, ap, subst, ℕ, zero, suc, ◌+◌, ◌<◌, ◌≤◌, [], ◌∷◌, ◌++◌, Bool, false, List, length, get_or, replicate, arith, All, Some, slice_get}
+use Rattle.std.proofs.lemmas.List.{length-map, get_or-map, ext_get_or, length-append, length-replicate}
 use Rattle.std.proofs.lemmas.List.Elements.{All-get_or, All-from_get_or}
 use Rattle.bit_rows.specs.Row.{Row, at}
 use Rattle.lookup_table.specs.Table.{bucket_at, cell, rooms_of, bits_of}

@@ -1,5 +1,5 @@
 -- What the buckets stand for as rules come and go.
-use Rattle.std.proofs.Common.{◌≡◌, refl, sym, ◌∙◌, ap, subst, ℕ, ◌+◌, ◌-◌, ◌*◌, ◌/◌, ◌^◌, ◌<◌, ◌≤◌, ◌⊎◌, [], ◌∷◌, ◌++◌, Bool, true, false, nat_lt, cond, List, length, get_or, take, drop, replicate, arith, inl, inr, All}
+use Rattle.std.proofs.Common.{◌≡◌, refl, sym, ◌∙◌, ap, ℕ, ◌+◌, ◌-◌, ◌/◌, ◌^◌, ◌<◌, ◌≤◌, ◌⊎◌, [], ◌++◌, Bool, true, false, nat_lt, cond, List, length, get_or, take, drop, replicate, arith, inl, inr, All}
 use Rattle.std.proofs.lemmas.Bool.{cases_lt, lt-ltb, le-ltb}
 use Rattle.std.proofs.lemmas.List.{get_or_past, get_or_append_left, get_or-append_right, get_or-take, get_or-drop, get_or-replicate, length-take, length-drop, length-append, length-replicate}
 use Rattle.std.proofs.lemmas.List.Elements.{All-append, All-take, All-drop, All-nil}
@@ -7,7 +7,7 @@ use Rattle.std.proofs.lemmas.Nat.{mul-add-lt}
 use Rattle.set_model.specs.declared.block.Block.{Block}
 use Rattle.set_model.specs.Blocks.{IsWithin}
 use Rattle.bit_rows.specs.Row.{Row, at}
-use Rattle.field_groups.specs.Groups.{agrees, IsWidth}
+use Rattle.field_groups.specs.Groups.{agrees}
 use Rattle.lookup_table.specs.Table.{bucket_at, bucket_place, cell, block_at, IsShaped, StandsFor, without_blocks}
 use Rattle.lookup_table.specs.Rows.{Each, HasRoom, IsRaised, IsClosedUp, IsGrown, IsSameSize, HasRules}
 use Rattle.lookup_table.proofs.RowsLaws.{cell-is, All-bucket, bucket-All, length-raised}

@@ -1,18 +1,17 @@
 -- Rules whose block shares a value with a block.
-use Rattle.std.proofs.Common.{◌≡◌, refl, sym, ◌∙◌, ap, subst, ℕ, zero, suc, ◌+◌, ◌-◌, ◌*◌, ◌/◌, ◌^◌, ◌<◌, ◌≤◌, Bool, false, ◌&&◌, ◌||◌, List, length, replicate, arith, inl, inr, Some, slice_get}
+use Rattle.std.proofs.Common.{◌≡◌, refl, sym, ◌∙◌, ap, ℕ, zero, suc, ◌+◌, ◌-◌, ◌*◌, ◌/◌, ◌^◌, ◌<◌, ◌≤◌, Bool, false, ◌&&◌, ◌||◌, List, length, replicate, arith, inl, inr, Some, slice_get}
 use Rattle.std.proofs.lemmas.Bool.{cases_lt}
 use Rattle.std.proofs.lemmas.Nat.{pow_below}
 use Rattle.std.proofs.lemmas.List.{length-replicate, get_or-replicate}
 use Rattle.std.proofs.lemmas.List.Elements.{All-get_or}
 use Rattle.std.proofs.Math.Bool.{and-true, and_assoc}
-use Rattle.std.proofs.Math.Pow.{pow_mono}
 use Rattle.set_model.specs.declared.block.Block.{Block}
 use Rattle.set_model.specs.Blocks.{IsWithin}
 use Rattle.bit_rows.specs.Row.{Row, at, both, either}
-use Rattle.bit_rows.proofs.Rows.{at-both, length-both, at-either, length-either}
-use Rattle.field_groups.specs.Groups.{IsWidth, group, free_in, fixed, agrees, first_agreeing, agreeing_count, every, some_from, meets, share_value}
-use Rattle.field_groups.proofs.RangeTests.{some-same, some-moved, some-one, every-same}
-use Rattle.field_groups.proofs.RunLaws.{run-fits, count-is}
+use Rattle.bit_rows.proofs.Rows.{at-both, at-either, length-either}
+use Rattle.field_groups.specs.Groups.{IsWidth, free_in, fixed, agrees, first_agreeing, agreeing_count, every, some_from, meets, share_value}
+use Rattle.field_groups.proofs.RangeTests.{some-moved, some-one}
+use Rattle.field_groups.proofs.RunLaws.{run-fits}
 use Rattle.field_groups.proofs.ShareLaws.{groups-share, run-meets, meets-free}
 use Rattle.lookup_table.specs.Table.{bucket_place, cell, block_at, StandsFor}
 use Rattle.lookup_table.specs.Rows.{IsJoined}

@@ -1,5 +1,5 @@
 -- Changes of buckets, one by one, and what is made of some of them.
-use Rattle.std.specs.Prelude.{◌≡◌, ℕ, ◌+◌, ◌*◌, ◌/◌, ◌%◌, ◌^◌, ◌<◌, ◌≤◌, Bool, false, cond, ◌&&◌, ◌||◌, ◌==◌, nat_lt, List, ◌∷◌, ◌++◌, [], length, replicate, All}
+use Rattle.std.specs.Prelude.{◌≡◌, ℕ, ◌+◌, ◌*◌, ◌/◌, ◌%◌, ◌^◌, ◌<◌, ◌≤◌, false, cond, ◌&&◌, ◌||◌, ◌==◌, nat_lt, List, ◌++◌, length, replicate, All}
 use Rattle.set_model.specs.declared.block.Block.{Block}
 use Rattle.set_model.specs.Blocks.{IsWithin}
 use Rattle.bit_rows.specs.Row.{Row, at, lies, without_run}
@@ -76,3 +76,7 @@ halves_start j = cond (j / 16 % 2 == 0) (j / 16 / 2 * 256 + j % 16 * 16) (j / 16
 
 abbrev pub halves_step : ℕ → ℕ
 halves_step j = cond (j / 16 % 2 == 0) 1 16
+
+-- The rules of the new rows are those of the old ones and then that of each of these blocks.
+abbrev pub MarksRules : ℕ → ℕ → ℕ → List Row → List Row → List Block → Type 0
+MarksRules width bits first old new added = (blocks : List Block) → length blocks ≡ first → HasRules width bits old blocks → HasRules width bits new (blocks ++ added)

@@ -7,7 +7,7 @@ use Rattle.std.specs.Prelude.{◌≡◌, ℕ, ◌+◌, ◌*◌, ◌/◌, ◌^◌
 use Rattle.set_model.specs.declared.block.Block.{Block}
 use Rattle.set_model.specs.Blocks.{IsWithin}
 use Rattle.bit_rows.specs.Row.{Row, at}
-use Rattle.field_groups.specs.Groups.{group, agrees, IsWidth}
+use Rattle.field_groups.specs.Groups.{agrees, IsWidth}
 
 -- where the bucket of value v of group g stands
 abbrev pub bucket_place : ℕ → ℕ → ℕ → ℕ

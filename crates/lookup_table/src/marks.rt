@@ -3,7 +3,7 @@ ghost use Rattle.set_model.specs.declared.block.Block.{Block};
 ghost use Rattle.set_model.specs.Blocks.{IsWithin};
 ghost use Rattle.field_groups.specs.Groups.{IsWidth};
 ghost use Rattle.lookup_table.specs.Table.{IsShaped};
-ghost use Rattle.lookup_table.specs.Rows.{IsSameSize, HasRules};
+ghost use Rattle.lookup_table.specs.Rows.{IsSameSize, MarksRules};
 
 use crate::rows::Rows;
 use field_groups::group_mask;
@@ -15,8 +15,7 @@ pub(crate) fn mark_blocks(buckets: &mut Rows, blocks: &[Block], width: u32, bits
     requires shape { IsShaped width bits (first + length blocks.now) buckets.old }
     requires within { All (IsWithin bits) blocks.now }
     ensures size { IsSameSize buckets.old buckets.new }
-    ensures rules { (before : List Block) → length before ≡ first → HasRules width bits buckets.old before
-        → HasRules width bits buckets.new (before ++ blocks.now) }
+    ensures rules { MarksRules width bits first buckets.old buckets.new blocks.now }
 {
     'rules: for (i, block) in blocks.iter().enumerate() {
         mark_block(buckets, *block, width, bits, first + i as u32);
@@ -30,7 +29,7 @@ fn mark_block(buckets: &mut Rows, block: Block, width: u32, bits: u32, r: u32)
     requires place { All (λ row. r < length row.bits) buckets.old }
     requires block { IsWithin bits block }
     ensures size { IsSameSize buckets.old buckets.new }
-    ensures rules { (before : List Block) → length before ≡ r → HasRules width bits buckets.old before → HasRules width bits buckets.new (before ++ block ∷ []) }
+    ensures rules { MarksRules width bits r buckets.old buckets.new (block ∷ []) }
 {
     'groups: for g in 0..bits / width {
         let (base, mask) = group_mask(block, width, bits, g);

@@ -27,10 +27,10 @@ impl FieldTable {
     ghost use Rattle.std.specs.Prelude.{◌≡◌, ℕ, ◌+◌, ◌*◌, ◌/◌, ◌^◌, ◌<◌, ◌≤◌, ◌&&◌, false, List, [], ◌∷◌, ◌++◌, length, slice_get, Some, replicate, ◌-◌, All, IfOk, OnOk};
     ghost use Rattle.set_model.specs.declared.block.Block.{Block};
     ghost use Rattle.set_model.specs.Blocks.{holds_value, IsWithin};
-    ghost use Rattle.bit_rows.specs.Row.{at, bit};
-    ghost use Rattle.field_groups.specs.Groups.{IsWidth, group, first_agreeing, agreeing_count, meets, share_value};
-    ghost use Rattle.lookup_table.specs.Table.{bucket_place, block_at, rooms_of, bits_of, without_blocks};
-    ghost use Rattle.lookup_table.specs.Rules.{Stands, IsSameField, KeepsRules};
+    ghost use Rattle.bit_rows.specs.Row.{bit};
+    ghost use Rattle.field_groups.specs.Groups.{IsWidth, meets, share_value};
+    ghost use Rattle.lookup_table.specs.Table.{rooms_of, bits_of};
+    ghost use Rattle.lookup_table.specs.Rules.{Stands, IsSameField, KeepsRules, AppendsRules, DropsRules, KeepsWhere, KeepsBitsWhere, place_of};
     ghost use Rattle.lookup_table.specs.Rows.{IsJoined, IsWide, halves_start, halves_step};
 
     /// A table without rules, in groups of eight bits, of a field of `bits` bits: a multiple of 8
@@ -71,7 +71,7 @@ impl FieldTable {
     pub fn bucket(&self, value: u128, g: u32) -> &BitRow
         requires group { g < self.now.bits / self.now.width }
         requires value { value < 2 ^ self.now.bits }
-        ensures bucket { slice_get self.now.buckets (bucket_place self.now.width g (group self.now.width self.now.bits g value)) ≡ Some result.now }
+        ensures bucket { slice_get self.now.buckets (place_of self.now g value) ≡ Some result.now }
         ensures length { length result.now.bits ≡ self.now.rules }
     {
         let v = group_value(value, self.width, self.bits, g);
@@ -101,7 +101,7 @@ impl FieldTable {
         ensures same { IsSameField self.old self.new }
         ensures rules { self.new.rules ≡ self.old.rules + 1 }
         ensures room { rooms_of self.new.buckets ≡ rooms_of self.old.buckets }
-        ensures stands { (blocks : List Block) → Stands self.old blocks → Stands self.new (blocks ++ block ∷ []) }
+        ensures stands { AppendsRules self.old self.new (block ∷ []) }
     {
         self.add_blocks(&[block]);
     }
@@ -113,7 +113,7 @@ impl FieldTable {
         ensures same { IsSameField self.old self.new }
         ensures rules { self.new.rules ≡ self.old.rules + length added.now }
         ensures room { rooms_of self.new.buckets ≡ rooms_of self.old.buckets }
-        ensures stands { (blocks : List Block) → Stands self.old blocks → Stands self.new (blocks ++ added.now) }
+        ensures stands { AppendsRules self.old self.new added.now }
     {
         // The room is what bounds the number of blocks.
         let _room = self.buckets.at(0).room();
@@ -129,7 +129,7 @@ impl FieldTable {
         ensures same { IsSameField self.old self.new }
         ensures rules { self.new.rules + n ≡ self.old.rules }
         ensures room { rooms_of self.new.buckets ≡ rooms_of self.old.buckets }
-        ensures stands { (blocks : List Block) → Stands self.old blocks → Stands self.new (without_blocks blocks first n) }
+        ensures stands { DropsRules self.old self.new first n }
     {
         self.buckets.close_up(first, n);
         self.rules -= n;
@@ -141,8 +141,7 @@ impl FieldTable {
         requires value { value < 2 ^ self.now.bits }
         ensures length { length row.new.bits ≡ length row.old.bits }
         ensures spare { row.new.spare ≡ row.old.spare }
-        ensures held { (blocks : List Block) → Stands self.now blocks
-            → (r : ℕ) → r < self.now.rules → at row.new.bits r ≡ (at row.old.bits r && holds_value (block_at blocks r) value) }
+        ensures held { KeepsWhere self.now (λ rule. holds_value rule value) row.old row.new }
     {
         'groups: for g in 0..self.groups() {
             row.and_from(self.bucket(value, g));
@@ -153,8 +152,7 @@ impl FieldTable {
     /// Bits past the last rule are 0.
     pub fn match_word(&self, value: u128, i: u32, word: u64) -> u64
         requires { value < 2 ^ self.now.bits }
-        ensures held { (blocks : List Block) → Stands self.now blocks
-            → (k : ℕ) → k < 64 → 64 * i + k < self.now.rules → bit result k ≡ (bit word k && holds_value (block_at blocks (64 * i + k)) value) }
+        ensures held { KeepsBitsWhere self.now (λ rule. holds_value rule value) i word result }
         ensures past { (k : ℕ) → k < 64 → self.now.rules ≤ 64 * i + k → bit result k ≡ false }
     {
         let mut left = word;
@@ -176,8 +174,7 @@ impl FieldTable {
         requires within { IsWithin self.now.bits block }
         ensures length { length row.new.bits ≡ length row.old.bits }
         ensures spare { row.new.spare ≡ row.old.spare }
-        ensures shared { (blocks : List Block) → Stands self.now blocks
-            → (r : ℕ) → r < self.now.rules → at row.new.bits r ≡ (at row.old.bits r && share_value (block_at blocks r) block) }
+        ensures shared { KeepsWhere self.now (λ rule. share_value rule block) row.old row.new }
 
         ensures rest { length rest.new.bits ≡ self.now.rules }
         ensures room { length rest.new.bits + rest.new.spare ≡ length rest.old.bits + rest.old.spare }
@@ -197,8 +194,7 @@ impl FieldTable {
         requires rest { length rest.old.bits ≡ self.now.rules }
         ensures length { length row.new.bits ≡ self.now.rules }
         ensures spare { row.new.spare ≡ row.old.spare }
-        ensures met { (blocks : List Block) → Stands self.now blocks
-            → (r : ℕ) → r < self.now.rules → at row.new.bits r ≡ (at row.old.bits r && meets self.now.width self.now.bits (block_at blocks r) block g) }
+        ensures met { KeepsWhere self.now (λ rule. meets self.now.width self.now.bits rule block g) row.old row.new }
         ensures rest { length rest.new.bits ≡ self.now.rules }
         ensures room { length rest.new.bits + rest.new.spare ≡ length rest.old.bits + rest.old.spare }
     {

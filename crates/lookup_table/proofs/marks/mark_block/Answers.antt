@@ -1,7 +1,4 @@
-use Rattle.std.proofs.Common.{◌≡◌, ◌≤◌, ◌<◌, ◌+◌, ◌^◌, ◌∙◌, ◌/◌, refl, arith}
-use Rattle.lookup_table.specs.Table.{bucket_place}
-use Rattle.field_groups.specs.Groups.{first_agreeing, agreeing_count}
-use Rattle.lookup_table.specs.Rows.{IsBlockMarked}
+use Rattle.std.proofs.Common.{◌≡◌, ◌<◌, ◌^◌, ◌∙◌, ◌/◌, refl, arith}
 use Rattle.lookup_table.proofs.MarkLaws.{size-lengths, block_marked-more, rules-more, run-within, code-first, code-count}
 use Rattle.lookup_table.proofs.marks.mark_block.Goals as goal
 

@@ -1,4 +1,4 @@
-use Rattle.std.proofs.Common.{◌≡◌, ◌+◌, ◌∙◌, ◌++◌, length, length-append, arith}
+use Rattle.std.proofs.Common.{◌∙◌, length-append, arith}
 use Rattle.lookup_table.proofs.RowsLaws.{raised-rooms, size-rooms}
 use Rattle.lookup_table.proofs.RuleLaws.{raised-rules, rules-stand}
 use Rattle.lookup_table.proofs.table.FieldTable.add_blocks.Goals as goal

@@ -1,4 +1,4 @@
-use Rattle.std.proofs.Common.{◌≡◌, ◌<◌, ◌≤◌, ◌^◌, length, arith}
+use Rattle.std.proofs.Common.{◌≡◌, ◌<◌, ◌^◌, length, arith}
 use Rattle.bit_rows.specs.Row.{Row}
 use Rattle.field_groups.proofs.GroupLaws.{group-below}
 use Rattle.lookup_table.proofs.RowsLaws.{All-read}

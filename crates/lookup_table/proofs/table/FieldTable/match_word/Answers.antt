@@ -1,6 +1,6 @@
-use Rattle.std.proofs.Common.{◌≡◌, ◌∙◌, sym, ap, ◌/◌, ◌<◌, ◌≤◌, arith}
+use Rattle.std.proofs.Common.{◌≡◌, ◌/◌, arith}
 use Rattle.bit_rows.proofs.Bits.{bit-zero}
-use Rattle.lookup_table.proofs.WordLaws.{word-none, word-more, word-all, word-early}
+use Rattle.lookup_table.proofs.WordLaws.{word-more, word-all, word-early}
 use Rattle.lookup_table.proofs.table.FieldTable.match_word.Goals as goal
 
 pub groups-preserved : goal.groups-preserved

@@ -1,4 +1,4 @@
-use Rattle.std.proofs.Common.{◌≡◌, ◌∙◌, sym, ap, ◌+◌, ◌-◌, ◌*◌, ◌<◌, ◌≤◌, ◌^◌, length, refl, arith}
+use Rattle.std.proofs.Common.{◌≡◌, ◌∙◌, sym, ap, ◌<◌, ◌^◌, length, arith}
 use Rattle.bit_rows.specs.Row.{Row}
 use Rattle.bit_rows.proofs.Rows.{length-both}
 use Rattle.lookup_table.proofs.RowsLaws.{All-read}

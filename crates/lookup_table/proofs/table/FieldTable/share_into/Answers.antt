@@ -1,5 +1,5 @@
-use Rattle.std.proofs.Common.{◌≡◌, ◌/◌, ◌<◌, ◌≤◌, arith}
-use Rattle.lookup_table.proofs.ShareLaws.{shared-more, shared-all}
+use Rattle.std.proofs.Common.{◌≡◌, ◌/◌, arith}
+use Rattle.lookup_table.proofs.ShareLaws.{shared-all}
 use Rattle.lookup_table.proofs.table.FieldTable.share_into.Goals as goal
 
 pub returns-clause-shared : goal.returns-clause-shared
