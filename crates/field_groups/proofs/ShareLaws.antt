@@ -57,9 +57,6 @@ joint-found width bits g a b e =
 
 meets-joint : (width bits g : ℕ) (a b : Block) → meets width bits a b g ≡ agrees width bits (joint a b) g (group width bits g a.base)
 meets-joint width bits g a b = go (cases_Bool (agrees width bits (joint a b) g (group width bits g a.base))) where
-  both_hold : ℕ → Bool
-  both_hold v = agrees width bits a g v && agrees width bits b g v
-
   go : (agrees width bits (joint a b) g (group width bits g a.base) ≡ true) ⊎ (agrees width bits (joint a b) g (group width bits g a.base) ≡ false)
       → meets width bits a b g ≡ agrees width bits (joint a b) g (group width bits g a.base)
   go (inl e) =

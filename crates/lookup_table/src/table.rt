@@ -201,6 +201,7 @@ impl FieldTable {
         let (base, mask) = group_mask(block, self.width, self.bits, g);
         let first = ((g as u64) << self.width) + (base & mask) as u64;
         let count = (1u64 << self.width) - mask as u64;
+        // Each rule agrees with some value of a group that the block leaves free.
         if count == 1 {
             row.and_from(self.buckets.at(first));
         } else if mask != 0 {

@@ -184,6 +184,13 @@ fn rules_come_and_go(rt: HostRuntime) -> Result<(), Fail> {
         [2].as_slice()
     );
 
+    // The last byte of 10.0.0.5 agrees with the first two rules, and its first with one.
+    assert!(rt; table.bits == 32 && table.groups() == 4);
+    assert_eq!(rt; table.bucket(0x0A00_0005, 3).word(0), 0b011);
+    assert!(rt; table.buckets.len() == 1024);
+    assert_eq!(rt; table.buckets.at(0x0A).word(0), 0b001);
+
+    assert!(rt; table.rules == 3);
     table.drop_rules(1, 1);
     assert_eq!(rt; table.rules, 2);
     assert_eq!(rt;
