@@ -1,0 +1,5 @@
+pub mod RangeTests
+pub mod GroupLaws
+pub mod RunLaws
+pub mod ShareLaws
+pub mod HalfLaws

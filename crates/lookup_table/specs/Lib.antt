@@ -1,0 +1,5 @@
+pub mod Table
+pub mod Rules
+pub mod Rows
+pub mod Width
+pub mod Laws

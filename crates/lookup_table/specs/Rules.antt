@@ -1,0 +1,42 @@
+-- What is said of a table, of its change and of a row of its rules.
+use Rattle.std.specs.Prelude.{◌≡◌, ℕ, ◌+◌, ◌*◌, ◌<◌, Bool, ◌&&◌, List, ◌++◌}
+use Rattle.set_model.specs.declared.block.Block.{Block}
+use Rattle.bit_rows.specs.Row.{Row, at, bit}
+use Rattle.field_groups.specs.Groups.{group}
+use Rattle.lookup_table.specs.declared.table.FieldTable.{FieldTable}
+use Rattle.lookup_table.specs.Table.{StandsFor, bucket_place, block_at, without_blocks}
+
+-- the table stands for these blocks, one per rule
+abbrev pub Stands : FieldTable → List Block → Type 0
+Stands t blocks = StandsFor t.width t.bits t.rules t.buckets blocks
+
+-- both tables are of the same field, in groups of the same width
+pub record IsSameField (old new : FieldTable) : Type 0 where
+  pub width : new.width ≡ old.width
+  pub bits : new.bits ≡ old.bits
+
+-- The new table stands for each list of blocks that the old one stands for.
+abbrev pub KeepsRules : FieldTable → FieldTable → Type 0
+KeepsRules old new = (blocks : List Block) → Stands old blocks → Stands new blocks
+
+-- The new table stands for the blocks of the old one and then for these, whatever the old one stands for.
+abbrev pub AppendsRules : FieldTable → FieldTable → List Block → Type 0
+AppendsRules old new added = (blocks : List Block) → Stands old blocks → Stands new (blocks ++ added)
+
+-- The new table stands for the blocks of the old one without the n from `first` on.
+abbrev pub DropsRules : FieldTable → FieldTable → ℕ → ℕ → Type 0
+DropsRules old new first n = (blocks : List Block) → Stands old blocks → Stands new (without_blocks blocks first n)
+
+-- where the bucket of a value's group g stands
+abbrev pub place_of : FieldTable → ℕ → ℕ → ℕ
+place_of t g value = bucket_place t.width g (group t.width t.bits g value)
+
+-- Bit r of the row stays set exactly where the test holds of rule r's block.
+abbrev pub KeepsWhere : FieldTable → (Block → Bool) → Row → Row → Type 0
+KeepsWhere t test old new = (blocks : List Block) → Stands t blocks
+    → (r : ℕ) → r < t.rules → at new.bits r ≡ (at old.bits r && test (block_at blocks r))
+
+-- The same of a word of rules, whose bit 0 stands for rule 64 * i.
+abbrev pub KeepsBitsWhere : FieldTable → (Block → Bool) → ℕ → ℕ → ℕ → Type 0
+KeepsBitsWhere t test i old new = (blocks : List Block) → Stands t blocks
+    → (k : ℕ) → k < 64 → 64 * i + k < t.rules → bit new k ≡ (bit old k && test (block_at blocks (64 * i + k)))

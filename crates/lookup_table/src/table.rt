@@ -1,0 +1,333 @@
+ghost use Rattle.lookup_table.specs.Table.{IsShaped};
+
+use crate::marks::mark_blocks;
+use crate::rows::Rows;
+use crate::widths::halves_of;
+use bit_rows::BitRow;
+use field_groups::{group_mask, group_value};
+use set_model::{Block, Memory};
+use std::alloc::Global;
+
+/// The lookup table of a field.
+///
+/// `bits` is the number of the field's bits, `width` that of a group's and `rules` that of the
+/// rules. The bucket of value `v` of group `g`, most significant group first, stands at place
+/// `g * 2^width + v`. Its bit `r` says whether `v` agrees with rule `r`'s block on those bits of
+/// the group that the block fixes.
+#[derive(Drop)]
+pub struct FieldTable {
+    pub width: u32,
+    pub bits: u32,
+    pub rules: u32,
+    pub buckets: Rows,
+    pub ghost shaped: { IsShaped width bits rules buckets },
+}
+
+impl FieldTable {
+    ghost use Rattle.std.specs.Prelude.{◌≡◌, ℕ, ◌+◌, ◌*◌, ◌/◌, ◌^◌, ◌<◌, ◌≤◌, ◌&&◌, false, List, [], ◌∷◌, ◌++◌, length, slice_get, Some, replicate, ◌-◌, All, IfOk, OnOk};
+    ghost use Rattle.set_model.specs.declared.block.Block.{Block};
+    ghost use Rattle.set_model.specs.Blocks.{holds_value, IsWithin};
+    ghost use Rattle.bit_rows.specs.Row.{bit};
+    ghost use Rattle.field_groups.specs.Groups.{IsWidth, meets, share_value};
+    ghost use Rattle.lookup_table.specs.Table.{rooms_of, bits_of};
+    ghost use Rattle.lookup_table.specs.Rules.{Stands, IsSameField, KeepsRules, AppendsRules, DropsRules, KeepsWhere, KeepsBitsWhere, place_of};
+    ghost use Rattle.lookup_table.specs.Rows.{IsJoined, IsWide, halves_start, halves_step};
+
+    /// A table without rules, in groups of eight bits, of a field of `bits` bits: a multiple of 8
+    /// from 8 to 128.
+    ///
+    /// # Errors
+    /// `Memory` if there is none left.
+    pub fn new(alloc: Global, bits: u32) -> Result<FieldTable, Memory>
+        requires { IsWidth 8 bits }
+        ensures width { IfOk result (λ t. t.width ≡ 8) }
+        ensures bits { IfOk result (λ t. t.bits ≡ bits) }
+        ensures rules { IfOk result (λ t. t.rules ≡ 0) }
+        ensures stands { IfOk result (λ t. Stands t []) }
+    {
+        let buckets = Rows::empty(alloc, bits / 8 * 256)?;
+        Ok(FieldTable {
+            width: 8,
+            bits,
+            rules: 0,
+            buckets,
+        })
+    }
+
+    /// How many groups the field has.
+    #[inline(always)]
+    pub fn groups(&self) -> u32
+        ensures { result ≡ self.now.bits / self.now.width }
+    {
+        if self.width == 8 {
+            self.bits / 8
+        } else {
+            self.bits / 4
+        }
+    }
+
+    /// The bucket of a value's group `g`.
+    #[inline(always)]
+    pub fn bucket(&self, value: u128, g: u32) -> &BitRow
+        requires group { g < self.now.bits / self.now.width }
+        requires value { value < 2 ^ self.now.bits }
+        ensures bucket { slice_get self.now.buckets (place_of self.now g value) ≡ Some result.now }
+        ensures length { length result.now.bits ≡ self.now.rules }
+    {
+        let v = group_value(value, self.width, self.bits, g);
+        self.buckets.at(((g as u64) << self.width) + v as u64)
+    }
+
+    /// Takes room for `n` rules more. It takes constant time where there is that room already.
+    ///
+    /// # Errors
+    /// `Memory` if there is none left. The table is as it was.
+    pub fn reserve(&mut self, n: u32) -> Result<(), Memory>
+        requires { self.old.rules + n < 2 ^ 32 }
+        ensures same { IsSameField self.old self.new }
+        ensures rules { self.new.rules ≡ self.old.rules }
+        ensures bits { bits_of self.new.buckets ≡ bits_of self.old.buckets }
+        ensures stands { KeepsRules self.old self.new }
+        ensures spare { OnOk result (All (λ row. n ≤ row.spare) self.new.buckets) }
+    {
+        self.buckets.reserve(self.rules + n)?;
+        Ok(())
+    }
+
+    /// Adds a rule with the next number, for which there is room in each bucket.
+    pub fn add_block(&mut self, block: Block)
+        requires spare { All (λ row. 1 ≤ row.spare) self.old.buckets }
+        requires within { IsWithin self.old.bits block }
+        ensures same { IsSameField self.old self.new }
+        ensures rules { self.new.rules ≡ self.old.rules + 1 }
+        ensures room { rooms_of self.new.buckets ≡ rooms_of self.old.buckets }
+        ensures stands { AppendsRules self.old self.new (block ∷ []) }
+    {
+        self.add_blocks(&[block]);
+    }
+
+    /// Adds rules with the next numbers, for which there is room in each bucket.
+    pub fn add_blocks(&mut self, added: &[Block])
+        requires spare { All (λ row. length added.now ≤ row.spare) self.old.buckets }
+        requires within { All (IsWithin self.old.bits) added.now }
+        ensures same { IsSameField self.old self.new }
+        ensures rules { self.new.rules ≡ self.old.rules + length added.now }
+        ensures room { rooms_of self.new.buckets ≡ rooms_of self.old.buckets }
+        ensures stands { AppendsRules self.old self.new added.now }
+    {
+        // The room is what bounds the number of blocks.
+        let _room = self.buckets.at(0).room();
+        let count = added.len() as u32;
+        self.buckets.raise(count);
+        mark_blocks(&mut self.buckets, added, self.width, self.bits, self.rules);
+        self.rules += count;
+    }
+
+    /// Takes the `n` rules from `first` on out. The later rules close up.
+    pub fn drop_rules(&mut self, first: u32, n: u32)
+        requires { first + n ≤ self.old.rules }
+        ensures same { IsSameField self.old self.new }
+        ensures rules { self.new.rules + n ≡ self.old.rules }
+        ensures room { rooms_of self.new.buckets ≡ rooms_of self.old.buckets }
+        ensures stands { DropsRules self.old self.new first n }
+    {
+        self.buckets.close_up(first, n);
+        self.rules -= n;
+    }
+
+    /// Leaves bit `r` of the row set where rule `r`'s block holds the value.
+    pub fn match_into(&self, value: u128, row: &mut BitRow)
+        requires length { length row.old.bits ≡ self.now.rules }
+        requires value { value < 2 ^ self.now.bits }
+        ensures length { length row.new.bits ≡ length row.old.bits }
+        ensures spare { row.new.spare ≡ row.old.spare }
+        ensures held { KeepsWhere self.now (λ rule. holds_value rule value) row.old row.new }
+    {
+        'groups: for g in 0..self.groups() {
+            row.and_from(self.bucket(value, g));
+        }
+    }
+
+    /// The bits of `word` whose rule's block holds the value, where bit 0 stands for rule `64 * i`.
+    /// Bits past the last rule are 0.
+    pub fn match_word(&self, value: u128, i: u32, word: u64) -> u64
+        requires { value < 2 ^ self.now.bits }
+        ensures held { KeepsBitsWhere self.now (λ rule. holds_value rule value) i word result }
+        ensures past { (k : ℕ) → k < 64 → self.now.rules ≤ 64 * i + k → bit result k ≡ false }
+    {
+        let mut left = word;
+        'groups: for g in 0..self.groups() {
+            if left == 0 {
+                return 0;
+            }
+            left &= self.bucket(value, g).word(i);
+        }
+        left
+    }
+
+    /// Leaves bit `r` of the row set where rule `r`'s block and this block hold a common value.
+    ///
+    /// `rest` has room for the rules. It is written over: it then has one place per rule.
+    pub fn share_into(&self, block: Block, row: &mut BitRow, rest: &mut BitRow)
+        requires length { length row.old.bits ≡ self.now.rules }
+        requires room { self.now.rules ≤ length rest.old.bits + rest.old.spare }
+        requires within { IsWithin self.now.bits block }
+        ensures length { length row.new.bits ≡ length row.old.bits }
+        ensures spare { row.new.spare ≡ row.old.spare }
+        ensures shared { KeepsWhere self.now (λ rule. share_value rule block) row.old row.new }
+
+        ensures rest { length rest.new.bits ≡ self.now.rules }
+        ensures room { length rest.new.bits + rest.new.spare ≡ length rest.old.bits + rest.old.spare }
+    {
+        rest.fill(self.rules, false);
+        'groups: for g in 0..self.groups() {
+            self.share_group(block, g, row, rest);
+        }
+    }
+
+    /// Leaves bit `r` of the row set where some value of group `g` agrees with both rule `r`'s block
+    /// and this block.
+    fn share_group(&self, block: Block, g: u32, row: &mut BitRow, rest: &mut BitRow)
+        requires group { g < self.now.bits / self.now.width }
+        requires within { IsWithin self.now.bits block }
+        requires length { length row.old.bits ≡ self.now.rules }
+        requires rest { length rest.old.bits ≡ self.now.rules }
+        ensures length { length row.new.bits ≡ self.now.rules }
+        ensures spare { row.new.spare ≡ row.old.spare }
+        ensures met { KeepsWhere self.now (λ rule. meets self.now.width self.now.bits rule block g) row.old row.new }
+        ensures rest { length rest.new.bits ≡ self.now.rules }
+        ensures room { length rest.new.bits + rest.new.spare ≡ length rest.old.bits + rest.old.spare }
+    {
+        let (base, mask) = group_mask(block, self.width, self.bits, g);
+        let first = ((g as u64) << self.width) + (base & mask) as u64;
+        let count = (1u64 << self.width) - mask as u64;
+        // Each rule agrees with some value of a group that the block leaves free.
+        if count == 1 {
+            row.and_from(self.buckets.at(first));
+        } else if mask != 0 {
+            rest.fill(self.rules, false);
+            self.join_into(first, 1, count, rest);
+            row.and_from(rest);
+        }
+    }
+
+    /// Sets a place of the row, none of which is set, where it is set in one of the `n` buckets at
+    /// `start`, `start + step` and so on.
+    fn join_into(&self, start: u64, step: u64, n: u64, row: &mut BitRow)
+        requires row { row.old.bits ≡ replicate self.now.rules false }
+        requires step { step ≤ 16 }
+        requires some { 1 ≤ n }
+        requires place { start + (n - 1) * step < length self.now.buckets }
+        ensures joined { IsJoined self.now.buckets start step n self.now.rules row.new }
+        ensures spare { row.new.spare ≡ row.old.spare }
+    {
+        'rows: for i in 0..n {
+            row.or_from(self.buckets.at(start + i * step));
+        }
+    }
+
+    /// The same rules in groups of `width` bits, which is 4 or 8.
+    ///
+    /// # Errors
+    /// `Memory` if there is none left.
+    pub fn with_width(&self, alloc: Global, width: u32) -> Result<FieldTable, Memory>
+        requires { IsWidth width self.now.bits }
+        ensures width { IfOk result (λ t. t.width ≡ width) }
+        ensures bits { IfOk result (λ t. t.bits ≡ self.now.bits) }
+        ensures rules { IfOk result (λ t. t.rules ≡ self.now.rules) }
+        ensures stands { IfOk result (KeepsRules self.now) }
+    {
+        if width == self.width {
+            self.copy(alloc)
+        } else if width == 8 {
+            self.widened(alloc)
+        } else {
+            self.narrowed(alloc)
+        }
+    }
+
+    /// The same rules in groups of eight bits, from groups of four.
+    fn widened(&self, alloc: Global) -> Result<FieldTable, Memory>
+        requires { self.now.width ≡ 4 }
+        ensures width { IfOk result (λ t. t.width ≡ 8) }
+        ensures bits { IfOk result (λ t. t.bits ≡ self.now.bits) }
+        ensures rules { IfOk result (λ t. t.rules ≡ self.now.rules) }
+        ensures stands { IfOk result (KeepsRules self.now) }
+    {
+        let mut buckets = Rows::new(alloc);
+        'rows: for j in 0..self.bits / 8 * 256 {
+            buckets.push(self.wide_bucket(alloc, j as u64)?)?;
+        }
+        Ok(FieldTable {
+            width: 8,
+            bits: self.bits,
+            rules: self.rules,
+            buckets,
+        })
+    }
+
+    /// Bucket `j` in groups of eight bits, from groups of four: a rule is set where it is set for
+    /// both halves of the value.
+    fn wide_bucket(&self, alloc: Global, j: u64) -> Result<BitRow, Memory>
+        requires width { self.now.width ≡ 4 }
+        requires place { j < self.now.bits / 8 * 256 }
+        ensures { IfOk result (IsWide self.now.buckets self.now.rules j) }
+    {
+        let (g, v) = (j / 256, j % 256);
+        let mut row = self.buckets.at(2 * g * 16 + v / 16).copy(alloc)?;
+        row.and_from(self.buckets.at((2 * g + 1) * 16 + v % 16));
+        Ok(row)
+    }
+
+    /// The same rules in groups of four bits, from groups of eight.
+    fn narrowed(&self, alloc: Global) -> Result<FieldTable, Memory>
+        requires { self.now.width ≡ 8 }
+        ensures width { IfOk result (λ t. t.width ≡ 4) }
+        ensures bits { IfOk result (λ t. t.bits ≡ self.now.bits) }
+        ensures rules { IfOk result (λ t. t.rules ≡ self.now.rules) }
+        ensures stands { IfOk result (KeepsRules self.now) }
+    {
+        let mut buckets = Rows::new(alloc);
+        'rows: for j in 0..self.bits / 4 * 16 {
+            buckets.push(self.narrow_bucket(alloc, j as u64)?)?;
+        }
+        Ok(FieldTable {
+            width: 4,
+            bits: self.bits,
+            rules: self.rules,
+            buckets,
+        })
+    }
+
+    /// Bucket `j` in groups of four bits, from groups of eight: a rule is set where it is set for
+    /// some value with that half.
+    fn narrow_bucket(&self, alloc: Global, j: u64) -> Result<BitRow, Memory>
+        requires width { self.now.width ≡ 8 }
+        requires place { j < self.now.bits / 4 * 16 }
+        ensures { IfOk result (IsJoined self.now.buckets (halves_start j) (halves_step j) 16 self.now.rules) }
+    {
+        let (start, step) = halves_of(j);
+        let mut row = BitRow::zeros(alloc, self.rules)?;
+        self.join_into(start, step, 16, &mut row);
+        Ok(row)
+    }
+
+    /// The same table once more, with the same room.
+    ///
+    /// # Errors
+    /// `Memory` if there is none left.
+    pub fn copy(&self, alloc: Global) -> Result<FieldTable, Memory>
+        ensures width { IfOk result (λ t. t.width ≡ self.now.width) }
+        ensures bits { IfOk result (λ t. t.bits ≡ self.now.bits) }
+        ensures rules { IfOk result (λ t. t.rules ≡ self.now.rules) }
+        ensures buckets { IfOk result (λ t. t.buckets ≡ self.now.buckets) }
+    {
+        let buckets = self.buckets.copy(alloc)?;
+        Ok(FieldTable {
+            width: self.width,
+            bits: self.bits,
+            rules: self.rules,
+            buckets,
+        })
+    }
+}

@@ -1,0 +1,3 @@
+pub mod FirstBlock
+pub mod SplitLaws
+pub mod CountLaws
