@@ -1,0 +1,2 @@
+pub mod SlotMachine
+pub mod SlotRuns
