@@ -1,2 +1,10 @@
 pub mod HolderLaws
 pub mod EventLaws
+pub mod Sums
+pub mod Stages
+pub mod Takes
+pub mod Rows
+pub mod ReaderSteps
+pub mod WriterSteps
+pub mod NoteSteps
+pub mod OpeningSteps

@@ -1,2 +1,5 @@
 pub mod SlotMachine
 pub mod SlotRuns
+pub mod SlotRule
+pub mod SlotSteps
+pub mod SlotViews
