@@ -8,3 +8,4 @@ pub mod ReaderSteps
 pub mod WriterSteps
 pub mod NoteSteps
 pub mod OpeningSteps
+pub mod RunningWords

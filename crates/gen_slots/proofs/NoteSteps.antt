@@ -15,7 +15,7 @@ use Rattle.gen_slots.specs.declared.board.SeatView.{SeatView}
 use Rattle.gen_slots.specs.declared.board.Role.{Role}
 use Rattle.gen_slots.specs.declared.board.Role.TheVariants.{Idle, Out, Holds, Keeper}
 use Rattle.gen_slots.specs.SlotRule.{Plays, Kept, seat_view, moves_of, sum_below, count_inside}
-use Rattle.gen_slots.specs.SlotSteps.{learned}
+use Rattle.gen_slots.specs.SlotSteps.{IsLearner, learned}
 use Rattle.gen_slots.proofs.ReaderSteps.{plays}
 
 module _ {T X : Type 0} (state : T → X) (follows : X → X → Type 0) (start : ℕ) where
@@ -74,19 +74,14 @@ module _ {T X : Type 0} (state : T → X) (follows : X → X → Type 0) (start 
       seats_change s k (set (set s.views id both) other spent) (omega (arith, first, second)) (views_stay (Sits s k) (set s.views id both) other spent ((k.made, refl), (k.made, refl), tt)
       (λ j d _. views_stay (Sits s k) s.views id both (mine.0, theirs, mine.2) (λ i x _. k.each_seat i x) j d))
 
-  -- a role that may learn
-  abbrev pub Learner : Role X → Type 0
-  Learner (Holds r s) = ⊥
-  Learner _ = Unit {0}
-
-  still : (p : Plan X) (made : List X) (n writer : ℕ) (stage owner : ℕ → ℕ) (id : ℕ) (seen told : List X) → StartsWith made told → (role : Role X) → Learner role
+  still : (p : Plan X) (made : List X) (n writer : ℕ) (stage owner : ℕ → ℕ) (id : ℕ) (seen told : List X) → StartsWith made told → (role : Role X) → IsLearner role
       → Plays state p made n writer stage owner id seen role → Plays state p made n writer stage owner id (longer seen told) role
   still p made n writer stage owner id seen told b Idle l k = tt
   still p made n writer stage owner id seen told b (Out r) l k = k
   still p made n writer stage owner id seen told b (Holds r c) l k = absurd l
   still p made n writer stage owner id seen told b (Keeper q) l k = (k.0, k.1, ap (λ (z : List X). longer z told) k.2 ∙ longer_whole made told b)
 
-  pub learns : (slots id : ℕ) (me : M) → Learner me.0.role → Allows Rule slots id me 0 (λ x. x) (learned follows (step slots 0 0 0 none) me)
+  pub learns : (slots id : ℕ) (me : M) → IsLearner me.0.role → Allows Rule slots id me 0 (λ x. x) (learned follows (step slots 0 0 0 none) me)
   learns slots id me l s k deep at fits = let mine = k.each_seat id me.0 at in let both = longer_begins k.made me.0.seen me.0.told mine.0 mine.1 in let w : SeatView X = seat_view me.0.role (longer me.0.seen me.0.told) [] me.0.moves in (
     w,
     keeps,

@@ -3,3 +3,4 @@ pub mod SlotRuns
 pub mod SlotRule
 pub mod SlotSteps
 pub mod SlotViews
+pub mod RuleLaws

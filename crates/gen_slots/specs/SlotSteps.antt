@@ -34,6 +34,11 @@ module _ {X : Type 0} where
   given_one (Keeper p) = Keeper (record p { given = p.given + 1 })
   given_one role = role
 
+  -- a role whose list may change by a note
+  abbrev pub IsLearner : Role X → Type 0
+  IsLearner (Holds r s) = ⊥
+  IsLearner _ = Unit {0}
+
   abbrev pub next_reader : Role X → Role X
   next_reader (Keeper p) = Out p.given
   next_reader _ = Idle

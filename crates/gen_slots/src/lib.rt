@@ -9,6 +9,7 @@
 pub mod board;
 pub mod counter;
 mod kinds;
+pub mod laws;
 pub mod machine;
 pub mod making;
 pub mod notes;

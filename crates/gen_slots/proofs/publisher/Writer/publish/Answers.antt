@@ -17,6 +17,6 @@ swap-found-requires g c = let inv = c.self.invariant in let pl = inv.7 in let fo
 pub returns-clause-stored : goal.returns-clause-stored
 returns-clause-stored g c = let inv = c.self.invariant in let found = c.find-slot.ensures.berths in let same = berths_same c.find-slot.result 0 c.refill.new.values.items found.0 (sym c.refill.ensures.values ∙ found.3) in
     let readers = ap (λ s. s.readers) c.self.view_is in let made = ap (λ s. s.made) c.self.view_is in (
-  ap length same ∙ (found.1 ∙ readers),
-  subst (λ (z : List g.row.T-State.Denot × ℕ). WereStored g.T.Version.state z.0 z.1 c.refill.new.values.items) (λ i. (made i, readers i)) (subst (WereStored g.T.Version.state _ _) (sym same) found.2),
-)
+      ap length same ∙ (found.1 ∙ readers),
+      subst (λ (z : List g.row.T-State.Denot × ℕ). WereStored g.T.Version.state z.0 z.1 c.refill.new.values.items) (λ i. (made i, readers i)) (subst (WereStored g.T.Version.state _ _) (sym same) found.2),
+    )

@@ -1,0 +1,35 @@
+-- What the rule says of the running words.
+use Rattle.std.proofs.Common.{◌≡◌, ℕ, ◌+◌, ◌*◌, ◌/◌, ◌%◌, ◌^◌, ◌<◌, ◌≤◌, sym, ap, ◌∙◌, subst, arith, Option}
+use Rattle.std.specs.Prelude.{slice_index}
+use mathlib.Core.Option.{some, some-injective}
+use lib.ListN.{get_elem?}
+use Rattle.atomic_table.specs.Table.{State}
+use Rattle.history_laws.specs.Histories.{EndsWith}
+use Rattle.gen_slots.specs.declared.board.SeatView.{SeatView}
+use Rattle.gen_slots.specs.declared.board.Role.{Role}
+use Rattle.gen_slots.specs.declared.board.Role.TheVariants.{Holds}
+use Rattle.gen_slots.specs.SlotRule.{Kept, count_at}
+use Rattle.gen_slots.specs.RuleLaws.{IsCounted, IsHeldSafely, Counts, HoldsSafely}
+use Rattle.gen_slots.proofs.Stages.{count_le}
+use Rattle.gen_slots.proofs.ReaderSteps.{plays}
+
+module _ {T X : Type 0} (state : T → X) (follows : X → X → Type 0) where
+  pub counts : Counts state follows
+  counts start s k = let few = k.few.1 in let low = k.published.0 in record {
+    names = let ok = k.each_slot k.plan.published low in let live = ok.live (λ _. k.plan.published) in let done = ok.done in omega (arith, few, low, live, done);
+    published = let ok = k.each_slot k.plan.published low in let live = ok.live (λ _. k.plan.published) in let done = ok.done in omega (arith, few, low, live, done);
+    retired = λ c l is. let ok = k.each_slot c l in let old = ok.retired is in let done = ok.done in omega (arith, old, done);
+    few = λ c. let h = count_le k.n k.stage (c + 2) in omega (arith, few, h);
+    exact = λ c l is. let ok = k.each_slot c l in let old = ok.retired is in let done = ok.done in let h = count_le k.n k.stage (c + 2) in
+        ((λ same. omega (arith, few, old, done, h, same)), (λ none. omega (arith, old, done, none)));
+    done = λ c l. (k.each_slot c l).done;
+    moved = k.moved;
+  }
+
+  pub holds_safely : HoldsSafely state follows
+  holds_safely start s k = record {
+    not_free = λ j r c d at is. let known = plays state follows start s k j d (Holds r c) at is in k.in_use r c known.0 known.1;
+    same_state = λ j r c d x at is at_x. let known = plays state follows start s k j d (Holds r c) at is in
+        (subst (EndsWith d.seen) (some-injective known.3.0 x (sym known.3.1 ∙ at_x)) known.3.2, (k.each_seat j d at).0);
+    at_home = λ c q x l used below away at_x. (k.each_slot c l).home used q below away x at_x;
+  }
