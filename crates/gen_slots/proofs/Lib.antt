@@ -9,3 +9,4 @@ pub mod WriterSteps
 pub mod NoteSteps
 pub mod OpeningSteps
 pub mod RunningWords
+pub mod Finding

@@ -101,7 +101,7 @@ module _ {X : Type 0} where
 
   -- the writer's plan at the start, where slot 0 is published
   abbrev pub first_plan : ℕ → ℕ → X → Plan X
-  first_plan n start x = record { readers = n; given = 0; published = 0; standing = 2 ∷ replicate 17 0; counts = replicate 18 (256 * start); states = replicate 18 x; tried = replicate 18 0; hand = 0 }
+  first_plan n start x = record { readers = n; given = 0; published = 0; standing = 2 ∷ replicate 17 0; counts = replicate 18 (256 * start); states = replicate 18 x; tried = replicate 18 0; hand = 0; checks = 0 }
 
   abbrev pub starting : ℕ → ℕ → X → SeatView X
   starting n start x = seat_view (Keeper (first_plan n start x)) (x ∷ []) [] 0

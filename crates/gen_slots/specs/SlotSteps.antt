@@ -20,15 +20,16 @@ module _ {X : Type 0} where
     states = slice_set p.states s x;
     tried = replicate 18 0;
     hand = 0;
+    checks = p.checks;
   }
 
-  -- the plan after the slot s was found free
+  -- the plan after the slot s was checked and found free
   abbrev pub taken_plan : Plan X → ℕ → Plan X
-  taken_plan p s = record p { standing = slice_set p.standing s 0; tried = slice_set p.tried s 0; hand = s + 1 }
+  taken_plan p s = record p { standing = slice_set p.standing s 0; tried = slice_set p.tried s 0; hand = s + 1; checks = p.checks + 1 }
 
   -- the plan after it was found in use
   abbrev pub tried_plan : Plan X → ℕ → Plan X
-  tried_plan p s = record p { tried = slice_set p.tried s 1 }
+  tried_plan p s = record p { tried = slice_set p.tried s 1; checks = p.checks + 1 }
 
   abbrev pub given_one : Role X → Role X
   given_one (Keeper p) = Keeper (record p { given = p.given + 1 })

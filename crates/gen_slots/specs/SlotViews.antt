@@ -21,24 +21,29 @@ pub record Telling (X : Type 0) : Type 0 where
   pub of : TableId
   pub list : List X
 
--- of the writer: the states that were published, and where every count started
+-- of the writer: the states that were published, where every count started, and how many loads of done words it has made
 pub record Publishing (X : Type 0) : Type 0 where
   pub of : TableId
   pub made : List X
   pub readers : ℕ
   pub start : ℕ
+  pub checks : ℕ
+
+abbrev pub checks_of : {X : Type 0} → Role X → ℕ
+checks_of (Keeper p) = p.checks
+checks_of _ = 0
 
 abbrev pub publishing : {X : Type 0} → TableId → SeatView X → ℕ → ℕ → Publishing X
-publishing z d readers start = record { of = z; made = d.seen; readers = readers; start = start }
+publishing z d readers start = record { of = z; made = d.seen; readers = readers; start = start; checks = checks_of d.role }
 
 -- for each reader 32 berths, and for each of its slots and the two more a word, and one
 abbrev pub IsSized : TableId → Type 0
 IsSized z = (z.slots + 96 ≡ 32 * z.words) × (z.slots < 1024)
 
 module _ {X : Type 0} where
-  -- the plan while the slot s is in hand, after the tries t
-  abbrev pub found_plan : Plan X → ℕ → List ℕ → Plan X
-  found_plan p s t = record p { standing = slice_set p.standing s 0; tried = t; hand = s + 1 }
+  -- the plan while the slot s is in hand, after the tries t and m checks
+  abbrev pub found_plan : Plan X → ℕ → List ℕ → ℕ → Plan X
+  found_plan p s t m = record p { standing = slice_set p.standing s 0; tried = t; hand = s + 1; checks = p.checks + m }
 
   -- the writer's plan between two publications
   abbrev pub IsPlanned : ℕ → ℕ → List ℕ → Role X → Type 0

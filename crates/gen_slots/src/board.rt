@@ -26,6 +26,8 @@ pub struct Plan<X> {
     pub tried: [u64; 0],
     /// 0, or 1 more than the free slot whose berths the writer has.
     pub hand: u64,
+    /// How many loads of done words it has made.
+    pub checks: u64,
 }
 
 /// Whose seat it is. No value of it is made.

@@ -55,7 +55,7 @@ fn find<T: Version + Drop, L: Ledger>(
 ) -> usize
     requires table { (place.old.table_id ≡ top.now.table_id) × IsSized place.old.table_id × (place.old.table_id.words ≡ readers + 3) × (0 < readers) × (readers ≤ 16) × (published < readers + 2) }
     requires seat { (place.old.me.1 ≡ []) × IsPlanned readers published counts.now place.old.me.0.role }
-    ensures seat { (place.new.table_id ≡ place.old.table_id) × (place.new.me.0.seen ≡ place.old.me.0.seen) × ((p : Plan T.State) → place.old.me.0.role ≡ Keeper p → (t : List ℕ) × (place.new.me.0.role ≡ Keeper (found_plan p result t))) }
+    ensures seat { (place.new.table_id ≡ place.old.table_id) × (place.new.me.0.seen ≡ place.old.me.0.seen) × ((p : Plan T.State) → place.old.me.0.role ≡ Keeper p → (t : List ℕ) × (m : ℕ) × (steps.new ≡ steps.old + m) × (place.new.me.0.role ≡ Keeper (found_plan p result t m))) }
     ensures slot { (result < readers + 2) × (result ≢ published) }
     ensures berths { (ys : List _) × (length ys ≡ readers) × WereStored T.state place.old.me.0.seen readers ys × (place.new.me.1 ≡ berths result 0 ys) }
     ensures cost { steps.new ≤ steps.old + readers + 1 }
@@ -117,8 +117,9 @@ impl<T: Version + Drop> Writer<T> {
     pub fn publish<L: Ledger>(&mut self, berths: &mut Vec<Option<T>>, steps: &mut Steps<L>)
         requires values { (length berths.old.items ≡ self.old.readers) × ((x : T.State) × AllShow T.state x berths.old.items) }
         requires next { (x y : T.State) → AllShow T.state x berths.old.items → EndsWith self.old.made y → T.follows y x }
-        ensures made { (x : T.State) → AllShow T.state x berths.old.items → self.new ≡ record self.old { made = self.old.made ++ x ∷ [] } }
+        ensures made { (x : T.State) → AllShow T.state x berths.old.items → self.new ≡ record self.old { made = self.old.made ++ x ∷ []; checks = self.new.checks } }
         ensures stored { (length berths.new.items ≡ self.old.readers) × WereStored T.state self.old.made self.old.readers berths.new.items }
+        ensures counted { steps.new + self.old.checks ≡ steps.old + self.new.checks }
         ensures cost { steps.new ≤ steps.old + self.old.readers + 1 }
     {
         let top = &self.board.shared;
