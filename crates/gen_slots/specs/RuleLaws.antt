@@ -1,11 +1,12 @@
 -- What the rule says of the running words, and that each kind of step keeps it, whatever the other threads did before.
-use Rattle.std.specs.Prelude.{◌≡◌, ◌↔◌, ℕ, ◌+◌, ◌*◌, ◌/◌, ◌%◌, ◌^◌, ◌<◌, ◌≤◌, ◌≢◌, List, [], ◌∷◌, length, slice_index, replicate, sum_by, Option, Some, None}
+use Rattle.std.specs.Prelude.{◌≡◌, ◌↔◌, ℕ, ◌+◌, ◌*◌, ◌/◌, ◌%◌, ◌^◌, ◌<◌, ◌≤◌, ◌≢◌, ◌⊎◌, List, [], ◌∷◌, length, slice_index, replicate, sum_by, Option, Some, None}
 use mathlib.Core.Option.{none, some}
 use lib.ListN.{get_elem?}
 use Rattle.atomic_table.specs.Table.{State, Me, step, opening, Allows, Splits, Joins}
-use Rattle.history_laws.specs.Histories.{StartsWith, EndsWith}
+use Rattle.history_laws.specs.Histories.{StartsWith, EndsWith, Chain}
 use Rattle.gen_slots.specs.declared.board.Plan.{Plan}
 use Rattle.gen_slots.specs.declared.board.SeatView.{SeatView}
+use Rattle.gen_slots.specs.declared.board.Role.{Role}
 use Rattle.gen_slots.specs.declared.board.Role.TheVariants.{Idle, Out, Holds, Keeper}
 use Rattle.gen_slots.specs.SlotRule.{Kept, AtHome, sum_below, count_at, count_inside, moves_of, starting, seat_view}
 use Rattle.gen_slots.specs.SlotSteps.{IsLearner, entered, left, checked, published, learned, given_one, next_reader, berths, AllShow}
@@ -28,6 +29,18 @@ pub record IsHeldSafely {T X : Type 0} (state : T → X) (follows : X → X → 
   pub same_state : (j r c : ℕ) (d : SeatView X) (x : X) → get_elem? s.views j ≡ some d → d.role ≡ Holds r c → get_elem? k.plan.states c ≡ some x → EndsWith d.seen x × StartsWith k.made d.seen
   pub at_home : (c q : ℕ) (x : X) → c < k.n + 2 → 0 < slice_index k.plan.standing c → q < k.n → k.stage q ≢ c + 2 → get_elem? k.plan.states c ≡ some x → AtHome state s.homes (32 * q + c) x
 
+-- the role of the reader r
+abbrev pub IsReader : {X : Type 0} → ℕ → Role X → Type 0
+IsReader r role = (role ≡ Out r) ⊎ ((c : ℕ) × (role ≡ Holds r c))
+
+-- One seat is the writer's, a reader's number has at most one seat, and none before it is given; each seat's list begins what was published, which is a chain
+pub record IsSeated {T X : Type 0} (state : T → X) (follows : X → X → Type 0) (start : ℕ) (s : State (Option T) (SeatView X)) (k : Kept state follows start s) : Type 0 where
+  pub one_writer : (i j : ℕ) (d e : SeatView X) (p q : Plan X) → get_elem? s.views i ≡ some d → get_elem? s.views j ≡ some e → d.role ≡ Keeper p → e.role ≡ Keeper q → i ≡ j
+  pub one_reader : (i j r : ℕ) (d e : SeatView X) → get_elem? s.views i ≡ some d → get_elem? s.views j ≡ some e → IsReader r d.role → IsReader r e.role → i ≡ j
+  pub given : (j r : ℕ) (d : SeatView X) → get_elem? s.views j ≡ some d → IsReader r d.role → r < k.plan.given
+  pub one_list : (j : ℕ) (d : SeatView X) → get_elem? s.views j ≡ some d → StartsWith k.made d.seen
+  pub chain : Chain follows k.made
+
 module _ {T X : Type 0} (state : T → X) (follows : X → X → Type 0) where
   abbrev pub Rule : ℕ → State (Option T) (SeatView X) → Type 0
   Rule start = Kept state follows start
@@ -37,6 +50,9 @@ module _ {T X : Type 0} (state : T → X) (follows : X → X → Type 0) where
 
   abbrev pub HoldsSafely : Type 0
   HoldsSafely = (start : ℕ) (s : State (Option T) (SeatView X)) (k : Rule start s) → IsHeldSafely state follows start s k
+
+  abbrev pub Seats : Type 0
+  Seats = (start : ℕ) (s : State (Option T) (SeatView X)) (k : Rule start s) → IsSeated state follows start s k
 
   -- the table at the start, with every count at `start`
   abbrev pub Opens : Type 0

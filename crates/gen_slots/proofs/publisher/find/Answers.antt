@@ -43,7 +43,7 @@ load-requires g c = let i = c.loop-slot.invariant in let did = i.tried.2 in let 
 )
 
 pub returns-then-load-counts-clause-seat : goal.returns-then-load-counts-clause-seat
-returns-then-load-counts-clause-seat g c = let i = c.loop-slot.invariant in let did = i.tried.2 in let p = did.plan in let m = i.tried.0 in let before = i.tried.1 in let ticked = c.tick.ensures in
+returns-then-load-counts-clause-seat g c = let i = c.loop-slot.invariant in let did = i.tried.2 in let p = did.plan in let m = i.tried.0 in let before = i.tried.1 in
     let now = c.load.ensures.2.2 c.loop-slot.slot refl (record p { tried = did.tries; checks = p.checks + m }) did.is in
     let free : c.load.result ≡ get_or p.counts c.loop-slot.slot 0 = c.if-load-counts.true ∙ ap (λ (z : List ℕ). get_or z c.loop-slot.slot 0) (sym did.counts_is) in let took = now.2.0 free in let tries = set did.tries c.loop-slot.slot 0 in
     let more : p.checks + m + 1 ≡ p.checks + (m + 1) = omega arith in (
@@ -52,7 +52,7 @@ returns-then-load-counts-clause-seat g c = let i = c.loop-slot.invariant in let 
       λ q is. (
         tries,
         m + 1,
-        omega arith,
+        search (arith, before),
         now.1 ∙ (ap (λ (z : Plan g.row.T-State.Denot). Keeper z) took.0 ∙ (ap (λ (z : ℕ). Keeper (record (found_plan p c.loop-slot.slot tries 0) { checks = z })) more ∙ ap (λ (z : Plan g.row.T-State.Denot). Keeper (found_plan z c.loop-slot.slot tries (m + 1))) (ap (plan_or g.T.Version.state g.T.Version.follows 0 p) (sym did.was ∙ is)))),
       ),
     )
@@ -65,13 +65,13 @@ returns-then-load-counts-clause-berths g c = let i = c.loop-slot.invariant in le
 pub loop-slot-preserved : goal.loop-slot-preserved
 loop-slot-preserved g c = let i = c.loop-slot.invariant in let did = i.tried.2 in let p = did.plan in let m = i.tried.0 in let before = i.tried.1 in let t = did.tries in let slot = c.loop-slot.slot in let far = c.loop-slot-test.true in let cost₀ = i.cost.0 in let cost₁ = i.cost.1 in elim c.if-slot-published.branch [
   | then-slot-published+else-load-counts w ↦ let now = w.load.ensures.2.2 slot refl (record p { tried = t; checks = p.checks + m }) did.is in let busy = now.2.1 (λ e. w.if-load-counts.false (e ∙ ap (λ (z : List ℕ). get_or z slot 0) did.counts_is)) in
-      let apart = w.if-slot-published.true in let ticked = w.tick.ensures in let steps_is = w.steps-is in let more : p.checks + m + 1 ≡ p.checks + (m + 1) = omega arith in record {
+      let apart = w.if-slot-published.true in let steps_is = w.steps-is in let more : p.checks + m + 1 ≡ p.checks + (m + 1) = omega arith in record {
         table = ap (λ q. q.table_id) w.place-is ∙ (w.load.ensures.0 ∙ i.table);
         seen = ap (λ q. q.me.0.seen) w.place-is ∙ (w.load.ensures.2.0 ∙ i.seen);
         bare = ap (λ q. q.me.1) w.place-is ∙ busy.1;
         tried = (
           m + 1,
-          omega arith,
+          search (arith, before),
           record {
             plan = p;
             tries = set t slot 1;
@@ -86,7 +86,7 @@ loop-slot-preserved g c = let i = c.loop-slot.invariant in let did = i.tried.2 i
             few = subst (λ (z : ℕ). sum_below (z + 2) (slice_index (set t slot 1)) ≤ z) did.readers_is (subst (λ (z : Plan g.row.T-State.Denot). sum_below (p.readers + 2) (slice_index z.tried) ≤ p.readers) busy.0 busy.2);
           },
         );
-        cost = (λ l. omega arith, λ l. omega arith);
+        cost = (λ l. search (arith, cost₀), λ l. search (arith, cost₁, cost₀));
       }
   | else-slot-published w ↦ let here = w.if-slot-published.false in let steps_is = w.steps-is in record {
     table = ap (λ q. q.table_id) w.place-is ∙ i.table;
