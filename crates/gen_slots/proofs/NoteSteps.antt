@@ -1,5 +1,5 @@
 -- A note is cut off a view and taken into another, and what is learned then: each keeps the rule of the table.
-use Rattle.std.proofs.Common.{◌≡◌, ◌≢◌, ℕ, ◌+◌, List, [], ◌∷◌, ◌++◌, length, set, sym, refl, ap, ◌∙◌, subst, ⊎_elim, arith, Option, length-set}
+use Rattle.std.proofs.Common.{◌≡◌, ◌≢◌, ℕ, ◌+◌, List, [], ◌∷◌, ◌++◌, set, sym, refl, ap, ◌∙◌, subst, ⊎_elim, arith, Option}
 use Rattle.std.specs.List.{sum_by}
 use Rattle.std.proofs.lemmas.List.Sums.{sum_by-append}
 use mathlib.Core.Option.{none, some}
@@ -14,7 +14,7 @@ use Rattle.gen_slots.specs.declared.board.Plan.{Plan}
 use Rattle.gen_slots.specs.declared.board.SeatView.{SeatView}
 use Rattle.gen_slots.specs.declared.board.Role.{Role}
 use Rattle.gen_slots.specs.declared.board.Role.TheVariants.{Idle, Out, Holds, Keeper}
-use Rattle.gen_slots.specs.SlotRule.{Plays, Kept, seat_view, moves_of, sum_below, count_inside}
+use Rattle.gen_slots.specs.SlotRule.{Plays, Kept, seat_view, moves_of}
 use Rattle.gen_slots.specs.SlotSteps.{IsLearner, learned}
 use Rattle.gen_slots.proofs.ReaderSteps.{plays}
 

@@ -1,5 +1,5 @@
 -- The table at the start keeps its rule, and so does the making of a reader.
-use Rattle.std.proofs.Common.{◌≡◌, ◌≢◌, ◌⊎◌, ℕ, zero, suc, ◌+◌, ◌*◌, ◌%◌, ◌^◌, ◌<◌, ◌≤◌, List, [], ◌∷◌, ◌++◌, length, map, get_or, set, replicate, sym, refl, ap, ◌∙◌, subst, ⊎_elim, arith, Option, Some, None, length-set, length-append, append_assoc}
+use Rattle.std.proofs.Common.{◌≡◌, ◌≢◌, ℕ, zero, suc, ◌+◌, ◌*◌, ◌^◌, ◌<◌, ◌≤◌, List, [], ◌∷◌, ◌++◌, length, get_or, set, replicate, sym, refl, ap, ◌∙◌, subst, ⊎_elim, arith, Option, Some, None, length-set, length-append, append_assoc}
 use Rattle.std.specs.List.{sum_by, Contains}
 use Rattle.std.specs.Prelude.{slice_index}
 use Rattle.std.proofs.lemmas.List.Sums.{sum_by-append}
@@ -17,7 +17,7 @@ use Rattle.gen_slots.specs.declared.board.Plan.{Plan}
 use Rattle.gen_slots.specs.declared.board.SeatView.{SeatView}
 use Rattle.gen_slots.specs.declared.board.Role.{Role}
 use Rattle.gen_slots.specs.declared.board.Role.TheVariants.{Idle, Out, Holds, Keeper}
-use Rattle.gen_slots.specs.SlotRule.{lags, sum_below, count_inside, Plays, Kept, seat_view, starting, first_plan, moves_of}
+use Rattle.gen_slots.specs.SlotRule.{lags, Plays, Kept, seat_view, starting, first_plan, moves_of}
 use Rattle.gen_slots.specs.SlotSteps.{given_one, next_reader}
 use Rattle.gen_slots.specs.SlotViews.{AllAre, AllNew, Reading, laid}
 use Rattle.gen_slots.proofs.Sums.{sum_below-zero, sum_below-zeros, zero_at}

@@ -1,5 +1,5 @@
 -- The berths of one slot, in a row, of which each is refilled and goes behind the others.
-use Rattle.std.proofs.Common.{◌≡◌, ℕ, suc, ◌+◌, ◌*◌, ◌<◌, ◌≤◌, sym, refl, ap, ◌∙◌, arith, List, [], ◌∷◌, ◌++◌, length, take, drop, get_or, set, Option, None, append_assoc}
+use Rattle.std.proofs.Common.{◌≡◌, ℕ, suc, ◌+◌, ◌*◌, ◌<◌, ◌≤◌, sym, ap, ◌∙◌, arith, List, [], ◌∷◌, ◌++◌, length, take, drop, get_or, set, Option, None, append_assoc}
 use Rattle.std.proofs.lemmas.List.{take_more, take_more_set, take-set, drop_more, drop-set-lt, length-take-le, drop_all, take_all}
 use Rattle.atomic_table.specs.Table.{rest, turned}
 use Rattle.gen_slots.specs.SlotSteps.{berths}

@@ -1,17 +1,14 @@
 -- What the rule says of the running words.
-use Rattle.std.proofs.Common.{◌≡◌, ℕ, ◌+◌, ◌*◌, ◌⊎◌, ◌/◌, ◌%◌, ◌^◌, ◌<◌, ◌≤◌, sym, ap, ◌∙◌, subst, ⊎_elim, arith, Option}
-use Rattle.std.specs.Prelude.{slice_index}
+use Rattle.std.proofs.Common.{◌≡◌, ℕ, ◌+◌, ◌<◌, sym, ◌∙◌, subst, ⊎_elim, arith, Option}
 use mathlib.Core.Option.{some, some-injective}
 use mathlib.Core.Logic.{dite}
 use native.Mathlib.Decide.{dec_lt}
 use lib.ListN.{get_elem?}
 use Rattle.atomic_table.specs.Table.{State}
 use Rattle.history_laws.specs.Histories.{EndsWith}
-use Rattle.gen_slots.specs.declared.board.Plan.{Plan}
 use Rattle.gen_slots.specs.declared.board.SeatView.{SeatView}
-use Rattle.gen_slots.specs.declared.board.Role.{Role}
 use Rattle.gen_slots.specs.declared.board.Role.TheVariants.{Out, Holds, Keeper}
-use Rattle.gen_slots.specs.SlotRule.{Kept, count_at}
+use Rattle.gen_slots.specs.SlotRule.{Kept}
 use Rattle.gen_slots.specs.RuleLaws.{IsReader, Counts, HoldsSafely, Seats}
 use Rattle.gen_slots.proofs.Stages.{count_le}
 use Rattle.gen_slots.proofs.ReaderSteps.{plays}

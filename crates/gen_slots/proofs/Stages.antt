@@ -1,5 +1,5 @@
 -- The readers' stages, and how many readers are at one.
-use Rattle.std.proofs.Common.{◌≡◌, ◌≢◌, ℕ, zero, suc, ◌+◌, ◌<◌, ◌≤◌, sym, refl, ap, ◌∙◌, arith, eq-eqb, ne_eqb, List, length, set, get_or-set_same, get_or-set_other}
+use Rattle.std.proofs.Common.{◌≡◌, ◌≢◌, ℕ, zero, suc, ◌+◌, ◌<◌, ◌≤◌, refl, ap, ◌∙◌, arith, eq-eqb, ne_eqb, List, length, set, get_or-set_same, get_or-set_other}
 use Rattle.std.specs.Prelude.{◌==◌, ◌&&◌, Bool, true, false, nat_lt, slice_index}
 use Rattle.std.proofs.lemmas.Bool.Decides.{nat_tests}
 use mathlib.Core.Logic.{dite}
@@ -7,7 +7,7 @@ use native.Mathlib.Decide.{ℕ_discrete}
 use Rattle.history_laws.proofs.Views.{put, put_here, put_else}
 use Rattle.gen_slots.specs.declared.board.Plan.{Plan}
 use Rattle.gen_slots.specs.SlotRule.{tally, sum_below, count_at, count_inside, lags, laggards}
-use Rattle.gen_slots.proofs.Sums.{sum_below-same, sum_below-at, sum_below-plus, sum_below-zero, sum_below-none, sum_below-tally, tally_le}
+use Rattle.gen_slots.proofs.Sums.{sum_below-same, sum_below-at, sum_below-plus, sum_below-zero, sum_below-none, sum_below-tally}
 
 -- how many pass a test, where the reader r goes to the stage t
 count-put : (n : ℕ) (test : ℕ → Bool) (f : ℕ → ℕ) (r t : ℕ) → r < n → sum_below n (λ j. tally (test (put f r t j))) + tally (test (f r)) ≡ sum_below n (λ j. tally (test (f j))) + tally (test t)

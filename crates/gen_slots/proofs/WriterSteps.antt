@@ -1,6 +1,6 @@
 -- The writer's steps keep the rule of the table.
-use Rattle.std.proofs.Common.{◌≡◌, ◌≢◌, ◌⊎◌, ℕ, zero, suc, ◌+◌, ◌-◌, ◌*◌, ◌%◌, ◌^◌, ◌<◌, ◌≤◌, List, [], ◌∷◌, ◌++◌, true, false, length, replicate, get_or, set, sym, refl, ap, ◌∙◌, subst, inl, inr, arith, Option, Some, None, eq-eqb, ne_eqb, length-set, get_or-set_other, get_or-set_same}
-use Rattle.std.specs.List.{sum_by, Contains}
+use Rattle.std.proofs.Common.{◌≡◌, ◌≢◌, ℕ, zero, suc, ◌+◌, ◌-◌, ◌*◌, ◌%◌, ◌^◌, ◌<◌, ◌≤◌, List, [], ◌∷◌, ◌++◌, true, false, length, replicate, get_or, set, sym, refl, ap, ◌∙◌, subst, inl, inr, arith, Option, Some, None, eq-eqb, ne_eqb, length-set, get_or-set_other, get_or-set_same}
+use Rattle.std.specs.List.{Contains}
 use Rattle.std.specs.Prelude.{slice_index}
 use Rattle.std.proofs.lemmas.List.Elements.{Contains-append_left, Contains-append_right}
 use mathlib.Core.List.{append-nil}
@@ -11,7 +11,7 @@ use mathlib.Core.Option as maybe
 use native.Mathlib.Decide.{ℕ_discrete}
 use lib.ListN.{get_elem?}
 use lib.Seq.{set-get_or}
-use Rattle.atomic_table.specs.Table.{State, Me, Act, step, keeps, homes_after, carried_after, stepped, Allows}
+use Rattle.atomic_table.specs.Table.{State, Me, step, keeps, homes_after, carried_after, stepped, Allows}
 use Rattle.atomic_table.proofs.Lists.{set_here, set_else}
 use Rattle.history_laws.specs.Histories.{StartsWith, EndsWith, Chain}
 use Rattle.history_laws.proofs.Prefixes.{starts_more, chain_snoc}
@@ -20,7 +20,7 @@ use Rattle.gen_slots.specs.declared.board.Plan.{Plan}
 use Rattle.gen_slots.specs.declared.board.SeatView.{SeatView}
 use Rattle.gen_slots.specs.declared.board.Role.{Role}
 use Rattle.gen_slots.specs.declared.board.Role.TheVariants.{Idle, Out, Holds, Keeper}
-use Rattle.gen_slots.specs.SlotRule.{count_at, count_inside, lags, laggards, sum_below, SlotKept, Plays, Kept, seat_view, moves_of}
+use Rattle.gen_slots.specs.SlotRule.{count_at, lags, laggards, sum_below, SlotKept, Plays, Kept, seat_view, moves_of}
 use Rattle.gen_slots.specs.SlotSteps.{taken_plan, tried_plan, published_at, berths, Plans, WereStored, checked, AllShow, published}
 use Rattle.gen_slots.proofs.Sums.{sum_below-set, sum_below-zeros}
 use Rattle.gen_slots.proofs.Stages.{count_le, count_none, laggards_le, lags-at, lags_else, laggards_plan, laggards_drop, and_both, and_second}

@@ -1,4 +1,4 @@
-use Rattle.std.proofs.Common.{rules, ap, ◌≡◌, ◌+◌, ◌*◌, ℕ, List, Option, replicate, length, ◌∙◌, ◌<◌, sym, subst, arith}
+use Rattle.std.proofs.Common.{rules, ap, ◌≡◌, ◌+◌, ◌*◌, ℕ, List, Option, replicate, length, ◌∙◌, sym, subst, arith}
 use Rattle.atomic_table.specs.Table.{opening}
 use Rattle.gen_slots.specs.SlotRule.{Kept, starting}
 use Rattle.gen_slots.specs.SlotViews.{AllAre, laid}

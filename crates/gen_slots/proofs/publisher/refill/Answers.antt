@@ -1,5 +1,5 @@
-use Rattle.std.proofs.Common.{rules, ap, ◌∙◌, sym, ◌<◌, ◌≤◌, arith, length, length-set, get_or, set, None}
-use Rattle.gen_slots.proofs.Rows.{row_first, row_found, row_next, row_last, same_drop, same_drop_set, same_take_set}
+use Rattle.std.proofs.Common.{rules, ap, ◌∙◌, sym, ◌<◌, arith, length, length-set, get_or, None}
+use Rattle.gen_slots.proofs.Rows.{row_first, row_found, row_next, same_drop, same_drop_set, same_take_set}
 use Rattle.gen_slots.proofs.publisher.refill.Goals as goal
 
 pub exchange-requires : goal.exchange-requires
