@@ -1,4 +1,11 @@
--- The rule of the table: what holds between any two steps, whatever the threads do.
+-- The rule of the table: what holds between any two steps, whatever the threads do. In words:
+-- The seats: one is the writer's, each reader's number has at most one, and none before it was given. Notes hold no slot.
+-- The published word: modulo 256 it is the slot that the writer has as published.
+-- The counts: a slot's enters are its leaves and its holders, modulo 2 ^ 56; of a free slot the done word is the writer's number, and nobody holds it.
+-- The lists: each begins the writer's, which is a chain. A slot that is not free has one state, of that list; the published slot's is its last, and the list of a reader that holds a slot ends with the slot's.
+-- The berths: of a slot that is not free, a reader's is at home with the slot's state, or out with the reader that holds it; those of the slot in the writer's hand are the writer's alone; those of a slot never used are empty.
+-- The tries: the retired slots that were tried since the last publication, and the readers that hold a retired slot not tried since then, are at most the readers.
+-- The moves: what the views have counted is what the words had.
 -- A reader's stage is 0 before it is made, 1 outside, and s + 2 while it holds the slot s. A slot's standing is 0 where it is free, 1 where it is retired and 2 where it is published.
 use Rattle.std.specs.Prelude.{◌≡◌, ◌≢◌, ◌==◌, ◌&&◌, ℕ, zero, suc, ◌+◌, ◌*◌, ◌%◌, ◌<◌, ◌≤◌, Bool, true, false, nat_lt, List, [], ◌∷◌, length, replicate, slice_index, sum_by, Contains, Option, Some, None}
 use mathlib.Core.Option.{some}
@@ -85,7 +92,7 @@ module _ {T X : Type 0} (state : T → X) where
     pub hand : (k : ℕ) → plan.hand ≡ k + 1 → (k < n + 2) × (slice_index plan.standing k ≡ 0)
     pub each_slot : (k : ℕ) → k < n + 2 → SlotKept start plan n s.words s.homes stage leaves k
     pub inside : (r : ℕ) → stage r < n + 4
-    -- a slot that a reader holds is not free
+    -- A slot that a reader holds is not free
     pub in_use : (r k : ℕ) → r < n → stage r ≡ k + 2 → 0 < slice_index plan.standing k
     pub ungiven : (r : ℕ) → plan.given ≤ r → stage r ≡ 0
     pub chain : Chain follows made
