@@ -1,0 +1,12 @@
+pub mod HolderLaws
+pub mod EventLaws
+pub mod Sums
+pub mod Stages
+pub mod Takes
+pub mod Rows
+pub mod ReaderSteps
+pub mod WriterSteps
+pub mod NoteSteps
+pub mod OpeningSteps
+pub mod RunningWords
+pub mod Finding

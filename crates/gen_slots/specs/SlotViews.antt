@@ -1,0 +1,65 @@
+-- What a contract sees of readers, notes and the writer.
+use Rattle.std.specs.Prelude.{◌≡◌, ℕ, ◌+◌, ◌*◌, ◌<◌, List, [], ◌∷◌, ◌++◌, replicate, slice_set, Option, Some, None}
+use Rattle.atomic_table.specs.Seated.{TableId}
+use Rattle.gen_slots.specs.declared.board.Plan.{Plan}
+use Rattle.gen_slots.specs.declared.board.SeatView.{SeatView}
+use Rattle.gen_slots.specs.declared.board.Role.{Role}
+use Rattle.gen_slots.specs.declared.board.Role.TheVariants.{Keeper}
+
+-- of a reader: which table it is of, the states that it has seen, its number, and how many atomic additions it has made
+pub record Reading (X : Type 0) : Type 0 where
+  pub of : TableId
+  pub seen : List X
+  pub reader : ℕ
+  pub moves : ℕ
+
+abbrev pub reading : {X : Type 0} → TableId → SeatView X → ℕ → Reading X
+reading z d r = record { of = z; seen = d.seen; reader = r; moves = d.moves }
+
+-- of a note
+pub record Telling (X : Type 0) : Type 0 where
+  pub of : TableId
+  pub list : List X
+
+-- of the writer: the states that were published, where every count started, and how many loads of done words it has made
+pub record Publishing (X : Type 0) : Type 0 where
+  pub of : TableId
+  pub made : List X
+  pub readers : ℕ
+  pub start : ℕ
+  pub checks : ℕ
+
+abbrev pub checks_of : {X : Type 0} → Role X → ℕ
+checks_of (Keeper p) = p.checks
+checks_of _ = 0
+
+abbrev pub publishing : {X : Type 0} → TableId → SeatView X → ℕ → ℕ → Publishing X
+publishing z d readers start = record { of = z; made = d.seen; readers = readers; start = start; checks = checks_of d.role }
+
+-- for each reader 32 berths, and for each of its slots and the two more a word, and one
+abbrev pub IsSized : TableId → Type 0
+IsSized z = (z.slots + 96 ≡ 32 * z.words) × (z.slots < 1024)
+
+module _ {X : Type 0} where
+  -- the plan while the slot s is in hand, after the tries t and m checks
+  abbrev pub found_plan : Plan X → ℕ → List ℕ → ℕ → Plan X
+  found_plan p s t m = record p { standing = slice_set p.standing s 0; tried = t; hand = s + 1; checks = p.checks + m }
+
+  -- the writer's plan between two publications
+  abbrev pub IsPlanned : ℕ → ℕ → List ℕ → Role X → Type 0
+  IsPlanned readers published counts role = (p : Plan X) × (role ≡ Keeper p) × (p.readers ≡ readers) × (p.published ≡ published) × (p.counts ≡ counts) × (p.tried ≡ replicate 18 0) × (p.hand ≡ 0)
+
+-- all values have this state
+abbrev pub AllAre : {T X : Type 0} → (T → X) → X → List T → Type 0
+AllAre state x [] = Unit {0}
+AllAre state x (v ∷ vs) = (state v ≡ x) × AllAre state x vs
+
+-- new readers, numbered from k on
+abbrev pub AllNew : {X : Type 0} → TableId → List X → ℕ → List (Reading X) → Type 0
+AllNew z seen k [] = Unit {0}
+AllNew z seen k (p ∷ ps) = (p ≡ record { of = z; seen = seen; reader = k; moves = 0 }) × AllNew z seen (k + 1) ps
+
+-- the berths at the start: each reader's first has its value
+abbrev pub laid : {T : Type 0} → List T → List (Option T)
+laid [] = []
+laid (v ∷ vs) = Some v ∷ replicate 31 None ++ laid vs

@@ -1,0 +1,10 @@
+//! Laws of histories, which are lists of states in the order in which they came: of those that begin one history, and
+//! of the views of a shared table, of which a step changes one.
+#![tactic(auto)]
+
+ghost use Rattle.history_laws.specs.Histories.{PrefixesOfOne};
+
+/// Of two histories that begin a third, each begins the longer one, which begins the third.
+pub fn prefixes_of_one<T>()
+    ensures { PrefixesOfOne T }
+{}
