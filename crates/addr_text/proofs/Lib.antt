@@ -4,3 +4,5 @@ pub mod EtherLaws
 pub mod ValueLaws
 pub mod AddressLaws
 pub mod FitLaws
+pub mod PlainLaws
+pub mod IntervalLaws

@@ -1,8 +1,10 @@
 //! Addresses, ports, protocols, marks, intervals and times as text.
 #![tactic(auto)]
 
+mod interval;
 mod number;
 mod protocol;
 mod value;
 
+pub use interval::{interval_of_law, one_interval_law, read_interval};
 pub use value::{BadValue, one_value_law, read_value, value_bits_law, value_of_law};
