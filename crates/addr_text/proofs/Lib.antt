@@ -6,3 +6,4 @@ pub mod AddressLaws
 pub mod FitLaws
 pub mod PlainLaws
 pub mod IntervalLaws
+pub mod TimeLaws

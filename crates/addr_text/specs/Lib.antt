@@ -4,3 +4,7 @@ pub mod Values
 pub mod ValuesRead
 pub mod Intervals
 pub mod IntervalsRead
+pub mod Times
+pub mod TimesRead
+pub mod TimesView
+pub mod Written

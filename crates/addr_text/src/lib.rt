@@ -4,7 +4,9 @@
 mod interval;
 mod number;
 mod protocol;
+mod time;
 mod value;
 
 pub use interval::{interval_of_law, one_interval_law, read_interval};
+pub use time::{one_time_law, read_time, time_of_law};
 pub use value::{BadValue, one_value_law, read_value, value_bits_law, value_of_law};
