@@ -7,3 +7,4 @@ pub mod FitLaws
 pub mod PlainLaws
 pub mod IntervalLaws
 pub mod TimeLaws
+pub mod InlineLaws

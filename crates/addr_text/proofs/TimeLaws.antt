@@ -108,9 +108,9 @@ parts_begin : (us : List (List ℕ × ℕ)) (text : List ℕ) (ms : ℕ) → Are
 unfolding AreUnits
 parts_begin [] text ms are h = inl h.0
 parts_begin (u ∷ us) text ms are (inl h) = elim (parts_begin us text ms are.2 h) [
-    | inl empty ↦ inl empty
-    | inr b ↦ inr (record { part = b.part; read = b.read; name = or_right (bytes_eq u.0 b.part.name) _ b.name })
-  ]
+  | inl empty ↦ inl empty
+  | inr b ↦ inr (record { part = b.part; read = b.read; name = or_right (bytes_eq u.0 b.part.name) _ b.name })
+]
 parts_begin (u ∷ us) text ms are (inr (digits, rest, count, later, split, is, others, value)) =
     let read = part_of_complete digits u.0 rest count is (name_stops u.0 rest are.0) are.0.letters (parts_unlettered us rest later others) in
     inr (record { part = record { count = count; name = u.0; behind = rest }; read = rw split read; name = or_left _ (named u.0 us) (same_name u.0) })
@@ -143,9 +143,9 @@ parts_of_complete : (us : List (List ℕ × ℕ)) (total : ℕ) (text : List ℕ
 unfolding parts_of AreUnits
 parts_of_complete [] total text ms are h = rw (h.0, h.1, add-zero) refl
 parts_of_complete (u ∷ us) total text ms are (inl h) = elim (parts_begin us text ms are.2 h) [
-    | inl empty ↦ parts_of-none u us total text (ap part_of empty ∙ part_of-nil) ∙ parts_of_complete us total text ms are.2 h
-    | inr b ↦ parts_of-other u us total text b.part b.read (other b) ∙ parts_of_complete us total text ms are.2 h
-  ] where
+  | inl empty ↦ parts_of-none u us total text (ap part_of empty ∙ part_of-nil) ∙ parts_of_complete us total text ms are.2 h
+  | inr b ↦ parts_of-other u us total text b.part b.read (other b) ∙ parts_of_complete us total text ms are.2 h
+] where
   other : (b : BeginsNamed us text) → bytes_eq b.part.name u.0 ≡ false
   other b = go (bytes_eq b.part.name u.0) refl where
     go : (t : Bool) → bytes_eq b.part.name u.0 ≡ t → t ≡ false
@@ -169,6 +169,7 @@ parts_of_sound [] total text ms e =
 parts_of_sound (u ∷ us) total text ms e = go (part_of text) refl e (parts_of_sound us total text ms) (λ part. parts_of_sound us (total + part.count * u.1) part.behind ms) where
   skipped : Later us total text ms → Later (u ∷ us) total text ms
   skipped l = record { later = l.later; parts = inl l.parts; sum = l.sum }
+
   taken : (part : TimePart) → part_of text ≡ Some part → (part.name ≡ u.0) → Later us (total + part.count * u.1) part.behind ms → Later (u ∷ us) total text ms
   taken part read same l =
       let p = part_of_sound text part read in
@@ -179,6 +180,7 @@ parts_of_sound (u ∷ us) total text ms e = go (part_of text) refl e (parts_of_s
         parts = inr (p.digits, part.behind, part.count, l.later, split, p.count, l.parts, refl);
         sum = omega arith;
       }
+
   go : (o : Option TimePart) → part_of text ≡ o → (elim o as (λ _. Option ℕ) [ None ↦ parts_of us total text | Some part ↦ cond (bytes_eq part.name u.0) (parts_of us (total + part.count * u.1) part.behind) (parts_of us total text) ]) ≡ Some ms → (parts_of us total text ≡ Some ms → Later us total text ms) → ((part : TimePart) → parts_of us (total + part.count * u.1) part.behind ≡ Some ms → Later us (total + part.count * u.1) part.behind ms) → Later (u ∷ us) total text ms
   go None read found skip next = skipped (skip found)
   go (Some part) read found skip next = tested (bytes_eq part.name u.0) refl found where
@@ -200,16 +202,16 @@ unfolding duration_of
 duration_of_sound text ms e =
     and_then_some _ (part_of text) _ e λ part read kept. go part (part_of_sound text part read) (length part.name == 0) refl kept
   where
-  go : (part : TimePart) → IsPartOf text part → (b : Bool) → (length part.name == 0) ≡ b → cond b (Some (part.count * 1_000)) (parts_of units 0 text) ≡ Some ms → IsSeconds text ms ⊎ ((0 < length text) × IsParts units text ms)
-  go part p true test found =
-      let unnamed : part.name ≡ [] = nil_from_length part.name (eqb-true _ _ test) in
-      let all : part.name ++ part.behind ≡ [] = nothing_left (part.name ++ part.behind) p.stops (p.letters ∙ ap length unnamed) in
-      let same : text ≡ p.digits = p.spelled ∙ ap (λ t. p.digits ++ t) all ∙ append-nil p.digits in
-      inl (part.count, rw same p.count, sym (same_Some (part.count * 1_000) ms found))
-  go part p false test found =
-      let l = parts_of_sound units 0 text ms found in
-      let some : 0 < length text = omega (arith, ap length p.spelled, length-append p.digits (part.name ++ part.behind), p.count.0.0.0) in
-      inr (some, subst (IsParts units text) (sym (l.sum ∙ zero-add l.later)) l.parts)
+    go : (part : TimePart) → IsPartOf text part → (b : Bool) → (length part.name == 0) ≡ b → cond b (Some (part.count * 1_000)) (parts_of units 0 text) ≡ Some ms → IsSeconds text ms ⊎ ((0 < length text) × IsParts units text ms)
+    go part p true test found =
+        let unnamed : part.name ≡ [] = nil_from_length part.name (eqb-true _ _ test) in
+        let all : part.name ++ part.behind ≡ [] = nothing_left (part.name ++ part.behind) p.stops (p.letters ∙ ap length unnamed) in
+        let same : text ≡ p.digits = p.spelled ∙ ap (λ t. p.digits ++ t) all ∙ append-nil p.digits in
+        inl (part.count, rw same p.count, sym (same_Some (part.count * 1_000) ms found))
+    go part p false test found =
+        let l = parts_of_sound units 0 text ms found in
+        let some : 0 < length text = omega (arith, ap length p.spelled, length-append p.digits (part.name ++ part.behind), p.count.0.0.0) in
+        inr (some, subst (IsParts units text) (sym (l.sum ∙ zero-add l.later)) l.parts)
 
 duration_of_complete : (text : List ℕ) (ms : ℕ) → IsSeconds text ms ⊎ ((0 < length text) × IsParts units text ms) → duration_of text ≡ Some ms
 unfolding duration_of
@@ -217,9 +219,9 @@ duration_of_complete text ms (inl (seconds, is, value)) =
     let read = rw append-nil at (part_of_complete text [] [] seconds is (lit≤ tt) refl refl) in
     rw (read, value) refl
 duration_of_complete text ms (inr (some, parts)) = elim (parts_begin units text ms units_are parts) [
-    | inl empty ↦ absurd (omega (arith, ap length empty))
-    | inr b ↦ rw (b.read, other b) (parts_of_complete units 0 text ms units_are parts ∙ ap Some (zero-add ms))
-  ] where
+  | inl empty ↦ absurd (omega (arith, ap length empty))
+  | inr b ↦ rw (b.read, other b) (parts_of_complete units 0 text ms units_are parts ∙ ap Some (zero-add ms))
+] where
   other : (b : BeginsNamed units text) → (length b.part.name == 0) ≡ false
   other b = go (length b.part.name == 0) refl where
     go : (t : Bool) → (length b.part.name == 0) ≡ t → t ≡ false

@@ -34,11 +34,11 @@ part_of text = do
 unfoldable pub parts_of : List (List ℕ × ℕ) → ℕ → List ℕ → Option ℕ
 parts_of [] total text = if length text == 0 then Some total else None
 parts_of (unit ∷ units) total text = elim (part_of text) [
-    | None ↦ parts_of units total text
-    | Some part ↦
-        if bytes_eq part.name unit.0 then parts_of units (total + part.count * unit.1) part.behind
-        else parts_of units total text
-  ]
+  | None ↦ parts_of units total text
+  | Some part ↦
+      if bytes_eq part.name unit.0 then parts_of units (total + part.count * unit.1) part.behind
+      else parts_of units total text
+]
 
 -- seconds, or parts
 unfoldable pub duration_of : List ℕ → Option ℕ

@@ -6,6 +6,7 @@ use Rattle.std.specs.Net.Text.{ipv4_text, hex_groups_text}
 use Rattle.set_model.specs.declared.kind.Kind.{Kind}
 use Rattle.set_model.specs.declared.kind.Kind.TheVariants.{Ipv4, Ipv6, Ether, Proto, Service, Mark}
 use Rattle.set_model.specs.declared.kind.Interval.{Interval}
+use Rattle.addr_text.specs.declared.write_time.Count.{Count}
 use Rattle.addr_text.specs.Protocols.{protocol_name}
 
 -- so many digits of a number in a base, the most significant first
@@ -47,3 +48,7 @@ count_text c = if c.0 == 0 then [] else decimal c.0 ++ c.1
 -- a time: its units that aren't 0, and `0s` for no time
 unfoldable pub time_text : ℕ → List ℕ
 time_text ms = if ms == 0 then codes "0s" else flat_map count_text (counts ms)
+
+-- the counts that the program makes of a time, as counts and units
+abbrev pub count_views : List Count → List (ℕ × List ℕ)
+count_views cs = map (λ c. (c.count, c.unit.now)) cs

@@ -25,10 +25,22 @@ struct Unit {
 
 /// The units of times, the longest first.
 const UNITS: [Unit; 5] = [
-    Unit { name: b"d", ms: 86_400_000 },
-    Unit { name: b"h", ms: 3_600_000 },
-    Unit { name: b"m", ms: 60_000 },
-    Unit { name: b"s", ms: 1_000 },
+    Unit {
+        name: b"d",
+        ms: 86_400_000,
+    },
+    Unit {
+        name: b"h",
+        ms: 3_600_000,
+    },
+    Unit {
+        name: b"m",
+        ms: 60_000,
+    },
+    Unit {
+        name: b"s",
+        ms: 1_000,
+    },
     Unit { name: b"ms", ms: 1 },
 ];
 
@@ -45,7 +57,9 @@ fn letters_len(text: &[u8]) -> usize
     ensures value { result ≡ letters_len text.now }
     ensures within { result ≤ length text.now }
 {
-    text.iter().take_while(|byte| !char::from(**byte).is_digit(10)).count()
+    text.iter()
+        .take_while(|byte| !char::from(**byte).is_digit(10))
+        .count()
 }
 
 /// The first count of a text, with its unit.
@@ -126,7 +140,11 @@ fn parts(units: &[Unit], text: &[u8], first: Option<Part<'_>>) -> Option<u128>
     for unit in units {
         reading = read_unit(reading, unit);
     }
-    if reading.rest.is_empty() { Some(reading.total) } else { None }
+    if reading.rest.is_empty() {
+        Some(reading.total)
+    } else {
+        None
+    }
 }
 
 #[tactic(auto, unfolding(crate::specs::TimesRead::duration_of))]
@@ -145,7 +163,11 @@ fn parse_time(text: &[u8]) -> Option<u64>
     ensures { result ≡ time_of text.now }
 {
     let ms = duration(text)?;
-    if ms <= LONGEST_TIME { Some(ms as u64) } else { None }
+    if ms <= LONGEST_TIME {
+        Some(ms as u64)
+    } else {
+        None
+    }
 }
 
 /// The time that a text stands for, in milliseconds: a count of seconds, or days, hours, minutes,
@@ -166,11 +188,9 @@ pub fn read_time(text: &[u8]) -> Result<u64, BadValue>
 /// No text stands for two times.
 pub fn one_time_law(_text: &[u8])
     ensures { (m n : ℕ) → IsTime _text.now m → IsTime _text.now n → m ≡ n }
-{
-}
+{}
 
 /// The texts of which `time_of` is some number are those that stand for it.
 pub fn time_of_law(_text: &[u8])
     ensures { (n : ℕ) → IsTime _text.now n ↔ (time_of _text.now ≡ Some n) }
-{
-}
+{}
