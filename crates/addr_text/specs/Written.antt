@@ -1,12 +1,15 @@
 -- The text that is written of a value, an interval and a time.
-use Rattle.std.specs.Prelude.{ℕ, zero, suc, ◌/◌, ◌%◌, ◌^◌, List, [], ◌∷◌, ◌++◌, map, flat_map, codes, decimal, unwrap_or, ◌==◌, if◌then◌else◌}
+use Rattle.std.specs.Prelude.{◌-◌, ◌&&◌, Bool, true, false, ℕ, zero, suc, ◌/◌, ◌%◌, ◌^◌, List, [], ◌∷◌, ◌++◌, map, flat_map, codes, decimal, unwrap_or, ◌==◌, if◌then◌else◌}
 use Rattle.std.specs.Char.{digit_char}
+use Rattle.std.specs.Int.{w128, leading_zeros}
 use Rattle.std.specs.List.{join_with_byte}
 use Rattle.std.specs.Net.Text.{ipv4_text, hex_groups_text}
+use Rattle.set_model.specs.Kind.{bits_of}
 use Rattle.set_model.specs.declared.kind.Kind.{Kind}
 use Rattle.set_model.specs.declared.kind.Kind.TheVariants.{Ipv4, Ipv6, Ether, Proto, Service, Mark}
 use Rattle.set_model.specs.declared.kind.Interval.{Interval}
-use Rattle.addr_text.specs.declared.write_time.Count.{Count}
+use Rattle.addr_text.specs.declared.time_text.Count.{Count}
+use Rattle.addr_text.specs.Intervals.{block_of}
 use Rattle.addr_text.specs.Protocols.{protocol_name}
 
 -- so many digits of a number in a base, the most significant first
@@ -27,9 +30,38 @@ value_text Proto n = unwrap_or (protocol_name n) (decimal n)
 value_text Service n = decimal n
 value_text Mark n = codes "0x" ++ hex_text 8 n
 
+-- How many of the first bits a block of this many values less one leaves fixed.
+abbrev pub fixed_bits : ℕ → ℕ → ℕ
+fixed_bits bits spread = bits - (128 - leading_zeros w128 spread)
+
+-- The interval is a whole block of its kind's values (see the law of blocks for what that means).
+abbrev pub is_block : Kind → Interval → Bool
+is_block kind part =
+    let block = block_of (bits_of kind) (fixed_bits (bits_of kind) (part.high - part.low)) part.low in
+    (part.low == block.low) && (part.high == block.high)
+
+-- blocks of addresses alone are written as such
+abbrev pub is_address : Kind → Bool
+is_address Ipv4 = true
+is_address Ipv6 = true
+is_address Ether = false
+is_address Proto = false
+is_address Service = false
+is_address Mark = false
+
+-- a block by its low end and how many bits are fixed
+abbrev pub block_text : Kind → Interval → List ℕ
+block_text kind part = value_text kind part.low ++ (codes "/" ++ decimal (fixed_bits (bits_of kind) (part.high - part.low)))
+
 -- an interval by its two ends
 abbrev pub range_text : Kind → Interval → List ℕ
 range_text kind part = value_text kind part.low ++ (codes "-" ++ value_text kind part.high)
+
+-- An interval: one value, a block, or a range.
+unfoldable pub interval_text : Kind → Interval → List ℕ
+interval_text kind part =
+    if part.low == part.high then value_text kind part.low
+    else (if is_address kind && is_block kind part then block_text kind part else range_text kind part)
 
 -- each unit with how many of it a time has, hours below 24, minutes and seconds below 60, milliseconds below 1000
 abbrev pub counts : ℕ → List (ℕ × List ℕ)

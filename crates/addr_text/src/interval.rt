@@ -46,7 +46,7 @@ fn first_end(text: &[u8]) -> usize
 }
 
 /// The block of the values that share the first bits with a value.
-fn block(bits: u32, fixed: u32, value: u128) -> Interval
+pub(crate) fn block(bits: u32, fixed: u32, value: u128) -> Interval
     requires fixed { fixed ≤ bits }
     requires bits { bits ≤ 128 }
     requires fits { value < 2 ^ bits }

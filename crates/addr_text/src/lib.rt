@@ -3,15 +3,17 @@
 
 mod append;
 mod interval;
+mod interval_text;
 mod number;
 mod protocol;
 mod time;
+mod time_text;
 mod value;
-mod write;
-mod write_time;
+mod value_text;
 
 pub use interval::{interval_of_law, one_interval_law, read_interval};
+pub use interval_text::write_interval;
 pub use time::{one_time_law, read_time, time_of_law};
+pub use time_text::write_time;
 pub use value::{BadValue, one_value_law, read_value, value_bits_law, value_of_law};
-pub use write::write_value;
-pub use write_time::write_time;
+pub use value_text::write_value;
