@@ -8,3 +8,5 @@ pub mod PlainLaws
 pub mod IntervalLaws
 pub mod TimeLaws
 pub mod InlineLaws
+pub mod WrittenLaws
+pub mod BlockLaws

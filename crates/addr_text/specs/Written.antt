@@ -1,5 +1,5 @@
 -- The text that is written of a value, an interval and a time.
-use Rattle.std.specs.Prelude.{◌-◌, ◌&&◌, Bool, true, false, ℕ, zero, suc, ◌/◌, ◌%◌, ◌^◌, List, [], ◌∷◌, ◌++◌, map, flat_map, codes, decimal, unwrap_or, ◌==◌, if◌then◌else◌}
+use Rattle.std.specs.Prelude.{◌≡◌, ◌≤◌, ◌-◌, ◌&&◌, Bool, true, false, ℕ, zero, suc, ◌/◌, ◌%◌, ◌^◌, List, [], ◌∷◌, ◌++◌, map, flat_map, codes, decimal, unwrap_or, ◌==◌, if◌then◌else◌}
 use Rattle.std.specs.Char.{digit_char}
 use Rattle.std.specs.Int.{w128, leading_zeros}
 use Rattle.std.specs.List.{join_with_byte}
@@ -39,6 +39,10 @@ abbrev pub is_block : Kind → Interval → Bool
 is_block kind part =
     let block = block_of (bits_of kind) (fixed_bits (bits_of kind) (part.high - part.low)) part.low in
     (part.low == block.low) && (part.high == block.high)
+
+-- what a whole block is: the values that share the first bits with the low end
+abbrev pub IsBlock : Kind → Interval → Type 0
+IsBlock kind part = (fixed : ℕ) × (fixed ≤ bits_of kind) × (part ≡ block_of (bits_of kind) fixed part.low)
 
 -- blocks of addresses alone are written as such
 abbrev pub is_address : Kind → Bool

@@ -1,8 +1,8 @@
-ghost use Rattle.std.specs.Prelude.{ℕ, ◌≡◌, ◌++◌, ◌-◌, ◌≤◌, ◌<◌, ◌^◌, ◌==◌, ◌&&◌, OnOk, OnErr, IsTrue, decimal, codes};
+ghost use Rattle.std.specs.Prelude.{ℕ, ◌≡◌, ◌↔◌, ◌++◌, ◌-◌, ◌≤◌, ◌<◌, ◌^◌, ◌==◌, ◌&&◌, OnOk, OnErr, IsTrue, decimal, codes};
 ghost use Rattle.set_model.specs.Key.{is_value, is_good};
 ghost use Rattle.set_model.specs.Kind.{bits_of};
-ghost use Rattle.addr_text.specs.Intervals.{block_of};
-ghost use Rattle.addr_text.specs.Written.{fixed_bits, is_block, is_address, value_text, block_text, range_text, interval_text};
+ghost use Rattle.addr_text.specs.Intervals.{block_of, IsInterval};
+ghost use Rattle.addr_text.specs.Written.{fixed_bits, is_block, IsBlock, is_address, value_text, block_text, range_text, interval_text};
 
 use crate::append::{append, append_display, cut_at_error};
 use crate::interval::block;
@@ -101,3 +101,16 @@ pub fn write_interval(kind: Kind, part: Interval, out: &mut Vec<u8>) -> Result<(
         write_range(kind, part, out)
     }
 }
+
+/// The text that is written of an interval stands for it.
+pub fn written_interval_law(_kind: Kind, _part: Interval)
+    requires { IsTrue (is_good _kind _part) }
+    ensures { IsInterval _kind (interval_text _kind _part) _part }
+{}
+
+/// An interval passes for a block exactly where it is a whole block of values that share their first
+/// bits.
+pub fn block_law(_kind: Kind, _part: Interval)
+    requires { IsTrue (is_good _kind _part) }
+    ensures { IsTrue (is_block _kind _part) ↔ IsBlock _kind _part }
+{}

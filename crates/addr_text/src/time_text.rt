@@ -1,4 +1,5 @@
-ghost use Rattle.std.specs.Prelude.{ℕ, ◌≡◌, ◌++◌, ◌∷◌, [], ◌/◌, ◌%◌, OnOk, OnErr, decimal, flat_map};
+ghost use Rattle.std.specs.Prelude.{ℕ, ◌≡◌, ◌≤◌, ◌++◌, ◌∷◌, [], ◌/◌, ◌%◌, OnOk, OnErr, decimal, flat_map};
+ghost use Rattle.addr_text.specs.Times.{IsTime, longest_time};
 ghost use Rattle.addr_text.specs.Written.{counts, count_text, count_views, time_text};
 
 use crate::append::{append, append_display, cut_at_error};
@@ -84,3 +85,9 @@ pub fn write_time(ms: u64, out: &mut Vec<u8>) -> Result<(), Memory>
     ];
     write_counts(&counts, out)
 }
+
+/// The text that is written of a time stands for it, up to the longest time that is read.
+pub fn written_time_law(_ms: u64)
+    requires { _ms ≤ longest_time }
+    ensures { IsTime (time_text _ms) _ms }
+{}

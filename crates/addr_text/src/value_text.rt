@@ -5,6 +5,7 @@ ghost use Rattle.std.specs.Net.Text.{ipv4_text, hex_groups_text};
 ghost use Rattle.std.specs.Prelude.{map};
 ghost use Rattle.set_model.specs.Key.{is_value, is_good};
 ghost use Rattle.addr_text.specs.Protocols.{protocol_name};
+ghost use Rattle.addr_text.specs.Values.{IsValue};
 ghost use Rattle.addr_text.specs.Written.{places, hex_text, value_text};
 
 use crate::append::{append, append_display};
@@ -162,3 +163,9 @@ pub fn write_value(kind: Kind, value: u128, out: &mut Vec<u8>) -> Result<(), Mem
         Kind::Mark => write_mark(value as u64, out),
     }
 }
+
+/// The text that is written of a value stands for it.
+pub fn written_value_law(_kind: Kind, _value: u128)
+    requires { IsTrue (is_value _kind _value) }
+    ensures { IsValue _kind (value_text _kind _value) _value }
+{}
