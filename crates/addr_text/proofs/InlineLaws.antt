@@ -1,7 +1,7 @@
 -- What stands in a text of fixed room after a value was displayed there.
-use Rattle.std.proofs.Common.{◌≡◌, ℕ, List, [], ◌∷◌, ◌++◌, Option, Some, None, IfSome, OnOk, Result, Ok, Err, refl, sym, ap, ◌∙◌, append_assoc, append-nil}
+use Rattle.std.proofs.Common.{◌≡◌, ℕ, List, [], ◌∷◌, ◌++◌, Option, Some, None, IfSome, OnOk, Result, Ok, Err, sym, ap, ◌∙◌, append_assoc, append-nil}
 use Rattle.std.specs.List.{concat, FoldsTo}
-use Rattle.std.specs.Fmt.{WritesText, WritesInCalls}
+use Rattle.std.specs.Fmt.{WritesText}
 use Rattle.std.specs.Fmt.InlineText.{inline_text, IsIntact, AppendsIfIntact}
 use Rattle.std.specs.declared.fmt.InlineText.{InlineText}
 

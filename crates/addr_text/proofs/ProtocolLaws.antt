@@ -1,5 +1,5 @@
 -- The table of protocol names: no name or number stands in it twice, and a search finds what it holds.
-use Rattle.std.proofs.Common.{sym, ◌∙◌, ap, ◌≢◌, ◌<◌, inl, inr, codes, subst, lit<, length, ◌==◌, ◌⊎◌, ◌≡◌, ℕ, suc, Bool, true, false, cond, List, [], ◌∷◌, Some, option_map, map, bytes_eq, find, Contains, refl, arith}
+use Rattle.std.proofs.Common.{sym, ◌∙◌, ap, inl, inr, codes, subst, lit<, length, ◌==◌, ◌⊎◌, ◌≡◌, ℕ, suc, Bool, true, false, cond, List, [], ◌∷◌, Some, option_map, map, bytes_eq, find, Contains, refl, arith}
 use Rattle.std.proofs.lemmas.Bool.{eqb-true}
 use Rattle.std.proofs.lemmas.Option.{none-some, same_Some}
 use Rattle.std.proofs.lemmas.List.Elements.{All-from_recursion, All-contains}

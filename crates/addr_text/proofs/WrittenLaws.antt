@@ -1,30 +1,26 @@
 -- The text that is written of a value, an interval or a time stands for it.
-use Rattle.std.proofs.Common.{◌≡◌, ◌≢◌, ℕ, zero, suc, ◌+◌, ◌-◌, ◌*◌, ◌/◌, ◌%◌, ◌^◌, ◌<◌, ◌≤◌, ◌⊎◌, ◌==◌, nat_le, nat_lt, ◌&&◌, Bool, true, false, cond, List, [], ◌∷◌, ◌++◌, length, map, fold, flat_map, get_or, codes, decimal, find, option_map, unwrap_or, Option, Some, None, All, Contains, refl, sym, ap, ◌∙◌, subst, arith, inl, inr, lit≤, lit<, add-zero, zero-add, add-one, append-nil, append_assoc, lt-ltb, length-append, zero-mul}
+use Rattle.std.proofs.Common.{◌≡◌, ℕ, zero, suc, ◌+◌, ◌-◌, ◌*◌, ◌/◌, ◌%◌, ◌^◌, ◌<◌, ◌≤◌, ◌==◌, nat_le, ◌&&◌, Bool, true, false, cond, List, [], ◌∷◌, ◌++◌, length, map, fold, flat_map, get_or, codes, decimal, unwrap_or, Option, Some, None, All, refl, sym, ap, ◌∙◌, subst, arith, inl, inr, lit≤, lit<, zero-add, append_assoc, lt-ltb, length-append, zero-mul}
 use Rattle.std.proofs.Math.Nat.{pow-zero, pow-succ', one-le-pow, mod-eq_of_lt}
 use Rattle.std.proofs.Math.Arith.{mod-mul}
-use Rattle.std.proofs.lemmas.Bool.{eqb-true, eqb-false, leb-true, ltb-true, and_parts, cond_both}
-use Rattle.std.proofs.lemmas.Bool.Decides.{nat_tests}
-use Rattle.std.proofs.lemmas.Option.{none-some, same_Some}
+use Rattle.std.proofs.lemmas.Bool.{eqb-true, eqb-false, leb-true, ltb-true, and_parts}
 use Rattle.std.proofs.lemmas.List.{length-map}
 use Rattle.std.proofs.lemmas.List.Elements.{All-nil, All-cons}
 use Rattle.std.proofs.lemmas.Fmt.{decimal_is_IsNumeral, length-decimal-le}
 use Rattle.std.proofs.lemmas.Str.{digit_value-digit_char}
-use Rattle.std.specs.Char.{digit_value, digit_char}
-use Rattle.std.specs.List.{join_with_byte}
-use Rattle.std.specs.Str.Parse.{AllDigits, IsNumeral, digits_value, digits_value_after}
+use Rattle.std.specs.Char.{digit_char}
+use Rattle.std.specs.Str.Parse.{AllDigits, digits_value, digits_value_after}
 use Rattle.std.specs.Net.Grammar.{IsNumber}
-use Rattle.std.specs.Net.Text.{ipv4_text, hex_groups_text}
 use Rattle.std.proofs.NetLemmas.Texts.{IsDotted-ipv4_text, IsColonHex-hex_groups_text}
 use Rattle.set_model.specs.Key.{is_value, is_good}
 use Rattle.set_model.specs.Kind.{bits_of}
 use Rattle.set_model.specs.declared.kind.Kind.{Kind}
 use Rattle.set_model.specs.declared.kind.Kind.TheVariants.{Ipv4, Ipv6, Ether, Proto, Service, Mark}
 use Rattle.set_model.specs.declared.kind.Interval.{Interval}
-use Rattle.addr_text.specs.Numbers.{big_endian, IsNumberUpTo, IsHexUpTo}
+use Rattle.addr_text.specs.Numbers.{big_endian}
 use Rattle.addr_text.specs.Protocols.{protocols, protocol_name}
 use Rattle.addr_text.proofs.ProtocolLaws.{name_found}
-use Rattle.addr_text.specs.Values.{IsIpv4, IsIpv6, IsEther, IsHexMark, IsOctet, IsValue}
-use Rattle.addr_text.specs.Intervals.{block_of, IsPoint, IsPrefix, IsRange, IsInterval}
+use Rattle.addr_text.specs.Values.{IsOctet, IsValue}
+use Rattle.addr_text.specs.Intervals.{block_of, IsPrefix, IsRange, IsInterval}
 use Rattle.addr_text.specs.Times.{units, longest_time, IsCount, IsParts, IsTime}
 use Rattle.addr_text.specs.Written.{places, hex_text, value_text, fixed_bits, is_block, is_address, block_text, range_text, interval_text, counts, count_text, time_text}
 
