@@ -4,3 +4,9 @@ pub mod EtherLaws
 pub mod ValueLaws
 pub mod AddressLaws
 pub mod FitLaws
+pub mod PlainLaws
+pub mod IntervalLaws
+pub mod TimeLaws
+pub mod InlineLaws
+pub mod WrittenLaws
+pub mod BlockLaws

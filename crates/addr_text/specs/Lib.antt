@@ -2,3 +2,9 @@ pub mod Numbers
 pub mod Protocols
 pub mod Values
 pub mod ValuesRead
+pub mod Intervals
+pub mod IntervalsRead
+pub mod Times
+pub mod TimesRead
+pub mod TimesView
+pub mod Written

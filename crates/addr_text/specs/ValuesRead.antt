@@ -9,7 +9,7 @@ use Rattle.addr_text.specs.Numbers.{big_endian}
 use Rattle.addr_text.specs.Protocols.{protocol_number}
 
 infixl 10 ◌>>=◌
-abbrev ◌>>=◌ : {A B : Type 0} → Option A → (A → Option B) → Option B
+abbrev pub ◌>>=◌ : {A B : Type 0} → Option A → (A → Option B) → Option B
 o >>= f = option_and_then f o
 
 -- the number of at most `most` that the whole text writes

@@ -1,6 +1,6 @@
-ghost use Rattle.std.specs.Prelude.{◌≡◌, ◌==◌, option_map, map, find, bytes_eq};
+ghost use Rattle.std.specs.Prelude.{ℕ, List, Some, codes, ◌⊎◌, ◌≢◌, ◌≡◌, ◌==◌, option_map, map, find, bytes_eq};
 ghost use Rattle.std.specs.Option.{option_copied};
-ghost use Rattle.addr_text.specs.Protocols.{number_in, protocol_number, protocol_name};
+ghost use Rattle.addr_text.specs.Protocols.{IsProtocolName, number_in, protocol_number, protocol_name};
 
 /// A protocol over IP that has a name.
 #[derive(Clone, Copy)]
@@ -95,3 +95,12 @@ pub(crate) fn protocol_name(number: u8) -> Option<&'static [u8]>
 {
     name_in(&PROTOCOLS, number)
 }
+
+/// No name stands for two protocols, and no protocol has two names but `ipv6-icmp`, whose second name
+/// `icmpv6` is never written.
+pub fn protocol_names_law()
+    ensures names { (name : List ℕ) → (m n : ℕ) → IsProtocolName name m → IsProtocolName name n → m ≡ n }
+    ensures numbers { (name other : List ℕ) → (n : ℕ) → IsProtocolName name n → IsProtocolName other n
+        → (name ≡ other) ⊎ ((name ≡ codes "icmpv6") ⊎ (other ≡ codes "icmpv6")) }
+    ensures written { (n : ℕ) → protocol_name n ≢ Some (codes "icmpv6") }
+{}

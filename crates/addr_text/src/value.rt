@@ -139,8 +139,9 @@ fn read_protocol(text: &[u8]) -> Option<u64>
     }
 }
 
+/// The value of a kind that a text stands for, where it stands for one.
 #[tactic(auto, unfolding(crate::specs::ValuesRead::value_of))]
-fn value(kind: Kind, text: &[u8]) -> Option<u128>
+pub(crate) fn parse_value(kind: Kind, text: &[u8]) -> Option<u128>
     ensures { result ≡ value_of kind text.now }
 {
     match kind {
@@ -165,7 +166,7 @@ pub fn read_value(kind: Kind, text: &[u8]) -> Result<u128, BadValue>
     ensures value { result ≡ ok_or (value_of kind text.now) bad_value }
     ensures fits { IfOk result (λ n. IsTrue (is_value kind n)) }
 {
-    value(kind, text).ok_or(BadValue)
+    parse_value(kind, text).ok_or(BadValue)
 }
 
 /// No text stands for two values of a kind.

@@ -1,0 +1,53 @@
+-- The time of a text, computed.
+use Rattle.std.specs.Prelude.{ℕ, ◌+◌, ◌*◌, Bool, not, List, [], ◌∷◌, length, take, drop, Option, Some, None, bytes_eq, ◌==◌, nat_lt, nat_le, if◌then◌else◌}
+use Rattle.std.specs.List.{prefix_len}
+use Rattle.std.specs.Char.{is_digit}
+use Rattle.std.specs.Net.Reader.{read_number}
+use Rattle.addr_text.specs.Times.{units, longest_time}
+use Rattle.addr_text.specs.ValuesRead.{◌>>=◌}
+
+-- a byte that is no decimal digit
+abbrev pub is_letter : ℕ → Bool
+is_letter byte = not (is_digit byte 10)
+
+-- how many bytes there are before the first digit
+abbrev pub letters_len : List ℕ → ℕ
+letters_len text = prefix_len is_letter text
+
+-- a count, what stands between it and the next digit, and the text from there on
+pub record TimePart : Type 0 where
+  pub count : ℕ
+  pub name : List ℕ
+  pub behind : List ℕ
+
+-- a count, with its unit from the text behind it
+abbrev pub part_with : ℕ → List ℕ → TimePart
+part_with count text = record { count = count; name = take (letters_len text) text; behind = drop (letters_len text) text }
+
+-- the first count of a text, with its unit
+unfoldable pub part_of : List ℕ → Option TimePart
+part_of text = do
+  n ← read_number 10 999_999_999_999_999 text
+  if nat_lt 15 n.1 then None else Some (part_with n.0 (drop n.1 text))
+
+-- the parts of these units, with those before them
+unfoldable pub parts_of : List (List ℕ × ℕ) → ℕ → List ℕ → Option ℕ
+parts_of [] total text = if length text == 0 then Some total else None
+parts_of (unit ∷ units) total text = elim (part_of text) [
+  | None ↦ parts_of units total text
+  | Some part ↦
+      if bytes_eq part.name unit.0 then parts_of units (total + part.count * unit.1) part.behind
+      else parts_of units total text
+]
+
+-- seconds, or parts
+unfoldable pub duration_of : List ℕ → Option ℕ
+duration_of text = do
+  part ← part_of text
+  if length part.name == 0 then Some (part.count * 1_000) else parts_of units 0 text
+
+-- the time that the text stands for
+unfoldable pub time_of : List ℕ → Option ℕ
+time_of text = do
+  ms ← duration_of text
+  if nat_le ms longest_time then Some ms else None
