@@ -38,7 +38,7 @@ tokens-first line place [] p e some nonzero within = absurd (omega arith)
 tokens-first line place (b ∷ bytes) p e some nonzero within = rw (← e) (go p.size refl nonzero within) where
   go : (n : ℕ) → p.size ≡ n → 0 < n → n ≤ length (b ∷ bytes)
       → with_piece p line place (b ∷ bytes) (tokens_from (p.size - 1) (line_behind b line) (place + 1) bytes)
-        ≡ with_piece p line place (b ∷ bytes) (tokens_from 0 (line + count_by is_line_feed (take p.size (b ∷ bytes))) (place + p.size) (drop p.size (b ∷ bytes)))
+      ≡ with_piece p line place (b ∷ bytes) (tokens_from 0 (line + count_by is_line_feed (take p.size (b ∷ bytes))) (place + p.size) (drop p.size (b ∷ bytes)))
   go zero h z w = absurd (omega arith)
   go (suc n) h z w =
       let less : suc n - 1 ≡ n = omega arith in

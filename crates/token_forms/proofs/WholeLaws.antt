@@ -118,9 +118,10 @@ text_answer {A} {body} {more} {r} law apart ts ends = go (r ts) (law.meets ts) w
       → elim b as (λ _. Type 0) [ true ↦ (text_of body).whole ts a × ((b : A) → (text_of body).whole ts b → a ≡ b) | false ↦ IsFault (text_of body) ts t.line (reason_of t []) ]
   read_to a t rest m true i =
       let same = same_cut ends.others m.x ends.last t rest ends.inner (law.inner m.x (law.whole_front m.x a m.whole)) ends.is_end i (sym ends.split ∙ m.split) in
-      let e : ts ≡ m.x ++ t ∷ [] = m.split ∙ ap (λ z. m.x ++ t ∷ z) same.2 in
-      (subst (λ z. (text_of body).whole z a) (sym e) (text_whole body m.x t a i m.whole),
-      λ b w. (m.only b ends.others (ends.last ∷ []) ends.split (before_end b w) (stops_end b)).0)
+      let e : ts ≡ m.x ++ t ∷ [] = m.split ∙ ap (λ z. m.x ++ t ∷ z) same.2 in (
+        subst (λ z. (text_of body).whole z a) (sym e) (text_whole body m.x t a i m.whole),
+        λ b w. (m.only b ends.others (ends.last ∷ []) ends.split (before_end b w) (stops_end b)).0,
+      )
   read_to a t rest m false i = fault t [] rest m.x m.split (law.whole_front m.x a m.whole) further none (λ w. record { found = λ q k. absurd k; all = λ q k. absurd (m.quiet w q k) }) where
     none : (b : A) → (text_of body).whole ts b → ⊥
     none b w =
