@@ -17,10 +17,11 @@ use Rattle.token_forms.proofs.WordLaws.{any_word, word_is_reads, word_reads, wor
 use Rattle.token_forms.proofs.KindLaws.{word_no_break, end_no_break_line}
 use Rattle.token_forms.proofs.WholeLaws.{Ends, text_answer}
 use Rattle.token_forms.proofs.EndsLaw.{text_ends}
-use Rattle.token_forms.proofs.AnswerLaws.{TextGives, text_gives}
+use Rattle.token_forms.proofs.AnswerLaws.{TextGives, text_gives, text_single}
 use Rattle.set_script.proofs.ValueDecides.{value_decides}
 use Rattle.set_script.proofs.ScriptLaws.{table_place_reads, table_place_begins, used_set_reads}
 use Rattle.key_file.specs.Keys as form
+use Rattle.key_file.specs.KeysText.{IsKeysText}
 use Rattle.key_file.specs.KeysReading as reading
 
 value_reads : (kind : Kind) → Reads (form.value kind) never (reading.value kind)
@@ -78,6 +79,10 @@ schema_gives schema text ts r new e g =
 pub keys_gives : (schema given : List SetDecl) (text : List ℕ) (ts : List Lexeme) (r : Result (List (List Packet)) ReadError) (new : List Lexeme) → given ≡ schema → ts ≡ text_tokens text → Gives (λ x. x) r new (reading.key_file given ts)
     → TextGives (form.body schema) (text_tokens text) (λ x. x) r
 keys_gives schema given text ts r new same e g = schema_gives schema text ts r new e (subst (λ (z : List SetDecl). Gives (λ x. x) r new (reading.key_file z ts)) same g)
+
+pub keys_single : (schema : List SetDecl) (text : List ℕ) (keys other : List (List Packet)) → IsKeysText schema text keys → IsKeysText schema text other → keys ≡ other
+unfolding IsKeysText
+keys_single schema text keys other w v = text_single (body_reads schema) (λ _. end_no_break_line) (text_tokens text) (text_ends text) keys other w v
 
 -- a line takes a token
 pub line_shorter : {X : Type 0} (schema : List SetDecl) (packets : List Packet) (next : Bool) (view : X → List Packet × Bool) (result : Result X ReadError) (old new : List Lexeme)
