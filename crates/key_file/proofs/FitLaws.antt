@@ -1,5 +1,5 @@
 -- The packets of a key file fit the declared sets.
-use Rattle.std.proofs.Common.{◌≡◌, refl, sym, ◌∙◌, ap, subst, ℕ, suc, ◌^◌, List, [], ◌∷◌, ◌++◌, length, Bool, true, Option, Some, None, slice_get, nat_lt, append_assoc, append-nil}
+use Rattle.std.proofs.Common.{◌≡◌, refl, sym, ◌∙◌, ap, subst, ℕ, suc, ◌^◌, List, [], ◌∷◌, ◌++◌, length, true, Option, Some, None, slice_get, append_assoc, append-nil}
 use Rattle.std.specs.List.{All}
 use Rattle.std.proofs.lemmas.Bool.{lt-ltb, eq-eqb}
 use Rattle.std.proofs.lemmas.List.Elements.{All-nil, All-push}
@@ -7,7 +7,7 @@ use Rattle.set_model.specs.declared.kind.Kind.{Kind}
 use Rattle.set_model.specs.declared.script.SetDecl.{SetDecl}
 use Rattle.set_model.specs.declared.packet.Packet.{Packet}
 use Rattle.set_model.specs.Kind.{bits_of}
-use Rattle.set_model.specs.Key.{is_value, values_fit, key_fits}
+use Rattle.set_model.specs.Key.{is_value, values_fit}
 use Rattle.addr_text.specs.Values.{IsValue}
 use Rattle.addr_text.proofs.FitLaws.{IsValue-fits}
 use Rattle.token_forms.specs.Token.{Lexeme}

@@ -3,8 +3,6 @@ use Rattle.std.proofs.Common.{◌≡◌, refl, sym, subst, ℕ, ◌<◌, List, [
 use Rattle.set_model.specs.declared.kind.Kind.{Kind}
 use Rattle.set_model.specs.declared.script.SetDecl.{SetDecl}
 use Rattle.set_model.specs.declared.packet.Packet.{Packet}
-use Rattle.addr_text.specs.Values.{IsValue}
-use Rattle.addr_text.specs.ValuesRead.{value_of}
 use Rattle.token_forms.specs.declared.token.Reason.TheVariants as reasons
 use Rattle.token_forms.specs.declared.error.ReadError.{ReadError}
 use Rattle.token_forms.specs.Token.{Lexeme}
@@ -13,7 +11,7 @@ use Rattle.token_forms.specs.Gives.{Gives}
 use Rattle.token_forms.specs.TextTokens.{text_tokens}
 use Rattle.token_forms.proofs.FormLaws.{Reads, Begins, never, bind_definite, bind_begins, done_reads, nowhere_reads, reads_shorter}
 use Rattle.token_forms.proofs.ManyLaw.{many_reads}
-use Rattle.token_forms.proofs.WordLaws.{any_word, word_is_reads, word_reads, word_begins, breaks_no_end, bind_done_same, AreStatements, are_lines, line_more, line_laws, line_begins}
+use Rattle.token_forms.proofs.WordLaws.{any_word, word_is_reads, word_reads, breaks_no_end, bind_done_same, AreStatements, are_lines, line_more, line_laws, line_begins}
 use Rattle.token_forms.proofs.KindLaws.{word_no_break, end_no_break_line}
 use Rattle.token_forms.proofs.WholeLaws.{Ends, text_answer}
 use Rattle.token_forms.proofs.EndsLaw.{text_ends}

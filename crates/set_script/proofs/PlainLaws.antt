@@ -1,29 +1,26 @@
 -- A text stands for plain scripts alone.
-use Rattle.std.proofs.Common.{◌≡◌, refl, sym, ◌∙◌, ap, subst, ℕ, suc, ◌+◌, ◌≤◌, ◌<◌, ◌^◌, List, [], ◌∷◌, ◌++◌, length, Bool, true, false, ◌&&◌, Option, Some, None, slice_get, position, nat_lt, nat_le, arith, length-append, append_assoc, append-nil, bytes_eq, codes, cond}
-use Rattle.std.specs.List.{All, list_all, zip}
+use Rattle.std.proofs.Common.{◌≡◌, refl, sym, ◌∙◌, ap, subst, ℕ, suc, ◌≤◌, ◌<◌, ◌^◌, List, [], ◌∷◌, ◌++◌, length, Bool, true, false, ◌&&◌, Option, Some, None, slice_get, nat_lt, nat_le, arith, length-append, append_assoc, append-nil, bytes_eq, codes, cond}
+use Rattle.std.specs.List.{All}
 use Rattle.std.proofs.lemmas.Bool.{ltb-true, lt-ltb, le-leb, eq-eqb}
 use Rattle.std.proofs.lemmas.List.Elements.{All-nil, All-cons, All-push}
 use Rattle.std.proofs.lemmas.Option.{slice_get_within, get_or_from_slice_get}
-use Rattle.std.proofs.lemmas.List.Quantifiers.{position-Some}
 use Rattle.set_model.specs.declared.kind.Kind.{Kind}
 use Rattle.set_model.specs.declared.kind.Interval.{Interval}
 use Rattle.set_model.specs.declared.script.Family.{Family}
 use Rattle.set_model.specs.declared.script.SetDecl.{SetDecl}
-use Rattle.set_model.specs.declared.script.Step.{Step}
 use Rattle.set_model.specs.declared.script.Script.{Script}
 use Rattle.set_model.specs.Kind.{bits_of}
-use Rattle.set_model.specs.Key.{is_good, intervals_fit, parts_fit}
+use Rattle.set_model.specs.Key.{is_good, intervals_fit}
 use Rattle.addr_text.proofs.FitLaws.{IsValue-fits}
 use Rattle.token_forms.specs.Token.{Lexeme}
-use Rattle.token_forms.specs.TextTokens.{text_tokens}
 use Rattle.token_forms.specs.Words.{is_name, separates}
 use Rattle.token_forms.proofs.KeepLaws.{lines_keep, word_given}
 use Rattle.token_forms.proofs.WordLaws.{both}
 use Rattle.set_script.specs.declared.words.AddWord.{AddWord}
 use Rattle.set_script.specs.declared.words.AddWord.TheVariants as adds
 use Rattle.set_script.specs.Values.{IsSingle}
-use Rattle.set_script.specs.Names.{add_of, set_place, is_set, new_name}
-use Rattle.set_script.specs.Changes.{Draft, empty, most_sets, most_changes, declaration, declared, addition, with_addition, finished}
+use Rattle.set_script.specs.Names.{add_of, new_name}
+use Rattle.set_script.specs.Changes.{Draft, empty, most_sets, most_changes, declaration, declared, addition, with_addition}
 use Rattle.set_script.specs.Script as form
 use Rattle.set_script.specs.ScriptText.{IsScriptText}
 use Rattle.set_script.specs.Plain.{plain_kinds, IsPlainSet, IsPlainAddition, IsPlainScript}

@@ -1,5 +1,5 @@
 -- Only gaps and breaks hold line feeds.
-use Rattle.std.proofs.Common.{◌≡◌, refl, sym, ◌∙◌, ap, subst, ℕ, zero, suc, ◌+◌, ◌<◌, ◌≤◌, ◌&&◌, ◌||◌, ◌==◌, not, nat_le, List, [], ◌∷◌, length, take, Bool, true, false, Option, Some, None, cond, count_by, get_or, slice_get, arith}
+use Rattle.std.proofs.Common.{◌≡◌, refl, sym, ◌∙◌, ap, subst, ℕ, suc, ◌+◌, ◌<◌, ◌&&◌, ◌==◌, nat_le, List, [], ◌∷◌, length, take, Bool, true, false, Option, Some, None, cond, count_by, get_or, slice_get, arith}
 use Rattle.std.specs.List.{prefix_len}
 use Rattle.std.proofs.lemmas.Bool.Decides.{nat_tests}
 use Rattle.std.proofs.lemmas.List.Sums.{sum_by-cons, count_by_more_no}

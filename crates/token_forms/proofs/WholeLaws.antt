@@ -1,16 +1,13 @@
 -- A text is read whole exactly where it is in the form; else reading stops at the bad token.
-use Rattle.std.proofs.Common.{◌≡◌, ◌⊎◌, inl, inr, refl, sym, ◌∙◌, ap, subst, ℕ, List, [], ◌∷◌, ◌++◌, length, append-nil, append_assoc, arith, Bool, true, false, ◌≤◌, ◌<◌, length-append}
-use Rattle.token_forms.specs.declared.token.TokenKind.TheVariants as kinds
+use Rattle.std.proofs.Common.{◌≡◌, ◌⊎◌, inl, inr, refl, sym, ◌∙◌, ap, subst, List, [], ◌∷◌, ◌++◌, length, append-nil, append_assoc, arith, Bool, true, false, ◌<◌}
 use Rattle.token_forms.specs.declared.token.Reason.{Reason}
-use Rattle.token_forms.specs.declared.token.Reason.TheVariants as reasons
 use Rattle.token_forms.specs.Token.{Lexeme, is_word, is_end}
-use Rattle.token_forms.specs.Form.{Form, done, IsIn, ◌>>=◌}
+use Rattle.token_forms.specs.Form.{Form, done, ◌>>=◌}
 use Rattle.token_forms.specs.Words.{the_end}
 use Rattle.token_forms.specs.Reading.{Outcome, Read, Short, Bad}
 use Rattle.token_forms.specs.Reasons.{reason_of}
-use Rattle.token_forms.specs.Faults.{IsFault, IsBad}
-use Rattle.token_forms.proofs.FormLaws.{Reads, Meets, ReadsTo, IsBadAt, FallsShort, Stops, NoEnd, WordFirst, AsksFor, no_end_append}
-use Rattle.token_forms.proofs.WordLaws.{end_kind}
+use Rattle.token_forms.specs.Faults.{IsFault}
+use Rattle.token_forms.proofs.FormLaws.{Reads, Meets, ReadsTo, Stops, NoEnd, AsksFor}
 use Rattle.token_forms.proofs.ReasonLaws.{reason_is}
 
 -- the end is the last token of a text, and no other

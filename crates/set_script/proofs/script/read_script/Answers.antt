@@ -1,6 +1,5 @@
-use Rattle.std.proofs.Common.{◌≡◌, ap, Err, ◌∙◌}
+use Rattle.std.proofs.Common.{◌≡◌, ap, Err}
 use Rattle.token_forms.specs.Gives.{placeless}
-use Rattle.token_forms.specs.declared.error.ReadError.{ReadError}
 use Rattle.token_forms.specs.declared.error.ReadError.TheVariants.{Bad}
 use Rattle.token_forms.proofs.AnswerLaws.{of_placeless}
 use Rattle.set_script.specs.ScriptText.{IsScriptText}
