@@ -1,5 +1,5 @@
 -- The packets of a key file fit the declared sets.
-use Rattle.std.proofs.Common.{◌≡◌, refl, sym, ◌∙◌, ap, subst, ℕ, suc, ◌^◌, List, [], ◌∷◌, ◌++◌, length, Bool, true, Option, Some, None, slice_get, nat_lt, append_assoc, append-nil}
+use Rattle.std.proofs.Common.{◌≡◌, refl, sym, ◌∙◌, ap, subst, ℕ, suc, ◌^◌, List, [], ◌∷◌, ◌++◌, length, true, Option, Some, None, slice_get, append_assoc, append-nil}
 use Rattle.std.specs.List.{All}
 use Rattle.std.proofs.lemmas.Bool.{lt-ltb, eq-eqb}
 use Rattle.std.proofs.lemmas.List.Elements.{All-nil, All-push}
@@ -7,7 +7,7 @@ use Rattle.set_model.specs.declared.kind.Kind.{Kind}
 use Rattle.set_model.specs.declared.script.SetDecl.{SetDecl}
 use Rattle.set_model.specs.declared.packet.Packet.{Packet}
 use Rattle.set_model.specs.Kind.{bits_of}
-use Rattle.set_model.specs.Key.{is_value, values_fit, key_fits}
+use Rattle.set_model.specs.Key.{is_value, values_fit}
 use Rattle.addr_text.specs.Values.{IsValue}
 use Rattle.addr_text.proofs.FitLaws.{IsValue-fits}
 use Rattle.token_forms.specs.Token.{Lexeme}
@@ -52,6 +52,7 @@ packet_keeps schema packets after x all (p, x1, y1, e1, w1, (i, x2, y2, e2, w2, 
       subst (λ (z : List Packet). All (IsFitting schema) z) h.1 (All-push (IsFitting schema) packets (record { set = i; key = key; now = 0 }) all (record { set = s; declared = e; fits = rw same_length fit; now = refl }))
 
 pub keys_are_plain : (schema : List SetDecl) (text : List ℕ) (keys : List (List Packet)) → IsKeysText schema text keys → IsPlainKeys schema keys
+unfolding IsKeysText
 keys_are_plain schema text keys (read, x, y, e, (s, x1, y1, e1, w, h), (u, x2, y2, e2, w2, h2)) =
     let k = lines_keep breaks_off (form.packet schema) (All (IsFitting schema)) (packet_keeps schema) ([], true) s x1 (All-nil (IsFitting schema)) w in
     subst (IsPlainKeys schema) (h.1 ∙ h2.1) (record { packets = s.0; section = refl; each = k })

@@ -3,8 +3,6 @@ use Rattle.std.proofs.Common.{◌≡◌, refl, sym, subst, ℕ, ◌<◌, List, [
 use Rattle.set_model.specs.declared.kind.Kind.{Kind}
 use Rattle.set_model.specs.declared.script.SetDecl.{SetDecl}
 use Rattle.set_model.specs.declared.packet.Packet.{Packet}
-use Rattle.addr_text.specs.Values.{IsValue}
-use Rattle.addr_text.specs.ValuesRead.{value_of}
 use Rattle.token_forms.specs.declared.token.Reason.TheVariants as reasons
 use Rattle.token_forms.specs.declared.error.ReadError.{ReadError}
 use Rattle.token_forms.specs.Token.{Lexeme}
@@ -13,14 +11,15 @@ use Rattle.token_forms.specs.Gives.{Gives}
 use Rattle.token_forms.specs.TextTokens.{text_tokens}
 use Rattle.token_forms.proofs.FormLaws.{Reads, Begins, never, bind_definite, bind_begins, done_reads, nowhere_reads, reads_shorter}
 use Rattle.token_forms.proofs.ManyLaw.{many_reads}
-use Rattle.token_forms.proofs.WordLaws.{any_word, word_is_reads, word_reads, word_begins, breaks_no_end, bind_done_same, AreStatements, are_lines, line_more, line_laws, line_begins}
+use Rattle.token_forms.proofs.WordLaws.{any_word, word_is_reads, word_reads, breaks_no_end, bind_done_same, AreStatements, are_lines, line_more, line_laws, line_begins}
 use Rattle.token_forms.proofs.KindLaws.{word_no_break, end_no_break_line}
 use Rattle.token_forms.proofs.WholeLaws.{Ends, text_answer}
 use Rattle.token_forms.proofs.EndsLaw.{text_ends}
-use Rattle.token_forms.proofs.AnswerLaws.{TextGives, text_gives}
+use Rattle.token_forms.proofs.AnswerLaws.{TextGives, text_gives, text_single}
 use Rattle.set_script.proofs.ValueDecides.{value_decides}
 use Rattle.set_script.proofs.ScriptLaws.{table_place_reads, table_place_begins, used_set_reads}
 use Rattle.key_file.specs.Keys as form
+use Rattle.key_file.specs.KeysText.{IsKeysText}
 use Rattle.key_file.specs.KeysReading as reading
 
 value_reads : (kind : Kind) → Reads (form.value kind) never (reading.value kind)
@@ -78,6 +77,10 @@ schema_gives schema text ts r new e g =
 pub keys_gives : (schema given : List SetDecl) (text : List ℕ) (ts : List Lexeme) (r : Result (List (List Packet)) ReadError) (new : List Lexeme) → given ≡ schema → ts ≡ text_tokens text → Gives (λ x. x) r new (reading.key_file given ts)
     → TextGives (form.body schema) (text_tokens text) (λ x. x) r
 keys_gives schema given text ts r new same e g = schema_gives schema text ts r new e (subst (λ (z : List SetDecl). Gives (λ x. x) r new (reading.key_file z ts)) same g)
+
+pub keys_single : (schema : List SetDecl) (text : List ℕ) (keys other : List (List Packet)) → IsKeysText schema text keys → IsKeysText schema text other → keys ≡ other
+unfolding IsKeysText
+keys_single schema text keys other w v = text_single (body_reads schema) (λ _. end_no_break_line) (text_tokens text) (text_ends text) keys other w v
 
 -- a line takes a token
 pub line_shorter : {X : Type 0} (schema : List SetDecl) (packets : List Packet) (next : Bool) (view : X → List Packet × Bool) (result : Result X ReadError) (old new : List Lexeme)

@@ -7,5 +7,5 @@ use Rattle.key_file.specs.Keys.{key_file}
 
 -- The text is a key file for the sets of this schema, and these are its packets, section by section. The first section
 -- is section 1, and it is there also where it has no packet. A text stands for one key file at most.
-abbrev pub IsKeysText : List SetDecl → List ℕ → List (List Packet) → Type 0
+unfoldable pub IsKeysText : List SetDecl → List ℕ → List (List Packet) → Type 0
 IsKeysText schema text keys = (key_file schema).whole (text_tokens text) keys

@@ -67,7 +67,11 @@ fn starts_a_line(t: &Seen, next: bool) -> bool
 }
 
 /// The packets, as far as they go, and whether one more may come next.
-fn packets(reader: &mut Reader, alloc: Global, schema: &[SetDecl]) -> Result<(Packets, bool), ReadError>
+fn packets(
+    reader: &mut Reader,
+    alloc: Global,
+    schema: &[SetDecl],
+) -> Result<(Packets, bool), ReadError>
     ensures { Gives (λ x. (x.0, x.1)) result reader.new (reading.packets schema.now reader.old) }
 {
     let mut packets = Listed::new(alloc);
@@ -138,3 +142,8 @@ pub fn read_keys(alloc: Global, schema: &Schema, text: &[u8]) -> Result<Keys, Ke
         Err(e) => Err(e.without_place()),
     }
 }
+
+/// A text stands for one key file at most.
+pub fn one_key_file_law(_schema: &Schema, _text: &[u8])
+    ensures { (keys other : List (List Packet)) → IsKeysText _schema.now _text.now keys → IsKeysText _schema.now _text.now other → keys ≡ other }
+{}

@@ -3,6 +3,8 @@
 
 mod keys;
 mod packets;
+#[cfg(test)]
+mod tests;
 
-pub use keys::{KeyError, read_keys};
+pub use keys::{KeyError, one_key_file_law, read_keys};
 pub use token_forms::Reason;

@@ -39,7 +39,12 @@ fn more_values(reader: &mut Reader, kinds: &[Kind], key: &mut Key) -> Result<(),
 }
 
 #[tactic(auto, using(token_forms::proofs::Refusals::refusals))]
-fn some_values(reader: &mut Reader, alloc: Global, kind: Kind, others: &[Kind]) -> Result<Key, ReadError>
+fn some_values(
+    reader: &mut Reader,
+    alloc: Global,
+    kind: Kind,
+    others: &[Kind],
+) -> Result<Key, ReadError>
     ensures { Gives (λ x. x) result reader.new (reading.some_values kind others.now reader.old) }
 {
     let first = value(reader, kind)?;
@@ -97,7 +102,12 @@ fn packet_at(
 
 /// One more packet.
 #[tactic(auto, using(token_forms::proofs::Refusals::refusals), unfolding(crate::specs::KeysReading::packet))]
-pub fn packet(reader: &mut Reader, alloc: Global, schema: &[SetDecl], packets: &mut Packets) -> Result<(), ReadError>
+pub fn packet(
+    reader: &mut Reader,
+    alloc: Global,
+    schema: &[SetDecl],
+    packets: &mut Packets,
+) -> Result<(), ReadError>
     ensures { Gives (λ _. packets.new) result reader.new (reading.packet schema.now packets.old reader.old) }
 {
     let (family, table) = table_place(reader)?;

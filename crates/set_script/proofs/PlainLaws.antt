@@ -1,29 +1,26 @@
 -- A text stands for plain scripts alone.
-use Rattle.std.proofs.Common.{◌≡◌, refl, sym, ◌∙◌, ap, subst, ℕ, suc, ◌+◌, ◌≤◌, ◌<◌, ◌^◌, List, [], ◌∷◌, ◌++◌, length, Bool, true, false, ◌&&◌, Option, Some, None, slice_get, position, nat_lt, nat_le, arith, length-append, append_assoc, append-nil, bytes_eq, codes, cond}
-use Rattle.std.specs.List.{All, list_all, zip}
+use Rattle.std.proofs.Common.{◌≡◌, refl, sym, ◌∙◌, ap, subst, ℕ, suc, ◌≤◌, ◌<◌, ◌^◌, List, [], ◌∷◌, ◌++◌, length, Bool, true, false, ◌&&◌, Option, Some, None, slice_get, nat_lt, nat_le, arith, length-append, append_assoc, append-nil, bytes_eq, codes, cond}
+use Rattle.std.specs.List.{All}
 use Rattle.std.proofs.lemmas.Bool.{ltb-true, lt-ltb, le-leb, eq-eqb}
 use Rattle.std.proofs.lemmas.List.Elements.{All-nil, All-cons, All-push}
 use Rattle.std.proofs.lemmas.Option.{slice_get_within, get_or_from_slice_get}
-use Rattle.std.proofs.lemmas.List.Quantifiers.{position-Some}
 use Rattle.set_model.specs.declared.kind.Kind.{Kind}
 use Rattle.set_model.specs.declared.kind.Interval.{Interval}
 use Rattle.set_model.specs.declared.script.Family.{Family}
 use Rattle.set_model.specs.declared.script.SetDecl.{SetDecl}
-use Rattle.set_model.specs.declared.script.Step.{Step}
 use Rattle.set_model.specs.declared.script.Script.{Script}
 use Rattle.set_model.specs.Kind.{bits_of}
-use Rattle.set_model.specs.Key.{is_good, intervals_fit, parts_fit}
+use Rattle.set_model.specs.Key.{is_good, intervals_fit}
 use Rattle.addr_text.proofs.FitLaws.{IsValue-fits}
 use Rattle.token_forms.specs.Token.{Lexeme}
-use Rattle.token_forms.specs.TextTokens.{text_tokens}
 use Rattle.token_forms.specs.Words.{is_name, separates}
 use Rattle.token_forms.proofs.KeepLaws.{lines_keep, word_given}
 use Rattle.token_forms.proofs.WordLaws.{both}
 use Rattle.set_script.specs.declared.words.AddWord.{AddWord}
 use Rattle.set_script.specs.declared.words.AddWord.TheVariants as adds
 use Rattle.set_script.specs.Values.{IsSingle}
-use Rattle.set_script.specs.Names.{add_of, set_place, is_set, new_name}
-use Rattle.set_script.specs.Changes.{Draft, empty, most_sets, most_changes, declaration, declared, addition, with_addition, finished}
+use Rattle.set_script.specs.Names.{add_of, new_name}
+use Rattle.set_script.specs.Changes.{Draft, empty, most_sets, most_changes, declaration, declared, addition, with_addition}
 use Rattle.set_script.specs.Script as form
 use Rattle.set_script.specs.ScriptText.{IsScriptText}
 use Rattle.set_script.specs.Plain.{plain_kinds, IsPlainSet, IsPlainAddition, IsPlainScript}
@@ -71,8 +68,8 @@ braces_singles ks ts p (u1, x1, y1, e1, w1, (u2, x2, y2, e2, w2, (q, x3, y3, e3,
 body_kinds : (ts : List Lexeme) (ks : List Kind) → form.set_body.whole ts ks → ks ≡ plain_kinds
 body_kinds ts ks (u1, x1, y1, e1, w1, (u2, x2, y2, e2, w2, (given, x3, y3, e3, w3, (u4, x4, y4, e4, w4, (u5, x5, y5, e5, w5, (u6, x6, y6, e6, w6, (u7, x7, y7, e7, w7, h))))))) =
     sym h.1 ∙ type_kinds x3 given w3 where
-  type_kinds : (ts : List Lexeme) (ks : List Kind) → form.type_item.whole ts ks → ks ≡ plain_kinds
-  type_kinds ts ks (u1, x1, y1, e1, w1, (u2, x2, y2, e2, w2, (u3, x3, y3, e3, w3, (u4, x4, y4, e4, w4, h)))) = sym h.1
+      type_kinds : (ts : List Lexeme) (ks : List Kind) → form.type_item.whole ts ks → ks ≡ plain_kinds
+      type_kinds ts ks (u1, x1, y1, e1, w1, (u2, x2, y2, e2, w2, (u3, x3, y3, e3, w3, (u4, x4, y4, e4, w4, h)))) = sym h.1
 
 -- what every statement keeps
 record IsPlainDraft (d : Draft) : Type 0 where
@@ -132,8 +129,8 @@ element_keeps d d1 i x k room (Some s) e (p, y, z, split, braces, h) =
     let plain = set_at d.schema i s k.sets e in
     let singles = subst (λ (ks : List Kind). AreSingles ks p.1) plain.kinds (braces_singles s.kinds y p braces) in
     subst IsPlainDraft h.1 (with_element d i p.0 p.1 k room within singles) where
-  set_at : (schema : List SetDecl) (i : ℕ) (s : SetDecl) → All IsPlainSet schema → slice_get schema i ≡ Some s → IsPlainSet s
-  set_at schema i s all e = subst IsPlainSet (get_or_from_slice_get schema i s s e) (all i s (slice_get_within schema i s e))
+      set_at : (schema : List SetDecl) (i : ℕ) (s : SetDecl) → All IsPlainSet schema → slice_get schema i ≡ Some s → IsPlainSet s
+      set_at schema i s all e = subst IsPlainSet (get_or_from_slice_get schema i s s e) (all i s (slice_get_within schema i s e))
 
 statement_keeps : (d d1 : Draft) (x : List Lexeme) → IsPlainDraft d → (form.statement d).whole x d1 → IsPlainDraft d1
 statement_keeps d d1 x k (u1, x1, y1, e1, w1, (word, x2, y2, e2, (t, et, given), behind)) = go word (word_given (λ t. add_of d t.bytes) t word given) behind where
@@ -146,6 +143,7 @@ plain_empty : IsPlainDraft empty
 plain_empty = record { each = All-nil IsPlainAddition; few = omega arith; sets = All-nil IsPlainSet; one_set = omega arith; declared = λ h. absurd (omega arith) }
 
 pub script_is_plain : (text : List ℕ) (s : Script) → IsScriptText text s → IsPlainScript s
+unfolding IsScriptText
 script_is_plain text s (read, x, y, e, (d, x1, y1, e1, w, h), (u, x2, y2, e2, w2, h2)) =
     let k = lines_keep separates form.statement IsPlainDraft statement_keeps (empty, true) d x1 plain_empty w in
     subst IsPlainScript (h.1 ∙ h2.1) (record {

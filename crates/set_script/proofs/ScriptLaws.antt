@@ -1,23 +1,22 @@
 -- Reading a script gives what the table of its forms says.
-use Rattle.std.proofs.Common.{◌≡◌, ◌⊎◌, inl, inr, refl, sym, ap, ℕ, ◌<◌, List, [], ◌∷◌, ◌++◌, length, Bool, true, false, ◌||◌, Option, Some, None, codes, slice_get, Result, Ok, Err, OnOk}
+use Rattle.std.proofs.Common.{refl, ℕ, ◌<◌, List, [], ◌∷◌, ◌++◌, length, Bool, true, Option, Some, None, codes, slice_get, Result, Ok, Err, OnOk}
 use Rattle.set_model.specs.declared.kind.Kind.{Kind}
 use Rattle.set_model.specs.declared.kind.Interval.{Interval}
 use Rattle.set_model.specs.declared.script.Family.{Family}
 use Rattle.set_model.specs.declared.script.SetDecl.{SetDecl}
-use Rattle.set_model.specs.declared.script.Script.{Script}
 use Rattle.token_forms.specs.declared.token.Reason.TheVariants as reasons
 use Rattle.token_forms.specs.declared.error.ReadError.{ReadError}
-use Rattle.token_forms.specs.Token.{Lexeme, is_word, is_end}
-use Rattle.token_forms.specs.Words.{separates, breaks_off, is_the_mark}
+use Rattle.token_forms.specs.Token.{Lexeme}
+use Rattle.token_forms.specs.Words.{separates}
 use Rattle.token_forms.specs.Gives.{Gives}
-use Rattle.token_forms.proofs.FormLaws.{Reads, Begins, Filled, never, bind_definite, bind_apart, bind_begins, done_reads, nowhere_reads, nowhere_begins, reads_shorter}
+use Rattle.token_forms.proofs.FormLaws.{Reads, Begins, never, bind_definite, bind_apart, bind_begins, done_reads, nowhere_reads, nowhere_begins, reads_shorter}
 use Rattle.token_forms.proofs.ManyLaw.{many_reads}
-use Rattle.token_forms.proofs.WordLaws.{any_word, word_by_reads, word_by_begins, word_is_reads, word_is_begins, lined_word_is_reads, lined_word_is_begins, word_reads, word_begins, name_reads, passed_reads, passed_begins, mark_reads, mark_begins, breaks_reads, separators_reads, separates_no_end, bind_done_same, AreStatements, are_lines, line_more, line_laws, line_begins}
-use Rattle.token_forms.proofs.KindLaws.{word_no_break, word_no_separator, mark_no_break, closing_no_separator, end_no_line}
+use Rattle.token_forms.proofs.WordLaws.{any_word, word_by_reads, word_is_reads, word_is_begins, lined_word_is_reads, lined_word_is_begins, word_reads, word_begins, name_reads, passed_reads, passed_begins, mark_reads, mark_begins, breaks_reads, separators_reads, separates_no_end, bind_done_same, AreStatements, are_lines, line_more, line_laws, line_begins}
+use Rattle.token_forms.proofs.KindLaws.{word_no_break, word_no_separator, mark_no_break, closing_no_separator}
 use Rattle.set_script.specs.declared.words.AddWord.{AddWord}
 use Rattle.set_script.specs.declared.words.AddWord.TheVariants as adds
 use Rattle.set_script.specs.Values.{IsSingle}
-use Rattle.set_script.specs.Changes.{Draft, empty, declaration, declared, with_addition, finished}
+use Rattle.set_script.specs.Changes.{Draft, empty, finished}
 use Rattle.set_script.specs.Script as form
 use Rattle.set_script.specs.ScriptReading as reading
 use Rattle.set_script.proofs.ValueDecides.{single_decides}

@@ -7,9 +7,10 @@ use Rattle.token_forms.specs.Gives.{Gives}
 use Rattle.token_forms.specs.TextTokens.{text_tokens}
 use Rattle.token_forms.proofs.WholeLaws.{Ends, text_answer}
 use Rattle.token_forms.proofs.EndsLaw.{text_ends}
-use Rattle.token_forms.proofs.AnswerLaws.{TextGives, text_gives}
+use Rattle.token_forms.proofs.AnswerLaws.{TextGives, text_gives, text_single}
 use Rattle.token_forms.proofs.KindLaws.{end_no_line}
 use Rattle.set_script.specs.Script as form
+use Rattle.set_script.specs.ScriptText.{IsScriptText}
 use Rattle.set_script.specs.ScriptReading as reading
 use Rattle.set_script.proofs.ScriptLaws.{body_reads}
 
@@ -18,3 +19,7 @@ unfolding reading.script
 script_gives text ts r new e g =
     subst (λ z. TextGives form.body z (λ x. x) r) e
     (text_gives form.body ts (λ x. x) r new (reading.body ts) (text_answer body_reads (λ _. end_no_line) ts (subst Ends (sym e) (text_ends text))) g)
+
+pub script_single : (text : List ℕ) (s t : Script) → IsScriptText text s → IsScriptText text t → s ≡ t
+unfolding IsScriptText
+script_single text s t w v = text_single body_reads (λ _. end_no_line) (text_tokens text) (text_ends text) s t w v

@@ -1,5 +1,5 @@
 -- Words that have a meaning at their place.
-use Rattle.std.specs.Prelude.{ℕ, List, [], length, Bool, ◌&&◌, ◌==◌, nat_lt, Option, Some, None, codes, bytes_eq, position, if◌then◌else◌}
+use Rattle.std.specs.Prelude.{ℕ, List, length, Bool, ◌&&◌, ◌==◌, nat_lt, Option, Some, None, codes, bytes_eq, position, if◌then◌else◌}
 use Rattle.set_model.specs.declared.script.Family.{Family}
 use Rattle.set_model.specs.declared.script.Family.TheVariants as families
 use Rattle.set_model.specs.declared.script.SetDecl.{SetDecl}

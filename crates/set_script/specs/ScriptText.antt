@@ -5,5 +5,5 @@ use Rattle.token_forms.specs.TextTokens.{text_tokens}
 use Rattle.set_script.specs.Script.{script}
 
 -- The text is a script, and this is what it stands for. A text stands for one script at most.
-abbrev pub IsScriptText : List ℕ → Script → Type 0
+unfoldable pub IsScriptText : List ℕ → Script → Type 0
 IsScriptText text s = script.whole (text_tokens text) s

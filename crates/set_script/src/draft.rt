@@ -1,7 +1,9 @@
 ghost use Rattle.std.specs.Prelude.{◌≡◌, ◌<◌, ◌≤◌, length, OnOk, IfOk, nat_lt};
 ghost use Rattle.set_script.specs.Changes.{empty, declaration, declared, with_addition, finished, most_sets, most_changes};
 
-use set_model::{Comment, Family, Kinds, Listed, Memory, Name, Parts, Schema, Script, SetDecl, Step, Steps, Verb};
+use set_model::{
+    Comment, Family, Kinds, Listed, Memory, Name, Parts, Schema, Script, SetDecl, Step, Steps, Verb,
+};
 use std::alloc::Global;
 use std::marker::Model;
 

@@ -69,7 +69,12 @@ fn more_parts(reader: &mut Reader, kinds: &[Kind], parts: &mut Parts) -> Result<
 }
 
 #[tactic(auto, using(token_forms::proofs::Refusals::refusals))]
-fn some_parts(reader: &mut Reader, alloc: Global, kind: Kind, others: &[Kind]) -> Result<(u64, Parts), ReadError>
+fn some_parts(
+    reader: &mut Reader,
+    alloc: Global,
+    kind: Kind,
+    others: &[Kind],
+) -> Result<(u64, Parts), ReadError>
     ensures { Gives (λ x. (x.0, x.1)) result reader.new (reading.some_parts kind others.now reader.old) }
 {
     let (line, first) = first_part(reader, kind)?;
@@ -95,7 +100,11 @@ fn all_parts(reader: &mut Reader, alloc: Global, kinds: &[Kind]) -> Result<(u64,
 
 /// The intervals of an element in braces, and the line of the first.
 #[tactic(auto, using(token_forms::proofs::Refusals::refusals), unfolding(crate::specs::ScriptReading::parts_in_braces))]
-fn parts_in_braces(reader: &mut Reader, alloc: Global, kinds: &[Kind]) -> Result<(u64, Parts), ReadError>
+fn parts_in_braces(
+    reader: &mut Reader,
+    alloc: Global,
+    kinds: &[Kind],
+) -> Result<(u64, Parts), ReadError>
     ensures { Gives (λ x. (x.0, x.1)) result reader.new (reading.parts_in_braces kinds.now reader.old) }
 {
     reader.mark(b'{')?;

@@ -6,8 +6,10 @@ mod elements;
 mod place;
 mod script;
 mod sets;
+#[cfg(test)]
+mod tests;
 mod words;
 
 pub use place::{table_place, used_set};
-pub use script::{ScriptError, read_script};
+pub use script::{ScriptError, one_script_law, read_script};
 pub use token_forms::{Reason, Token, TokenKind, Tokens};

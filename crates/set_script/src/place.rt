@@ -48,7 +48,12 @@ pub fn table_place<'a>(reader: &mut Reader<'a>) -> Result<(Family, &'a [u8]), Re
 
 /// Reads the name of a declared set, and gives its place among the declared sets.
 #[tactic(auto, unfolding(token_forms::specs::Gives::Refuses))]
-pub fn used_set(reader: &mut Reader, schema: &[SetDecl], family: Family, table: &[u8]) -> Result<usize, ReadError>
+pub fn used_set(
+    reader: &mut Reader,
+    schema: &[SetDecl],
+    family: Family,
+    table: &[u8],
+) -> Result<usize, ReadError>
     ensures gives { Gives (λ x. x) result reader.new (reading.used_set schema.now (family, table.now) reader.old) }
     ensures within { IfOk result (λ place. place < length schema.now) }
 {

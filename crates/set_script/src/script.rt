@@ -44,7 +44,12 @@ fn add_word(reader: &mut Reader, d: &Draft) -> Result<AddWord, ReadError>
 
 /// What stands behind the word `add` and what it adds.
 #[tactic(auto, using(token_forms::proofs::Refusals::refusals), unfolding(crate::specs::ScriptReading::add_behind))]
-fn add_behind(reader: &mut Reader, alloc: Global, d: &mut Draft, word: AddWord) -> Result<(), ReadError>
+fn add_behind(
+    reader: &mut Reader,
+    alloc: Global,
+    d: &mut Draft,
+    word: AddWord,
+) -> Result<(), ReadError>
     ensures { Gives (λ _. d.new) result reader.new (reading.add_behind d.old word reader.old) }
 {
     let (family, table) = table_place(reader)?;
@@ -73,7 +78,12 @@ fn statement(reader: &mut Reader, alloc: Global, d: &mut Draft) -> Result<(), Re
 
 /// A separator, or a statement where one may come next.
 #[tactic(auto, using(token_forms::proofs::Refusals::refusals))]
-fn statement_line(reader: &mut Reader, alloc: Global, d: &mut Draft, next: bool) -> Result<bool, ReadError>
+fn statement_line(
+    reader: &mut Reader,
+    alloc: Global,
+    d: &mut Draft,
+    next: bool,
+) -> Result<bool, ReadError>
     ensures { Gives (λ x. (d.new, x)) result reader.new (reading.statement_line (d.old, next) reader.old) }
 {
     if next && !reader.is_at_separator() {
@@ -85,7 +95,12 @@ fn statement_line(reader: &mut Reader, alloc: Global, d: &mut Draft, next: bool)
     }
 }
 
-fn next_statement_line(reader: &mut Reader, alloc: Global, d: &mut Draft, next: bool) -> Result<bool, ReadError>
+fn next_statement_line(
+    reader: &mut Reader,
+    alloc: Global,
+    d: &mut Draft,
+    next: bool,
+) -> Result<bool, ReadError>
     ensures gives { Gives (λ x. (d.new, x)) result reader.new (reading.statement_line (d.old, next) reader.old) }
     ensures shorter { OnOk result (length reader.new < length reader.old) }
 {
@@ -166,3 +181,8 @@ pub fn read_script(alloc: Global, text: &[u8]) -> Result<Script, ScriptError>
         Err(e) => Err(e.without_place()),
     }
 }
+
+/// A text stands for one script at most.
+pub fn one_script_law(_text: &[u8])
+    ensures { (s other : Script) → IsScriptText _text.now s → IsScriptText _text.now other → s ≡ other }
+{}

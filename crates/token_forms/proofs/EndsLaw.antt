@@ -1,15 +1,14 @@
 -- A text has one end, its last token.
-use Rattle.std.proofs.Common.{◌≡◌, refl, sym, ◌∙◌, ap, subst, ℕ, zero, suc, ◌+◌, ◌-◌, ◌&&◌, ◌==◌, not, nat_le, List, [], ◌∷◌, ◌++◌, Bool, true, false, Option, Some, None, take, if◌then◌else◌, cond}
+use Rattle.std.proofs.Common.{◌≡◌, refl, sym, ap, subst, ℕ, zero, suc, ◌+◌, ◌-◌, ◌==◌, not, List, [], ◌∷◌, ◌++◌, Bool, true, false, Option, Some, None, take, cond}
 use Rattle.std.specs.List.{cons_option, prefix_len}
 use Rattle.std.specs.Option.{option_map}
 use Rattle.token_forms.specs.declared.token.TokenKind.{TokenKind}
 use Rattle.token_forms.specs.declared.token.TokenKind.TheVariants as kinds
 use Rattle.token_forms.specs.declared.piece.Piece.{Piece}
-use Rattle.token_forms.specs.Token.{Lexeme, Spelling, is_end}
+use Rattle.token_forms.specs.Token.{Spelling, is_end}
 use Rattle.token_forms.specs.Bytes.{is_blank, is_mark_byte, is_word_byte, is_line_feed}
-use Rattle.token_forms.specs.Tokens.{tokens_from, tokens, piece, gap, token, joined_lines, string_piece, line_behind}
+use Rattle.token_forms.specs.Tokens.{tokens_from, piece, gap, token, joined_lines, string_piece, line_behind}
 use Rattle.token_forms.specs.TextTokens.{is_change_word, linked, text_tokens}
-use Rattle.token_forms.proofs.FormLaws.{NoEnd}
 use Rattle.token_forms.proofs.WholeLaws.{Ends}
 
 -- a piece that isn't the end
@@ -31,7 +30,7 @@ joined_good [] = token_good kinds.Faulty 1 refl
 joined_good (b ∷ bytes) = choice_good (is_line_feed b) _ _ (gap_good 2) (token_good kinds.Faulty 1 refl)
 
 string_good : (bytes : List ℕ) → NoEndPiece (string_piece bytes)
-string_good bytes = search (choice_good, token_good, refl)
+string_good bytes = search (choice_good, token_good)
 
 piece_good : (b : ℕ) (bytes : List ℕ) → NoEndPiece (piece b bytes)
 piece_good b bytes =

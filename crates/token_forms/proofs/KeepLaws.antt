@@ -1,7 +1,7 @@
 -- What every item keeps, any number of them keeps.
-use Rattle.std.proofs.Common.{◌≡◌, ◌⊎◌, inl, inr, sym, subst, ap, List, Bool, true, false, Option, Some, None}
+use Rattle.std.proofs.Common.{◌≡◌, inl, inr, subst, List, Bool, true, false, Option, Some, None}
 use Rattle.token_forms.specs.Token.{Lexeme, is_word}
-use Rattle.token_forms.specs.Form.{Form, many, Chain, last, next}
+use Rattle.token_forms.specs.Form.{Form, many, last, next}
 use Rattle.token_forms.specs.Words.{line, word_value}
 
 pub many_keeps : {S : Type 0} (item : S → Form S) (P : S → Type 0) → ((s s1 : S) (x : List Lexeme) → P s → (item s).whole x s1 → P s1)

@@ -1,8 +1,8 @@
 -- A token is of one kind: a word is no break, no mark and no end, and one mark is no other.
-use Rattle.std.proofs.Common.{◌≡◌, ◌⊎◌, inl, inr, refl, ℕ, List, [], ◌∷◌, Bool, true, false, ◌||◌}
+use Rattle.std.proofs.Common.{◌≡◌, refl, ℕ, [], ◌∷◌, true, false}
 use Rattle.token_forms.specs.Token.{Lexeme, is_end}
 use Rattle.token_forms.specs.Words.{is_the_mark, breaks_off, separates}
-use Rattle.token_forms.proofs.WordLaws.{any_word, word_kind, mark_kind, break_kind, end_kind, both, bytes_same, line_more}
+use Rattle.token_forms.proofs.WordLaws.{any_word, word_kind, mark_kind, end_kind, both, bytes_same, line_more}
 
 pub word_no_break : (t : Lexeme) → any_word t ≡ true → breaks_off t ≡ false
 word_no_break t h = rw (word_kind t.kind h) refl

@@ -38,7 +38,7 @@ tokens-first line place [] p e some nonzero within = absurd (omega arith)
 tokens-first line place (b ∷ bytes) p e some nonzero within = rw (← e) (go p.size refl nonzero within) where
   go : (n : ℕ) → p.size ≡ n → 0 < n → n ≤ length (b ∷ bytes)
       → with_piece p line place (b ∷ bytes) (tokens_from (p.size - 1) (line_behind b line) (place + 1) bytes)
-        ≡ with_piece p line place (b ∷ bytes) (tokens_from 0 (line + count_by is_line_feed (take p.size (b ∷ bytes))) (place + p.size) (drop p.size (b ∷ bytes)))
+      ≡ with_piece p line place (b ∷ bytes) (tokens_from 0 (line + count_by is_line_feed (take p.size (b ∷ bytes))) (place + p.size) (drop p.size (b ∷ bytes)))
   go zero h z w = absurd (omega arith)
   go (suc n) h z w =
       let less : suc n - 1 ≡ n = omega arith in
@@ -49,7 +49,7 @@ tokens-first line place (b ∷ bytes) p e some nonzero within = rw (← e) (go p
 -- the same in the words of the lexer
 pub left-first : (ended : Bool) (line place : ℕ) (rest front behind : List ℕ) (p : Piece) (feeds : ℕ) (all : List Spelling) (kind : Option TokenKind)
     → tokens_left ended line place rest ≡ all → ended ≡ false → p ≡ first_piece rest → 0 < length rest → 0 < p.size → p.size ≤ length rest
-    → front ≡ take p.size rest → behind ≡ drop p.size rest → feeds ≡ count_by is_line_feed front → p.kind ≡ kind
+    → front ≡ take p.size rest → behind ≡ drop p.size rest → feeds ≡ count_by is_line_feed (take p.size rest) → p.kind ≡ kind
     → all ≡ cons_option (option_map (λ kind. record { kind = kind; line = line; from = place; bytes = front }) kind) (tokens_left ended (line + feeds) (place + p.size) behind)
 left-first ended line place rest front behind p feeds all kind same going e some nonzero within f b n k =
     let open_same : tokens_left false line place rest ≡ all = rw going at same in

@@ -1,16 +1,13 @@
 -- A text is read whole exactly where it is in the form; else reading stops at the bad token.
-use Rattle.std.proofs.Common.{◌≡◌, ◌⊎◌, inl, inr, refl, sym, ◌∙◌, ap, subst, ℕ, List, [], ◌∷◌, ◌++◌, length, append-nil, append_assoc, arith, Bool, true, false, ◌≤◌, ◌<◌, length-append}
-use Rattle.token_forms.specs.declared.token.TokenKind.TheVariants as kinds
+use Rattle.std.proofs.Common.{◌≡◌, ◌⊎◌, inl, inr, refl, sym, ◌∙◌, ap, subst, List, [], ◌∷◌, ◌++◌, length, append-nil, append_assoc, arith, Bool, true, false, ◌<◌}
 use Rattle.token_forms.specs.declared.token.Reason.{Reason}
-use Rattle.token_forms.specs.declared.token.Reason.TheVariants as reasons
 use Rattle.token_forms.specs.Token.{Lexeme, is_word, is_end}
-use Rattle.token_forms.specs.Form.{Form, done, IsIn, ◌>>=◌}
+use Rattle.token_forms.specs.Form.{Form, done, ◌>>=◌}
 use Rattle.token_forms.specs.Words.{the_end}
 use Rattle.token_forms.specs.Reading.{Outcome, Read, Short, Bad}
 use Rattle.token_forms.specs.Reasons.{reason_of}
-use Rattle.token_forms.specs.Faults.{IsFault, IsBad}
-use Rattle.token_forms.proofs.FormLaws.{Reads, Meets, ReadsTo, IsBadAt, FallsShort, Stops, NoEnd, WordFirst, AsksFor, no_end_append}
-use Rattle.token_forms.proofs.WordLaws.{end_kind}
+use Rattle.token_forms.specs.Faults.{IsFault}
+use Rattle.token_forms.proofs.FormLaws.{Reads, Meets, ReadsTo, Stops, NoEnd, AsksFor}
 use Rattle.token_forms.proofs.ReasonLaws.{reason_is}
 
 -- the end is the last token of a text, and no other
@@ -118,9 +115,10 @@ text_answer {A} {body} {more} {r} law apart ts ends = go (r ts) (law.meets ts) w
       → elim b as (λ _. Type 0) [ true ↦ (text_of body).whole ts a × ((b : A) → (text_of body).whole ts b → a ≡ b) | false ↦ IsFault (text_of body) ts t.line (reason_of t []) ]
   read_to a t rest m true i =
       let same = same_cut ends.others m.x ends.last t rest ends.inner (law.inner m.x (law.whole_front m.x a m.whole)) ends.is_end i (sym ends.split ∙ m.split) in
-      let e : ts ≡ m.x ++ t ∷ [] = m.split ∙ ap (λ z. m.x ++ t ∷ z) same.2 in
-      (subst (λ z. (text_of body).whole z a) (sym e) (text_whole body m.x t a i m.whole),
-      λ b w. (m.only b ends.others (ends.last ∷ []) ends.split (before_end b w) (stops_end b)).0)
+      let e : ts ≡ m.x ++ t ∷ [] = m.split ∙ ap (λ z. m.x ++ t ∷ z) same.2 in (
+        subst (λ z. (text_of body).whole z a) (sym e) (text_whole body m.x t a i m.whole),
+        λ b w. (m.only b ends.others (ends.last ∷ []) ends.split (before_end b w) (stops_end b)).0,
+      )
   read_to a t rest m false i = fault t [] rest m.x m.split (law.whole_front m.x a m.whole) further none (λ w. record { found = λ q k. absurd k; all = λ q k. absurd (m.quiet w q k) }) where
     none : (b : A) → (text_of body).whole ts b → ⊥
     none b w =

@@ -1,17 +1,17 @@
 -- What reading one token gives, and passing over tokens, and lines.
-use Rattle.std.proofs.Common.{◌≡◌, ◌⊎◌, inl, inr, refl, sym, ◌∙◌, ap, subst, ℕ, List, [], ◌∷◌, ◌++◌, length, Bool, true, false, ◌&&◌, ◌||◌, Option, Some, None, option_map, cond, append-nil}
+use Rattle.std.proofs.Common.{◌≡◌, ◌⊎◌, inl, inr, refl, sym, ◌∙◌, ap, subst, ℕ, List, [], ◌∷◌, ◌++◌, Bool, true, false, ◌&&◌, ◌||◌, Option, Some, None, option_map, append-nil}
 use Rattle.std.specs.Str.{bytes_eq}
 use Rattle.std.proofs.lemmas.Slice.Eq.{bytes_eq-Decides}
 use Rattle.token_forms.specs.declared.token.TokenKind.{TokenKind}
 use Rattle.token_forms.specs.declared.token.TokenKind.TheVariants as kinds
 use Rattle.token_forms.specs.declared.token.Reason.{Reason}
 use Rattle.token_forms.specs.Token.{Lexeme, is_word, is_end, is_break, is_mark, is_text}
-use Rattle.token_forms.specs.Form.{Form, IsIn, one, done, either, many, ◌>>=◌ as ◌>>=f◌}
-use Rattle.token_forms.specs.Reading.{Outcome, one_read, done_read, ◌>>=◌ as ◌>>=r◌}
+use Rattle.token_forms.specs.Form.{Form, done, ◌>>=◌ as ◌>>=f◌}
+use Rattle.token_forms.specs.Reading.{Outcome, done_read, ◌>>=◌ as ◌>>=r◌}
 use Rattle.token_forms.specs.Words as form
 use Rattle.token_forms.specs.Words.{word_value, this_word, is_the_mark, if_true, text_value, separates, breaks_off}
 use Rattle.token_forms.specs.WordReading as reading
-use Rattle.token_forms.proofs.FormLaws.{Reads, Decides, Begins, Heads, Filled, never, one_reads, one_begins, one_heads, bind_begins, bind_definite, bind_reads, done_reads, weaken, Stops}
+use Rattle.token_forms.proofs.FormLaws.{Reads, Decides, Begins, Heads, never, one_reads, one_begins, one_heads, bind_begins, bind_definite, bind_reads, done_reads, weaken, Stops}
 use Rattle.token_forms.proofs.EitherLaw.{either_reads, either_begins, widen}
 use Rattle.token_forms.proofs.ManyLaw.{AreItems, many_reads, many_heads}
 

@@ -1,11 +1,11 @@
 -- The tokens of a text, as nft(8) cuts its input: blanks, comments, words, strings, marks and line breaks.
-use Rattle.std.specs.Prelude.{ℕ, zero, suc, ◌+◌, ◌-◌, List, [], ◌∷◌, take, Bool, false, ◌&&◌, not, ◌==◌, nat_le, Option, Some, None, if◌then◌else◌, slice_get}
+use Rattle.std.specs.Prelude.{ℕ, zero, suc, ◌+◌, ◌-◌, List, [], ◌∷◌, take, Bool, true, false, ◌&&◌, not, ◌==◌, nat_le, Option, Some, None, if◌then◌else◌, slice_get}
 use Rattle.std.specs.List.{prefix_len, cons_option}
 use Rattle.std.specs.Option.{option_map}
 use Rattle.token_forms.specs.declared.token.TokenKind.{TokenKind}
 use Rattle.token_forms.specs.declared.token.TokenKind.TheVariants.{Break, Mark, Text, Word, Faulty, End}
 use Rattle.token_forms.specs.declared.piece.Piece.{Piece}
-use Rattle.token_forms.specs.Token.{Spelling}
+use Rattle.token_forms.specs.Token.{Spelling, is_break}
 use Rattle.token_forms.specs.Bytes.{is_blank, is_mark_byte, is_word_byte, is_string_byte, is_line_feed}
 
 -- what a text begins with: a gap (a blank or a comment) or a token, and how many bytes it has
@@ -44,6 +44,11 @@ piece b bytes =
 abbrev pub first_piece : List ℕ → Piece
 first_piece [] = gap 0
 first_piece (b ∷ bytes) = piece b bytes
+
+-- line feeds stand in gaps and breaks alone
+abbrev pub holds_feeds : Option TokenKind → Bool
+holds_feeds None = true
+holds_feeds (Some kind) = is_break kind
 
 -- the line of what stands behind a byte
 abbrev pub line_behind : ℕ → ℕ → ℕ

@@ -1,7 +1,7 @@
 -- Tokens of the code as the definitions see them: without where their bytes lie in memory.
 use Rattle.std.specs.Prelude.{◌≡◌, List, [], ◌∷◌, Option, Some, None}
 use Rattle.token_forms.specs.declared.lexer.Spelled.{Spelled}
-use Rattle.token_forms.specs.declared.reader.Seen.{Seen}
+use Rattle.token_forms.specs.declared.seen.Seen.{Seen}
 use Rattle.token_forms.specs.Token.{Spelling, Lexeme}
 
 abbrev pub spelling_of : Spelled → Spelling

@@ -1,10 +1,9 @@
 -- Forms of one token, and of tokens that are passed over.
-use Rattle.std.specs.Prelude.{◌≡◌, ℕ, List, [], ◌∷◌, length, take, drop, ◌-◌, Bool, true, false, ◌&&◌, ◌||◌, nat_le, ◌==◌, Option, Some, None, bytes_eq, cond}
-use Rattle.token_forms.specs.declared.token.TokenKind.{TokenKind}
+use Rattle.std.specs.Prelude.{◌≡◌, ℕ, List, [], ◌∷◌, length, take, drop, ◌-◌, Bool, true, false, ◌&&◌, ◌||◌, nat_le, Option, Some, None, bytes_eq, cond}
 use Rattle.token_forms.specs.declared.token.TokenKind.TheVariants as kinds
 use Rattle.token_forms.specs.declared.token.Reason.{Reason}
 use Rattle.token_forms.specs.Token.{Lexeme, is_word, is_end, is_break, is_mark, is_text}
-use Rattle.token_forms.specs.Form.{Form, one, done, nowhere, either, many, ◌>>=◌, ◌>>◌}
+use Rattle.token_forms.specs.Form.{Form, one, done, either, many, ◌>>=◌, ◌>>◌}
 
 abbrev pub if_true : Bool → Option (Unit {0})
 if_true true = Some tt

@@ -1,8 +1,8 @@
-ghost use Rattle.std.specs.Prelude.{◌≡◌, ◌+◌, ◌<◌, ◌≤◌, ◌^◌, [], ◌∷◌, length, count_by, IsNone, IfSome};
-ghost use Rattle.token_forms.specs.Tokens.{tokens};
+ghost use Rattle.std.specs.Prelude.{◌≡◌, ◌+◌, ◌<◌, ◌≤◌, ◌^◌, [], ◌∷◌, length, take, count_by, IsNone, IfSome};
+ghost use Rattle.token_forms.specs.Tokens.{tokens, first_piece, holds_feeds};
 ghost use Rattle.token_forms.specs.Bytes.{is_line_feed};
 
-use crate::piece::piece_at;
+use crate::piece::{Piece, piece_at};
 use crate::token::TokenKind;
 use std::marker::Model;
 
@@ -64,7 +64,7 @@ impl<'a> Lexer<'a> {
             let (bytes, behind) = self.rest.split_at(piece.size);
             let line = self.line;
             let from = self.place;
-            self.line = line + line_feeds(bytes);
+            self.line = line + line_feeds(piece, self.rest);
             self.place = from + piece.size as u64;
             self.rest = behind;
             if let Some(kind) = piece.kind {
@@ -86,10 +86,36 @@ impl<'a> Lexer<'a> {
     }
 }
 
-fn line_feeds(bytes: &[u8]) -> u64
+/// How many line feeds stand in what a text begins with. Of the tokens breaks alone hold one.
+#[tactic(auto, using(crate::proofs::FeedLaws::no_feeds))]
+fn line_feeds(piece: Piece, text: &[u8]) -> u64
+    requires first { piece ≡ first_piece text.now }
+    requires some { 0 < length text.now }
+    requires within { piece.size ≤ length text.now }
+    requires fits { length text.now < 2 ^ 63 }
+    ensures count { result ≡ count_by is_line_feed (take piece.size text.now) }
+    ensures few { result ≤ piece.size }
+{
+    if may_hold_feeds(piece.kind) {
+        count_line_feeds(&text[..piece.size])
+    } else {
+        0
+    }
+}
+
+fn may_hold_feeds(kind: Option<TokenKind>) -> bool
+    ensures { result ≡ holds_feeds kind }
+{
+    match kind {
+        None => true,
+        Some(kind) => matches!(kind, TokenKind::Break),
+    }
+}
+
+fn count_line_feeds(bytes: &[u8]) -> u64
     requires { length bytes.now < 2 ^ 63 }
     ensures count { result ≡ count_by is_line_feed bytes.now }
-    ensures within { result ≤ length bytes.now }
+    ensures few { result ≤ length bytes.now }
 {
     bytes.iter().filter(|b| **b == b'\n').count() as u64
 }

@@ -7,10 +7,12 @@ mod lexer;
 mod piece;
 mod reader;
 mod reasons;
+mod seen;
 mod token;
 mod tokens;
 
-pub use error::ReadError;
-pub use reader::{Reader, Seen, is_a_name, short};
+pub use error::{ReadError, short};
+pub use reader::{Reader, is_a_name};
+pub use seen::Seen;
 pub use token::{Reason, Token, TokenKind};
 pub use tokens::Tokens;

@@ -1,38 +1,18 @@
-ghost use Rattle.std.specs.Prelude.{◌≡◌, ◌∷◌, [], List, ℕ, IsNone, IfSome, Option, Some, None, false};
+ghost use Rattle.std.specs.Prelude.{◌≡◌, ◌∷◌, [], IsNone, IfSome};
 ghost use Rattle.token_forms.specs.TextTokens.{text_tokens, is_change_word};
+ghost use Rattle.token_forms.specs.View.{lexeme_of};
+ghost use Rattle.token_forms.specs.Words.{inside_quotes, is_name, separates, breaks_off};
 
-use crate::error::ReadError;
-use crate::reasons::{is_a_left_out, reason_at};
-use crate::token::{Reason, TokenKind};
+use crate::error::{ReadError, short};
 use crate::lexer::{Lexer, Spelled};
+use crate::seen::Seen;
+use crate::token::TokenKind;
 use std::marker::Model;
 
-/// A token, and whether the one before it is `delete`, `destroy` or `create`.
-#[derive(Clone, Copy, Debug)]
-pub struct Seen<'a> {
-    pub kind: TokenKind,
-    pub line: u64,
-    pub bytes: &'a [u8],
-    pub behind: bool,
-}
-
-ghost use Rattle.token_forms.specs.View.{lexeme_of};
-ghost use Rattle.token_forms.specs.Reasons.{reason_of};
-ghost use Rattle.token_forms.specs.declared.error.ReadError.TheVariants.{Bad};
-
-impl<'a> Seen<'a> {
-    /// The answer where this token doesn't fit, at a place that asks for such words.
-    pub fn refused(&self, sorts: &[Reason]) -> ReadError
-        ensures { result ≡ Bad self.now.line (reason_of (lexeme_of self.now) sorts.now) }
-    {
-        ReadError::Bad {
-            line: self.line,
-            reason: reason_at(self, sorts),
-        }
-    }
-}
-
-/// The tokens that are left of a text.
+/// Reads a text token by token, and takes no memory. Contracts see it as the list of the tokens that are left.
+///
+/// Each of its methods that reads a part of a form takes tokens as far as they fit, and answers the error of the first
+/// one that doesn't.
 #[derive(Drop)]
 pub struct Reader<'a> {
     head: Option<Spelled<'a>>,
@@ -68,6 +48,7 @@ impl<'a> Reader<'a> {
     ghost use Rattle.token_forms.specs.Reading.{Read, begins_with};
     ghost use Rattle.token_forms.specs.WordReading as reading;
 
+    /// At the first token of a text.
     pub fn new(text: &'a [u8]) -> Self
         ensures { result ≡ text_tokens text.now }
     {
@@ -80,7 +61,7 @@ impl<'a> Reader<'a> {
         }
     }
 
-    /// The next token, which stays.
+    /// The next token, which stays; `None` behind the end.
     pub fn peek(&self) -> Option<Seen<'a>>
         ensures { IsFirst result self.now }
     {
@@ -95,7 +76,7 @@ impl<'a> Reader<'a> {
         }
     }
 
-    /// The next token.
+    /// Takes the next token; `None` behind the end.
     pub fn take(&mut self) -> Option<Seen<'a>>
         ensures none { IsNone result → (self.old ≡ []) × (self.new ≡ []) }
         ensures some { IfSome result (λ t. self.old ≡ lexeme_of t ∷ self.new) }
@@ -117,40 +98,43 @@ impl<'a> Reader<'a> {
         }
     }
 
+    /// Reads this word.
     #[tactic(auto, unfolding(crate::specs::Gives::Refuses))]
     pub fn word(&mut self, text: &[u8]) -> Result<(), ReadError>
         ensures { Gives (λ x. x) result self.new (reading.word text.now self.old) }
     {
         match self.take() {
-            Some(t) if matches!(t.kind, TokenKind::Word) && t.bytes == text => Ok(()),
+            Some(t) if t.is_word() && t.bytes == text => Ok(()),
             Some(t) => Err(t.refused(&[])),
             None => Err(short()),
         }
     }
 
+    /// Reads a name.
     #[tactic(auto, unfolding(crate::specs::Gives::Refuses))]
     pub fn name(&mut self) -> Result<&'a [u8], ReadError>
         ensures { Gives (λ x. x.now) result self.new (reading.name self.old) }
     {
         match self.take() {
-            Some(t) if matches!(t.kind, TokenKind::Word) && is_a_name(t.bytes) => Ok(t.bytes),
+            Some(t) if t.is_word() && is_a_name(t.bytes) => Ok(t.bytes),
             Some(t) => Err(t.refused(&[])),
             None => Err(short()),
         }
     }
 
+    /// Reads this mark.
     #[tactic(auto, unfolding(crate::specs::Gives::Refuses))]
     pub fn mark(&mut self, byte: u8) -> Result<(), ReadError>
         ensures { Gives (λ x. x) result self.new (reading.mark byte self.old) }
     {
         match self.take() {
-            Some(t) if matches!(t.kind, TokenKind::Mark) && t.bytes == [byte].as_slice() => Ok(()),
+            Some(t) if t.is_mark(byte) => Ok(()),
             Some(t) => Err(t.refused(&[])),
             None => Err(short()),
         }
     }
 
-    /// A string, without its quotes.
+    /// Reads a string, and gives it without its quotes.
     #[tactic(auto, unfolding(crate::specs::Gives::Refuses))]
     pub fn text(&mut self) -> Result<&'a [u8], ReadError>
         ensures { Gives (λ x. x.now) result self.new (reading.text self.old) }
@@ -162,6 +146,7 @@ impl<'a> Reader<'a> {
         }
     }
 
+    /// Reads the end of the text.
     #[tactic(auto, unfolding(crate::specs::Gives::Refuses))]
     pub fn the_end(&mut self) -> Result<(), ReadError>
         ensures { Gives (λ x. x) result self.new (reading.the_end self.old) }
@@ -173,6 +158,7 @@ impl<'a> Reader<'a> {
         }
     }
 
+    /// Reads one separator, which is a line break or a `;`.
     #[tactic(auto, unfolding(crate::specs::Gives::Refuses))]
     pub fn separator(&mut self) -> Result<(), ReadError>
         ensures { Gives (λ x. x) result self.new (reading.passed separates self.old) }
@@ -184,6 +170,7 @@ impl<'a> Reader<'a> {
         }
     }
 
+    /// Reads one line break.
     #[tactic(auto, unfolding(crate::specs::Gives::Refuses))]
     pub fn line_break(&mut self) -> Result<(), ReadError>
         ensures { Gives (λ x. x) result self.new (reading.passed breaks_off self.old) }
@@ -242,20 +229,6 @@ impl<'a> Reader<'a> {
     }
 }
 
-/// The answer where tokens are wanted behind the end, which no text asks for.
-pub fn short() -> ReadError
-    ensures { result ≡ Bad 0 reasons.Statement }
-{
-    ReadError::Bad {
-        line: 0,
-        reason: Reason::Statement,
-    }
-}
-
-ghost use Rattle.token_forms.specs.declared.token.Reason.TheVariants as reasons;
-ghost use Rattle.token_forms.specs.Words.{inside_quotes, is_name, separates, breaks_off, is_the_mark};
-ghost use Rattle.token_forms.specs.Token.{is_word};
-
 fn inside(text: &[u8]) -> &[u8]
     ensures { result.now ≡ inside_quotes text.now }
 {
@@ -266,40 +239,15 @@ fn inside(text: &[u8]) -> &[u8]
     }
 }
 
+/// Whether a word is a name: 1 to 64 bytes, the first of them a letter.
 pub fn is_a_name(text: &[u8]) -> bool
     ensures { result ≡ is_name text.now }
 {
     match text {
         [] => false,
         [first, ..] => {
-            let letter = (65 <= *first && *first <= 90) || (97 <= *first && *first <= 122);
+            let letter = (b'A' <= *first && *first <= b'Z') || (b'a' <= *first && *first <= b'z');
             letter && text.len() <= 64
         }
-    }
-}
-
-impl<'a> Seen<'a> {
-    pub fn is_word(&self) -> bool
-        ensures { result ≡ is_word self.now.kind }
-    {
-        matches!(self.kind, TokenKind::Word)
-    }
-
-    pub fn is_break(&self) -> bool
-        ensures { result ≡ breaks_off (lexeme_of self.now) }
-    {
-        matches!(self.kind, TokenKind::Break)
-    }
-
-    pub fn is_mark(&self, byte: u8) -> bool
-        ensures { result ≡ is_the_mark byte (lexeme_of self.now) }
-    {
-        matches!(self.kind, TokenKind::Mark) && self.bytes == [byte].as_slice()
-    }
-
-    pub fn is_separator(&self) -> bool
-        ensures { result ≡ separates (lexeme_of self.now) }
-    {
-        self.is_break() || self.is_mark(b';')
     }
 }

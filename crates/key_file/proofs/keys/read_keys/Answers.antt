@@ -1,12 +1,13 @@
-use Rattle.std.proofs.Common.{◌≡◌, ap, Err, ◌∙◌}
+use Rattle.std.proofs.Common.{◌≡◌, ap, Err}
 use Rattle.token_forms.specs.Gives.{placeless}
-use Rattle.token_forms.specs.declared.error.ReadError.{ReadError}
 use Rattle.token_forms.specs.declared.error.ReadError.TheVariants.{Bad}
 use Rattle.token_forms.proofs.AnswerLaws.{of_placeless}
+use Rattle.key_file.specs.KeysText.{IsKeysText}
 use Rattle.key_file.proofs.FitLaws.{keys_are_plain}
 use Rattle.key_file.proofs.keys.read_keys.Goals as goal
 
 pub returns-in-Err-clause-bad : goal.returns-in-Err-clause-bad
+unfolding IsKeysText
 returns-in-Err-clause-bad c = λ line reason h.
     let same : placeless c.in-Err.e ≡ Bad line reason = cc in
     let k = of_placeless c.in-Err.e line reason same in

@@ -1,10 +1,13 @@
+use Rattle.key_file.specs.KeysText.{IsKeysText}
 use Rattle.key_file.proofs.KeysLaws.{keys_gives}
 use Rattle.key_file.proofs.keys.read_placed.Goals as goal
 
 pub returns-clause-found : goal.returns-clause-found
+unfolding IsKeysText
 returns-clause-found c = (keys_gives c.args.schema.now _ c.args.text.now _ c.whole.result _ c.as_slice.ensures c.new-reader.ensures c.whole.ensures).found
 
 pub returns-clause-only : goal.returns-clause-only
+unfolding IsKeysText
 returns-clause-only c = (keys_gives c.args.schema.now _ c.args.text.now _ c.whole.result _ c.as_slice.ensures c.new-reader.ensures c.whole.ensures).only
 
 pub returns-clause-bad : goal.returns-clause-bad

@@ -1,10 +1,13 @@
+use Rattle.set_script.specs.ScriptText.{IsScriptText}
 use Rattle.set_script.proofs.ScriptWhole.{script_gives}
 use Rattle.set_script.proofs.script.read_placed.Goals as goal
 
 pub returns-clause-found : goal.returns-clause-found
+unfolding IsScriptText
 returns-clause-found c = (script_gives c.args.text.now _ c.whole.result _ c.new-reader.ensures c.whole.ensures).found
 
 pub returns-clause-only : goal.returns-clause-only
+unfolding IsScriptText
 returns-clause-only c = (script_gives c.args.text.now _ c.whole.result _ c.new-reader.ensures c.whole.ensures).only
 
 pub returns-clause-bad : goal.returns-clause-bad

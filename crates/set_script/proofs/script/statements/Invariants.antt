@@ -1,4 +1,4 @@
-use Rattle.std.proofs.Common.{length, true}
+use Rattle.std.proofs.Common.{length}
 use Rattle.token_forms.specs.Words.{separates}
 use Rattle.token_forms.specs.WordReading.{line_starts}
 use Rattle.token_forms.proofs.LoopLaws.{Left}
