@@ -7,7 +7,7 @@ use Rattle.pipapo_cli.specs.declared.fault.Fault.{Fault}
 use Rattle.pipapo_cli.specs.declared.fault.Fault.TheVariants.{Usage, BadScript, BadKeys, ReadFault, TooLarge, Memory}
 use Rattle.pipapo_cli.specs.Words.{Run, IsRun, IsNoCommand}
 use Rattle.pipapo_cli.specs.Transcript.{IsTranscript, IsOutput}
-use Rattle.pipapo_cli.specs.Causes.{IsCause, FileCause, IsScriptCause, IsKeysCause, IsReadable}
+use Rattle.pipapo_cli.specs.Causes.{IsCause, FileCause, IsScriptCause, IsKeysCause, IsReadable, IsSized}
 use Rattle.pipapo_cli.specs.Answers.{Ends, written, cut, memory, IsDue, output, refusal, IsExactly, Transcribes, status_of, line_of}
 use Rattle.set_model.specs.Control.{Strict}
 
@@ -24,7 +24,7 @@ from-file words told asked before now Memory h = h
 -- a row that is due with status 0 is an output
 due-output : (words : List (List ℕ)) (told : List ℕ → Option (List ℕ)) (asked : List (List ℕ)) (before now status : ℕ) (text : List ℕ)
     → IsDue words told asked before now status text → status ≡ 0 → (run : Run) × IsRun words run × IsOutput run told text
-due-output words told asked before now status text (output run t is_run names quiet readable is_output) e = (run, is_run, is_output)
+due-output words told asked before now status text (output run t is_run names quiet readable sized is_output) e = (run, is_run, is_output)
 due-output words told asked before now status text (refusal Usage cause) e = absurd (omega (arith, e))
 due-output words told asked before now status text (refusal BadScript cause) e = absurd (omega (arith, e))
 due-output words told asked before now status text (refusal BadKeys cause) e = absurd (omega (arith, e))
@@ -54,9 +54,9 @@ due-refusal words told asked before now fault cause status text e = rw (e.0, e.1
 
 -- what is due of an output
 pub due-of-output : (words : List (List ℕ)) (told : List ℕ → Option (List ℕ)) (asked : List (List ℕ)) (before now : ℕ) (out : List ℕ)
-    → (run : Run) × IsRun words run × (asked ≡ run.script ∷ run.keys ∷ []) × (now ≡ before) × IsReadable run told × IsOutput run told out
+    → (run : Run) × IsRun words run × (asked ≡ run.script ∷ run.keys ∷ []) × (now ≡ before) × IsReadable run told × IsSized run.keys told × IsOutput run told out
     → (status : ℕ) (text : List ℕ) → IsExactly 0 out status text → IsDue words told asked before now status text
-due-of-output words told asked before now out h status text e = rw (e.0, e.1) (output h.0 out h.1 h.2 h.3 h.4 h.5)
+due-of-output words told asked before now out h status text e = rw (e.0, e.1) (output h.0 out h.1 h.2 h.3 h.4 h.5 h.6)
 
 -- A cause in the key file is said of what the shelf tells, however that is named.
 pub keys-cause : (run : Run) (told other : List ℕ → Option (List ℕ)) (asked : List (List ℕ)) (before now : ℕ) (fault : Fault) → ((name : List ℕ) → told name ≡ other name)

@@ -5,3 +5,4 @@ mod PlainHistory
 mod PlainTranscript
 mod Deliveries
 mod Endings
+mod Exact

@@ -1,14 +1,18 @@
 -- How a call ends: the status, what was written, and the counts of faults.
-use Rattle.std.specs.Prelude.{◌≡◌, ℕ, List, [], ◌∷◌, ◌++◌, Option, Some, codes}
+use Rattle.std.specs.Prelude.{◌≡◌, ◌≤◌, ◌<◌, ◌⊎◌, ℕ, List, [], ◌∷◌, ◌++◌, length, Option, Some, codes}
 use Rattle.std.specs.Io.KnownBytes.{Appends, Keeps}
 use Rattle.pip_base.specs.Causes.{Rose}
 use Rattle.pip_base.specs.Whole.{AppendsFront}
 use Rattle.pipapo_cli.specs.declared.fault.Fault.{Fault}
 use Rattle.pipapo_cli.specs.declared.fault.Fault.TheVariants.{Usage, BadScript, BadKeys, ReadFault, TooLarge, Memory}
-use Rattle.pipapo_cli.specs.Words.{Run, IsRun}
+use Rattle.pipapo_cli.specs.Words.{Run, IsRun, IsNoCommand}
+use Rattle.set_model.specs.declared.script.Script.{Script}
+use Rattle.set_model.specs.declared.packet.Packet.{Packet}
+use Rattle.set_script.specs.ScriptText.{IsScriptText}
+use Rattle.key_file.specs.KeysText.{IsKeysText}
 use Rattle.set_model.specs.Control.{Strict}
 use Rattle.pipapo_cli.specs.Transcript.{IsOutput, IsTranscript}
-use Rattle.pipapo_cli.specs.Causes.{IsCause, IsReadable}
+use Rattle.pipapo_cli.specs.Causes.{IsCause, IsReadable, IsSized, size_limit}
 
 -- the status of a fault
 abbrev pub status_of : Fault → ℕ
@@ -37,7 +41,7 @@ line_of Memory = []
 -- The status and text that are due: the output of a run with 0, or a fault's status and line where the
 -- fault has its cause.
 pub data IsDue (words : List (List ℕ)) (told : List ℕ → Option (List ℕ)) (asked : List (List ℕ)) (before now : ℕ) : ℕ → List ℕ → Type 0 where
-  output : (run : Run) (text : List ℕ) → IsRun words run → asked ≡ run.script ∷ run.keys ∷ [] → now ≡ before → IsReadable run told → IsOutput run told text → IsDue words told asked before now 0 text
+  output : (run : Run) (text : List ℕ) → IsRun words run → asked ≡ run.script ∷ run.keys ∷ [] → now ≡ before → IsReadable run told → IsSized run.keys told → IsOutput run told text → IsDue words told asked before now 0 text
   refusal : (fault : Fault) → IsCause words told asked before now fault → IsDue words told asked before now (status_of fault) (line_of fault)
 
 -- this status and this text, and no other
@@ -59,3 +63,20 @@ Transcribes words told before after =
     (run : Run) (script_text keys_text taken_before taken_now : List ℕ) → IsRun words run
     → told run.script ≡ Some script_text → told run.keys ≡ Some keys_text → before ≡ Some taken_before → after ≡ Some taken_now
     → (output : List ℕ) × (taken_now ≡ taken_before ++ output) × IsTranscript script_text keys_text 1 Strict output
+
+-- A call has this status, or memory was wanting.
+abbrev pub IsStatus : ℕ → ℕ → Type 0
+IsStatus status result = (result ≡ status) ⊎ (result ≡ 7)
+
+-- The status of a call in which nothing failed outside, by the words and by the bytes that the shelf
+-- tells: each fault comes exactly where its cause is there, in the order of the tests.
+pub record IsExact (words : List (List ℕ)) (told : List ℕ → Option (List ℕ)) (result : ℕ) : Type 0 where
+  pub usage : IsNoCommand words → result ≡ 2
+  pub large_script : (run : Run) (text : List ℕ) → IsRun words run → told run.script ≡ Some text → size_limit < length text → IsStatus 8 result
+  pub bad_script : (run : Run) (text : List ℕ) → IsRun words run → told run.script ≡ Some text → length text ≤ size_limit → ((s : Script) → IsScriptText text s → ⊥) → IsStatus 3 result
+  pub large_keys : (run : Run) (text keys_text : List ℕ) (s : Script) → IsRun words run → told run.script ≡ Some text → told run.keys ≡ Some keys_text
+      → length text ≤ size_limit → IsScriptText text s → size_limit < length keys_text → IsStatus 8 result
+  pub bad_keys : (run : Run) (text keys_text : List ℕ) (s : Script) → IsRun words run → told run.script ≡ Some text → told run.keys ≡ Some keys_text
+      → length text ≤ size_limit → IsScriptText text s → length keys_text ≤ size_limit → ((keys : List (List Packet)) → IsKeysText s.schema keys_text keys → ⊥) → IsStatus 4 result
+  pub done : (run : Run) (text keys_text : List ℕ) (s : Script) (keys : List (List Packet)) → IsRun words run → told run.script ≡ Some text → told run.keys ≡ Some keys_text
+      → length text ≤ size_limit → IsScriptText text s → length keys_text ≤ size_limit → IsKeysText s.schema keys_text keys → IsStatus 0 result

@@ -32,6 +32,10 @@ IsBadKeys run told = (text keys_text : List ℕ) → told run.script ≡ Some te
 abbrev pub ReadsAs : List SetDecl → Option (List ℕ) → Type 0
 ReadsAs schema known = (text : List ℕ) → known ≡ Some text → (s : Script) × IsScriptText text s × (s.schema ≡ schema)
 
+-- A file's bytes, where they are told, are within their size.
+abbrev pub IsSized : List ℕ → (List ℕ → Option (List ℕ)) → Type 0
+IsSized name told = (text : List ℕ) → told name ≡ Some text → length text ≤ size_limit
+
 -- A file has more bytes than it may have.
 abbrev pub IsTooLarge : List ℕ → (List ℕ → Option (List ℕ)) → Type 0
 IsTooLarge name told = (text : List ℕ) → told name ≡ Some text → size_limit < length text

@@ -49,7 +49,7 @@ pub fn keys_of<'a, F: Shelf>(
 ) -> Result<Keys, Fault<'a>>
     requires { length (F.asked shelf.old) ≡ 1 }
     ensures plain { IfOk result (IsPlainKeys schema.now) }
-    ensures read { IfOk result (λ keys. (text : List ℕ) → F.told shelf.old name.now ≡ Some text → IsKeysText schema.now text keys) }
+    ensures read { IfOk result (λ keys. (text : List ℕ) → F.told shelf.old name.now ≡ Some text → (length text ≤ 67108864) × IsKeysText schema.now text keys) }
     ensures quiet { OnOk result ((F.asked shelf.new ≡ F.asked shelf.old ++ name.now ∷ []) × (F.faults shelf.new ≡ F.faults shelf.old)) }
     ensures told { (other : List ℕ) → F.told shelf.new other ≡ F.told shelf.old other }
     ensures cause { (script : List ℕ) → F.asked shelf.old ≡ script ∷ [] → ReadsAs schema.now (F.told shelf.old script) → IfErr result (IsKeysCause (record { script = script; keys = name.now }) (F.told shelf.old) (F.asked shelf.new) (F.faults shelf.old) (F.faults shelf.new)) }

@@ -2,8 +2,9 @@ ghost use Rattle.std.specs.Prelude.{◌≡◌, ◌≢◌, ◌⊎◌, [], ◌∷�
 ghost use Rattle.std.specs.String.{string_bytes};
 ghost use Rattle.pipapo_cli.specs.Words.{Run, IsRun};
 ghost use Rattle.pipapo_cli.specs.Transcript.{IsOutput};
-ghost use Rattle.pipapo_cli.specs.Causes.{IsCause, IsReadable};
-ghost use Rattle.pipapo_cli.specs.Answers.{Ends, IsDue, Transcribes};
+ghost use Rattle.pipapo_cli.specs.Causes.{IsCause, IsReadable, IsSized};
+ghost use Rattle.pipapo_cli.specs.Answers.{Ends, IsDue, Transcribes, IsExact};
+ghost use Rattle.pip_base.specs.Causes.{Rose};
 
 use crate::delivery::{deliver, tell};
 use crate::fault::Fault;
@@ -20,7 +21,7 @@ fn output_of<'a, F: Shelf>(
     shelf: &mut F,
 ) -> Result<String, Fault<'a>>
     requires { F.asked shelf.old ≡ [] }
-    ensures output { IfOk result (λ out. (run : Run) × IsRun (map string_bytes words.now) run × (F.asked shelf.new ≡ run.script ∷ run.keys ∷ []) × (F.faults shelf.new ≡ F.faults shelf.old) × IsReadable run (F.told shelf.old) × IsOutput run (F.told shelf.old) (string_bytes out)) }
+    ensures output { IfOk result (λ out. (run : Run) × IsRun (map string_bytes words.now) run × (F.asked shelf.new ≡ run.script ∷ run.keys ∷ []) × (F.faults shelf.new ≡ F.faults shelf.old) × IsReadable run (F.told shelf.old) × IsSized run.keys (F.told shelf.old) × IsOutput run (F.told shelf.old) (string_bytes out)) }
     ensures cause { IfErr result (IsCause (map string_bytes words.now) (F.told shelf.old) (F.asked shelf.new) (F.faults shelf.old) (F.faults shelf.new)) }
 {
     let Some(run) = run_of(words) else {
@@ -56,6 +57,15 @@ pub fn pipapo<F: Shelf, K: Sink>(alloc: Global, words: &[String], shelf: &mut F,
 
     // With status 0 the sink took the text of a legal transcript.
     ensures run { result ≡ 0 → Transcribes (map string_bytes words.now) (F.told shelf.old) (K.taken sink.old) (K.taken sink.new) }
+
+    // Where no count of faults rose, each status comes exactly where the words and the files are such,
+    // but for want of memory.
+    ensures exact { (Rose (F.faults shelf.old) (F.faults shelf.new) → ⊥) → (Rose (K.faults sink.old) (K.faults sink.new) → ⊥) → IsExact (map string_bytes words.now) (F.told shelf.old) result }
+
+    // The shelf's count rose only with 5 or 6, and the sink's only with 6. Status 1 doesn't come yet.
+    ensures shelf_count { F.faults shelf.new ≢ F.faults shelf.old → (result ≡ 5) ⊎ (result ≡ 6) }
+    ensures sink_count { K.faults sink.new ≢ K.faults sink.old → result ≡ 6 }
+    ensures no_refusal { result ≢ 1 }
 
     // Every status has its cause, and what was written is due.
     ensures ends { Ends (IsDue (map string_bytes words.now) (F.told shelf.old) (F.asked shelf.new) (F.faults shelf.old) (F.faults shelf.new)) (K.taken sink.old) (K.taken sink.new) (K.faults sink.old) (K.faults sink.new) result }

@@ -12,7 +12,7 @@ use std::marker::Model;
 /// Reads a text token by token, and takes no memory. Contracts see it as the list of the tokens that are left.
 ///
 /// Each of its methods that reads a part of a form takes tokens as far as they fit, and answers the error of the first
-/// one that doesn't.
+/// one that doesn't. What is left after an error is open.
 #[derive(Drop)]
 pub struct Reader<'a> {
     head: Option<Spelled<'a>>,

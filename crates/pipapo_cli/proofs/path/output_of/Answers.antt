@@ -27,12 +27,13 @@ returns-in-Ok-transcript-clause-output g c =
       rw c.in-Ok.ensures.quiet.0 at c.in-Ok-keys_of.ensures.quiet.0,
       c.in-Ok-keys_of.ensures.quiet.1 ∙ c.in-Ok.ensures.quiet.1,
       readable,
+      (λ text b. (c.in-Ok-keys_of.ensures.read text (c.in-Ok.ensures.told run.keys ∙ b)).0),
       λ script_text keys_text a b. record {
         script = c.in-Ok.script;
         keys = c.in-Ok-keys_of.keys;
         lines = t.0;
         script_is = (c.in-Ok.ensures.read script_text a).1;
-        keys_are = c.in-Ok-keys_of.ensures.read keys_text (c.in-Ok.ensures.told run.keys ∙ b);
+        keys_are = (c.in-Ok-keys_of.ensures.read keys_text (c.in-Ok.ensures.told run.keys ∙ b)).1;
         legal = t.1;
         text = t.2;
       },

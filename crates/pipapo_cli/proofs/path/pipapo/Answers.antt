@@ -3,6 +3,7 @@ use Rattle.std.specs.String.{string_bytes}
 use Rattle.pipapo_cli.specs.Answers.{Ends, IsDue}
 use Rattle.pipapo_cli.proofs.Deliveries.{ends-map}
 use Rattle.pipapo_cli.proofs.Endings.{headline, due-refusal, due-of-output}
+use Rattle.pipapo_cli.proofs.Exact.{exact}
 use Rattle.pipapo_cli.proofs.path.pipapo.Goals as goal
 
 pub returns-in-Ok-clause-ends : goal.returns-in-Ok-clause-ends
@@ -14,3 +15,11 @@ returns-in-Ok-clause-run g c zero =
 
 pub returns-in-Err-clause-ends : goal.returns-in-Err-clause-ends
 returns-in-Err-clause-ends g c = ends-map _ _ _ _ _ _ _ (due-refusal _ _ _ _ _ c.in-Err.fault c.in-Err.ensures.cause) c.tell.ensures
+
+pub returns-in-Ok-clause-exact : goal.returns-in-Ok-clause-exact
+returns-in-Ok-clause-exact g c quiet sink_quiet =
+    exact (map string_bytes c.args.words.now) (g.F.Shelf.told c.args.shelf.now) (g.F.Shelf.asked c.output_of.new.shelf) (g.F.Shelf.faults c.args.shelf.now) (g.F.Shelf.faults c.output_of.new.shelf) _ _ _ _ _ (returns-in-Ok-clause-ends g c) quiet sink_quiet
+
+pub returns-in-Err-clause-exact : goal.returns-in-Err-clause-exact
+returns-in-Err-clause-exact g c quiet sink_quiet =
+    exact (map string_bytes c.args.words.now) (g.F.Shelf.told c.args.shelf.now) (g.F.Shelf.asked c.output_of.new.shelf) (g.F.Shelf.faults c.args.shelf.now) (g.F.Shelf.faults c.output_of.new.shelf) _ _ _ _ _ (returns-in-Err-clause-ends g c) quiet sink_quiet
