@@ -51,12 +51,12 @@ fn place_of(files: &[StoredFile], name: &str) -> Option<usize>
 }
 
 /// What is left of an opened file.
-fn rest_of(files: &[StoredFile], open: OpenFile) -> &[u8]
-    ensures room { open.from + length result.now < 2 ^ 64 }
-    ensures rest { result.now ≡ bytes_from (slice_get (map stored files.now) open.place) open.from }
+fn rest_of(files: &[StoredFile], opened: OpenFile) -> &[u8]
+    ensures room { opened.from + length result.now < 2 ^ 64 }
+    ensures rest { result.now ≡ bytes_from (slice_get (map stored files.now) opened.place) opened.from }
 {
-    match files.get(open.place) {
-        Some(file) => match file.bytes.as_slice().get(open.from..) {
+    match files.get(opened.place) {
+        Some(file) => match file.bytes.as_slice().get(opened.from..) {
             Some(rest) => rest,
             None => &[],
         },
