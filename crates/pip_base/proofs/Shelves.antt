@@ -1,5 +1,5 @@
 -- Files in memory: where a name's file stands, and what a read leaves.
-use Rattle.std.proofs.Common.{◌≡◌, ◌≢◌, refl, sym, ◌∙◌, ap, ℕ, zero, suc, ◌+◌, ◌<◌, ◌≤◌, Bool, true, false, not, cond, List, [], ◌∷◌, ◌++◌, length, map, take, drop, slice_get, slice_set, Option, Some, None, arith, min, add-zero}
+use Rattle.std.proofs.Common.{◌≡◌, ◌≢◌, refl, sym, ◌∙◌, ap, ℕ, zero, suc, ◌+◌, ◌<◌, ◌≤◌, Bool, not, cond, List, [], ◌∷◌, ◌++◌, length, map, take, drop, slice_get, slice_set, Option, Some, None, arith, min, add-zero}
 use Rattle.std.specs.List.{position, prefix_len}
 use Rattle.std.proofs.lemmas.List.{length-map, take-append-drop, drop-drop, take-append-le, length-take-le, take_all}
 use Rattle.std.specs.Io.KnownBytes.{Consumes, IsAtEnd}

@@ -1,5 +1,5 @@
 -- Files in memory.
-use Rattle.std.specs.Prelude.{ℕ, Bool, List, [], drop, position, Option, Some, None, option_map, slice_get, nat_eq, is_some}
+use Rattle.std.specs.Prelude.{ℕ, Bool, List, [], drop, position, Option, Some, None, slice_get, nat_eq, is_some}
 use Rattle.std.specs.Cmp.Lexicographic.{pointwise}
 use Rattle.std.specs.String.{string_bytes}
 use Rattle.pip_base.specs.declared.mem_shelf.StoredFile.{StoredFile}

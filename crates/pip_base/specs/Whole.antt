@@ -1,5 +1,5 @@
 -- A piece that was taken in part.
-use Rattle.std.specs.Prelude.{◌≡◌, ◌<◌, ℕ, List, length, take, Option}
+use Rattle.std.specs.Prelude.{◌<◌, ℕ, List, length, take, Option}
 use Rattle.std.specs.Io.KnownBytes.{Appends}
 
 -- Known bytes grew by a part from the front of a piece, and not by the whole of it.

@@ -1,11 +1,11 @@
 //! The command `pipapo`: packet filter sets under a script, and packets looked up in them.
 #![tactic(auto)]
 
+mod command;
 mod delivery;
 mod fault;
 mod inputs;
 mod lookup;
-mod path;
 mod plain_run;
 mod plain_set;
 #[cfg(test)]
@@ -13,7 +13,7 @@ mod tests;
 mod text;
 mod words;
 
-use crate::path::pipapo;
+use crate::command::pipapo;
 use pip_base::{DirShelf, OutSink};
 use std::env;
 use std::process::ExitCode;

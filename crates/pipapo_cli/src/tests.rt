@@ -1,6 +1,6 @@
 ghost use Rattle.std.specs.Prelude.{◌≡◌, [], IfOk};
 
-use crate::path::pipapo;
+use crate::command::pipapo;
 use pip_base::{MemShelf, MemSink, Sink};
 use std::alloc::Global;
 use std::test::Fail;

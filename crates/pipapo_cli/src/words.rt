@@ -1,4 +1,4 @@
-ghost use Rattle.std.specs.Prelude.{◌≡◌, map, None, IfSome};
+ghost use Rattle.std.specs.Prelude.{◌≡◌, [], ◌∷◌, map, None, IfSome};
 ghost use Rattle.std.specs.String.{string_bytes};
 ghost use Rattle.pipapo_cli.specs.Words.{IsRun, IsNoCommand, is_file_name as name_test};
 
@@ -40,5 +40,3 @@ fn run_with<'a>(command: &str, script: &'a str, keys: &'a str) -> Option<Run<'a>
         None
     }
 }
-
-ghost use Rattle.std.specs.Prelude.{[], ◌∷◌};

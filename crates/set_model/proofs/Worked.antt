@@ -1,24 +1,22 @@
 -- Worked examples of the definitions. They compute: a wrong number here is refused.
-use Rattle.std.specs.Prelude.{◌≡◌, refl, ℕ, ◌-◌, ◌^◌, List, [], ◌∷◌, map, Some, None, Option, Bool, length, true, false, codes, find}
+use Rattle.std.specs.Prelude.{◌≡◌, refl, ℕ, ◌-◌, ◌^◌, List, [], ◌∷◌, map, Some, None, Option, Bool, length, true, false, codes}
 use Rattle.std.specs.Fmt.{digits}
 use Rattle.set_model.specs.declared.kind.Kind.TheVariants.{Service}
 use Rattle.set_model.specs.declared.kind.Interval.{Interval}
-use Rattle.set_model.specs.declared.element.Element.{Element}
 use Rattle.set_model.specs.declared.report.Why.TheVariants.{Overlap, Exists, Missing, Full}
 use Rattle.set_model.specs.declared.report.Event.TheVariants.{Refused, Committed, Aborted, Dropped}
 use Rattle.set_model.specs.declared.report.Line.{Line}
 use Rattle.set_model.specs.declared.packet.Verdict.TheVariants as verdicts
 use Rattle.set_model.specs.declared.packet.Packet.{Packet}
-use Rattle.set_model.specs.declared.script.Step.TheVariants.{Change, Flush, Commit, Abort}
+use Rattle.set_model.specs.declared.script.Step.TheVariants.{Change, Commit, Abort}
 use Rattle.set_model.specs.declared.script.Step.{Step}
 use Rattle.set_model.specs.declared.script.Script.{Script}
 use Rattle.set_model.specs.declared.script.SetDecl.{SetDecl}
 use Rattle.set_model.specs.declared.script.Family.TheVariants.{Ip}
 use Rattle.set_model.specs.declared.script.Verb.TheVariants.{Add, Create, Delete, Destroy}
-use Rattle.set_model.specs.Expiry.{live}
-use Rattle.set_model.specs.SetState.{State, New, Already, Renewed, Refused as IsRefused, Added, add, removed, purged, cleared, empty_set, first, place}
+use Rattle.set_model.specs.SetState.{State, New, Already, Renewed, Refused as IsRefused, add, removed, purged, cleared, empty_set, place}
 use Rattle.set_model.specs.Blocks.{blocks}
-use Rattle.set_model.specs.Control.{Mode, Strict, KeepGoing, history, Control}
+use Rattle.set_model.specs.Control.{Strict, KeepGoing, history}
 use Rattle.set_model.specs.Text.{transcript_text}
 
 -- the intervals of a set of ports

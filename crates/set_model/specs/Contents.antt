@@ -1,5 +1,4 @@
 use Rattle.std.specs.Prelude.{List}
-use Rattle.std.specs.declared.alloc.Global.{Global}
 use Rattle.std.specs.Arc.{arc_value}
 use Rattle.set_model.specs.declared.shared.Contents.{Contents}
 use Rattle.set_model.specs.declared.shared.Contents.TheVariants.{Own, Common}

@@ -1,5 +1,5 @@
 -- The text of a transcript: section by section what the control told, and then one line per packet.
-use Rattle.std.specs.Prelude.{ℕ, suc, zero, ◌+◌, ◌-◌, max, List, [], ◌∷◌, ◌++◌, length, take, drop, Option, Some, None, slice_get, codes, decimal}
+use Rattle.std.specs.Prelude.{ℕ, ◌+◌, ◌-◌, max, List, [], ◌∷◌, ◌++◌, length, take, drop, Option, Some, None, slice_get, codes, decimal}
 use Rattle.std.specs.List.{flat_map, range_with_len}
 use Rattle.set_model.specs.declared.script.Script.{Script}
 use Rattle.set_model.specs.declared.script.SetDecl.{SetDecl}

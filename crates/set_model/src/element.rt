@@ -48,3 +48,47 @@ impl Listed<Element> {
         self.items[i as usize].expiry = expiry;
     }
 }
+
+#[cfg(test)]
+mod tests {
+    use super::*;
+    use std::test::Fail;
+
+    #[test]
+    fn a_copy_shares_its_contents_until_one_changes(rt: HostRuntime) -> Result<(), Fail> {
+        let alloc = rt.alloc();
+        let mut parts = Parts::new(alloc);
+        parts.push(Interval { low: 10, high: 20 })?;
+        let mut comment = Comment::new(alloc);
+        comment.push(b'a')?;
+        let mut elements = Elements::new(alloc);
+        elements.push(Element {
+            id: 7,
+            parts,
+            expiry: Some(30_000),
+            comment,
+        })?;
+        let shared = elements.copy(alloc)?;
+        let mut copy = shared.copy(alloc)?;
+        assert_eq!(rt; copy.len(), 1);
+        copy.set_expiry(0, None);
+        let mut taken = copy.remove(0);
+        taken.parts.push(Interval { low: 30, high: 40 })?;
+        assert_eq!(rt;
+            taken.parts.as_slice(),
+            [
+                Interval { low: 10, high: 20 },
+                Interval { low: 30, high: 40 }
+            ]
+            .as_slice()
+        );
+        assert_eq!(rt; taken.comment.as_slice(), b"a".as_slice());
+        assert_eq!(rt; shared.len(), 1);
+        assert_eq!(rt;
+            shared.at(0).parts.as_slice(),
+            [Interval { low: 10, high: 20 }].as_slice()
+        );
+        assert!(rt; shared.at(0).expiry == Some(30_000));
+        Ok(())
+    }
+}

@@ -1,8 +1,8 @@
-use Rattle.std.proofs.Common.{◌≡◌, sym, ◌∙◌, ap, rules, map, ◌+◌, ◌<◌, ◌++◌, ◌∷◌, [], length, slice_get, position, nat_eq, Some, List, arith, length-append}
+use Rattle.std.proofs.Common.{◌≡◌, ap, rules, map, ◌+◌, ◌<◌, ◌++◌, ◌∷◌, [], length, position, nat_eq, Some, arith, length-append}
 use Rattle.std.specs.Cmp.Lexicographic.{pointwise}
 use Rattle.std.specs.String.{string_bytes}
 use Rattle.pip_base.specs.declared.mem_shelf.OpenFile.{OpenFile}
-use Rattle.pip_base.specs.MemShelf.{stored, rest_of_open, bytes_at, bytes_from, file_place}
+use Rattle.pip_base.specs.MemShelf.{stored, rest_of_open}
 use Rattle.pip_base.proofs.Shelves.{slice_get-before, pick-left}
 use Rattle.pip_base.proofs.mem_shelf.MemShelfShelf.pick.Goals as goal
 

@@ -1,6 +1,5 @@
-use Rattle.std.proofs.Common.{◌≡◌, sym, ◌∙◌, ap, rules, map, ◌+◌, ◌<◌, length, take, drop, ◌++◌, slice_get, Some, arith, length-append}
+use Rattle.std.proofs.Common.{◌≡◌, sym, ◌∙◌, ap, map, ◌<◌, length, drop, slice_get, Some, arith}
 use Rattle.std.proofs.lemmas.Option.{slice_get-get_or}
-use Rattle.std.proofs.lemmas.List.{length-take-le, length-drop}
 use Rattle.pip_base.specs.MemShelf.{stored, rest_of_open, bytes_from}
 use Rattle.pip_base.proofs.Shelves.{slice_get-set_other, read-gives, front-copied}
 use Rattle.pip_base.proofs.mem_shelf.MemShelfShelf.read.Goals as goal

@@ -4,7 +4,7 @@ use Rattle.pipapo_cli.specs.Answers.{Ends, IsDue}
 use Rattle.pipapo_cli.proofs.Deliveries.{ends-map}
 use Rattle.pipapo_cli.proofs.Endings.{headline, due-refusal, due-of-output}
 use Rattle.pipapo_cli.proofs.Exact.{exact}
-use Rattle.pipapo_cli.proofs.path.pipapo.Goals as goal
+use Rattle.pipapo_cli.proofs.command.pipapo.Goals as goal
 
 pub returns-in-Ok-clause-ends : goal.returns-in-Ok-clause-ends
 returns-in-Ok-clause-ends g c = ends-map _ _ _ _ _ _ _ (due-of-output _ _ _ _ _ _ c.in-Ok.ensures.output) (rw c.as_bytes.ensures.value at c.deliver.ensures)

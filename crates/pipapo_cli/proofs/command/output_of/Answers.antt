@@ -3,7 +3,7 @@ use Rattle.std.specs.String.{string_bytes}
 use Rattle.pipapo_cli.specs.Words.{Run, IsRun}
 use Rattle.pipapo_cli.specs.Causes.{IsReadable, IsKeysCause}
 use Rattle.pipapo_cli.proofs.Endings.{from-file, keys-cause}
-use Rattle.pipapo_cli.proofs.path.output_of.Goals as goal
+use Rattle.pipapo_cli.proofs.command.output_of.Goals as goal
 
 pub returns-in-Err-clause-cause : goal.returns-in-Err-clause-cause
 returns-in-Err-clause-cause g c =
