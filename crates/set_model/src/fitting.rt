@@ -1,7 +1,7 @@
 ghost use Rattle.std.specs.Prelude.{◌≡◌, ◌≤◌, ◌^◌, ◌&&◌, nat_lt, nat_le};
 ghost use Rattle.std.specs.List.{list_all, zip};
 ghost use Rattle.set_model.specs.Kind.{bits_of};
-ghost use Rattle.set_model.specs.Key.{is_value, is_good, values_fit, intervals_fit, key_fits, parts_fit as the_parts_fit};
+ghost use Rattle.set_model.specs.Key.{is_good as good, values_fit, intervals_fit, key_fits, parts_fit as the_parts_fit};
 
 use crate::element::Parts;
 use crate::kind::{Interval, Key, Kind, Kinds};
@@ -23,11 +23,20 @@ fn all_values_fit(kinds: &[Kind], key: &[u128]) -> bool
         .all(|(kind, value)| is_below(*value, kind.bits()))
 }
 
+/// Whether an interval of a kind doesn't fall and stays within the kind's bits.
+fn is_good(kind: Kind, part: &Interval) -> bool
+    ensures { result ≡ good kind part.now }
+{
+    part.low <= part.high && is_below(part.high, kind.bits())
+}
+
 fn all_intervals_fit(kinds: &[Kind], parts: &[Interval]) -> bool
     ensures { result ≡ intervals_fit kinds.now parts.now }
 {
-    kinds.iter().zip(parts.iter()).all(|(kind, part)| part.low <= part.high
-        && is_below(part.high, kind.bits()))
+    kinds
+        .iter()
+        .zip(parts.iter())
+        .all(|(kind, part)| is_good(*kind, part))
 }
 
 /// Whether a key has one value per kind, each within its kind's bits.
