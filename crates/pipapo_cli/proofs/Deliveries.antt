@@ -1,5 +1,5 @@
 -- What is written in pieces.
-use Rattle.std.proofs.Common.{◌≡◌, refl, sym, ◌∙◌, ap, ℕ, ◌+◌, ◌<◌, ◌≤◌, zero-add, suc-add, Result, Ok, Err, OnErr, List, [], ◌∷◌, ◌++◌, length, take, Option, Some, None, arith, append_assoc, append-nil}
+use Rattle.std.proofs.Common.{◌≡◌, refl, ◌∙◌, ap, ℕ, ◌+◌, ◌≤◌, zero-add, suc-add, Result, Ok, Err, OnErr, List, [], ◌∷◌, ◌++◌, length, take, Option, Some, None, arith, append_assoc}
 use Rattle.std.proofs.lemmas.List.{length-append, take-append-le}
 use Rattle.std.specs.Io.KnownBytes.{Appends, Keeps}
 use Rattle.pip_base.specs.Causes.{Rose}

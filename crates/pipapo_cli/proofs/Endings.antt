@@ -1,15 +1,12 @@
 -- How a call ends, and what follows of its status.
-use Rattle.std.proofs.Common.{◌≡◌, ◌≢◌, refl, sym, ◌∙◌, ap, subst, ℕ, List, [], ◌∷◌, ◌++◌, map, length, Option, Some, None, inl, inr, arith, append-nil}
-use Rattle.std.specs.Prelude.{◌⊎◌}
-use Rattle.std.specs.Io.KnownBytes.{Appends, Keeps}
-use Rattle.pip_base.specs.Causes.{Rose}
+use Rattle.std.proofs.Common.{◌≡◌, ◌∙◌, ap, subst, ℕ, List, [], ◌∷◌, ◌++◌, Option, Some, inl, inr, arith}
+use Rattle.std.specs.Io.KnownBytes.{Appends}
 use Rattle.pipapo_cli.specs.declared.fault.Fault.{Fault}
 use Rattle.pipapo_cli.specs.declared.fault.Fault.TheVariants.{Usage, BadScript, BadKeys, ReadFault, TooLarge, Memory}
-use Rattle.pipapo_cli.specs.Words.{Run, IsRun, IsNoCommand}
-use Rattle.pipapo_cli.specs.Transcript.{IsTranscript, IsOutput}
-use Rattle.pipapo_cli.specs.Causes.{IsCause, FileCause, IsScriptCause, IsKeysCause, IsReadable, IsSized}
+use Rattle.pipapo_cli.specs.Words.{Run, IsRun}
+use Rattle.pipapo_cli.specs.Transcript.{IsOutput}
+use Rattle.pipapo_cli.specs.Causes.{IsCause, FileCause, IsKeysCause, IsReadable, IsSized}
 use Rattle.pipapo_cli.specs.Answers.{Ends, written, cut, memory, IsDue, output, refusal, IsExactly, Transcribes, status_of, line_of}
-use Rattle.set_model.specs.Control.{Strict}
 
 -- a fault of a file is a fault of the call
 pub from-file : (words : List (List ℕ)) (told : List ℕ → Option (List ℕ)) (asked : List (List ℕ)) (before now : ℕ) (fault : Fault)

@@ -1,18 +1,16 @@
 -- Each status comes exactly where its cause is there.
-use Rattle.std.proofs.Common.{◌≡◌, ◌≢◌, refl, sym, ◌∙◌, ap, subst, ℕ, ◌<◌, ◌≤◌, List, [], ◌∷◌, length, Option, Some, None, inl, inr, arith}
+use Rattle.std.proofs.Common.{refl, subst, ℕ, List, [], Option, inl, inr, arith}
 use Rattle.std.specs.Prelude.{◌⊎◌}
 use Rattle.pip_base.specs.Causes.{Rose}
 use Rattle.set_model.specs.declared.script.Script.{Script}
-use Rattle.set_model.specs.declared.packet.Packet.{Packet}
-use Rattle.set_script.specs.ScriptText.{IsScriptText}
 use Rattle.set_script.proofs.ScriptWhole.{script_single}
 use Rattle.key_file.specs.KeysText.{IsKeysText}
 use Rattle.pipapo_cli.specs.declared.fault.Fault.{Fault}
 use Rattle.pipapo_cli.specs.declared.fault.Fault.TheVariants.{Usage, BadScript, BadKeys, ReadFault, TooLarge, Memory}
 use Rattle.pipapo_cli.specs.Words.{Run, IsRun, IsNoCommand}
-use Rattle.pipapo_cli.specs.Transcript.{IsTranscript, IsOutput}
-use Rattle.pipapo_cli.specs.Causes.{IsCause, FileCause, IsScriptCause, IsKeysCause, IsReadable, IsSized, IsBadScript, IsBadKeys, IsTooLarge, size_limit}
-use Rattle.pipapo_cli.specs.Answers.{Ends, written, cut, memory, IsDue, output, refusal, IsExact, IsStatus}
+use Rattle.pipapo_cli.specs.Transcript.{IsOutput}
+use Rattle.pipapo_cli.specs.Causes.{IsScriptCause, IsKeysCause, IsReadable, IsSized, IsBadScript, IsBadKeys, IsTooLarge}
+use Rattle.pipapo_cli.specs.Answers.{Ends, written, cut, memory, IsDue, output, refusal, IsExact}
 use Rattle.pipapo_cli.proofs.Endings.{one-run}
 
 -- What holds of the run that the words ask for holds of each.

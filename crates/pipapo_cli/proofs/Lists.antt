@@ -1,5 +1,5 @@
 -- Lists: what is found, and what is numbered.
-use Rattle.std.proofs.Common.{◌≡◌, refl, sym, ◌∙◌, ap, ℕ, zero, suc, ◌+◌, ◌<◌, ◌≤◌, Bool, true, false, cond, not, ◌||◌, List, [], ◌∷◌, ◌++◌, length, map, filter, find, take, slice_get, Option, Some, None, arith, All, count_by, add-one, slice_index_or}
+use Rattle.std.proofs.Common.{◌≡◌, refl, sym, ◌∙◌, ap, ℕ, zero, suc, ◌+◌, ◌<◌, Bool, true, false, cond, ◌||◌, List, [], ◌∷◌, ◌++◌, length, filter, find, slice_get, Some, None, arith, All, count_by, slice_index_or}
 use Rattle.std.specs.List.{list_any, enumerate_from}
 
 module _ {X : Type 0} where

@@ -1,22 +1,21 @@
 -- What a script of additions of single values does: it is never refused, and its one commit publishes
 -- the loaded elements.
-use Rattle.std.proofs.Common.{◌≡◌, refl, sym, ◌∙◌, ap, ℕ, zero, suc, ◌+◌, ◌-◌, ◌^◌, ◌<◌, ◌≤◌, Bool, true, false, cond, not, ◌&&◌, ◌||◌, ◌==◌, nat_lt, nat_le, List, [], ◌∷◌, ◌++◌, length, map, fold, filter, find, take, drop, slice_get, Option, Some, None, arith, All, slice_index_or, IsTrue, add-one, count_by}
+use Rattle.std.proofs.Common.{◌≡◌, refl, sym, ◌∙◌, ap, ℕ, suc, ◌+◌, ◌-◌, ◌^◌, ◌≤◌, Bool, true, false, cond, not, ◌&&◌, ◌==◌, nat_lt, List, [], ◌∷◌, ◌++◌, length, fold, filter, find, Option, Some, None, arith, All, IsTrue, count_by}
 use Rattle.std.proofs.lemmas.Bool.Decides.{nat_tests}
 use Rattle.std.proofs.lemmas.List.{length-append}
 use Rattle.std.proofs.lemmas.List.Sums.{fold-append}
-use Rattle.std.specs.List.{list_any, range_with_len}
+use Rattle.std.specs.List.{range_with_len}
 use Rattle.set_model.specs.declared.kind.Interval.{Interval}
 use Rattle.set_model.specs.declared.element.Element.{Element}
 use Rattle.set_model.specs.declared.report.Why.{Why}
-use Rattle.set_model.specs.declared.report.Event.{Event}
 use Rattle.set_model.specs.declared.report.Event.TheVariants.{Committed}
 use Rattle.set_model.specs.declared.script.Step.{Step}
-use Rattle.set_model.specs.declared.script.Step.TheVariants.{Change, Commit}
+use Rattle.set_model.specs.declared.script.Step.TheVariants.{Commit}
 use Rattle.set_model.specs.declared.script.SetDecl.{SetDecl}
-use Rattle.set_model.specs.Key.{start_key, end_key, same_parts, parts_fit, intervals_fit}
+use Rattle.set_model.specs.Key.{start_key, end_key, same_parts, intervals_fit}
 use Rattle.set_model.specs.Expiry.{live, lives}
-use Rattle.set_model.specs.SetState.{State, answers, first, is_full, is_crowded, crowded_field, refusal, twin, if_same, in_the_way, add_by, add_new, with_element, purged}
-use Rattle.set_model.specs.Control.{Control, Generation, Strict, step, section, history, start, answered, as_added, first_generation}
+use Rattle.set_model.specs.SetState.{State, answers, first, is_crowded, crowded_field, refusal, twin, if_same, add_by, add_new}
+use Rattle.set_model.specs.Control.{Control, Generation, Strict, step, history, start, answered, as_added, first_generation}
 use Rattle.set_script.specs.Changes.{addition, committed}
 use Rattle.set_script.specs.Plain.{IsPlainSet, IsPlainAddition, plain_kinds}
 use Rattle.pipapo_cli.specs.PlainRun.{is_there, new_element, with_parts, loaded_step, loaded}

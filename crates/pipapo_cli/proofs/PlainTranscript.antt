@@ -1,11 +1,10 @@
 -- The transcript of a plain script and key file is legal, and its text is what is written.
-use Rattle.std.proofs.Common.{◌≡◌, refl, sym, ◌∙◌, ap, ℕ, zero, suc, ◌+◌, ◌-◌, ◌<◌, ◌≤◌, Bool, true, false, List, [], ◌∷◌, ◌++◌, length, map, take, drop, slice_get, Option, Some, None, arith, All, add-one, append-nil, IsTrue, find, option_map, max}
+use Rattle.std.proofs.Common.{◌≡◌, refl, sym, ◌∙◌, ap, ℕ, zero, suc, ◌+◌, ◌<◌, ◌≤◌, List, [], ◌∷◌, ◌++◌, length, map, take, drop, slice_get, Option, Some, None, arith, All, add-one, append-nil, find, option_map, max}
 use Rattle.std.specs.List.{enumerate_from, flat_map, range_with_len}
 use Rattle.std.proofs.lemmas.Option.{slice_get-map, slice_get_within, get_or_from_slice_get}
 use Rattle.std.proofs.lemmas.List.{take_all}
 use Rattle.std.proofs.lemmas.List.{length-map as map-length}
 use Rattle.std.proofs.Math.Seq.{take-nil, drop-length}
-use Rattle.set_model.specs.declared.kind.Interval.{Interval}
 use Rattle.set_model.specs.declared.element.Element.{Element}
 use Rattle.set_model.specs.declared.packet.Packet.{Packet}
 use Rattle.set_model.specs.declared.report.Event.{Event}
@@ -15,9 +14,9 @@ use Rattle.set_model.specs.declared.script.Step.TheVariants.{Commit}
 use Rattle.std.proofs.lemmas.List.Sums.{fold-append}
 use Rattle.set_model.specs.declared.script.Script.{Script}
 use Rattle.set_model.specs.declared.script.SetDecl.{SetDecl}
-use Rattle.set_model.specs.SetState.{State, first, answers, empty_set}
-use Rattle.set_model.specs.Control.{Control, Generation, Strict, history, start, section, first_generation}
-use Rattle.set_model.specs.Legal.{Legal, IsLegalLine, IsLegalPair, IsVerdict, Placed, placed, after, before, last, verdict_of}
+use Rattle.set_model.specs.SetState.{State, answers, empty_set}
+use Rattle.set_model.specs.Control.{Control, Generation, Strict, history, start, first_generation}
+use Rattle.set_model.specs.Legal.{Legal, IsLegalLine, IsVerdict, Placed, placed, after, before, last, verdict_of}
 use Rattle.set_model.specs.Text.{transcript_text, section_text, events_text, lines_text, section_lines}
 use Rattle.set_script.specs.Changes.{committed}
 use Rattle.set_script.specs.Plain.{IsPlainScript, IsPlainSet, IsPlainAddition}

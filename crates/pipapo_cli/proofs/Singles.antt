@@ -1,22 +1,17 @@
 -- Sets of single values: intervals that hold a key are the same intervals, and each is one rule.
-use Rattle.std.proofs.Common.{◌≡◌, refl, sym, ◌∙◌, ap, ℕ, zero, suc, ◌+◌, ◌-◌, ◌^◌, ◌<◌, ◌≤◌, Bool, true, false, cond, not, ◌&&◌, ◌||◌, ◌==◌, nat_lt, nat_le, List, [], ◌∷◌, ◌++◌, length, map, find, slice_get, Option, Some, None, arith, All, slice_index_or, IsTrue}
+use Rattle.std.proofs.Common.{◌≡◌, refl, sym, ◌∙◌, ap, ℕ, zero, suc, ◌≤◌, true, ◌&&◌, ◌==◌, nat_le, List, [], ◌∷◌, length, slice_get, Option, Some, None, arith, All, slice_index_or}
 use Rattle.std.proofs.lemmas.Bool.Decides.{nat_tests}
-use Rattle.std.specs.List.{list_all, list_any, zip, flat_map, range_with_len}
-use Rattle.std.specs.Option.{option_or}
+use Rattle.std.specs.List.{list_all, zip}
 use Rattle.std.proofs.lemmas.List.{length-append}
 use Rattle.set_model.specs.declared.kind.Kind.{Kind}
 use Rattle.set_model.specs.declared.kind.Interval.{Interval}
-use Rattle.set_model.specs.declared.block.Block.{Block}
 use Rattle.set_model.specs.declared.element.Element.{Element}
-use Rattle.set_model.specs.declared.report.Why.{Why}
 use Rattle.set_model.specs.Kind.{bits_of}
-use Rattle.set_model.specs.Key.{contains, parts_hold, same_parts, start_key, end_key, parts_fit}
+use Rattle.set_model.specs.Key.{contains, same_parts, start_key, end_key}
 use Rattle.set_model.specs.Blocks.{blocks}
-use Rattle.set_model.specs.Expiry.{live}
-use Rattle.set_model.specs.SetState.{State, holds, answers, first, blocks_of, field_blocks, field_rules, rules_limit, is_crowded, crowded_field, is_full, refusal, if_same, twin, add, Added, New, Already, with_element, in_the_way}
+use Rattle.set_model.specs.SetState.{answers, blocks_of, field_blocks, field_rules}
 use Rattle.set_model.proofs.BlockLaws.{single}
-use Rattle.pipapo_cli.specs.PlainRun.{is_there, new_element, with_parts}
-use Rattle.pipapo_cli.proofs.Lists.{All-head, All-tail, find-same, find-passes, find-some, find-none, find-never}
+use Rattle.pipapo_cli.proofs.Lists.{All-head, All-tail}
 
 abbrev pub IsSingle : Interval → Type 0
 IsSingle part = part.high ≡ part.low

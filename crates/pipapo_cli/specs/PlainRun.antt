@@ -1,5 +1,5 @@
 -- What the plain engine keeps: the elements of one set of single values, as a list.
-use Rattle.std.specs.Prelude.{ℕ, Bool, true, false, List, [], ◌∷◌, ◌++◌, length, map, fold, find, if◌then◌else◌, Option, Some, None}
+use Rattle.std.specs.Prelude.{ℕ, Bool, List, [], ◌∷◌, ◌++◌, length, map, fold, find, if◌then◌else◌, None}
 use Rattle.std.specs.List.{list_any, enumerate_from}
 use Rattle.set_model.specs.declared.kind.Interval.{Interval}
 use Rattle.set_model.specs.declared.element.Element.{Element}

@@ -1,7 +1,6 @@
-use Rattle.std.proofs.Common.{◌≡◌, refl, sym, ◌∙◌, ap, subst, map, List, ℕ, ◌∷◌, [], inl, inr, Some}
-use Rattle.std.specs.String.{string_bytes}
-use Rattle.pipapo_cli.specs.Words.{Run, IsRun}
-use Rattle.pipapo_cli.specs.Causes.{IsReadable, IsKeysCause}
+use Rattle.std.proofs.Common.{refl, sym, ◌∙◌, inl, inr}
+use Rattle.pipapo_cli.specs.Words.{Run}
+use Rattle.pipapo_cli.specs.Causes.{IsReadable}
 use Rattle.pipapo_cli.proofs.Endings.{from-file, keys-cause}
 use Rattle.pipapo_cli.proofs.command.output_of.Goals as goal
 

@@ -1,6 +1,5 @@
 use Rattle.std.proofs.Common.{map}
 use Rattle.std.specs.String.{string_bytes}
-use Rattle.pipapo_cli.specs.Answers.{Ends, IsDue}
 use Rattle.pipapo_cli.proofs.Deliveries.{ends-map}
 use Rattle.pipapo_cli.proofs.Endings.{headline, due-refusal, due-of-output}
 use Rattle.pipapo_cli.proofs.Exact.{exact}

@@ -1,5 +1,4 @@
-use Rattle.std.proofs.Common.{◌≡◌, sym, ◌∙◌, ap, subst, rules, Some, Err, List, ℕ, length, ◌≤◌, ◌++◌, ◌∷◌, []}
-use Rattle.set_model.specs.declared.packet.Packet.{Packet}
+use Rattle.std.proofs.Common.{◌≡◌, sym, ◌∙◌, ap, subst, Err, List, ℕ, length, ◌≤◌}
 use Rattle.key_file.specs.KeysText.{IsKeysText}
 use Rattle.pipapo_cli.proofs.inputs.keys_of.Goals as goal
 

@@ -1,4 +1,4 @@
-use Rattle.std.proofs.Common.{◌≡◌, sym, ◌∙◌, ap, subst, rules, Some, Err, List, ℕ, length, ◌≤◌}
+use Rattle.std.proofs.Common.{◌≡◌, sym, ◌∙◌, ap, subst, Err, List, ℕ, length, ◌≤◌}
 use Rattle.set_script.specs.ScriptText.{IsScriptText}
 use Rattle.pipapo_cli.proofs.inputs.script_of.Goals as goal
 

@@ -1,4 +1,4 @@
-use Rattle.std.proofs.Common.{◌≡◌, ◌++◌, [], rules, slice_get, Some}
+use Rattle.std.proofs.Common.{◌≡◌, ◌++◌, [], rules}
 use Rattle.std.specs.String.{string_bytes}
 use Rattle.set_model.specs.Text.{events_text, lines_text}
 use Rattle.pipapo_cli.specs.PlainRun.{loaded, plain_lines, plain_number, plain_events}
