@@ -1,0 +1,93 @@
+-- An addition, by what the lookups of the start key and the end key found.
+use Rattle.std.proofs.Common.{◌≡◌, refl, sym, ◌∙◌, ap, subst, ℕ, ◌<◌, ◌^◌, Bool, true, false, ◌&&◌, ◌==◌, nat_le, nat_lt, List, [], ◌∷◌, length, map, get_or, Option, Some, None, arith, cond}
+use Rattle.std.specs.Prelude.{option_map, find, position, if◌then◌else◌}
+use Rattle.std.specs.Option.{option_or}
+use Rattle.std.proofs.lemmas.Bool.{and_parts, and_from}
+use Rattle.std.proofs.lemmas.Bool.Decides.{nat_tests}
+use Rattle.std.proofs.lemmas.List.{length-map}
+use Rattle.set_model.specs.declared.kind.Kind.{Kind}
+use Rattle.set_model.specs.declared.kind.Interval.{Interval}
+use Rattle.set_model.specs.declared.element.Element.{Element}
+use Rattle.set_model.specs.declared.report.Why.{Why}
+use Rattle.set_model.specs.declared.report.Why.TheVariants.{Overlap, Full, RulesFull}
+use Rattle.set_model.specs.Kind.{bits_of}
+use Rattle.set_model.specs.Key.{parts_fit, intervals_fit, key_fits, values_fit, is_good, is_value, start_key, end_key, same_parts}
+use Rattle.set_model.specs.SetState.{State, Added, add, add_by, add_new, add_again, refusal, in_the_way, twin, if_same, first, first_sharing, place, answers, is_full, crowded_field}
+use Rattle.set_tables.proofs.RowLaws.{find-at, find-none}
+use Rattle.pipapo_image.specs.Found.{element_at}
+use Rattle.pipapo_image.specs.Insert.{by_start, by_end, by_size, at_start}
+
+-- the first element, by its place
+first-at : (s : State) (key : List ℕ) (now : ℕ) (o : Option ℕ) → place s key now ≡ o → first s key now ≡ option_map (element_at s) o
+first-at s key now None h = find-none (answers key now) s.elements h
+first-at s key now (Some i) h = find-at (answers key now) s.elements i (record { id = 0; parts = []; expiry = None; comment = [] }) h
+
+by-end : (s : State) (parts : List Interval) (x : Option ℕ) (c : List ℕ) (o : Option ℕ)
+    → add_new s parts x c (option_or (option_map (λ e. Overlap e.id) (option_map (element_at s) o)) (option_or (if is_full s then Some Full else None) (option_map (λ f. RulesFull f) (crowded_field s parts)))) ≡ by_end s parts x c o
+by-end s parts x c None = refl
+by-end s parts x c (Some i) = refl
+
+abbrev refused_by : State → List Interval → Option Element → Option Why
+refused_by s parts o = option_or (option_map (λ e. Overlap e.id) o) (option_or (if is_full s then Some Full else None) (option_map (λ f. RulesFull f) (crowded_field s parts)))
+
+-- where the start key is held by no live element, or by one of other intervals
+abbrev decided : State → List Interval → Option ℕ → List ℕ → ℕ → Option Element → Option Element → Option ℕ → Added × State
+decided s parts x c now at_first at_end o = elim (if_same parts at_first) as (λ _. Added × State) [
+  | Some e ↦ add_again s x o e
+  | None ↦ add_new s parts x c (refused_by s parts (option_or at_first at_end))
+]
+
+by-place : (s : State) (parts : List Interval) (x : Option ℕ) (c : List ℕ) (now : ℕ) (o p : Option ℕ) → place s (end_key parts) now ≡ p
+    → decided s parts x c now (option_map (element_at s) o) (option_map (element_at s) p) o ≡ by_start s parts x c now o
+by-place s parts x c now None p h = by-end s parts x c p ∙ ap (by_end s parts x c) (sym h)
+by-place s parts x c now (Some i) p h = go (same_parts (element_at s i).parts parts) where
+  go : (t : Bool) → (elim (if t then Some (element_at s i) else None) as (λ _. Added × State) [
+    | Some e ↦ add_again s x (Some i) e
+    | None ↦ add_new s parts x c (refused_by s parts (Some (element_at s i)))
+  ]) ≡ at_start s i x t
+  go true = refl
+  go false = refl
+
+pub add-by : (s : State) (parts : List Interval) (x : Option ℕ) (c : List ℕ) (now : ℕ) → s.disjoint ≡ false → add s parts x c now ≡ by_start s parts x c now (place s (start_key parts) now)
+add-by s parts x c now d =
+    let o = place s (start_key parts) now in
+    let p = place s (end_key parts) now in
+    let way : in_the_way s parts now ≡ option_or (first s (start_key parts) now) (first s (end_key parts) now) = ap (λ t. if t then first_sharing s parts now else option_or (first s (start_key parts) now) (first s (end_key parts) now)) d in
+    opened (twin s parts now)
+    ∙ ap (λ z. elim (if_same parts (first s (start_key parts) now)) as (λ _. Added × State) [ Some e ↦ add_again s x o e | None ↦ add_new s parts x c (refused_by s parts z) ]) way
+    ∙ ap (λ z. decided s parts x c now z (first s (end_key parts) now) o) (first-at s (start_key parts) now o refl)
+    ∙ ap (λ z. decided s parts x c now (option_map (element_at s) o) z o) (first-at s (end_key parts) now p refl)
+    ∙ by-place s parts x c now o p refl where
+      opened : (t : Option Element) → add_by s parts x c now t ≡ (elim t as (λ _. Added × State) [ Some e ↦ add_again s x (place s (start_key parts) now) e | None ↦ add_new s parts x c (refused_by s parts (in_the_way s parts now)) ])
+      opened None = refl
+      opened (Some e) = refl
+
+-- ---- the keys of intervals that fit
+lt-from : (m n k : ℕ) → nat_le m n ≡ true → nat_lt n k ≡ true → nat_lt m k ≡ true
+lt-from m n k a b = grind (arith, nat_tests)
+
+ends-fit : (kinds : List Kind) (parts : List Interval) → intervals_fit kinds parts ≡ true → values_fit kinds (end_key parts) ≡ true
+ends-fit [] parts h = refl
+ends-fit (k ∷ kinds) [] h = refl
+ends-fit (k ∷ kinds) (p ∷ parts) h =
+    let a = and_parts (is_good k p) (intervals_fit kinds parts) h in
+    let b = and_parts (nat_le p.low p.high) (is_value k p.high) a.0 in
+    and_from (is_value k p.high) (values_fit kinds (end_key parts)) b.1 (ends-fit kinds parts a.1)
+
+starts-fit : (kinds : List Kind) (parts : List Interval) → intervals_fit kinds parts ≡ true → values_fit kinds (start_key parts) ≡ true
+starts-fit [] parts h = refl
+starts-fit (k ∷ kinds) [] h = refl
+starts-fit (k ∷ kinds) (p ∷ parts) h =
+    let a = and_parts (is_good k p) (intervals_fit kinds parts) h in
+    let b = and_parts (nat_le p.low p.high) (is_value k p.high) a.0 in
+    and_from (is_value k p.low) (values_fit kinds (start_key parts)) (lt-from p.low p.high (2 ^ bits_of k) b.0 b.1) (starts-fit kinds parts a.1)
+
+pub end-fits : (kinds : List Kind) (parts : List Interval) → parts_fit kinds parts ≡ true → key_fits kinds (end_key parts) ≡ true
+end-fits kinds parts h =
+    let a = and_parts (length kinds == length parts) (intervals_fit kinds parts) h in
+    and_from (length kinds == length (end_key parts)) (values_fit kinds (end_key parts)) (ap (λ n. length kinds == n) (length-map parts (λ part. part.high)) ∙ a.0) (ends-fit kinds parts a.1)
+
+pub start-fits : (kinds : List Kind) (parts : List Interval) → parts_fit kinds parts ≡ true → key_fits kinds (start_key parts) ≡ true
+start-fits kinds parts h =
+    let a = and_parts (length kinds == length parts) (intervals_fit kinds parts) h in
+    and_from (length kinds == length (start_key parts)) (values_fit kinds (start_key parts)) (ap (λ n. length kinds == n) (length-map parts (λ part. part.low)) ∙ a.0) (starts-fit kinds parts a.1)

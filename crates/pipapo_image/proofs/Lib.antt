@@ -1,0 +1,11 @@
+pub mod Items
+pub mod WalkLaws
+pub mod Empty
+pub mod BuiltLaws
+pub mod ImageUse
+pub mod Places
+pub mod GrowLaws
+pub mod EndLaws
+pub mod ImageGrowth
+pub mod AddLaws
+pub mod Renewal

@@ -1,0 +1,14 @@
+-- The place that a lookup answers.
+use Rattle.std.proofs.Common.{◌≡◌, sym, ℕ, ◌<◌, Bool, List, [], ◌∷◌, length, Option, Some, None}
+use Rattle.std.specs.Prelude.{position, IfSome}
+use Rattle.std.proofs.lemmas.List.Quantifiers.{position-Some}
+use Rattle.set_model.specs.SetState.{State, place, answers}
+use Rattle.pipapo_image.specs.Found.{IsPlace}
+
+within-by : {X : Type 0} (p : X → Bool) (xs : List X) (o : Option ℕ) → o ≡ position p xs → IfSome o (λ i. i < length xs)
+within-by p xs None h = tt
+within-by p [] (Some i) h = absurd (cc h)
+within-by p (x ∷ xs) (Some i) h = (position-Some p (x ∷ xs) i x (sym h)).0
+
+pub is-place : (s : State) (key : List ℕ) (now : ℕ) (result : Option ℕ) → result ≡ place s key now → IsPlace s key now result
+is-place s key now result h = record { value = h; within = within-by (answers key now) s.elements result h }

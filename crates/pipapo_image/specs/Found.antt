@@ -1,0 +1,18 @@
+-- What a lookup answers.
+use Rattle.std.specs.Prelude.{◌≡◌, ℕ, ◌<◌, List, [], length, Option, None, IfSome, option_map, get_or}
+use Rattle.set_model.specs.declared.element.Element.{Element}
+use Rattle.set_model.specs.declared.packet.Found.{Found}
+use Rattle.set_model.specs.SetState.{State, place}
+
+-- the element at a place
+abbrev pub element_at : State → ℕ → Element
+element_at s i = get_or s.elements i (record { id = 0; parts = []; expiry = None; comment = [] })
+
+-- the place and the id of the first live element that holds the key
+abbrev pub found : State → List ℕ → ℕ → Option Found
+found s key now = option_map (λ i. record { place = i; id = (element_at s i).id }) (place s key now)
+
+-- an answer that is that place, which is one of the list
+pub record IsPlace (s : State) (key : List ℕ) (now : ℕ) (result : Option ℕ) : Type 0 where
+  pub value : result ≡ place s key now
+  pub within : IfSome result (λ i. i < length s.elements)

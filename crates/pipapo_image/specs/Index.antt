@@ -1,0 +1,22 @@
+-- An index: its shape, and the list of elements whose tables it is.
+use Rattle.std.specs.Prelude.{◌≡◌, ◌-◌, List, length, get_or}
+use Rattle.lookup_table.specs.declared.table.FieldTable.{FieldTable}
+use Rattle.set_model.specs.declared.kind.Kind.{Kind}
+use Rattle.set_model.specs.declared.element.Element.{Element}
+use Rattle.set_tables.specs.Tables.{last_ends}
+use Rattle.pipapo_image.specs.declared.index.Index.{Index}
+use Rattle.pipapo_image.specs.Walk.{IsWalk}
+use Rattle.pipapo_image.specs.Standing.{AreFieldsOf, AreMapsOf}
+
+-- An index is shaped: at least one field, one mapping fewer than fields, spans inside the next
+-- field's rules, and one end for each rule of the last.
+pub record IsShaped (index : Index) : Type 0 where
+  pub walk : IsWalk index.fields index.maps
+  pub one_end_each : (t : FieldTable) → length index.ends.items ≡ (get_or index.fields (length index.fields - 1) t).rules
+
+-- The index is the tables of the elements: the rules of each field at the right width, each rule's
+-- span of the next field, and the ends of the last.
+pub record IsIndexOf (kinds : List Kind) (es : List Element) (index : Index) : Type 0 where
+  pub fields : AreFieldsOf kinds es index.fields
+  pub maps : AreMapsOf kinds es index.maps
+  pub ends : index.ends.items ≡ last_ends kinds es

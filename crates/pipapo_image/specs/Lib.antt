@@ -1,0 +1,10 @@
+pub mod Room
+pub mod Walk
+pub mod Standing
+pub mod Index
+pub mod Image
+pub mod Found
+pub mod Built
+pub mod Grow
+pub mod Insert
+pub mod Changes

@@ -1,0 +1,8 @@
+-- Room for a field's rules.
+use Rattle.std.specs.Prelude.{◌+◌, ◌≤◌, length}
+use Rattle.bit_rows.specs.Row.{Row}
+use Rattle.set_model.specs.SetState.{rules_limit}
+
+-- The row has room for as many rules as a field can have.
+pub record HasRoom (row : Row) : Type 0 where
+  pub room : rules_limit ≤ length row.bits + row.spare

@@ -1,0 +1,136 @@
+ghost use Rattle.std.specs.Prelude.{◌≡◌, ◌+◌, ◌-◌, ◌≤◌, ◌<◌, ◌^◌, List, ℕ, length, position, All, ◌&&◌, IfOk, get_or, []};
+ghost use Rattle.lookup_table.specs.declared.table.FieldTable.{FieldTable as Table};
+ghost use Rattle.set_model.specs.SetState.{answers};
+ghost use Rattle.set_model.specs.declared.kind.Kind.{Kind as OneKind};
+ghost use Rattle.set_model.specs.declared.element.Element.{Element};
+ghost use Rattle.set_model.specs.declared.block.Block.{Block};
+ghost use Rattle.set_model.specs.Blocks.{holds_value};
+ghost use Rattle.lookup_table.specs.Rules.{Stands};
+ghost use Rattle.set_tables.specs.Rows.{matched, led_to};
+ghost use Rattle.set_tables.specs.Core.{row_of};
+ghost use Rattle.set_tables.specs.Search.{key_tests};
+ghost use Rattle.pipapo_image.specs.Room.{HasRoom};
+ghost use Rattle.pipapo_image.specs.Walk.{IsWalk, IsKeyOf};
+ghost use Rattle.pipapo_image.specs.Standing.{IsTableOf, AreFieldsOf, AreMapsOf};
+
+use crate::per_field::{Fields, Maps};
+use crate::scratch::Scratch;
+use bit_rows::BitRow;
+use lookup_table::FieldTable;
+use mapping_table::{EndTable, MapTable};
+use set_model::{Key, Kind, Kinds, Memory};
+use std::alloc::Global;
+
+/// The tables of a list of elements. It holds no interval.
+#[derive(Drop)]
+pub struct Index {
+    /// The rules of each field.
+    pub fields: Fields,
+    /// The way from each field but the last to the next: one fewer than fields.
+    pub maps: Maps,
+    /// The way from the last field's rules to the elements.
+    pub ends: EndTable,
+}
+
+impl Index {
+    ghost use Rattle.pipapo_image.specs.Index.{IsShaped, IsIndexOf};
+
+    /// The tables of no elements, with a field for each kind.
+    ///
+    /// # Errors
+    /// `Memory` if there is none left.
+    pub(crate) fn new(alloc: Global, kinds: &Kinds) -> Result<Index, Memory>
+        requires { 1 ≤ length kinds.now }
+        ensures { IfOk result (IsIndexOf kinds.now []) }
+    {
+        let mut fields = Fields::new(alloc);
+        let mut maps = Maps::new(alloc);
+        'kinds: for kind in kinds.as_slice() {
+            if fields.len() > 0 {
+                maps.push(MapTable::new(alloc))?;
+            }
+            fields.push(empty_table(alloc, *kind)?)?;
+        }
+        Ok(Index {
+            fields,
+            maps,
+            ends: EndTable::new(alloc),
+        })
+    }
+
+    /// The place of the first element that is live at `now`, in milliseconds, and holds the key, in
+    /// every list of elements whose tables these are. `None` where there is none. It takes no
+    /// memory.
+    pub fn find(&self, key: &Key, now: u64, scratch: &mut Scratch) -> Option<u64>
+        requires shaped { IsShaped self.now }
+        requires key { IsKeyOf self.now.fields key.now }
+        ensures { (kinds : List OneKind) (es : List Element) → IsIndexOf kinds es self.now → All (λ e. length e.parts ≡ length kinds) es
+            → result ≡ position (answers key.now now) es }
+    {
+        let row = &mut scratch.row;
+        walk(
+            self.fields.as_slice(),
+            self.maps.as_slice(),
+            key.as_slice(),
+            row,
+            &mut scratch.next,
+        );
+        led(&self.ends, row, now)
+    }
+}
+
+/// The table of a field without rules.
+fn empty_table(alloc: Global, kind: Kind) -> Result<FieldTable, Memory>
+    ensures { IfOk result (IsTableOf kind []) }
+{
+    let table = FieldTable::new(alloc, kind.bits())?;
+    Ok(table)
+}
+
+/// Leaves bit `r` of the row set where rule `r`'s block holds the value.
+fn match_field(table: &FieldTable, value: u128, row: &mut BitRow)
+    requires length { length row.old.bits ≡ table.now.rules }
+    requires value { value < 2 ^ table.now.bits }
+    ensures bits { (blocks : List Block) → Stands table.now blocks → row.new.bits ≡ matched (λ b. holds_value b value) blocks row.old.bits }
+    ensures len { length row.new.bits ≡ length row.old.bits }
+    ensures spare { row.new.spare ≡ row.old.spare }
+{
+    table.match_into(value, row);
+}
+
+/// Leaves in `row` the rules of the last field that the key leads to: all ones in the first field,
+/// an AND with one bucket per group, and on to the next field through the spans of what is left.
+fn walk(fields: &[FieldTable], maps: &[MapTable], key: &[u128], row: &mut BitRow, next: &mut BitRow)
+    requires shaped { IsWalk fields.now maps.now }
+    requires key { IsKeyOf fields.now key.now }
+    requires room { HasRoom row.old }
+    requires next_room { HasRoom next.old }
+    ensures row { (kinds : List OneKind) (es : List Element) → AreFieldsOf kinds es fields.now → AreMapsOf kinds es maps.now
+        → row.new.bits ≡ row_of kinds es (key_tests key.now) (length maps.now) }
+    ensures length { (t : Table) → length row.new.bits ≡ (get_or fields.now (length maps.now) t).rules }
+    ensures room { HasRoom row.new }
+    ensures next_room { HasRoom next.new }
+{
+    let first = &fields[0];
+    row.fill(first.rules, true);
+    match_field(first, key[0], row);
+    'fields: for f in 0..maps.len() {
+        let map = &maps[f];
+        let field = &fields[f + 1];
+        next.fill(field.rules, false);
+        map.refill(row, next);
+        match_field(field, key[f + 1], next);
+        std::mem::swap(row, next);
+    }
+}
+
+/// The place of the element of the lowest rule of the row whose end is live.
+fn led(ends: &EndTable, row: &BitRow, now: u64) -> Option<u64>
+    requires { length row.now.bits ≡ length ends.now.items }
+    ensures { result ≡ led_to ends.now.items row.now.bits now }
+{
+    match ends.first_live(row, now) {
+        Some(r) => Some(ends.at(r).place),
+        None => None,
+    }
+}

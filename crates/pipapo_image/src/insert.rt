@@ -1,0 +1,281 @@
+ghost use Rattle.std.specs.Prelude.{◌≡◌, ◌+◌, ◌-◌, ◌≤◌, ◌<◌, ◌^◌, ◌==◌, ◌&&◌, true, false, length, OnOk, OnErr, IfOk, None, Some};
+ghost use Rattle.std.specs.List.{list_all, zip};
+ghost use Rattle.set_model.specs.Key.{parts_fit, start_key, end_key, same_parts};
+ghost use Rattle.set_model.specs.SetState.{place, add, is_full, crowded_field, renewed, with_element};
+ghost use Rattle.pipapo_image.specs.Built.{Built};
+ghost use Rattle.pipapo_image.specs.Grow.{IsColumn};
+ghost use Rattle.pipapo_image.specs.Found.{element_at, IsPlace};
+ghost use Rattle.pipapo_image.specs.Insert.{IsAnswer, by_start, by_end, by_size, by_rules, at_start};
+
+use crate::answers::{Added, InsertError};
+use crate::columns::{columns, crowded_field};
+use crate::grow::other_widths;
+use crate::image::SetImage;
+use crate::place::rules_before;
+use crate::scratch::Scratch;
+use set_model::{Block, Comment, Duplicate, Element, Interval, Key, Listed, Memory, Parts};
+use set_tables::End;
+use std::alloc::Global;
+
+/// Whether two lists have the same intervals.
+fn is_same(a: &[Interval], b: &[Interval]) -> bool
+    ensures { result ≡ same_parts a.now b.now }
+{
+    a.len() == b.len() && all_same(a, b)
+}
+
+fn all_same(a: &[Interval], b: &[Interval]) -> bool
+    ensures { result ≡ list_all (λ p. (p.0.low == p.1.low) && (p.0.high == p.1.high)) (zip a.now b.now) }
+{
+    a.iter()
+        .zip(b.iter())
+        .all(|(x, y)| x.low == y.low && x.high == y.high)
+}
+
+fn lows(alloc: Global, parts: &Parts) -> Result<Key, Memory>
+    ensures { IfOk result (λ key. key ≡ start_key parts.now) }
+{
+    let mut key = Listed::new(alloc);
+    'parts: for part in parts.as_slice() {
+        key.push(part.low)?;
+    }
+    Ok(key)
+}
+
+fn highs(alloc: Global, parts: &Parts) -> Result<Key, Memory>
+    ensures { IfOk result (λ key. key ≡ end_key parts.now) }
+{
+    let mut key = Listed::new(alloc);
+    'parts: for part in parts.as_slice() {
+        key.push(part.high)?;
+    }
+    Ok(key)
+}
+
+impl SetImage {
+    /// Adds an element at the end of the list, or renews one of the same intervals, or says why
+    /// not. `expiry` and `now` are in milliseconds.
+    ///
+    /// # Errors
+    /// `Overlap` if a live element holds the start key and has other intervals, or else holds the
+    /// end key; then `Full`; then `RulesFull` with the first field that would have too many rules.
+    /// `Memory` if there is none left. Each leaves the set as it was.
+    pub fn insert(
+        &mut self,
+        alloc: Global,
+        parts: &Parts,
+        expiry: Option<u64>,
+        comment: &Comment,
+        now: u64,
+        scratch: &mut Scratch,
+    ) -> Result<Added, InsertError>
+        requires { parts_fit self.old.kinds parts.now ≡ true }
+        ensures { IsAnswer (add self.old parts.now expiry comment.now now) result self.old self.new }
+    {
+        prove!(!self.disjoint);
+        self.insert_overlapping(alloc, parts, expiry, comment, now, scratch)
+    }
+
+    /// Inserts where elements may share keys.
+    fn insert_overlapping(
+        &mut self,
+        alloc: Global,
+        parts: &Parts,
+        expiry: Option<u64>,
+        comment: &Comment,
+        now: u64,
+        scratch: &mut Scratch,
+    ) -> Result<Added, InsertError>
+        requires { parts_fit self.old.kinds parts.now ≡ true }
+        ensures { IsAnswer (by_start self.old parts.now expiry comment.now now (place self.old (start_key parts.now) now)) result self.old self.new }
+    {
+        match self.start_place(alloc, parts, now, scratch)? {
+            Some(i) => self.insert_at(i, parts, expiry),
+            None => self.insert_apart(alloc, parts, expiry, comment, now, scratch),
+        }
+    }
+
+    /// The place of the first live element that holds the start key.
+    fn start_place(
+        &self,
+        alloc: Global,
+        parts: &Parts,
+        now: u64,
+        scratch: &mut Scratch,
+    ) -> Result<Option<u64>, Memory>
+        requires { parts_fit self.now.kinds parts.now ≡ true }
+        ensures { IfOk result (IsPlace self.now (start_key parts.now) now) }
+    {
+        let key = lows(alloc, parts)?;
+        Ok(self.place(&key, now, scratch))
+    }
+
+    /// The place of the first live element that holds the end key.
+    fn end_place(
+        &self,
+        alloc: Global,
+        parts: &Parts,
+        now: u64,
+        scratch: &mut Scratch,
+    ) -> Result<Option<u64>, Memory>
+        requires { parts_fit self.now.kinds parts.now ≡ true }
+        ensures { IfOk result (IsPlace self.now (end_key parts.now) now) }
+    {
+        let key = highs(alloc, parts)?;
+        Ok(self.place(&key, now, scratch))
+    }
+
+    fn id_at(&self, i: u64) -> u64
+        requires { i < length self.now.elements }
+        ensures { result ≡ (element_at self.now i).id }
+    {
+        self.elements.at(i).id
+    }
+
+    /// Inserts where the element at place `i` holds the start key.
+    fn insert_at(
+        &mut self,
+        i: u64,
+        parts: &Parts,
+        expiry: Option<u64>,
+    ) -> Result<Added, InsertError>
+        requires { i < length self.old.elements }
+        ensures { IsAnswer (at_start self.old i expiry (same_parts (element_at self.old i).parts parts.now)) result self.old self.new }
+    {
+        let found = self.elements.at(i);
+        let id = found.id;
+        if !is_same(found.parts.as_slice(), parts.as_slice()) {
+            return Err(InsertError::Overlap { id });
+        }
+        if expiry.is_none() {
+            return Ok(Added::Already { id });
+        }
+        self.renew(i, expiry);
+        Ok(Added::Renewed { id })
+    }
+
+    /// Gives the element at place `i` another expiry.
+    fn renew(&mut self, i: u64, expiry: Option<u64>)
+        requires { i < length self.old.elements }
+        ensures { self.new ≡ renewed self.old (Some i) expiry }
+    {
+        let _elements = self.elements.len();
+        let _rules = self.index.ends.len();
+        let first = rules_before(self.index.ends.as_slice(), i) as u32;
+        let end = rules_before(self.index.ends.as_slice(), i + 1) as u32;
+        self.index.ends.set_expiry(first, end - first, expiry);
+        self.elements.set_expiry(i, expiry);
+    }
+
+    /// Inserts where no live element holds the start key.
+    fn insert_apart(
+        &mut self,
+        alloc: Global,
+        parts: &Parts,
+        expiry: Option<u64>,
+        comment: &Comment,
+        now: u64,
+        scratch: &mut Scratch,
+    ) -> Result<Added, InsertError>
+        requires { parts_fit self.old.kinds parts.now ≡ true }
+        ensures { IsAnswer (by_end self.old parts.now expiry comment.now (place self.old (end_key parts.now) now)) result self.old self.new }
+    {
+        match self.end_place(alloc, parts, now, scratch)? {
+            Some(i) => Err(InsertError::Overlap { id: self.id_at(i) }),
+            None => self.insert_within(alloc, parts, expiry, comment),
+        }
+    }
+
+    /// Inserts where nothing overlaps.
+    fn insert_within(
+        &mut self,
+        alloc: Global,
+        parts: &Parts,
+        expiry: Option<u64>,
+        comment: &Comment,
+    ) -> Result<Added, InsertError>
+        requires { parts_fit self.old.kinds parts.now ≡ true }
+        ensures { IsAnswer (by_size self.old parts.now expiry comment.now (is_full self.old)) result self.old self.new }
+    {
+        if self.is_full() {
+            Err(InsertError::Full)
+        } else {
+            self.insert_new(alloc, parts, expiry, comment)
+        }
+    }
+
+    /// Whether the set may have no further element.
+    fn is_full(&self) -> bool
+        ensures full { result ≡ is_full self.now }
+        ensures next { result ≡ false → self.now.next < 2 ^ 64 - 1 }
+    {
+        let many = match self.size {
+            Some(size) => size as u64 <= self.elements.len(),
+            None => false,
+        };
+        many || self.next == u64::MAX
+    }
+
+    /// Inserts a new element, where no field gets too many rules.
+    fn insert_new(
+        &mut self,
+        alloc: Global,
+        parts: &Parts,
+        expiry: Option<u64>,
+        comment: &Comment,
+    ) -> Result<Added, InsertError>
+        requires fit { parts_fit self.old.kinds parts.now ≡ true }
+        requires next { self.old.next < 2 ^ 64 - 1 }
+        ensures { IsAnswer (by_rules self.old parts.now expiry comment.now (crowded_field self.old parts.now)) result self.old self.new }
+    {
+        let columns = columns(alloc, &self.kinds, parts)?;
+        match self.first_crowded(&columns, parts) {
+            Some(field) => Err(InsertError::RulesFull { field }),
+            None => Ok(Added::New {
+                id: self.push_new(alloc, &columns, parts, expiry, comment)?,
+            }),
+        }
+    }
+
+    /// The first field that would have too many rules.
+    fn first_crowded(&self, columns: &[Listed<Block>], parts: &Parts) -> Option<u32>
+        requires { Built (IsColumn self.now.kinds parts.now) columns.now (length self.now.kinds) }
+        ensures { result ≡ crowded_field self.now parts.now }
+    {
+        let _ = parts;
+        crowded_field(self.index.fields.as_slice(), columns)
+    }
+
+    /// Puts a new element at the end, which is within all limits. All memory is taken before the
+    /// first change.
+    fn push_new(
+        &mut self,
+        alloc: Global,
+        columns: &[Listed<Block>],
+        parts: &Parts,
+        expiry: Option<u64>,
+        comment: &Comment,
+    ) -> Result<u64, Memory>
+        requires fit { parts_fit self.old.kinds parts.now ≡ true }
+        requires columns { Built (IsColumn self.old.kinds parts.now) columns.now (length self.old.kinds) }
+        requires few { crowded_field self.old parts.now ≡ None }
+        requires next { self.old.next < 2 ^ 64 - 1 }
+        ensures ok { IfOk result (λ id. (id ≡ self.old.next) × (self.new ≡ with_element self.old parts.now expiry comment.now)) }
+        ensures err { OnErr result (self.new ≡ self.old) }
+    {
+        let id = self.next;
+        let place = self.elements.len();
+        let element = Element {
+            id,
+            parts: parts.copy(alloc)?,
+            expiry,
+            comment: comment.copy(alloc)?,
+        };
+        let mut others = other_widths(alloc, self.index.fields.as_slice(), columns)?;
+        self.index.reserve(columns)?;
+        self.elements.push(element)?;
+        self.index.append(others.as_mut_slice(), columns, End { place, expiry });
+        self.next = id + 1;
+        Ok(id)
+    }
+}

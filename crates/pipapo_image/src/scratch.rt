@@ -1,0 +1,54 @@
+ghost use Rattle.std.specs.Prelude.{◌≡◌, ◌+◌, ◌≤◌, length, IfOk};
+ghost use Rattle.pipapo_image.specs.Room.{HasRoom};
+
+use bit_rows::BitRow;
+use set_model::Memory;
+use std::alloc::Global;
+use std::marker::Model;
+
+/// The most rules that a field has.
+pub(crate) const MOST_RULES: u32 = 1_048_576;
+
+/// The rows that a lookup works in, with room for as many rules as a field can have. One is made for
+/// many lookups; what it holds between two of them is of no account.
+#[derive(Drop)]
+pub struct Scratch {
+    pub(crate) row: BitRow,
+    pub(crate) next: BitRow,
+    pub(crate) rest: BitRow,
+    pub(crate) sum: BitRow,
+}
+
+impl Model for Scratch {
+    ghost use Rattle.std.specs.Prelude.{ℕ};
+    ghost use Rattle.set_model.specs.SetState.{rules_limit};
+    ghost use Rattle.pipapo_image.specs.Room.{HasRoom};
+
+    ghost Value = { ℕ };
+
+    ghost view = { λ a. rules_limit };
+
+    ghost invariant = { λ a. HasRoom a.row × HasRoom a.next × HasRoom a.rest × HasRoom a.sum };
+}
+
+impl Scratch {
+    /// Takes the rows' room: 512 KiB in all.
+    ///
+    /// # Errors
+    /// `Memory` if there is none left.
+    pub fn new(alloc: Global) -> Result<Scratch, Memory> {
+        Ok(Scratch {
+            row: roomy_row(alloc)?,
+            next: roomy_row(alloc)?,
+            rest: roomy_row(alloc)?,
+            sum: roomy_row(alloc)?,
+        })
+    }
+}
+
+fn roomy_row(alloc: Global) -> Result<BitRow, Memory>
+    ensures { IfOk result (λ row. HasRoom row) }
+{
+    let row = BitRow::zeros(alloc, MOST_RULES)?;
+    Ok(row)
+}

@@ -1,0 +1,5 @@
+pub mod CoverLaw
+pub mod RowLaws
+pub mod MatchLaws
+pub mod UpdateLaws
+pub mod SearchLaws

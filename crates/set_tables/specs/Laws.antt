@@ -1,0 +1,30 @@
+-- The laws that are proved of the tables.
+use Rattle.std.specs.Prelude.{◌≡◌, ℕ, ◌≤◌, ◌<◌, ◌&&◌, nat_le, Bool, List, length, position, All}
+use Rattle.std.specs.List.{list_any}
+use Rattle.set_model.specs.declared.kind.Kind.{Kind}
+use Rattle.set_model.specs.declared.element.Element.{Element}
+use Rattle.set_model.specs.declared.block.Block.{Block}
+use Rattle.set_model.specs.SetState.{answers}
+use Rattle.set_model.specs.Blocks.{blocks, holds_value}
+use Rattle.set_tables.specs.Tables.{tables}
+use Rattle.set_tables.specs.Search.{searched, row_behind, key_tests}
+use Rattle.set_tables.specs.Core.{row_of, key_row}
+
+-- Some block of an interval's split holds a value exactly where the interval does.
+abbrev pub BlocksCover : Type 0
+BlocksCover = (low high bits v : ℕ) → list_any (λ b. holds_value b v) (blocks low high bits) ≡ (nat_le low v && nat_le v high)
+
+-- Behind field f a walk by any tests has the rules that pass, of elements that passed all fields before.
+abbrev pub RowsHoldMarks : Type 0
+RowsHoldMarks = (kinds : List Kind) (es : List Element) (tests : ℕ → Block → Bool) (f : ℕ) → f < length kinds
+    → row_behind tests (tables kinds es).rules (tables kinds es).maps f ≡ row_of kinds es tests f
+
+-- Behind field f a lookup has the rules whose block holds the value, of elements that hold the key in all fields before.
+abbrev pub RowsHoldCore : Type 0
+RowsHoldCore = (kinds : List Kind) (es : List Element) (key : List ℕ) (f : ℕ) → f < length kinds
+    → row_behind (key_tests key) (tables kinds es).rules (tables kinds es).maps f ≡ key_row kinds es key f
+
+-- A lookup finds the place of the first live element that holds the key.
+abbrev pub LookupFindsFirst : Type 0
+LookupFindsFirst = (kinds : List Kind) (es : List Element) (key : List ℕ) (now : ℕ) → 1 ≤ length kinds → length key ≡ length kinds
+    → All (λ e. length e.parts ≡ length kinds) es → searched (key_tests key) (tables kinds es) now ≡ position (answers key now) es

@@ -1,0 +1,5 @@
+pub mod Rows
+pub mod Tables
+pub mod Search
+pub mod Core
+pub mod Laws
