@@ -192,7 +192,7 @@ fn writes<L: Ledger>(
 ) -> Result<(), Memory>
     requires { writer.readers ≡ 2 }
 {
-    for x in 1..1001 {
+    for x in 1..5001 {
         publish(&mut writer, two(alloc, x)?, x, &mut steps);
     }
     Ok(())
@@ -202,7 +202,7 @@ fn writes<L: Ledger>(
 fn steps_back(pass: Pass<Number>) -> u64 {
     let mut pass = pass;
     let (mut last, mut back) = (0, 0u64);
-    for _ in 0..1000 {
+    for _ in 0..5000 {
         let held = pass.enter();
         let now = held.get().0;
         back = back.wrapping_add((now < last) as u64);
