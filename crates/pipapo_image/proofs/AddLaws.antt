@@ -1,6 +1,6 @@
 -- An addition, by what the lookups of the start key and the end key found.
-use Rattle.std.proofs.Common.{◌≡◌, refl, sym, ◌∙◌, ap, subst, ℕ, ◌<◌, ◌^◌, Bool, true, false, ◌&&◌, ◌==◌, nat_le, nat_lt, List, [], ◌∷◌, length, map, get_or, Option, Some, None, arith, cond}
-use Rattle.std.specs.Prelude.{option_map, find, position, if◌then◌else◌}
+use Rattle.std.proofs.Common.{◌≡◌, refl, sym, ◌∙◌, ap, ℕ, ◌^◌, Bool, true, false, ◌==◌, nat_le, nat_lt, List, [], ◌∷◌, length, Option, Some, None, arith}
+use Rattle.std.specs.Prelude.{option_map, if◌then◌else◌}
 use Rattle.std.specs.Option.{option_or}
 use Rattle.std.proofs.lemmas.Bool.{and_parts, and_from}
 use Rattle.std.proofs.lemmas.Bool.Decides.{nat_tests}
@@ -12,10 +12,10 @@ use Rattle.set_model.specs.declared.report.Why.{Why}
 use Rattle.set_model.specs.declared.report.Why.TheVariants.{Overlap, Full, RulesFull}
 use Rattle.set_model.specs.Kind.{bits_of}
 use Rattle.set_model.specs.Key.{parts_fit, intervals_fit, key_fits, values_fit, is_good, is_value, start_key, end_key, same_parts}
-use Rattle.set_model.specs.SetState.{State, Added, add, add_by, add_new, add_again, refusal, in_the_way, twin, if_same, first, first_sharing, place, answers, is_full, crowded_field}
+use Rattle.set_model.specs.SetState.{State, Added, add, add_by, add_new, add_again, in_the_way, twin, if_same, first, first_sharing, place, answers, is_full, crowded_field}
 use Rattle.set_tables.proofs.RowLaws.{find-at, find-none}
 use Rattle.pipapo_image.specs.Found.{element_at}
-use Rattle.pipapo_image.specs.Insert.{by_start, by_end, by_size, at_start}
+use Rattle.pipapo_image.specs.Insert.{by_start, by_end, at_start}
 
 -- the first element, by its place
 first-at : (s : State) (key : List ℕ) (now : ℕ) (o : Option ℕ) → place s key now ≡ o → first s key now ≡ option_map (element_at s) o

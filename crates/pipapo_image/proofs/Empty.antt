@@ -1,5 +1,5 @@
 -- Tables without rules.
-use Rattle.std.proofs.Common.{◌≡◌, refl, sym, subst, ℕ, List, [], get_or, ◌+◌, ◌≤◌, arith}
+use Rattle.std.proofs.Common.{◌≡◌, refl, sym, subst, ℕ, List, [], get_or, arith}
 use Rattle.set_model.specs.declared.kind.Kind.{Kind}
 use Rattle.set_model.specs.declared.kind.Kind.TheVariants.{Ipv4, Ipv6, Ether, Proto, Service, Mark}
 use Rattle.set_model.specs.Kind.{bits_of}

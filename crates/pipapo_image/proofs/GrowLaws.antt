@@ -1,6 +1,6 @@
 -- Columns, and the tables that take them.
-use Rattle.std.proofs.Common.{◌≡◌, refl, sym, ◌∙◌, ap, subst, ℕ, ◌+◌, ◌^◌, ◌<◌, ◌≤◌, Bool, true, false, ◌&&◌, nat_le, nat_lt, ◌==◌, List, [], ◌∷◌, length, map, get_or, slice_get, Option, Some, None, arith, zero, suc, zero-add}
-use Rattle.std.specs.Prelude.{All, find, slice_index, position}
+use Rattle.std.proofs.Common.{◌≡◌, refl, sym, ◌∙◌, ap, subst, ℕ, ◌^◌, ◌<◌, ◌≤◌, Bool, true, false, nat_le, nat_lt, ◌==◌, List, [], ◌∷◌, length, get_or, slice_get, Some, None, arith, zero, suc, zero-add}
+use Rattle.std.specs.Prelude.{All, find, slice_index}
 use Rattle.std.specs.List.{range_with_len}
 use Rattle.std.proofs.lemmas.Bool.{and_parts}
 use Rattle.std.proofs.lemmas.Bool.Decides.{nat_tests}
@@ -18,7 +18,6 @@ use Rattle.set_model.specs.SetState.{blocks_of}
 use Rattle.range_expand.specs.Split.{IsInterval}
 use Rattle.range_expand.proofs.SplitLaws.{blocks-within}
 use Rattle.lookup_table.specs.declared.table.FieldTable.{FieldTable}
-use Rattle.lookup_table.specs.Rules.{KeepsRules}
 use Rattle.set_tables.specs.Search.{of_field}
 use Rattle.set_tables.proofs.RowLaws.{find-at, find-none}
 use Rattle.mapping_table.proofs.LedLaws.{position-first, position-nowhere}

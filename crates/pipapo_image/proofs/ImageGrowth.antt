@@ -1,15 +1,13 @@
 -- An image with a new element is an image.
 use Rattle.std.proofs.Common.{◌≡◌, refl, sym, ◌∙◌, ap, subst, ℕ, suc, ◌+◌, ◌-◌, ◌<◌, ◌≤◌, Bool, true, false, nat_lt, List, [], ◌∷◌, ◌++◌, length, get_or, Option, Some, None, arith, length-append, append-nil, zero-add, add-one, zero, cond, ◌⊎◌, inl, inr}
-use Rattle.std.specs.Prelude.{All, find, replicate, slice_index}
+use Rattle.std.specs.Prelude.{All, find, replicate}
 use Rattle.std.specs.List.{range_with_len}
 use Rattle.std.proofs.lemmas.Bool.{ltb-false, cases_lt}
 use Rattle.std.proofs.lemmas.List.Elements.{All-push, All-head, All-tail}
 use Rattle.std.proofs.lemmas.List.Concat.{flat_map-append}
 use Rattle.std.proofs.lemmas.List.FromFn.{length-range_with_len, get_or-range_with_len}
 use Rattle.lookup_table.specs.declared.table.FieldTable.{FieldTable}
-use Rattle.lookup_table.specs.Rules.{Stands}
 use Rattle.lookup_table.specs.Width.{width_of}
-use Rattle.mapping_table.specs.Spared.{Spared}
 use Rattle.set_model.specs.declared.block.Block.{Block}
 use Rattle.set_model.specs.declared.kind.Kind.{Kind}
 use Rattle.set_model.specs.declared.kind.Kind.TheVariants.{Ipv4}
@@ -25,10 +23,10 @@ use Rattle.set_tables.specs.Tables.{split, field_spans, last_ends}
 use Rattle.set_tables.specs.Search.{of_field}
 use Rattle.set_tables.proofs.UpdateLaws.{spans-append, ends-append}
 use Rattle.pipapo_image.specs.declared.index.Index.{Index}
-use Rattle.pipapo_image.specs.Built.{Built, Passed, Each}
+use Rattle.pipapo_image.specs.Built.{Built, Each}
 use Rattle.pipapo_image.specs.Grow.{IsColumn, IsKept, HasSpare, IsOther, IsReady, IsGrown, chosen, counts, new_span, is_over}
 use Rattle.pipapo_image.specs.Changes.{AreColumnsOf, IsSameIndex, IsRoomy, AreReady, IsAppended}
-use Rattle.pipapo_image.specs.Standing.{IsTableOf, AreFieldsOf, AreMapsOf}
+use Rattle.pipapo_image.specs.Standing.{IsTableOf, AreFieldsOf}
 use Rattle.pipapo_image.specs.Index.{IsIndexOf}
 use Rattle.pipapo_image.specs.Image.{IsImage}
 use Rattle.pipapo_image.proofs.GrowLaws.{count-any}

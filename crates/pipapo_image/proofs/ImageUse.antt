@@ -1,11 +1,10 @@
 -- What an image gives to those who use its index.
-use Rattle.std.proofs.Common.{◌≡◌, refl, sym, ◌∙◌, ap, subst, ℕ, zero, suc, ◌+◌, ◌-◌, ◌^◌, ◌<◌, ◌≤◌, Bool, true, ◌&&◌, ◌==◌, nat_lt, List, [], ◌∷◌, length, get_or, arith, add-one}
+use Rattle.std.proofs.Common.{◌≡◌, sym, ◌∙◌, ap, subst, ℕ, zero, suc, ◌+◌, ◌-◌, ◌^◌, ◌<◌, ◌≤◌, Bool, true, ◌==◌, nat_lt, List, [], ◌∷◌, length, get_or, arith, add-one}
 use Rattle.std.specs.Prelude.{All}
 use Rattle.std.proofs.lemmas.Bool.{and_parts}
 use Rattle.std.proofs.lemmas.Bool.Decides.{nat_tests}
 use Rattle.std.proofs.lemmas.List.Elements.{All-weaker}
 use Rattle.lookup_table.specs.declared.table.FieldTable.{FieldTable}
-use Rattle.mapping_table.specs.Spared.{Spared}
 use Rattle.set_model.specs.declared.kind.Kind.{Kind}
 use Rattle.set_model.specs.declared.kind.Kind.TheVariants.{Ipv4}
 use Rattle.set_model.specs.declared.kind.Interval.{Interval}
@@ -13,12 +12,11 @@ use Rattle.set_model.specs.declared.element.Element.{Element}
 use Rattle.set_model.specs.Kind.{bits_of}
 use Rattle.set_model.specs.Key.{key_fits, values_fit, parts_fit, intervals_fit}
 use Rattle.set_model.specs.SetState.{field_rules, rules_limit}
-use Rattle.set_tables.specs.declared.Span.{Span}
-use Rattle.set_tables.specs.Tables.{split, field_spans}
+use Rattle.set_tables.specs.Tables.{split}
 use Rattle.set_tables.proofs.UpdateLaws.{length-spans, length-ends}
 use Rattle.set_tables.proofs.SearchLaws.{spans-inside}
 use Rattle.pipapo_image.specs.declared.index.Index.{Index}
-use Rattle.pipapo_image.specs.Walk.{IsWalk, IsKeyOf}
+use Rattle.pipapo_image.specs.Walk.{IsKeyOf}
 use Rattle.pipapo_image.specs.Index.{IsShaped, IsIndexOf}
 use Rattle.pipapo_image.specs.Image.{IsImage}
 

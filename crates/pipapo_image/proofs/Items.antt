@@ -1,5 +1,5 @@
 -- The items of fields, as the code reads them.
-use Rattle.std.proofs.Common.{◌≡◌, sym, ◌∙◌, ap, subst, ℕ, ◌+◌, ◌-◌, ◌^◌, ◌<◌, ◌≤◌, List, [], ◌∷◌, length, get_or, arith}
+use Rattle.std.proofs.Common.{◌≡◌, sym, ◌∙◌, ap, subst, ℕ, ◌+◌, ◌^◌, ◌<◌, ◌≤◌, List, [], ◌∷◌, length, get_or, arith}
 use Rattle.std.specs.Prelude.{All, slice_index}
 use Rattle.std.proofs.lemmas.List.{get_or_default}
 use Rattle.lookup_table.specs.declared.table.FieldTable.{FieldTable}
@@ -12,7 +12,7 @@ use Rattle.set_model.specs.SetState.{field_rules}
 use Rattle.set_tables.specs.declared.Span.{Span}
 use Rattle.set_tables.specs.Tables.{field_spans}
 use Rattle.pipapo_image.specs.Walk.{IsWalk, IsKeyOf}
-use Rattle.pipapo_image.specs.Standing.{IsTableOf, AreFieldsOf, AreMapsOf}
+use Rattle.pipapo_image.specs.Standing.{AreFieldsOf, AreMapsOf}
 
 -- the table of field f stands for the elements' rules there
 pub field-stands : (kinds : List Kind) (es : List Element) (fields : List FieldTable) (f : ℕ) (t : FieldTable) → AreFieldsOf kinds es fields → f < length fields → t ≡ get_or fields f t

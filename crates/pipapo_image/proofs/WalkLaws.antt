@@ -1,7 +1,6 @@
 -- One field further in a walk.
-use Rattle.std.proofs.Common.{◌≡◌, refl, sym, ◌∙◌, ap, ℕ, suc, ◌+◌, List, length, add-one, true}
+use Rattle.std.proofs.Common.{◌≡◌, ◌∙◌, ap, ℕ, suc, ◌+◌, List, length, add-one, true}
 use Rattle.std.specs.Prelude.{slice_index, replicate}
-use Rattle.set_model.specs.declared.block.Block.{Block}
 use Rattle.set_model.specs.declared.kind.Kind.{Kind}
 use Rattle.set_model.specs.declared.element.Element.{Element}
 use Rattle.set_model.specs.Blocks.{holds_value}

@@ -1,6 +1,5 @@
 -- What the rules of a new element do to the parts of an index.
-use Rattle.std.specs.Prelude.{◌≡◌, ℕ, ◌+◌, ◌-◌, ◌<◌, ◌≤◌, List, ◌++◌, length, map, get_or, slice_index, Option, Some, None, All, Bool, nat_lt}
-use Rattle.bit_rows.specs.Row.{Row}
+use Rattle.std.specs.Prelude.{◌≡◌, ℕ, ◌+◌, ◌≤◌, List, ◌++◌, length, map, get_or, slice_index, Option, Some, None, All, Bool, nat_lt}
 use Rattle.set_model.specs.declared.block.Block.{Block}
 use Rattle.set_model.specs.declared.kind.Kind.{Kind}
 use Rattle.set_model.specs.declared.kind.Interval.{Interval}
@@ -10,7 +9,6 @@ use Rattle.set_model.specs.SetState.{field_blocks, rules_limit}
 use Rattle.lookup_table.specs.declared.table.FieldTable.{FieldTable}
 use Rattle.lookup_table.specs.Rules.{Stands, KeepsRules}
 use Rattle.lookup_table.specs.Width.{width_of}
-use Rattle.mapping_table.specs.Spared.{Spared}
 use Rattle.set_tables.specs.declared.Span.{Span}
 use Rattle.set_tables.specs.Search.{of_field}
 

@@ -3,7 +3,7 @@ use Rattle.std.specs.Prelude.{◌≡◌, ℕ, Bool, true, false, List, Option, S
 use Rattle.std.specs.Option.{option_or}
 use Rattle.set_model.specs.declared.kind.Interval.{Interval}
 use Rattle.set_model.specs.declared.report.Why.TheVariants.{Overlap as Overlaps, Full as IsFull, RulesFull as TooManyRules}
-use Rattle.set_model.specs.Key.{start_key, end_key, same_parts}
+use Rattle.set_model.specs.Key.{end_key, same_parts}
 use Rattle.set_model.specs.SetState.{State, Added, place, is_full, crowded_field, add_new, add_again}
 use Rattle.set_model.specs.SetState.Added.{New, Already, Renewed, Refused}
 use Rattle.pipapo_image.specs.declared.answers.Added.{Added as Came}

@@ -1,5 +1,5 @@
 -- What a walk through lookup tables and mappings relies on.
-use Rattle.std.specs.Prelude.{◌≡◌, ℕ, ◌+◌, ◌-◌, ◌^◌, ◌<◌, ◌≤◌, List, length, All, slice_index, get_or}
+use Rattle.std.specs.Prelude.{◌≡◌, ℕ, ◌+◌, ◌^◌, ◌<◌, ◌≤◌, List, length, All, slice_index, get_or}
 use Rattle.lookup_table.specs.declared.table.FieldTable.{FieldTable}
 use Rattle.mapping_table.specs.Spared.{Spared}
 use Rattle.set_model.specs.SetState.{rules_limit}

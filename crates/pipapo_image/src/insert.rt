@@ -274,7 +274,8 @@ impl SetImage {
         let mut others = other_widths(alloc, self.index.fields.as_slice(), columns)?;
         self.index.reserve(columns)?;
         self.elements.push(element)?;
-        self.index.append(others.as_mut_slice(), columns, End { place, expiry });
+        self.index
+            .append(others.as_mut_slice(), columns, End { place, expiry });
         self.next = id + 1;
         Ok(id)
     }

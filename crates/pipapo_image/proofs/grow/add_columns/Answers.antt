@@ -1,8 +1,6 @@
-use Rattle.std.proofs.Common.{◌≡◌, ◌+◌, ◌<◌, ◌≤◌, ℕ, List, sym, ◌∙◌, ap, subst, arith, length, get_or, Option, None}
+use Rattle.std.proofs.Common.{◌≡◌, ◌<◌, sym, ◌∙◌, subst, arith, length, get_or, None}
 use Rattle.std.proofs.lemmas.List.{get_or_default}
 use Rattle.std.proofs.Common.{length-set, get_or-set_other}
-use Rattle.set_model.specs.declared.block.Block.{Block}
-use Rattle.lookup_table.specs.declared.table.FieldTable.{FieldTable}
 use Rattle.set_tables.specs.Search.{of_field}
 use Rattle.pipapo_image.specs.Grow.{IsGrown, IsReady, chosen}
 use Rattle.pipapo_image.proofs.BuiltLaws.{passed-more}

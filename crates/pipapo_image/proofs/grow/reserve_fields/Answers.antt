@@ -1,6 +1,4 @@
-use Rattle.std.proofs.Common.{◌≡◌, ◌+◌, ◌<◌, ◌≤◌, ℕ, sym, ◌∙◌, ap, subst, arith, length, get_or}
-use Rattle.std.specs.Prelude.{All}
-use Rattle.lookup_table.specs.declared.table.FieldTable.{FieldTable}
+use Rattle.std.proofs.Common.{◌≡◌, ◌<◌, sym, ◌∙◌, ap, subst, arith, length}
 use Rattle.set_tables.specs.Search.{of_field}
 use Rattle.pipapo_image.specs.Grow.{IsKept, HasSpare}
 use Rattle.pipapo_image.proofs.BuiltLaws.{each-more, set-more}

@@ -1,5 +1,4 @@
-use Rattle.std.proofs.Common.{refl, ◌∙◌, sym, ap}
-use Rattle.std.proofs.Common.{arith}
+use Rattle.std.proofs.Common.{◌∙◌, sym}
 use Rattle.pipapo_image.proofs.Empty.{width-empty, width-eight}
 use Rattle.pipapo_image.proofs.index.empty_table.Goals as goal
 

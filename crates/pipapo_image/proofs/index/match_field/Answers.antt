@@ -1,4 +1,4 @@
-use Rattle.std.proofs.Common.{◌∙◌, sym, ◌<◌, length, ◌≡◌, arith}
+use Rattle.std.proofs.Common.{◌∙◌, sym, arith}
 use Rattle.set_model.specs.declared.block.Block.{Block}
 use Rattle.set_model.specs.Blocks.{holds_value}
 use Rattle.set_tables.proofs.MatchLaws.{matched-by}

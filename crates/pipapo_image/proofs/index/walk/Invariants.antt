@@ -1,4 +1,4 @@
-use Rattle.std.proofs.Common.{◌≡◌, ℕ, List, length, get_or}
+use Rattle.std.proofs.Common.{◌≡◌, List, length, get_or}
 use Rattle.lookup_table.specs.declared.table.FieldTable.{FieldTable}
 use Rattle.set_model.specs.declared.kind.Kind.{Kind}
 use Rattle.set_model.specs.declared.element.Element.{Element}

@@ -1,4 +1,4 @@
-use Rattle.std.proofs.Common.{◌≡◌, ◌+◌, ◌-◌, ◌/◌, ◌<◌, ◌≤◌, arith, length, None, get_or}
+use Rattle.std.proofs.Common.{◌+◌, ◌-◌, ◌/◌, ◌<◌, arith, length, None}
 use Rattle.set_tables.specs.declared.End.{End}
 use Rattle.pipapo_image.proofs.EndLaws.{before-place, not-before-place, rules-within}
 use Rattle.pipapo_image.proofs.place.rules_before.Goals as goal

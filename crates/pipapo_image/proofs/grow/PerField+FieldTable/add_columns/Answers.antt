@@ -1,4 +1,4 @@
-use Rattle.std.proofs.Common.{◌≡◌, ℕ, ◌<◌, List, sym, ◌∙◌, subst, length, get_or, None}
+use Rattle.std.proofs.Common.{ℕ, ◌<◌, List, sym, ◌∙◌, subst, length, get_or, None}
 use Rattle.lookup_table.specs.declared.table.FieldTable.{FieldTable}
 use Rattle.set_tables.specs.Search.{of_field}
 use Rattle.pipapo_image.specs.Grow.{IsReady, chosen}

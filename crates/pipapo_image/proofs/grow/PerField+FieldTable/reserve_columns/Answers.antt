@@ -1,6 +1,5 @@
-use Rattle.std.proofs.Common.{◌≡◌, ℕ, ◌<◌, ◌++◌, List, sym, ◌∙◌, ap, subst, length, get_or, take, drop, arith}
+use Rattle.std.proofs.Common.{◌<◌, sym, ◌∙◌, subst, length, get_or}
 use Rattle.std.proofs.lemmas.List.{with_items_is}
-use Rattle.lookup_table.specs.declared.table.FieldTable.{FieldTable}
 use Rattle.set_tables.specs.Search.{of_field}
 use Rattle.pipapo_image.specs.Grow.{HasSpare}
 use Rattle.pipapo_image.proofs.grow.PerField+FieldTable.reserve_columns.Goals as goal

@@ -1,6 +1,5 @@
-use Rattle.std.proofs.Common.{◌≡◌, ◌∙◌, sym, ap, subst, ℕ, List, true}
-use Rattle.set_model.specs.Key.{key_fits, end_key}
-use Rattle.pipapo_image.specs.Found.{IsPlace}
+use Rattle.std.proofs.Common.{◌≡◌, sym, subst, true}
+use Rattle.set_model.specs.Key.{key_fits}
 use Rattle.pipapo_image.proofs.AddLaws.{end-fits}
 use Rattle.pipapo_image.proofs.image.SetImage.end_place.Goals as goal
 

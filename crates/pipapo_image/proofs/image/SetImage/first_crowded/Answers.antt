@@ -1,6 +1,5 @@
-use Rattle.std.proofs.Common.{◌≡◌, ◌<◌, ◌≤◌, ◌∙◌, sym, ap, subst, arith, length, List}
-use Rattle.lookup_table.specs.declared.table.FieldTable.{FieldTable}
-use Rattle.set_model.specs.SetState.{State, crowded_field, rules_limit}
+use Rattle.std.proofs.Common.{◌∙◌, ap, arith, length}
+use Rattle.set_model.specs.SetState.{State, crowded_field}
 use Rattle.std.specs.Prelude.{find}
 use Rattle.std.specs.List.{range_with_len}
 use Rattle.pipapo_image.specs.Built.{Built}

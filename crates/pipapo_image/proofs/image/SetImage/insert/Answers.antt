@@ -1,5 +1,4 @@
-use Rattle.std.proofs.Common.{◌≡◌, ◌∙◌, sym, ap, subst, false}
-use Rattle.set_model.specs.SetState.{State, Added}
+use Rattle.std.proofs.Common.{◌∙◌, sym, ap, subst}
 use Rattle.pipapo_image.specs.Insert.{IsAnswer}
 use Rattle.pipapo_image.proofs.AddLaws.{add-by}
 use Rattle.pipapo_image.proofs.image.SetImage.insert.Goals as goal

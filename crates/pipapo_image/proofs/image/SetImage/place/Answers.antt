@@ -1,4 +1,4 @@
-use Rattle.std.proofs.Common.{◌∙◌, sym, ap}
+use Rattle.std.proofs.Common.{◌∙◌, ap}
 use Rattle.set_model.specs.Key.{key_fits}
 use Rattle.set_model.specs.SetState.{place}
 use Rattle.pipapo_image.proofs.ImageUse.{image-shaped, key-of, all-long}

@@ -1,11 +1,11 @@
-use Rattle.std.proofs.Common.{◌≡◌, ◌+◌, ◌<◌, ◌≤◌, ◌∙◌, sym, ap, subst, arith, ℕ, List, length, get_or, Option, None, refl}
+use Rattle.std.proofs.Common.{sym, ap, subst, List, length, get_or}
 use Rattle.lookup_table.specs.declared.table.FieldTable.{FieldTable}
 use Rattle.set_model.specs.declared.element.Element.{Element}
-use Rattle.set_model.specs.SetState.{State, crowded_field, rules_limit}
+use Rattle.set_model.specs.SetState.{State}
 use Rattle.set_tables.specs.declared.End.{End}
 use Rattle.set_tables.specs.Search.{of_field}
 use Rattle.pipapo_image.specs.Built.{Built}
-use Rattle.pipapo_image.specs.Grow.{IsColumn, IsOther}
+use Rattle.pipapo_image.specs.Grow.{IsOther}
 use Rattle.pipapo_image.specs.Changes.{AreReady, IsAppended}
 use Rattle.pipapo_image.proofs.ImageUse.{image-shaped}
 use Rattle.pipapo_image.proofs.ImageGrowth.{columns-of, image-kept, ready, growth}

@@ -1,6 +1,5 @@
-use Rattle.std.proofs.Common.{◌≡◌, ◌∙◌, sym, ap, subst, ℕ, List, true}
-use Rattle.set_model.specs.Key.{key_fits, start_key}
-use Rattle.pipapo_image.specs.Found.{IsPlace}
+use Rattle.std.proofs.Common.{◌≡◌, sym, subst, true}
+use Rattle.set_model.specs.Key.{key_fits}
 use Rattle.pipapo_image.proofs.AddLaws.{start-fits}
 use Rattle.pipapo_image.proofs.image.SetImage.start_place.Goals as goal
 

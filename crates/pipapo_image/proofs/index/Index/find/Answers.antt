@@ -1,5 +1,4 @@
-use Rattle.std.proofs.Common.{◌≡◌, ◌+◌, ◌-◌, ◌<◌, ◌≤◌, sym, ◌∙◌, ap, subst, arith, ℕ, length, get_or, Bool, List}
-use Rattle.bit_rows.specs.Row.{Row}
+use Rattle.std.proofs.Common.{◌≡◌, ◌-◌, ◌<◌, ◌≤◌, sym, ◌∙◌, ap, subst, arith, length, get_or, List}
 use Rattle.mapping_table.specs.Spared.{Spared}
 use Rattle.lookup_table.specs.declared.table.FieldTable.{FieldTable}
 use Rattle.set_tables.specs.declared.Span.{Span}
@@ -8,8 +7,6 @@ use Rattle.set_tables.specs.Core.{row_of}
 use Rattle.set_tables.specs.Tables.{last_ends}
 use Rattle.set_tables.specs.Search.{key_tests}
 use Rattle.set_tables.proofs.SearchLaws.{led-finds}
-use Rattle.lookup_table.specs.Table.{block_at}
-use Rattle.pipapo_image.specs.Room.{HasRoom}
 use Rattle.pipapo_image.specs.Walk.{IsWalk, IsKeyOf}
 use Rattle.pipapo_image.specs.Standing.{AreFieldsOf, AreMapsOf}
 use Rattle.pipapo_image.proofs.Items.{a-table}

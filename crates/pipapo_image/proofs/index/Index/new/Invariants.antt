@@ -1,4 +1,4 @@
-use Rattle.std.proofs.Common.{◌≡◌, ◌-◌, length}
+use Rattle.std.proofs.Common.{◌-◌}
 use Rattle.pipapo_image.specs.Built.{Built}
 use Rattle.pipapo_image.proofs.Empty.{IsEmptyTable, IsEmptyMap}
 use Rattle.pipapo_image.proofs.index.Index.new.Given as goal

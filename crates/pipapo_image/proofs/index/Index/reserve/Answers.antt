@@ -1,4 +1,4 @@
-use Rattle.std.proofs.Common.{◌≡◌, ◌+◌, ◌-◌, ◌<◌, ◌≤◌, sym, ◌∙◌, ap, arith, length, get_or}
+use Rattle.std.proofs.Common.{◌≡◌, ◌-◌, ◌<◌, sym, ◌∙◌, ap, arith, length}
 use Rattle.set_tables.specs.Search.{of_field}
 use Rattle.pipapo_image.proofs.Items.{a-table}
 use Rattle.pipapo_image.proofs.GrowLaws.{list-at}
