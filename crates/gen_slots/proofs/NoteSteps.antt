@@ -67,6 +67,10 @@ module _ {T X : Type 0} (state : T → X) (follows : X → X → Type 0) (start 
       seats_change s k (set s.views id v ++ w ∷ []) (let none_moved : sum_by moves_of (w ∷ []) ≡ 0 = refl in omega (arith, same, more, none_moved)) (λ j d e. ⊎_elim (views_stay (Sits s k) s.views id v mine (λ i x _. k.each_seat i x) j d)
       (λ (t : w ≡ d). subst (Sits s k j) t (mine.0, (k.made, refl), tt)) (at_snoc (set s.views id v) w d j e))
 
+  -- the same for any two views that are these
+  pub tells_as : (id : ℕ) (v left right : SeatView X) → left ≡ v → right ≡ seat_view Idle v.seen [] 0 → Splits Rule id v left right
+  tells_as id v left right same other = subst (λ (z : SeatView X × SeatView X). Splits Rule id v z.0 z.1) (λ i. (sym same i, sym other i)) (tells id v)
+
   pub meets : (id : ℕ) (v : SeatView X) (other : ℕ) (w : SeatView X) → Joins Rule id v other w (seat_view v.role v.seen w.seen (v.moves + w.moves)) (seat_view Idle [] [] 0)
   meets id v other w s k at apart there = let both : SeatView X = seat_view v.role v.seen w.seen (v.moves + w.moves) in let spent : SeatView X = seat_view Idle [] [] 0 in let mine = k.each_seat id v at in
       let theirs = ⊎_elim (λ (t : (other ≡ id) × (both ≡ w)). absurd (apart t.0)) (λ (t : (other ≢ id) × (get_elem? s.views other ≡ some w)). (k.each_seat other w t.1).0) (at_set s.views id other both w there) in

@@ -172,3 +172,8 @@ module _ {T X : Type 0} (state : T → X) (follows : X → X → Type 0) (start 
             ((k.each_seat id me.0 at).0, (k.each_seat id me.0 at).1, (below, put_here k.stage r 1, known.2))),
         λ i z is'. (ap (λ (a : Role X). seat_view (Out (reader_or 0 a)) me.0.seen me.0.told (me.0.moves + 1)) (sym is ∙ is'), ap rest carried),
       )
+
+  -- the same at any word that is the done word of c
+  pub leaves_at : (slots id : ℕ) (me : M) (r c : ℕ) (v : T) (i : ℕ) → i ≡ 1 + c → me.0.role ≡ Holds r c → me.1 ≡ (32 * r + c, Some v) ∷ [] → EndsWith me.0.seen (state v)
+      → Allows Rule slots id me i (λ x. (x + 256) % 2 ^ 64) (left (step slots i 256 0 none) me)
+  leaves_at slots id me r c v i at is carried shows = subst (λ (z : ℕ). Allows Rule slots id me z (λ x. (x + 256) % 2 ^ 64) (left (step slots z 256 0 none) me)) (sym at) (leaves slots id me r c v is carried shows)

@@ -45,7 +45,7 @@ load-requires g c = let i = c.loop-slot.invariant in let did = i.tried.2 in let 
 pub returns-then-load-counts-clause-seat : goal.returns-then-load-counts-clause-seat
 returns-then-load-counts-clause-seat g c = let i = c.loop-slot.invariant in let did = i.tried.2 in let p = did.plan in let m = i.tried.0 in let before = i.tried.1 in
     let now = c.load.ensures.2.2 c.loop-slot.slot refl (record p { tried = did.tries; checks = p.checks + m }) did.is in
-    let free : c.load.result ≡ get_or p.counts c.loop-slot.slot 0 = c.if-load-counts.true ∙ ap (λ (z : List ℕ). get_or z c.loop-slot.slot 0) (sym did.counts_is) in let took = now.2.0 free in let tries = set did.tries c.loop-slot.slot 0 in
+    let hit = c.if-load-counts.true in let kept = ap (λ (z : List ℕ). get_or z c.loop-slot.slot 0) did.counts_is in let free : c.load.result ≡ get_or p.counts c.loop-slot.slot 0 = omega (arith, hit, kept) in let took = now.2.0 free in let tries = set did.tries c.loop-slot.slot 0 in
     let more : p.checks + m + 1 ≡ p.checks + (m + 1) = omega arith in (
       c.load.ensures.0 ∙ i.table,
       c.load.ensures.2.0 ∙ i.seen,
@@ -59,12 +59,12 @@ returns-then-load-counts-clause-seat g c = let i = c.loop-slot.invariant in let 
 
 pub returns-then-load-counts-clause-berths : goal.returns-then-load-counts-clause-berths
 returns-then-load-counts-clause-berths g c = let i = c.loop-slot.invariant in let did = i.tried.2 in let p = did.plan in let now = c.load.ensures.2.2 c.loop-slot.slot refl (record p { tried = did.tries; checks = p.checks + i.tried.0 }) did.is in
-    let free : c.load.result ≡ get_or p.counts c.loop-slot.slot 0 = c.if-load-counts.true ∙ ap (λ (z : List ℕ). get_or z c.loop-slot.slot 0) (sym did.counts_is) in let took = (now.2.0 free).1 in
+    let hit = c.if-load-counts.true in let kept = ap (λ (z : List ℕ). get_or z c.loop-slot.slot 0) did.counts_is in let free : c.load.result ≡ get_or p.counts c.loop-slot.slot 0 = omega (arith, hit, kept) in let took = (now.2.0 free).1 in
     (took.0, took.1 ∙ did.readers_is, subst (λ (z : List g.row.T-State.Denot × ℕ). WereStored g.T.Version.state z.0 z.1 took.0) (λ j. (i.seen j, did.readers_is j)) took.2, took.3)
 
 pub loop-slot-preserved : goal.loop-slot-preserved
 loop-slot-preserved g c = let i = c.loop-slot.invariant in let did = i.tried.2 in let p = did.plan in let m = i.tried.0 in let before = i.tried.1 in let t = did.tries in let slot = c.loop-slot.slot in let far = c.loop-slot-test.true in let cost₀ = i.cost.0 in let cost₁ = i.cost.1 in elim c.if-slot-published.branch [
-  | then-slot-published+else-load-counts w ↦ let now = w.load.ensures.2.2 slot refl (record p { tried = t; checks = p.checks + m }) did.is in let busy = now.2.1 (λ e. w.if-load-counts.false (e ∙ ap (λ (z : List ℕ). get_or z slot 0) did.counts_is)) in
+  | then-slot-published+else-load-counts w ↦ let now = w.load.ensures.2.2 slot refl (record p { tried = t; checks = p.checks + m }) did.is in let busy = now.2.1 (λ e. let kept = ap (λ (z : List ℕ). get_or z slot 0) did.counts_is in w.if-load-counts.false (omega (arith, e, kept))) in
       let apart = w.if-slot-published.true in let steps_is = w.steps-is in let more : p.checks + m + 1 ≡ p.checks + (m + 1) = omega arith in record {
         table = ap (λ q. q.table_id) w.place-is ∙ (w.load.ensures.0 ∙ i.table);
         seen = ap (λ q. q.me.0.seen) w.place-is ∙ (w.load.ensures.2.0 ∙ i.seen);

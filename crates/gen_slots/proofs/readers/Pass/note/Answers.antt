@@ -1,6 +1,6 @@
 use Rattle.std.proofs.Common.{rules}
-use Rattle.gen_slots.proofs.NoteSteps.{tells}
+use Rattle.gen_slots.proofs.NoteSteps.{tells_as}
 use Rattle.gen_slots.proofs.readers.Pass.note.Goals as goal
 
 pub split_seat-requires : goal.split_seat-requires
-split_seat-requires g c = (search rules, search rules, tells g.T.Version.state g.T.Version.follows _ _ _)
+split_seat-requires g c = (search rules, search rules, tells_as g.T.Version.state g.T.Version.follows _ _ _ _ _ (search rules) (search rules))
