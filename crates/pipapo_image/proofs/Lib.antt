@@ -9,3 +9,4 @@ pub mod EndLaws
 pub mod ImageGrowth
 pub mod AddLaws
 pub mod Renewal
+pub mod FusedLaws

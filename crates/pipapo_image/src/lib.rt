@@ -8,6 +8,7 @@
 mod answers;
 mod changes;
 mod columns;
+mod fused;
 mod grow;
 mod image;
 mod index;
