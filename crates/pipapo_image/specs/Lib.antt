@@ -8,3 +8,4 @@ pub mod Built
 pub mod Grow
 pub mod Insert
 pub mod Changes
+pub mod Copied

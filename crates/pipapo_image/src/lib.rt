@@ -8,6 +8,7 @@
 mod answers;
 mod changes;
 mod columns;
+mod copy;
 mod grow;
 mod image;
 mod index;
