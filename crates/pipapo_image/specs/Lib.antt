@@ -9,3 +9,6 @@ pub mod Grow
 pub mod Insert
 pub mod Changes
 pub mod Copied
+pub mod Runs
+pub mod Shrink
+pub mod Remove
