@@ -10,3 +10,6 @@ pub mod ImageGrowth
 pub mod AddLaws
 pub mod Renewal
 pub mod FusedLaws
+pub mod SpanLaws
+pub mod RunLaws
+pub mod Shrinking
