@@ -9,3 +9,6 @@ pub mod EndLaws
 pub mod ImageGrowth
 pub mod AddLaws
 pub mod Renewal
+pub mod SpanLaws
+pub mod RunLaws
+pub mod Shrinking

@@ -19,11 +19,11 @@ use Rattle.pipapo_image.specs.declared.index.Index.{Index}
 use Rattle.pipapo_image.specs.Standing.{IsTableOf}
 use Rattle.pipapo_image.specs.Image.{IsImage}
 
-abbrev no_element : Element
+abbrev pub no_element : Element
 no_element = record { id = 0; parts = []; expiry = None; comment = [] }
 
 -- the list before, the element, and the list behind it
-apart : (es : List Element) (i : ℕ) (d : Element) → i < length es → es ≡ take i es ++ get_or es i d ∷ drop (suc i) es
+pub apart : (es : List Element) (i : ℕ) (d : Element) → i < length es → es ≡ take i es ++ get_or es i d ∷ drop (suc i) es
 apart es i d h = sym (take-append-drop i es) ∙ ap (λ z. take i es ++ z) (drop_more es i d h ∙ ap (λ n. get_or es i d ∷ drop n es) (add-one i))
 
 renewed-list : (es : List Element) (i : ℕ) (x : Option ℕ) → i < length es → renewed_at es i x ≡ take i es ++ with_expiry x (get_or es i no_element) ∷ drop (suc i) es

@@ -8,3 +8,7 @@ pub mod Built
 pub mod Grow
 pub mod Insert
 pub mod Changes
+pub mod Copied
+pub mod Runs
+pub mod Shrink
+pub mod Remove

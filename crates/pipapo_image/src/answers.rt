@@ -34,3 +34,23 @@ impl From<Memory> for InsertError {
         InsertError::Memory
     }
 }
+
+/// Why a deletion took nothing out.
+#[derive(Clone, Copy, Debug, PartialEq, Eq)]
+pub enum DeleteError {
+    /// No live element has exactly these intervals.
+    Missing,
+    /// Want of memory.
+    Memory,
+}
+
+impl From<Memory> for DeleteError {
+    ghost use Rattle.std.specs.Prelude.{◌≡◌};
+    ghost use Rattle.pipapo_image.specs.declared.answers.DeleteError.TheVariants.{Memory as no_memory_left};
+
+    ghost from_gives = { λ _ e. e ≡ no_memory_left };
+
+    fn from(_: Memory) -> DeleteError {
+        DeleteError::Memory
+    }
+}

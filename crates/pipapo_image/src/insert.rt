@@ -18,7 +18,7 @@ use set_tables::End;
 use std::alloc::Global;
 
 /// Whether two lists have the same intervals.
-fn is_same(a: &[Interval], b: &[Interval]) -> bool
+pub(crate) fn is_same(a: &[Interval], b: &[Interval]) -> bool
     ensures { result ≡ same_parts a.now b.now }
 {
     a.len() == b.len() && all_same(a, b)

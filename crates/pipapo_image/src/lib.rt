@@ -8,15 +8,19 @@
 mod answers;
 mod changes;
 mod columns;
+mod copy;
+mod delete;
+mod drops;
 mod grow;
 mod image;
 mod index;
 mod insert;
 mod per_field;
 mod place;
+mod runs;
 mod scratch;
 
-pub use answers::{Added, InsertError};
+pub use answers::{Added, DeleteError, InsertError};
 pub use image::SetImage;
 pub use index::Index;
 pub use per_field::{Fields, Maps, PerField};

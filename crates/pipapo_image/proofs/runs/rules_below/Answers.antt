@@ -1,0 +1,44 @@
+use Rattle.std.proofs.Common.{◌+◌, ◌-◌, ◌/◌, ◌<◌, ◌∙◌, ap, suc, arith, length}
+use Rattle.set_tables.specs.declared.Span.{Span}
+use Rattle.set_tables.specs.Tables.{split}
+use Rattle.pipapo_image.proofs.SpanLaws.{before-rule, not-before-rule, spans-front}
+use Rattle.pipapo_image.proofs.runs.rules_below.Goals as goal
+
+pub halves-init : goal.halves-init
+halves-init c = record {
+  within = omega (arith, c.len-high.ensures, ap length c.as_slice-spans.ensures);
+  order = omega arith;
+  rules = λ kinds es f place e some n.
+      let front = spans-front (split kinds f) (split kinds (suc f)) es c.args.map.now.items place e in
+      (omega arith, omega (arith, c.len-high.ensures));
+}
+
+pub halves-preserved-then-spans-middle : goal.halves-preserved-then-spans-middle
+halves-preserved-then-spans-middle c =
+    let d : Span = record { first = 0; count = 0 } in
+    let m = c.halves.low + (c.halves.high - c.halves.low) / 2 in
+    let inside : m < length c.as_slice-spans.result.now = omega (arith, c.halves.invariant.within, c.halves-test.true) in
+    record {
+      within = c.halves.invariant.within;
+      order = omega (arith, c.halves-test.true);
+      rules = λ kinds es f place e some n.
+          (before-rule (split kinds f) (split kinds (suc f)) es c.as_slice-spans.result.now place m c.args.first d (c.as_slice-spans.ensures ∙ e) n inside c.if-spans-middle.true, (c.halves.invariant.rules kinds es f place e some n).1);
+    }
+
+pub halves-preserved : goal.halves-preserved
+halves-preserved c =
+    let d : Span = record { first = 0; count = 0 } in
+    let m = c.halves.low + (c.halves.high - c.halves.low) / 2 in
+    record {
+      within = omega (arith, c.halves.invariant.within, c.halves-test.true);
+      order = omega (arith, c.halves-test.true);
+      rules = λ kinds es f place e some n.
+          ((c.halves.invariant.rules kinds es f place e some n).0, not-before-rule (split kinds f) (split kinds (suc f)) es c.as_slice-spans.result.now place m c.args.first d some (c.as_slice-spans.ensures ∙ e) n c.if-spans-middle.false);
+    }
+
+pub returns : goal.returns
+returns c = λ kinds es f place e some n.
+    let r = c.halves.invariant.rules kinds es f place e some n in
+    let a = r.0 in
+    let b = r.1 in
+    omega (arith, c.halves.invariant.order)

@@ -1,0 +1,22 @@
+-- What a deletion answers, and the set that it leaves.
+use Rattle.std.specs.Prelude.{◌≡◌, ℕ, ◌<◌, List, length, Option, Some, None, Result, Ok, Err, position, remove, IfSome}
+use Rattle.set_model.specs.declared.kind.Interval.{Interval}
+use Rattle.set_model.specs.SetState.{State, is_exactly}
+use Rattle.pipapo_image.specs.declared.answers.DeleteError.{DeleteError}
+use Rattle.pipapo_image.specs.declared.answers.DeleteError.TheVariants.{Missing, Memory}
+
+-- The call answers the id and leaves the set without the element; or there is no such element, or
+-- there was no memory, and the set is as it was.
+abbrev pub IsRemoval : Option (ℕ × State) → Result ℕ DeleteError → State → State → Type 0
+IsRemoval answer (Ok id) old new = answer ≡ Some (id, new)
+IsRemoval answer (Err Missing) old new = (answer ≡ None) × (new ≡ old)
+IsRemoval answer (Err Memory) old new = new ≡ old
+
+-- the place of the first live element of exactly these intervals, which is one of the list
+pub record IsExactPlace (s : State) (parts : List Interval) (now : ℕ) (result : Option ℕ) : Type 0 where
+  pub value : result ≡ position (is_exactly parts now) s.elements
+  pub within : IfSome result (λ i. i < length s.elements)
+
+-- the set without the element at a place
+abbrev pub without_at : State → ℕ → State
+without_at s i = record s { elements = remove s.elements i }

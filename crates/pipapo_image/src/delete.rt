@@ -1,0 +1,77 @@
+ghost use Rattle.std.specs.Prelude.{◌≡◌, ◌<◌, length, OnErr, IfOk, IfSome, position};
+ghost use Rattle.set_model.specs.Expiry.{live};
+ghost use Rattle.set_model.specs.SetState.{is_exactly, removed};
+ghost use Rattle.pipapo_image.specs.Found.{element_at};
+ghost use Rattle.pipapo_image.specs.Remove.{IsRemoval, IsExactPlace, without_at};
+
+use crate::answers::DeleteError;
+use crate::drops::other_widths_without;
+use crate::image::SetImage;
+use crate::insert::is_same;
+use set_model::{Element, Interval, Memory, Parts};
+use std::alloc::Global;
+
+fn is_live(element: &Element, now: u64) -> bool
+    ensures { result ≡ live element.now now }
+{
+    match element.expiry {
+        None => true,
+        Some(moment) => now < moment,
+    }
+}
+
+/// The place of the first element that is live and has exactly these intervals.
+fn exact_place(elements: &[Element], parts: &[Interval], now: u64) -> Option<usize>
+    ensures value { result ≡ position (is_exactly parts.now now) elements.now }
+    ensures within { IfSome result (λ i. i < length elements.now) }
+{
+    elements
+        .iter()
+        .position(|e| is_live(e, now) && is_same(e.parts.as_slice(), parts))
+}
+
+impl SetImage {
+    /// Takes the first element out that is live at `now`, in milliseconds, and has exactly these
+    /// intervals, and answers its id. The rules of the later elements close up.
+    ///
+    /// # Errors
+    /// `Missing` exactly if there is no such element, also where an expired one has these intervals.
+    /// `Memory` if there is none left. Each leaves the set as it was.
+    pub fn delete(&mut self, alloc: Global, parts: &Parts, now: u64) -> Result<u64, DeleteError>
+        ensures { IsRemoval (removed self.old parts.now now) result self.old self.new }
+    {
+        match self.exact_at(parts, now) {
+            None => Err(DeleteError::Missing),
+            Some(i) => Ok(self.remove_at(alloc, i)?),
+        }
+    }
+
+    /// The place of the first element that is live and has exactly these intervals.
+    fn exact_at(&self, parts: &Parts, now: u64) -> Option<u64>
+        ensures { IsExactPlace self.now parts.now now result }
+    {
+        match exact_place(self.elements.as_slice(), parts.as_slice(), now) {
+            Some(i) => Some(i as u64),
+            None => None,
+        }
+    }
+
+    /// Takes the element at place `i` out, and answers its id. All memory is taken before the first
+    /// change.
+    fn remove_at(&mut self, alloc: Global, i: u64) -> Result<u64, Memory>
+        requires { i < length self.old.elements }
+        ensures ok { IfOk result (λ id. (id ≡ (element_at self.old i).id) × (self.new ≡ without_at self.old i)) }
+        ensures err { OnErr result (self.new ≡ self.old) }
+    {
+        let runs = self.runs(alloc, i)?;
+        let mut others = other_widths_without(
+            alloc,
+            self.index.fields.as_slice(),
+            runs.as_slice(),
+        )?;
+        self.index
+            .drop_element(others.as_mut_slice(), runs.as_slice());
+        let element = self.elements.remove(i);
+        Ok(element.id)
+    }
+}
