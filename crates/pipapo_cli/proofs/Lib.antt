@@ -6,3 +6,5 @@ mod PlainTranscript
 mod Deliveries
 mod Endings
 mod Exact
+mod Asking
+mod Completed

@@ -10,7 +10,10 @@ use Rattle.set_model.specs.declared.script.Script.{Script}
 use Rattle.set_model.specs.declared.packet.Packet.{Packet}
 use Rattle.set_script.specs.ScriptText.{IsScriptText}
 use Rattle.key_file.specs.KeysText.{IsKeysText}
+use Rattle.set_model.specs.declared.report.Line.{Line}
 use Rattle.set_model.specs.Control.{Strict}
+use Rattle.set_model.specs.Legal.{Legal}
+use Rattle.set_model.specs.Text.{transcript_text}
 use Rattle.pipapo_cli.specs.Transcript.{IsOutput, IsTranscript}
 use Rattle.pipapo_cli.specs.Causes.{IsCause, IsReadable, IsSized, size_limit}
 
@@ -63,6 +66,29 @@ Transcribes words told before after =
     (run : Run) (script_text keys_text taken_before taken_now : List ℕ) → IsRun words run
     → told run.script ≡ Some script_text → told run.keys ≡ Some keys_text → before ≡ Some taken_before → after ≡ Some taken_now
     → (output : List ℕ) × (taken_now ≡ taken_before ++ output) × IsTranscript script_text keys_text 1 Strict output
+
+-- A read fault was told: the line names the last name that was asked for, and the shelf's count rose.
+pub record TellsReadFault (asked : List (List ℕ)) (before now : ℕ) (taken_before taken_now : Option (List ℕ)) : Type 0 where
+  pub front : List (List ℕ)
+  pub name : List ℕ
+  pub last : asked ≡ front ++ name ∷ []
+  pub rose : Rose before now
+  pub line : Appends taken_before taken_now (named_line (codes "pipapo: read fault: ") name)
+
+-- The transcript of a script and a key file was written whole, and the status is 0.
+pub record Delivers (s : Script) (keys : List (List Packet)) (taken_before taken_now : Option (List ℕ)) (result : ℕ) : Type 0 where
+  pub lines : List Line
+  pub legal : Legal s keys 1 Strict lines
+  pub written : Appends taken_before taken_now (transcript_text Strict s keys lines)
+  pub status : result ≡ 0
+
+-- Where the words are a command, and both files are within their size and stand for a script and a key
+-- file, the transcript of exactly these was written; or memory was wanting, and nothing was written.
+abbrev pub Completes : List (List ℕ) → (List ℕ → Option (List ℕ)) → Option (List ℕ) → Option (List ℕ) → ℕ → Type 0
+Completes words told taken_before taken_now result =
+    (run : Run) (text keys_text : List ℕ) (s : Script) (keys : List (List Packet)) → IsRun words run → told run.script ≡ Some text → told run.keys ≡ Some keys_text
+    → length text ≤ size_limit → IsScriptText text s → length keys_text ≤ size_limit → IsKeysText s.schema keys_text keys
+    → Delivers s keys taken_before taken_now result ⊎ ((result ≡ 7) × Keeps taken_before taken_now)
 
 -- A call has this status, or memory was wanting.
 abbrev pub IsStatus : ℕ → ℕ → Type 0

@@ -1,9 +1,10 @@
-ghost use Rattle.std.specs.Prelude.{◌≡◌, ◌≢◌, ◌⊎◌, [], ◌∷◌, map, IfOk, IfErr};
+ghost use Rattle.std.specs.Prelude.{◌≡◌, ◌≢◌, ◌⊎◌, [], ◌∷◌, map, IfOk, IfErr, OnOk};
 ghost use Rattle.std.specs.String.{string_bytes};
 ghost use Rattle.pipapo_cli.specs.Words.{Run, IsRun};
 ghost use Rattle.pipapo_cli.specs.Transcript.{IsOutput};
 ghost use Rattle.pipapo_cli.specs.Causes.{IsCause, IsReadable, IsSized};
-ghost use Rattle.pipapo_cli.specs.Answers.{Ends, IsDue, Transcribes, IsExact};
+ghost use Rattle.pipapo_cli.specs.Names.{AsksInOrder, AsksForAll, AreReadWhole};
+ghost use Rattle.pipapo_cli.specs.Answers.{Ends, IsDue, Transcribes, IsExact, Completes, TellsReadFault};
 ghost use Rattle.pip_base.specs.Causes.{Rose};
 
 use crate::delivery::{deliver, tell};
@@ -22,6 +23,8 @@ fn output_of<'a, F: Shelf>(
 ) -> Result<String, Fault<'a>>
     requires { F.asked shelf.old ≡ [] }
     ensures output { IfOk result (λ out. (run : Run) × IsRun (map string_bytes words.now) run × (F.asked shelf.new ≡ run.script ∷ run.keys ∷ []) × (F.faults shelf.new ≡ F.faults shelf.old) × IsReadable run (F.told shelf.old) × IsSized run.keys (F.told shelf.old) × IsOutput run (F.told shelf.old) (string_bytes out)) }
+    ensures names { AsksInOrder (map string_bytes words.now) (F.told shelf.old) (F.asked shelf.new) (F.is_picked shelf.old) (F.is_picked shelf.new) (F.left shelf.new) }
+    ensures whole { OnOk result (AreReadWhole (F.is_picked shelf.old) (F.is_picked shelf.new) (F.left shelf.new) 2) }
     ensures cause { IfErr result (IsCause (map string_bytes words.now) (F.told shelf.old) (F.asked shelf.new) (F.faults shelf.old) (F.faults shelf.new)) }
 {
     let Some(run) = run_of(words) else {
@@ -61,6 +64,18 @@ pub fn pipapo<F: Shelf, K: Sink>(alloc: Global, words: &[String], shelf: &mut F,
     // Where no count of faults rose, each status comes exactly where the words and the files are such,
     // but for want of memory.
     ensures exact { (Rose (F.faults shelf.old) (F.faults shelf.new) → ⊥) → (Rose (K.faults sink.old) (K.faults sink.new) → ⊥) → IsExact (map string_bytes words.now) (F.told shelf.old) result }
+
+    // Where moreover both files are in their grammar, the transcript of exactly that script and key file
+    // was written, or memory was wanting.
+    ensures complete { (Rose (F.faults shelf.old) (F.faults shelf.new) → ⊥) → (Rose (K.faults sink.old) (K.faults sink.new) → ⊥) → Completes (map string_bytes words.now) (F.told shelf.old) (K.taken sink.old) (K.taken sink.new) result }
+
+    // The shelf is asked for no name but the words' file names, in their order; for the key file's only
+    // where the script was read whole and accepted. With status 0 both were read to their ends.
+    ensures names { AsksInOrder (map string_bytes words.now) (F.told shelf.old) (F.asked shelf.new) (F.is_picked shelf.old) (F.is_picked shelf.new) (F.left shelf.new) }
+    ensures all_read { result ≡ 0 → AsksForAll (map string_bytes words.now) (F.asked shelf.new) (F.is_picked shelf.old) (F.is_picked shelf.new) (F.left shelf.new) }
+
+    // With status 5 the shelf's count rose, at the file that the line names: the last one asked for.
+    ensures read_fault { result ≡ 5 → TellsReadFault (F.asked shelf.new) (F.faults shelf.old) (F.faults shelf.new) (K.taken sink.old) (K.taken sink.new) }
 
     // The shelf's count rose only with 5 or 6, and the sink's only with 6. Status 1 doesn't come yet.
     ensures shelf_count { F.faults shelf.new ≢ F.faults shelf.old → (result ≡ 5) ⊎ (result ≡ 6) }

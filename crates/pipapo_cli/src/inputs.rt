@@ -3,6 +3,7 @@ ghost use Rattle.set_script.specs.ScriptText.{IsScriptText};
 ghost use Rattle.set_script.specs.Plain.{IsPlainScript};
 ghost use Rattle.key_file.specs.KeysText.{IsKeysText};
 ghost use Rattle.key_file.specs.Fits.{IsPlainKeys};
+ghost use Rattle.pip_base.specs.Picks.{AsksOnce, KeepsLeft, ReadsToEnd};
 ghost use Rattle.pipapo_cli.specs.Words.{Run as RunNames};
 ghost use Rattle.pipapo_cli.specs.Causes.{IsScriptCause, IsKeysCause, ReadsAs};
 
@@ -24,6 +25,9 @@ pub fn script_of<'a, F: Shelf>(
     ensures plain { IfOk result IsPlainScript }
     ensures read { IfOk result (λ s. (text : List ℕ) → F.told shelf.old name.now ≡ Some text → (length text ≤ 67108864) × IsScriptText text s) }
     ensures quiet { OnOk result ((F.asked shelf.new ≡ name.now ∷ []) × (F.faults shelf.new ≡ F.faults shelf.old)) }
+    ensures whole { OnOk result (ReadsToEnd (F.is_picked shelf.old) (F.is_picked shelf.new) (F.left shelf.new)) }
+    ensures once { AsksOnce (F.asked shelf.old) (F.asked shelf.new) name.now }
+    ensures kept { KeepsLeft (F.is_picked shelf.old) (F.is_picked shelf.new) (F.left shelf.old) (F.left shelf.new) }
     ensures told { (other : List ℕ) → F.told shelf.new other ≡ F.told shelf.old other }
     ensures cause { (keys : List ℕ) → IfErr result (IsScriptCause (record { script = name.now; keys = keys }) (F.told shelf.old) (F.asked shelf.new) (F.faults shelf.old) (F.faults shelf.new)) }
 {
@@ -51,6 +55,9 @@ pub fn keys_of<'a, F: Shelf>(
     ensures plain { IfOk result (IsPlainKeys schema.now) }
     ensures read { IfOk result (λ keys. (text : List ℕ) → F.told shelf.old name.now ≡ Some text → (length text ≤ 67108864) × IsKeysText schema.now text keys) }
     ensures quiet { OnOk result ((F.asked shelf.new ≡ F.asked shelf.old ++ name.now ∷ []) × (F.faults shelf.new ≡ F.faults shelf.old)) }
+    ensures whole { OnOk result (ReadsToEnd (F.is_picked shelf.old) (F.is_picked shelf.new) (F.left shelf.new)) }
+    ensures once { AsksOnce (F.asked shelf.old) (F.asked shelf.new) name.now }
+    ensures kept { KeepsLeft (F.is_picked shelf.old) (F.is_picked shelf.new) (F.left shelf.old) (F.left shelf.new) }
     ensures told { (other : List ℕ) → F.told shelf.new other ≡ F.told shelf.old other }
     ensures cause { (script : List ℕ) → F.asked shelf.old ≡ script ∷ [] → ReadsAs schema.now (F.told shelf.old script) → IfErr result (IsKeysCause (record { script = script; keys = name.now }) (F.told shelf.old) (F.asked shelf.new) (F.faults shelf.old) (F.faults shelf.new)) }
 {

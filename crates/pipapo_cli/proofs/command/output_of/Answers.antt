@@ -2,6 +2,7 @@ use Rattle.std.proofs.Common.{refl, sym, ◌∙◌, inl, inr}
 use Rattle.pipapo_cli.specs.Words.{Run}
 use Rattle.pipapo_cli.specs.Causes.{IsReadable}
 use Rattle.pipapo_cli.proofs.Endings.{from-file, keys-cause}
+use Rattle.pipapo_cli.proofs.Asking.{asks-script, asks-keys, two-whole}
 use Rattle.pipapo_cli.proofs.command.output_of.Goals as goal
 
 pub returns-in-Err-clause-cause : goal.returns-in-Err-clause-cause
@@ -43,3 +44,29 @@ returns-clause-cause g c =
     let run : Run = record { script = c.in-Some.run'.script.now; keys = c.in-Some.run'.keys.now } in
     let readable : IsReadable run (g.F.Shelf.told c.args.shelf.now) = λ text t. let r = c.in-Ok.ensures.read text t in (r.0, (c.in-Ok.script, r.1)) in
     (run, c.in-Some.ensures.found, inr (readable, (inr (rw c.in-Ok.ensures.quiet.0 at c.in-Ok-keys_of.ensures.quiet.0), c.in-Ok-keys_of.ensures.quiet.1 ∙ c.in-Ok.ensures.quiet.1)))
+
+pub returns-in-Err-clause-names : goal.returns-in-Err-clause-names
+returns-in-Err-clause-names g c =
+    let run : Run = record { script = c.in-Some.run'.script.now; keys = c.in-Some.run'.keys.now } in
+    asks-script _ _ _ _ _ _ run c.in-Some.ensures.found (rw c.requires at c.in-Err.ensures.once)
+
+pub returns-in-Err-keys_of-clause-names : goal.returns-in-Err-keys_of-clause-names
+returns-in-Err-keys_of-clause-names g c =
+    let run : Run = record { script = c.in-Some.run'.script.now; keys = c.in-Some.run'.keys.now } in
+    let readable : IsReadable run (g.F.Shelf.told c.args.shelf.now) = λ text t. let r = c.in-Ok.ensures.read text t in (r.0, (c.in-Ok.script, r.1)) in
+    asks-keys _ _ _ _ _ _ _ _ _ run c.in-Some.ensures.found c.in-Ok.ensures.quiet.0 c.in-Err-keys_of.ensures.once readable c.in-Ok.ensures.whole c.in-Err-keys_of.ensures.kept
+
+pub returns-in-Ok-transcript-clause-names : goal.returns-in-Ok-transcript-clause-names
+returns-in-Ok-transcript-clause-names g c =
+    let run : Run = record { script = c.in-Some.run'.script.now; keys = c.in-Some.run'.keys.now } in
+    let readable : IsReadable run (g.F.Shelf.told c.args.shelf.now) = λ text t. let r = c.in-Ok.ensures.read text t in (r.0, (c.in-Ok.script, r.1)) in
+    asks-keys _ _ _ _ _ _ _ _ _ run c.in-Some.ensures.found c.in-Ok.ensures.quiet.0 c.in-Ok-keys_of.ensures.once readable c.in-Ok.ensures.whole c.in-Ok-keys_of.ensures.kept
+
+pub returns-clause-names : goal.returns-clause-names
+returns-clause-names g c =
+    let run : Run = record { script = c.in-Some.run'.script.now; keys = c.in-Some.run'.keys.now } in
+    let readable : IsReadable run (g.F.Shelf.told c.args.shelf.now) = λ text t. let r = c.in-Ok.ensures.read text t in (r.0, (c.in-Ok.script, r.1)) in
+    asks-keys _ _ _ _ _ _ _ _ _ run c.in-Some.ensures.found c.in-Ok.ensures.quiet.0 c.in-Ok-keys_of.ensures.once readable c.in-Ok.ensures.whole c.in-Ok-keys_of.ensures.kept
+
+pub returns-in-Ok-transcript-clause-whole : goal.returns-in-Ok-transcript-clause-whole
+returns-in-Ok-transcript-clause-whole g c = two-whole _ _ _ _ _ _ c.in-Ok.ensures.whole c.in-Ok.ensures.kept c.in-Ok-keys_of.ensures.kept c.in-Ok-keys_of.ensures.whole

@@ -3,6 +3,8 @@ use Rattle.std.specs.String.{string_bytes}
 use Rattle.pipapo_cli.proofs.Deliveries.{ends-map}
 use Rattle.pipapo_cli.proofs.Endings.{headline, due-refusal, due-of-output}
 use Rattle.pipapo_cli.proofs.Exact.{exact}
+use Rattle.pipapo_cli.proofs.Asking.{asks-all}
+use Rattle.pipapo_cli.proofs.Completed.{completes, tells-read-fault, fault-not-done}
 use Rattle.pipapo_cli.proofs.command.pipapo.Goals as goal
 
 pub returns-in-Ok-clause-ends : goal.returns-in-Ok-clause-ends
@@ -22,3 +24,28 @@ returns-in-Ok-clause-exact g c quiet sink_quiet =
 pub returns-in-Err-clause-exact : goal.returns-in-Err-clause-exact
 returns-in-Err-clause-exact g c quiet sink_quiet =
     exact (map string_bytes c.args.words.now) (g.F.Shelf.told c.args.shelf.now) (g.F.Shelf.asked c.output_of.new.shelf) (g.F.Shelf.faults c.args.shelf.now) (g.F.Shelf.faults c.output_of.new.shelf) _ _ _ _ _ (returns-in-Err-clause-ends g c) quiet sink_quiet
+
+pub returns-in-Ok-clause-complete : goal.returns-in-Ok-clause-complete
+returns-in-Ok-clause-complete g c quiet sink_quiet =
+    completes (map string_bytes c.args.words.now) (g.F.Shelf.told c.args.shelf.now) (g.F.Shelf.asked c.output_of.new.shelf) (g.F.Shelf.faults c.args.shelf.now) (g.F.Shelf.faults c.output_of.new.shelf) _ _ _ _ _ (returns-in-Ok-clause-ends g c) quiet sink_quiet
+
+pub returns-in-Err-clause-complete : goal.returns-in-Err-clause-complete
+returns-in-Err-clause-complete g c quiet sink_quiet =
+    completes (map string_bytes c.args.words.now) (g.F.Shelf.told c.args.shelf.now) (g.F.Shelf.asked c.output_of.new.shelf) (g.F.Shelf.faults c.args.shelf.now) (g.F.Shelf.faults c.output_of.new.shelf) _ _ _ _ _ (returns-in-Err-clause-ends g c) quiet sink_quiet
+
+pub returns-in-Ok-clause-all_read : goal.returns-in-Ok-clause-all_read
+returns-in-Ok-clause-all_read g c zero = let o = c.in-Ok.ensures.output in asks-all _ _ _ _ _ o.0 o.1 o.2 c.in-Ok.ensures.whole
+
+pub returns-in-Err-clause-all_read : goal.returns-in-Err-clause-all_read
+returns-in-Err-clause-all_read g c zero = absurd (fault-not-done c.in-Err.fault _ _ _ _ _ _ c.tell.ensures zero)
+
+pub returns-in-Ok-clause-read_fault : goal.returns-in-Ok-clause-read_fault
+returns-in-Ok-clause-read_fault g c five =
+    tells-read-fault (map string_bytes c.args.words.now) (g.F.Shelf.told c.args.shelf.now) (g.F.Shelf.asked c.output_of.new.shelf) (g.F.Shelf.faults c.args.shelf.now) (g.F.Shelf.faults c.output_of.new.shelf) _ _ _ _ _ (returns-in-Ok-clause-ends g c) five
+
+pub returns-in-Err-clause-read_fault : goal.returns-in-Err-clause-read_fault
+returns-in-Err-clause-read_fault g c five =
+    tells-read-fault (map string_bytes c.args.words.now) (g.F.Shelf.told c.args.shelf.now) (g.F.Shelf.asked c.output_of.new.shelf) (g.F.Shelf.faults c.args.shelf.now) (g.F.Shelf.faults c.output_of.new.shelf) _ _ _ _ _ (returns-in-Err-clause-ends g c) five
+
+pub returns-in-Err-clause-run : goal.returns-in-Err-clause-run
+returns-in-Err-clause-run g c zero = absurd (fault-not-done c.in-Err.fault _ _ _ _ _ _ c.tell.ensures zero)
