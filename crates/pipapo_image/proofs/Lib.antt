@@ -13,3 +13,4 @@ pub mod FusedLaws
 pub mod SpanLaws
 pub mod RunLaws
 pub mod Shrinking
+pub mod Purging

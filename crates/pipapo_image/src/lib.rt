@@ -6,6 +6,7 @@
 #![tactic(auto)]
 
 mod answers;
+mod append;
 mod changes;
 mod columns;
 mod copy;
@@ -18,6 +19,7 @@ mod index;
 mod insert;
 mod per_field;
 mod place;
+mod purge;
 mod runs;
 mod scratch;
 
