@@ -59,12 +59,12 @@ fn key_near(
     Ok(key)
 }
 
-/// An expiry that is none, or one of the moments up to 2,000 behind `now`.
+/// A moment up to 2,000 behind `now`. Of the first elements, which are small, some never expire.
 fn expiry_behind(random: &mut Random, now: u64) -> Option<u64> {
-    match random.below(3) {
-        0 => None,
-        _ => Some(now.saturating_add(1 + random.below(2_000))),
+    if now < 300 && random.below(3) == 0 {
+        return None;
     }
+    Some(now.saturating_add(1 + random.below(2_000)))
 }
 
 /// Adds so many elements to both, a second apart, and compares what comes of each.
@@ -88,7 +88,8 @@ fn fill(
     Ok(())
 }
 
-/// Looks so many keys up in both, at moments up to 2,000, and compares the answers.
+/// Looks so many keys up in both, at moments up to 2,600, and compares the answers. It gives how
+/// many were found.
 fn compare(
     rt: &impl Abort,
     alloc: Global,
@@ -96,24 +97,31 @@ fn compare(
     kinds: &[Kind],
     set: &SetImage,
     plain: &PlainSet,
-    keys: u64,
-) -> Result<(), Fail> {
+    keys: u32,
+) -> Result<u32, Fail> {
     let mut scratch = Scratch::new(alloc)?;
+    let mut hits = 0u32;
     for n in 0..keys {
         let key = key_near(alloc, random, kinds, plain)?;
-        let now = random.below(2_000);
+        let now = random.below(2_600);
         let found = look_up(rt, alloc, set, &mut scratch, key.as_slice(), now)?;
         assert!(rt; found == plain.find(key.as_slice(), now), "key {n}");
+        hits = hits.saturating_add(found.is_some() as u32);
     }
-    Ok(())
+    Ok(hits)
 }
 
+/// Compares a set with the plain list, and sees that neither is empty and that keys are both found
+/// and not.
 fn check(rt: &impl Abort, alloc: Global, kinds: &[Kind], seed: u64) -> Result<(), Fail> {
     let mut random = Random::new(seed);
     let mut set = set_of(rt, alloc, kinds, None)?;
     let mut plain = PlainSet::new(alloc);
     fill(rt, alloc, &mut random, kinds, &mut set, &mut plain, 500)?;
-    compare(rt, alloc, &mut random, kinds, &set, &plain, 1_500)
+    assert!(rt; plain.elements.len() > 50);
+    let hits = compare(rt, alloc, &mut random, kinds, &set, &plain, 1_500)?;
+    assert!(rt; 300 < hits && hits < 1_400, "{hits} hits");
+    Ok(())
 }
 
 #[test]

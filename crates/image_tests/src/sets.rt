@@ -43,7 +43,7 @@ pub(crate) fn add(
     set.insert(alloc, &parts, expiry, &Comment::new(alloc), now, scratch)
 }
 
-/// Looks a key up.
+/// Looks a key up, and sees that the textbook lookup finds the same place.
 pub(crate) fn look_up(
     rt: &impl Abort,
     alloc: Global,
@@ -54,5 +54,8 @@ pub(crate) fn look_up(
 ) -> Result<Option<Found>, Memory> {
     let key = key_of(alloc, key)?;
     assert!(rt; fits(&set.kinds, &key));
-    Ok(set.find(&key, now, scratch))
+    let found = set.find(&key, now, scratch);
+    let place = set.plain_place(&key, now, scratch);
+    assert!(rt; found.map(|found| found.place) == place);
+    Ok(found)
 }
