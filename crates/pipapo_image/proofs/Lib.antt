@@ -12,3 +12,5 @@ pub mod Renewal
 pub mod SpanLaws
 pub mod RunLaws
 pub mod Shrinking
+pub mod Purging
+pub mod FusedLaws

@@ -6,17 +6,20 @@
 #![tactic(auto)]
 
 mod answers;
+mod append;
 mod changes;
 mod columns;
 mod copy;
 mod delete;
 mod drops;
+mod fused;
 mod grow;
 mod image;
 mod index;
 mod insert;
 mod per_field;
 mod place;
+mod purge;
 mod runs;
 mod scratch;
 
