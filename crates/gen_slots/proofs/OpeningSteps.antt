@@ -1,5 +1,5 @@
 -- The table at the start keeps its rule, and so does the making of a reader.
-use Rattle.std.proofs.Common.{◌≡◌, ◌≢◌, ℕ, zero, suc, ◌+◌, ◌*◌, ◌^◌, ◌<◌, ◌≤◌, List, [], ◌∷◌, ◌++◌, length, get_or, set, replicate, sym, refl, ap, ◌∙◌, subst, ⊎_elim, arith, Option, Some, None, length-set, length-append, append_assoc}
+use Rattle.std.proofs.Common.{◌≡◌, ◌≢◌, ℕ, zero, suc, ◌+◌, ◌*◌, ◌^◌, ◌<◌, ◌≤◌, List, [], ◌∷◌, ◌++◌, length, set, replicate, sym, refl, ap, ◌∙◌, subst, ⊎_elim, arith, Option, Some, None, length-set, length-append, append_assoc}
 use Rattle.std.specs.List.{sum_by, Contains}
 use Rattle.std.specs.Prelude.{slice_index}
 use Rattle.std.proofs.lemmas.List.Sums.{sum_by-append}
@@ -11,6 +11,7 @@ use Rattle.atomic_table.specs.Table.{State, Splits, opening}
 use Rattle.atomic_table.specs.Seated.{TableId}
 use Rattle.atomic_table.proofs.Lists.{at_map}
 use Rattle.history_laws.specs.Histories.{StartsWith}
+use Rattle.history_laws.specs.States.{AllAre}
 use Rattle.history_laws.proofs.Prefixes.{starts_itself}
 use Rattle.history_laws.proofs.Views.{put, put_here, put_else, views_stay, at_end, sum_by-view_set}
 use Rattle.gen_slots.specs.declared.board.Plan.{Plan}
@@ -19,7 +20,7 @@ use Rattle.gen_slots.specs.declared.board.Role.{Role}
 use Rattle.gen_slots.specs.declared.board.Role.TheVariants.{Idle, Out, Holds, Keeper}
 use Rattle.gen_slots.specs.SlotRule.{lags, Plays, Kept, seat_view, starting, first_plan, moves_of}
 use Rattle.gen_slots.specs.SlotSteps.{given_one, next_reader}
-use Rattle.gen_slots.specs.SlotViews.{AllAre, AllNew, Reading, laid}
+use Rattle.gen_slots.specs.SlotViews.{AllNew, Reading, laid}
 use Rattle.gen_slots.proofs.Sums.{sum_below-zero, sum_below-zeros, zero_at}
 use Rattle.gen_slots.proofs.Stages.{count_start, count_kept, inside_start, inside_kept, laggards_start, laggards_less, laggards_plan}
 use Rattle.gen_slots.proofs.ReaderSteps.{plays}
@@ -180,7 +181,3 @@ module _ {T X : Type 0} (state : T → X) (follows : X → X → Type 0) (start 
             (λ (t : (j ≡ length seats) × (right ≡ d)). subst (Sits j) t.1 (mine.0, (k.made, refl), (omega arith, put_here k.stage m 1, put_here k.owner m (length seats) ∙ sym t.0))) (at_end seats right d j e);
       } in
       subst (λ (z : Role X). Rule record { words = s.words; homes = s.homes; views = set s.views id (seat_view (given_one z) v.seen v.told v.moves) ++ seat_view (next_reader z) v.seen [] 0 ∷ [] }) (sym is) rule
-
-  pub first_state : (x : X) (first : List T) (d : T) → AllAre state x first → 0 < length first → state (get_or first 0 d) ≡ x
-  first_state x [] d a l = absurd (omega arith)
-  first_state x (v ∷ vs) d a l = a.0

@@ -5,7 +5,8 @@ use mathlib.Core.Option as maybe
 use lib.ListN.{get_elem?}
 use Rattle.atomic_table.specs.Table.{Act, keeps, takes, gives, chain, homes_after, carried_after, Valid}
 use Rattle.atomic_table.proofs.Lists.{set_here, set_else}
-use Rattle.gen_slots.specs.SlotSteps.{berths, AllShow}
+use Rattle.history_laws.specs.States.{AllShow}
+use Rattle.gen_slots.specs.SlotSteps.{berths}
 
 module _ {T : Type 0} where
   abbrev pub take_all : ℕ → ℕ → List (Option T) → Act (Option T)
@@ -70,12 +71,6 @@ module _ {T : Type 0} where
       ∙ (let e : 32 * (k + 0) + s ≡ 32 * k + s = omega arith in ap (get_elem? (set hs (32 * k + s) (some y))) e ∙ set_here hs (32 * k + s) (some y) (omega arith))
   given_at hs s k (y ∷ ys) (suc i) d l in_hs = let e : 32 * (k + suc i) + s ≡ 32 * (k + 1 + i) + s = omega arith in
       ap (get_elem? (homes_after (set hs (32 * k + s) (some y)) (berths s (k + 1) ys) (give_all ys))) e ∙ given_at (set hs (32 * k + s) (some y)) s (k + 1) ys i d (omega arith) (let n = length-set hs (32 * k + s) (some y) in omega (arith, n))
-
-  pub show_at : {X : Type 0} (state : T → X) (x : X) (ys : List (Option T)) (i : ℕ) (d : Option T) → AllShow state x ys → i < length ys → (v : T) × (get_or ys i d ≡ Some v) × (state v ≡ x)
-  show_at state x [] i d a l = absurd (omega arith)
-  show_at state x (Some v ∷ ys) zero d a l = (v, refl, a.0)
-  show_at state x (Some v ∷ ys) (suc i) d a l = show_at state x ys i d a.1 (omega arith)
-  show_at state x (None ∷ ys) i d a l = absurd a
 
   -- the row of a slot's berths has the values
   pub berths_same : (c i : ℕ) (ys zs : List (Option T)) → berths c i ys ≡ berths c i zs → ys ≡ zs

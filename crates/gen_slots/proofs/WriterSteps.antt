@@ -1,5 +1,5 @@
 -- The writer's steps keep the rule of the table.
-use Rattle.std.proofs.Common.{◌≡◌, ◌≢◌, ℕ, zero, suc, ◌+◌, ◌-◌, ◌*◌, ◌%◌, ◌^◌, ◌<◌, ◌≤◌, List, [], ◌∷◌, ◌++◌, true, false, length, replicate, get_or, set, sym, refl, ap, ◌∙◌, subst, inl, inr, arith, Option, Some, None, eq-eqb, ne_eqb, length-set, get_or-set_other, get_or-set_same}
+use Rattle.std.proofs.Common.{◌≡◌, ◌≢◌, ℕ, zero, suc, ◌+◌, ◌-◌, ◌*◌, ◌%◌, ◌^◌, ◌<◌, ◌≤◌, List, [], ◌∷◌, ◌++◌, true, false, length, replicate, get_or, set, sym, refl, ap, ◌∙◌, subst, inl, inr, arith, Option, None, eq-eqb, ne_eqb, length-set, get_or-set_other, get_or-set_same}
 use Rattle.std.specs.List.{Contains}
 use Rattle.std.specs.Prelude.{slice_index}
 use Rattle.std.proofs.lemmas.List.Elements.{Contains-append_left, Contains-append_right}
@@ -14,17 +14,19 @@ use lib.Seq.{set-get_or}
 use Rattle.atomic_table.specs.Table.{State, Me, step, keeps, homes_after, carried_after, stepped, Allows}
 use Rattle.atomic_table.proofs.Lists.{set_here, set_else}
 use Rattle.history_laws.specs.Histories.{StartsWith, EndsWith, Chain}
+use Rattle.history_laws.specs.States.{AllShow}
 use Rattle.history_laws.proofs.Prefixes.{starts_more, chain_snoc}
+use Rattle.history_laws.proofs.States.{all_show_same, show_at}
 use Rattle.history_laws.proofs.Views.{views_stay, sum_by-view_set}
 use Rattle.gen_slots.specs.declared.board.Plan.{Plan}
 use Rattle.gen_slots.specs.declared.board.SeatView.{SeatView}
 use Rattle.gen_slots.specs.declared.board.Role.{Role}
 use Rattle.gen_slots.specs.declared.board.Role.TheVariants.{Idle, Out, Holds, Keeper}
 use Rattle.gen_slots.specs.SlotRule.{count_at, lags, laggards, sum_below, SlotKept, Plays, Kept, seat_view, moves_of}
-use Rattle.gen_slots.specs.SlotSteps.{taken_plan, tried_plan, published_at, berths, Plans, WereStored, checked, AllShow, published}
+use Rattle.gen_slots.specs.SlotSteps.{taken_plan, tried_plan, published_at, berths, Plans, WereStored, checked, published}
 use Rattle.gen_slots.proofs.Sums.{sum_below-set, sum_below-zeros}
 use Rattle.gen_slots.proofs.Stages.{count_le, count_none, laggards_le, lags-at, lags_else, laggards_plan, laggards_drop, and_both, and_second}
-use Rattle.gen_slots.proofs.Takes.{Lined, take_all, shown_row, empty_row, taken_else, taken_length, take_carried, take_valid, give_all, give_valid, given_carried, given_length, given_else, given_at, show_at, berths_same}
+use Rattle.gen_slots.proofs.Takes.{Lined, take_all, shown_row, empty_row, taken_else, taken_length, take_carried, take_valid, give_all, give_valid, given_carried, given_length, given_else, given_at, berths_same}
 use Rattle.gen_slots.proofs.ReaderSteps.{plays}
 
 at_some : {A : Type 0} (l : List A) (i : ℕ) → i < length l → (a : A) × (get_elem? l i ≡ some a)
@@ -276,11 +278,6 @@ module _ {T X : Type 0} (state : T → X) (follows : X → X → Type 0) (start 
             ));
       }
 
-  all_show_same : (x y : X) (ys : List (Option T)) → 0 < length ys → AllShow state x ys → AllShow state y ys → x ≡ y
-  all_show_same x y [] l a b = absurd (omega arith)
-  all_show_same x y (Some v ∷ ys) l a b = sym a.0 ∙ b.0
-  all_show_same x y (None ∷ ys) l a b = absurd a
-
   pub publishes : (slots id : ℕ) (me : M) (p₀ : Plan X) (c new : ℕ) (x : X) (ys : List (Option T)) → me.0.role ≡ Keeper p₀ → p₀.hand ≡ c + 1 → me.1 ≡ berths c 0 ys → length ys ≡ p₀.readers → AllShow state x ys → ((y : X) → EndsWith me.0.seen y → follows y x) → new ≡ get_or p₀.counts c 0 + c → new < 2 ^ 64
       → Allows Rule slots id me 0 (λ _. new) (published state follows (step slots 0 new 0 none) me)
   publishes slots id me p₀ c new x ys is₀ hand₀ carried size₀ shows next new₀ small s k deep at fits = let known = plays state follows start s k id me.0 (Keeper p₀) at is₀ in let p : Plan X = k.plan in let is : me.0.role ≡ Keeper p = is₀ ∙ ap (λ (z : Plan X). Keeper z) known.0 in
@@ -297,7 +294,7 @@ module _ {T X : Type 0} (state : T → X) (follows : X → X → Type 0) (start 
           refl,
           plans me (w, carried_after me.1 (give_all ys)) p (published_at p c e x) _ is refl
               (λ y zs has some shows'. let same : zs ≡ ys = berths_same c 0 zs ys (ap (λ (i : ℕ). berths i 0 zs) (sym index) ∙ (sym has ∙ carried)) in
-              let one : x ≡ y = all_show_same x y ys (omega arith) shows (subst (AllShow state y) same shows') in (
+              let one : x ≡ y = all_show_same state x y ys (omega arith) shows (subst (AllShow state y) same shows') in (
                 (λ i. published_at p (sym index i) e (one i)),
                 (λ i. me.0.seen ++ one i ∷ []),
               )),

@@ -4,13 +4,14 @@ use mathlib.Core.Option.{none, some}
 use lib.ListN.{get_elem?}
 use Rattle.atomic_table.specs.Table.{State, Me, step, opening, Allows, Splits, Joins}
 use Rattle.history_laws.specs.Histories.{StartsWith, EndsWith, Chain}
+use Rattle.history_laws.specs.States.{AllAre, AllShow}
 use Rattle.gen_slots.specs.declared.board.Plan.{Plan}
 use Rattle.gen_slots.specs.declared.board.SeatView.{SeatView}
 use Rattle.gen_slots.specs.declared.board.Role.{Role}
 use Rattle.gen_slots.specs.declared.board.Role.TheVariants.{Idle, Out, Holds, Keeper}
 use Rattle.gen_slots.specs.SlotRule.{Kept, AtHome, sum_below, count_at, count_inside, moves_of, starting, seat_view}
-use Rattle.gen_slots.specs.SlotSteps.{IsLearner, entered, left, checked, published, learned, given_one, next_reader, berths, AllShow}
-use Rattle.gen_slots.specs.SlotViews.{AllAre, laid}
+use Rattle.gen_slots.specs.SlotSteps.{IsLearner, entered, left, checked, published, learned, given_one, next_reader, berths}
+use Rattle.gen_slots.specs.SlotViews.{laid}
 
 -- A slot's leaves and its holders together are congruent to its enters, modulo 2 ^ 56: to those of word 0 while it is published, and to those that the writer keeps once it is retired. So a check that finds the writer's count in the done word finds that nobody holds the slot, and finds it exactly there
 pub record IsCounted {T X : Type 0} (state : T → X) (follows : X → X → Type 0) (start : ℕ) (s : State (Option T) (SeatView X)) (k : Kept state follows start s) : Type 0 where

@@ -2,6 +2,7 @@
 use Rattle.std.specs.Prelude.{◌≡◌, ◌≢◌, ℕ, ◌+◌, ◌-◌, ◌*◌, ◌%◌, ◌<◌, ◌≤◌, ◌⊎◌, List, [], ◌∷◌, ◌++◌, length, slice_index, slice_set, replicate, Contains, Option, Some, None}
 use Rattle.atomic_table.specs.Table.{Me, Step}
 use Rattle.history_laws.specs.Histories.{StartsWith, EndsWith, Chain, longer}
+use Rattle.history_laws.specs.States.{AllShow}
 use Rattle.gen_slots.specs.declared.board.Plan.{Plan}
 use Rattle.gen_slots.specs.declared.board.SeatView.{SeatView}
 use Rattle.gen_slots.specs.declared.board.Role.{Role}
@@ -50,12 +51,6 @@ berths s k [] = []
 berths s k (y ∷ ys) = (32 * k + s, y) ∷ berths s (k + 1) ys
 
 module _ {T X : Type 0} where
-  -- the values are there, and all have this state
-  abbrev pub AllShow : (T → X) → X → List (Option T) → Type 0
-  AllShow state x [] = Unit {0}
-  AllShow state x (Some v ∷ ys) = (state v ≡ x) × AllShow state x ys
-  AllShow state x (None ∷ ys) = ⊥
-
   -- what stood in a slot's berths: nothing, or values of one state that was published
   abbrev pub WereStored : (T → X) → List X → ℕ → List (Option T) → Type 0
   WereStored state made n ys = (ys ≡ replicate n None) ⊎ ((x : X) × Contains made x × AllShow state x ys)

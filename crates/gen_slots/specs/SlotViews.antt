@@ -49,11 +49,6 @@ module _ {X : Type 0} where
   abbrev pub IsPlanned : ℕ → ℕ → List ℕ → Role X → Type 0
   IsPlanned readers published counts role = (p : Plan X) × (role ≡ Keeper p) × (p.readers ≡ readers) × (p.published ≡ published) × (p.counts ≡ counts) × (p.tried ≡ replicate 18 0) × (p.hand ≡ 0)
 
--- all values have this state
-abbrev pub AllAre : {T X : Type 0} → (T → X) → X → List T → Type 0
-AllAre state x [] = Unit {0}
-AllAre state x (v ∷ vs) = (state v ≡ x) × AllAre state x vs
-
 -- new readers, numbered from k on
 abbrev pub AllNew : {X : Type 0} → TableId → List X → ℕ → List (Reading X) → Type 0
 AllNew z seen k [] = Unit {0}

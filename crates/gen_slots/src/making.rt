@@ -2,7 +2,8 @@
 ghost use Rattle.std.specs.Prelude.{◌≡◌, ◌+◌, ◌*◌, ◌^◌, ◌≤◌, ◌<◌, [], ◌∷◌, ◌++◌, length, replicate, IfOk, OnOk, Some, None};
 ghost use Rattle.std.specs.Arc.{arc_value};
 ghost use Rattle.history_laws.specs.Histories.{Chain};
-ghost use Rattle.gen_slots.specs.SlotViews.{AllAre, AllNew, IsSized, laid};
+ghost use Rattle.history_laws.specs.States.{AllAre};
+ghost use Rattle.gen_slots.specs.SlotViews.{AllNew, IsSized, laid};
 ghost use Rattle.gen_slots.specs.declared.board.Plan.{Plan};
 ghost use Rattle.gen_slots.specs.declared.board.Role.TheVariants.{Keeper};
 

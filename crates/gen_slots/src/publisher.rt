@@ -2,7 +2,8 @@
 ghost use Rattle.std.specs.Prelude.{◌≡◌, ◌≢◌, ℕ, ◌+◌, ◌-◌, ◌*◌, ◌%◌, ◌^◌, ◌≤◌, ◌<◌, List, [], ◌∷◌, ◌++◌, length, replicate};
 ghost use Rattle.std.specs.Arc.{arc_value};
 ghost use Rattle.history_laws.specs.Histories.{StartsWith, EndsWith, Chain};
-ghost use Rattle.gen_slots.specs.SlotSteps.{AllShow, WereStored, berths};
+ghost use Rattle.history_laws.specs.States.{AllShow};
+ghost use Rattle.gen_slots.specs.SlotSteps.{WereStored, berths};
 ghost use Rattle.gen_slots.specs.SlotViews.{IsSized, IsPlanned, found_plan, publishing};
 ghost use Rattle.gen_slots.specs.declared.board.Plan.{Plan};
 ghost use Rattle.gen_slots.specs.declared.board.Role.TheVariants.{Keeper};

@@ -1,7 +1,6 @@
 ghost use Rattle.std.specs.Prelude.{◌≡◌, ◌+◌, ◌^◌, ◌<◌, ◌≤◌, ◌∷◌, ◌++◌, [], length, IfOk, Some};
 ghost use Rattle.gen_slots.specs.SlotMachine.{initial};
-ghost use Rattle.gen_slots.specs.SlotSteps.{AllShow};
-ghost use Rattle.gen_slots.specs.SlotViews.{AllAre};
+ghost use Rattle.history_laws.specs.States.{AllAre, AllShow};
 
 use crate::Version;
 use crate::counter::Steps;

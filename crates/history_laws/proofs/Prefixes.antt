@@ -23,6 +23,9 @@ module _ {X : Type 0} where
   pub starts_more : (all xs more : List X) → StartsWith all xs → StartsWith (all ++ more) xs
   starts_more all xs more a = (a.0 ++ more, ap (λ (z : List X). z ++ more) a.1 ∙ append_assoc xs a.0 more)
 
+  pub starts_through : (all mid xs : List X) → StartsWith all mid → StartsWith mid xs → StartsWith all xs
+  starts_through all mid xs a b = (b.0 ++ a.0, a.1 ∙ (ap (λ (z : List X). z ++ a.0) b.1 ∙ append_assoc xs b.0 a.0))
+
   longer_cases : (xs ys : List X) (b : Bool) → nat_lt (length xs) (length ys) ≡ b → (P : List X → Type 0) → (length xs < length ys → P ys) → (length ys ≤ length xs → P xs) → P (cond b ys xs)
   longer_cases xs ys true e P f g = f (grind (arith, nat_tests))
   longer_cases xs ys false e P f g = g (grind (arith, nat_tests))

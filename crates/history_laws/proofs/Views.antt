@@ -55,3 +55,7 @@ module _ {A : Type 0} where
       go : (d : Dec (j ≡ i)) → pick d c (f j) ≡ f j
       go (yes e) = absurd (other e)
       go (no _) = refl
+
+  -- at a number that is i
+  pub put_at : (f : ℕ → A) (i : ℕ) (c : A) (j : ℕ) → j ≡ i → put f i c j ≡ c
+  put_at f i c j e = ap (put f i c) e ∙ put_here f i c

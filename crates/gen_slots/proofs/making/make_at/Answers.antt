@@ -1,8 +1,10 @@
 use Rattle.std.proofs.Common.{rules, ap, ◌≡◌, ◌+◌, ◌*◌, ℕ, List, Option, replicate, length, ◌∙◌, sym, subst, arith}
 use Rattle.atomic_table.specs.Table.{opening}
 use Rattle.gen_slots.specs.SlotRule.{Kept, starting}
-use Rattle.gen_slots.specs.SlotViews.{AllAre, laid}
-use Rattle.gen_slots.proofs.OpeningSteps.{starts, first_state, length-laid}
+use Rattle.gen_slots.specs.SlotViews.{laid}
+use Rattle.history_laws.specs.States.{AllAre}
+use Rattle.history_laws.proofs.States.{first_state}
+use Rattle.gen_slots.proofs.OpeningSteps.{starts, length-laid}
 use Rattle.gen_slots.proofs.making.make_at.Goals as goal
 
 pub new-made-requires : goal.new-made-requires
@@ -10,7 +12,7 @@ new-made-requires g c = let asked = c.requires.one_state in let first = c.args.f
     let size : n ≡ length first = search rules in
     let words : c.as_slice.result.now ≡ replicate (n + 3) (256 * start) = search rules in
     let berths : c.in_ok-berths.berths.items ≡ laid first = search rules in
-    let one : asked.0 ≡ g.T.Version.state c.of.result.value = sym (first_state g.T.Version.state g.T.Version.follows start asked.0 first c.index.result.now asked.1 (omega arith)) ∙ ap g.T.Version.state (sym c.index.ensures ∙ sym c.of.ensures) in
+    let one : asked.0 ≡ g.T.Version.state c.of.result.value = sym (first_state g.T.Version.state asked.0 first c.index.result.now asked.1 (omega arith)) ∙ ap g.T.Version.state (sym c.index.ensures ∙ sym c.of.ensures) in
     subst (λ (z : List ℕ × List (Option g.row.T.Denot)). Kept g.T.Version.state g.T.Version.follows start (opening z.0 z.1 (starting n start (g.T.Version.state c.of.result.value)))) (λ i. (sym words i, sym berths i))
     (starts g.T.Version.state g.T.Version.follows start n (g.T.Version.state c.of.result.value) first size (omega arith) (omega arith) c.requires.start (subst (λ (x : g.row.T-State.Denot). AllAre g.T.Version.state x first) one asked.1))
 

@@ -1,0 +1,7 @@
+pub mod Waiting
+pub mod Stock
+pub mod TakingTurns
+pub mod EndingTurns
+pub mod NoteSteps
+pub mod OpeningSteps
+pub mod RunningTurns

@@ -1,0 +1,4 @@
+pub mod TurnRule
+pub mod TurnSteps
+pub mod TurnViews
+pub mod RuleLaws

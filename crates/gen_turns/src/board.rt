@@ -1,0 +1,73 @@
+//! The table that the readers and the writer share.
+//!
+//! Word 0 is the next ticket, and word 1 the ticket that is served. The table's one entry is the vector of values, which
+//! is out with the seat whose ticket is served.
+use crate::Version;
+use atomic_table::{Seat, Table, TableRule};
+use std::alloc::Global;
+use std::collections::LinkedList;
+use std::marker::PhantomData;
+use std::snapshot::Snapshot;
+
+/// The vector that goes from turn to turn, with one place for each reader: a value of the last state that was published,
+/// or nothing once the reader took it.
+pub type Places<T> = Vec<Option<T>>;
+
+/// Whose seat it is. No value of it is made.
+pub enum Role {
+    /// A note's, or nobody's.
+    Idle,
+    /// The reader's.
+    Reader(u64),
+    /// The writer's: the number of readers, and the number below which they were made.
+    Keeper(u64, u64),
+}
+
+/// What a seat at the table knows. No value of it is made.
+pub struct SeatView<T, X> {
+    pub role: Role,
+    /// 1 with no ticket, 2 with one that is not served yet, and 3 with the vector.
+    pub stage: u64,
+    /// The ticket that it drew last.
+    pub ticket: u64,
+    /// The states that it has seen, in the order of their publication.
+    pub seen: LinkedList<X>,
+    /// Of a reader what it had seen when it entered last, and before it first entered the first list.
+    pub entered: LinkedList<X>,
+    /// What a note told, until it is compared with `seen`.
+    pub told: LinkedList<X>,
+    /// What was published when its last turn came.
+    pub whole: LinkedList<X>,
+    /// What the vector held when its last turn came.
+    pub took: LinkedList<Option<T>>,
+}
+
+/// What the table is told when it is made.
+#[derive(Drop)]
+pub struct Start<T> {
+    pub first: Snapshot<T>,
+    pub readers: u64,
+}
+
+/// The rule of the table.
+pub struct Turned<T> {
+    of: PhantomData<T>,
+}
+
+impl<T: Version> TableRule<Option<Places<T>>, SeatView<T, T::State>, Start<T>> for Turned<T> {
+    ghost use Rattle.gen_turns.specs.TurnRule.{Kept, starting};
+
+    ghost holds = { λ _. Kept T.state T.follows };
+
+    ghost first = { λ key. starting key.readers (T.state key.first.value) };
+}
+
+pub type Board<T> = Table<
+    Option<Places<T>>,
+    SeatView<T, <T as Version>::State>,
+    Start<T>,
+    Turned<T>,
+    Global,
+>;
+
+pub type Place<T> = Seat<Option<Places<T>>, SeatView<T, <T as Version>::State>>;
