@@ -1,5 +1,5 @@
 -- Reading a key file gives what the table of its forms says.
-use Rattle.std.proofs.Common.{◌≡◌, refl, sym, subst, ℕ, ◌<◌, List, [], ◌∷◌, ◌++◌, length, Bool, true, Option, Some, None, codes, slice_get, Result, Ok, Err, OnOk}
+use Rattle.std.proofs.Common.{◌≡◌, refl, sym, subst, ℕ, ◌<◌, List, [], ◌∷◌, ◌++◌, length, Bool, true, Option, Some, None, codes, slice_get, Result, OnOk}
 use Rattle.set_model.specs.declared.kind.Kind.{Kind}
 use Rattle.set_model.specs.declared.script.SetDecl.{SetDecl}
 use Rattle.set_model.specs.declared.packet.Packet.{Packet}

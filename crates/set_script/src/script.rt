@@ -40,12 +40,7 @@ fn add_word(reader: &mut Reader) -> Result<AddWord, ReadError>
 
 /// The elements that are added to the declared set at a place.
 #[tactic(auto, using(token_forms::proofs::Refusals::refusals), unfolding(crate::specs::ScriptReading::changes_of, token_forms::specs::Gives::Refuses))]
-fn changes_at(
-    reader: &mut Reader,
-    alloc: Global,
-    d: &mut Draft,
-    set: u32,
-) -> Result<(), ReadError>
+fn changes_at(reader: &mut Reader, alloc: Global, d: &mut Draft, set: u32) -> Result<(), ReadError>
     ensures { Gives (λ _. d.new) result reader.new (reading.changes_at d.old set reader.old) }
 {
     match d.schema.as_slice().get(set as usize) {

@@ -89,7 +89,10 @@ fn scripts_without_changes(rt: HostRuntime) -> Result<(), Fail> {
         (b"add set filter s { type inet_service }", 1),
         (b"add set netdev ip s { type mark; elements = { }; }", 1),
         (b"table bridge t { }", 0),
-        (b"table ip ip { ;; set s { type ether_addr; elements = {\n} } }", 1),
+        (
+            b"table ip ip { ;; set s { type ether_addr; elements = {\n} } }",
+            1,
+        ),
     ] {
         let script = read_script(alloc, text)?;
         assert_eq!(rt; sizes(&script), (sets, 1, 0), "in {text:?}");
@@ -183,9 +186,18 @@ fn lists_and_intervals_of_one_value(rt: HostRuntime) -> Result<(), Fail> {
         )?;
         let script = read_script(alloc, text.as_slice())?;
         assert_eq!(rt; sizes(&script), (1, 1, 4));
-        assert_eq!(rt; change_at(&script, 0), Some((3, [one(167772165)].as_slice())));
-        assert_eq!(rt; change_at(&script, 1), Some((5, [one(167772166)].as_slice())));
-        assert_eq!(rt; change_at(&script, 2), Some((5, [one(167772167)].as_slice())));
+        assert_eq!(rt;
+            change_at(&script, 0),
+            Some((3, [one(167772165)].as_slice()))
+        );
+        assert_eq!(rt;
+            change_at(&script, 1),
+            Some((5, [one(167772166)].as_slice()))
+        );
+        assert_eq!(rt;
+            change_at(&script, 2),
+            Some((5, [one(167772167)].as_slice()))
+        );
     }
     Ok(())
 }
