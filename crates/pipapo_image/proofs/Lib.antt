@@ -12,3 +12,4 @@ pub mod Renewal
 pub mod SpanLaws
 pub mod RunLaws
 pub mod Shrinking
+pub mod Purging

@@ -12,3 +12,4 @@ pub mod Copied
 pub mod Runs
 pub mod Shrink
 pub mod Remove
+pub mod Append

@@ -1,5 +1,4 @@
 ghost use Rattle.std.specs.Prelude.{◌≡◌, ◌<◌, length, OnErr, IfOk, IfSome, position};
-ghost use Rattle.set_model.specs.Expiry.{live};
 ghost use Rattle.set_model.specs.SetState.{is_exactly, removed};
 ghost use Rattle.pipapo_image.specs.Found.{element_at};
 ghost use Rattle.pipapo_image.specs.Remove.{IsRemoval, IsExactPlace, without_at};
@@ -8,17 +7,9 @@ use crate::answers::DeleteError;
 use crate::drops::other_widths_without;
 use crate::image::SetImage;
 use crate::insert::is_same;
+use expiry_scan::expired;
 use set_model::{Element, Interval, Memory, Parts};
 use std::alloc::Global;
-
-fn is_live(element: &Element, now: u64) -> bool
-    ensures { result ≡ live element.now now }
-{
-    match element.expiry {
-        None => true,
-        Some(moment) => now < moment,
-    }
-}
 
 /// The place of the first element that is live and has exactly these intervals.
 fn exact_place(elements: &[Element], parts: &[Interval], now: u64) -> Option<usize>
@@ -27,7 +18,7 @@ fn exact_place(elements: &[Element], parts: &[Interval], now: u64) -> Option<usi
 {
     elements
         .iter()
-        .position(|e| is_live(e, now) && is_same(e.parts.as_slice(), parts))
+        .position(|e| !expired(e.expiry, now) && is_same(e.parts.as_slice(), parts))
 }
 
 impl SetImage {

@@ -9,12 +9,10 @@ ghost use Rattle.pipapo_image.specs.Insert.{IsAnswer, by_start, by_end, by_size,
 
 use crate::answers::{Added, InsertError};
 use crate::columns::{columns, crowded_field};
-use crate::grow::other_widths;
 use crate::image::SetImage;
 use crate::place::rules_before;
 use crate::scratch::Scratch;
 use set_model::{Block, Comment, Duplicate, Element, Interval, Key, Listed, Memory, Parts};
-use set_tables::End;
 use std::alloc::Global;
 
 /// Whether two lists have the same intervals.
@@ -264,18 +262,13 @@ impl SetImage {
         ensures err { OnErr result (self.new ≡ self.old) }
     {
         let id = self.next;
-        let place = self.elements.len();
         let element = Element {
             id,
             parts: parts.copy(alloc)?,
             expiry,
             comment: comment.copy(alloc)?,
         };
-        let mut others = other_widths(alloc, self.index.fields.as_slice(), columns)?;
-        self.index.reserve(columns)?;
-        self.elements.push(element)?;
-        self.index
-            .append(others.as_mut_slice(), columns, End { place, expiry });
+        self.append_element(alloc, columns, element)?;
         self.next = id + 1;
         Ok(id)
     }

@@ -6,6 +6,7 @@
 #![tactic(auto)]
 
 mod answers;
+mod append;
 mod changes;
 mod columns;
 mod copy;
@@ -17,6 +18,7 @@ mod index;
 mod insert;
 mod per_field;
 mod place;
+mod purge;
 mod runs;
 mod scratch;
 

@@ -9,17 +9,17 @@ use Rattle.pipapo_image.specs.Grow.{IsOther}
 use Rattle.pipapo_image.specs.Changes.{AreReady, IsAppended}
 use Rattle.pipapo_image.proofs.ImageUse.{image-shaped}
 use Rattle.pipapo_image.proofs.ImageGrowth.{columns-of, image-kept, ready, growth}
-use Rattle.pipapo_image.proofs.image.SetImage.push_new.Goals as goal
+use Rattle.pipapo_image.proofs.image.SetImage.append_element.Goals as goal
 
 pub other_widths-requires-clause-narrow : goal.other_widths-requires-clause-narrow
 other_widths-requires-clause-narrow c =
     let s : State = record { kinds = c.self.inside.kinds; size = c.self.inside.size; disjoint = c.self.inside.disjoint; elements = c.self.inside.elements; next = c.self.inside.next } in
-    (columns-of s c.self.inside.index c.args.parts.now c.args.columns.now c.self.invariant (rw (← c.self.view_is) at c.requires.columns) (rw (← c.self.view_is) at c.requires.few)).narrow
+    (columns-of s c.self.inside.index c.args.element.parts c.args.columns.now c.self.invariant (rw (← c.self.view_is) at c.requires.columns) (rw (← c.self.view_is) at c.requires.few)).narrow
 
 pub other_widths-requires-clause-few : goal.other_widths-requires-clause-few
 other_widths-requires-clause-few c =
     let s : State = record { kinds = c.self.inside.kinds; size = c.self.inside.size; disjoint = c.self.inside.disjoint; elements = c.self.inside.elements; next = c.self.inside.next } in
-    rw c.as_slice.ensures (columns-of s c.self.inside.index c.args.parts.now c.args.columns.now c.self.invariant (rw (← c.self.view_is) at c.requires.columns) (rw (← c.self.view_is) at c.requires.few)).few
+    rw c.as_slice.ensures (columns-of s c.self.inside.index c.args.element.parts c.args.columns.now c.self.invariant (rw (← c.self.view_is) at c.requires.columns) (rw (← c.self.view_is) at c.requires.few)).few
 
 pub reserve-requires-clause-shaped : goal.reserve-requires-clause-shaped
 reserve-requires-clause-shaped c = image-shaped c.self.inside.kinds c.self.inside.disjoint c.self.inside.elements c.self.inside.index c.self.invariant
@@ -27,7 +27,7 @@ reserve-requires-clause-shaped c = image-shaped c.self.inside.kinds c.self.insid
 pub reserve-requires-clause-columns : goal.reserve-requires-clause-columns
 reserve-requires-clause-columns c =
     let s : State = record { kinds = c.self.inside.kinds; size = c.self.inside.size; disjoint = c.self.inside.disjoint; elements = c.self.inside.elements; next = c.self.inside.next } in
-    columns-of s c.self.inside.index c.args.parts.now c.args.columns.now c.self.invariant (rw (← c.self.view_is) at c.requires.columns) (rw (← c.self.view_is) at c.requires.few)
+    columns-of s c.self.inside.index c.args.element.parts c.args.columns.now c.self.invariant (rw (← c.self.view_is) at c.requires.columns) (rw (← c.self.view_is) at c.requires.few)
 
 pub invariant_of-self : goal.invariant_of-self
 invariant_of-self c = image-kept c.self.inside.kinds c.self.inside.disjoint c.self.inside.elements c.self.inside.index c.reserve.new.self c.self.invariant c.reserve.ensures.kept
@@ -44,7 +44,7 @@ append-requires-clause-shaped c =
 pub append-requires-clause-columns : goal.append-requires-clause-columns
 append-requires-clause-columns c =
     let s : State = record { kinds = c.self.inside.kinds; size = c.self.inside.size; disjoint = c.self.inside.disjoint; elements = c.self.inside.elements; next = c.self.inside.next } in
-    columns-of s c.reserve.new.self c.args.parts.now c.args.columns.now
+    columns-of s c.reserve.new.self c.args.element.parts c.args.columns.now
     (image-kept c.self.inside.kinds c.self.inside.disjoint c.self.inside.elements c.self.inside.index c.reserve.new.self c.self.invariant c.reserve.ensures.kept)
     (rw (← c.self.view_is) at c.requires.columns) (rw (← c.self.view_is) at c.requires.few)
 
@@ -54,19 +54,17 @@ append-requires-clause-ready c =
     let O : List FieldTable → Type 0 = λ z. Built (λ f o. (t : FieldTable) → IsOther (length (of_field c.args.columns.now f)) (get_or z f t) o) c.in_ok-others.others.items (length z) in
     let others : O c.self.inside.index.fields = subst O c.as_slice.ensures c.in_ok-others.ensures in
     subst (λ z. AreReady c.reserve.new.self z c.args.columns.now) (sym c.as_mut_slice.ensures.value)
-    (ready s c.self.inside.index c.reserve.new.self c.args.parts.now c.args.columns.now c.in_ok-others.others.items c.self.invariant (rw (← c.self.view_is) at c.requires.columns) others c.reserve.ensures.kept c.in_ok-reserve.ensures.room)
+    (ready s c.self.inside.index c.reserve.new.self c.args.element.parts c.args.columns.now c.in_ok-others.others.items c.self.invariant (rw (← c.self.view_is) at c.requires.columns) others c.reserve.ensures.kept c.in_ok-reserve.ensures.room)
 
 pub invariant_of-self-2 : goal.invariant_of-self-2
 invariant_of-self-2 c =
     let s : State = record { kinds = c.self.inside.kinds; size = c.self.inside.size; disjoint = c.self.inside.disjoint; elements = c.self.inside.elements; next = c.self.inside.next } in
-    let e : Element = record { id = c.self.inside.next; parts = c.args.parts.now; expiry = c.args.expiry; comment = c.args.comment.now } in
-    let end : End = record { place = c.len-place.result; expiry = c.args.expiry } in
+    let end : End = record { place = c.len.result; expiry = c.args.element.expiry } in
     let O : List FieldTable → Type 0 = λ z. Built (λ f o. (t : FieldTable) → IsOther (length (of_field c.args.columns.now f)) (get_or z f t) o) c.in_ok-others.others.items (length z) in
     let others : O c.self.inside.index.fields = subst O c.as_slice.ensures c.in_ok-others.ensures in
-    let pushed = rw (c.in_ok-copy.ensures, c.in_ok-copy-2.ensures) at c.in_ok-push.ensures.ok in
     let appended : IsAppended c.reserve.new.self c.append.new.self c.in_ok-others.others.items c.args.columns.now end =
     subst (λ z. IsAppended c.reserve.new.self c.append.new.self z c.args.columns.now end) c.as_mut_slice.ensures.value c.append.ensures in
-    rw pushed
-    (growth s c.self.inside.index c.reserve.new.self c.append.new.self e c.args.columns.now c.in_ok-others.others.items end c.self.invariant
+    rw c.in_ok-push.ensures.ok
+    (growth s c.self.inside.index c.reserve.new.self c.append.new.self c.args.element c.args.columns.now c.in_ok-others.others.items end c.self.invariant
     (rw (← c.self.view_is) at c.requires.fit) (rw (← c.self.view_is) at c.requires.columns) (rw (← c.self.view_is) at c.requires.few) others c.reserve.ensures.kept appended
-    (ap (λ n. let x : End = record { place = n; expiry = c.args.expiry } in x) c.len-place.ensures))
+    (ap (λ n. let x : End = record { place = n; expiry = c.args.element.expiry } in x) c.len.ensures))

@@ -1,0 +1,54 @@
+//! Which elements of a list are expired. Moments are in milliseconds. Nothing here takes memory.
+#![tactic(auto)]
+
+ghost use Rattle.std.specs.Prelude.{◌≡◌, ◌<◌, not, length, IfSome, position, count_by};
+ghost use Rattle.set_model.specs.Expiry.{lives};
+ghost use Rattle.expiry_scan.specs.Expired.{is_expired, next_place};
+
+use set_model::{Element, Elements};
+
+/// Whether an expiry has come at `now`: there is one, and it is at most `now`.
+#[inline(always)]
+pub fn expired(expiry: Option<u64>, now: u64) -> bool
+    ensures { result ≡ not (lives expiry now) }
+{
+    match expiry {
+        None => false,
+        Some(moment) => moment <= now,
+    }
+}
+
+/// The least place, not below `from`, of an element that is expired at `now`. `None` where there is
+/// none.
+pub fn next_expired(elements: &Elements, from: u64, now: u64) -> Option<u64>
+    ensures { result ≡ next_place elements.now from now }
+{
+    if from >= elements.len() {
+        return None;
+    }
+    match first_expired(&elements.as_slice()[from as usize..], now) {
+        Some(k) => Some(from + k as u64),
+        None => None,
+    }
+}
+
+fn first_expired(elements: &[Element], now: u64) -> Option<usize>
+    ensures value { result ≡ position (is_expired now) elements.now }
+    ensures within { IfSome result (λ i. i < length elements.now) }
+{
+    elements.iter().position(|e| expired(e.expiry, now))
+}
+
+/// How many of the elements are expired at `now`.
+pub fn count_expired(elements: &Elements, now: u64) -> u64
+    ensures { result ≡ count_by (is_expired now) elements.now }
+{
+    elements
+        .as_slice()
+        .iter()
+        .filter(|e| expired(e.expiry, now))
+        .count() as u64
+}
+
+#[cfg(test)]
+mod tests;
