@@ -1,0 +1,61 @@
+ghost use Rattle.std.specs.Prelude.{◌≡◌, ◌++◌, OnOk, OnErr};
+ghost use Rattle.set_model.specs.Text.{packet_text, lines_text};
+ghost use Rattle.set_report.specs.Writes.{AppendsPart};
+
+use crate::piece::Piece::{Number, Word};
+use crate::piece::append_pieces;
+use set_model::{Line, Lines, Memory, Verdict};
+
+/// Appends the line of a packet.
+fn write_line(line: &Line, out: &mut Vec<u8>) -> Result<(), Memory>
+    ensures ok { OnOk result (out.new.items ≡ out.old.items ++ packet_text line.now) }
+    ensures err { OnErr result (AppendsPart out.old.items out.new.items (packet_text line.now)) }
+{
+    let packet = Number(line.packet);
+    let thread = Number(u64::from(line.thread));
+    let generation = Number(line.generation);
+    match line.verdict {
+        Verdict::None => append_pieces(
+            &[
+                Word(b"packet "),
+                packet,
+                Word(b" thread "),
+                thread,
+                Word(b" generation "),
+                generation,
+                Word(b" none\n"),
+            ],
+            out,
+        ),
+        Verdict::Element { id } => append_pieces(
+            &[
+                Word(b"packet "),
+                packet,
+                Word(b" thread "),
+                thread,
+                Word(b" generation "),
+                generation,
+                Word(b" element "),
+                Number(id),
+                Word(b"\n"),
+            ],
+            out,
+        ),
+    }
+}
+
+/// Appends the lines of packets, in their order: `packet 0 thread 0 generation 1 element 7`, or `none`
+/// in place of the element where none matched.
+///
+/// # Errors
+///
+/// `Memory` where there is none; a part of the text from its front is then appended.
+pub fn write_lines(lines: &Lines, out: &mut Vec<u8>) -> Result<(), Memory>
+    ensures ok { OnOk result (out.new.items ≡ out.old.items ++ lines_text lines.now) }
+    ensures err { OnErr result (AppendsPart out.old.items out.new.items (lines_text lines.now)) }
+{
+    for line in lines.as_slice() {
+        write_line(line, out)?;
+    }
+    Ok(())
+}
