@@ -18,6 +18,10 @@ use Rattle.key_file.specs.Keys.{with_packet}
 use Rattle.key_file.specs.KeysText.{IsKeysText}
 use Rattle.key_file.specs.Fits.{IsFitting, IsPlainKeys}
 
+-- a packet at the first moment
+abbrev IsFirst : Packet → Type 0
+IsFirst p = p.now ≡ 0
+
 -- values of these kinds, one for each
 record AreValues (ks : List Kind) (key : List ℕ) : Type 0 where
   lengths : length ks ≡ length key
@@ -41,18 +45,26 @@ all_values (kind ∷ ks) ts key (value, x, y, e, (t, et, given), w) =
     let k = more_values ks (value ∷ []) y key w in
     subst (λ (z : List ℕ). AreValues (kind ∷ ks) z) (sym k.1) (one_more kind ks t.bytes value k.0 given.1 k.2)
 
-packet_keeps : (schema : List SetDecl) (packets after : List Packet) (x : List Lexeme) → All (IsFitting schema) packets → (form.packet schema packets).whole x after → All (IsFitting schema) after
-packet_keeps schema packets after x all (p, x1, y1, e1, w1, (i, x2, y2, e2, w2, w3)) = go (slice_get schema i) refl w3 where
-  go : (s : Option SetDecl) → slice_get schema i ≡ s → (form.packet_of packets i s).whole y2 after → All (IsFitting schema) after
+-- what every packet line keeps
+record ArePlain (schema : List SetDecl) (packets : List Packet) : Type 0 where
+  each : All (IsFitting schema) packets
+  now : All IsFirst packets
+
+packet_keeps : (schema : List SetDecl) (packets after : List Packet) (x : List Lexeme) → ArePlain schema packets → (form.packet schema packets).whole x after → ArePlain schema after
+packet_keeps schema packets after x plain (p, x1, y1, e1, w1, (i, x2, y2, e2, w2, w3)) = go (slice_get schema i) refl w3 where
+  go : (s : Option SetDecl) → slice_get schema i ≡ s → (form.packet_of packets i s).whole y2 after → ArePlain schema after
   go None e w = absurd w
   go (Some s) e (key, x4, y4, e4, w4, h) =
       let k = all_values s.kinds x4 key w4 in
       let same_length = eq-eqb _ _ k.lengths in
       let fit = k.fit in
-      subst (λ (z : List Packet). All (IsFitting schema) z) h.1 (All-push (IsFitting schema) packets (record { set = i; key = key; now = 0 }) all (record { set = s; declared = e; fits = rw same_length fit; now = refl }))
+      subst (ArePlain schema) h.1 (record {
+        each = All-push (IsFitting schema) packets (record { set = i; key = key; now = 0 }) plain.each (record { set = s; declared = e; fits = rw same_length fit });
+        now = All-push IsFirst packets (record { set = i; key = key; now = 0 }) plain.now refl;
+      })
 
 pub keys_are_plain : (schema : List SetDecl) (text : List ℕ) (keys : List (List Packet)) → IsKeysText schema text keys → IsPlainKeys schema keys
 unfolding IsKeysText
 keys_are_plain schema text keys (read, x, y, e, (s, x1, y1, e1, w, h), (u, x2, y2, e2, w2, h2)) =
-    let k = lines_keep breaks_off (form.packet schema) (All (IsFitting schema)) (packet_keeps schema) ([], true) s x1 (All-nil (IsFitting schema)) w in
-    subst (IsPlainKeys schema) (h.1 ∙ h2.1) (record { packets = s.0; section = refl; each = k })
+    let k = lines_keep breaks_off (form.packet schema) (ArePlain schema) (packet_keeps schema) ([], true) s x1 (record { each = All-nil (IsFitting schema); now = All-nil IsFirst }) w in
+    subst (IsPlainKeys schema) (h.1 ∙ h2.1) (record { packets = s.0; section = refl; each = k.each; now = k.now })

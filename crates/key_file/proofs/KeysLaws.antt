@@ -9,18 +9,24 @@ use Rattle.token_forms.specs.Token.{Lexeme}
 use Rattle.token_forms.specs.Words.{breaks_off}
 use Rattle.token_forms.specs.Gives.{Gives}
 use Rattle.token_forms.specs.TextTokens.{text_tokens}
-use Rattle.token_forms.proofs.FormLaws.{Reads, Begins, never, bind_definite, bind_begins, done_reads, nowhere_reads, reads_shorter}
+use Rattle.token_forms.proofs.FormLaws.{Reads, Begins, never, bind_definite, bind_begins, done_reads, nowhere_reads}
 use Rattle.token_forms.proofs.ManyLaw.{many_reads}
-use Rattle.token_forms.proofs.WordLaws.{any_word, word_is_reads, word_reads, breaks_no_end, bind_done_same, AreStatements, are_lines, line_more, line_laws, line_begins}
+use Rattle.addr_text.specs.Values.{IsValue}
+use Rattle.addr_text.specs.ValuesRead.{value_of}
+use Rattle.addr_text.proofs.ValueLaws.{value_of_sound, value_of_complete}
+use Rattle.token_forms.proofs.ShorterLaws.{gives_shorter}
+use Rattle.token_forms.proofs.WordLaws.{any_word, TextDecides, word_is_reads, word_reads, breaks_no_end, bind_done_same, AreStatements, are_lines, line_more}
 use Rattle.token_forms.proofs.KindLaws.{word_no_break, end_no_break_line}
 use Rattle.token_forms.proofs.WholeLaws.{Ends, text_answer}
 use Rattle.token_forms.proofs.EndsLaw.{text_ends}
 use Rattle.token_forms.proofs.AnswerLaws.{TextGives, text_gives, text_single}
-use Rattle.set_script.proofs.ValueDecides.{value_decides}
 use Rattle.set_script.proofs.ScriptLaws.{table_place_reads, table_place_begins, used_set_reads}
 use Rattle.key_file.specs.Keys as form
 use Rattle.key_file.specs.KeysText.{IsKeysText}
 use Rattle.key_file.specs.KeysReading as reading
+
+value_decides : (kind : Kind) → TextDecides (IsValue kind) (value_of kind)
+value_decides kind = record { sound = value_of_sound kind; complete = value_of_complete kind }
 
 value_reads : (kind : Kind) → Reads (form.value kind) never (reading.value kind)
 value_reads kind = word_is_reads (reasons.Value ∷ []) (value_decides kind)
@@ -49,18 +55,19 @@ packet_reads schema packets =
 packet_begins : (schema : List SetDecl) (packets : List Packet) → Begins (form.packet schema packets) any_word
 packet_begins schema packets = bind_begins table_place_reads table_place_begins
 
-are_packets : (schema : List SetDecl) → AreStatements breaks_off any_word (λ _. never) (form.packet schema) (reading.packet schema)
+are_packets : (schema : List SetDecl) → AreStatements breaks_off any_word any_word (λ _. never) (form.packet schema) (reading.packet schema)
 are_packets schema = record {
   no_end = breaks_no_end;
   laws = packet_reads schema;
   begins = packet_begins schema;
   apart = word_no_break;
   ends = λ s s1 t h. refl;
+  starts_more = λ t h. h;
   goes_more = λ s s1 t h. absurd (cc h);
 }
 
 packets_reads : (schema : List SetDecl) → Reads (form.packets schema) (λ _. line_more breaks_off any_word) (reading.packets schema)
-packets_reads schema = many_reads _ _ _ _ _ (are_lines breaks_off any_word (λ _. never) (form.packet schema) (reading.packet schema) (are_packets schema)) ([], true)
+packets_reads schema = many_reads _ _ _ _ _ (are_lines breaks_off any_word any_word (λ _. never) (form.packet schema) (reading.packet schema) (are_packets schema)) ([], true)
 
 body_reads : (schema : List SetDecl) → Reads (form.body schema) (λ _. line_more breaks_off any_word) (reading.body schema)
 unfolding reading.body
@@ -83,9 +90,8 @@ unfolding IsKeysText
 keys_single schema text keys other w v = text_single (body_reads schema) (λ _. end_no_break_line) (text_tokens text) (text_ends text) keys other w v
 
 -- a line takes a token
-pub line_shorter : {X : Type 0} (schema : List SetDecl) (packets : List Packet) (next : Bool) (view : X → List Packet × Bool) (result : Result X ReadError) (old new : List Lexeme)
-    → Gives view result new (reading.packet_line schema (packets, next) old) → OnOk result (length new < length old)
-line_shorter schema packets next view (Ok x) old new g =
-    reads_shorter (line_laws breaks_off any_word (λ _. never) (form.packet schema) (reading.packet schema) (are_packets schema) packets next)
-    (record { empty = λ a w. (line_begins breaks_off any_word (λ _. never) (form.packet schema) (reading.packet schema) (are_packets schema) packets next).filled a w }) old new (view x) g
-line_shorter schema packets next view (Err e) old new g = tt
+pub line_shorter : {X : Type 0} (schema : List SetDecl) (s : List Packet × Bool) (view : X → List Packet × Bool) (result : Result X ReadError) (old new : List Lexeme)
+    → Gives view result new (reading.packet_line schema s old) → OnOk result (length new < length old)
+line_shorter schema s view result old new g =
+    let lines = are_lines breaks_off any_word any_word (λ _. never) (form.packet schema) (reading.packet schema) (are_packets schema) in
+    gives_shorter (lines.laws s) (lines.begins s) view result old new g

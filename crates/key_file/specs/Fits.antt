@@ -4,15 +4,15 @@ use Rattle.set_model.specs.declared.script.SetDecl.{SetDecl}
 use Rattle.set_model.specs.declared.packet.Packet.{Packet}
 use Rattle.set_model.specs.Key.{key_fits}
 
--- the packet's set is declared, its key fits the set's kinds, and its moment is 0
+-- the packet's set is declared, and its key fits the set's kinds
 pub record IsFitting (schema : List SetDecl) (p : Packet) : Type 0 where
   pub set : SetDecl
   pub declared : slice_get schema p.set ≡ Some set
   pub fits : IsTrue (key_fits set.kinds p.key)
-  pub now : p.now ≡ 0
 
--- one section, whose packets all fit
+-- one section, whose packets all fit and have moment 0
 pub record IsPlainKeys (schema : List SetDecl) (keys : List (List Packet)) : Type 0 where
   pub packets : List Packet
   pub section : keys ≡ packets ∷ []
   pub each : All (IsFitting schema) packets
+  pub now : All (λ p. p.now ≡ 0) packets

@@ -134,7 +134,7 @@ pub fn read_keys(alloc: Global, schema: &Schema, text: &[u8]) -> Result<Keys, Ke
     ensures only { (keys : List (List Packet)) → IsKeysText schema.now text.now keys → IsReadAs (λ x. x) result keys }
     // A text that is refused stands for no key file.
     ensures bad { (line : ℕ) (reason : Reason) → result ≡ Err (Bad line reason) → (line ≡ 0) × (reason ≡ LeftOut) × ((keys : List (List Packet)) → IsKeysText schema.now text.now keys → ⊥) }
-    // Each packet's set is declared, and its key fits the set's kinds.
+    // There is one section. Each packet's set is declared, its key fits the set's kinds, and its moment is 0.
     ensures fits { IfOk result (IsPlainKeys schema.now) }
 {
     match read_placed(alloc, schema, text) {

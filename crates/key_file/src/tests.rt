@@ -66,6 +66,46 @@ fn packets_have_their_key(rt: HostRuntime) -> Result<(), Fail> {
 }
 
 #[test]
+fn values_of_four_kinds(rt: HostRuntime) -> Result<(), Fail> {
+    let alloc = rt.alloc();
+    let script = read_script(
+        alloc,
+        b"add set inet t m { type ipv6_addr . ether_addr . inet_proto . mark ; }",
+    )?;
+    let keys = read_keys(
+        alloc,
+        &script.schema,
+        b"inet t m 2001:DB8:0::1 . 00:01:02:0A:0B:0C . 6 . 255\n",
+    )?;
+    for section in keys.as_slice() {
+        match section.as_slice() {
+            [packet] => {
+                let key = [
+                    0x2001_0db8_0000_0000_0000_0000_0000_0001,
+                    0x0001_020a_0b0c,
+                    6,
+                    255,
+                ];
+                assert_eq!(rt; packet.key.as_slice(), key.as_slice());
+            }
+            _ => assert!(rt; false, "other packets"),
+        }
+    }
+    Ok(())
+}
+
+#[test]
+fn a_family_may_be_left_out(rt: HostRuntime) -> Result<(), Fail> {
+    let alloc = rt.alloc();
+    let script = script(alloc)?;
+    let keys = read_keys(alloc, &script.schema, b"at round 10.0.0.6 . 1024\n")?;
+    for section in keys.as_slice() {
+        assert_eq!(rt; section.len(), 1);
+    }
+    Ok(())
+}
+
+#[test]
 fn texts_outside_the_grammar(rt: HostRuntime) -> Result<(), Fail> {
     let alloc = rt.alloc();
     let script = script(alloc)?;
@@ -75,8 +115,9 @@ fn texts_outside_the_grammar(rt: HostRuntime) -> Result<(), Fail> {
         b"ip at other 10.0.0.6 . 1024",
         b"ip other round 10.0.0.6 . 1024",
         b"inet at round 10.0.0.6 . 1024",
-        b"at round 10.0.0.6 . 1024",
+        b"ip ip round 10.0.0.6 . 1024",
         b"ip at round 10.0.0.6",
+        b"ip at round 10.0.0.6-10.0.0.6 . 1024",
         b"ip at round 10.0.0.6 . 1024 . 1",
         b"ip at round 10.0.0.6 .\n1024",
         b"ip at round 10.0.0.6 . 1024 ip at round 10.0.0.6 . 1024",

@@ -1,52 +1,55 @@
--- What a script has declared and changed so far, and what its statements add to that.
-use Rattle.std.specs.Prelude.{ℕ, List, [], ◌∷◌, ◌++◌, false, true, None}
+-- What the statements of a script add to what has been read of it.
+use Rattle.std.specs.Prelude.{ℕ, List, [], ◌∷◌, ◌++◌, length, false, true, None}
 use Rattle.set_model.specs.declared.kind.Kind.{Kind}
 use Rattle.set_model.specs.declared.kind.Interval.{Interval}
 use Rattle.set_model.specs.declared.script.Family.{Family}
-use Rattle.set_model.specs.declared.script.SetDecl.{SetDecl}
 use Rattle.set_model.specs.declared.script.Verb.TheVariants as verbs
 use Rattle.set_model.specs.declared.script.Step.{Step}
 use Rattle.set_model.specs.declared.script.Step.TheVariants as steps
 use Rattle.set_model.specs.declared.script.Script.{Script}
-
--- the declared sets, and the steps of the open transaction
-pub record Draft : Type 0 where
-  pub schema : List SetDecl
-  pub steps : List Step
+use Rattle.set_script.specs.declared.draft.Draft.{Draft}
+use Rattle.set_script.specs.declared.draft.Declaration.{Declaration}
 
 abbrev pub empty : Draft
 empty = record { schema = []; steps = [] }
 
--- how many sets a script may declare, and how many changes it may make
-abbrev pub most_sets : ℕ
-most_sets = 1
-
-abbrev pub most_changes : ℕ
-most_changes = 4096
-
--- a set with the flag `interval`, no timeout and no size
-abbrev pub declaration : Family → List ℕ → List ℕ → List Kind → SetDecl
-declaration family table name kinds = record {
-  family = family;
-  table = table;
-  name = name;
-  kinds = kinds;
-  interval = true;
-  timed = false;
-  disjoint = false;
-  timeout = None;
-  size = None;
+-- A set whose kinds have been read, behind the sets that are declared: it has no flag, no timeout and no size yet.
+abbrev pub declaration : Draft → Family → List ℕ → List ℕ → List Kind → Declaration
+declaration d family table name kinds = record {
+  set = length d.schema;
+  decl = record {
+    family = family;
+    table = table;
+    name = name;
+    kinds = kinds;
+    interval = false;
+    timed = false;
+    disjoint = false;
+    timeout = None;
+    size = None;
+  };
+  flags = false;
+  elements = false;
 }
 
-abbrev pub declared : SetDecl → Draft → Draft
-declared decl d = record d { schema = d.schema ++ decl ∷ [] }
+-- the item `flags interval`
+abbrev pub with_interval : Declaration → Declaration
+with_interval b = record b { decl = record b.decl { interval = true }; flags = true }
+
+-- the item `elements`
+abbrev pub with_elements : Declaration → Declaration
+with_elements b = record b { elements = true }
 
 -- an added element without expiry and comment, at moment 0
 abbrev pub addition : ℕ → ℕ → List Interval → Step
 addition set line parts = steps.Change line set verbs.Add parts None [] 0
 
-abbrev pub with_addition : Draft → ℕ → ℕ → List Interval → Draft
-with_addition d set line parts = record d { steps = d.steps ++ addition set line parts ∷ [] }
+abbrev pub with_steps : Draft → List Step → Draft
+with_steps d steps = record d { steps = steps }
+
+-- one more set, with the changes of its item `elements`
+abbrev pub declared : Declaration → List Step → Draft → Draft
+declared b steps d = record { schema = d.schema ++ b.decl ∷ []; steps = steps }
 
 -- the end of a script commits an open transaction that has a change
 abbrev pub committed : List Step → List Step

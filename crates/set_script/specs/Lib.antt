@@ -1,7 +1,9 @@
-pub mod Changes
+pub mod Limits
 pub mod Values
+pub mod Changes
 pub mod Names
 pub mod Script
 pub mod ScriptText
+pub mod Runnable
 pub mod Plain
 pub mod ScriptReading

@@ -1,18 +1,44 @@
 -- Words that have a meaning at their place.
-use Rattle.std.specs.Prelude.{ℕ, List, length, Bool, ◌&&◌, ◌==◌, nat_lt, Option, Some, None, codes, bytes_eq, position, if◌then◌else◌}
+use Rattle.std.specs.Prelude.{ℕ, ◌+◌, ◌*◌, ◌/◌, List, length, sum_by, Bool, ◌&&◌, not, ◌==◌, nat_lt, nat_le, Option, Some, None, codes, cond, bytes_eq, position, if◌then◌else◌}
+use Rattle.set_model.specs.Kind.{bits_of}
+use Rattle.set_model.specs.declared.kind.Kind.{Kind}
+use Rattle.set_model.specs.declared.kind.Kind.TheVariants as kinds
 use Rattle.set_model.specs.declared.script.Family.{Family}
 use Rattle.set_model.specs.declared.script.Family.TheVariants as families
 use Rattle.set_model.specs.declared.script.SetDecl.{SetDecl}
 use Rattle.token_forms.specs.Words.{is_name}
+use Rattle.set_script.specs.declared.draft.Draft.{Draft}
+use Rattle.set_script.specs.declared.draft.Declaration.{Declaration}
+use Rattle.set_script.specs.declared.words.FirstWord.{FirstWord}
+use Rattle.set_script.specs.declared.words.FirstWord.TheVariants as firsts
 use Rattle.set_script.specs.declared.words.AddWord.{AddWord}
 use Rattle.set_script.specs.declared.words.AddWord.TheVariants as adds
-use Rattle.set_script.specs.Changes.{Draft, most_sets, most_changes}
+use Rattle.set_script.specs.declared.words.ItemWord.{ItemWord}
+use Rattle.set_script.specs.declared.words.ItemWord.TheVariants as items
+use Rattle.set_script.specs.Limits.{most_sets}
 
--- what is added: a set, or an element where there is room for one more change
-abbrev pub add_of : Draft → List ℕ → Option AddWord
-add_of d t =
+-- the first word of a statement
+abbrev pub first_of : List ℕ → Option FirstWord
+first_of t =
+    if bytes_eq t (codes "add") then Some firsts.Add
+    else if bytes_eq t (codes "table") then Some firsts.Table
+    else None
+
+-- what is added
+abbrev pub add_of : List ℕ → Option AddWord
+add_of t =
     if bytes_eq t (codes "set") then Some adds.Set
-    else if bytes_eq t (codes "element") && nat_lt (length d.steps) most_changes then Some adds.Element
+    else if bytes_eq t (codes "element") then Some adds.Element
+    else None
+
+abbrev pub family_of : List ℕ → Option Family
+family_of t =
+    if bytes_eq t (codes "ip") then Some families.Ip
+    else if bytes_eq t (codes "ip6") then Some families.Ip6
+    else if bytes_eq t (codes "inet") then Some families.Inet
+    else if bytes_eq t (codes "arp") then Some families.Arp
+    else if bytes_eq t (codes "bridge") then Some families.Bridge
+    else if bytes_eq t (codes "netdev") then Some families.Netdev
     else None
 
 -- the place of a family in the order of nft(8)
@@ -24,6 +50,30 @@ family_number families.Arp = 3
 family_number families.Bridge = 4
 family_number families.Netdev = 5
 
+-- the data types of nft(8)
+abbrev pub kind_of : List ℕ → Option Kind
+kind_of t =
+    if bytes_eq t (codes "ipv4_addr") then Some kinds.Ipv4
+    else if bytes_eq t (codes "ipv6_addr") then Some kinds.Ipv6
+    else if bytes_eq t (codes "ether_addr") then Some kinds.Ether
+    else if bytes_eq t (codes "inet_proto") then Some kinds.Proto
+    else if bytes_eq t (codes "inet_service") then Some kinds.Service
+    else if bytes_eq t (codes "mark") then Some kinds.Mark
+    else None
+
+-- the bytes that a value of a kind takes in a key: rounded up to 4, as the kernel aligns fields to its registers
+abbrev pub key_bytes : Kind → ℕ
+key_bytes kind = (bits_of kind / 8 + 3) / 4 * 4
+
+-- A concatenation has at most 16 fields and 64 bytes.
+abbrev pub has_room : List Kind → Kind → Bool
+has_room ks kind = nat_lt (length ks) 16 && nat_le (sum_by key_bytes ks + key_bytes kind) 64
+
+-- a kind, where there is room for it behind these
+abbrev pub kind_behind : List Kind → Option Kind → Option Kind
+kind_behind ks None = None
+kind_behind ks (Some kind) = cond (has_room ks kind) (Some kind) None
+
 -- a set is told from another by its family, its table and its name
 abbrev pub is_set : Family → List ℕ → List ℕ → SetDecl → Bool
 is_set family table name s = (family_number s.family == family_number family) && bytes_eq s.table table && bytes_eq s.name name
@@ -34,4 +84,12 @@ set_place schema family table name = position (is_set family table name) schema
 
 -- a name for one more set, where one more may be declared
 abbrev pub new_name : Draft → List ℕ → Option (List ℕ)
-new_name d name = if is_name name && nat_lt (length d.schema) most_sets then Some name else None
+new_name d name = cond (is_name name && nat_lt (length d.schema) most_sets) (Some name) None
+
+-- each item at most once, and none behind `elements`
+abbrev pub item_of : Declaration → List ℕ → Option ItemWord
+item_of b t =
+    if b.elements then None
+    else if bytes_eq t (codes "flags") && not b.flags then Some items.Flags
+    else if bytes_eq t (codes "elements") then Some items.Elements
+    else None

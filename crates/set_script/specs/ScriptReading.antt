@@ -1,36 +1,51 @@
 -- Reading a script from left to right, along the table of its forms.
-use Rattle.std.specs.Prelude.{ℕ, List, [], ◌∷◌, ◌++◌, Bool, true, Option, Some, None, codes, slice_get}
+use Rattle.std.specs.Prelude.{ℕ, List, [], ◌∷◌, ◌++◌, length, nat_lt, Bool, true, false, Option, Some, None, codes, slice_get}
 use Rattle.set_model.specs.declared.kind.Kind.{Kind}
-use Rattle.set_model.specs.declared.kind.Kind.TheVariants as kinds
 use Rattle.set_model.specs.declared.kind.Interval.{Interval}
 use Rattle.set_model.specs.declared.script.Family.{Family}
 use Rattle.set_model.specs.declared.script.Family.TheVariants as families
 use Rattle.set_model.specs.declared.script.SetDecl.{SetDecl}
+use Rattle.set_model.specs.declared.script.Step.{Step}
 use Rattle.set_model.specs.declared.script.Script.{Script}
+use Rattle.set_script.specs.declared.draft.Draft.{Draft}
+use Rattle.set_script.specs.declared.draft.Declaration.{Declaration}
+use Rattle.set_script.specs.declared.words.FirstWord.{FirstWord}
+use Rattle.set_script.specs.declared.words.FirstWord.TheVariants as firsts
+use Rattle.set_script.specs.declared.words.AddWord.{AddWord}
+use Rattle.set_script.specs.declared.words.AddWord.TheVariants as adds
+use Rattle.set_script.specs.declared.words.ItemWord.{ItemWord}
+use Rattle.set_script.specs.declared.words.ItemWord.TheVariants as items
 use Rattle.token_forms.specs.declared.token.Reason.TheVariants as reasons
 use Rattle.token_forms.specs.Token.{Lexeme, is_word}
 use Rattle.token_forms.specs.Reading.{done_read as done, nowhere_read as nowhere, ◌>>=◌, ◌>>◌}
-use Rattle.token_forms.specs.Words.{this_word, separates}
-use Rattle.token_forms.specs.WordReading.{Reading, word, word_by, lined_word_by, name, mark, the_end, breaks, separators, passed, line, line_starts, many}
-use Rattle.set_script.specs.declared.words.AddWord.{AddWord}
-use Rattle.set_script.specs.declared.words.AddWord.TheVariants as adds
-use Rattle.set_script.specs.Values.{single_of}
-use Rattle.set_script.specs.Names.{add_of, set_place, new_name}
-use Rattle.set_script.specs.Changes.{Draft, empty, declaration, declared, with_addition, finished}
+use Rattle.token_forms.specs.Words.{separates, is_the_mark}
+use Rattle.token_forms.specs.WordReading.{Reading, word, word_by, lined_word_by, name, mark, the_end, breaks, separators, line, line_starts, lines, many}
+use Rattle.set_script.specs.Values.{part_of}
+use Rattle.set_script.specs.Names.{first_of, add_of, family_of, kind_of, kind_behind, set_place, new_name, item_of}
+use Rattle.set_script.specs.Changes.{empty, declaration, with_interval, with_elements, addition, with_steps, declared, finished}
+use Rattle.set_script.specs.Limits.{most_changes}
 
+-- what starts one more
 abbrev pub any_word : Lexeme → Bool
 any_word t = is_word t.kind
 
-unfoldable pub some_separators : Reading (Unit {0})
-some_separators = do
-  passed separates
-  separators
+abbrev pub starts_element : List Step × Bool → Lexeme → Bool
+starts_element (before, true) t = any_word t
+starts_element (before, false) t = is_the_mark 44 t
+
+abbrev pub starts_kind : List Kind → Lexeme → Bool
+starts_kind ks t = any_word t
+
+unfoldable pub table_behind : List ℕ → Option Family → Reading (Family × List ℕ)
+table_behind w None = done (families.Ip, w)
+table_behind w (Some family) = do
+  table ← name
+  done (family, table)
 
 unfoldable pub table_place : Reading (Family × List ℕ)
 table_place = do
-  word (codes "ip")
-  table ← name
-  done (families.Ip, table)
+  w ← name
+  table_behind w (family_of w)
 
 abbrev pub used_set : List SetDecl → Family × List ℕ → Reading ℕ
 used_set schema p = word_by (reasons.Set ∷ []) (λ t. set_place schema p.0 p.1 t.bytes)
@@ -38,96 +53,175 @@ used_set schema p = word_by (reasons.Set ∷ []) (λ t. set_place schema p.0 p.1
 abbrev pub new_set : Draft → Reading (List ℕ)
 new_set d = word_by (reasons.Set ∷ []) (λ t. new_name d t.bytes)
 
-abbrev pub first_part : Kind → Reading (ℕ × Interval)
-first_part kind = lined_word_by (reasons.Value ∷ []) (single_of kind)
+abbrev pub first_part : Bool → Kind → Reading (ℕ × Interval)
+first_part wide kind = lined_word_by (reasons.Value ∷ []) (part_of wide kind)
 
-abbrev pub part : Kind → Reading Interval
-part kind = word_by (reasons.Value ∷ []) (λ t. single_of kind t.bytes)
+abbrev pub part : Bool → Kind → Reading Interval
+part wide kind = word_by (reasons.Value ∷ []) (λ t. part_of wide kind t.bytes)
 
-unfoldable pub more_parts : List Kind → List Interval → Reading (List Interval)
-more_parts [] parts = done parts
-more_parts (kind ∷ kinds) parts = do
+unfoldable pub more_parts : Bool → List Kind → List Interval → Reading (List Interval)
+more_parts wide [] parts = done parts
+more_parts wide (kind ∷ kinds) parts = do
   breaks
   word (codes ".")
   breaks
-  p ← part kind
-  more_parts kinds (parts ++ p ∷ [])
+  p ← part wide kind
+  more_parts wide kinds (parts ++ p ∷ [])
 
-abbrev pub some_parts : Kind → List Kind → Reading (ℕ × List Interval)
-some_parts kind kinds = do
-  p ← first_part kind
-  parts ← more_parts kinds (p.1 ∷ [])
+abbrev pub some_parts : Bool → Kind → List Kind → Reading (ℕ × List Interval)
+some_parts wide kind kinds = do
+  p ← first_part wide kind
+  parts ← more_parts wide kinds (p.1 ∷ [])
   done (p.0, parts)
 
-unfoldable pub all_parts : List Kind → Reading (ℕ × List Interval)
-all_parts [] = nowhere
-all_parts (kind ∷ kinds) = some_parts kind kinds
+unfoldable pub all_parts : Bool → List Kind → Reading (ℕ × List Interval)
+all_parts wide [] = nowhere
+all_parts wide (kind ∷ kinds) = some_parts wide kind kinds
 
--- the intervals of an element in braces, in which breaks are blanks
-unfoldable pub parts_in_braces : List Kind → Reading (ℕ × List Interval)
-parts_in_braces kinds = do
+unfoldable pub element_where : Bool → ℕ → SetDecl → List Step → Reading (List Step)
+element_where false set s before = nowhere
+element_where true set s before = do
+  p ← all_parts false s.kinds
+  breaks
+  done (before ++ addition set p.0 p.1 ∷ [])
+
+abbrev pub element : ℕ → SetDecl → List Step → Reading (List Step)
+element set s before = element_where (nat_lt (length before) most_changes) set s before
+
+unfoldable pub list_item : ℕ → SetDecl → List Step × Bool → Reading (List Step × Bool)
+list_item set s (before, true) = do
+  behind ← element set s before
+  done (behind, false)
+list_item set s (before, false) = do
+  mark 44
+  breaks
+  done (before, true)
+
+abbrev pub list_items : ℕ → SetDecl → List Step × Bool → Reading (List Step × Bool)
+list_items set s = many starts_element (list_item set s)
+
+unfoldable pub list : ℕ → SetDecl → List Step → Reading (List Step)
+list set s before = do
   mark 123
   breaks
-  p ← all_parts kinds
-  breaks
+  r ← list_items set s (before, true)
   mark 125
-  done p
+  done r.0
 
-unfoldable pub element_of : Draft → ℕ → Option SetDecl → Reading Draft
-element_of d i None = nowhere
-element_of d i (Some s) = do
-  p ← parts_in_braces s.kinds
-  done (with_addition d i p.0 p.1)
+abbrev pub kind_word : List Kind → Reading Kind
+kind_word ks = word_by (reasons.TypeWord ∷ []) (λ t. kind_behind ks (kind_of t.bytes))
 
-abbrev pub element_at : Draft → ℕ → Reading Draft
-element_at d i = element_of d i (slice_get d.schema i)
+unfoldable pub more_kinds : List Kind → Reading (List Kind)
+more_kinds ks = do
+  word (codes ".")
+  k ← kind_word ks
+  done (ks ++ k ∷ [])
 
-abbrev pub kind_word : List ℕ → Reading (Unit {0})
-kind_word text = word_by (reasons.TypeWord ∷ []) (this_word text)
+abbrev pub kinds_behind : List Kind → Reading (List Kind)
+kinds_behind = many starts_kind more_kinds
 
 unfoldable pub type_item : Reading (List Kind)
 type_item = do
   word (codes "type")
-  kind_word (codes "ipv4_addr")
-  word (codes ".")
-  kind_word (codes "inet_service")
-  done (kinds.Ipv4 ∷ kinds.Service ∷ [])
+  k ← kind_word []
+  kinds_behind (k ∷ [])
 
-unfoldable pub flags_item : Reading (Unit {0})
-flags_item = do
-  word (codes "flags")
+abbrev pub elements_item : Declaration × List Step → Reading (Declaration × List Step)
+elements_item (b, steps) = do
+  mark 61
+  behind ← list b.set b.decl steps
+  done (with_elements b, behind)
+
+unfoldable pub item_behind : Declaration × List Step → ItemWord → Reading (Declaration × List Step)
+item_behind (b, steps) items.Flags = do
   word (codes "interval")
+  done (with_interval b, steps)
+item_behind (b, steps) items.Elements = elements_item (b, steps)
 
-unfoldable pub set_body : Reading (List Kind)
-set_body = do
+abbrev pub item_word : Declaration → Reading ItemWord
+item_word b = word_by [] (λ t. item_of b t.bytes)
+
+unfoldable pub item : Declaration × List Step → Reading (Declaration × List Step)
+item s = do
+  w ← item_word s.0
+  item_behind s w
+
+abbrev pub item_line : (Declaration × List Step) × Bool → Reading ((Declaration × List Step) × Bool)
+item_line = line separates item
+
+abbrev pub item_lines : (Declaration × List Step) × Bool → Reading ((Declaration × List Step) × Bool)
+item_lines = many (line_starts separates any_word) item_line
+
+abbrev pub all_items : Declaration × List Step → Reading (Declaration × List Step)
+all_items s = lines separates any_word item (s, false)
+
+unfoldable pub set_body : Draft → Family × List ℕ → List ℕ → Reading Draft
+set_body d p n = do
   mark 123
   separators
   ks ← type_item
-  some_separators
-  flags_item
-  some_separators
+  s ← all_items (declaration d p.0 p.1 n ks, d.steps)
   mark 125
-  done ks
+  done (declared s.0 s.1 d)
+
+unfoldable pub set_block : Family × List ℕ → Draft → Reading Draft
+set_block p d = do
+  word (codes "set")
+  n ← new_set d
+  set_body d p n
+
+abbrev pub block_line : Family × List ℕ → Draft × Bool → Reading (Draft × Bool)
+block_line p = line separates (set_block p)
+
+abbrev pub block_lines : Family × List ℕ → Draft × Bool → Reading (Draft × Bool)
+block_lines p = many (line_starts separates any_word) (block_line p)
+
+abbrev pub all_blocks : Family × List ℕ → Draft → Reading Draft
+all_blocks p d = lines separates any_word (set_block p) (d, true)
+
+unfoldable pub changes_of : Draft → ℕ → Option SetDecl → Reading Draft
+changes_of d i None = nowhere
+changes_of d i (Some s) = do
+  behind ← list i s d.steps
+  done (with_steps d behind)
+
+abbrev pub changes_at : Draft → ℕ → Reading Draft
+changes_at d i = changes_of d i (slice_get d.schema i)
 
 unfoldable pub add_behind : Draft → AddWord → Reading Draft
 add_behind d adds.Set = do
   p ← table_place
   n ← new_set d
-  ks ← set_body
-  done (declared (declaration p.0 p.1 n ks) d)
+  set_body d p n
 add_behind d adds.Element = do
   p ← table_place
   i ← used_set d.schema p
-  element_at d i
+  changes_at d i
 
-abbrev pub add_word : Draft → Reading AddWord
-add_word d = word_by [] (λ t. add_of d t.bytes)
+unfoldable pub table_block : Draft → Reading Draft
+table_block d = do
+  p ← table_place
+  mark 123
+  d1 ← all_blocks p d
+  mark 125
+  done d1
+
+abbrev pub add_word : Reading AddWord
+add_word = word_by [] (λ t. add_of t.bytes)
+
+unfoldable pub statement_behind : Draft → FirstWord → Reading Draft
+statement_behind d firsts.Add = do
+  w ← add_word
+  add_behind d w
+statement_behind d firsts.Table = table_block d
+
+abbrev pub first_word : Reading FirstWord
+first_word = word_by [] (λ t. first_of t.bytes)
 
 unfoldable pub statement : Draft → Reading Draft
 statement d = do
-  word (codes "add")
-  w ← add_word d
-  add_behind d w
+  w ← first_word
+  statement_behind d w
 
 abbrev pub statement_line : Draft × Bool → Reading (Draft × Bool)
 statement_line = line separates statement

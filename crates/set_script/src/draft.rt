@@ -1,32 +1,27 @@
-ghost use Rattle.std.specs.Prelude.{◌≡◌, ◌<◌, ◌≤◌, length, OnOk, IfOk, nat_lt};
-ghost use Rattle.set_script.specs.Changes.{empty, declaration, declared, with_addition, finished, most_sets, most_changes};
+ghost use Rattle.std.specs.Prelude.{◌≡◌, length, IfOk};
+ghost use Rattle.set_script.specs.Changes.{empty, declaration, finished};
 
-use set_model::{
-    Comment, Family, Kinds, Listed, Memory, Name, Parts, Schema, Script, SetDecl, Step, Steps, Verb,
-};
+use crate::declared::Declared;
+use set_model::{Family, Kinds, Listed, Memory, Name, Script, SetDecl, Step, Steps};
 use std::alloc::Global;
-use std::marker::Model;
 
-const MOST_SETS: u64 = 1;
-
-const MOST_CHANGES: u64 = 4096;
-
-/// What has been read of a script: the sets that it declares, and the steps of its open transaction.
+/// What has been read of a script.
 #[derive(Drop)]
 pub struct Draft {
-    schema: Schema,
-    steps: Steps,
+    /// The declared sets.
+    pub schema: Declared,
+    /// The steps of the open transaction.
+    pub steps: Steps,
 }
 
-impl Model for Draft {
-    ghost use Rattle.std.specs.Prelude.{◌≤◌, length};
-    ghost use Rattle.set_script.specs.Changes.{Draft as Drafted, most_sets};
-
-    ghost Value = { Drafted };
-
-    ghost view = { λ d. record { schema = d.schema; steps = d.steps } };
-
-    ghost invariant = { λ d. length d.schema ≤ most_sets };
+/// A set that is being declared, and which of its items have been read.
+#[derive(Drop)]
+pub struct Declaration {
+    /// Its place behind the sets that are declared.
+    pub set: u32,
+    pub decl: SetDecl,
+    pub flags: bool,
+    pub elements: bool,
 }
 
 impl Draft {
@@ -34,54 +29,9 @@ impl Draft {
         ensures { result ≡ empty }
     {
         Draft {
-            schema: Listed::new(alloc),
+            schema: Declared::new(alloc),
             steps: Listed::new(alloc),
         }
-    }
-
-    /// Whether one more set may be declared.
-    pub fn has_room_for_a_set(&self) -> bool
-        ensures { result ≡ nat_lt (length self.now.schema) most_sets }
-    {
-        self.schema.len() < MOST_SETS
-    }
-
-    /// Whether one more change may be made.
-    pub fn has_room_for_a_change(&self) -> bool
-        ensures { result ≡ nat_lt (length self.now.steps) most_changes }
-    {
-        self.steps.len() < MOST_CHANGES
-    }
-
-    /// The declared sets.
-    pub fn schema(&self) -> &[SetDecl]
-        ensures sets { result.now ≡ self.now.schema }
-        ensures few { length result.now ≤ most_sets }
-    {
-        self.schema.as_slice()
-    }
-
-    /// Declares one more set. After `Memory` nothing is known of what stands here.
-    pub fn declare(&mut self, decl: SetDecl) -> Result<(), Memory>
-        requires { length self.old.schema < most_sets }
-        ensures { OnOk result (self.new ≡ declared decl self.old) }
-    {
-        self.schema.push(decl)
-    }
-
-    /// Adds the change of a statement that adds an element.
-    pub fn add(&mut self, alloc: Global, set: u32, line: u64, parts: Parts) -> Result<(), Memory>
-        ensures { OnOk result (self.new ≡ with_addition self.old set line parts) }
-    {
-        self.steps.push(Step::Change {
-            line,
-            set,
-            verb: Verb::Add,
-            parts,
-            expiry: None,
-            comment: Comment::new(alloc),
-            now: 0,
-        })
     }
 
     /// The script, whose end commits the open transaction where that has a change.
@@ -95,7 +45,7 @@ impl Draft {
         let mut sections = Listed::new(alloc);
         sections.push(steps)?;
         Ok(Script {
-            schema,
+            schema: schema.into_schema(),
             sections,
             last: 0,
         })
@@ -108,25 +58,31 @@ fn owned(alloc: Global, bytes: &[u8]) -> Result<Name, Memory>
     Ok(Listed::from_vec(Vec::from_slice(alloc, bytes)?))
 }
 
-/// A set with the flag `interval`, and neither a timeout nor a size.
-pub fn make_declaration(
+/// Begins the declaration of a set whose kinds have been read.
+pub fn begin_declaration(
     alloc: Global,
+    d: &Draft,
     family: Family,
     table: &[u8],
     name: &[u8],
     kinds: Kinds,
-) -> Result<SetDecl, Memory>
-    ensures { IfOk result (λ s. s ≡ declaration family table.now name.now kinds) }
+) -> Result<Declaration, Memory>
+    ensures { IfOk result (λ b. b ≡ declaration d.now family table.now name.now kinds) }
 {
-    Ok(SetDecl {
-        family,
-        table: owned(alloc, table)?,
-        name: owned(alloc, name)?,
-        kinds,
-        interval: true,
-        timed: false,
-        disjoint: false,
-        timeout: None,
-        size: None,
+    Ok(Declaration {
+        set: d.schema.len(),
+        decl: SetDecl {
+            family,
+            table: owned(alloc, table)?,
+            name: owned(alloc, name)?,
+            kinds,
+            interval: false,
+            timed: false,
+            disjoint: false,
+            timeout: None,
+            size: None,
+        },
+        flags: false,
+        elements: false,
     })
 }

@@ -1,6 +1,7 @@
 //! The reader of scripts: the statements of nft(8) that declare a set and add elements to it.
 #![tactic(auto)]
 
+mod declared;
 mod draft;
 mod elements;
 mod place;

@@ -3,6 +3,7 @@ ghost use Rattle.token_forms.specs.Gives.{Gives};
 ghost use Rattle.set_script.specs.Names.{family_number, is_set, set_place};
 ghost use Rattle.set_script.specs.ScriptReading as reading;
 
+use crate::words::read_family;
 use set_model::{Family, SetDecl};
 use token_forms::{ReadError, Reader, Reason, short};
 
@@ -36,14 +37,30 @@ fn place_of_set(schema: &[SetDecl], family: Family, table: &[u8], name: &[u8]) -
         .position(|decl| is_the_set(family, table, name, decl))
 }
 
-/// Reads the family and the table of a set.
+#[tactic(auto, using(token_forms::proofs::Refusals::refusals), unfolding(crate::specs::ScriptReading::table_behind))]
+fn table_behind<'a>(
+    reader: &mut Reader<'a>,
+    word: &'a [u8],
+    family: Option<Family>,
+) -> Result<(Family, &'a [u8]), ReadError>
+    ensures { Gives (λ x. (x.0, x.1.now)) result reader.new (reading.table_behind word.now family reader.old) }
+{
+    match family {
+        None => Ok((Family::Ip, word)),
+        Some(family) => {
+            let table = reader.name()?;
+            Ok((family, table))
+        }
+    }
+}
+
+/// Reads the family, `ip` where it is left out, and the table of a set.
 #[tactic(auto, using(token_forms::proofs::Refusals::refusals), unfolding(crate::specs::ScriptReading::table_place))]
 pub fn table_place<'a>(reader: &mut Reader<'a>) -> Result<(Family, &'a [u8]), ReadError>
     ensures { Gives (λ x. (x.0, x.1.now)) result reader.new (reading.table_place reader.old) }
 {
-    reader.word(b"ip")?;
-    let table = reader.name()?;
-    Ok((Family::Ip, table))
+    let word = reader.name()?;
+    table_behind(reader, word, read_family(word))
 }
 
 /// Reads the name of a declared set, and gives its place among the declared sets.

@@ -1,8 +1,5 @@
 ghost use Rattle.std.specs.Prelude.{◌≡◌, ◌<◌, List, ℕ, length, OnOk, IfOk, Err};
 ghost use Rattle.token_forms.specs.Gives.{Gives, IsReadAs};
-ghost use Rattle.token_forms.specs.View.{lexeme_of};
-ghost use Rattle.token_forms.specs.Words.{separates};
-ghost use Rattle.token_forms.specs.WordReading.{line_starts};
 ghost use Rattle.token_forms.specs.TextTokens.{text_tokens};
 ghost use Rattle.token_forms.specs.Faults.{IsFault};
 ghost use Rattle.token_forms.specs.declared.token.Reason.{Reason};
@@ -10,35 +7,53 @@ ghost use Rattle.token_forms.specs.declared.token.Reason.TheVariants.{LeftOut};
 ghost use Rattle.token_forms.specs.declared.error.ReadError.TheVariants.{Bad};
 ghost use Rattle.set_model.specs.declared.script.Script.{Script};
 ghost use Rattle.set_script.specs.ScriptReading as reading;
-ghost use Rattle.set_script.specs.ScriptReading.{any_word};
-ghost use Rattle.set_script.specs.Changes.{Draft as Drafted};
 ghost use Rattle.set_script.specs.Script.{script};
 ghost use Rattle.set_script.specs.ScriptText.{IsScriptText};
+ghost use Rattle.set_script.specs.Runnable.{IsRunnable};
 ghost use Rattle.set_script.specs.Plain.{IsPlainScript};
 
-use crate::draft::{Draft, make_declaration};
-use crate::elements::element;
+use crate::draft::Draft;
+use crate::elements::list;
 use crate::place::{table_place, used_set};
-use crate::sets::{new_set, set_body};
-use crate::words::{AddWord, add_word_of};
+use crate::sets::{new_set, set_body, starts_a_line, table_block};
+use crate::words::{AddWord, FirstWord, add_word_of, first_word_of};
 use set_model::Script;
 use std::alloc::Global;
-use token_forms::{ReadError, Reader, Seen, short};
+use token_forms::{ReadError, Reader, short};
 
 /// Why a text isn't read as a script.
 pub type ScriptError = ReadError;
 
 #[tactic(auto, unfolding(token_forms::specs::Gives::Refuses))]
-fn add_word(reader: &mut Reader, d: &Draft) -> Result<AddWord, ReadError>
-    ensures { Gives (λ x. x) result reader.new (reading.add_word d.now reader.old) }
+fn add_word(reader: &mut Reader) -> Result<AddWord, ReadError>
+    ensures { Gives (λ x. x) result reader.new (reading.add_word reader.old) }
 {
     match reader.take() {
-        Some(t) if t.is_word() => match add_word_of(d, t.bytes) {
+        Some(t) if t.is_word() => match add_word_of(t.bytes) {
             Some(word) => Ok(word),
             None => Err(t.refused(&[])),
         },
         Some(t) => Err(t.refused(&[])),
         None => Err(short()),
+    }
+}
+
+/// The elements that are added to the declared set at a place.
+#[tactic(auto, using(token_forms::proofs::Refusals::refusals), unfolding(crate::specs::ScriptReading::changes_of, token_forms::specs::Gives::Refuses))]
+fn changes_at(
+    reader: &mut Reader,
+    alloc: Global,
+    d: &mut Draft,
+    set: u32,
+) -> Result<(), ReadError>
+    ensures { Gives (λ _. d.new) result reader.new (reading.changes_at d.old set reader.old) }
+{
+    match d.schema.as_slice().get(set as usize) {
+        None => match reader.take() {
+            Some(t) => Err(t.refused(&[])),
+            None => Err(short()),
+        },
+        Some(decl) => list(reader, alloc, set, decl, &mut d.steps),
     }
 }
 
@@ -56,14 +71,44 @@ fn add_behind(
     match word {
         AddWord::Set => {
             let name = new_set(reader, d)?;
-            let kinds = set_body(reader, alloc)?;
-            d.declare(make_declaration(alloc, family, table, name, kinds)?)?;
-            Ok(())
+            set_body(reader, alloc, d, family, table, name)
         }
         AddWord::Element => {
-            let place = used_set(reader, d.schema(), family, table)?;
-            element(reader, alloc, d, place as u32)
+            let place = used_set(reader, d.schema.as_slice(), family, table)?;
+            changes_at(reader, alloc, d, place as u32)
         }
+    }
+}
+
+#[tactic(auto, using(token_forms::proofs::Refusals::refusals), unfolding(crate::specs::ScriptReading::statement_behind))]
+fn statement_behind(
+    reader: &mut Reader,
+    alloc: Global,
+    d: &mut Draft,
+    word: FirstWord,
+) -> Result<(), ReadError>
+    ensures { Gives (λ _. d.new) result reader.new (reading.statement_behind d.old word reader.old) }
+{
+    match word {
+        FirstWord::Add => {
+            let word = add_word(reader)?;
+            add_behind(reader, alloc, d, word)
+        }
+        FirstWord::Table => table_block(reader, alloc, d),
+    }
+}
+
+#[tactic(auto, unfolding(token_forms::specs::Gives::Refuses))]
+fn first_word(reader: &mut Reader) -> Result<FirstWord, ReadError>
+    ensures { Gives (λ x. x) result reader.new (reading.first_word reader.old) }
+{
+    match reader.take() {
+        Some(t) if t.is_word() => match first_word_of(t.bytes) {
+            Some(word) => Ok(word),
+            None => Err(t.refused(&[])),
+        },
+        Some(t) => Err(t.refused(&[])),
+        None => Err(short()),
     }
 }
 
@@ -71,9 +116,8 @@ fn add_behind(
 fn statement(reader: &mut Reader, alloc: Global, d: &mut Draft) -> Result<(), ReadError>
     ensures { Gives (λ _. d.new) result reader.new (reading.statement d.old reader.old) }
 {
-    reader.word(b"add")?;
-    let word = add_word(reader, d)?;
-    add_behind(reader, alloc, d, word)
+    let word = first_word(reader)?;
+    statement_behind(reader, alloc, d, word)
 }
 
 /// A separator, or a statement where one may come next.
@@ -105,16 +149,6 @@ fn next_statement_line(
     ensures shorter { OnOk result (length reader.new < length reader.old) }
 {
     statement_line(reader, alloc, d, next)
-}
-
-fn starts_a_line(t: &Seen, next: bool) -> bool
-    ensures { (s : Drafted) → result ≡ line_starts separates any_word (s, next) (lexeme_of t.now) }
-{
-    if next {
-        t.is_separator() || t.is_word()
-    } else {
-        t.is_separator()
-    }
 }
 
 /// The statements, as far as they go, and whether one more may come next.
@@ -173,7 +207,9 @@ pub fn read_script(alloc: Global, text: &[u8]) -> Result<Script, ScriptError>
     ensures only { (s : Script) → IsScriptText text.now s → IsReadAs (λ x. x) result s }
     // A text that is refused stands for no script.
     ensures bad { (line : ℕ) (reason : Reason) → result ≡ Err (Bad line reason) → (line ≡ 0) × (reason ≡ LeftOut) × ((s : Script) → IsScriptText text.now s → ⊥) }
-    // At most one set without size, and at most 4,096 additions of fitting single values to it.
+    // Each set has 1 to 16 fields, and each step is of a declared set, whose kinds its intervals fit.
+    ensures runnable { IfOk result IsRunnable }
+    // At most one set without size, and at most 4,096 additions of single values to it.
     ensures plain { IfOk result IsPlainScript }
 {
     match read_placed(alloc, text) {

@@ -1,21 +1,23 @@
-ghost use Rattle.std.specs.Prelude.{◌≡◌, ◌<◌, length, OnOk};
+ghost use Rattle.std.specs.Prelude.{◌≡◌, ◌<◌, List, length, true, false, OnOk};
+ghost use Rattle.set_model.specs.declared.kind.Kind.{Kind as KindOf};
+ghost use Rattle.set_model.specs.declared.script.Step.{Step};
 ghost use Rattle.token_forms.specs.Gives.{Gives};
+ghost use Rattle.token_forms.specs.View.{lexeme_of};
+ghost use Rattle.token_forms.specs.Words.{separates};
+ghost use Rattle.token_forms.specs.WordReading.{line_starts};
 ghost use Rattle.set_script.specs.ScriptReading as reading;
-ghost use Rattle.set_script.specs.Changes.{most_sets};
+ghost use Rattle.set_script.specs.ScriptReading.{starts_kind, any_word};
+ghost use Rattle.set_script.specs.Limits.{most_sets};
+ghost use Rattle.set_script.specs.declared.draft.Draft.{Draft as Drafted};
+ghost use Rattle.set_script.specs.declared.draft.Declaration.{Declaration as Declaring};
 
-use crate::draft::Draft;
-use set_model::{Kind, Kinds, Listed};
+use crate::draft::{Declaration, Draft, begin_declaration};
+use crate::elements::list;
+use crate::place::table_place;
+use crate::words::{ItemWord, item_word_of, read_kind_behind};
+use set_model::{Family, Kind, Kinds, Listed, Steps};
 use std::alloc::Global;
-use token_forms::{ReadError, Reader, Reason, is_a_name, short};
-
-#[tactic(auto, using(token_forms::proofs::Refusals::refusals), unfolding(crate::specs::ScriptReading::some_separators))]
-fn some_separators(reader: &mut Reader) -> Result<(), ReadError>
-    ensures { Gives (λ x. x) result reader.new (reading.some_separators reader.old) }
-{
-    reader.separator()?;
-    reader.separators();
-    Ok(())
-}
+use token_forms::{ReadError, Reader, Reason, Seen, is_a_name, short};
 
 /// The name of a set that may be declared.
 #[tactic(auto, unfolding(token_forms::specs::Gives::Refuses))]
@@ -24,22 +26,64 @@ pub fn new_set<'a>(reader: &mut Reader<'a>, d: &Draft) -> Result<&'a [u8], ReadE
     ensures room { OnOk result (length d.now.schema < most_sets) }
 {
     match reader.take() {
-        Some(t) if t.is_word() && is_a_name(t.bytes) && d.has_room_for_a_set() => Ok(t.bytes),
+        Some(t) if t.is_word() && is_a_name(t.bytes) && d.schema.has_room() => Ok(t.bytes),
         Some(t) => Err(t.refused(&[Reason::Set])),
         None => Err(short()),
     }
 }
 
-/// A word that names a kind.
+/// A word that names a kind for which a key has room behind these.
 #[tactic(auto, unfolding(token_forms::specs::Gives::Refuses))]
-fn kind_word(reader: &mut Reader, text: &[u8]) -> Result<(), ReadError>
-    ensures { Gives (λ x. x) result reader.new (reading.kind_word text.now reader.old) }
+fn kind_word(reader: &mut Reader, kinds: &[Kind]) -> Result<Kind, ReadError>
+    ensures { Gives (λ x. x) result reader.new (reading.kind_word kinds.now reader.old) }
 {
     match reader.take() {
-        Some(t) if t.is_word() && t.bytes == text => Ok(()),
+        Some(t) if t.is_word() => match read_kind_behind(kinds, t.bytes) {
+            Some(kind) => Ok(kind),
+            None => Err(t.refused(&[Reason::TypeWord])),
+        },
         Some(t) => Err(t.refused(&[Reason::TypeWord])),
         None => Err(short()),
     }
+}
+
+#[tactic(auto, using(token_forms::proofs::Refusals::refusals), unfolding(crate::specs::ScriptReading::more_kinds))]
+fn more_kinds(reader: &mut Reader, kinds: &mut Kinds) -> Result<(), ReadError>
+    ensures { Gives (λ _. kinds.new) result reader.new (reading.more_kinds kinds.old reader.old) }
+{
+    reader.word(b".")?;
+    let kind = kind_word(reader, kinds.as_slice())?;
+    kinds.push(kind)?;
+    Ok(())
+}
+
+fn next_kind(reader: &mut Reader, kinds: &mut Kinds) -> Result<(), ReadError>
+    ensures gives { Gives (λ _. kinds.new) result reader.new (reading.more_kinds kinds.old reader.old) }
+    ensures shorter { OnOk result (length reader.new < length reader.old) }
+{
+    more_kinds(reader, kinds)
+}
+
+fn starts_a_kind(t: &Seen) -> bool
+    ensures { (ks : List KindOf) → result ≡ starts_kind ks (lexeme_of t.now) }
+{
+    t.is_word()
+}
+
+fn kinds_behind(reader: &mut Reader, kinds: &mut Kinds) -> Result<(), ReadError>
+    ensures { Gives (λ _. kinds.new) result reader.new (reading.kinds_behind kinds.old reader.old) }
+{
+    'kinds: while let Some(t) = reader.peek() {
+        let starts = starts_a_kind(&t);
+        if !starts {
+            return Ok(());
+        }
+        match next_kind(reader, kinds) {
+            Ok(()) => {}
+            Err(e) => return Err(e),
+        }
+    }
+    Ok(())
 }
 
 #[tactic(auto, using(token_forms::proofs::Refusals::refusals), unfolding(crate::specs::ScriptReading::type_item))]
@@ -47,35 +91,286 @@ fn type_item(reader: &mut Reader, alloc: Global) -> Result<Kinds, ReadError>
     ensures { Gives (λ x. x) result reader.new (reading.type_item reader.old) }
 {
     reader.word(b"type")?;
-    kind_word(reader, b"ipv4_addr")?;
-    reader.word(b".")?;
-    kind_word(reader, b"inet_service")?;
+    let kind = kind_word(reader, &[])?;
     let mut kinds = Listed::new(alloc);
-    kinds.push(Kind::Ipv4)?;
-    kinds.push(Kind::Service)?;
+    kinds.push(kind)?;
+    kinds_behind(reader, &mut kinds)?;
     Ok(kinds)
 }
 
-#[tactic(auto, using(token_forms::proofs::Refusals::refusals), unfolding(crate::specs::ScriptReading::flags_item))]
-fn flags_item(reader: &mut Reader) -> Result<(), ReadError>
-    ensures { Gives (λ x. x) result reader.new (reading.flags_item reader.old) }
+#[tactic(auto, unfolding(token_forms::specs::Gives::Refuses))]
+fn item_word(reader: &mut Reader, b: &Declaration) -> Result<ItemWord, ReadError>
+    ensures { Gives (λ x. x) result reader.new (reading.item_word b.now reader.old) }
 {
-    reader.word(b"flags")?;
-    reader.word(b"interval")?;
+    match reader.take() {
+        Some(t) if t.is_word() => match item_word_of(b, t.bytes) {
+            Some(word) => Ok(word),
+            None => Err(t.refused(&[])),
+        },
+        Some(t) => Err(t.refused(&[])),
+        None => Err(short()),
+    }
+}
+
+/// The elements of a set that is being declared.
+#[tactic(auto, using(token_forms::proofs::Refusals::refusals))]
+fn elements_item(
+    reader: &mut Reader,
+    alloc: Global,
+    b: &mut Declaration,
+    steps: &mut Steps,
+) -> Result<(), ReadError>
+    ensures { Gives (λ _. (b.new, steps.new)) result reader.new (reading.elements_item (b.old, steps.old) reader.old) }
+{
+    reader.mark(b'=')?;
+    list(reader, alloc, b.set, &b.decl, steps)?;
+    b.elements = true;
     Ok(())
 }
 
-/// The items of a set in braces.
+#[tactic(auto, using(token_forms::proofs::Refusals::refusals), unfolding(crate::specs::ScriptReading::item_behind))]
+fn item_behind(
+    reader: &mut Reader,
+    alloc: Global,
+    word: ItemWord,
+    b: &mut Declaration,
+    steps: &mut Steps,
+) -> Result<(), ReadError>
+    ensures { Gives (λ _. (b.new, steps.new)) result reader.new (reading.item_behind (b.old, steps.old) word reader.old) }
+{
+    match word {
+        ItemWord::Flags => {
+            reader.word(b"interval")?;
+            b.decl.interval = true;
+            b.flags = true;
+            Ok(())
+        }
+        ItemWord::Elements => elements_item(reader, alloc, b, steps),
+    }
+}
+
+#[tactic(auto, using(token_forms::proofs::Refusals::refusals), unfolding(crate::specs::ScriptReading::item))]
+fn item(
+    reader: &mut Reader,
+    alloc: Global,
+    b: &mut Declaration,
+    steps: &mut Steps,
+) -> Result<(), ReadError>
+    ensures { Gives (λ _. (b.new, steps.new)) result reader.new (reading.item (b.old, steps.old) reader.old) }
+{
+    let word = item_word(reader, b)?;
+    item_behind(reader, alloc, word, b, steps)
+}
+
+/// A separator, or an item where one may come next.
+#[tactic(auto, using(token_forms::proofs::Refusals::refusals))]
+fn item_line(
+    reader: &mut Reader,
+    alloc: Global,
+    b: &mut Declaration,
+    steps: &mut Steps,
+    next: bool,
+) -> Result<bool, ReadError>
+    ensures { Gives (λ x. ((b.new, steps.new), x)) result reader.new (reading.item_line ((b.old, steps.old), next) reader.old) }
+{
+    if next && !reader.is_at_separator() {
+        item(reader, alloc, b, steps)?;
+        Ok(false)
+    } else {
+        reader.separator()?;
+        Ok(true)
+    }
+}
+
+fn next_item_line(
+    reader: &mut Reader,
+    alloc: Global,
+    b: &mut Declaration,
+    steps: &mut Steps,
+    next: bool,
+) -> Result<bool, ReadError>
+    ensures gives { Gives (λ x. ((b.new, steps.new), x)) result reader.new (reading.item_line ((b.old, steps.old), next) reader.old) }
+    ensures shorter { OnOk result (length reader.new < length reader.old) }
+{
+    item_line(reader, alloc, b, steps, next)
+}
+
+fn starts_an_item_line(t: &Seen, next: bool) -> bool
+    ensures { (s : Declaring × List Step) → result ≡ line_starts separates any_word (s, next) (lexeme_of t.now) }
+{
+    if next {
+        t.is_separator() || t.is_word()
+    } else {
+        t.is_separator()
+    }
+}
+
+fn item_lines(
+    reader: &mut Reader,
+    alloc: Global,
+    b: &mut Declaration,
+    steps: &mut Steps,
+) -> Result<bool, ReadError>
+    ensures { Gives (λ x. ((b.new, steps.new), x)) result reader.new (reading.item_lines ((b.old, steps.old), false) reader.old) }
+{
+    let mut next = false;
+    'lines: while let Some(t) = reader.peek() {
+        let starts = starts_an_item_line(&t, next);
+        if !starts {
+            return Ok(next);
+        }
+        match next_item_line(reader, alloc, b, steps, next) {
+            Ok(then) => next = then,
+            Err(e) => return Err(e),
+        }
+    }
+    Ok(next)
+}
+
+/// The items behind the type of a set.
+#[tactic(auto, using(token_forms::proofs::Refusals::refusals))]
+fn all_items(
+    reader: &mut Reader,
+    alloc: Global,
+    b: &mut Declaration,
+    steps: &mut Steps,
+) -> Result<(), ReadError>
+    ensures { Gives (λ _. (b.new, steps.new)) result reader.new (reading.all_items (b.old, steps.old) reader.old) }
+{
+    item_lines(reader, alloc, b, steps)?;
+    Ok(())
+}
+
+/// The items of a set in braces, and its declaration.
 #[tactic(auto, using(token_forms::proofs::Refusals::refusals), unfolding(crate::specs::ScriptReading::set_body))]
-pub fn set_body(reader: &mut Reader, alloc: Global) -> Result<Kinds, ReadError>
-    ensures { Gives (λ x. x) result reader.new (reading.set_body reader.old) }
+pub fn set_body(
+    reader: &mut Reader,
+    alloc: Global,
+    d: &mut Draft,
+    family: Family,
+    table: &[u8],
+    name: &[u8],
+) -> Result<(), ReadError>
+    requires { length d.old.schema < most_sets }
+    ensures { Gives (λ _. d.new) result reader.new (reading.set_body d.old (family, table.now) name.now reader.old) }
 {
     reader.mark(b'{')?;
     reader.separators();
     let kinds = type_item(reader, alloc)?;
-    some_separators(reader)?;
-    flags_item(reader)?;
-    some_separators(reader)?;
+    let mut b = begin_declaration(alloc, d, family, table, name, kinds)?;
+    all_items(reader, alloc, &mut b, &mut d.steps)?;
     reader.mark(b'}')?;
-    Ok(kinds)
+    d.schema.push(b.decl)?;
+    Ok(())
+}
+
+#[tactic(auto, using(token_forms::proofs::Refusals::refusals), unfolding(crate::specs::ScriptReading::set_block))]
+fn set_block(
+    reader: &mut Reader,
+    alloc: Global,
+    d: &mut Draft,
+    family: Family,
+    table: &[u8],
+) -> Result<(), ReadError>
+    ensures { Gives (λ _. d.new) result reader.new (reading.set_block (family, table.now) d.old reader.old) }
+{
+    reader.word(b"set")?;
+    let name = new_set(reader, d)?;
+    set_body(reader, alloc, d, family, table, name)
+}
+
+/// A separator, or a set block where one may come next.
+#[tactic(auto, using(token_forms::proofs::Refusals::refusals))]
+fn block_line(
+    reader: &mut Reader,
+    alloc: Global,
+    d: &mut Draft,
+    family: Family,
+    table: &[u8],
+    next: bool,
+) -> Result<bool, ReadError>
+    ensures { Gives (λ x. (d.new, x)) result reader.new (reading.block_line (family, table.now) (d.old, next) reader.old) }
+{
+    if next && !reader.is_at_separator() {
+        set_block(reader, alloc, d, family, table)?;
+        Ok(false)
+    } else {
+        reader.separator()?;
+        Ok(true)
+    }
+}
+
+fn next_block_line(
+    reader: &mut Reader,
+    alloc: Global,
+    d: &mut Draft,
+    family: Family,
+    table: &[u8],
+    next: bool,
+) -> Result<bool, ReadError>
+    ensures gives { Gives (λ x. (d.new, x)) result reader.new (reading.block_line (family, table.now) (d.old, next) reader.old) }
+    ensures shorter { OnOk result (length reader.new < length reader.old) }
+{
+    block_line(reader, alloc, d, family, table, next)
+}
+
+/// Whether this token is a separator, or a word where a statement or a set block may come next.
+pub fn starts_a_line(t: &Seen, next: bool) -> bool
+    ensures { (s : Drafted) → result ≡ line_starts separates any_word (s, next) (lexeme_of t.now) }
+{
+    if next {
+        t.is_separator() || t.is_word()
+    } else {
+        t.is_separator()
+    }
+}
+
+fn block_lines(
+    reader: &mut Reader,
+    alloc: Global,
+    d: &mut Draft,
+    family: Family,
+    table: &[u8],
+) -> Result<bool, ReadError>
+    ensures { Gives (λ x. (d.new, x)) result reader.new (reading.block_lines (family, table.now) (d.old, true) reader.old) }
+{
+    let mut next = true;
+    'lines: while let Some(t) = reader.peek() {
+        let starts = starts_a_line(&t, next);
+        if !starts {
+            return Ok(next);
+        }
+        match next_block_line(reader, alloc, d, family, table, next) {
+            Ok(then) => next = then,
+            Err(e) => return Err(e),
+        }
+    }
+    Ok(next)
+}
+
+/// The set blocks of a table.
+#[tactic(auto, using(token_forms::proofs::Refusals::refusals))]
+fn all_blocks(
+    reader: &mut Reader,
+    alloc: Global,
+    d: &mut Draft,
+    family: Family,
+    table: &[u8],
+) -> Result<(), ReadError>
+    ensures { Gives (λ _. d.new) result reader.new (reading.all_blocks (family, table.now) d.old reader.old) }
+{
+    block_lines(reader, alloc, d, family, table)?;
+    Ok(())
+}
+
+/// What stands behind the word `table`: its place, and set blocks in braces.
+#[tactic(auto, using(token_forms::proofs::Refusals::refusals), unfolding(crate::specs::ScriptReading::table_block))]
+pub fn table_block(reader: &mut Reader, alloc: Global, d: &mut Draft) -> Result<(), ReadError>
+    ensures { Gives (λ _. d.new) result reader.new (reading.table_block d.old reader.old) }
+{
+    let (family, table) = table_place(reader)?;
+    reader.mark(b'{')?;
+    all_blocks(reader, alloc, d, family, table)?;
+    reader.mark(b'}')?;
+    Ok(())
 }

@@ -1,5 +1,5 @@
 use crate::{ScriptError, TokenKind, Tokens, read_script};
-use set_model::{Interval, Script, Step, Verb};
+use set_model::{Family, Interval, Kind, Script, Step, Verb};
 use std::alloc::Global;
 use std::test::Fail;
 use token_forms::Reason;
@@ -86,6 +86,10 @@ fn scripts_without_changes(rt: HostRuntime) -> Result<(), Fail> {
             b"\n;add set ip t p {\n\ttype ipv4_addr . inet_service\n;\tflags interval\n}".as_slice(),
             1,
         ),
+        (b"add set filter s { type inet_service }", 1),
+        (b"add set netdev ip s { type mark; elements = { }; }", 1),
+        (b"table bridge t { }", 0),
+        (b"table ip ip { ;; set s { type ether_addr; elements = {\n} } }", 1),
     ] {
         let script = read_script(alloc, text)?;
         assert_eq!(rt; sizes(&script), (sets, 1, 0), "in {text:?}");
@@ -93,42 +97,192 @@ fn scripts_without_changes(rt: HostRuntime) -> Result<(), Fail> {
     Ok(())
 }
 
+/// The kinds of the first set, and whether it has the flag `interval`.
+fn first_set(script: &Script) -> (&[Kind], bool) {
+    match script.schema.as_slice().first() {
+        Some(set) => (set.kinds.as_slice(), set.interval),
+        None => (&[], false),
+    }
+}
+
+/// The line and the lows of the change at a place of section 0.
+fn change_at(script: &Script, place: usize) -> Option<(u64, &[Interval])> {
+    match script.sections.as_slice().first()?.as_slice().get(place)? {
+        Step::Change { line, parts, .. } => Some((*line, parts.as_slice())),
+        _ => None,
+    }
+}
+
+fn one(value: u128) -> Interval {
+    Interval {
+        low: value,
+        high: value,
+    }
+}
+
 #[test]
-fn texts_outside_the_grammar(rt: HostRuntime) -> Result<(), Fail> {
+fn values_of_four_kinds(rt: HostRuntime) -> Result<(), Fail> {
+    let alloc = rt.alloc();
+    let script = read_script(
+        alloc,
+        b"add set inet t m { type ipv6_addr . ether_addr . inet_proto . mark ; }\nadd element inet t m { 2001:db8::1 . 0:1:2:a:b:c . tcp . 0xff }\n",
+    )?;
+    assert_eq!(rt; sizes(&script), (1, 1, 2));
+    let kinds = [Kind::Ipv6, Kind::Ether, Kind::Proto, Kind::Mark];
+    assert_eq!(rt; first_set(&script), (kinds.as_slice(), false));
+    let parts = [
+        one(0x2001_0db8_0000_0000_0000_0000_0000_0001),
+        one(0x0001_020a_0b0c),
+        one(6),
+        one(255),
+    ];
+    assert_eq!(rt; change_at(&script, 0), Some((2, parts.as_slice())));
+    Ok(())
+}
+
+#[test]
+fn a_listed_table(rt: HostRuntime) -> Result<(), Fail> {
+    let alloc = rt.alloc();
+    for (first, family) in [
+        (b"table ip6 fw {\n".as_slice(), Family::Ip6),
+        (b"table inet fw {\n".as_slice(), Family::Inet),
+        (b"table fw {\n".as_slice(), Family::Ip),
+    ] {
+        let text = joined(
+            alloc,
+            first,
+            b"\tset allowed {\n\t\ttype ipv6_addr . inet_proto . inet_service\n\t\telements = { 2001:db8::1 . tcp . 443,\n\t\t\t     2001:db8::2 . udp . 53 }\n\t}\n}\n",
+        )?;
+        let script = read_script(alloc, text.as_slice())?;
+        assert_eq!(rt; sizes(&script), (1, 1, 3));
+        for set in script.schema.as_slice() {
+            assert_eq!(rt; set.family, family);
+            assert_eq!(rt; set.table.as_slice(), b"fw".as_slice());
+            assert_eq!(rt; set.name.as_slice(), b"allowed".as_slice());
+        }
+        let net = 0x2001_0db8_0000_0000_0000_0000_0000_0000;
+        let web = [one(net + 1), one(6), one(443)];
+        let names = [one(net + 2), one(17), one(53)];
+        assert_eq!(rt; change_at(&script, 0), Some((4, web.as_slice())));
+        assert_eq!(rt; change_at(&script, 1), Some((5, names.as_slice())));
+    }
+    Ok(())
+}
+
+#[test]
+fn lists_and_intervals_of_one_value(rt: HostRuntime) -> Result<(), Fail> {
+    let alloc = rt.alloc();
+    for set in [
+        b"add set t s { type ipv4_addr; }\n".as_slice(),
+        b"add set t s { type ipv4_addr; flags interval; }\n".as_slice(),
+    ] {
+        let text = joined(
+            alloc,
+            set,
+            b"add element t s {\n10.0.0.5/32\n,\n10.0.0.6-10.0.0.6,10.0.0.7,}\nadd element t s { }",
+        )?;
+        let script = read_script(alloc, text.as_slice())?;
+        assert_eq!(rt; sizes(&script), (1, 1, 4));
+        assert_eq!(rt; change_at(&script, 0), Some((3, [one(167772165)].as_slice())));
+        assert_eq!(rt; change_at(&script, 1), Some((5, [one(167772166)].as_slice())));
+        assert_eq!(rt; change_at(&script, 2), Some((5, [one(167772167)].as_slice())));
+    }
+    Ok(())
+}
+
+#[test]
+fn types_have_64_bytes(rt: HostRuntime) -> Result<(), Fail> {
+    let alloc = rt.alloc();
+    for (text, fields) in [
+        (
+            b"add set t s { type ipv6_addr . ipv6_addr . ipv6_addr . ipv6_addr }".as_slice(),
+            4,
+        ),
+        (
+            b"add set t s { type mark . mark . mark . mark . mark . mark . mark . mark . mark . mark . mark . mark . mark . mark . mark . mark }".as_slice(),
+            16,
+        ),
+        (
+            b"add set t s { type ether_addr . ether_addr . ether_addr . ether_addr . ether_addr . ether_addr . ether_addr . ether_addr }".as_slice(),
+            8,
+        ),
+    ] {
+        let script = read_script(alloc, text)?;
+        assert_eq!(rt; first_set(&script).0.len(), fields);
+    }
+    for text in [
+        b"add set t s { type ipv6_addr . ipv6_addr . ipv6_addr . ipv6_addr . inet_proto }".as_slice(),
+        b"add set t s { type inet_proto . mark . mark . mark . mark . mark . mark . mark . mark . mark . mark . mark . mark . mark . mark . mark . mark }",
+        b"add set t s { type ipv6_addr . ipv6_addr . ipv6_addr . ether_addr . ether_addr . inet_service }",
+        b"add set t s { type }",
+        b"add set t s { type ipv4_addr . }",
+        b"add set t s { type ipv4_addr , mark }",
+        b"add set t s { type ifname }",
+    ] {
+        assert!(rt; is_refused(alloc, text), "{text:?}");
+    }
+    Ok(())
+}
+
+#[test]
+fn sets_outside_the_grammar(rt: HostRuntime) -> Result<(), Fail> {
     let alloc = rt.alloc();
     for text in [
         b"add element ip filter s { 10.0.0.5 . 1024 }".as_slice(),
-        b"add set ip filter s { type ipv4_addr . inet_service ; flags interval }",
-        b"add set ip filter s { type ipv4_addr . inet_service flags interval ; }",
-        b"add set ip filter s { type inet_service . ipv4_addr ; flags interval ; }",
-        b"add set ip 5 s { type ipv4_addr . inet_service ; flags interval ; }",
-        b"add set inet filter s { type ipv4_addr . inet_service ; flags interval ; }",
-        b"add set filter s { type ipv4_addr . inet_service ; flags interval ; }",
+        b"add set ip filter s { type ipv4_addr flags interval ; }",
+        b"add set ip filter s { flags interval; type ipv4_addr }",
+        b"add set ip filter s { type ipv4_addr; flags interval; flags interval }",
+        b"add set ip filter s { type ipv4_addr; flags interval, }",
+        b"add set ip filter s { type ipv4_addr; flags timeout }",
+        b"add set ip filter s { type ipv4_addr; elements = { }; flags interval }",
+        b"add set ip filter s { type ipv4_addr; elements = { }; elements = { } }",
+        b"add set ip filter s { type ipv4_addr; elements { } }",
+        b"add set ip filter s { type ipv4_addr; elements =\n{ } }",
+        b"add set ip filter s { type ipv4_addr; size 5 }",
+        b"add set ip 5 s { type ipv4_addr }",
+        b"add set ip s { type ipv4_addr }",
+        b"add set ip filter s { type ipv4_addr",
+        b"table ip filter",
+        b"table ip filter { set s { type ipv4_addr } set t { type ipv4_addr } }",
+        b"table ip filter { set s { type ipv4_addr }; set t { type ipv4_addr } }",
+        b"table ip filter { } }",
         b"add table ip filter",
         b"\xff",
         b"\"",
     ] {
         assert!(rt; is_refused(alloc, text), "{text:?}");
     }
+    Ok(())
+}
+
+#[test]
+fn changes_outside_the_grammar(rt: HostRuntime) -> Result<(), Fail> {
+    let alloc = rt.alloc();
     for behind in [
         b"add set ip filter t { type ipv4_addr . inet_service ; flags interval ; }".as_slice(),
         b"add element ip filter t { 10.0.0.5 . 1024 }",
         b"add element ip nat s { 10.0.0.5 . 1024 }",
+        b"add element inet filter s { 10.0.0.5 . 1024 }",
         b"add element ip filter s { 10.0.0.5 }",
         b"add element ip filter s { 10.0.0.5 . 1024 . 1 }",
         b"add element ip filter s { 10.0.0.5 1024 }",
+        b"add element ip filter s { 10.0.0.5 . 1024 10.0.0.6 . 1024 }",
+        b"add element ip filter s { 10.0.0.5 . 1024,, 10.0.0.6 . 1024 }",
+        b"add element ip filter s { , 10.0.0.5 . 1024 }",
+        b"add element ip filter s { , }",
         b"add element ip filter s { 10.0.0 . 1024 }",
         b"add element ip filter s { 10.0.0.05 . 1024 }",
         b"add element ip filter s { 10.0.0.5 . 65536 }",
-        b"add element ip filter s { 10.0.0.5 . 0x10 }",
         b"add element ip filter s { 10.0.0.5-10.0.0.6 . 1024 }",
-        b"add element ip filter s { 10.0.0.5 . 1024, }",
+        b"add element ip filter s { 10.0.0.4/31 . 1024 }",
         b"add element ip filter s { 10.0.0.5 . 1024 ; }",
-        b"add element ip filter s { }",
+        b"add element ip filter s { 10.0.0.5 . 1024 timeout 5s }",
         b"add element ip filter s { 10.0.0.5 . 1024",
         b"add element ip filter s { 10.0.0.5 . 1024 } add",
         b"add\nelement ip filter s { 10.0.0.5 . 1024 }",
         b"add element ip filter s { 10.0.0.5 . 1024 } *",
+        b"delete element ip filter s { 10.0.0.5 . 1024 }",
+        b"at 5",
         b"commit",
     ] {
         let text = joined(alloc, H, behind)?;
@@ -140,13 +294,17 @@ fn texts_outside_the_grammar(rt: HostRuntime) -> Result<(), Fail> {
 #[test]
 fn elements_are_counted(rt: HostRuntime) -> Result<(), Fail> {
     let alloc = rt.alloc();
-    let mut text = Vec::from_slice(alloc, H)?;
-    for _ in 0..4096 {
-        text.extend_from_slice(b"add element ip filter s {\n10.0.0.5\n.\n1024\n}\n")?;
+    let mut text = Vec::from_slice(alloc, b"add set t s { type inet_service; elements = { 1")?;
+    for _ in 0..2047 {
+        text.extend_from_slice(b",1")?;
+    }
+    text.extend_from_slice(b" } }\n")?;
+    for _ in 0..2048 {
+        text.extend_from_slice(b"add element t s { 2 }\n")?;
     }
     let script = read_script(alloc, text.as_slice())?;
     assert_eq!(rt; sizes(&script), (1, 1, 4097));
-    text.extend_from_slice(b"add element ip filter s { 10.0.0.5 . 1024 }")?;
+    text.extend_from_slice(b"add element t s { 3 }")?;
     assert!(rt; is_refused(alloc, text.as_slice()));
     Ok(())
 }

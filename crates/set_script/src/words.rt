@@ -1,7 +1,15 @@
-ghost use Rattle.std.specs.Prelude.{◌≡◌};
-ghost use Rattle.set_script.specs.Names.{add_of};
+ghost use Rattle.std.specs.Prelude.{◌≡◌, ◌<◌, ◌≤◌, ◌*◌, length, sum_by};
+ghost use Rattle.set_script.specs.Names.{first_of, add_of, family_of, kind_of, key_bytes, has_room, kind_behind, item_of};
 
-use crate::draft::Draft;
+use crate::draft::Declaration;
+use set_model::{Family, Kind};
+
+/// The first word of a statement.
+#[derive(Clone, Copy, Debug, PartialEq, Eq)]
+pub enum FirstWord {
+    Add,
+    Table,
+}
 
 /// What a statement adds.
 #[derive(Clone, Copy, Debug, PartialEq, Eq)]
@@ -10,13 +18,129 @@ pub enum AddWord {
     Element,
 }
 
-pub fn add_word_of(d: &Draft, text: &[u8]) -> Option<AddWord>
-    ensures { result ≡ add_of d.now text.now }
+/// The first word of an item of a set, behind its type.
+#[derive(Clone, Copy, Debug, PartialEq, Eq)]
+pub enum ItemWord {
+    Flags,
+    Elements,
+}
+
+pub fn first_word_of(text: &[u8]) -> Option<FirstWord>
+    ensures { result ≡ first_of text.now }
+{
+    if text == b"add".as_slice() {
+        Some(FirstWord::Add)
+    } else if text == b"table".as_slice() {
+        Some(FirstWord::Table)
+    } else {
+        None
+    }
+}
+
+pub fn add_word_of(text: &[u8]) -> Option<AddWord>
+    ensures { result ≡ add_of text.now }
 {
     if text == b"set".as_slice() {
         Some(AddWord::Set)
-    } else if text == b"element".as_slice() && d.has_room_for_a_change() {
+    } else if text == b"element".as_slice() {
         Some(AddWord::Element)
+    } else {
+        None
+    }
+}
+
+pub fn read_family(text: &[u8]) -> Option<Family>
+    ensures { result ≡ family_of text.now }
+{
+    if text == b"ip".as_slice() {
+        Some(Family::Ip)
+    } else if text == b"ip6".as_slice() {
+        Some(Family::Ip6)
+    } else if text == b"inet".as_slice() {
+        Some(Family::Inet)
+    } else if text == b"arp".as_slice() {
+        Some(Family::Arp)
+    } else if text == b"bridge".as_slice() {
+        Some(Family::Bridge)
+    } else if text == b"netdev".as_slice() {
+        Some(Family::Netdev)
+    } else {
+        None
+    }
+}
+
+fn read_kind(text: &[u8]) -> Option<Kind>
+    ensures { result ≡ kind_of text.now }
+{
+    if text == b"ipv4_addr".as_slice() {
+        Some(Kind::Ipv4)
+    } else if text == b"ipv6_addr".as_slice() {
+        Some(Kind::Ipv6)
+    } else if text == b"ether_addr".as_slice() {
+        Some(Kind::Ether)
+    } else if text == b"inet_proto".as_slice() {
+        Some(Kind::Proto)
+    } else if text == b"inet_service".as_slice() {
+        Some(Kind::Service)
+    } else if text == b"mark".as_slice() {
+        Some(Kind::Mark)
+    } else {
+        None
+    }
+}
+
+/// The bytes that a value of a kind takes in a key.
+fn bytes_in_key(kind: Kind) -> u64
+    ensures bytes { result ≡ key_bytes kind }
+    ensures few { result ≤ 16 }
+{
+    match kind {
+        Kind::Ipv4 => 4,
+        Kind::Ipv6 => 16,
+        Kind::Ether => 8,
+        Kind::Proto => 4,
+        Kind::Service => 4,
+        Kind::Mark => 4,
+    }
+}
+
+fn all_bytes(kinds: &[Kind]) -> u64
+    requires { length kinds.now < 16 }
+    ensures sum { result ≡ sum_by key_bytes kinds.now }
+    ensures few { result ≤ 16 * length kinds.now }
+{
+    let mut sum = 0u64;
+    for kind in kinds {
+        sum += bytes_in_key(*kind);
+    }
+    sum
+}
+
+fn has_room_for(kinds: &[Kind], kind: Kind) -> bool
+    ensures { result ≡ has_room kinds.now kind }
+{
+    kinds.len() < 16 && all_bytes(kinds) + bytes_in_key(kind) <= 64
+}
+
+/// The kind that a word names, where a key has room for it behind these.
+pub fn read_kind_behind(kinds: &[Kind], text: &[u8]) -> Option<Kind>
+    ensures { result ≡ kind_behind kinds.now (kind_of text.now) }
+{
+    match read_kind(text) {
+        Some(kind) if has_room_for(kinds, kind) => Some(kind),
+        _ => None,
+    }
+}
+
+pub fn item_word_of(b: &Declaration, text: &[u8]) -> Option<ItemWord>
+    ensures { result ≡ item_of b.now text.now }
+{
+    if b.elements {
+        None
+    } else if text == b"flags".as_slice() && !b.flags {
+        Some(ItemWord::Flags)
+    } else if text == b"elements".as_slice() {
+        Some(ItemWord::Elements)
     } else {
         None
     }

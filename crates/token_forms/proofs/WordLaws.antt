@@ -253,14 +253,15 @@ heads_done {A} {B} {f} {more} {test} {r} h law k = record { heads = heads; wordy
   wordy q t (inl i) w = k.wordy q t i w
   wordy q t (inr (a, x, y, e, v, i)) w = absurd i
 
--- Lines. A token that separates statements starts none and continues none.
-pub record AreStatements {S : Type 0} (test starts : Lexeme → Bool) (goes : S → S → Lexeme → Bool) (statement : S → Form S) (read : S → List Lexeme → Outcome S) : Type 0 where
+-- Lines. A token that separates statements starts none and continues none. `more`: what starts or continues one.
+pub record AreStatements {S : Type 0} (test starts more : Lexeme → Bool) (goes : S → S → Lexeme → Bool) (statement : S → Form S) (read : S → List Lexeme → Outcome S) : Type 0 where
   pub no_end : (t : Lexeme) → test t ≡ true → is_end t.kind ≡ false
   pub laws : (s : S) → Reads (statement s) (goes s) (read s)
   pub begins : (s : S) → Begins (statement s) starts
   pub apart : (t : Lexeme) → starts t ≡ true → test t ≡ false
   pub ends : (s s1 : S) (t : Lexeme) → test t ≡ true → goes s s1 t ≡ false
-  pub goes_more : (s s1 : S) (t : Lexeme) → goes s s1 t ≡ true → starts t ≡ true
+  pub starts_more : (t : Lexeme) → starts t ≡ true → more t ≡ true
+  pub goes_more : (s s1 : S) (t : Lexeme) → goes s s1 t ≡ true → more t ≡ true
 
 -- only behind a statement may its own tokens go on
 abbrev pub line_goes : {S : Type 0} → (S → S → Lexeme → Bool) → S × Bool → S × Bool → Lexeme → Bool
@@ -269,7 +270,7 @@ line_goes goes (s, true) (s1, true) t = false
 line_goes goes (s, false) s1 t = false
 
 abbrev pub line_more : (Lexeme → Bool) → (Lexeme → Bool) → Lexeme → Bool
-line_more test starts t = test t || starts t
+line_more test more t = test t || more t
 
 or_left : (a b : Bool) → a ≡ true → (a || b) ≡ true
 or_left true b h = refl
@@ -279,7 +280,7 @@ or_right : (a b : Bool) → b ≡ true → (a || b) ≡ true
 or_right true b h = refl
 or_right false b h = h
 
-module _ {S : Type 0} (test starts : Lexeme → Bool) (goes : S → S → Lexeme → Bool) (statement : S → Form S) (read : S → List Lexeme → Outcome S) (k : AreStatements test starts goes statement read) where
+module _ {S : Type 0} (test starts more : Lexeme → Bool) (goes : S → S → Lexeme → Bool) (statement : S → Form S) (read : S → List Lexeme → Outcome S) (k : AreStatements test starts more goes statement read) where
   pass_law : (s : S) → Reads {A = S × Bool} (form.passed test >>=f λ _. done (s, true)) never (reading.passed test >>=r λ _. done_read (s, true))
   pass_law s = bind_definite (passed_reads test k.no_end) (λ _. done_reads {A = S × Bool} (s, true))
 
@@ -318,16 +319,16 @@ module _ {S : Type 0} (test starts : Lexeme → Bool) (goes : S → S → Lexeme
   line_apart s true s1 true t h = refl
   line_apart s false s1 b1 t h = refl
 
-  more_cases : (t : Lexeme) → (test t ≡ true) ⊎ (starts t ≡ true) → line_more test starts t ≡ true
-  more_cases t (inl h) = or_left (test t) (starts t) h
-  more_cases t (inr h) = or_right (test t) (starts t) h
+  more_cases : (t : Lexeme) → (test t ≡ true) ⊎ (starts t ≡ true) → line_more test more t ≡ true
+  more_cases t (inl h) = or_left (test t) (more t) h
+  more_cases t (inr h) = or_right (test t) (more t) (k.starts_more t h)
 
-  goes_cases : (s : S) (b : Bool) (s1 : S) (b1 : Bool) (t : Lexeme) → line_goes goes (s, b) (s1, b1) t ≡ true → line_more test starts t ≡ true
-  goes_cases s true s1 false t h = or_right (test t) (starts t) (k.goes_more s s1 t h)
+  goes_cases : (s : S) (b : Bool) (s1 : S) (b1 : Bool) (t : Lexeme) → line_goes goes (s, b) (s1, b1) t ≡ true → line_more test more t ≡ true
+  goes_cases s true s1 false t h = or_right (test t) (more t) (k.goes_more s s1 t h)
   goes_cases s true s1 true t h = absurd (cc h)
   goes_cases s false s1 b1 t h = absurd (cc h)
 
-  pub are_lines : AreItems (reading.line_starts test starts) (line_goes goes) (line_more test starts) (form.line test statement) (reading.line test read)
+  pub are_lines : AreItems (reading.line_starts test starts) (line_goes goes) (line_more test more) (form.line test statement) (reading.line test read)
   are_lines = record {
     laws = λ s. line_laws s.0 s.1;
     begins = λ s. line_begins s.0 s.1;
@@ -336,10 +337,10 @@ module _ {S : Type 0} (test starts : Lexeme → Bool) (goes : S → S → Lexeme
     goes_more = λ s s1 t h. goes_cases s.0 s.1 s1.0 s1.1 t h;
   }
 
-  pub lines_reads : (s : S × Bool) → Reads (form.lines test statement s) (λ _. line_more test starts) (reading.lines test starts read s)
-  lines_reads s = bind_done_same (λ s1. s1.0) (many_reads (reading.line_starts test starts) (line_goes goes) (line_more test starts) (form.line test statement) (reading.line test read) are_lines s)
+  pub lines_reads : (s : S × Bool) → Reads (form.lines test statement s) (λ _. line_more test more) (reading.lines test starts read s)
+  lines_reads s = bind_done_same (λ s1. s1.0) (many_reads (reading.line_starts test starts) (line_goes goes) (line_more test more) (form.line test statement) (reading.line test read) are_lines s)
 
   pub lines_heads : (s : S × Bool) → Heads (form.lines test statement s) (reading.line_starts test starts s)
   lines_heads s = heads_done (λ s1. s1.0)
-      (many_reads (reading.line_starts test starts) (line_goes goes) (line_more test starts) (form.line test statement) (reading.line test read) are_lines s)
-      (many_heads (reading.line_starts test starts) (line_goes goes) (line_more test starts) (form.line test statement) (reading.line test read) are_lines s)
+      (many_reads (reading.line_starts test starts) (line_goes goes) (line_more test more) (form.line test statement) (reading.line test read) are_lines s)
+      (many_heads (reading.line_starts test starts) (line_goes goes) (line_more test more) (form.line test statement) (reading.line test read) are_lines s)

@@ -13,5 +13,8 @@ returns-in-Err-clause-bad c = λ line reason h.
     let k = of_placeless c.in-Err.e line reason same in
     (k.0, k.1, (c.in-Err.ensures.bad k.2 k.3 (ap Err k.4)).outside)
 
+pub returns-in-Ok-clause-runnable : goal.returns-in-Ok-clause-runnable
+returns-in-Ok-clause-runnable c = (script_is_plain c.args.text.now _ c.in-Ok.ensures.found).runnable
+
 pub returns-in-Ok-clause-plain : goal.returns-in-Ok-clause-plain
-returns-in-Ok-clause-plain c = script_is_plain c.args.text.now _ c.in-Ok.ensures.found
+returns-in-Ok-clause-plain c = (script_is_plain c.args.text.now _ c.in-Ok.ensures.found).plain

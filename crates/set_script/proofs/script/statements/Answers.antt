@@ -1,10 +1,10 @@
 use Rattle.std.proofs.Common.{◌≡◌, true, false}
 use Rattle.token_forms.specs.View.{lexeme_of}
+use Rattle.token_forms.proofs.LoopLaws.{left_stop, left_next, left_bad}
 use Rattle.token_forms.specs.Words.{separates}
 use Rattle.token_forms.specs.WordReading.{line_starts}
-use Rattle.token_forms.proofs.LoopLaws.{left_stop, left_next, left_bad}
 use Rattle.set_script.specs.ScriptReading.{any_word}
-use Rattle.set_script.specs.Changes.{Draft}
+use Rattle.set_script.specs.declared.draft.Draft.{Draft}
 use Rattle.set_script.proofs.script.statements.Goals as goal
 
 pub returns-then-not-starts : goal.returns-then-not-starts

@@ -1,0 +1,73 @@
+ghost use Rattle.std.specs.Prelude.{◌≡◌, ◌<◌, ◌≤◌, [], ◌∷◌, ◌++◌, length, OnOk, nat_lt};
+ghost use Rattle.set_script.specs.Limits.{most_sets};
+
+use set_model::{Listed, Memory, Schema, SetDecl};
+use std::alloc::Global;
+use std::marker::Model;
+
+const MOST_SETS: u64 = 1;
+
+/// The sets that a script has declared so far, of which there are no more than it may declare.
+#[derive(Drop)]
+pub struct Declared {
+    sets: Schema,
+}
+
+impl Model for Declared {
+    ghost use Rattle.std.specs.Prelude.{List, ◌≤◌, length};
+    ghost use Rattle.set_model.specs.declared.script.SetDecl.{SetDecl};
+    ghost use Rattle.set_script.specs.Limits.{most_sets};
+
+    ghost Value = { List SetDecl };
+
+    ghost view = { λ d. d.sets };
+
+    ghost invariant = { λ d. length d.sets ≤ most_sets };
+}
+
+impl Declared {
+    pub fn new(alloc: Global) -> Self
+        ensures { result ≡ [] }
+    {
+        Declared {
+            sets: Listed::new(alloc),
+        }
+    }
+
+    /// How many sets there are.
+    pub fn len(&self) -> u32
+        ensures { result ≡ length self.now }
+    {
+        self.sets.len() as u32
+    }
+
+    /// Whether one more set may be declared.
+    pub fn has_room(&self) -> bool
+        ensures { result ≡ nat_lt (length self.now) most_sets }
+    {
+        self.sets.len() < MOST_SETS
+    }
+
+    /// The sets in a row.
+    pub fn as_slice(&self) -> &[SetDecl]
+        ensures sets { result.now ≡ self.now }
+        ensures few { length result.now ≤ most_sets }
+    {
+        self.sets.as_slice()
+    }
+
+    /// Declares one more set. After `Memory` the sets are as they were.
+    pub fn push(&mut self, decl: SetDecl) -> Result<(), Memory>
+        requires { length self.old < most_sets }
+        ensures { OnOk result (self.new ≡ self.old ++ decl ∷ []) }
+    {
+        self.sets.push(decl)
+    }
+
+    /// The schema of the sets.
+    pub fn into_schema(self) -> Schema
+        ensures { result ≡ self }
+    {
+        self.sets
+    }
+}
