@@ -13,3 +13,4 @@ pub mod SpanLaws
 pub mod RunLaws
 pub mod Shrinking
 pub mod Purging
+pub mod FusedLaws

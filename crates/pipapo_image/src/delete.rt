@@ -16,9 +16,7 @@ fn exact_place(elements: &[Element], parts: &[Interval], now: u64) -> Option<usi
     ensures value { result ≡ position (is_exactly parts.now now) elements.now }
     ensures within { IfSome result (λ i. i < length elements.now) }
 {
-    elements
-        .iter()
-        .position(|e| !expired(e.expiry, now) && is_same(e.parts.as_slice(), parts))
+    elements.iter().position(|e| !expired(e.expiry, now) && is_same(e.parts.as_slice(), parts))
 }
 
 impl SetImage {

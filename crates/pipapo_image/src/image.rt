@@ -80,6 +80,14 @@ impl SetImage {
         self.index.find(key, now, scratch)
     }
 
+    /// The place of that element by the textbook lookup, for those who compare the two.
+    pub fn plain_place(&self, key: &Key, now: u64, scratch: &mut Scratch) -> Option<u64>
+        requires { key_fits self.now.kinds key.now ≡ true }
+        ensures { IsPlace self.now key.now now result }
+    {
+        self.index.find_plain(key, now, scratch)
+    }
+
     /// The first element of the list that is live at `now`, in milliseconds, and holds the key.
     /// `None` where there is none. It takes no memory.
     pub fn find(&self, key: &Key, now: u64, scratch: &mut Scratch) -> Option<Found>

@@ -13,6 +13,7 @@ ghost use Rattle.pipapo_image.specs.Room.{HasRoom};
 ghost use Rattle.pipapo_image.specs.Walk.{IsWalk, IsKeyOf};
 ghost use Rattle.pipapo_image.specs.Standing.{IsTableOf, AreFieldsOf, AreMapsOf};
 
+use crate::fused::fused_walk;
 use crate::per_field::{Fields, Maps};
 use crate::scratch::Scratch;
 use bit_rows::BitRow;
@@ -62,6 +63,25 @@ impl Index {
     /// every list of elements whose tables these are. `None` where there is none. It takes no
     /// memory.
     pub fn find(&self, key: &Key, now: u64, scratch: &mut Scratch) -> Option<u64>
+        requires shaped { IsShaped self.now }
+        requires key { IsKeyOf self.now.fields key.now }
+        ensures { (kinds : List OneKind) (es : List Element) → IsIndexOf kinds es self.now → All (λ e. length e.parts ≡ length kinds) es
+            → result ≡ position (answers key.now now) es }
+    {
+        fused_walk(
+            self.fields.as_slice(),
+            self.maps.as_slice(),
+            self.ends.as_slice(),
+            key.as_slice(),
+            now,
+            &mut scratch.here,
+            &mut scratch.beyond,
+        )
+    }
+
+    /// The same answer by the textbook: the whole row of a field is matched before the next field's
+    /// is refilled. It is there to compare with.
+    pub fn find_plain(&self, key: &Key, now: u64, scratch: &mut Scratch) -> Option<u64>
         requires shaped { IsShaped self.now }
         requires key { IsKeyOf self.now.fields key.now }
         ensures { (kinds : List OneKind) (es : List Element) → IsIndexOf kinds es self.now → All (λ e. length e.parts ≡ length kinds) es

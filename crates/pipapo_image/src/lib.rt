@@ -12,6 +12,7 @@ mod columns;
 mod copy;
 mod delete;
 mod drops;
+mod fused;
 mod grow;
 mod image;
 mod index;

@@ -1,5 +1,5 @@
 ghost use Rattle.std.specs.Prelude.{◌≡◌, ◌+◌, ◌≤◌, length, IfOk};
-ghost use Rattle.pipapo_image.specs.Room.{HasRoom};
+ghost use Rattle.pipapo_image.specs.Room.{HasRoom, IsBlank};
 
 use bit_rows::BitRow;
 use set_model::Memory;
@@ -17,22 +17,25 @@ pub struct Scratch {
     pub(crate) next: BitRow,
     pub(crate) rest: BitRow,
     pub(crate) sum: BitRow,
+    // Two rows between fields, blank between lookups.
+    pub(crate) here: BitRow,
+    pub(crate) beyond: BitRow,
 }
 
 impl Model for Scratch {
     ghost use Rattle.std.specs.Prelude.{ℕ};
     ghost use Rattle.set_model.specs.SetState.{rules_limit};
-    ghost use Rattle.pipapo_image.specs.Room.{HasRoom};
+    ghost use Rattle.pipapo_image.specs.Room.{HasRoom, IsBlank};
 
     ghost Value = { ℕ };
 
     ghost view = { λ a. rules_limit };
 
-    ghost invariant = { λ a. HasRoom a.row × HasRoom a.next × HasRoom a.rest × HasRoom a.sum };
+    ghost invariant = { λ a. HasRoom a.row × HasRoom a.next × HasRoom a.rest × HasRoom a.sum × IsBlank a.here × IsBlank a.beyond };
 }
 
 impl Scratch {
-    /// Takes the rows' room: 512 KiB in all.
+    /// Takes the rows' room: 768 KiB in all.
     ///
     /// # Errors
     /// `Memory` if there is none left.
@@ -42,12 +45,21 @@ impl Scratch {
             next: roomy_row(alloc)?,
             rest: roomy_row(alloc)?,
             sum: roomy_row(alloc)?,
+            here: blank_row(alloc)?,
+            beyond: blank_row(alloc)?,
         })
     }
 }
 
 fn roomy_row(alloc: Global) -> Result<BitRow, Memory>
     ensures { IfOk result (λ row. HasRoom row) }
+{
+    let row = BitRow::zeros(alloc, MOST_RULES)?;
+    Ok(row)
+}
+
+fn blank_row(alloc: Global) -> Result<BitRow, Memory>
+    ensures { IfOk result (λ row. IsBlank row) }
 {
     let row = BitRow::zeros(alloc, MOST_RULES)?;
     Ok(row)

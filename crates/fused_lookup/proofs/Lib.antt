@@ -1,0 +1,4 @@
+pub mod BitLaws
+pub mod FillLaws
+pub mod LedLaws
+pub mod MatchLaws

@@ -1,0 +1,35 @@
+-- The next field's row while a field's rules are gone through.
+use Rattle.std.specs.Prelude.{◌≡◌, ℕ, ◌+◌, ◌*◌, ◌≤◌, Bool, false, List, length, take}
+use Rattle.std.specs.List.{zip, list_any}
+use Rattle.bit_rows.specs.Row.{at}
+use Rattle.set_model.specs.declared.block.Block.{Block}
+use Rattle.set_tables.specs.declared.Span.{Span}
+use Rattle.set_tables.specs.Rows.{reaches, matched, refilled}
+use Rattle.lookup_table.specs.declared.table.FieldTable.{FieldTable}
+use Rattle.lookup_table.specs.Rules.{Stands}
+use Rattle.fused_lookup.specs.Words.{IsWordOf, IsLeft}
+
+-- nothing is set
+pub record IsClear (bits : List Bool) : Type 0 where
+  pub places : (i : ℕ) → at bits i ≡ false
+
+-- The span of some matched rule among the first n holds rule r of the next field.
+abbrev pub reached_by : List Span → List Bool → ℕ → ℕ → Bool
+reached_by spans row n r = list_any (reaches r) (take n (zip spans row))
+
+-- the next field's row has what the first n rules reach, and nothing else
+pub record IsFilled (spans : List Span) (row : List Bool) (n : ℕ) (next : List Bool) : Type 0 where
+  pub places : (r : ℕ) → at next r ≡ reached_by spans row n r
+
+-- Word i of a row goes into the next one: what has the rules before the word has then the word's rules too.
+abbrev pub FillsWord : List Span → ℕ → ℕ → List Bool → List Bool → Type 0
+FillsWord spans i word old new = (row : List Bool) → length row ≡ length spans → IsWordOf row i word → IsFilled spans row (64 * i) old → IsFilled spans row (64 * (i + 1)) new
+
+-- The next row is refilled from the rules of the row whose blocks pass the test.
+abbrev pub Refills : FieldTable → List Span → (Block → Bool) → List Bool → List Bool → Type 0
+Refills t spans test row next = (blocks : List Block) → Stands t blocks → next ≡ refilled spans (matched test blocks row) (length next)
+
+-- A word of the rules that may be left is matched, and what is left of it goes into the next row.
+abbrev pub RefillsWord : FieldTable → List Span → (Block → Bool) → ℕ → ℕ → List Bool → List Bool → Type 0
+RefillsWord t spans test i left old new = (blocks : List Block) (row : List Bool) → Stands t blocks → t.rules ≤ length row → IsLeft t.rules row i left
+    → IsFilled spans (matched test blocks row) (64 * i) old → IsFilled spans (matched test blocks row) (64 * (i + 1)) new

@@ -1,0 +1,4 @@
+pub mod Words
+pub mod Window
+pub mod Filled
+pub mod Led

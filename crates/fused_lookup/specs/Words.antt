@@ -1,0 +1,22 @@
+-- Words of a row of rules.
+use Rattle.std.specs.Prelude.{◌≡◌, ℕ, ◌+◌, ◌*◌, ◌<◌, ◌≤◌, Bool, true, false, List}
+use Rattle.bit_rows.specs.Row.{at, bit}
+
+-- Word i of a row: its 64 places from place 64 * i on, the first in the lowest bit. Past the row's end nothing is set.
+pub record IsWordOf (row : List Bool) (i word : ℕ) : Type 0 where
+  pub bits : (k : ℕ) → k < 64 → bit word k ≡ at row (64 * i + k)
+
+-- Word i of a row as far as there are rules: those that may be left.
+pub record IsLeft (rules : ℕ) (row : List Bool) (i word : ℕ) : Type 0 where
+  pub bits : (k : ℕ) → k < 64 → 64 * i + k < rules → bit word k ≡ at row (64 * i + k)
+
+-- No bit of word i is set past n rules.
+pub record HasRules (n i word : ℕ) : Type 0 where
+  pub rule : (k : ℕ) → k < 64 → bit word k ≡ true → 64 * i + k < n
+
+-- k is the least set bit from `from` on
+pub record IsNextBit (word from k : ℕ) : Type 0 where
+  pub from_on : from ≤ k
+  pub within : k < 64
+  pub set : bit word k ≡ true
+  pub least : (j : ℕ) → from ≤ j → j < k → bit word j ≡ false

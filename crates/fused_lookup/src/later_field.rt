@@ -1,0 +1,72 @@
+ghost use Rattle.std.specs.Prelude.{◌≡◌, ◌+◌, ◌^◌, ◌<◌, ◌≤◌, length, All};
+ghost use Rattle.set_model.specs.Blocks.{holds_value};
+ghost use Rattle.fused_lookup.specs.Filled.{Refills, IsClear};
+ghost use Rattle.fused_lookup.specs.Led.{Leads};
+ghost use Rattle.fused_lookup.specs.Window.{IsWindow};
+
+use crate::led::led_on;
+use crate::refill::refill_on;
+use crate::window::Window;
+use bit_rows::BitRow;
+use lookup_table::FieldTable;
+use set_tables::{End, Span};
+
+/// Matches a field's rules, of which those in the row's window may be left, and sets what they map
+/// to in the next field's row, which is clear. It gives that row's window, and leaves this one clear.
+pub fn refill_from(
+    table: &FieldTable,
+    spans: &[Span],
+    value: u128,
+    window: Window,
+    row: &mut BitRow,
+    next: &mut BitRow,
+) -> Window
+    requires value { value < 2 ^ table.now.bits }
+    requires rules { length spans.now ≡ table.now.rules }
+    requires room { table.now.rules ≤ length row.old.bits }
+    requires inside { All (λ s. s.first + s.count ≤ length next.old.bits) spans.now }
+    requires window { IsWindow row.old.bits window }
+    requires clear { IsClear next.old.bits }
+    ensures refilled { Refills table.now spans.now (λ rule. holds_value rule value) row.old.bits next.new.bits }
+    ensures window { IsWindow next.new.bits result }
+    ensures clear { IsClear row.new.bits }
+    ensures len { length row.new.bits ≡ length row.old.bits }
+    ensures spare { row.new.spare ≡ row.old.spare }
+    ensures next_len { length next.new.bits ≡ length next.old.bits }
+    ensures next_spare { next.new.spare ≡ next.old.spare }
+{
+    let mut reached = Window::none();
+    'words: for i in window.first..window.end {
+        let left = row.take_word(i);
+        reached = refill_on(table, spans, value, i, left, next, reached);
+    }
+    reached
+}
+
+/// Matches the last field's rules, of which those in the row's window may be left. It gives the
+/// place of the element of the lowest rule that is matched and whose end is live, and leaves the row
+/// clear.
+pub fn lead_from(
+    table: &FieldTable,
+    ends: &[End],
+    value: u128,
+    now: u64,
+    window: Window,
+    row: &mut BitRow,
+) -> Option<u64>
+    requires value { value < 2 ^ table.now.bits }
+    requires rules { length ends.now ≡ table.now.rules }
+    requires room { table.now.rules ≤ length row.old.bits }
+    requires window { IsWindow row.old.bits window }
+    ensures led { Leads table.now ends.now (λ rule. holds_value rule value) row.old.bits now result }
+    ensures clear { IsClear row.new.bits }
+    ensures len { length row.new.bits ≡ length row.old.bits }
+    ensures spare { row.new.spare ≡ row.old.spare }
+{
+    let mut found = None;
+    'words: for i in window.first..window.end {
+        let left = row.take_word(i);
+        found = led_on(found, table, ends, value, i, left, now);
+    }
+    found
+}

@@ -1,0 +1,59 @@
+ghost use Rattle.std.specs.Prelude.{◌≡◌, ◌^◌, ◌<◌, length};
+ghost use Rattle.set_model.specs.Blocks.{holds_value};
+ghost use Rattle.set_model.specs.Expiry.{lives};
+ghost use Rattle.fused_lookup.specs.Words.{HasRules};
+ghost use Rattle.fused_lookup.specs.Led.{LeadsWord, LeadsOn};
+
+use crate::bits::next_bit;
+use lookup_table::FieldTable;
+use set_tables::End;
+
+#[inline(always)]
+fn is_live(expiry: Option<u64>, now: u64) -> bool
+    ensures { result ≡ lives expiry now }
+{
+    match expiry {
+        None => true,
+        Some(moment) => now < moment,
+    }
+}
+
+/// The place of the element of the lowest rule of a word of matched rules, whose bit 0 stands for
+/// rule `64 * i`, whose end is live.
+#[inline(always)]
+pub(crate) fn first_live(ends: &[End], i: u32, word: u64, now: u64) -> Option<u64>
+    requires { HasRules (length ends.now) i word }
+    ensures { LeadsWord ends.now i word now result }
+{
+    let mut from = 0;
+    'rules: while let Some(k) = next_bit(word, from) {
+        let end = ends[64 * i as usize + k as usize];
+        if is_live(end.expiry, now) {
+            return Some(end.place);
+        }
+        from = k + 1;
+    }
+    None
+}
+
+/// Where the rules before word `i` lead to `found`: what they and the matched rules of the word lead
+/// to, of which those in `left` may be left.
+#[inline(always)]
+pub(crate) fn led_on(
+    found: Option<u64>,
+    table: &FieldTable,
+    ends: &[End],
+    value: u128,
+    i: u32,
+    left: u64,
+    now: u64,
+) -> Option<u64>
+    requires value { value < 2 ^ table.now.bits }
+    requires rules { length ends.now ≡ table.now.rules }
+    ensures { LeadsOn table.now ends.now (λ rule. holds_value rule value) i left now found result }
+{
+    match found {
+        Some(place) => Some(place),
+        None => first_live(ends, i, table.match_word(value, i, left), now),
+    }
+}

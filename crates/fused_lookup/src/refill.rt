@@ -1,0 +1,66 @@
+ghost use Rattle.std.specs.Prelude.{◌≡◌, ◌+◌, ◌^◌, ◌<◌, ◌≤◌, length, All};
+ghost use Rattle.set_model.specs.Blocks.{holds_value};
+ghost use Rattle.fused_lookup.specs.Words.{HasRules};
+ghost use Rattle.fused_lookup.specs.Filled.{FillsWord, RefillsWord};
+ghost use Rattle.fused_lookup.specs.Window.{IsWindow};
+
+use crate::bits::next_bit;
+use crate::window::Window;
+use bit_rows::BitRow;
+use lookup_table::FieldTable;
+use set_tables::Span;
+
+/// Sets the spans of the rules of a word of matched rules, whose bit 0 stands for rule `64 * i`, in
+/// the next field's row. It gives the window with the words that were touched.
+#[inline(always)]
+pub(crate) fn refill_word(
+    spans: &[Span],
+    i: u32,
+    word: u64,
+    next: &mut BitRow,
+    window: Window,
+) -> Window
+    requires rules { HasRules (length spans.now) i word }
+    requires inside { All (λ s. s.first + s.count ≤ length next.old.bits) spans.now }
+    requires window { IsWindow next.old.bits window }
+    ensures filled { FillsWord spans.now i word next.old.bits next.new.bits }
+    ensures window { IsWindow next.new.bits result }
+    ensures len { length next.new.bits ≡ length next.old.bits }
+    ensures spare { next.new.spare ≡ next.old.spare }
+{
+    let _len = next.len();
+    let mut window = window;
+    let mut from = 0;
+    'rules: while let Some(k) = next_bit(word, from) {
+        let span = spans[64 * i as usize + k as usize];
+        next.set_range(span.first, span.count);
+        window = window.widened(span.first, span.count);
+        from = k + 1;
+    }
+    window
+}
+
+/// Matches the rules of a word, of which those in `left` may be left, and sets the spans of the
+/// matched ones in the next field's row. It gives the window with the words that were touched.
+#[inline(always)]
+pub(crate) fn refill_on(
+    table: &FieldTable,
+    spans: &[Span],
+    value: u128,
+    i: u32,
+    left: u64,
+    next: &mut BitRow,
+    window: Window,
+) -> Window
+    requires value { value < 2 ^ table.now.bits }
+    requires rules { length spans.now ≡ table.now.rules }
+    requires inside { All (λ s. s.first + s.count ≤ length next.old.bits) spans.now }
+    requires window { IsWindow next.old.bits window }
+    ensures filled { RefillsWord table.now spans.now (λ rule. holds_value rule value) i left next.old.bits next.new.bits }
+    ensures window { IsWindow next.new.bits result }
+    ensures len { length next.new.bits ≡ length next.old.bits }
+    ensures spare { next.new.spare ≡ next.old.spare }
+{
+    let word = table.match_word(value, i, left);
+    refill_word(spans, i, word, next, window)
+}

@@ -1,0 +1,14 @@
+//! Tests of the image of a set beside a plain list of elements: elements and keys of several shapes
+//! that look random, and worked examples.
+#![tactic(auto)]
+
+#[cfg(test)]
+mod examples;
+#[cfg(test)]
+mod lookups;
+#[cfg(test)]
+mod plain;
+#[cfg(test)]
+mod random;
+#[cfg(test)]
+mod sets;
