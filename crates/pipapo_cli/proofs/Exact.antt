@@ -1,5 +1,5 @@
 -- Each status comes exactly where its cause is there.
-use Rattle.std.proofs.Common.{refl, subst, ℕ, List, [], Option, inl, inr, arith}
+use Rattle.std.proofs.Common.{Bool, ap, ◌∙◌, refl, subst, ℕ, List, [], Option, inl, inr, arith}
 use Rattle.std.specs.Prelude.{◌⊎◌}
 use Rattle.pip_base.specs.Causes.{Rose}
 use Rattle.set_model.specs.declared.script.Script.{Script}
@@ -8,9 +8,10 @@ use Rattle.key_file.specs.KeysText.{IsKeysText}
 use Rattle.pipapo_cli.specs.declared.fault.Fault.{Fault}
 use Rattle.pipapo_cli.specs.declared.fault.Fault.TheVariants.{Usage, BadScript, BadKeys, ReadFault, TooLarge, Memory}
 use Rattle.pipapo_cli.specs.Words.{Run, IsRun, IsNoCommand}
-use Rattle.pipapo_cli.specs.Transcript.{IsOutput}
+use Rattle.set_model.specs.Control.{Strict}
+use Rattle.pipapo_cli.specs.Transcript.{IsOutput, has_refusal}
 use Rattle.pipapo_cli.specs.Causes.{IsScriptCause, IsKeysCause, IsReadable, IsSized, IsBadScript, IsBadKeys, IsTooLarge}
-use Rattle.pipapo_cli.specs.Answers.{Ends, written, cut, memory, IsDue, output, refusal, IsExact}
+use Rattle.pipapo_cli.specs.Answers.{Ends, written, cut, memory, IsDue, output, refusal, IsExact, done_status}
 use Rattle.pipapo_cli.proofs.Endings.{one-run}
 
 -- What holds of the run that the words ask for holds of each.
@@ -42,8 +43,8 @@ module _ (words : List (List ℕ)) (told : List ℕ → Option (List ℕ)) where
     done = λ run text keys_text s keys is_run at at_keys fits is_script fits_keys is_keys. inr refl;
   }
 
-  exact-output : (some : Run) (output_text : List ℕ) → IsRun words some → OfRun words (λ run. IsReadable run told) → OfRun words (λ run. IsSized run.keys told) → OfRun words (λ run. IsOutput run told output_text) → IsExact words told 0
-  exact-output some output_text is_some readable sized out = record {
+  exact-output : (some : Run) (refused : Bool) (output_text : List ℕ) → IsRun words some → OfRun words (λ run. IsReadable run told) → OfRun words (λ run. IsSized run.keys told) → OfRun words (λ run. IsOutput run told refused output_text) → IsExact words told (done_status refused)
+  exact-output some refused output_text is_some readable sized out = record {
     usage = λ not_run. absurd (not_run some is_some);
     large_script = λ run text is_run at big. absurd (let r = (readable run is_run text at).0 in omega (arith, r, big));
     bad_script = λ run text is_run at fits outside. absurd (let r = (readable run is_run text at).1 in outside r.0 r.1);
@@ -51,7 +52,9 @@ module _ (words : List (List ℕ)) (told : List ℕ → Option (List ℕ)) where
     bad_keys = λ run text keys_text s is_run at at_keys fits is_script fits_keys outside.
         absurd (let o = out run is_run text keys_text at at_keys in
         outside o.keys (subst (λ (x : Script). IsKeysText x.schema keys_text o.keys) (script_single text o.script s o.script_is is_script) o.keys_are));
-    done = λ run text keys_text s keys is_run at at_keys fits is_script fits_keys is_keys. inl refl;
+    done = λ run text keys_text s keys is_run at at_keys fits is_script fits_keys is_keys.
+        inl (let o = out run is_run text keys_text at at_keys in
+        ap done_status (o.refusal ∙ ap (has_refusal Strict) (script_single text o.script s o.script_is is_script)));
   }
 
   exact-bad_script : (some : Run) → IsRun words some → OfRun words (λ run. IsBadScript run told) → IsExact words told 3
@@ -115,8 +118,8 @@ module _ (words : List (List ℕ)) (told : List ℕ → Option (List ℕ)) where
   exact-file-read_fault asked before now fault run quiet f g (inr b) = absurd (quiet (g b.1))
 
   exact-rows : (asked : List (List ℕ)) (before now status : ℕ) (text : List ℕ) → (Rose before now → ⊥) → IsDue words told asked before now status text → IsExact words told status
-  exact-rows asked before now status text quiet (output run t is_run names same readable sized out) =
-      exact-output run t is_run (of-run words (λ r. IsReadable r told) run is_run readable) (of-run words (λ r. IsSized r.keys told) run is_run sized) (of-run words (λ r. IsOutput r told t) run is_run out)
+  exact-rows asked before now status text quiet (output run refused t is_run names same readable sized out) =
+      exact-output run refused t is_run (of-run words (λ r. IsReadable r told) run is_run readable) (of-run words (λ r. IsSized r.keys told) run is_run sized) (of-run words (λ r. IsOutput r told refused t) run is_run out)
   exact-rows asked before now status text quiet (refusal Usage cause) = exact-usage cause.0
   exact-rows asked before now status text quiet (refusal BadScript cause) = exact-file-bad_script asked before now cause.0 cause.1 cause.2
   exact-rows asked before now status text quiet (refusal BadKeys cause) = exact-file-bad_keys asked before now cause.0 cause.1 cause.2

@@ -1,10 +1,12 @@
 mod Lists
-mod Singles
-mod PlainLines
-mod PlainHistory
-mod PlainTranscript
 mod Deliveries
 mod Endings
 mod Exact
 mod Asking
 mod Completed
+mod Changes
+mod Found
+mod RunLines
+mod Steps
+mod RunTranscript
+mod PlainRun

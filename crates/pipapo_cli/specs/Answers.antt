@@ -1,5 +1,5 @@
 -- How a call ends: the status, what was written, and the counts of faults.
-use Rattle.std.specs.Prelude.{◌≡◌, ◌≤◌, ◌<◌, ◌⊎◌, ℕ, List, [], ◌∷◌, ◌++◌, length, Option, Some, codes}
+use Rattle.std.specs.Prelude.{Bool, true, false, ◌≡◌, ◌≤◌, ◌<◌, ◌⊎◌, ℕ, List, [], ◌∷◌, ◌++◌, length, Option, Some, codes}
 use Rattle.std.specs.Io.KnownBytes.{Appends, Keeps}
 use Rattle.pip_base.specs.Causes.{Rose}
 use Rattle.pip_base.specs.Whole.{AppendsFront}
@@ -14,7 +14,7 @@ use Rattle.set_model.specs.declared.report.Line.{Line}
 use Rattle.set_model.specs.Control.{Strict}
 use Rattle.set_model.specs.Legal.{Legal}
 use Rattle.set_model.specs.Text.{transcript_text}
-use Rattle.pipapo_cli.specs.Transcript.{IsOutput, IsTranscript}
+use Rattle.pipapo_cli.specs.Transcript.{IsOutput, IsTranscript, has_refusal}
 use Rattle.pipapo_cli.specs.Causes.{IsCause, IsReadable, IsSized, size_limit}
 
 -- the status of a fault
@@ -41,10 +41,15 @@ line_of (ReadFault name) = named_line (codes "pipapo: read fault: ") name.now
 line_of (TooLarge name) = named_line (codes "pipapo: too large: ") name.now
 line_of Memory = []
 
--- The status and text that are due: the output of a run with 0, or a fault's status and line where the
--- fault has its cause.
+-- the status of an output: 1 where it tells a refusal, and else 0
+abbrev pub done_status : Bool → ℕ
+done_status true = 1
+done_status false = 0
+
+-- The status and text that are due: the output of a run with 0 or 1, or a fault's status and line where
+-- the fault has its cause.
 pub data IsDue (words : List (List ℕ)) (told : List ℕ → Option (List ℕ)) (asked : List (List ℕ)) (before now : ℕ) : ℕ → List ℕ → Type 0 where
-  output : (run : Run) (text : List ℕ) → IsRun words run → asked ≡ run.script ∷ run.keys ∷ [] → now ≡ before → IsReadable run told → IsSized run.keys told → IsOutput run told text → IsDue words told asked before now 0 text
+  output : (run : Run) (refused : Bool) (text : List ℕ) → IsRun words run → asked ≡ run.script ∷ run.keys ∷ [] → now ≡ before → IsReadable run told → IsSized run.keys told → IsOutput run told refused text → IsDue words told asked before now (done_status refused) text
   refusal : (fault : Fault) → IsCause words told asked before now fault → IsDue words told asked before now (status_of fault) (line_of fault)
 
 -- this status and this text, and no other
@@ -58,14 +63,18 @@ pub data Ends (due : ℕ → List ℕ → Type 0) (taken_before taken_now : Opti
   cut : (status : ℕ) (text : List ℕ) → due status text → AppendsFront taken_before taken_now text → Rose before now → Ends due taken_before taken_now before now 6
   memory : due 7 [] → Keeps taken_before taken_now → now ≡ before → Ends due taken_before taken_now before now 7
 
--- The headline, of a call that ended with status 0: where the words are a run, the shelf tells the bytes
--- under both names and the sink tells what it took, what it took in this call is the text of a legal
--- transcript of the script and the key file.
-abbrev pub Transcribes : List (List ℕ) → (List ℕ → Option (List ℕ)) → Option (List ℕ) → Option (List ℕ) → Type 0
-Transcribes words told before after =
+-- the whole output was written
+abbrev pub IsDone : ℕ → Type 0
+IsDone result = (result ≡ 0) ⊎ (result ≡ 1)
+
+-- The headline, of a call that ended with status 0 or 1: where the words are a run, the shelf tells the
+-- bytes under both names and the sink tells what it took, what it took in this call is the text of a
+-- legal transcript of the script and the key file. The status is 1 exactly where a change is refused.
+abbrev pub Transcribes : List (List ℕ) → (List ℕ → Option (List ℕ)) → Option (List ℕ) → Option (List ℕ) → ℕ → Type 0
+Transcribes words told before after result =
     (run : Run) (script_text keys_text taken_before taken_now : List ℕ) → IsRun words run
     → told run.script ≡ Some script_text → told run.keys ≡ Some keys_text → before ≡ Some taken_before → after ≡ Some taken_now
-    → (output : List ℕ) × (taken_now ≡ taken_before ++ output) × IsTranscript script_text keys_text 1 Strict output
+    → (refused : Bool) × (output : List ℕ) × (result ≡ done_status refused) × (taken_now ≡ taken_before ++ output) × IsTranscript script_text keys_text 1 Strict refused output
 
 -- A read fault was told: the line names the last name that was asked for, and the shelf's count rose.
 pub record TellsReadFault (asked : List (List ℕ)) (before now : ℕ) (taken_before taken_now : Option (List ℕ)) : Type 0 where
@@ -75,12 +84,13 @@ pub record TellsReadFault (asked : List (List ℕ)) (before now : ℕ) (taken_be
   pub rose : Rose before now
   pub line : Appends taken_before taken_now (named_line (codes "pipapo: read fault: ") name)
 
--- The transcript of a script and a key file was written whole, and the status is 0.
+-- The transcript of a script and a key file was written whole; the status is 1 where a change is refused,
+-- and else 0.
 pub record Delivers (s : Script) (keys : List (List Packet)) (taken_before taken_now : Option (List ℕ)) (result : ℕ) : Type 0 where
   pub lines : List Line
   pub legal : Legal s keys 1 Strict lines
   pub written : Appends taken_before taken_now (transcript_text Strict s keys lines)
-  pub status : result ≡ 0
+  pub status : result ≡ done_status (has_refusal Strict s)
 
 -- Where the words are a command, and both files are within their size and stand for a script and a key
 -- file, the transcript of exactly these was written; or memory was wanting, and nothing was written.
@@ -105,4 +115,4 @@ pub record IsExact (words : List (List ℕ)) (told : List ℕ → Option (List �
   pub bad_keys : (run : Run) (text keys_text : List ℕ) (s : Script) → IsRun words run → told run.script ≡ Some text → told run.keys ≡ Some keys_text
       → length text ≤ size_limit → IsScriptText text s → length keys_text ≤ size_limit → ((keys : List (List Packet)) → IsKeysText s.schema keys_text keys → ⊥) → IsStatus 4 result
   pub done : (run : Run) (text keys_text : List ℕ) (s : Script) (keys : List (List Packet)) → IsRun words run → told run.script ≡ Some text → told run.keys ≡ Some keys_text
-      → length text ≤ size_limit → IsScriptText text s → length keys_text ≤ size_limit → IsKeysText s.schema keys_text keys → IsStatus 0 result
+      → length text ≤ size_limit → IsScriptText text s → length keys_text ≤ size_limit → IsKeysText s.schema keys_text keys → IsStatus (done_status (has_refusal Strict s)) result

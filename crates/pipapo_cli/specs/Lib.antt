@@ -1,5 +1,5 @@
 pub mod Words
-pub mod PlainRun
+pub mod Run
 pub mod Transcript
 pub mod Causes
 pub mod Names

@@ -1,10 +1,10 @@
 ghost use Rattle.std.specs.Prelude.{◌≡◌, ◌≤◌, ◌<◌, ◌⊎◌, List, [], ◌∷◌, ◌++◌, ℕ, length, Some, IfOk, IfErr, OnOk};
 ghost use Rattle.set_script.specs.ScriptText.{IsScriptText};
-ghost use Rattle.set_script.specs.Plain.{IsPlainScript};
 ghost use Rattle.key_file.specs.KeysText.{IsKeysText};
 ghost use Rattle.key_file.specs.Fits.{IsPlainKeys};
 ghost use Rattle.pip_base.specs.Picks.{AsksOnce, KeepsLeft, ReadsToEnd};
 ghost use Rattle.pipapo_cli.specs.Words.{Run as RunNames};
+ghost use Rattle.pipapo_cli.specs.Run.{IsOneRun};
 ghost use Rattle.pipapo_cli.specs.Causes.{IsScriptCause, IsKeysCause, ReadsAs};
 
 use crate::fault::Fault;
@@ -22,7 +22,7 @@ pub fn script_of<'a, F: Shelf>(
     name: &'a str,
 ) -> Result<Script, Fault<'a>>
     requires { F.asked shelf.old ≡ [] }
-    ensures plain { IfOk result IsPlainScript }
+    ensures plain { IfOk result IsOneRun }
     ensures read { IfOk result (λ s. (text : List ℕ) → F.told shelf.old name.now ≡ Some text → (length text ≤ 67108864) × IsScriptText text s) }
     ensures quiet { OnOk result ((F.asked shelf.new ≡ name.now ∷ []) × (F.faults shelf.new ≡ F.faults shelf.old)) }
     ensures whole { OnOk result (ReadsToEnd (F.is_picked shelf.old) (F.is_picked shelf.new) (F.left shelf.new)) }

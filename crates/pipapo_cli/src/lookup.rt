@@ -1,67 +1,42 @@
-ghost use Rattle.std.specs.Prelude.{◌≡◌, ◌<◌, ◌+◌, ◌^◌, find, length, IfOk, OnOk};
-ghost use Rattle.std.specs.Option.{option_copied};
-ghost use Rattle.set_model.specs.Expiry.{lives};
-ghost use Rattle.set_model.specs.Key.{parts_hold};
-ghost use Rattle.set_model.specs.SetState.{answers as element_answers};
+ghost use Rattle.std.specs.Prelude.{◌≡◌, ◌<◌, ◌∷◌, [], All, true, length, IfOk};
+ghost use Rattle.set_model.specs.Key.{key_fits};
+ghost use Rattle.set_model.specs.SetState.{first};
 ghost use Rattle.set_model.specs.Legal.{verdict_of};
-ghost use Rattle.pipapo_cli.specs.PlainRun.{plain_lines};
+ghost use Rattle.pipapo_cli.specs.Run.{run_lines, IsPacketOf};
 
-use set_model::{Element, Interval, Line, Lines, Memory, Packet, Verdict};
+use pipapo_image::{Scratch, SetImage};
+use set_model::{Key, Line, Lines, Memory, Packet, Verdict};
 use std::alloc::Global;
 
-/// Whether an expiry has not come.
-fn is_live(expiry: Option<u64>, now: u64) -> bool
-    ensures { result ≡ lives expiry now }
+/// What a lookup of a key at a moment says.
+fn verdict(set: &SetImage, key: &Key, now: u64, scratch: &mut Scratch) -> Verdict
+    requires { key_fits set.now.kinds key.now ≡ true }
+    ensures { result ≡ verdict_of (first set.now key.now now) }
 {
-    match expiry {
-        None => true,
-        Some(moment) => now < moment,
-    }
-}
-
-/// Whether each interval holds the value of its field.
-fn holds(parts: &[Interval], key: &[u128]) -> bool
-    ensures { result ≡ parts_hold parts.now key.now }
-{
-    parts
-        .iter()
-        .zip(key.iter())
-        .all(|(part, value)| part.low <= *value && *value <= part.high)
-}
-
-/// The first live element that holds a key.
-fn first<'a>(elements: &'a [Element], key: &[u128], now: u64) -> Option<&'a Element>
-    ensures { option_copied result ≡ find (element_answers key.now now) elements.now }
-{
-    elements.iter().find(|e| is_live(e.expiry, now) && holds(e.parts.as_slice(), key))
-}
-
-/// What a lookup of a key says.
-fn verdict(elements: &[Element], key: &[u128], now: u64) -> Verdict
-    ensures { result ≡ verdict_of (find (element_answers key.now now) elements.now) }
-{
-    match first(elements, key, now) {
-        Some(element) => Verdict::Element { id: element.id },
+    match set.find(key, now, scratch) {
+        Some(found) => Verdict::Element { id: found.id },
         None => Verdict::None,
     }
 }
 
-/// The lines of packets, which are numbered from 0 on.
+/// The lines of packets of one set, which are numbered from 0 on.
 pub fn look_up(
     alloc: Global,
-    elements: &[Element],
+    set: &SetImage,
     generation: u64,
     packets: &[Packet],
 ) -> Result<Lines, Memory>
-    ensures { IfOk result (λ lines. lines ≡ plain_lines elements.now generation 0 packets.now) }
+    requires { All (IsPacketOf set.now.kinds) packets.now }
+    ensures { IfOk result (λ lines. lines ≡ run_lines (set.now ∷ []) generation 0 packets.now) }
 {
+    let mut scratch = Scratch::new(alloc)?;
     let mut lines = Lines::new(alloc);
     for (number, packet) in packets.iter().enumerate() {
         lines.push(Line {
             packet: number as u64,
             thread: 0,
             generation,
-            verdict: verdict(elements, packet.key.as_slice(), packet.now),
+            verdict: verdict(set, &packet.key, packet.now, &mut scratch),
         })?;
     }
     Ok(lines)

@@ -6,12 +6,13 @@ mod delivery;
 mod fault;
 mod inputs;
 mod lookup;
-mod plain_run;
-mod plain_set;
+mod run;
 #[cfg(test)]
 mod tests;
-mod text;
+mod transaction;
 mod words;
+#[cfg(test)]
+mod worked;
 
 use crate::command::pipapo;
 use pip_base::{DirShelf, OutSink};

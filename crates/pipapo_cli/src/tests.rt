@@ -75,7 +75,7 @@ fn run_files(
 }
 
 /// The status and output of `run a.nft keys` over a script and a key file.
-fn run(alloc: Global, script: &str, keys: &str) -> Result<(u8, MemSink), Fail> {
+pub fn run(alloc: Global, script: &str, keys: &str) -> Result<(u8, MemSink), Fail> {
     run_files(
         alloc,
         Some(script.as_bytes()),

@@ -36,6 +36,7 @@ returns-in-Ok-transcript-clause-output g c =
         keys_are = (c.in-Ok-keys_of.ensures.read keys_text (c.in-Ok.ensures.told run.keys ∙ b)).1;
         legal = t.1;
         text = t.2;
+        refusal = t.3;
       },
     )
 

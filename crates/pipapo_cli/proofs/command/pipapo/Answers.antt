@@ -8,7 +8,7 @@ use Rattle.pipapo_cli.proofs.Completed.{completes, tells-read-fault, fault-not-d
 use Rattle.pipapo_cli.proofs.command.pipapo.Goals as goal
 
 pub returns-in-Ok-clause-ends : goal.returns-in-Ok-clause-ends
-returns-in-Ok-clause-ends g c = ends-map _ _ _ _ _ _ _ (due-of-output _ _ _ _ _ _ c.in-Ok.ensures.output) (rw c.as_bytes.ensures.value at c.deliver.ensures)
+returns-in-Ok-clause-ends g c = ends-map _ _ _ _ _ _ _ (due-of-output _ _ _ _ _ _ _ c.in-Ok.ensures.output) (rw (c.done_status.ensures, c.as_slice.ensures.value) at c.deliver.ensures)
 
 pub returns-in-Ok-clause-run : goal.returns-in-Ok-clause-run
 returns-in-Ok-clause-run g c zero =

@@ -1,5 +1,6 @@
 use Rattle.std.proofs.Common.{◌≡◌, sym, ◌∙◌, ap, subst, Err, List, ℕ, length, ◌≤◌}
 use Rattle.set_script.specs.ScriptText.{IsScriptText}
+use Rattle.pipapo_cli.proofs.PlainRun.{one-run-of}
 use Rattle.pipapo_cli.proofs.inputs.script_of.Goals as goal
 
 pub returns-in-Err-Bad-clause-cause : goal.returns-in-Err-Bad-clause-cause
@@ -11,3 +12,6 @@ returns-in-Err-Bad-clause-cause g c keys =
           let same : c.as_slice.result.now ≡ text = c.as_slice.ensures.value ∙ c.in-Ok.ensures.bytes text told_is in
           (subst (λ (t : List ℕ). length t ≤ 67108864) (c.in-Ok.ensures.bytes text told_is) c.in-Ok.ensures.limit, λ s h. refused.2 s (subst (λ (t : List ℕ). IsScriptText t s) (sym same) h)),
     )
+
+pub returns-in-Ok-read_script-clause-plain : goal.returns-in-Ok-read_script-clause-plain
+returns-in-Ok-read_script-clause-plain g c = one-run-of c.in-Ok-read_script.script c.in-Ok-read_script.ensures.plain c.in-Ok-read_script.ensures.runnable
