@@ -1,5 +1,4 @@
 use Rattle.std.proofs.Common.{rules, ap, ◌∙◌, sym, subst}
-use Rattle.history_laws.specs.States.{AllShow}
 use Rattle.gen_turns.specs.TurnViews.{IsPlanned}
 use Rattle.gen_turns.proofs.publisher.Writer.publish.Goals as goal
 
@@ -8,8 +7,8 @@ end_turn-requires-clause-seat g c = let turn = c.take_turn-ticket.ensures.seat i
 
 pub invariant_of-self : goal.invariant_of-self
 invariant_of-self g c = let inv = c.self.invariant in let turn = c.take_turn-ticket.ensures.seat in let asked = c.requires.values in
-    let shows : AllShow g.T.Version.state asked.1.0 c.replace-values.result.items = subst (λ v. AllShow g.T.Version.state asked.1.0 v.items) (sym c.replace-values.ensures.value) asked.1.1 in
-    let end = c.end_turn.ensures.seat asked.1.0 shows in (
+    let shows = asked.1.1 in let same = c.replace-values.ensures.value in
+    let end = c.end_turn.ensures.seat asked.1.0 (search rules) in (
       c.end_turn.ensures.table ∙ (c.take_turn-ticket.ensures.table ∙ inv.0),
       (search rules, search rules),
       subst IsPlanned (sym (ap (λ m. m.0.role) end ∙ ap (λ m. m.0.role) turn.1)) inv.2,
