@@ -86,7 +86,7 @@ none-gone now (e ∷ es) h = go (live e now) h (λ g. none-gone now es g) where
   go true g ih = ap (λ z. e ∷ z) (ih g)
   go false g ih = absurd (omega arith)
 
-pub all-stay : (s : State) (now : ℕ) → count_by (is_expired now) s.elements ≡ 0 → s ≡ purged s now
-all-stay s now h =
+pub all_stay : (s : State) (now : ℕ) → count_by (is_expired now) s.elements ≡ 0 → s ≡ purged s now
+all_stay s now h =
     let make : List Element → State = λ es. record s { elements = es } in
     ap make (sym (none-gone now s.elements (length-filter (is_expired now) s.elements ∙ h)))

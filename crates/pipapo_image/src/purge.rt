@@ -15,6 +15,7 @@ impl SetImage {
     ///
     /// # Errors
     /// `Memory` if there is none left. The set is as it was.
+    #[tactic(auto, using(crate::proofs::Purging::all_stay))]
     pub fn purge(&mut self, alloc: Global, now: u64) -> Result<u64, Memory>
         ensures ok { IfOk result (λ n. (n ≡ count_by (is_expired now) self.old.elements) × (self.new ≡ purged self.old now)) }
         ensures err { OnErr result (self.new ≡ self.old) }
@@ -32,6 +33,7 @@ impl SetImage {
     ///
     /// # Errors
     /// `Memory` if there is none left.
+    #[tactic(auto, using(crate::proofs::Purging::all_stay))]
     pub fn live_part(&self, alloc: Global, now: u64) -> Result<SetImage, Memory>
         ensures { IfOk result (λ set. set ≡ purged self.now now) }
     {
