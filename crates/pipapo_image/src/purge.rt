@@ -21,14 +21,29 @@ impl SetImage {
     {
         let count = count_expired(&self.elements, now);
         if count > 0 {
-            let kept = self.live_part(alloc, now)?;
+            let kept = self.made_anew(alloc, now)?;
             *self = kept;
         }
         Ok(count)
     }
 
-    /// The set of the elements that are live, in their order, with tables of its own.
-    fn live_part(&self, alloc: Global, now: u64) -> Result<SetImage, Memory>
+    /// The same set without the elements that are expired at `now`, in milliseconds; this one stays as
+    /// it is. Where none is expired it is a copy.
+    ///
+    /// # Errors
+    /// `Memory` if there is none left.
+    pub fn live_part(&self, alloc: Global, now: u64) -> Result<SetImage, Memory>
+        ensures { IfOk result (λ set. set ≡ purged self.now now) }
+    {
+        if count_expired(&self.elements, now) == 0 {
+            self.copy(alloc)
+        } else {
+            self.made_anew(alloc, now)
+        }
+    }
+
+    /// The set of the elements that are live, in their order, with tables made anew.
+    fn made_anew(&self, alloc: Global, now: u64) -> Result<SetImage, Memory>
         ensures { IfOk result (λ set. set ≡ purged self.now now) }
     {
         let mut kept = SetImage::new(alloc, &self.kinds, self.size, self.disjoint)?;
