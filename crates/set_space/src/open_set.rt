@@ -174,8 +174,7 @@ impl OpenSet {
     {
         let count = expired_of(self.image(base), now);
         if count > 0 {
-            let mut image = self.image(base).copy(alloc)?;
-            image.purge(alloc, now)?;
+            let image = self.image(base).live_part(alloc, now)?;
             return Ok((Arc::new(alloc, image)?, count));
         }
         Ok((self.share(alloc, base)?, count))

@@ -266,7 +266,7 @@ impl Work {
         ensures { self.new ≡ opened (arc_value sealed) }
     {
         self.base = sealed;
-        undo(self.sets.as_mut_slice(), &self.base);
+        self.abort();
     }
 
     /// All sets are the base's again. It takes no memory.
