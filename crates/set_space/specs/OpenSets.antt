@@ -1,0 +1,26 @@
+-- What the sets of a work stand for, beside those of its base.
+use Rattle.std.specs.Prelude.{◌≡◌, ℕ, List, [], ◌∷◌, Some, not, count_by, slice_get}
+use Rattle.std.specs.Arc.{arc_value}
+use Rattle.set_model.specs.SetState.{State, purged}
+use Rattle.set_model.specs.Expiry.{live}
+use Rattle.set_space.specs.declared.open_set.OpenSet.{OpenSet}
+use Rattle.set_space.specs.declared.open_set.OpenSet.TheVariants.{Unchanged, Changed, Sealed}
+
+-- the state of an open set, by that of the base
+abbrev pub open_state : OpenSet → State → State
+open_state Unchanged base = base
+open_state (Changed state) base = state
+open_state (Sealed shared) base = arc_value shared
+
+-- the states of all sets
+abbrev pub open_states : List OpenSet → List State → List State
+open_states [] bases = []
+open_states (o ∷ os) [] = []
+open_states (o ∷ os) (base ∷ bases) = open_state o base ∷ open_states os bases
+
+-- The state at a place, without its expired elements, and how many these are.
+pub record IsSealed (states : List State) (i now : ℕ) (published : State) (count : ℕ) : Type 0 where
+  pub state : State
+  pub at : slice_get states i ≡ Some state
+  pub published_is : published ≡ purged state now
+  pub expired : count ≡ count_by (λ e. not (live e now)) state.elements

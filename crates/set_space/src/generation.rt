@@ -1,0 +1,83 @@
+ghost use Rattle.std.specs.Prelude.{◌≡◌, ◌<◌, IfOk, Some, All, length, map, slice_get};
+ghost use Rattle.std.specs.Arc.{arc_value};
+ghost use Rattle.set_model.specs.SetState.{empty_set};
+ghost use Rattle.set_model.specs.Control.{first_generation};
+ghost use Rattle.set_space.specs.Open.{CanBeBuilt};
+
+use crate::sets::Sets;
+use pipapo_image::SetImage;
+use set_model::{Memory, Schema, SetDecl};
+use std::alloc::Global;
+use std::marker::Model;
+use std::sync::Arc;
+
+/// The sets as they stood at a commit, and the commit's number.
+#[derive(Drop)]
+pub struct Generation {
+    pub number: u64,
+    pub sets: Sets,
+}
+
+impl Model for Generation {
+    ghost use Rattle.set_model.specs.Control.{Generation};
+
+    ghost Value = { Generation };
+
+    ghost view = { λ g. record { number = g.number; sets = g.sets } };
+}
+
+/// A declared set, without elements.
+fn empty_set(alloc: Global, set: &SetDecl) -> Result<Arc<SetImage, Global>, Memory>
+    requires { CanBeBuilt set.now }
+    ensures { IfOk result (λ image. arc_value image ≡ empty_set set.now.kinds set.now.size set.now.disjoint) }
+{
+    let image = SetImage::new(alloc, &set.kinds, set.size, set.disjoint)?;
+    Ok(Arc::new(alloc, image)?)
+}
+
+fn empty_sets(alloc: Global, schema: &Schema) -> Result<Sets, Memory>
+    requires { All CanBeBuilt schema.now }
+    ensures { IfOk result (λ sets. sets ≡ map (λ d. empty_set d.kinds d.size d.disjoint) schema.now) }
+{
+    let mut sets = Sets::new(alloc);
+    'sets: for set in schema.as_slice() {
+        sets.push(empty_set(alloc, set)?)?;
+    }
+    Ok(sets)
+}
+
+impl Generation {
+    /// Generation 0: every declared set, without elements.
+    ///
+    /// # Errors
+    ///
+    /// `Memory` if there is none left.
+    pub fn first(alloc: Global, schema: &Schema) -> Result<Generation, Memory>
+        requires { All CanBeBuilt schema.now }
+        ensures { IfOk result (λ g. g ≡ first_generation schema.now) }
+    {
+        let sets = empty_sets(alloc, schema)?;
+        Ok(Generation { number: 0, sets })
+    }
+    /// The set at a place.
+    pub(crate) fn set(&self, set: u32) -> &SetImage
+        requires { set < length self.now.sets }
+        ensures { slice_get self.now.sets set ≡ Some result.now }
+    {
+        self.sets.at(u64::from(set))
+    }
+
+    /// The shared set at a place.
+    pub(crate) fn shared(&self, set: u64) -> &Arc<SetImage, Global>
+        requires { set < length self.now.sets }
+        ensures { slice_get self.now.sets set ≡ Some (arc_value result.now) }
+    {
+        self.sets.shared(set)
+    }
+
+    pub(crate) fn len(&self) -> u64
+        ensures { result ≡ length self.now.sets }
+    {
+        self.sets.len()
+    }
+}

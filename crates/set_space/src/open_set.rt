@@ -1,0 +1,189 @@
+ghost use Rattle.std.specs.Prelude.{◌≡◌, true, length, count_by, IfOk, OnErr};
+ghost use Rattle.std.specs.Arc.{arc_value};
+ghost use Rattle.set_model.specs.Key.{parts_fit};
+ghost use Rattle.set_model.specs.SetState.{State, add, removed, purged, cleared};
+ghost use Rattle.expiry_scan.specs.Expired.{is_expired};
+ghost use Rattle.pipapo_image.specs.Insert.{IsAnswer};
+ghost use Rattle.pipapo_image.specs.Remove.{IsRemoval};
+ghost use Rattle.set_space.specs.OpenSets.{open_state};
+ghost use Rattle.set_space.specs.Answers.{IsCreation};
+
+use crate::answers::CreateError;
+use crate::find_twin::find_twin;
+use expiry_scan::count_expired;
+use pipapo_image::{Added, DeleteError, InsertError, Scratch, SetImage};
+use set_model::{Comment, Memory, Parts};
+use std::alloc::Global;
+use std::mem;
+use std::sync::Arc;
+
+/// A set of the open transaction, beside that of the base.
+#[derive(Drop)]
+pub(crate) enum OpenSet {
+    /// It is the base's.
+    Unchanged,
+    /// It was changed, and is this work's alone.
+    Changed(SetImage),
+    /// It was changed, and is shared with a generation that was sealed.
+    Sealed(Arc<SetImage, Global>),
+}
+
+/// A set without its elements, whose ids go on.
+fn emptied(alloc: Global, set: &SetImage) -> Result<SetImage, Memory>
+    ensures { IfOk result (λ image. image ≡ cleared set.now) }
+{
+    let mut image = SetImage::new(alloc, &set.kinds, set.size, set.disjoint)?;
+    image.next = set.next;
+    Ok(image)
+}
+
+impl OpenSet {
+    /// The set as it stands.
+    pub(crate) fn image<'a>(&'a self, base: &'a SetImage) -> &'a SetImage
+        ensures { result.now ≡ open_state self.now base.now }
+    {
+        match self {
+            OpenSet::Unchanged => base,
+            OpenSet::Changed(image) => image,
+            OpenSet::Sealed(image) => image,
+        }
+    }
+
+    /// Inserts into the set; a set that isn't this work's alone is copied first.
+    #[tactic(auto, using(crate::proofs::Refusals::insertion_refused))]
+    pub(crate) fn insert(
+        &mut self,
+        alloc: Global,
+        base: &SetImage,
+        parts: &Parts,
+        expiry: Option<u64>,
+        comment: &Comment,
+        now: u64,
+        scratch: &mut Scratch,
+    ) -> Result<Added, InsertError>
+        requires { parts_fit (open_state self.old base.now).kinds parts.now ≡ true }
+        ensures { IsAnswer (add (open_state self.old base.now) parts.now expiry comment.now now) result (open_state self.old base.now) (open_state self.new base.now) }
+    {
+        if let OpenSet::Changed(image) = self {
+            return image.insert(alloc, parts, expiry, comment, now, scratch);
+        }
+        let mut image = self.image(base).copy(alloc)?;
+        let added = image.insert(alloc, parts, expiry, comment, now, scratch)?;
+        *self = OpenSet::Changed(image);
+        Ok(added)
+    }
+
+    /// Inserts into the set where no live element of the same intervals is there.
+    pub(crate) fn create(
+        &mut self,
+        alloc: Global,
+        base: &SetImage,
+        parts: &Parts,
+        expiry: Option<u64>,
+        comment: &Comment,
+        now: u64,
+        scratch: &mut Scratch,
+    ) -> Result<u64, CreateError>
+        requires { parts_fit (open_state self.old base.now).kinds parts.now ≡ true }
+        ensures { IsCreation (add (open_state self.old base.now) parts.now expiry comment.now now) result (open_state self.old base.now) (open_state self.new base.now) }
+    {
+        if let Some(id) = find_twin(alloc, self.image(base), parts, now, scratch)? {
+            return Err(CreateError::Exists { id });
+        }
+        match self.insert(alloc, base, parts, expiry, comment, now, scratch)? {
+            Added::New { id } => Ok(id),
+            Added::Already { .. } | Added::Renewed { .. } => unreachable!(),
+        }
+    }
+
+    /// Takes the first live element of exactly these intervals out; a set that isn't this work's
+    /// alone is copied first.
+    pub(crate) fn delete(
+        &mut self,
+        alloc: Global,
+        base: &SetImage,
+        parts: &Parts,
+        now: u64,
+    ) -> Result<u64, DeleteError>
+        ensures { IsRemoval (removed (open_state self.old base.now) parts.now now) result (open_state self.old base.now) (open_state self.new base.now) }
+    {
+        if let OpenSet::Changed(image) = self {
+            return image.delete(alloc, parts, now);
+        }
+        let mut image = self.image(base).copy(alloc)?;
+        let id = image.delete(alloc, parts, now)?;
+        *self = OpenSet::Changed(image);
+        Ok(id)
+    }
+
+    /// Takes all elements out, and answers how many there were.
+    pub(crate) fn flush(&mut self, alloc: Global, base: &SetImage) -> Result<u64, Memory>
+        ensures ok { IfOk result (λ n. (n ≡ length (open_state self.old base.now).elements) × (open_state self.new base.now ≡ cleared (open_state self.old base.now))) }
+        ensures err { OnErr result (open_state self.new base.now ≡ open_state self.old base.now) }
+    {
+        let set = self.image(base);
+        let count = set.elements.len();
+        let image = emptied(alloc, set)?;
+        *self = OpenSet::Changed(image);
+        Ok(count)
+    }
+
+    /// Keeps a set that was shared, and shares it once more.
+    fn keep(&mut self, image: Arc<SetImage, Global>) -> Result<Arc<SetImage, Global>, Memory>
+        ensures kept { (base : State) → open_state self.new base ≡ arc_value image }
+        ensures shared { IfOk result (λ other. arc_value other ≡ arc_value image) }
+    {
+        let other = Arc::try_clone(&image);
+        *self = OpenSet::Sealed(image);
+        Ok(other?)
+    }
+
+    /// The set as it stands, shared and not copied.
+    fn share(
+        &mut self,
+        alloc: Global,
+        base: &Arc<SetImage, Global>,
+    ) -> Result<Arc<SetImage, Global>, Memory>
+        ensures same { open_state self.new (arc_value base.now) ≡ open_state self.old (arc_value base.now) }
+        ensures shared { IfOk result (λ image. arc_value image ≡ open_state self.old (arc_value base.now)) }
+    {
+        match mem::replace(self, OpenSet::Unchanged) {
+            OpenSet::Unchanged => Ok(Arc::try_clone(base)?),
+            OpenSet::Sealed(image) => self.keep(image),
+            OpenSet::Changed(image) => match Arc::new(alloc, image) {
+                Ok(image) => self.keep(image),
+                Err(failed) => {
+                    *self = OpenSet::Changed(failed.value);
+                    Err(Memory)
+                }
+            },
+        }
+    }
+
+    /// The set as it is published at `now`, in milliseconds: without the elements that are expired
+    /// then, and how many these are. The open set stays as it is. A set of which none is expired is
+    /// shared and not copied.
+    pub(crate) fn seal(
+        &mut self,
+        alloc: Global,
+        base: &Arc<SetImage, Global>,
+        now: u64,
+    ) -> Result<(Arc<SetImage, Global>, u64), Memory>
+        ensures same { open_state self.new (arc_value base.now) ≡ open_state self.old (arc_value base.now) }
+        ensures sealed { IfOk result (λ r. (arc_value r.0 ≡ purged (open_state self.old (arc_value base.now)) now) × (r.1 ≡ count_by (is_expired now) (open_state self.old (arc_value base.now)).elements)) }
+    {
+        let count = expired_of(self.image(base), now);
+        if count > 0 {
+            let image = self.image(base).live_part(alloc, now)?;
+            return Ok((Arc::new(alloc, image)?, count));
+        }
+        Ok((self.share(alloc, base)?, count))
+    }
+}
+
+/// How many elements of a set are expired at `now`.
+fn expired_of(set: &SetImage, now: u64) -> u64
+    ensures { result ≡ count_by (is_expired now) set.now.elements }
+{
+    count_expired(&set.elements, now)
+}

@@ -1,0 +1,71 @@
+ghost use Rattle.std.specs.Prelude.{◌≡◌, ◌<◌, ◌++◌, ◌∷◌, [], length, slice_get, Some, IfOk, OnOk};
+ghost use Rattle.std.specs.Arc.{arc_value};
+
+use pipapo_image::SetImage;
+use set_model::Memory;
+use std::alloc::Global;
+use std::marker::Model;
+use std::sync::Arc;
+
+/// The sets of a generation, each shared with the other generations in which it is the same.
+/// Contracts see it as the list of the sets' states.
+#[derive(Drop)]
+pub struct Sets {
+    pub(crate) items: Vec<Arc<SetImage, Global>>,
+}
+
+impl Model for Sets {
+    ghost use Rattle.std.specs.Arc.{arc_value};
+    ghost use Rattle.std.specs.Prelude.{List, map};
+    ghost use Rattle.set_model.specs.SetState.{State};
+
+    ghost Value = { List State };
+
+    ghost view = { λ a. map (λ set. arc_value set) a.items.items };
+}
+
+impl Sets {
+    /// No sets. It takes no memory.
+    pub(crate) fn new(alloc: Global) -> Sets
+        ensures { result ≡ [] }
+    {
+        Sets {
+            items: Vec::new(alloc),
+        }
+    }
+
+    /// How many sets there are.
+    pub fn len(&self) -> u64
+        ensures { result ≡ length self.now }
+    {
+        self.items.len() as u64
+    }
+
+    /// The set at place `i`.
+    pub fn at(&self, i: u64) -> &SetImage
+        requires { i < length self.now }
+        ensures { slice_get self.now i ≡ Some result.now }
+    {
+        &self.items[i as usize]
+    }
+
+    /// The shared set at place `i`.
+    pub(crate) fn shared(&self, i: u64) -> &Arc<SetImage, Global>
+        requires { i < length self.now }
+        ensures { slice_get self.now i ≡ Some (arc_value result.now) }
+    {
+        &self.items[i as usize]
+    }
+
+    /// Adds a set at the end.
+    ///
+    /// # Errors
+    ///
+    /// `Memory` if there is none left.
+    pub(crate) fn push(&mut self, set: Arc<SetImage, Global>) -> Result<(), Memory>
+        ensures { OnOk result (self.new ≡ self.old ++ arc_value set ∷ []) }
+    {
+        self.items.push(set)?;
+        Ok(())
+    }
+}

@@ -1,0 +1,278 @@
+ghost use Rattle.std.specs.Prelude.{◌≡◌, ◌<◌, ◌^◌, ◌++◌, length, map, take, drop, IfOk, OnErr};
+ghost use Rattle.std.specs.Arc.{arc_value};
+ghost use Rattle.set_model.specs.SetState.{add, removed, purged, cleared};
+ghost use Rattle.set_model.specs.Control.{expired_count};
+ghost use Rattle.pipapo_image.specs.Insert.{IsAnswer};
+ghost use Rattle.pipapo_image.specs.Remove.{IsRemoval};
+ghost use Rattle.set_space.specs.Open.{opened, sealed, Fits, IsSet, IsChange};
+ghost use Rattle.set_space.specs.Answers.{IsCreation, IsDestruction, IsFlush};
+ghost use Rattle.set_space.specs.OpenSets.{open_states, IsSealed};
+
+use crate::answers::CreateError;
+use crate::generation::Generation;
+use crate::open_set::OpenSet;
+use crate::sets::Sets;
+use pipapo_image::{Added, DeleteError, InsertError, Scratch, SetImage};
+use set_model::{Comment, Memory, Parts};
+use std::alloc::Global;
+use std::marker::Model;
+use std::sync::Arc;
+
+/// The open transaction: a base generation, and the sets with the open changes. It keeps the sets
+/// that were changed alone; the others are the base's. Contracts see the base and the states of all
+/// sets.
+#[derive(Drop)]
+pub struct Work {
+    alloc: Global,
+    base: Arc<Generation, Global>,
+    sets: Vec<OpenSet>,
+    scratch: Scratch,
+}
+
+impl Model for Work {
+    ghost use Rattle.std.specs.Arc.{arc_value};
+    ghost use Rattle.std.specs.Prelude.{◌≡◌, length};
+    ghost use Rattle.set_space.specs.Open.{Open};
+
+    ghost Value = { Open };
+
+    ghost use Rattle.set_space.specs.OpenSets.{open_states};
+
+    ghost view = { λ a. record { base = arc_value a.base; sets = open_states a.sets.items (arc_value a.base).sets } };
+
+    ghost invariant = { λ a. length a.sets.items ≡ length (arc_value a.base).sets };
+}
+
+/// The sets of a generation without a change.
+#[tactic(auto, using(crate::proofs::SetsLaws::unchanged_states))]
+fn unchanged(alloc: Global, base: &Generation) -> Result<Vec<OpenSet>, Memory>
+    ensures long { IfOk result (λ sets. length sets.items ≡ length base.now.sets) }
+    ensures same { IfOk result (λ sets. open_states sets.items base.now.sets ≡ base.now.sets) }
+{
+    let mut sets = Vec::new(alloc);
+    'sets: for i in 0..base.len() {
+        sets.push(OpenSet::Unchanged)?;
+    }
+    Ok(sets)
+}
+
+/// Takes all changes back.
+#[tactic(auto, using(crate::proofs::SetsLaws::unchanged_states))]
+fn undo(sets: &mut [OpenSet], base: &Generation)
+    requires { length sets.old ≡ length base.now.sets }
+    ensures long { length sets.new ≡ length base.now.sets }
+    ensures same { open_states sets.new base.now.sets ≡ base.now.sets }
+{
+    'sets: for i in 0..sets.len() {
+        sets[i] = OpenSet::Unchanged;
+    }
+}
+
+/// The set at a place as it is published at `now`, and how many of its elements are expired then.
+fn seal_at(
+    alloc: Global,
+    sets: &mut [OpenSet],
+    base: &Generation,
+    set: usize,
+    now: u64,
+) -> Result<(Arc<SetImage, Global>, u64), Memory>
+    requires long { length sets.old ≡ length base.now.sets }
+    requires within { set < length sets.old }
+    ensures long { length sets.new ≡ length sets.old }
+    ensures same { open_states sets.new base.now.sets ≡ open_states sets.old base.now.sets }
+    ensures sealed { IfOk result (λ r. IsSealed (open_states sets.old base.now.sets) set now (arc_value r.0) r.1) }
+{
+    let shared = base.shared(set as u64);
+    sets[set].seal(alloc, shared, now)
+}
+
+/// The sets as they are published at `now`, and how many elements of all of them are expired then.
+/// The open sets stay as they are.
+fn seal_all(
+    alloc: Global,
+    sets: &mut [OpenSet],
+    base: &Generation,
+    now: u64,
+) -> Result<(Sets, u64), Memory>
+    requires { length sets.old ≡ length base.now.sets }
+    ensures long { length sets.new ≡ length sets.old }
+    ensures same { open_states sets.new base.now.sets ≡ open_states sets.old base.now.sets }
+    ensures sealed { IfOk result (λ r. (r.0 ≡ map (λ s. purged s now) (open_states sets.old base.now.sets)) × (r.1 ≡ expired_count (open_states sets.old base.now.sets) now)) }
+{
+    let mut published = Sets::new(alloc);
+    let mut expired = 0u64;
+    'sets: for i in 0..sets.len() {
+        let (set, count) = seal_at(alloc, sets, base, i, now)?;
+        let Some(sum) = expired.checked_add(count) else {
+            return Err(Memory);
+        };
+        expired = sum;
+        published.push(set)?;
+    }
+    Ok((published, expired))
+}
+
+impl Work {
+    /// A work on a generation, with no open change.
+    ///
+    /// # Errors
+    ///
+    /// `Memory` if there is none left.
+    pub fn new(alloc: Global, base: Arc<Generation, Global>) -> Result<Work, Memory>
+        ensures { IfOk result (λ work. work ≡ opened (arc_value base)) }
+    {
+        let sets = unchanged(alloc, &base)?;
+        Ok(Work {
+            alloc,
+            base,
+            sets,
+            scratch: Scratch::new(alloc)?,
+        })
+    }
+
+    /// The base generation.
+    pub fn base(&self) -> &Generation
+        ensures { result.now ≡ self.now.base }
+    {
+        &self.base
+    }
+
+    /// Inserts into a set. `expiry` and `now` are in milliseconds.
+    ///
+    /// # Errors
+    ///
+    /// As of an insertion into the set's image. Each leaves the work as it was.
+    pub fn insert(
+        &mut self,
+        set: u32,
+        parts: &Parts,
+        expiry: Option<u64>,
+        comment: &Comment,
+        now: u64,
+    ) -> Result<Added, InsertError>
+        requires { Fits self.old set parts.now }
+        ensures change { IsChange (λ s t. IsAnswer (add s parts.now expiry comment.now now) result s t) self.old set self.new }
+        ensures refused { OnErr result (self.new ≡ self.old) }
+    {
+        let base = self.base.set(set);
+        self.sets[set as usize].insert(
+            self.alloc,
+            base,
+            parts,
+            expiry,
+            comment,
+            now,
+            &mut self.scratch,
+        )
+    }
+
+    /// Inserts into a set where no live element of the same intervals is there.
+    ///
+    /// # Errors
+    ///
+    /// `Exists` if one is there, also where a new expiry is handed in; the set stays. Then as of an
+    /// insertion. Each leaves the work as it was.
+    pub fn create(
+        &mut self,
+        set: u32,
+        parts: &Parts,
+        expiry: Option<u64>,
+        comment: &Comment,
+        now: u64,
+    ) -> Result<u64, CreateError>
+        requires { Fits self.old set parts.now }
+        ensures change { IsChange (λ s t. IsCreation (add s parts.now expiry comment.now now) result s t) self.old set self.new }
+        ensures refused { OnErr result (self.new ≡ self.old) }
+    {
+        let base = self.base.set(set);
+        self.sets[set as usize].create(
+            self.alloc,
+            base,
+            parts,
+            expiry,
+            comment,
+            now,
+            &mut self.scratch,
+        )
+    }
+
+    /// Takes the first live element of exactly these intervals out of a set, and answers its id.
+    ///
+    /// # Errors
+    ///
+    /// `Missing` exactly if there is none. `Memory` if there is none left. Each leaves the work as it
+    /// was.
+    pub fn delete(&mut self, set: u32, parts: &Parts, now: u64) -> Result<u64, DeleteError>
+        requires { IsSet self.old set }
+        ensures change { IsChange (λ s t. IsRemoval (removed s parts.now now) result s t) self.old set self.new }
+        ensures refused { OnErr result (self.new ≡ self.old) }
+    {
+        let base = self.base.set(set);
+        self.sets[set as usize].delete(self.alloc, base, parts, now)
+    }
+
+    /// As `delete`, and `None` where there is no such element.
+    ///
+    /// # Errors
+    ///
+    /// `Memory` if there is none left. The work is as it was.
+    pub fn destroy(&mut self, set: u32, parts: &Parts, now: u64) -> Result<Option<u64>, Memory>
+        requires { IsSet self.old set }
+        ensures change { IsChange (λ s t. IsDestruction (removed s parts.now now) result s t) self.old set self.new }
+        ensures refused { OnErr result (self.new ≡ self.old) }
+    {
+        match self.delete(set, parts, now) {
+            Ok(id) => Ok(Some(id)),
+            Err(DeleteError::Missing) => Ok(None),
+            Err(DeleteError::Memory) => Err(Memory),
+        }
+    }
+
+    /// Takes all elements out of a set, and answers how many there were. Ids go on.
+    ///
+    /// # Errors
+    ///
+    /// `Memory` if there is none left. The work is as it was.
+    pub fn flush(&mut self, set: u32) -> Result<u64, Memory>
+        requires { IsSet self.old set }
+        ensures change { IsChange (λ s t. IsFlush result s t) self.old set self.new }
+        ensures refused { OnErr result (self.new ≡ self.old) }
+    {
+        let base = self.base.set(set);
+        self.sets[set as usize].flush(self.alloc, base)
+    }
+
+    /// The next generation: all sets as they stand, without the elements that are expired at `now`,
+    /// in milliseconds, and how many elements of all sets these are. The work stays as it is, with
+    /// its expired elements. A set of which no element is expired is shared and not copied.
+    ///
+    /// # Errors
+    ///
+    /// `Memory` if there is none left.
+    pub fn seal(&mut self, now: u64) -> Result<(Arc<Generation, Global>, u64), Memory>
+        requires { self.old.base.number < 2 ^ 63 }
+        ensures same { self.new ≡ self.old }
+        ensures sealed { IfOk result (λ r. (arc_value r.0 ≡ sealed self.old now) × (r.1 ≡ expired_count self.old.sets now)) }
+    {
+        let number = self.base.number + 1;
+        let (sets, expired) = seal_all(self.alloc, self.sets.as_mut_slice(), &self.base, now)?;
+        let generation = Arc::new(self.alloc, Generation { number, sets })?;
+        Ok((generation, expired))
+    }
+
+    /// The sealed generation is the base, with no open change. It takes no memory.
+    pub fn adopt(&mut self, sealed: Arc<Generation, Global>)
+        requires { length (arc_value sealed).sets ≡ length self.old.base.sets }
+        ensures { self.new ≡ opened (arc_value sealed) }
+    {
+        self.base = sealed;
+        self.abort();
+    }
+
+    /// All sets are the base's again. It takes no memory.
+    pub fn abort(&mut self)
+        ensures { self.new ≡ opened self.old.base }
+    {
+        undo(self.sets.as_mut_slice(), &self.base);
+    }
+}
