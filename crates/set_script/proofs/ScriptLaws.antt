@@ -15,7 +15,7 @@ use Rattle.token_forms.specs.Words as words
 use Rattle.token_forms.specs.Words.{breaks_off, separates, is_the_mark}
 use Rattle.token_forms.specs.WordReading as wreading
 use Rattle.token_forms.specs.Gives.{Gives}
-use Rattle.token_forms.proofs.FormLaws.{Reads, Begins, Heads, Filled, never, weaken, bind_definite, bind_apart, bind_begins, bind_heads, bind_filled, done_reads, nowhere_reads, nowhere_begins, both_tests}
+use Rattle.token_forms.proofs.FormLaws.{Reads, Begins, Heads, Filled, never, weaken, bind_definite, bind_apart, bind_begins, bind_heads, bind_filled, done_reads, nowhere_reads, nowhere_begins, both_tests, or_left, or_right}
 use Rattle.token_forms.proofs.EitherLaw.{either_reads, either_begins, widen}
 use Rattle.token_forms.proofs.ManyLaw.{AreItems, many_reads, many_heads}
 use Rattle.token_forms.proofs.WordLaws.{any_word, word_by_reads, word_by_begins, word_is_reads, word_is_begins, lined_word_is_reads, lined_word_is_begins, word_reads, word_begins, name_reads, mark_reads, mark_begins, breaks_reads, separators_reads, separates_no_end, bind_done_same, AreStatements, are_lines, lines_reads, lines_heads, line_more, either_true, text_reads, text_begins, passed_reads, passed_begins, breaks_no_end}
@@ -124,14 +124,6 @@ skip_one_reads o = bind_definite (passed_reads breaks_off breaks_no_end) (λ _. 
 
 skip_one_begins : (o : Options) → Begins (words.passed breaks_off >>f done o) breaks_off
 skip_one_begins o = bind_begins (passed_reads breaks_off breaks_no_end) (passed_begins breaks_off)
-
-or_left : (a b : Bool) → a ≡ true → (a || b) ≡ true
-or_left true b h = refl
-or_left false b h = absurd (cc h)
-
-or_right : (a b : Bool) → b ≡ true → (a || b) ≡ true
-or_right true b h = refl
-or_right false b h = h
 
 option_or_break_reads : (timed : Bool) (o : Options) → Reads (form.option_or_break timed o) never (reading.option_or_break timed o)
 unfolding reading.option_or_break

@@ -1,5 +1,5 @@
 -- Words that have a meaning at their place.
-use Rattle.std.specs.Prelude.{ℕ, ◌+◌, ◌*◌, ◌/◌, List, length, sum_by, Bool, true, false, ◌&&◌, not, ◌==◌, nat_lt, nat_le, Option, Some, None, codes, cond, bytes_eq, position, if◌then◌else◌}
+use Rattle.std.specs.Prelude.{ℕ, ◌+◌, ◌*◌, ◌/◌, List, length, sum_by, Bool, ◌&&◌, not, ◌==◌, nat_lt, nat_le, Option, Some, None, is_some, codes, cond, bytes_eq, position, if◌then◌else◌}
 use Rattle.set_model.specs.Kind.{bits_of}
 use Rattle.set_model.specs.declared.kind.Kind.{Kind}
 use Rattle.set_model.specs.declared.kind.Kind.TheVariants as kinds
@@ -21,10 +21,6 @@ use Rattle.set_script.specs.declared.words.Flag.TheVariants as flags
 use Rattle.set_script.specs.declared.words.OptionWord.{OptionWord}
 use Rattle.set_script.specs.declared.words.OptionWord.TheVariants as options
 use Rattle.set_script.specs.Limits.{most_sets}
-
-abbrev pub is_some : {A : Type 0} → Option A → Bool
-is_some None = false
-is_some (Some a) = true
 
 -- the first word of a statement
 abbrev pub first_of : List ℕ → Option FirstWord

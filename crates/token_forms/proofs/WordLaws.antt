@@ -11,7 +11,7 @@ use Rattle.token_forms.specs.Reading.{Outcome, done_read, ◌>>=◌ as ◌>>=r�
 use Rattle.token_forms.specs.Words as form
 use Rattle.token_forms.specs.Words.{word_value, this_word, is_the_mark, if_true, text_value, separates, breaks_off}
 use Rattle.token_forms.specs.WordReading as reading
-use Rattle.token_forms.proofs.FormLaws.{Reads, Decides, Begins, Heads, never, one_reads, one_begins, one_heads, bind_begins, bind_definite, bind_reads, done_reads, weaken, Stops}
+use Rattle.token_forms.proofs.FormLaws.{Reads, Decides, Begins, Heads, never, one_reads, one_begins, one_heads, bind_begins, bind_definite, bind_reads, done_reads, weaken, Stops, or_left, or_right}
 use Rattle.token_forms.proofs.EitherLaw.{either_reads, either_begins, widen}
 use Rattle.token_forms.proofs.ManyLaw.{AreItems, many_reads, many_heads}
 
@@ -271,14 +271,6 @@ line_goes goes (s, false) s1 t = false
 
 abbrev pub line_more : (Lexeme → Bool) → (Lexeme → Bool) → Lexeme → Bool
 line_more test more t = test t || more t
-
-or_left : (a b : Bool) → a ≡ true → (a || b) ≡ true
-or_left true b h = refl
-or_left false b h = absurd (cc h)
-
-or_right : (a b : Bool) → b ≡ true → (a || b) ≡ true
-or_right true b h = refl
-or_right false b h = h
 
 module _ {S : Type 0} (test starts more : Lexeme → Bool) (goes : S → S → Lexeme → Bool) (statement : S → Form S) (read : S → List Lexeme → Outcome S) (k : AreStatements test starts more goes statement read) where
   pass_law : (s : S) → Reads {A = S × Bool} (form.passed test >>=f λ _. done (s, true)) never (reading.passed test >>=r λ _. done_read (s, true))
