@@ -16,7 +16,7 @@ pub use interval_text::{block_law, write_interval, written_interval_law};
 pub use protocol::protocol_names_law;
 pub use time::{one_time_law, read_time, time_of_law};
 pub use time_text::{write_time, written_time_law};
-pub use value::{BadValue, one_value_law, read_value, value_bits_law, value_of_law};
+pub use value::{BadValue, one_value_law, read_number, read_value, value_bits_law, value_of_law};
 pub use value_text::{write_value, written_value_law};
 
 #[cfg(test)]

@@ -1,4 +1,4 @@
-ghost use Rattle.std.specs.Prelude.{ℕ, ◌≡◌, ◌↔◌, Some, ◌<◌, ◌≤◌, ◌^◌, ◌==◌, length, option_map, IfOk, IsTrue};
+ghost use Rattle.std.specs.Prelude.{ℕ, ◌≡◌, ◌↔◌, Some, ◌<◌, ◌≤◌, ◌^◌, ◌==◌, length, option_map, IfOk, IfSome, IsTrue};
 ghost use Rattle.std.specs.Option.{ok_or, option_or};
 ghost use Rattle.std.specs.Net.Reader as Reader;
 ghost use Rattle.std.specs.Net.Grammar.{Parses};
@@ -24,17 +24,20 @@ fn whole_number(text: &[u8], radix: u32, most: u64) -> Option<u64>
     requires low { 2 ≤ radix }
     requires high { radix ≤ 16 }
     requires room { most < 2 ^ 56 }
-    ensures { result ≡ whole_number radix most text.now }
+    ensures value { result ≡ whole_number radix most text.now }
+    ensures within { IfSome result (λ n. n ≤ most) }
 {
     let (value, len) = leading_number(text, radix, most)?;
     if len == text.len() { Some(value) } else { None }
 }
 
-/// A decimal number without a leading zero.
+/// The number of at most `most` that a text writes in decimal digits without a leading zero; `None` exactly where it
+/// writes none.
 #[tactic(auto, unfolding(crate::specs::ValuesRead::number_of))]
-pub(crate) fn read_number(text: &[u8], most: u64) -> Option<u64>
+pub fn read_number(text: &[u8], most: u64) -> Option<u64>
     requires { most < 2 ^ 56 }
-    ensures { result ≡ number_of most text.now }
+    ensures value { result ≡ number_of most text.now }
+    ensures within { IfSome result (λ n. n ≤ most) }
 {
     if text.len() > 1 && text[0] == b'0' {
         return None;

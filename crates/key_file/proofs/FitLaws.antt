@@ -14,13 +14,17 @@ use Rattle.token_forms.specs.Token.{Lexeme}
 use Rattle.token_forms.specs.Words.{breaks_off}
 use Rattle.token_forms.proofs.KeepLaws.{lines_keep}
 use Rattle.key_file.specs.Keys as form
-use Rattle.key_file.specs.Keys.{with_packet}
+use Rattle.set_model.specs.declared.script.Family.{Family}
+use Rattle.set_model.specs.declared.script.Family.TheVariants as families
+use Rattle.key_file.specs.declared.draft.KeyDraft.{KeyDraft}
+use Rattle.key_file.specs.declared.draft.KeyWord.{KeyWord}
+use Rattle.key_file.specs.declared.draft.KeyWord.TheVariants as keys
+use Rattle.key_file.specs.declared.draft.AtWord.{AtWord}
+use Rattle.key_file.specs.declared.draft.AtWord.TheVariants as ats
+use Rattle.key_file.specs.KeyNames.{key_word_of}
+use Rattle.key_file.specs.Keys.{no_keys}
 use Rattle.key_file.specs.KeysText.{IsKeysText}
 use Rattle.key_file.specs.Fits.{IsFitting, IsPlainKeys}
-
--- a packet at the first moment
-abbrev IsFirst : Packet → Type 0
-IsFirst p = p.now ≡ 0
 
 -- values of these kinds, one for each
 record AreValues (ks : List Kind) (key : List ℕ) : Type 0 where
@@ -45,26 +49,34 @@ all_values (kind ∷ ks) ts key (value, x, y, e, (t, et, given), w) =
     let k = more_values ks (value ∷ []) y key w in
     subst (λ (z : List ℕ). AreValues (kind ∷ ks) z) (sym k.1) (one_more kind ks t.bytes value k.0 given.1 k.2)
 
--- what every packet line keeps
-record ArePlain (schema : List SetDecl) (packets : List Packet) : Type 0 where
-  each : All (IsFitting schema) packets
-  now : All IsFirst packets
+-- what every line keeps
+abbrev AllFit : List SetDecl → KeyDraft → Type 0
+AllFit schema d = All (IsFitting schema) d.packets
 
-packet_keeps : (schema : List SetDecl) (packets after : List Packet) (x : List Lexeme) → ArePlain schema packets → (form.packet schema packets).whole x after → ArePlain schema after
-packet_keeps schema packets after x plain (p, x1, y1, e1, w1, (i, x2, y2, e2, w2, w3)) = go (slice_get schema i) refl w3 where
-  go : (s : Option SetDecl) → slice_get schema i ≡ s → (form.packet_of packets i s).whole y2 after → ArePlain schema after
-  go None e w = absurd w
-  go (Some s) e (key, x4, y4, e4, w4, h) =
-      let k = all_values s.kinds x4 key w4 in
-      let same_length = eq-eqb _ _ k.lengths in
-      let fit = k.fit in
-      subst (ArePlain schema) h.1 (record {
-        each = All-push (IsFitting schema) packets (record { set = i; key = key; now = 0 }) plain.each (record { set = s; declared = e; fits = rw same_length fit });
-        now = All-push IsFirst packets (record { set = i; key = key; now = 0 }) plain.now refl;
-      })
+packet_fits : (schema : List SetDecl) (d after : KeyDraft) (i : ℕ) (x : List Lexeme) → AllFit schema d → (s : Option SetDecl) → slice_get schema i ≡ s → (form.packet_of d i s).whole x after → AllFit schema after
+packet_fits schema d after i x all None e w = absurd w
+packet_fits schema d after i x all (Some s) e (key, x4, y4, e4, w4, h) =
+    let k = all_values s.kinds x4 key w4 in
+    let same_length = eq-eqb _ _ k.lengths in
+    let fit = k.fit in
+    subst (AllFit schema) h.1 (All-push (IsFitting schema) d.packets (record { set = i; key = key; now = d.moment }) all (record { set = s; declared = e; fits = rw same_length fit }))
+
+line_keeps : (schema : List SetDecl) (d after : KeyDraft) (x : List Lexeme) → AllFit schema d → (form.key_line schema d).whole x after → AllFit schema after
+line_keeps schema d after x all (w, x1, y1, e1, w1, behind) = go (key_word_of w) behind where
+  packet : (p : Family × List ℕ) (y : List Lexeme) → (form.packet schema d p).whole y after → AllFit schema after
+  packet p y (i, x2, y2, e2, w2, w3) = packet_fits schema d after i y2 all (slice_get schema i) refl w3
+
+  at : (a : AtWord) (y : List Lexeme) → (form.at_behind schema d a).whole y after → AllFit schema after
+  at (ats.Moment n) y h = subst (AllFit schema) h.1 all
+  at (ats.Set i) y h = packet_fits schema d after i y all (slice_get schema i) refl h
+
+  go : (k : KeyWord) → (form.line_behind schema d w k).whole y1 after → AllFit schema after
+  go (keys.Family family) (table, x2, y2, e2, w2, h) = packet (family, table) y2 h
+  go keys.At (a, x2, y2, e2, w2, h) = at a y2 h
+  go keys.Table h = packet (families.Ip, w) y1 h
 
 pub keys_are_plain : (schema : List SetDecl) (text : List ℕ) (keys : List (List Packet)) → IsKeysText schema text keys → IsPlainKeys schema keys
 unfolding IsKeysText
 keys_are_plain schema text keys (read, x, y, e, (s, x1, y1, e1, w, h), (u, x2, y2, e2, w2, h2)) =
-    let k = lines_keep breaks_off (form.packet schema) (ArePlain schema) (packet_keeps schema) ([], true) s x1 (record { each = All-nil (IsFitting schema); now = All-nil IsFirst }) w in
-    subst (IsPlainKeys schema) (h.1 ∙ h2.1) (record { packets = s.0; section = refl; each = k.each; now = k.now })
+    let k = lines_keep breaks_off (form.key_line schema) (AllFit schema) (line_keeps schema) (no_keys, true) s x1 (All-nil (IsFitting schema)) w in
+    subst (IsPlainKeys schema) (h.1 ∙ h2.1) (record { packets = s.0.packets; section = refl; each = k })

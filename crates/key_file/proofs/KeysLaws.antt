@@ -1,5 +1,5 @@
 -- Reading a key file gives what the table of its forms says.
-use Rattle.std.proofs.Common.{◌≡◌, refl, sym, subst, ℕ, ◌<◌, List, [], ◌∷◌, ◌++◌, length, Bool, true, Option, Some, None, codes, slice_get, Result, Ok, Err, OnOk}
+use Rattle.std.proofs.Common.{◌≡◌, refl, sym, subst, ℕ, ◌<◌, List, [], ◌∷◌, ◌++◌, length, Bool, true, Option, Some, None, codes, slice_get, Result, OnOk}
 use Rattle.set_model.specs.declared.kind.Kind.{Kind}
 use Rattle.set_model.specs.declared.script.SetDecl.{SetDecl}
 use Rattle.set_model.specs.declared.packet.Packet.{Packet}
@@ -9,18 +9,28 @@ use Rattle.token_forms.specs.Token.{Lexeme}
 use Rattle.token_forms.specs.Words.{breaks_off}
 use Rattle.token_forms.specs.Gives.{Gives}
 use Rattle.token_forms.specs.TextTokens.{text_tokens}
-use Rattle.token_forms.proofs.FormLaws.{Reads, Begins, never, bind_definite, bind_begins, done_reads, nowhere_reads}
+use Rattle.token_forms.proofs.FormLaws.{Reads, never, bind_definite, bind_begins, done_reads, nowhere_reads}
 use Rattle.token_forms.proofs.ManyLaw.{many_reads}
 use Rattle.addr_text.specs.Values.{IsValue}
 use Rattle.addr_text.specs.ValuesRead.{value_of}
 use Rattle.addr_text.proofs.ValueLaws.{value_of_sound, value_of_complete}
 use Rattle.token_forms.proofs.ShorterLaws.{gives_shorter}
-use Rattle.token_forms.proofs.WordLaws.{any_word, TextDecides, word_is_reads, word_reads, breaks_no_end, bind_done_same, AreStatements, are_lines, line_more}
+use Rattle.token_forms.proofs.WordLaws.{any_word, TextDecides, word_is_reads, word_reads, breaks_no_end, bind_done_same, AreStatements, are_lines, line_more, word_by_reads, word_by_begins, name_reads}
 use Rattle.token_forms.proofs.KindLaws.{word_no_break, end_no_break_line}
 use Rattle.token_forms.proofs.WholeLaws.{Ends, text_answer}
 use Rattle.token_forms.proofs.EndsLaw.{text_ends}
 use Rattle.token_forms.proofs.AnswerLaws.{TextGives, text_gives, text_single}
-use Rattle.set_script.proofs.ScriptLaws.{table_place_reads, table_place_begins, used_set_reads}
+use Rattle.set_script.proofs.ScriptLaws.{used_set_reads}
+use Rattle.set_model.specs.declared.script.Family.{Family}
+use Rattle.set_model.specs.declared.script.Family.TheVariants as families
+use Rattle.token_forms.specs.Words.{name_value}
+use Rattle.key_file.specs.declared.draft.KeyDraft.{KeyDraft}
+use Rattle.key_file.specs.declared.draft.KeyWord.{KeyWord}
+use Rattle.key_file.specs.declared.draft.KeyWord.TheVariants as keys
+use Rattle.key_file.specs.declared.draft.AtWord.{AtWord}
+use Rattle.key_file.specs.declared.draft.AtWord.TheVariants as ats
+use Rattle.key_file.specs.KeyNames.{key_word_of}
+use Rattle.key_file.specs.Keys.{no_keys}
 use Rattle.key_file.specs.Keys as form
 use Rattle.key_file.specs.KeysText.{IsKeysText}
 use Rattle.key_file.specs.KeysReading as reading
@@ -41,37 +51,50 @@ unfolding reading.all_values
 all_values_reads [] = nowhere_reads
 all_values_reads (kind ∷ ks) = bind_definite (value_reads kind) (λ v. more_values_reads ks (v ∷ []))
 
-packet_of_reads : (packets : List Packet) (i : ℕ) (s : Option SetDecl) → Reads (form.packet_of packets i s) never (reading.packet_of packets i s)
+packet_of_reads : (d : KeyDraft) (i : ℕ) (s : Option SetDecl) → Reads (form.packet_of d i s) never (reading.packet_of d i s)
 unfolding reading.packet_of
-packet_of_reads packets i None = nowhere_reads
-packet_of_reads packets i (Some s) = bind_definite (all_values_reads s.kinds) (λ key. done_reads _)
+packet_of_reads d i None = nowhere_reads
+packet_of_reads d i (Some s) = bind_definite (all_values_reads s.kinds) (λ key. done_reads _)
 
-packet_reads : (schema : List SetDecl) (packets : List Packet) → Reads (form.packet schema packets) never (reading.packet schema packets)
+packet_at_reads : (schema : List SetDecl) (d : KeyDraft) (i : ℕ) → Reads (form.packet_at schema d i) never (reading.packet_at schema d i)
+packet_at_reads schema d i = packet_of_reads d i (slice_get schema i)
+
+packet_reads : (schema : List SetDecl) (d : KeyDraft) (p : Family × List ℕ) → Reads (form.packet schema d p) never (reading.packet schema d p)
 unfolding reading.packet
-packet_reads schema packets =
-    bind_definite table_place_reads (λ p.
-    bind_definite (used_set_reads schema p) (λ i. packet_of_reads packets i (slice_get schema i)))
+packet_reads schema d p = bind_definite (used_set_reads schema p) (λ i. packet_at_reads schema d i)
 
-packet_begins : (schema : List SetDecl) (packets : List Packet) → Begins (form.packet schema packets) any_word
-packet_begins schema packets = bind_begins table_place_reads table_place_begins
+at_behind_reads : (schema : List SetDecl) (d : KeyDraft) (a : AtWord) → Reads (form.at_behind schema d a) never (reading.at_behind schema d a)
+unfolding reading.at_behind
+at_behind_reads schema d (ats.Moment n) = done_reads _
+at_behind_reads schema d (ats.Set i) = packet_at_reads schema d i
 
-are_packets : (schema : List SetDecl) → AreStatements breaks_off any_word any_word (λ _. never) (form.packet schema) (reading.packet schema)
-are_packets schema = record {
+line_behind_reads : (schema : List SetDecl) (d : KeyDraft) (w : List ℕ) (k : KeyWord) → Reads (form.line_behind schema d w k) never (reading.line_behind schema d w k)
+unfolding reading.line_behind
+line_behind_reads schema d w (keys.Family family) = bind_definite name_reads (λ table. packet_reads schema d (family, table))
+line_behind_reads schema d w keys.At = bind_definite (word_by_reads (reasons.Moment ∷ reasons.Set ∷ []) _) (λ a. at_behind_reads schema d a)
+line_behind_reads schema d w keys.Table = packet_reads schema d (families.Ip, w)
+
+key_line_reads : (schema : List SetDecl) (d : KeyDraft) → Reads (form.key_line schema d) never (reading.key_line schema d)
+unfolding reading.key_line
+key_line_reads schema d = bind_definite name_reads (λ w. line_behind_reads schema d w (key_word_of w))
+
+are_lines_of : (schema : List SetDecl) → AreStatements breaks_off any_word any_word (λ _. never) (form.key_line schema) (reading.key_line schema)
+are_lines_of schema = record {
   no_end = breaks_no_end;
-  laws = packet_reads schema;
-  begins = packet_begins schema;
+  laws = key_line_reads schema;
+  begins = λ d. bind_begins name_reads (word_by_begins [] name_value);
   apart = word_no_break;
   ends = λ s s1 t h. refl;
   starts_more = λ t h. h;
   goes_more = λ s s1 t h. absurd (cc h);
 }
 
-packets_reads : (schema : List SetDecl) → Reads (form.packets schema) (λ _. line_more breaks_off any_word) (reading.packets schema)
-packets_reads schema = many_reads _ _ _ _ _ (are_lines breaks_off any_word any_word (λ _. never) (form.packet schema) (reading.packet schema) (are_packets schema)) ([], true)
+key_lines_reads : (schema : List SetDecl) → Reads (form.key_lines schema) (λ _. line_more breaks_off any_word) (reading.key_lines schema)
+key_lines_reads schema = many_reads _ _ _ _ _ (are_lines breaks_off any_word any_word (λ _. never) (form.key_line schema) (reading.key_line schema) (are_lines_of schema)) (no_keys, true)
 
 body_reads : (schema : List SetDecl) → Reads (form.body schema) (λ _. line_more breaks_off any_word) (reading.body schema)
 unfolding reading.body
-body_reads schema = bind_done_same (λ s. s.0 ∷ []) (packets_reads schema)
+body_reads schema = bind_done_same (λ s. s.0.packets ∷ []) (key_lines_reads schema)
 
 -- what reading a whole key file says of its text
 schema_gives : (schema : List SetDecl) (text : List ℕ) (ts : List Lexeme) (r : Result (List (List Packet)) ReadError) (new : List Lexeme) → ts ≡ text_tokens text → Gives (λ x. x) r new (reading.key_file schema ts)
@@ -90,8 +113,8 @@ unfolding IsKeysText
 keys_single schema text keys other w v = text_single (body_reads schema) (λ _. end_no_break_line) (text_tokens text) (text_ends text) keys other w v
 
 -- a line takes a token
-pub line_shorter : {X : Type 0} (schema : List SetDecl) (s : List Packet × Bool) (view : X → List Packet × Bool) (result : Result X ReadError) (old new : List Lexeme)
-    → Gives view result new (reading.packet_line schema s old) → OnOk result (length new < length old)
+pub line_shorter : {X : Type 0} (schema : List SetDecl) (s : KeyDraft × Bool) (view : X → KeyDraft × Bool) (result : Result X ReadError) (old new : List Lexeme)
+    → Gives view result new (reading.line_or_break schema s old) → OnOk result (length new < length old)
 line_shorter schema s view result old new g =
-    let lines = are_lines breaks_off any_word any_word (λ _. never) (form.packet schema) (reading.packet schema) (are_packets schema) in
+    let lines = are_lines breaks_off any_word any_word (λ _. never) (form.key_line schema) (reading.key_line schema) (are_lines_of schema) in
     gives_shorter (lines.laws s) (lines.begins s) view result old new g

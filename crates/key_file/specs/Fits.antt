@@ -10,9 +10,8 @@ pub record IsFitting (schema : List SetDecl) (p : Packet) : Type 0 where
   pub declared : slice_get schema p.set ≡ Some set
   pub fits : IsTrue (key_fits set.kinds p.key)
 
--- one section, whose packets all fit and have moment 0
+-- one section, whose packets all fit
 pub record IsPlainKeys (schema : List SetDecl) (keys : List (List Packet)) : Type 0 where
   pub packets : List Packet
   pub section : keys ≡ packets ∷ []
   pub each : All (IsFitting schema) packets
-  pub now : All (λ p. p.now ≡ 0) packets

@@ -1,3 +1,4 @@
+pub mod KeyNames
 pub mod Keys
 pub mod KeysText
 pub mod Fits

@@ -1,7 +1,9 @@
 //! The reader of key files: the packets that are looked up in the sets of a script.
 #![tactic(auto)]
 
+mod draft;
 mod keys;
+mod lines;
 mod packets;
 #[cfg(test)]
 mod tests;

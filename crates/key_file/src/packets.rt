@@ -2,9 +2,10 @@ ghost use Rattle.std.specs.Prelude.{◌≡◌};
 ghost use Rattle.token_forms.specs.Gives.{Gives};
 ghost use Rattle.key_file.specs.KeysReading as reading;
 
+use crate::draft::KeyDraft;
 use addr_text::read_value;
-use set_model::{Key, Kind, Listed, Packet, Packets, SetDecl};
-use set_script::{table_place, used_set};
+use set_model::{Family, Key, Kind, Listed, Packet, SetDecl};
+use set_script::used_set;
 use std::alloc::Global;
 use token_forms::{ReadError, Reader, Reason, short};
 
@@ -70,14 +71,14 @@ fn all_values(reader: &mut Reader, alloc: Global, kinds: &[Kind]) -> Result<Key,
 
 /// The packet of the set at a place.
 #[tactic(auto, using(token_forms::proofs::Refusals::refusals), unfolding(crate::specs::KeysReading::packet_of, token_forms::specs::Gives::Refuses))]
-fn packet_at(
+pub fn packet_at(
     reader: &mut Reader,
     alloc: Global,
     schema: &[SetDecl],
-    packets: &mut Packets,
+    d: &mut KeyDraft,
     place: usize,
 ) -> Result<(), ReadError>
-    ensures { Gives (λ _. packets.new) result reader.new (reading.packet_at schema.now packets.old place reader.old) }
+    ensures { Gives (λ _. d.new) result reader.new (reading.packet_at schema.now d.old place reader.old) }
 {
     match schema.get(place) {
         None => match reader.take() {
@@ -90,27 +91,28 @@ fn packet_at(
             if place > u32::MAX as usize {
                 return Err(ReadError::Memory);
             }
-            packets.push(Packet {
+            d.packets.push(Packet {
                 set: place as u32,
                 key,
-                now: 0,
+                now: d.moment,
             })?;
             Ok(())
         }
     }
 }
 
-/// One more packet.
+/// The name of a set of this table, and a packet of it.
 #[tactic(auto, using(token_forms::proofs::Refusals::refusals), unfolding(crate::specs::KeysReading::packet))]
 pub fn packet(
     reader: &mut Reader,
     alloc: Global,
     schema: &[SetDecl],
-    packets: &mut Packets,
+    d: &mut KeyDraft,
+    family: Family,
+    table: &[u8],
 ) -> Result<(), ReadError>
-    ensures { Gives (λ _. packets.new) result reader.new (reading.packet schema.now packets.old reader.old) }
+    ensures { Gives (λ _. d.new) result reader.new (reading.packet schema.now d.old (family, table.now) reader.old) }
 {
-    let (family, table) = table_place(reader)?;
     let place = used_set(reader, schema, family, table)?;
-    packet_at(reader, alloc, schema, packets, place)
+    packet_at(reader, alloc, schema, d, place)
 }

@@ -106,6 +106,28 @@ fn a_family_may_be_left_out(rt: HostRuntime) -> Result<(), Fail> {
 }
 
 #[test]
+fn moments_may_fall(rt: HostRuntime) -> Result<(), Fail> {
+    let alloc = rt.alloc();
+    let script = script(alloc)?;
+    let keys = read_keys(
+        alloc,
+        &script.schema,
+        b"at round 10.0.0.6 . 1\nat 1000000000000000\nat round 10.0.0.6 . 2\n\nat 5\nip at round 10.0.0.6 . 3\nat 7",
+    )?;
+    for section in keys.as_slice() {
+        match section.as_slice() {
+            [first, second, third] => {
+                assert_eq!(rt; first.now, 0);
+                assert_eq!(rt; second.now, 1_000_000_000_000_000);
+                assert_eq!(rt; third.now, 5);
+            }
+            _ => assert!(rt; false, "other packets"),
+        }
+    }
+    Ok(())
+}
+
+#[test]
 fn texts_outside_the_grammar(rt: HostRuntime) -> Result<(), Fail> {
     let alloc = rt.alloc();
     let script = script(alloc)?;
@@ -123,7 +145,11 @@ fn texts_outside_the_grammar(rt: HostRuntime) -> Result<(), Fail> {
         b"ip at round 10.0.0.6 . 1024 ip at round 10.0.0.6 . 1024",
         b"ip at round 10.0.0.256 . 1024",
         b"ip at round { 10.0.0.6 . 1024 }",
-        b"at 5",
+        b"at 1000000000000001",
+        b"at 05",
+        b"at x",
+        b"at 5 ip at round 10.0.0.6 . 1024",
+        b"at 5;",
         b"round",
         b"\xff",
     ] {

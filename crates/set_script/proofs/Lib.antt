@@ -1,4 +1,4 @@
 pub mod ValueDecides
 pub mod ScriptLaws
 pub mod ScriptWhole
-pub mod PlainLaws
+pub mod RunLaws

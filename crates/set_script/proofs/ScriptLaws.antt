@@ -1,5 +1,5 @@
 -- Reading a script gives what the table of its forms says.
-use Rattle.std.proofs.Common.{◌≡◌, refl, ap, ℕ, ◌<◌, List, [], ◌∷◌, ◌++◌, length, nat_lt, Bool, true, false, ◌||◌, Option, Some, None, codes, slice_get, Result, OnOk}
+use Rattle.std.proofs.Common.{◌≡◌, refl, ap, ℕ, ◌<◌, List, [], ◌∷◌, ◌++◌, length, Bool, true, false, ◌||◌, Option, Some, None, codes, slice_get, Result, OnOk, ◌⊎◌, inl, inr}
 use Rattle.set_model.specs.declared.kind.Kind.{Kind}
 use Rattle.set_model.specs.declared.kind.Interval.{Interval}
 use Rattle.set_model.specs.declared.script.Family.{Family}
@@ -10,32 +10,39 @@ use Rattle.token_forms.specs.declared.token.Reason.TheVariants as reasons
 use Rattle.token_forms.specs.declared.error.ReadError.{ReadError}
 use Rattle.token_forms.specs.Token.{Lexeme}
 use Rattle.token_forms.specs.Form.{Form, done, many as many_form, ◌>>◌ as ◌>>f◌, ◌>>=◌ as ◌>>=f◌}
-use Rattle.token_forms.specs.Reading.{done_read, ◌>>◌ as ◌>>r◌, ◌>>=◌ as ◌>>=r◌}
+use Rattle.token_forms.specs.Reading.{Outcome, done_read, ◌>>◌ as ◌>>r◌, ◌>>=◌ as ◌>>=r◌}
 use Rattle.token_forms.specs.Words as words
 use Rattle.token_forms.specs.Words.{breaks_off, separates, is_the_mark}
 use Rattle.token_forms.specs.WordReading as wreading
 use Rattle.token_forms.specs.Gives.{Gives}
 use Rattle.token_forms.proofs.FormLaws.{Reads, Begins, Heads, Filled, never, weaken, bind_definite, bind_apart, bind_begins, bind_heads, bind_filled, done_reads, nowhere_reads, nowhere_begins, both_tests}
+use Rattle.token_forms.proofs.EitherLaw.{either_reads, either_begins, widen}
 use Rattle.token_forms.proofs.ManyLaw.{AreItems, many_reads, many_heads}
-use Rattle.token_forms.proofs.WordLaws.{any_word, word_by_reads, word_by_begins, word_is_reads, word_is_begins, lined_word_is_reads, lined_word_is_begins, word_reads, word_begins, name_reads, mark_reads, mark_begins, breaks_reads, separators_reads, separates_no_end, bind_done_same, AreStatements, are_lines, lines_reads, lines_heads, line_more}
-use Rattle.token_forms.proofs.KindLaws.{word_no_break, word_no_separator, mark_no_break, mark_no_word, closing_no_comma, closing_no_separator, neither, word_or_closing_no_break, separator_or_closing_no_word}
+use Rattle.token_forms.proofs.WordLaws.{any_word, word_by_reads, word_by_begins, word_is_reads, word_is_begins, lined_word_is_reads, lined_word_is_begins, word_reads, word_begins, name_reads, mark_reads, mark_begins, breaks_reads, separators_reads, separates_no_end, bind_done_same, AreStatements, are_lines, lines_reads, lines_heads, line_more, either_true, text_reads, text_begins, passed_reads, passed_begins, breaks_no_end}
+use Rattle.token_forms.proofs.KindLaws.{word_no_break, word_no_separator, mark_no_break, mark_no_word, closing_no_comma, closing_no_separator, neither, word_or_closing_no_break, separator_or_closing_no_word, text_no_break, separator_no_comma}
 use Rattle.token_forms.proofs.ShorterLaws.{gives_shorter}
 use Rattle.set_script.specs.declared.draft.Draft.{Draft}
 use Rattle.set_script.specs.declared.draft.Declaration.{Declaration}
+use Rattle.set_model.specs.declared.script.Verb.{Verb}
+use Rattle.set_model.specs.declared.script.Verb.TheVariants as verbs
+use Rattle.addr_text.specs.Times.{IsTime}
+use Rattle.set_script.specs.declared.draft.Target.{Target}
+use Rattle.set_script.specs.declared.draft.Options.{Options}
+use Rattle.set_script.specs.declared.words.OptionWord.{OptionWord}
+use Rattle.set_script.specs.declared.words.OptionWord.TheVariants as options
 use Rattle.set_script.specs.declared.words.FirstWord.{FirstWord}
 use Rattle.set_script.specs.declared.words.FirstWord.TheVariants as firsts
 use Rattle.set_script.specs.declared.words.AddWord.{AddWord}
 use Rattle.set_script.specs.declared.words.AddWord.TheVariants as adds
 use Rattle.set_script.specs.declared.words.ItemWord.{ItemWord}
 use Rattle.set_script.specs.declared.words.ItemWord.TheVariants as items
-use Rattle.set_script.specs.Values.{IsPart}
+use Rattle.set_script.specs.Values.{IsPart, IsLife}
 use Rattle.set_script.specs.Names.{family_of}
-use Rattle.set_script.specs.Limits.{most_changes}
-use Rattle.set_script.specs.Changes.{empty, declaration, declared, finished}
+use Rattle.set_script.specs.Changes.{empty, no_options, declaration, declared, finished}
 use Rattle.set_script.specs.Script as form
 use Rattle.set_script.specs.ScriptReading as reading
-use Rattle.set_script.specs.ScriptReading.{starts_element, starts_kind}
-use Rattle.set_script.proofs.ValueDecides.{part_decides}
+use Rattle.set_script.specs.ScriptReading.{starts_element, starts_kind, starts_option, starts_flag}
+use Rattle.set_script.proofs.ValueDecides.{part_decides, time_decides, life_decides, moment_decides, size_decides}
 
 -- places
 table_behind_reads : (w : List ℕ) (f : Option Family) → Reads (form.table_behind w f) never (reading.table_behind w f)
@@ -89,53 +96,34 @@ all_parts_begins : (wide : Bool) (ks : List Kind) → Begins (form.all_parts wid
 all_parts_begins wide [] = nowhere_begins any_word
 all_parts_begins wide (kind ∷ ks) = bind_begins (first_part_reads wide kind) (first_part_begins wide kind)
 
--- breaks may stand behind an element
-abbrev behind_element : Lexeme → Bool
-behind_element t = breaks_off t
+-- options
+time_reads : Reads form.time never reading.time
+time_reads = word_is_reads (reasons.Time ∷ []) time_decides
 
-element_where_reads : (room : Bool) (set : ℕ) (s : SetDecl) (before : List Step) → Reads (form.element_where room set s before) (λ _. behind_element) (reading.element_where room set s before)
-unfolding reading.element_where
-element_where_reads false set s before = weaken (λ _. behind_element) (λ a t h. absurd (cc h)) nowhere_reads
-element_where_reads true set s before = bind_definite (all_parts_reads false s.kinds) (λ p. bind_done_same _ breaks_reads)
+life_reads : Reads (words.word_is (reasons.Time ∷ []) IsLife) never reading.life_word
+life_reads = word_is_reads (reasons.Time ∷ []) life_decides
 
-element_where_begins : (room : Bool) (set : ℕ) (s : SetDecl) (before : List Step) → Begins (form.element_where room set s before) any_word
-element_where_begins false set s before = nowhere_begins any_word
-element_where_begins true set s before = bind_begins (all_parts_reads false s.kinds) (all_parts_begins false s.kinds)
+option_behind_reads : (o : Options) (w : OptionWord) → Reads (form.option_behind o w) never (reading.option_behind o w)
+unfolding reading.option_behind
+option_behind_reads o options.Timeout =
+    bind_apart breaks_reads (λ _. bind_definite life_reads (λ t. done_reads _)) (λ _. bind_begins life_reads (word_is_begins (reasons.Time ∷ []) IsLife)) (λ _. word_no_break)
+option_behind_reads o options.Expires =
+    bind_apart breaks_reads (λ _. bind_definite time_reads (λ t. done_reads _)) (λ _. bind_begins time_reads (word_is_begins (reasons.Time ∷ []) IsTime)) (λ _. word_no_break)
+option_behind_reads o options.Comment =
+    bind_apart breaks_reads (λ _. bind_definite text_reads (λ c. done_reads _)) (λ _. bind_begins text_reads text_begins) (λ _. text_no_break)
 
-element_reads : (set : ℕ) (s : SetDecl) (before : List Step) → Reads (form.element set s before) (λ _. behind_element) (reading.element set s before)
-element_reads set s before = element_where_reads (nat_lt (length before) most_changes) set s before
+option_reads : (timed : Bool) (o : Options) → Reads (form.option timed o) never (reading.option timed o)
+unfolding reading.option
+option_reads timed o = bind_definite (word_by_reads [] _) (λ w. option_behind_reads o w)
 
-element_begins : (set : ℕ) (s : SetDecl) (before : List Step) → Begins (form.element set s before) any_word
-element_begins set s before = element_where_begins (nat_lt (length before) most_changes) set s before
+option_begins : (timed : Bool) (o : Options) → Begins (form.option timed o) any_word
+option_begins timed o = bind_begins (word_by_reads [] _) (word_by_begins [] _)
 
--- lists
-abbrev list_goes : List Step × Bool → List Step × Bool → Lexeme → Bool
-list_goes (before, true) behind t = behind_element t
-list_goes (before, false) behind t = breaks_off t
+skip_one_reads : (o : Options) → Reads (words.passed breaks_off >>f done o) never (wreading.passed breaks_off >>r done_read o)
+skip_one_reads o = bind_definite (passed_reads breaks_off breaks_no_end) (λ _. done_reads o)
 
-abbrev list_more : Lexeme → Bool
-list_more t = breaks_off t || (any_word t || is_the_mark 44 t)
-
-list_item_laws : (set : ℕ) (s : SetDecl) (before : List Step) (b : Bool) → Reads (form.list_item set s (before, b)) (list_goes (before, b)) (reading.list_item set s (before, b))
-unfolding reading.list_item
-list_item_laws set s before true = bind_done_same _ (element_reads set s before)
-list_item_laws set s before false = bind_definite (mark_reads 44) (λ _. bind_done_same _ breaks_reads)
-
-list_item_begins : (set : ℕ) (s : SetDecl) (before : List Step) (b : Bool) → Begins (form.list_item set s (before, b)) (starts_element (before, b))
-list_item_begins set s before true = bind_begins (element_reads set s before) (element_begins set s before)
-list_item_begins set s before false = bind_begins (mark_reads 44) (mark_begins 44)
-
--- behind an element stands a comma, behind a comma an element
-list_apart : (set : ℕ) (s : SetDecl) (before : List Step) (b : Bool) (behind : List Step × Bool) (x : List Lexeme) (t : Lexeme)
-    → (form.list_item set s (before, b)).whole x behind → starts_element behind t ≡ true → list_goes (before, b) behind t ≡ false
-list_apart set s before true (behind, c) x t w h = go c (ap (λ (z : List Step × Bool). z.1) w.5.1) h where
-  go : (c : Bool) → false ≡ c → starts_element (behind, c) t ≡ true → behind_element t ≡ false
-  go true e h = absurd (cc e)
-  go false e h = mark_no_break 44 t h
-list_apart set s before false (behind, c) x t w h = go c (ap (λ (z : List Step × Bool). z.1) w.5.5.1) h where
-  go : (c : Bool) → true ≡ c → starts_element (behind, c) t ≡ true → breaks_off t ≡ false
-  go true e h = word_no_break t h
-  go false e h = absurd (cc e)
+skip_one_begins : (o : Options) → Begins (words.passed breaks_off >>f done o) breaks_off
+skip_one_begins o = bind_begins (passed_reads breaks_off breaks_no_end) (passed_begins breaks_off)
 
 or_left : (a b : Bool) → a ≡ true → (a || b) ≡ true
 or_left true b h = refl
@@ -145,25 +133,91 @@ or_right : (a b : Bool) → b ≡ true → (a || b) ≡ true
 or_right true b h = refl
 or_right false b h = h
 
+option_or_break_reads : (timed : Bool) (o : Options) → Reads (form.option_or_break timed o) never (reading.option_or_break timed o)
+unfolding reading.option_or_break
+option_or_break_reads timed o = either_reads (skip_one_reads o) (option_reads timed o) (skip_one_begins o) (option_begins timed o) word_no_break
+
+-- breaks and words may stand behind an element
+abbrev behind_element : Lexeme → Bool
+behind_element t = breaks_off t || any_word t
+
+option_or_break_begins : (timed : Bool) (o : Options) → Begins (form.option_or_break timed o) (starts_option o)
+option_or_break_begins timed o =
+    either_begins (widen (λ t h. or_left (breaks_off t) (any_word t) h) (skip_one_begins o)) (widen (λ t h. or_right (breaks_off t) (any_word t) h) (option_begins timed o))
+
+are_options : (timed : Bool) → AreItems starts_option (λ _. never) behind_element (form.option_or_break timed) (reading.option_or_break timed)
+are_options timed = record {
+  laws = option_or_break_reads timed;
+  begins = option_or_break_begins timed;
+  apart = λ o o1 x t w h. refl;
+  starts_more = λ o t h. h;
+  goes_more = λ o o1 t h. absurd (cc h);
+}
+
+options_reads : (timed : Bool) → Reads (many_form (form.option_or_break timed) no_options) (λ _. behind_element) (reading.all_options timed)
+options_reads timed = many_reads starts_option (λ _. never) behind_element (form.option_or_break timed) (reading.option_or_break timed) (are_options timed) no_options
+
+element_reads : (target : Target) (s : SetDecl) (before : List Step) → Reads (form.element target s before) (λ _. behind_element) (reading.element target s before)
+unfolding reading.element
+element_reads target s before = bind_definite (all_parts_reads s.interval s.kinds) (λ p. bind_done_same _ (options_reads s.timed))
+
+element_begins : (target : Target) (s : SetDecl) (before : List Step) → Begins (form.element target s before) any_word
+element_begins target s before = bind_begins (all_parts_reads s.interval s.kinds) (all_parts_begins s.interval s.kinds)
+
+comma_no_option : (t : Lexeme) → is_the_mark 44 t ≡ true → behind_element t ≡ false
+comma_no_option t h = neither (breaks_off t) (any_word t) (mark_no_break 44 t h) (mark_no_word 44 t h)
+
+-- lists
+abbrev list_goes : List Step × Bool → List Step × Bool → Lexeme → Bool
+list_goes (before, true) behind t = behind_element t
+list_goes (before, false) behind t = breaks_off t
+
+abbrev list_more : Lexeme → Bool
+list_more t = breaks_off t || (any_word t || is_the_mark 44 t)
+
+list_item_laws : (target : Target) (s : SetDecl) (before : List Step) (b : Bool) → Reads (form.list_item target s (before, b)) (list_goes (before, b)) (reading.list_item target s (before, b))
+unfolding reading.list_item
+list_item_laws target s before true = bind_done_same _ (element_reads target s before)
+list_item_laws target s before false = bind_definite (mark_reads 44) (λ _. bind_done_same _ breaks_reads)
+
+list_item_begins : (target : Target) (s : SetDecl) (before : List Step) (b : Bool) → Begins (form.list_item target s (before, b)) (starts_element (before, b))
+list_item_begins target s before true = bind_begins (element_reads target s before) (element_begins target s before)
+list_item_begins target s before false = bind_begins (mark_reads 44) (mark_begins 44)
+
+-- behind an element stands a comma, behind a comma an element
+list_apart : (target : Target) (s : SetDecl) (before : List Step) (b : Bool) (behind : List Step × Bool) (x : List Lexeme) (t : Lexeme)
+    → (form.list_item target s (before, b)).whole x behind → starts_element behind t ≡ true → list_goes (before, b) behind t ≡ false
+list_apart target s before true (behind, c) x t w h = go c (ap (λ (z : List Step × Bool). z.1) w.5.1) h where
+  go : (c : Bool) → false ≡ c → starts_element (behind, c) t ≡ true → behind_element t ≡ false
+  go true e h = absurd (cc e)
+  go false e h = comma_no_option t h
+list_apart target s before false (behind, c) x t w h = go c (ap (λ (z : List Step × Bool). z.1) w.5.5.1) h where
+  go : (c : Bool) → true ≡ c → starts_element (behind, c) t ≡ true → breaks_off t ≡ false
+  go true e h = word_no_break t h
+  go false e h = absurd (cc e)
+
 starts_in_list : (before : List Step) (b : Bool) (t : Lexeme) → starts_element (before, b) t ≡ true → list_more t ≡ true
 starts_in_list before true t h = or_right (breaks_off t) (any_word t || is_the_mark 44 t) (or_left (any_word t) (is_the_mark 44 t) h)
 starts_in_list before false t h = or_right (breaks_off t) (any_word t || is_the_mark 44 t) (or_right (any_word t) (is_the_mark 44 t) h)
 
 goes_in_list : (before : List Step) (b : Bool) (behind : List Step × Bool) (t : Lexeme) → list_goes (before, b) behind t ≡ true → list_more t ≡ true
-goes_in_list before true behind t h = or_left (breaks_off t) (any_word t || is_the_mark 44 t) h
+goes_in_list before true behind t h = go (either_true (breaks_off t) (any_word t) h) where
+  go : (breaks_off t ≡ true) ⊎ (any_word t ≡ true) → list_more t ≡ true
+  go (inl k) = or_left (breaks_off t) (any_word t || is_the_mark 44 t) k
+  go (inr k) = or_right (breaks_off t) (any_word t || is_the_mark 44 t) (or_left (any_word t) (is_the_mark 44 t) k)
 goes_in_list before false behind t h = or_left (breaks_off t) (any_word t || is_the_mark 44 t) h
 
-are_elements : (set : ℕ) (s : SetDecl) → AreItems starts_element list_goes list_more (form.list_item set s) (reading.list_item set s)
-are_elements set s = record {
-  laws = λ r. list_item_laws set s r.0 r.1;
-  begins = λ r. list_item_begins set s r.0 r.1;
-  apart = λ r r1 x t w h. list_apart set s r.0 r.1 r1 x t w h;
+are_elements : (target : Target) (s : SetDecl) → AreItems starts_element list_goes list_more (form.list_item target s) (reading.list_item target s)
+are_elements target s = record {
+  laws = λ r. list_item_laws target s r.0 r.1;
+  begins = λ r. list_item_begins target s r.0 r.1;
+  apart = λ r r1 x t w h. list_apart target s r.0 r.1 r1 x t w h;
   starts_more = λ r t h. starts_in_list r.0 r.1 t h;
   goes_more = λ r r1 t h. goes_in_list r.0 r.1 r1 t h;
 }
 
-elements_reads : (set : ℕ) (s : SetDecl) (r : List Step × Bool) → Reads (many_form (form.list_item set s) r) (λ _. list_more) (reading.list_items set s r)
-elements_reads set s r = many_reads starts_element list_goes list_more (form.list_item set s) (reading.list_item set s) (are_elements set s) r
+elements_reads : (target : Target) (s : SetDecl) (r : List Step × Bool) → Reads (many_form (form.list_item target s) r) (λ _. list_more) (reading.list_items target s r)
+elements_reads target s r = many_reads starts_element list_goes list_more (form.list_item target s) (reading.list_item target s) (are_elements target s) r
 
 closing_no_list : (t : Lexeme) → is_the_mark 125 t ≡ true → list_more t ≡ false
 closing_no_list t h = neither (breaks_off t) (any_word t || is_the_mark 44 t) (mark_no_break 125 t h) (neither (any_word t) (is_the_mark 44 t) (mark_no_word 125 t h) (closing_no_comma t h))
@@ -179,26 +233,26 @@ closed_begins : {A : Type 0} (a : A) → Begins (closed a) (is_the_mark 125)
 closed_begins a = bind_begins (mark_reads 125) (mark_begins 125)
 
 -- the elements and the closing brace
-abbrev list_end : ℕ → SetDecl → List Step → Form (List Step)
-list_end set s before = many_form (form.list_item set s) (before, true) >>=f λ r. closed r.0
+abbrev list_end : Target → SetDecl → List Step → Form (List Step)
+list_end target s before = many_form (form.list_item target s) (before, true) >>=f λ r. closed r.0
 
-list_end_reads : (set : ℕ) (s : SetDecl) (before : List Step) → Reads (list_end set s before) never (reading.list_items set s (before, true) >>=r λ r. wreading.mark 125 >>r done_read r.0)
-list_end_reads set s before = bind_apart (elements_reads set s (before, true)) (λ r. closed_reads r.0) (λ r. closed_begins r.0) (λ _. closing_no_list)
+list_end_reads : (target : Target) (s : SetDecl) (before : List Step) → Reads (list_end target s before) never (reading.list_items target s (before, true) >>=r λ r. wreading.mark 125 >>r done_read r.0)
+list_end_reads target s before = bind_apart (elements_reads target s (before, true)) (λ r. closed_reads r.0) (λ r. closed_begins r.0) (λ _. closing_no_list)
 
-list_end_begins : (set : ℕ) (s : SetDecl) (before : List Step) → Begins (list_end set s before) (both_tests any_word (is_the_mark 125))
-list_end_begins set s before = record { starts = heads; filled = λ a w. full.empty a w } where
-  heads : Heads (list_end set s before) (both_tests any_word (is_the_mark 125))
-  heads = bind_heads (elements_reads set s (before, true))
-      (many_heads starts_element list_goes list_more (form.list_item set s) (reading.list_item set s) (are_elements set s) (before, true)) (λ r. (closed_begins r.0).starts)
+list_end_begins : (target : Target) (s : SetDecl) (before : List Step) → Begins (list_end target s before) (both_tests any_word (is_the_mark 125))
+list_end_begins target s before = record { starts = heads; filled = λ a w. full.empty a w } where
+  heads : Heads (list_end target s before) (both_tests any_word (is_the_mark 125))
+  heads = bind_heads (elements_reads target s (before, true))
+      (many_heads starts_element list_goes list_more (form.list_item target s) (reading.list_item target s) (are_elements target s) (before, true)) (λ r. (closed_begins r.0).starts)
 
-  full : Filled (list_end set s before)
+  full : Filled (list_end target s before)
   full = bind_filled (λ r. record { empty = λ a w. (closed_begins r.0).filled a w })
 
-list_reads : (set : ℕ) (s : SetDecl) (before : List Step) → Reads (form.list set s before) never (reading.list set s before)
+list_reads : (target : Target) (s : SetDecl) (before : List Step) → Reads (form.list target s before) never (reading.list target s before)
 unfolding reading.list
-list_reads set s before =
+list_reads target s before =
     bind_definite (mark_reads 123) (λ _.
-    bind_apart breaks_reads (λ _. list_end_reads set s before) (λ _. list_end_begins set s before) (λ _. word_or_closing_no_break))
+    bind_apart breaks_reads (λ _. list_end_reads target s before) (λ _. list_end_begins target s before) (λ _. word_or_closing_no_break))
 
 -- kinds
 kind_word_reads : (ks : List Kind) → Reads (form.kind_word ks) never (reading.kind_word ks)
@@ -225,25 +279,61 @@ type_item_reads =
     many_reads starts_kind (λ _. never) any_word form.more_kinds reading.more_kinds are_kinds (k ∷ [])))
 
 -- items
-item_behind_reads : (b : Declaration) (steps : List Step) (w : ItemWord) → Reads (form.item_behind (b, steps) w) never (reading.item_behind (b, steps) w)
-unfolding reading.item_behind
-item_behind_reads b steps items.Flags = bind_definite (word_reads (codes "interval")) (λ _. done_reads _)
-item_behind_reads b steps items.Elements = bind_definite (mark_reads 61) (λ _. bind_definite (list_reads b.set b.decl steps) (λ behind. done_reads _))
+flag_reads : (b : Declaration) → Reads (form.flag b) never (reading.flag b)
+unfolding reading.flag
+flag_reads b = bind_definite (word_by_reads [] _) (λ f. done_reads _)
 
-item_reads : (b : Declaration) (steps : List Step) → Reads (form.item (b, steps)) never (reading.item (b, steps))
+more_flags_reads : (b : Declaration) → Reads (form.more_flags b) never (reading.more_flags b)
+unfolding reading.more_flags
+more_flags_reads b = bind_definite (mark_reads 44) (λ _. flag_reads b)
+
+are_flags : AreItems starts_flag (λ _. never) (is_the_mark 44) form.more_flags reading.more_flags
+are_flags = record {
+  laws = more_flags_reads;
+  begins = λ b. bind_begins (mark_reads 44) (mark_begins 44);
+  apart = λ b b1 x t w h. refl;
+  starts_more = λ b t h. h;
+  goes_more = λ b b1 t h. absurd (cc h);
+}
+
+comma : {A : Type 0} {f : Form A} {r : List Lexeme → Outcome A} → Reads f never r → Reads f (λ _. is_the_mark 44) r
+comma law = weaken (λ _. is_the_mark 44) (λ a t h. absurd (cc h)) law
+
+item_behind_reads : (b : Declaration) (steps : List Step) (w : ItemWord) → Reads (form.item_behind (b, steps) w) (λ _. is_the_mark 44) (reading.item_behind (b, steps) w)
+unfolding reading.item_behind
+item_behind_reads b steps items.Flags =
+    bind_definite (flag_reads b) (λ b1. bind_done_same _ (many_reads starts_flag (λ _. never) (is_the_mark 44) form.more_flags reading.more_flags are_flags b1))
+item_behind_reads b steps items.Timeout = comma (bind_definite time_reads (λ t. done_reads _))
+item_behind_reads b steps items.Size = comma (bind_definite (word_is_reads (reasons.Number ∷ []) size_decides) (λ n. done_reads _))
+item_behind_reads b steps items.Elements = comma (bind_definite (mark_reads 61) (λ _. bind_definite (list_reads b.target b.decl steps) (λ behind. done_reads _)))
+
+item_reads : (b : Declaration) (steps : List Step) → Reads (form.item (b, steps)) (λ _. is_the_mark 44) (reading.item (b, steps))
 unfolding reading.item
 item_reads b steps = bind_definite (word_by_reads [] _) (λ w. item_behind_reads b steps w)
 
-are_items : AreStatements separates any_word any_word (λ _. never) form.item reading.item
+-- a word begins an item, and a comma may go on with it
+abbrev item_more : Lexeme → Bool
+item_more t = any_word t || is_the_mark 44 t
+
+abbrev item_goes : Declaration × List Step → Declaration × List Step → Lexeme → Bool
+item_goes s s1 t = is_the_mark 44 t
+
+are_items : AreStatements separates any_word item_more item_goes form.item reading.item
 are_items = record {
   no_end = separates_no_end;
   laws = λ s. item_reads s.0 s.1;
   begins = λ s. bind_begins (word_by_reads [] _) (word_by_begins [] _);
   apart = word_no_separator;
-  ends = λ s s1 t h. refl;
-  starts_more = λ t h. h;
-  goes_more = λ s s1 t h. absurd (cc h);
+  ends = λ s s1 t h. separator_no_comma t h;
+  starts_more = λ t h. or_left (any_word t) (is_the_mark 44 t) h;
+  goes_more = λ s s1 t h. or_right (any_word t) (is_the_mark 44 t) h;
 }
+
+abbrev items_more : Lexeme → Bool
+items_more = line_more separates item_more
+
+closing_no_items : (t : Lexeme) → is_the_mark 125 t ≡ true → items_more t ≡ false
+closing_no_items t h = neither (separates t) (item_more t) (closing_no_separator t h) (neither (any_word t) (is_the_mark 44 t) (mark_no_word 125 t h) (closing_no_comma t h))
 
 abbrev lines_more : Lexeme → Bool
 lines_more = line_more separates any_word
@@ -256,13 +346,13 @@ abbrev items_end : Draft → Declaration × List Step → Form Draft
 items_end d s = words.lines separates form.item (s, false) >>=f λ s1. closed (declared s1.0 s1.1 d)
 
 items_end_reads : (d : Draft) (s : Declaration × List Step) → Reads (items_end d s) never (reading.all_items s >>=r λ s1. wreading.mark 125 >>r done_read (declared s1.0 s1.1 d))
-items_end_reads d s = bind_apart (lines_reads separates any_word any_word (λ _. never) form.item reading.item are_items (s, false)) (λ s1. closed_reads (declared s1.0 s1.1 d)) (λ s1. closed_begins (declared s1.0 s1.1 d)) (λ _. closing_no_lines)
+items_end_reads d s = bind_apart (lines_reads separates any_word item_more item_goes form.item reading.item are_items (s, false)) (λ s1. closed_reads (declared s1.0 s1.1 d)) (λ s1. closed_begins (declared s1.0 s1.1 d)) (λ _. closing_no_items)
 
 items_end_begins : (d : Draft) (s : Declaration × List Step) → Begins (items_end d s) (both_tests separates (is_the_mark 125))
 items_end_begins d s = record { starts = heads; filled = λ a w. full.empty a w } where
   heads : Heads (items_end d s) (both_tests separates (is_the_mark 125))
-  heads = bind_heads (lines_reads separates any_word any_word (λ _. never) form.item reading.item are_items (s, false))
-      (lines_heads separates any_word any_word (λ _. never) form.item reading.item are_items (s, false)) (λ s1. (closed_begins (declared s1.0 s1.1 d)).starts)
+  heads = bind_heads (lines_reads separates any_word item_more item_goes form.item reading.item are_items (s, false))
+      (lines_heads separates any_word item_more item_goes form.item reading.item are_items (s, false)) (λ s1. (closed_begins (declared s1.0 s1.1 d)).starts)
 
   full : Filled (items_end d s)
   full = bind_filled (λ s1. record { empty = λ a w. (closed_begins (declared s1.0 s1.1 d)).filled a w })
@@ -291,15 +381,30 @@ are_blocks p = record {
 }
 
 -- statements
-changes_of_reads : (d : Draft) (i : ℕ) (s : Option SetDecl) → Reads (form.changes_of d i s) never (reading.changes_of d i s)
-unfolding reading.changes_of
-changes_of_reads d i None = nowhere_reads
-changes_of_reads d i (Some s) = bind_definite (list_reads i s d.steps) (λ behind. done_reads _)
+list_of_reads : (target : Target) (s : Option SetDecl) (before : List Step) → Reads (form.list_of target s before) never (reading.list_of target s before)
+unfolding reading.list_of
+list_of_reads target None before = nowhere_reads
+list_of_reads target (Some s) before = list_reads target s before
+
+changes_reads : (d : Draft) (verb : Verb) → Reads (form.changes d verb) never (reading.changes d verb)
+unfolding reading.changes
+changes_reads d verb =
+    bind_definite table_place_reads (λ p.
+    bind_definite (used_set_reads d.schema p) (λ i.
+    bind_definite (list_of_reads (record { set = i; verb = verb; now = d.moment }) (slice_get d.schema i) d.steps) (λ behind. done_reads _)))
 
 add_behind_reads : (d : Draft) (w : AddWord) → Reads (form.add_behind d w) never (reading.add_behind d w)
 unfolding reading.add_behind
 add_behind_reads d adds.Set = bind_definite table_place_reads (λ p. bind_definite (new_set_reads d) (λ n. set_body_reads d p n))
-add_behind_reads d adds.Element = bind_definite table_place_reads (λ p. bind_definite (used_set_reads d.schema p) (λ i. changes_of_reads d i (slice_get d.schema i)))
+add_behind_reads d adds.Element = changes_reads d verbs.Add
+
+delete_behind_reads : (d : Draft) → Reads (form.delete_behind d) never (reading.delete_behind d)
+unfolding reading.delete_behind
+delete_behind_reads d = bind_definite (word_reads (codes "element")) (λ _. changes_reads d verbs.Delete)
+
+flush_behind_reads : (line : ℕ) (d : Draft) → Reads (form.flush_behind line d) never (reading.flush_behind line d)
+unfolding reading.flush_behind
+flush_behind_reads line d = bind_definite (word_reads (codes "set")) (λ _. bind_definite table_place_reads (λ p. bind_definite (used_set_reads d.schema p) (λ i. done_reads _)))
 
 table_block_reads : (d : Draft) → Reads (form.table_block d) never (reading.table_block d)
 unfolding reading.table_block
@@ -308,20 +413,26 @@ table_block_reads d =
     bind_definite (mark_reads 123) (λ _.
     bind_apart (lines_reads separates any_word any_word (λ _. never) (form.set_block p) (reading.set_block p) (are_blocks p) (d, true)) (λ d1. closed_reads d1) (λ d1. closed_begins d1) (λ _. closing_no_lines)))
 
-statement_behind_reads : (d : Draft) (w : FirstWord) → Reads (form.statement_behind d w) never (reading.statement_behind d w)
+statement_behind_reads : (line : ℕ) (d : Draft) (w : FirstWord) → Reads (form.statement_behind line d w) never (reading.statement_behind line d w)
 unfolding reading.statement_behind
-statement_behind_reads d firsts.Add = bind_definite (word_by_reads [] _) (λ w. add_behind_reads d w)
-statement_behind_reads d firsts.Table = table_block_reads d
+statement_behind_reads line d firsts.Add = bind_definite (word_by_reads [] _) (λ w. add_behind_reads d w)
+statement_behind_reads line d firsts.Table = table_block_reads d
+statement_behind_reads line d firsts.Delete = delete_behind_reads d
+statement_behind_reads line d firsts.Flush = flush_behind_reads line d
+statement_behind_reads line d firsts.At = bind_definite (word_is_reads (reasons.Moment ∷ []) (moment_decides d.moment)) (λ n. done_reads _)
+
+first_word_reads : Reads form.first_word never reading.first_word
+first_word_reads = word_by_reads [] _
 
 statement_reads : (d : Draft) → Reads (form.statement d) never (reading.statement d)
 unfolding reading.statement
-statement_reads d = bind_definite (word_by_reads [] _) (λ w. statement_behind_reads d w)
+statement_reads d = bind_definite first_word_reads (λ w. statement_behind_reads w.0 d w.1)
 
 are_statements : AreStatements separates any_word any_word (λ _. never) form.statement reading.statement
 are_statements = record {
   no_end = separates_no_end;
   laws = statement_reads;
-  begins = λ d. bind_begins (word_by_reads [] _) (word_by_begins [] _);
+  begins = λ d. bind_begins first_word_reads (word_by_begins [] _);
   apart = word_no_separator;
   ends = λ d d1 t h. refl;
   starts_more = λ t h. h;
@@ -336,9 +447,9 @@ unfolding reading.body
 body_reads = bind_done_same (λ d. finished d.0) statements_reads
 
 -- what takes a token at least
-pub list_item_shorter : {X : Type 0} (set : ℕ) (s : SetDecl) (r : List Step × Bool) (view : X → List Step × Bool) (result : Result X ReadError) (old new : List Lexeme)
-    → Gives view result new (reading.list_item set s r old) → OnOk result (length new < length old)
-list_item_shorter set s r view result old new g = gives_shorter (list_item_laws set s r.0 r.1) (list_item_begins set s r.0 r.1) view result old new g
+pub list_item_shorter : {X : Type 0} (target : Target) (s : SetDecl) (r : List Step × Bool) (view : X → List Step × Bool) (result : Result X ReadError) (old new : List Lexeme)
+    → Gives view result new (reading.list_item target s r old) → OnOk result (length new < length old)
+list_item_shorter target s r view result old new g = gives_shorter (list_item_laws target s r.0 r.1) (list_item_begins target s r.0 r.1) view result old new g
 
 pub more_kinds_shorter : {X : Type 0} (ks : List Kind) (view : X → List Kind) (result : Result X ReadError) (old new : List Lexeme) → Gives view result new (reading.more_kinds ks old) → OnOk result (length new < length old)
 more_kinds_shorter ks view result old new g = gives_shorter (more_kinds_reads ks) (are_kinds.begins ks) view result old new g
@@ -346,7 +457,7 @@ more_kinds_shorter ks view result old new g = gives_shorter (more_kinds_reads ks
 pub item_line_shorter : {X : Type 0} (s : (Declaration × List Step) × Bool) (view : X → (Declaration × List Step) × Bool) (result : Result X ReadError) (old new : List Lexeme)
     → Gives view result new (reading.item_line s old) → OnOk result (length new < length old)
 item_line_shorter s view result old new g =
-    let lines = are_lines separates any_word any_word (λ _. never) form.item reading.item are_items in
+    let lines = are_lines separates any_word item_more item_goes form.item reading.item are_items in
     gives_shorter (lines.laws s) (lines.begins s) view result old new g
 
 pub block_line_shorter : {X : Type 0} (p : Family × List ℕ) (s : Draft × Bool) (view : X → Draft × Bool) (result : Result X ReadError) (old new : List Lexeme)
@@ -360,3 +471,11 @@ pub statement_line_shorter : {X : Type 0} (s : Draft × Bool) (view : X → Draf
 statement_line_shorter s view result old new g =
     let lines = are_lines separates any_word any_word (λ _. never) form.statement reading.statement are_statements in
     gives_shorter (lines.laws s) (lines.begins s) view result old new g
+
+pub option_or_break_shorter : {X : Type 0} (timed : Bool) (o : Options) (view : X → Options) (result : Result X ReadError) (old new : List Lexeme)
+    → Gives view result new (reading.option_or_break timed o old) → OnOk result (length new < length old)
+option_or_break_shorter timed o view result old new g = gives_shorter (option_or_break_reads timed o) (option_or_break_begins timed o) view result old new g
+
+pub more_flags_shorter : {X : Type 0} (b : Declaration) (view : X → Declaration) (result : Result X ReadError) (old new : List Lexeme)
+    → Gives view result new (reading.more_flags b old) → OnOk result (length new < length old)
+more_flags_shorter b view result old new g = gives_shorter (more_flags_reads b) (are_flags.begins b) view result old new g

@@ -5,5 +5,5 @@ pub mod Names
 pub mod Script
 pub mod ScriptText
 pub mod Runnable
-pub mod Plain
+pub mod OneTransaction
 pub mod ScriptReading

@@ -1,9 +1,14 @@
 -- How much a script may hold.
 use Rattle.std.specs.Prelude.{ℕ}
 
--- how many sets a script may declare, and how many elements it may add
+-- how many sets a script may declare
 abbrev pub most_sets : ℕ
 most_sets = 1
 
-abbrev pub most_changes : ℕ
-most_changes = 4096
+-- the last moment that a text may name, in milliseconds
+abbrev pub last_moment : ℕ
+last_moment = 1_000_000_000_000_000
+
+-- the largest size of a set that a script may name
+abbrev pub most_elements : ℕ
+most_elements = 4_294_967_295

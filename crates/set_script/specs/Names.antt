@@ -1,5 +1,5 @@
 -- Words that have a meaning at their place.
-use Rattle.std.specs.Prelude.{ℕ, ◌+◌, ◌*◌, ◌/◌, List, length, sum_by, Bool, ◌&&◌, not, ◌==◌, nat_lt, nat_le, Option, Some, None, codes, cond, bytes_eq, position, if◌then◌else◌}
+use Rattle.std.specs.Prelude.{ℕ, ◌+◌, ◌*◌, ◌/◌, List, length, sum_by, Bool, true, false, ◌&&◌, not, ◌==◌, nat_lt, nat_le, Option, Some, None, codes, cond, bytes_eq, position, if◌then◌else◌}
 use Rattle.set_model.specs.Kind.{bits_of}
 use Rattle.set_model.specs.declared.kind.Kind.{Kind}
 use Rattle.set_model.specs.declared.kind.Kind.TheVariants as kinds
@@ -9,19 +9,31 @@ use Rattle.set_model.specs.declared.script.SetDecl.{SetDecl}
 use Rattle.token_forms.specs.Words.{is_name}
 use Rattle.set_script.specs.declared.draft.Draft.{Draft}
 use Rattle.set_script.specs.declared.draft.Declaration.{Declaration}
+use Rattle.set_script.specs.declared.draft.Options.{Options}
 use Rattle.set_script.specs.declared.words.FirstWord.{FirstWord}
 use Rattle.set_script.specs.declared.words.FirstWord.TheVariants as firsts
 use Rattle.set_script.specs.declared.words.AddWord.{AddWord}
 use Rattle.set_script.specs.declared.words.AddWord.TheVariants as adds
 use Rattle.set_script.specs.declared.words.ItemWord.{ItemWord}
 use Rattle.set_script.specs.declared.words.ItemWord.TheVariants as items
+use Rattle.set_script.specs.declared.words.Flag.{Flag}
+use Rattle.set_script.specs.declared.words.Flag.TheVariants as flags
+use Rattle.set_script.specs.declared.words.OptionWord.{OptionWord}
+use Rattle.set_script.specs.declared.words.OptionWord.TheVariants as options
 use Rattle.set_script.specs.Limits.{most_sets}
+
+abbrev pub is_some : {A : Type 0} → Option A → Bool
+is_some None = false
+is_some (Some a) = true
 
 -- the first word of a statement
 abbrev pub first_of : List ℕ → Option FirstWord
 first_of t =
     if bytes_eq t (codes "add") then Some firsts.Add
     else if bytes_eq t (codes "table") then Some firsts.Table
+    else if bytes_eq t (codes "delete") then Some firsts.Delete
+    else if bytes_eq t (codes "flush") then Some firsts.Flush
+    else if bytes_eq t (codes "at") then Some firsts.At
     else None
 
 -- what is added
@@ -91,5 +103,22 @@ abbrev pub item_of : Declaration → List ℕ → Option ItemWord
 item_of b t =
     if b.elements then None
     else if bytes_eq t (codes "flags") && not b.flags then Some items.Flags
+    else if bytes_eq t (codes "timeout") && not (is_some b.decl.timeout) then Some items.Timeout
+    else if bytes_eq t (codes "size") && not (is_some b.decl.size) then Some items.Size
     else if bytes_eq t (codes "elements") then Some items.Elements
+    else None
+
+-- each flag at most once
+abbrev pub flag_of : Declaration → List ℕ → Option Flag
+flag_of b t =
+    if bytes_eq t (codes "interval") && not b.decl.interval then Some flags.Interval
+    else if bytes_eq t (codes "timeout") && not b.timeout_flag then Some flags.Timeout
+    else None
+
+-- each option of an element at most once, the first two in a set with the flag `timeout`
+abbrev pub option_of : Bool → Options → List ℕ → Option OptionWord
+option_of timed o t =
+    if bytes_eq t (codes "timeout") && timed && not (is_some o.timeout) then Some options.Timeout
+    else if bytes_eq t (codes "expires") && timed && not (is_some o.expires) then Some options.Expires
+    else if bytes_eq t (codes "comment") && not (is_some o.comment) then Some options.Comment
     else None

@@ -1,5 +1,5 @@
 -- The script: the table of its forms, as nft(8) writes its statements.
-use Rattle.std.specs.Prelude.{ℕ, List, [], ◌∷◌, ◌++◌, length, nat_lt, Bool, true, false, Option, Some, None, codes, slice_get}
+use Rattle.std.specs.Prelude.{ℕ, List, [], ◌∷◌, ◌++◌, Bool, true, false, Option, Some, None, option_map, codes, slice_get}
 use Rattle.set_model.specs.declared.kind.Kind.{Kind}
 use Rattle.set_model.specs.declared.kind.Interval.{Interval}
 use Rattle.set_model.specs.declared.script.Family.{Family}
@@ -9,19 +9,25 @@ use Rattle.set_model.specs.declared.script.Step.{Step}
 use Rattle.set_model.specs.declared.script.Script.{Script}
 use Rattle.set_script.specs.declared.draft.Draft.{Draft}
 use Rattle.set_script.specs.declared.draft.Declaration.{Declaration}
+use Rattle.set_script.specs.declared.draft.Target.{Target}
+use Rattle.set_script.specs.declared.draft.Options.{Options}
 use Rattle.set_script.specs.declared.words.FirstWord.{FirstWord}
 use Rattle.set_script.specs.declared.words.FirstWord.TheVariants as firsts
 use Rattle.set_script.specs.declared.words.AddWord.{AddWord}
 use Rattle.set_script.specs.declared.words.AddWord.TheVariants as adds
 use Rattle.set_script.specs.declared.words.ItemWord.{ItemWord}
 use Rattle.set_script.specs.declared.words.ItemWord.TheVariants as items
+use Rattle.set_script.specs.declared.words.OptionWord.{OptionWord}
+use Rattle.set_script.specs.declared.words.OptionWord.TheVariants as options
+use Rattle.set_model.specs.declared.script.Verb.{Verb}
+use Rattle.set_model.specs.declared.script.Verb.TheVariants as verbs
 use Rattle.token_forms.specs.declared.token.Reason.TheVariants as reasons
-use Rattle.token_forms.specs.Form.{Form, done, nowhere, many, ◌>>=◌, ◌>>◌}
-use Rattle.token_forms.specs.Words.{word, word_by, word_is, lined_word_is, name, mark, the_end, breaks, separators, separates, line, lines}
-use Rattle.set_script.specs.Values.{IsPart}
-use Rattle.set_script.specs.Names.{first_of, add_of, family_of, kind_of, kind_behind, set_place, new_name, item_of}
-use Rattle.set_script.specs.Changes.{empty, declaration, with_interval, with_elements, addition, with_steps, declared, finished}
-use Rattle.set_script.specs.Limits.{most_changes}
+use Rattle.token_forms.specs.Form.{Form, done, nowhere, either, many, ◌>>=◌, ◌>>◌}
+use Rattle.token_forms.specs.Words.{word, word_by, word_is, lined_word_is, name, mark, text, the_end, breaks, breaks_off, separators, separates, passed, line, lines}
+use Rattle.addr_text.specs.Times.{IsTime}
+use Rattle.set_script.specs.Values.{IsPart, IsLife, IsMoment, IsSize}
+use Rattle.set_script.specs.Names.{first_of, add_of, family_of, kind_of, kind_behind, set_place, new_name, item_of, flag_of, option_of}
+use Rattle.set_script.specs.Changes.{empty, no_options, declaration, with_flag, with_timeout, with_size, with_elements, change, with_steps, flush, declared, finished}
 
 -- The family and the table. A word at the family's place that is a family is the family; without one it is `ip`.
 abbrev pub table_behind : List ℕ → Option Family → Form (Family × List ℕ)
@@ -67,33 +73,55 @@ all_parts wide (kind ∷ kinds) = do
   parts ← more_parts wide kinds (p.1 ∷ [])
   done (p.0, parts)
 
--- one more added element, where there is room for one
-abbrev pub element_where : Bool → ℕ → SetDecl → List Step → Form (List Step)
-element_where false set s before = nowhere
-element_where true set s before = do
-  p ← all_parts false s.kinds
-  breaks
-  done (before ++ addition set p.0 p.1 ∷ [])
+abbrev pub time : Form ℕ
+time = word_is (reasons.Time ∷ []) IsTime
 
-abbrev pub element : ℕ → SetDecl → List Step → Form (List Step)
-element set s before = element_where (nat_lt (length before) most_changes) set s before
+abbrev pub option_behind : Options → OptionWord → Form Options
+option_behind o options.Timeout = do
+  breaks
+  t ← word_is (reasons.Time ∷ []) IsLife
+  done (record o { timeout = Some t })
+option_behind o options.Expires = do
+  breaks
+  t ← time
+  done (record o { expires = Some t })
+option_behind o options.Comment = do
+  breaks
+  c ← text
+  done (record o { comment = Some c })
+
+abbrev pub option : Bool → Options → Form Options
+option timed o = do
+  w ← word_by [] (λ t. option_of timed o t.bytes)
+  option_behind o w
+
+-- an option, or a break
+abbrev pub option_or_break : Bool → Options → Form Options
+option_or_break timed o = either (passed breaks_off >> done o) (option timed o)
+
+-- One element more: its intervals, and then options in any order.
+abbrev pub element : Target → SetDecl → List Step → Form (List Step)
+element target s before = do
+  p ← all_parts s.interval s.kinds
+  o ← many (option_or_break s.timed) no_options
+  done (before ++ change target s p.0 p.1 o ∷ [])
 
 -- An element, where one may come next, or a `,`.
-abbrev pub list_item : ℕ → SetDecl → List Step × Bool → Form (List Step × Bool)
-list_item set s (before, true) = do
-  behind ← element set s before
+abbrev pub list_item : Target → SetDecl → List Step × Bool → Form (List Step × Bool)
+list_item target s (before, true) = do
+  behind ← element target s before
   done (behind, false)
-list_item set s (before, false) = do
+list_item target s (before, false) = do
   mark 44
   breaks
   done (before, true)
 
 -- Elements in braces with `,` between them and maybe behind the last; breaks are blanks there.
-abbrev pub list : ℕ → SetDecl → List Step → Form (List Step)
-list set s before = do
+abbrev pub list : Target → SetDecl → List Step → Form (List Step)
+list target s before = do
   mark 123
   breaks
-  r ← many (list_item set s) (before, true)
+  r ← many (list_item target s) (before, true)
   mark 125
   done r.0
 
@@ -113,14 +141,32 @@ type_item = do
   k ← kind_word []
   many more_kinds (k ∷ [])
 
+-- Flags, with `,` between them.
+abbrev pub flag : Declaration → Form Declaration
+flag b = do
+  f ← word_by [] (λ t. flag_of b t.bytes)
+  done (with_flag b f)
+
+abbrev pub more_flags : Declaration → Form Declaration
+more_flags b = do
+  mark 44
+  flag b
+
 -- Items, by their first word. The state: the set, and the changes so far.
 abbrev pub item_behind : Declaration × List Step → ItemWord → Form (Declaration × List Step)
 item_behind (b, steps) items.Flags = do
-  word (codes "interval")
-  done (with_interval b, steps)
+  b1 ← flag b
+  b2 ← many more_flags b1
+  done (b2, steps)
+item_behind (b, steps) items.Timeout = do
+  t ← time
+  done (with_timeout b t, steps)
+item_behind (b, steps) items.Size = do
+  n ← word_is (reasons.Number ∷ []) IsSize
+  done (with_size b n, steps)
 item_behind (b, steps) items.Elements = do
   mark 61
-  behind ← list b.set b.decl steps
+  behind ← list b.target b.decl steps
   done (with_elements b, behind)
 
 abbrev pub item : Declaration × List Step → Form (Declaration × List Step)
@@ -144,26 +190,37 @@ set_block p d = do
   n ← new_set d
   set_body d p n
 
--- Statements
-abbrev pub changes_of : Draft → ℕ → Option SetDecl → Form Draft
-changes_of d i None = nowhere
-changes_of d i (Some s) = do
-  behind ← list i s d.steps
-  done (with_steps d behind)
+-- Statements. The list of a set that is declared so.
+abbrev pub list_of : Target → Option SetDecl → List Step → Form (List Step)
+list_of target None before = nowhere
+list_of target (Some s) before = list target s before
 
--- the elements that are added to the declared set at a place
-abbrev pub changes_at : Draft → ℕ → Form Draft
-changes_at d i = changes_of d i (slice_get d.schema i)
+-- the changes of a list, of the declared set that is named before it
+abbrev pub changes : Draft → Verb → Form Draft
+changes d verb = do
+  p ← table_place
+  i ← used_set d.schema p
+  behind ← list_of (record { set = i; verb = verb; now = d.moment }) (slice_get d.schema i) d.steps
+  done (with_steps d behind)
 
 abbrev pub add_behind : Draft → AddWord → Form Draft
 add_behind d adds.Set = do
   p ← table_place
   n ← new_set d
   set_body d p n
-add_behind d adds.Element = do
+add_behind d adds.Element = changes d verbs.Add
+
+abbrev pub delete_behind : Draft → Form Draft
+delete_behind d = do
+  word (codes "element")
+  changes d verbs.Delete
+
+abbrev pub flush_behind : ℕ → Draft → Form Draft
+flush_behind line d = do
+  word (codes "set")
   p ← table_place
   i ← used_set d.schema p
-  changes_at d i
+  done (flush d line i)
 
 -- set blocks in braces
 abbrev pub table_block : Draft → Form Draft
@@ -174,16 +231,25 @@ table_block d = do
   mark 125
   done d1
 
-abbrev pub statement_behind : Draft → FirstWord → Form Draft
-statement_behind d firsts.Add = do
+-- what stands behind the first word of a statement, which stands in this line
+abbrev pub statement_behind : ℕ → Draft → FirstWord → Form Draft
+statement_behind line d firsts.Add = do
   w ← word_by [] (λ t. add_of t.bytes)
   add_behind d w
-statement_behind d firsts.Table = table_block d
+statement_behind line d firsts.Table = table_block d
+statement_behind line d firsts.Delete = delete_behind d
+statement_behind line d firsts.Flush = flush_behind line d
+statement_behind line d firsts.At = do
+  n ← word_is (reasons.Moment ∷ []) (IsMoment d.moment)
+  done (record d { moment = n })
+
+abbrev pub first_word : Form (ℕ × FirstWord)
+first_word = word_by [] (λ t. option_map (λ w. (t.line, w)) (first_of t.bytes))
 
 abbrev pub statement : Draft → Form Draft
 statement d = do
-  w ← word_by [] (λ t. first_of t.bytes)
-  statement_behind d w
+  w ← first_word
+  statement_behind w.0 d w.1
 
 -- statements with separators between them, and any number of separators before the first and after the last
 abbrev pub statements : Form (Draft × Bool)

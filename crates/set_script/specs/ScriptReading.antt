@@ -1,5 +1,5 @@
 -- Reading a script from left to right, along the table of its forms.
-use Rattle.std.specs.Prelude.{ℕ, List, [], ◌∷◌, ◌++◌, length, nat_lt, Bool, true, false, Option, Some, None, codes, slice_get}
+use Rattle.std.specs.Prelude.{ℕ, List, [], ◌∷◌, ◌++◌, Bool, true, false, ◌||◌, Option, Some, None, codes, slice_get}
 use Rattle.set_model.specs.declared.kind.Kind.{Kind}
 use Rattle.set_model.specs.declared.kind.Interval.{Interval}
 use Rattle.set_model.specs.declared.script.Family.{Family}
@@ -9,21 +9,28 @@ use Rattle.set_model.specs.declared.script.Step.{Step}
 use Rattle.set_model.specs.declared.script.Script.{Script}
 use Rattle.set_script.specs.declared.draft.Draft.{Draft}
 use Rattle.set_script.specs.declared.draft.Declaration.{Declaration}
+use Rattle.set_script.specs.declared.draft.Target.{Target}
+use Rattle.set_script.specs.declared.draft.Options.{Options}
 use Rattle.set_script.specs.declared.words.FirstWord.{FirstWord}
 use Rattle.set_script.specs.declared.words.FirstWord.TheVariants as firsts
 use Rattle.set_script.specs.declared.words.AddWord.{AddWord}
 use Rattle.set_script.specs.declared.words.AddWord.TheVariants as adds
 use Rattle.set_script.specs.declared.words.ItemWord.{ItemWord}
 use Rattle.set_script.specs.declared.words.ItemWord.TheVariants as items
+use Rattle.set_script.specs.declared.words.Flag.{Flag}
+use Rattle.set_script.specs.declared.words.OptionWord.{OptionWord}
+use Rattle.set_script.specs.declared.words.OptionWord.TheVariants as options
+use Rattle.set_model.specs.declared.script.Verb.{Verb}
+use Rattle.set_model.specs.declared.script.Verb.TheVariants as verbs
 use Rattle.token_forms.specs.declared.token.Reason.TheVariants as reasons
 use Rattle.token_forms.specs.Token.{Lexeme, is_word}
-use Rattle.token_forms.specs.Reading.{done_read as done, nowhere_read as nowhere, ◌>>=◌, ◌>>◌}
-use Rattle.token_forms.specs.Words.{separates, is_the_mark}
-use Rattle.token_forms.specs.WordReading.{Reading, word, word_by, lined_word_by, name, mark, the_end, breaks, separators, line, line_starts, lines, many}
-use Rattle.set_script.specs.Values.{part_of}
-use Rattle.set_script.specs.Names.{first_of, add_of, family_of, kind_of, kind_behind, set_place, new_name, item_of}
-use Rattle.set_script.specs.Changes.{empty, declaration, with_interval, with_elements, addition, with_steps, declared, finished}
-use Rattle.set_script.specs.Limits.{most_changes}
+use Rattle.token_forms.specs.Reading.{done_read as done, nowhere_read as nowhere, either_read, ◌>>=◌, ◌>>◌}
+use Rattle.token_forms.specs.Words.{breaks_off, separates, is_the_mark}
+use Rattle.token_forms.specs.WordReading.{Reading, word, word_by, lined_word_by, name, mark, text, the_end, breaks, separators, passed, line, line_starts, lines, many}
+use Rattle.addr_text.specs.TimesRead.{time_of}
+use Rattle.set_script.specs.Values.{part_of, life_of, moment_of, size_of}
+use Rattle.set_script.specs.Names.{first_of, add_of, family_of, kind_of, kind_behind, set_place, new_name, item_of, flag_of, option_of}
+use Rattle.set_script.specs.Changes.{empty, no_options, declaration, with_flag, with_timeout, with_size, with_elements, change, with_steps, flush, declared, finished}
 
 -- what starts one more
 abbrev pub any_word : Lexeme → Bool
@@ -32,6 +39,12 @@ any_word t = is_word t.kind
 abbrev pub starts_element : List Step × Bool → Lexeme → Bool
 starts_element (before, true) t = any_word t
 starts_element (before, false) t = is_the_mark 44 t
+
+abbrev pub starts_option : Options → Lexeme → Bool
+starts_option o t = breaks_off t || any_word t
+
+abbrev pub starts_flag : Declaration → Lexeme → Bool
+starts_flag b t = is_the_mark 44 t
 
 abbrev pub starts_kind : List Kind → Lexeme → Bool
 starts_kind ks t = any_word t
@@ -78,33 +91,63 @@ unfoldable pub all_parts : Bool → List Kind → Reading (ℕ × List Interval)
 all_parts wide [] = nowhere
 all_parts wide (kind ∷ kinds) = some_parts wide kind kinds
 
-unfoldable pub element_where : Bool → ℕ → SetDecl → List Step → Reading (List Step)
-element_where false set s before = nowhere
-element_where true set s before = do
-  p ← all_parts false s.kinds
+abbrev pub time : Reading ℕ
+time = word_by (reasons.Time ∷ []) (λ t. time_of t.bytes)
+
+abbrev pub life_word : Reading ℕ
+life_word = word_by (reasons.Time ∷ []) (λ t. life_of t.bytes)
+
+unfoldable pub option_behind : Options → OptionWord → Reading Options
+option_behind o options.Timeout = do
   breaks
-  done (before ++ addition set p.0 p.1 ∷ [])
+  t ← life_word
+  done (record o { timeout = Some t })
+option_behind o options.Expires = do
+  breaks
+  t ← time
+  done (record o { expires = Some t })
+option_behind o options.Comment = do
+  breaks
+  c ← text
+  done (record o { comment = Some c })
 
-abbrev pub element : ℕ → SetDecl → List Step → Reading (List Step)
-element set s before = element_where (nat_lt (length before) most_changes) set s before
+abbrev pub option_word : Bool → Options → Reading OptionWord
+option_word timed o = word_by [] (λ t. option_of timed o t.bytes)
 
-unfoldable pub list_item : ℕ → SetDecl → List Step × Bool → Reading (List Step × Bool)
-list_item set s (before, true) = do
-  behind ← element set s before
+unfoldable pub option : Bool → Options → Reading Options
+option timed o = do
+  w ← option_word timed o
+  option_behind o w
+
+unfoldable pub option_or_break : Bool → Options → Reading Options
+option_or_break timed o = either_read breaks_off (passed breaks_off >> done o) (option timed o)
+
+abbrev pub all_options : Bool → Reading Options
+all_options timed = many starts_option (option_or_break timed) no_options
+
+unfoldable pub element : Target → SetDecl → List Step → Reading (List Step)
+element target s before = do
+  p ← all_parts s.interval s.kinds
+  o ← all_options s.timed
+  done (before ++ change target s p.0 p.1 o ∷ [])
+
+unfoldable pub list_item : Target → SetDecl → List Step × Bool → Reading (List Step × Bool)
+list_item target s (before, true) = do
+  behind ← element target s before
   done (behind, false)
-list_item set s (before, false) = do
+list_item target s (before, false) = do
   mark 44
   breaks
   done (before, true)
 
-abbrev pub list_items : ℕ → SetDecl → List Step × Bool → Reading (List Step × Bool)
-list_items set s = many starts_element (list_item set s)
+abbrev pub list_items : Target → SetDecl → List Step × Bool → Reading (List Step × Bool)
+list_items target s = many starts_element (list_item target s)
 
-unfoldable pub list : ℕ → SetDecl → List Step → Reading (List Step)
-list set s before = do
+unfoldable pub list : Target → SetDecl → List Step → Reading (List Step)
+list target s before = do
   mark 123
   breaks
-  r ← list_items set s (before, true)
+  r ← list_items target s (before, true)
   mark 125
   done r.0
 
@@ -126,16 +169,42 @@ type_item = do
   k ← kind_word []
   kinds_behind (k ∷ [])
 
+abbrev pub flag_word : Declaration → Reading Flag
+flag_word b = word_by [] (λ t. flag_of b t.bytes)
+
+unfoldable pub flag : Declaration → Reading Declaration
+flag b = do
+  f ← flag_word b
+  done (with_flag b f)
+
+unfoldable pub more_flags : Declaration → Reading Declaration
+more_flags b = do
+  mark 44
+  flag b
+
+abbrev pub flags_behind : Declaration → Reading Declaration
+flags_behind = many starts_flag more_flags
+
+abbrev pub size_word : Reading ℕ
+size_word = word_by (reasons.Number ∷ []) (λ t. size_of t.bytes)
+
 abbrev pub elements_item : Declaration × List Step → Reading (Declaration × List Step)
 elements_item (b, steps) = do
   mark 61
-  behind ← list b.set b.decl steps
+  behind ← list b.target b.decl steps
   done (with_elements b, behind)
 
 unfoldable pub item_behind : Declaration × List Step → ItemWord → Reading (Declaration × List Step)
 item_behind (b, steps) items.Flags = do
-  word (codes "interval")
-  done (with_interval b, steps)
+  b1 ← flag b
+  b2 ← flags_behind b1
+  done (b2, steps)
+item_behind (b, steps) items.Timeout = do
+  t ← time
+  done (with_timeout b t, steps)
+item_behind (b, steps) items.Size = do
+  n ← size_word
+  done (with_size b n, steps)
 item_behind (b, steps) items.Elements = elements_item (b, steps)
 
 abbrev pub item_word : Declaration → Reading ItemWord
@@ -179,24 +248,38 @@ block_lines p = many (line_starts separates any_word) (block_line p)
 abbrev pub all_blocks : Family × List ℕ → Draft → Reading Draft
 all_blocks p d = lines separates any_word (set_block p) (d, true)
 
-unfoldable pub changes_of : Draft → ℕ → Option SetDecl → Reading Draft
-changes_of d i None = nowhere
-changes_of d i (Some s) = do
-  behind ← list i s d.steps
-  done (with_steps d behind)
+unfoldable pub list_of : Target → Option SetDecl → List Step → Reading (List Step)
+list_of target None before = nowhere
+list_of target (Some s) before = list target s before
 
-abbrev pub changes_at : Draft → ℕ → Reading Draft
-changes_at d i = changes_of d i (slice_get d.schema i)
+abbrev pub list_at : Target → List SetDecl → List Step → Reading (List Step)
+list_at target schema before = list_of target (slice_get schema target.set) before
+
+unfoldable pub changes : Draft → Verb → Reading Draft
+changes d verb = do
+  p ← table_place
+  i ← used_set d.schema p
+  behind ← list_at (record { set = i; verb = verb; now = d.moment }) d.schema d.steps
+  done (with_steps d behind)
 
 unfoldable pub add_behind : Draft → AddWord → Reading Draft
 add_behind d adds.Set = do
   p ← table_place
   n ← new_set d
   set_body d p n
-add_behind d adds.Element = do
+add_behind d adds.Element = changes d verbs.Add
+
+unfoldable pub delete_behind : Draft → Reading Draft
+delete_behind d = do
+  word (codes "element")
+  changes d verbs.Delete
+
+unfoldable pub flush_behind : ℕ → Draft → Reading Draft
+flush_behind line d = do
+  word (codes "set")
   p ← table_place
   i ← used_set d.schema p
-  changes_at d i
+  done (flush d line i)
 
 unfoldable pub table_block : Draft → Reading Draft
 table_block d = do
@@ -209,19 +292,27 @@ table_block d = do
 abbrev pub add_word : Reading AddWord
 add_word = word_by [] (λ t. add_of t.bytes)
 
-unfoldable pub statement_behind : Draft → FirstWord → Reading Draft
-statement_behind d firsts.Add = do
+abbrev pub moment_word : ℕ → Reading ℕ
+moment_word before = word_by (reasons.Moment ∷ []) (λ t. moment_of before t.bytes)
+
+unfoldable pub statement_behind : ℕ → Draft → FirstWord → Reading Draft
+statement_behind line d firsts.Add = do
   w ← add_word
   add_behind d w
-statement_behind d firsts.Table = table_block d
+statement_behind line d firsts.Table = table_block d
+statement_behind line d firsts.Delete = delete_behind d
+statement_behind line d firsts.Flush = flush_behind line d
+statement_behind line d firsts.At = do
+  n ← moment_word d.moment
+  done (record d { moment = n })
 
-abbrev pub first_word : Reading FirstWord
-first_word = word_by [] (λ t. first_of t.bytes)
+abbrev pub first_word : Reading (ℕ × FirstWord)
+first_word = lined_word_by [] first_of
 
 unfoldable pub statement : Draft → Reading Draft
 statement d = do
   w ← first_word
-  statement_behind d w
+  statement_behind w.0 d w.1
 
 abbrev pub statement_line : Draft × Bool → Reading (Draft × Bool)
 statement_line = line separates statement

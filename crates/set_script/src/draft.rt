@@ -2,7 +2,7 @@ ghost use Rattle.std.specs.Prelude.{◌≡◌, length, IfOk};
 ghost use Rattle.set_script.specs.Changes.{empty, declaration, finished};
 
 use crate::declared::Declared;
-use set_model::{Family, Kinds, Listed, Memory, Name, Script, SetDecl, Step, Steps};
+use set_model::{Comment, Family, Kinds, Listed, Memory, Name, Script, SetDecl, Step, Steps, Verb};
 use std::alloc::Global;
 
 /// What has been read of a script.
@@ -12,16 +12,38 @@ pub struct Draft {
     pub schema: Declared,
     /// The steps of the open transaction.
     pub steps: Steps,
+    /// The moment at this place, in milliseconds.
+    pub moment: u64,
+}
+
+/// Which changes the elements of a list make.
+#[derive(Clone, Copy)]
+pub struct Target {
+    /// The place of their set among the declared sets.
+    pub set: u32,
+    pub verb: Verb,
+    /// Their moment, in milliseconds.
+    pub now: u64,
 }
 
 /// A set that is being declared, and which of its items have been read.
 #[derive(Drop)]
 pub struct Declaration {
-    /// Its place behind the sets that are declared.
-    pub set: u32,
+    /// What its item `elements` adds to.
+    pub target: Target,
     pub decl: SetDecl,
     pub flags: bool,
+    /// Whether the flag `timeout` is written, which the item `timeout` also sets.
+    pub timeout_flag: bool,
     pub elements: bool,
+}
+
+/// The options of an element that have been read; times are milliseconds.
+#[derive(Drop)]
+pub struct Options {
+    pub timeout: Option<u64>,
+    pub expires: Option<u64>,
+    pub comment: Option<Comment>,
 }
 
 impl Draft {
@@ -31,6 +53,7 @@ impl Draft {
         Draft {
             schema: Declared::new(alloc),
             steps: Listed::new(alloc),
+            moment: 0,
         }
     }
 
@@ -38,16 +61,20 @@ impl Draft {
     pub fn finish(self, alloc: Global) -> Result<Script, Memory>
         ensures { IfOk result (λ s. s ≡ finished self) }
     {
-        let Draft { schema, mut steps } = self;
+        let Draft {
+            schema,
+            mut steps,
+            moment,
+        } = self;
         if steps.len() > 0 {
-            steps.push(Step::Commit { now: 0 })?;
+            steps.push(Step::Commit { now: moment })?;
         }
         let mut sections = Listed::new(alloc);
         sections.push(steps)?;
         Ok(Script {
             schema: schema.into_schema(),
             sections,
-            last: 0,
+            last: moment,
         })
     }
 }
@@ -70,7 +97,11 @@ pub fn begin_declaration(
     ensures { IfOk result (λ b. b ≡ declaration d.now family table.now name.now kinds) }
 {
     Ok(Declaration {
-        set: d.schema.len(),
+        target: Target {
+            set: d.schema.len(),
+            verb: Verb::Add,
+            now: d.moment,
+        },
         decl: SetDecl {
             family,
             table: owned(alloc, table)?,
@@ -83,6 +114,7 @@ pub fn begin_declaration(
             size: None,
         },
         flags: false,
+        timeout_flag: false,
         elements: false,
     })
 }

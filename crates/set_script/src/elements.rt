@@ -1,167 +1,243 @@
-ghost use Rattle.std.specs.Prelude.{◌≡◌, ◌<◌, List, length, nat_lt, true, OnOk};
+ghost use Rattle.std.specs.Prelude.{◌≡◌, ◌+◌, ◌<◌, List, length, true, OnOk, IfOk};
 ghost use Rattle.set_model.specs.declared.script.Step.{Step};
 ghost use Rattle.token_forms.specs.Gives.{Gives};
 ghost use Rattle.token_forms.specs.View.{lexeme_of};
 ghost use Rattle.set_script.specs.ScriptReading as reading;
-ghost use Rattle.set_script.specs.ScriptReading.{starts_element};
-ghost use Rattle.set_script.specs.Values.{part_of};
-ghost use Rattle.set_script.specs.Changes.{addition};
+ghost use Rattle.set_script.specs.ScriptReading.{starts_element, starts_option};
+ghost use Rattle.set_script.specs.Changes.{no_options, life_expiry, life, expiry, comment_of, adds, change};
+ghost use Rattle.set_script.specs.declared.draft.Options.{Options as Chosen};
 
-use addr_text::read_interval;
-use set_model::{Comment, Interval, Kind, Parts, SetDecl, Step, Steps, Verb};
+use crate::draft::{Options, Target};
+use crate::parts::all_parts;
+use crate::values;
+use crate::words::{OptionWord, option_word_of};
+use set_model::{Comment, Memory, Parts, SetDecl, Step, Steps, Verb};
 use std::alloc::Global;
-use token_forms::{ReadError, Reader, Reason, Seen, short};
+use token_forms::{ReadError, Reader, Seen, short};
 
-const MOST_CHANGES: u64 = 4096;
-
-/// The interval of a text, which has one value unless it may be wide.
-fn read_part(wide: bool, kind: Kind, text: &[u8]) -> Option<Interval>
-    ensures { result ≡ part_of wide kind text.now }
-{
-    match read_interval(kind, text) {
-        Ok(part) if wide || part.high == part.low => Some(part),
-        _ => None,
-    }
-}
-
-/// The first interval of an element, and its line.
 #[tactic(auto, unfolding(token_forms::specs::Gives::Refuses))]
-fn first_part(reader: &mut Reader, wide: bool, kind: Kind) -> Result<(u64, Interval), ReadError>
-    ensures { Gives (λ x. (x.0, x.1)) result reader.new (reading.first_part wide kind reader.old) }
+fn option_word(reader: &mut Reader, timed: bool, o: &Options) -> Result<OptionWord, ReadError>
+    ensures { Gives (λ x. x) result reader.new (reading.option_word timed o.now reader.old) }
 {
     match reader.take() {
-        Some(t) if t.is_word() => match read_part(wide, kind, t.bytes) {
-            Some(part) => Ok((t.line, part)),
-            None => Err(t.refused(&[Reason::Value])),
+        Some(t) if t.is_word() => match option_word_of(timed, o, t.bytes) {
+            Some(word) => Ok(word),
+            None => Err(t.refused(&[])),
         },
-        Some(t) => Err(t.refused(&[Reason::Value])),
+        Some(t) => Err(t.refused(&[])),
         None => Err(short()),
     }
 }
 
-#[tactic(auto, unfolding(token_forms::specs::Gives::Refuses))]
-fn part(reader: &mut Reader, wide: bool, kind: Kind) -> Result<Interval, ReadError>
-    ensures { Gives (λ x. x) result reader.new (reading.part wide kind reader.old) }
+fn comment_from(alloc: Global, text: &[u8]) -> Result<Comment, Memory>
+    ensures { IfOk result (λ comment. comment ≡ text.now) }
 {
-    match reader.take() {
-        Some(t) if t.is_word() => match read_part(wide, kind, t.bytes) {
-            Some(part) => Ok(part),
-            None => Err(t.refused(&[Reason::Value])),
-        },
-        Some(t) => Err(t.refused(&[Reason::Value])),
-        None => Err(short()),
-    }
+    Ok(Comment::from_vec(alloc, Vec::from_slice(alloc, text)?))
 }
 
-/// `.` and the next interval, for each of these kinds.
-#[tactic(auto, using(token_forms::proofs::Refusals::refusals), unfolding(crate::specs::ScriptReading::more_parts))]
-fn more_parts(
+#[tactic(auto, using(token_forms::proofs::Refusals::refusals), unfolding(crate::specs::ScriptReading::option_behind))]
+fn option_behind(
     reader: &mut Reader,
-    wide: bool,
-    kinds: &[Kind],
-    parts: &mut Parts,
+    alloc: Global,
+    word: OptionWord,
+    o: &mut Options,
 ) -> Result<(), ReadError>
-    ensures { Gives (λ _. parts.new) result reader.new (reading.more_parts wide kinds.now parts.old reader.old) }
+    ensures { Gives (λ _. o.new) result reader.new (reading.option_behind o.old word reader.old) }
 {
-    match kinds {
-        [] => Ok(()),
-        [kind, others @ ..] => {
+    match word {
+        OptionWord::Timeout => {
             reader.breaks();
-            reader.word(b".")?;
+            let life = values::life(reader)?;
+            o.timeout = Some(life);
+            Ok(())
+        }
+        OptionWord::Expires => {
             reader.breaks();
-            let next = part(reader, wide, *kind)?;
-            parts.push(next)?;
-            more_parts(reader, wide, others, parts)
+            let time = values::time(reader)?;
+            o.expires = Some(time);
+            Ok(())
+        }
+        OptionWord::Comment => {
+            reader.breaks();
+            let text = reader.text()?;
+            o.comment = Some(comment_from(alloc, text)?);
+            Ok(())
         }
     }
 }
 
-#[tactic(auto, using(token_forms::proofs::Refusals::refusals))]
-fn some_parts(
-    reader: &mut Reader,
-    alloc: Global,
-    wide: bool,
-    kind: Kind,
-    others: &[Kind],
-) -> Result<(u64, Parts), ReadError>
-    ensures { Gives (λ x. (x.0, x.1)) result reader.new (reading.some_parts wide kind others.now reader.old) }
+#[tactic(auto, using(token_forms::proofs::Refusals::refusals), unfolding(crate::specs::ScriptReading::option))]
+fn option(reader: &mut Reader, alloc: Global, timed: bool, o: &mut Options) -> Result<(), ReadError>
+    ensures { Gives (λ _. o.new) result reader.new (reading.option timed o.old reader.old) }
 {
-    let (line, first) = first_part(reader, wide, kind)?;
-    let mut parts = Parts::new(alloc);
-    parts.push(first)?;
-    more_parts(reader, wide, others, &mut parts)?;
-    Ok((line, parts))
+    let word = option_word(reader, timed, o)?;
+    option_behind(reader, alloc, word, o)
 }
 
-/// One interval for each kind, and the line of the first.
-#[tactic(auto, using(token_forms::proofs::Refusals::refusals), unfolding(crate::specs::ScriptReading::all_parts, token_forms::specs::Gives::Refuses))]
-fn all_parts(
+/// An option, or a break.
+#[tactic(auto, using(token_forms::proofs::Refusals::refusals), unfolding(crate::specs::ScriptReading::option_or_break))]
+fn option_or_break(
     reader: &mut Reader,
     alloc: Global,
-    wide: bool,
-    kinds: &[Kind],
-) -> Result<(u64, Parts), ReadError>
-    ensures { Gives (λ x. (x.0, x.1)) result reader.new (reading.all_parts wide kinds.now reader.old) }
-{
-    match kinds {
-        [] => match reader.take() {
-            Some(t) => Err(t.refused(&[])),
-            None => Err(short()),
-        },
-        [kind, others @ ..] => some_parts(reader, alloc, wide, *kind, others),
-    }
-}
-
-fn addition(alloc: Global, set: u32, line: u64, parts: Parts) -> Step
-    ensures { result ≡ addition set line parts }
-{
-    Step::Change {
-        line,
-        set,
-        verb: Verb::Add,
-        parts,
-        expiry: None,
-        comment: Comment::new(alloc),
-        now: 0,
-    }
-}
-
-#[tactic(auto, using(token_forms::proofs::Refusals::refusals), unfolding(crate::specs::ScriptReading::element_where, token_forms::specs::Gives::Refuses))]
-fn element_where(
-    reader: &mut Reader,
-    alloc: Global,
-    room: bool,
-    set: u32,
-    decl: &SetDecl,
-    steps: &mut Steps,
+    timed: bool,
+    o: &mut Options,
 ) -> Result<(), ReadError>
-    ensures { Gives (λ _. steps.new) result reader.new (reading.element_where room set decl.now steps.old reader.old) }
+    ensures { Gives (λ _. o.new) result reader.new (reading.option_or_break timed o.old reader.old) }
 {
-    if !room {
-        return match reader.take() {
-            Some(t) => Err(t.refused(&[])),
-            None => Err(short()),
-        };
+    match reader.peek() {
+        Some(t) if t.is_break() => {
+            reader.take();
+            Ok(())
+        }
+        _ => option(reader, alloc, timed, o),
     }
-    let (line, parts) = all_parts(reader, alloc, false, decl.kinds.as_slice())?;
-    reader.breaks();
-    steps.push(addition(alloc, set, line, parts))?;
-    Ok(())
 }
 
-/// One more added element, where there is room for one.
-#[tactic(auto, using(token_forms::proofs::Refusals::refusals))]
+fn next_option(
+    reader: &mut Reader,
+    alloc: Global,
+    timed: bool,
+    o: &mut Options,
+) -> Result<(), ReadError>
+    ensures gives { Gives (λ _. o.new) result reader.new (reading.option_or_break timed o.old reader.old) }
+    ensures shorter { OnOk result (length reader.new < length reader.old) }
+{
+    option_or_break(reader, alloc, timed, o)
+}
+
+fn starts_an_option(t: &Seen) -> bool
+    ensures { (o : Chosen) → result ≡ starts_option o (lexeme_of t.now) }
+{
+    t.is_break() || t.is_word()
+}
+
+/// The options behind an element's intervals.
+fn all_options(reader: &mut Reader, alloc: Global, timed: bool) -> Result<Options, ReadError>
+    ensures { Gives (λ o. o) result reader.new (reading.all_options timed reader.old) }
+{
+    let mut o = Options {
+        timeout: None,
+        expires: None,
+        comment: None,
+    };
+    'options: while let Some(t) = reader.peek() {
+        let starts = starts_an_option(&t);
+        if !starts {
+            return Ok(o);
+        }
+        match next_option(reader, alloc, timed, &mut o) {
+            Ok(()) => {}
+            Err(e) => return Err(e),
+        }
+    }
+    Ok(o)
+}
+
+/// The moment a time after another. Moments and times of texts are so small that there is one.
+fn later(now: u64, time: u64) -> Result<u64, Memory>
+    ensures { IfOk result (λ moment. moment ≡ now + time) }
+{
+    match now.checked_add(time) {
+        Some(moment) => Ok(moment),
+        None => Err(Memory),
+    }
+}
+
+fn expiry_by_life(now: u64, life: Option<u64>) -> Result<Option<u64>, Memory>
+    ensures { IfOk result (λ e. e ≡ life_expiry now life) }
+{
+    match life {
+        Some(time) if 0 < time => Ok(Some(later(now, time)?)),
+        _ => Ok(None),
+    }
+}
+
+fn life_of(default: Option<u64>, own: Option<u64>) -> Option<u64>
+    ensures { result ≡ life default own }
+{
+    match own {
+        Some(time) => Some(time),
+        None => default,
+    }
+}
+
+/// The expiry of an added element, by its options and its set's timeout.
+fn expiry_of(now: u64, default: Option<u64>, o: &Options) -> Result<Option<u64>, Memory>
+    ensures { IfOk result (λ e. e ≡ expiry now default o.now) }
+{
+    match o.expires {
+        Some(time) => Ok(Some(later(now, time)?)),
+        None => expiry_by_life(now, life_of(default, o.timeout)),
+    }
+}
+
+fn is_addition(verb: Verb) -> bool
+    ensures { result ≡ adds verb }
+{
+    match verb {
+        Verb::Add | Verb::Create => true,
+        Verb::Delete | Verb::Destroy => false,
+    }
+}
+
+fn own_comment(alloc: Global, comment: Option<Comment>) -> Comment
+    ensures { result ≡ comment_of comment }
+{
+    match comment {
+        Some(comment) => comment,
+        None => Comment::new(alloc),
+    }
+}
+
+/// The change of an element.
+fn change_of(
+    alloc: Global,
+    target: Target,
+    decl: &SetDecl,
+    line: u64,
+    parts: Parts,
+    o: Options,
+) -> Result<Step, Memory>
+    ensures { IfOk result (λ step. step ≡ change target decl.now line parts o) }
+{
+    let adds = is_addition(target.verb);
+    let expiry = if adds {
+        expiry_of(target.now, decl.timeout, &o)?
+    } else {
+        None
+    };
+    let comment = if adds {
+        own_comment(alloc, o.comment)
+    } else {
+        Comment::new(alloc)
+    };
+    Ok(Step::Change {
+        line,
+        set: target.set,
+        verb: target.verb,
+        parts,
+        expiry,
+        comment,
+        now: target.now,
+    })
+}
+
+/// One element more.
+#[tactic(auto, using(token_forms::proofs::Refusals::refusals), unfolding(crate::specs::ScriptReading::element))]
 fn element(
     reader: &mut Reader,
     alloc: Global,
-    set: u32,
+    target: Target,
     decl: &SetDecl,
     steps: &mut Steps,
 ) -> Result<(), ReadError>
-    ensures { Gives (λ _. steps.new) result reader.new (reading.element set decl.now steps.old reader.old) }
+    ensures { Gives (λ _. steps.new) result reader.new (reading.element target decl.now steps.old reader.old) }
 {
-    let room = steps.len() < MOST_CHANGES;
-    element_where(reader, alloc, room, set, decl, steps)
+    let (line, parts) = all_parts(reader, alloc, decl.interval, decl.kinds.as_slice())?;
+    let o = all_options(reader, alloc, decl.timed)?;
+    let step = change_of(alloc, target, decl, line, parts, o)?;
+    steps.push(step)?;
+    Ok(())
 }
 
 /// An element, where one may come next, or a `,`.
@@ -169,15 +245,15 @@ fn element(
 fn list_item(
     reader: &mut Reader,
     alloc: Global,
-    set: u32,
+    target: Target,
     decl: &SetDecl,
     steps: &mut Steps,
     next: bool,
 ) -> Result<bool, ReadError>
-    ensures { Gives (λ x. (steps.new, x)) result reader.new (reading.list_item set decl.now (steps.old, next) reader.old) }
+    ensures { Gives (λ x. (steps.new, x)) result reader.new (reading.list_item target decl.now (steps.old, next) reader.old) }
 {
     if next {
-        element(reader, alloc, set, decl, steps)?;
+        element(reader, alloc, target, decl, steps)?;
         Ok(false)
     } else {
         reader.mark(b',')?;
@@ -189,15 +265,15 @@ fn list_item(
 fn next_list_item(
     reader: &mut Reader,
     alloc: Global,
-    set: u32,
+    target: Target,
     decl: &SetDecl,
     steps: &mut Steps,
     next: bool,
 ) -> Result<bool, ReadError>
-    ensures gives { Gives (λ x. (steps.new, x)) result reader.new (reading.list_item set decl.now (steps.old, next) reader.old) }
+    ensures gives { Gives (λ x. (steps.new, x)) result reader.new (reading.list_item target decl.now (steps.old, next) reader.old) }
     ensures shorter { OnOk result (length reader.new < length reader.old) }
 {
-    list_item(reader, alloc, set, decl, steps, next)
+    list_item(reader, alloc, target, decl, steps, next)
 }
 
 fn starts_a_list_item(t: &Seen, next: bool) -> bool
@@ -209,11 +285,11 @@ fn starts_a_list_item(t: &Seen, next: bool) -> bool
 fn list_items(
     reader: &mut Reader,
     alloc: Global,
-    set: u32,
+    target: Target,
     decl: &SetDecl,
     steps: &mut Steps,
 ) -> Result<bool, ReadError>
-    ensures { Gives (λ x. (steps.new, x)) result reader.new (reading.list_items set decl.now (steps.old, true) reader.old) }
+    ensures { Gives (λ x. (steps.new, x)) result reader.new (reading.list_items target decl.now (steps.old, true) reader.old) }
 {
     let mut next = true;
     'items: while let Some(t) = reader.peek() {
@@ -221,7 +297,7 @@ fn list_items(
         if !starts {
             return Ok(next);
         }
-        match next_list_item(reader, alloc, set, decl, steps, next) {
+        match next_list_item(reader, alloc, target, decl, steps, next) {
             Ok(then) => next = then,
             Err(e) => return Err(e),
         }
@@ -229,20 +305,20 @@ fn list_items(
     Ok(next)
 }
 
-/// The elements of a list in braces, each one step, for the set that is declared so.
+/// The elements of a list in braces, each one step, of the set that is declared so.
 #[tactic(auto, using(token_forms::proofs::Refusals::refusals), unfolding(crate::specs::ScriptReading::list))]
 pub fn list(
     reader: &mut Reader,
     alloc: Global,
-    set: u32,
+    target: Target,
     decl: &SetDecl,
     steps: &mut Steps,
 ) -> Result<(), ReadError>
-    ensures { Gives (λ _. steps.new) result reader.new (reading.list set decl.now steps.old reader.old) }
+    ensures { Gives (λ _. steps.new) result reader.new (reading.list target decl.now steps.old reader.old) }
 {
     reader.mark(b'{')?;
     reader.breaks();
-    list_items(reader, alloc, set, decl, steps)?;
+    list_items(reader, alloc, target, decl, steps)?;
     reader.mark(b'}')?;
     Ok(())
 }

@@ -1,16 +1,20 @@
-//! The reader of scripts: the statements of nft(8) that declare a set and add elements to it.
+//! The reader of scripts: the statements of nft(8) that declare a set and change its elements.
 #![tactic(auto)]
 
 mod declared;
 mod draft;
 mod elements;
+mod parts;
 mod place;
 mod script;
 mod sets;
 #[cfg(test)]
 mod tests;
+mod values;
 mod words;
 
-pub use place::{table_place, used_set};
+pub use place::{place_of_set, used_set};
 pub use script::{ScriptError, one_script_law, read_script};
 pub use token_forms::{Reason, Token, TokenKind, Tokens};
+pub use values::read_moment;
+pub use words::read_family;

@@ -28,7 +28,8 @@ fn is_the_set(family: Family, table: &[u8], name: &[u8], decl: &SetDecl) -> bool
         && decl.name.as_slice() == name
 }
 
-fn place_of_set(schema: &[SetDecl], family: Family, table: &[u8], name: &[u8]) -> Option<usize>
+/// The place of a set among the declared sets.
+pub fn place_of_set(schema: &[SetDecl], family: Family, table: &[u8], name: &[u8]) -> Option<usize>
     ensures place { result ≡ set_place schema.now family table.now name.now }
     ensures within { IfSome result (λ i. i < length schema.now) }
 {

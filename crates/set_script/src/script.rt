@@ -10,14 +10,15 @@ ghost use Rattle.set_script.specs.ScriptReading as reading;
 ghost use Rattle.set_script.specs.Script.{script};
 ghost use Rattle.set_script.specs.ScriptText.{IsScriptText};
 ghost use Rattle.set_script.specs.Runnable.{IsRunnable};
-ghost use Rattle.set_script.specs.Plain.{IsPlainScript};
+ghost use Rattle.set_script.specs.OneTransaction.{IsOneTransaction};
 
-use crate::draft::Draft;
+use crate::draft::{Draft, Target};
 use crate::elements::list;
 use crate::place::{table_place, used_set};
 use crate::sets::{new_set, set_body, starts_a_line, table_block};
+use crate::values;
 use crate::words::{AddWord, FirstWord, add_word_of, first_word_of};
-use set_model::Script;
+use set_model::{Script, SetDecl, Step, Steps, Verb};
 use std::alloc::Global;
 use token_forms::{ReadError, Reader, short};
 
@@ -38,23 +39,40 @@ fn add_word(reader: &mut Reader) -> Result<AddWord, ReadError>
     }
 }
 
-/// The elements that are added to the declared set at a place.
-#[tactic(auto, using(token_forms::proofs::Refusals::refusals), unfolding(crate::specs::ScriptReading::changes_of, token_forms::specs::Gives::Refuses))]
-fn changes_at(
+/// The steps of a list, of the declared set at its place.
+#[tactic(auto, unfolding(crate::specs::ScriptReading::list_of, token_forms::specs::Gives::Refuses))]
+fn list_at(
     reader: &mut Reader,
     alloc: Global,
-    d: &mut Draft,
-    set: u32,
+    target: Target,
+    schema: &[SetDecl],
+    steps: &mut Steps,
 ) -> Result<(), ReadError>
-    ensures { Gives (λ _. d.new) result reader.new (reading.changes_at d.old set reader.old) }
+    ensures { Gives (λ _. steps.new) result reader.new (reading.list_at target schema.now steps.old reader.old) }
 {
-    match d.schema.as_slice().get(set as usize) {
+    match schema.get(target.set as usize) {
         None => match reader.take() {
             Some(t) => Err(t.refused(&[])),
             None => Err(short()),
         },
-        Some(decl) => list(reader, alloc, set, decl, &mut d.steps),
+        Some(decl) => list(reader, alloc, target, decl, steps),
     }
+}
+
+/// The changes of a list, of the declared set that is named before it.
+#[tactic(auto, using(token_forms::proofs::Refusals::refusals), unfolding(crate::specs::ScriptReading::changes))]
+fn changes(reader: &mut Reader, alloc: Global, d: &mut Draft, verb: Verb) -> Result<(), ReadError>
+    ensures { Gives (λ _. d.new) result reader.new (reading.changes d.old verb reader.old) }
+{
+    let (family, table) = table_place(reader)?;
+    let place = used_set(reader, d.schema.as_slice(), family, table)?;
+    let target = Target {
+        set: place as u32,
+        verb,
+        now: d.moment,
+    };
+    list_at(reader, alloc, target, d.schema.as_slice(), &mut d.steps)?;
+    Ok(())
 }
 
 /// What stands behind the word `add` and what it adds.
@@ -67,17 +85,38 @@ fn add_behind(
 ) -> Result<(), ReadError>
     ensures { Gives (λ _. d.new) result reader.new (reading.add_behind d.old word reader.old) }
 {
-    let (family, table) = table_place(reader)?;
     match word {
         AddWord::Set => {
+            let (family, table) = table_place(reader)?;
             let name = new_set(reader, d)?;
             set_body(reader, alloc, d, family, table, name)
         }
-        AddWord::Element => {
-            let place = used_set(reader, d.schema.as_slice(), family, table)?;
-            changes_at(reader, alloc, d, place as u32)
-        }
+        AddWord::Element => changes(reader, alloc, d, Verb::Add),
     }
+}
+
+#[tactic(auto, using(token_forms::proofs::Refusals::refusals), unfolding(crate::specs::ScriptReading::delete_behind))]
+fn delete_behind(reader: &mut Reader, alloc: Global, d: &mut Draft) -> Result<(), ReadError>
+    ensures { Gives (λ _. d.new) result reader.new (reading.delete_behind d.old reader.old) }
+{
+    reader.word(b"element")?;
+    changes(reader, alloc, d, Verb::Delete)
+}
+
+/// A flush, whose first word stands in this line.
+#[tactic(auto, using(token_forms::proofs::Refusals::refusals), unfolding(crate::specs::ScriptReading::flush_behind))]
+fn flush_behind(reader: &mut Reader, d: &mut Draft, line: u64) -> Result<(), ReadError>
+    ensures { Gives (λ _. d.new) result reader.new (reading.flush_behind line d.old reader.old) }
+{
+    reader.word(b"set")?;
+    let (family, table) = table_place(reader)?;
+    let place = used_set(reader, d.schema.as_slice(), family, table)?;
+    d.steps.push(Step::Flush {
+        line,
+        set: place as u32,
+        now: d.moment,
+    })?;
+    Ok(())
 }
 
 #[tactic(auto, using(token_forms::proofs::Refusals::refusals), unfolding(crate::specs::ScriptReading::statement_behind))]
@@ -85,9 +124,10 @@ fn statement_behind(
     reader: &mut Reader,
     alloc: Global,
     d: &mut Draft,
+    line: u64,
     word: FirstWord,
 ) -> Result<(), ReadError>
-    ensures { Gives (λ _. d.new) result reader.new (reading.statement_behind d.old word reader.old) }
+    ensures { Gives (λ _. d.new) result reader.new (reading.statement_behind line d.old word reader.old) }
 {
     match word {
         FirstWord::Add => {
@@ -95,16 +135,23 @@ fn statement_behind(
             add_behind(reader, alloc, d, word)
         }
         FirstWord::Table => table_block(reader, alloc, d),
+        FirstWord::Delete => delete_behind(reader, alloc, d),
+        FirstWord::Flush => flush_behind(reader, d, line),
+        FirstWord::At => {
+            d.moment = values::moment(reader, d.moment)?;
+            Ok(())
+        }
     }
 }
 
+/// The first word of a statement, and its line.
 #[tactic(auto, unfolding(token_forms::specs::Gives::Refuses))]
-fn first_word(reader: &mut Reader) -> Result<FirstWord, ReadError>
-    ensures { Gives (λ x. x) result reader.new (reading.first_word reader.old) }
+fn first_word(reader: &mut Reader) -> Result<(u64, FirstWord), ReadError>
+    ensures { Gives (λ x. (x.0, x.1)) result reader.new (reading.first_word reader.old) }
 {
     match reader.take() {
         Some(t) if t.is_word() => match first_word_of(t.bytes) {
-            Some(word) => Ok(word),
+            Some(word) => Ok((t.line, word)),
             None => Err(t.refused(&[])),
         },
         Some(t) => Err(t.refused(&[])),
@@ -116,8 +163,8 @@ fn first_word(reader: &mut Reader) -> Result<FirstWord, ReadError>
 fn statement(reader: &mut Reader, alloc: Global, d: &mut Draft) -> Result<(), ReadError>
     ensures { Gives (λ _. d.new) result reader.new (reading.statement d.old reader.old) }
 {
-    let word = first_word(reader)?;
-    statement_behind(reader, alloc, d, word)
+    let (line, word) = first_word(reader)?;
+    statement_behind(reader, alloc, d, line, word)
 }
 
 /// A separator, or a statement where one may come next.
@@ -209,8 +256,8 @@ pub fn read_script(alloc: Global, text: &[u8]) -> Result<Script, ScriptError>
     ensures bad { (line : ℕ) (reason : Reason) → result ≡ Err (Bad line reason) → (line ≡ 0) × (reason ≡ LeftOut) × ((s : Script) → IsScriptText text.now s → ⊥) }
     // Each set has 1 to 16 fields, and each step is of a declared set, whose kinds its intervals fit.
     ensures runnable { IfOk result IsRunnable }
-    // At most one set without size, and at most 4,096 additions of single values to it.
-    ensures plain { IfOk result IsPlainScript }
+    // At most one set, and one transaction of additions, deletions and flushes.
+    ensures one_transaction { IfOk result IsOneTransaction }
 {
     match read_placed(alloc, text) {
         Ok(s) => Ok(s),

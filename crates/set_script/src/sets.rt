@@ -6,7 +6,8 @@ ghost use Rattle.token_forms.specs.View.{lexeme_of};
 ghost use Rattle.token_forms.specs.Words.{separates};
 ghost use Rattle.token_forms.specs.WordReading.{line_starts};
 ghost use Rattle.set_script.specs.ScriptReading as reading;
-ghost use Rattle.set_script.specs.ScriptReading.{starts_kind, any_word};
+ghost use Rattle.set_script.specs.ScriptReading.{starts_kind, starts_flag, any_word};
+ghost use Rattle.set_script.specs.Changes.{with_flag};
 ghost use Rattle.set_script.specs.Limits.{most_sets};
 ghost use Rattle.set_script.specs.declared.draft.Draft.{Draft as Drafted};
 ghost use Rattle.set_script.specs.declared.draft.Declaration.{Declaration as Declaring};
@@ -14,7 +15,8 @@ ghost use Rattle.set_script.specs.declared.draft.Declaration.{Declaration as Dec
 use crate::draft::{Declaration, Draft, begin_declaration};
 use crate::elements::list;
 use crate::place::table_place;
-use crate::words::{ItemWord, item_word_of, read_kind_behind};
+use crate::values;
+use crate::words::{Flag, ItemWord, flag_of_word, item_word_of, read_kind_behind};
 use set_model::{Family, Kind, Kinds, Listed, Steps};
 use std::alloc::Global;
 use token_forms::{ReadError, Reader, Reason, Seen, is_a_name, short};
@@ -112,6 +114,79 @@ fn item_word(reader: &mut Reader, b: &Declaration) -> Result<ItemWord, ReadError
     }
 }
 
+#[tactic(auto, unfolding(token_forms::specs::Gives::Refuses))]
+fn flag_word(reader: &mut Reader, b: &Declaration) -> Result<Flag, ReadError>
+    ensures { Gives (λ x. x) result reader.new (reading.flag_word b.now reader.old) }
+{
+    match reader.take() {
+        Some(t) if t.is_word() => match flag_of_word(b, t.bytes) {
+            Some(flag) => Ok(flag),
+            None => Err(t.refused(&[])),
+        },
+        Some(t) => Err(t.refused(&[])),
+        None => Err(short()),
+    }
+}
+
+fn set_flag(b: &mut Declaration, flag: Flag)
+    ensures { b.new ≡ with_flag b.old flag }
+{
+    match flag {
+        Flag::Interval => b.decl.interval = true,
+        Flag::Timeout => {
+            b.decl.timed = true;
+            b.timeout_flag = true;
+        }
+    }
+    b.flags = true;
+}
+
+#[tactic(auto, using(token_forms::proofs::Refusals::refusals), unfolding(crate::specs::ScriptReading::flag))]
+fn flag(reader: &mut Reader, b: &mut Declaration) -> Result<(), ReadError>
+    ensures { Gives (λ _. b.new) result reader.new (reading.flag b.old reader.old) }
+{
+    let word = flag_word(reader, b)?;
+    set_flag(b, word);
+    Ok(())
+}
+
+#[tactic(auto, using(token_forms::proofs::Refusals::refusals), unfolding(crate::specs::ScriptReading::more_flags))]
+fn more_flags(reader: &mut Reader, b: &mut Declaration) -> Result<(), ReadError>
+    ensures { Gives (λ _. b.new) result reader.new (reading.more_flags b.old reader.old) }
+{
+    reader.mark(b',')?;
+    flag(reader, b)
+}
+
+fn next_flag(reader: &mut Reader, b: &mut Declaration) -> Result<(), ReadError>
+    ensures gives { Gives (λ _. b.new) result reader.new (reading.more_flags b.old reader.old) }
+    ensures shorter { OnOk result (length reader.new < length reader.old) }
+{
+    more_flags(reader, b)
+}
+
+fn starts_a_flag(t: &Seen) -> bool
+    ensures { (b : Declaring) → result ≡ starts_flag b (lexeme_of t.now) }
+{
+    t.is_mark(b',')
+}
+
+fn flags_behind(reader: &mut Reader, b: &mut Declaration) -> Result<(), ReadError>
+    ensures { Gives (λ _. b.new) result reader.new (reading.flags_behind b.old reader.old) }
+{
+    'flags: while let Some(t) = reader.peek() {
+        let starts = starts_a_flag(&t);
+        if !starts {
+            return Ok(());
+        }
+        match next_flag(reader, b) {
+            Ok(()) => {}
+            Err(e) => return Err(e),
+        }
+    }
+    Ok(())
+}
+
 /// The elements of a set that is being declared.
 #[tactic(auto, using(token_forms::proofs::Refusals::refusals))]
 fn elements_item(
@@ -123,7 +198,7 @@ fn elements_item(
     ensures { Gives (λ _. (b.new, steps.new)) result reader.new (reading.elements_item (b.old, steps.old) reader.old) }
 {
     reader.mark(b'=')?;
-    list(reader, alloc, b.set, &b.decl, steps)?;
+    list(reader, alloc, b.target, &b.decl, steps)?;
     b.elements = true;
     Ok(())
 }
@@ -140,9 +215,19 @@ fn item_behind(
 {
     match word {
         ItemWord::Flags => {
-            reader.word(b"interval")?;
-            b.decl.interval = true;
-            b.flags = true;
+            flag(reader, b)?;
+            flags_behind(reader, b)?;
+            Ok(())
+        }
+        ItemWord::Timeout => {
+            let time = values::time(reader)?;
+            b.decl.timed = true;
+            b.decl.timeout = Some(time);
+            Ok(())
+        }
+        ItemWord::Size => {
+            let size = values::size(reader)?;
+            b.decl.size = Some(size);
             Ok(())
         }
         ItemWord::Elements => elements_item(reader, alloc, b, steps),

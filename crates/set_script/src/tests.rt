@@ -89,7 +89,10 @@ fn scripts_without_changes(rt: HostRuntime) -> Result<(), Fail> {
         (b"add set filter s { type inet_service }", 1),
         (b"add set netdev ip s { type mark; elements = { }; }", 1),
         (b"table bridge t { }", 0),
-        (b"table ip ip { ;; set s { type ether_addr; elements = {\n} } }", 1),
+        (
+            b"table ip ip { ;; set s { type ether_addr; elements = {\n} } }",
+            1,
+        ),
     ] {
         let script = read_script(alloc, text)?;
         assert_eq!(rt; sizes(&script), (sets, 1, 0), "in {text:?}");
@@ -183,9 +186,18 @@ fn lists_and_intervals_of_one_value(rt: HostRuntime) -> Result<(), Fail> {
         )?;
         let script = read_script(alloc, text.as_slice())?;
         assert_eq!(rt; sizes(&script), (1, 1, 4));
-        assert_eq!(rt; change_at(&script, 0), Some((3, [one(167772165)].as_slice())));
-        assert_eq!(rt; change_at(&script, 1), Some((5, [one(167772166)].as_slice())));
-        assert_eq!(rt; change_at(&script, 2), Some((5, [one(167772167)].as_slice())));
+        assert_eq!(rt;
+            change_at(&script, 0),
+            Some((3, [one(167772165)].as_slice()))
+        );
+        assert_eq!(rt;
+            change_at(&script, 1),
+            Some((5, [one(167772166)].as_slice()))
+        );
+        assert_eq!(rt;
+            change_at(&script, 2),
+            Some((5, [one(167772167)].as_slice()))
+        );
     }
     Ok(())
 }
@@ -233,12 +245,22 @@ fn sets_outside_the_grammar(rt: HostRuntime) -> Result<(), Fail> {
         b"add set ip filter s { flags interval; type ipv4_addr }",
         b"add set ip filter s { type ipv4_addr; flags interval; flags interval }",
         b"add set ip filter s { type ipv4_addr; flags interval, }",
-        b"add set ip filter s { type ipv4_addr; flags timeout }",
+        b"add set ip filter s { type ipv4_addr; flags timeout, timeout }",
+        b"add set ip filter s { type ipv4_addr; flags interval timeout }",
+        b"add set ip filter s { type ipv4_addr; timeout 5s; timeout 5s }",
+        b"add set ip filter s { type ipv4_addr; timeout never }",
         b"add set ip filter s { type ipv4_addr; elements = { }; flags interval }",
         b"add set ip filter s { type ipv4_addr; elements = { }; elements = { } }",
         b"add set ip filter s { type ipv4_addr; elements { } }",
         b"add set ip filter s { type ipv4_addr; elements =\n{ } }",
-        b"add set ip filter s { type ipv4_addr; size 5 }",
+        b"add set ip filter s { type ipv4_addr; size 0 }",
+        b"add set ip filter s { type ipv4_addr; size 05 }",
+        b"add set ip filter s { type ipv4_addr; size 4294967296 }",
+        b"add set ip filter s { type ipv4_addr; size 5; size 5 }",
+        b"add set ip filter s { type ipv4_addr; flags disjoint }",
+        b"add set ip filter s { type ipv4_addr; gc-interval 5s }",
+        b"add set ip filter s { type ipv4_addr; policy memory }",
+        b"add set ip filter s { type ipv4_addr; comment \"all\" }",
         b"add set ip 5 s { type ipv4_addr }",
         b"add set ip s { type ipv4_addr }",
         b"add set ip filter s { type ipv4_addr",
@@ -273,17 +295,30 @@ fn changes_outside_the_grammar(rt: HostRuntime) -> Result<(), Fail> {
         b"add element ip filter s { 10.0.0 . 1024 }",
         b"add element ip filter s { 10.0.0.05 . 1024 }",
         b"add element ip filter s { 10.0.0.5 . 65536 }",
-        b"add element ip filter s { 10.0.0.5-10.0.0.6 . 1024 }",
-        b"add element ip filter s { 10.0.0.4/31 . 1024 }",
+        b"add element ip filter s { 10.0.0.6-10.0.0.5 . 1024 }",
+        b"add element ip filter s { 10.0.0.4/33 . 1024 }",
         b"add element ip filter s { 10.0.0.5 . 1024 ; }",
         b"add element ip filter s { 10.0.0.5 . 1024 timeout 5s }",
         b"add element ip filter s { 10.0.0.5 . 1024",
         b"add element ip filter s { 10.0.0.5 . 1024 } add",
         b"add\nelement ip filter s { 10.0.0.5 . 1024 }",
         b"add element ip filter s { 10.0.0.5 . 1024 } *",
-        b"delete element ip filter s { 10.0.0.5 . 1024 }",
-        b"at 5",
+        b"add element ip filter s { 10.0.0.5 . 1024 expires 5s }",
+        b"add element ip filter s { 10.0.0.5 . 1024 comment \"a\" comment \"b\" }",
+        b"add element ip filter s { 10.0.0.5 . 1024 comment a }",
+        b"at 5; at 4",
+        b"at 05",
+        b"at 1000000000000001",
+        b"at",
+        b"flush ip filter s",
+        b"flush ruleset",
+        b"flush set ip filter t",
+        b"delete set ip filter s",
+        b"create element ip filter s { 10.0.0.5 . 1024 }",
+        b"destroy element ip filter s { 10.0.0.5 . 1024 }",
         b"commit",
+        b"abort",
+        b"round",
     ] {
         let text = joined(alloc, H, behind)?;
         assert!(rt; is_refused(alloc, text.as_slice()), "{behind:?}");
@@ -292,20 +327,123 @@ fn changes_outside_the_grammar(rt: HostRuntime) -> Result<(), Fail> {
 }
 
 #[test]
-fn elements_are_counted(rt: HostRuntime) -> Result<(), Fail> {
+fn single_values_without_the_flag(rt: HostRuntime) -> Result<(), Fail> {
+    let alloc = rt.alloc();
+    for element in [b"10.0.0.4-10.0.0.5".as_slice(), b"10.0.0.4/31".as_slice()] {
+        let mut text = Vec::from_slice(alloc, b"add set t s { type ipv4_addr; flags timeout }; ")?;
+        text.extend_from_slice(b"add element t s { ")?;
+        text.extend_from_slice(element)?;
+        text.extend_from_slice(b" }")?;
+        assert!(rt; is_refused(alloc, text.as_slice()), "{element:?}");
+    }
+    Ok(())
+}
+
+/// The expiry and the comment of the change at a place of section 0, its verb and its moment.
+fn change_made(script: &Script, place: usize) -> Option<(Option<u64>, &[u8], Verb, u64)> {
+    match script.sections.as_slice().first()?.as_slice().get(place)? {
+        Step::Change {
+            expiry,
+            comment,
+            verb,
+            now,
+            ..
+        } => Some((*expiry, comment.as_slice(), *verb, *now)),
+        _ => None,
+    }
+}
+
+#[test]
+fn expiries_of_elements(rt: HostRuntime) -> Result<(), Fail> {
+    let alloc = rt.alloc();
+    let text = joined(
+        alloc,
+        b"add set t s { type inet_service; flags timeout,interval; timeout 10s; size 9 }\nat 1000\n",
+        b"add element t s { 80, 81 timeout 30s, 82 timeout 30s\ncomment \"web\" expires 5s,\n83 timeout never, 84 timeout 0s, 85 expires 0s }\ndelete element t s { 80 timeout 5s comment \"none\" }",
+    )?;
+    let script = read_script(alloc, text.as_slice())?;
+    assert_eq!(rt; sizes(&script), (1, 1, 8));
+    let none = b"".as_slice();
+    for (place, expiry, comment, verb) in [
+        (0, Some(11_000), none, Verb::Add),
+        (1, Some(31_000), none, Verb::Add),
+        (2, Some(6_000), b"web".as_slice(), Verb::Add),
+        (3, None, none, Verb::Add),
+        (4, None, none, Verb::Add),
+        (5, Some(1_000), none, Verb::Add),
+        (6, None, none, Verb::Delete),
+    ] {
+        assert_eq!(rt;
+            change_made(&script, place),
+            Some((expiry, comment, verb, 1_000)),
+            "{place}"
+        );
+    }
+    assert_eq!(rt; script.last, 1_000);
+    Ok(())
+}
+
+#[test]
+fn ranges_sizes_and_flags(rt: HostRuntime) -> Result<(), Fail> {
+    let alloc = rt.alloc();
+    let script = read_script(
+        alloc,
+        b"table t {\nset s {\ntype ipv4_addr . inet_service\nsize 65535\nflags interval\ntimeout 1m\n}\n}\nadd element t s { 10.0.0.0/8 . 80-443 }\n",
+    )?;
+    let parts = [
+        Interval {
+            low: 0x0a00_0000,
+            high: 0x0aff_ffff,
+        },
+        Interval { low: 80, high: 443 },
+    ];
+    assert_eq!(rt; change_at(&script, 0), Some((9, parts.as_slice())));
+    for set in script.schema.as_slice() {
+        assert!(rt; set.interval && set.timed && !set.disjoint);
+        assert_eq!(rt; set.timeout, Some(60_000));
+        assert_eq!(rt; set.size, Some(65_535));
+    }
+    Ok(())
+}
+
+#[test]
+fn flushes_and_moments(rt: HostRuntime) -> Result<(), Fail> {
+    let alloc = rt.alloc();
+    let text = joined(
+        alloc,
+        H,
+        b"at 7\n\nflush set ip filter s; at 7; at 1000000000000000",
+    )?;
+    let script = read_script(alloc, text.as_slice())?;
+    assert_eq!(rt; script.last, 1_000_000_000_000_000);
+    for section in script.sections.as_slice() {
+        match section.as_slice() {
+            [
+                Step::Flush {
+                    line: 4,
+                    set: 0,
+                    now: 7,
+                },
+                Step::Commit {
+                    now: 1_000_000_000_000_000,
+                },
+            ] => {}
+            _ => assert!(rt; false, "other steps"),
+        }
+    }
+    Ok(())
+}
+
+#[test]
+fn lists_have_any_length(rt: HostRuntime) -> Result<(), Fail> {
     let alloc = rt.alloc();
     let mut text = Vec::from_slice(alloc, b"add set t s { type inet_service; elements = { 1")?;
-    for _ in 0..2047 {
+    for _ in 0..4999 {
         text.extend_from_slice(b",1")?;
     }
     text.extend_from_slice(b" } }\n")?;
-    for _ in 0..2048 {
-        text.extend_from_slice(b"add element t s { 2 }\n")?;
-    }
     let script = read_script(alloc, text.as_slice())?;
-    assert_eq!(rt; sizes(&script), (1, 1, 4097));
-    text.extend_from_slice(b"add element t s { 3 }")?;
-    assert!(rt; is_refused(alloc, text.as_slice()));
+    assert_eq!(rt; sizes(&script), (1, 1, 5001));
     Ok(())
 }
 

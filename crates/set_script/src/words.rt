@@ -1,7 +1,7 @@
 ghost use Rattle.std.specs.Prelude.{◌≡◌, ◌<◌, ◌≤◌, ◌*◌, length, sum_by};
-ghost use Rattle.set_script.specs.Names.{first_of, add_of, family_of, kind_of, key_bytes, has_room, kind_behind, item_of};
+ghost use Rattle.set_script.specs.Names.{first_of, add_of, family_of, kind_of, key_bytes, has_room, kind_behind, item_of, flag_of, option_of};
 
-use crate::draft::Declaration;
+use crate::draft::{Declaration, Options};
 use set_model::{Family, Kind};
 
 /// The first word of a statement.
@@ -9,6 +9,9 @@ use set_model::{Family, Kind};
 pub enum FirstWord {
     Add,
     Table,
+    Delete,
+    Flush,
+    At,
 }
 
 /// What a statement adds.
@@ -22,7 +25,24 @@ pub enum AddWord {
 #[derive(Clone, Copy, Debug, PartialEq, Eq)]
 pub enum ItemWord {
     Flags,
+    Timeout,
+    Size,
     Elements,
+}
+
+/// A flag of a set.
+#[derive(Clone, Copy, Debug, PartialEq, Eq)]
+pub enum Flag {
+    Interval,
+    Timeout,
+}
+
+/// The first word of an option of an element.
+#[derive(Clone, Copy, Debug, PartialEq, Eq)]
+pub enum OptionWord {
+    Timeout,
+    Expires,
+    Comment,
 }
 
 pub fn first_word_of(text: &[u8]) -> Option<FirstWord>
@@ -32,6 +52,12 @@ pub fn first_word_of(text: &[u8]) -> Option<FirstWord>
         Some(FirstWord::Add)
     } else if text == b"table".as_slice() {
         Some(FirstWord::Table)
+    } else if text == b"delete".as_slice() {
+        Some(FirstWord::Delete)
+    } else if text == b"flush".as_slice() {
+        Some(FirstWord::Flush)
+    } else if text == b"at".as_slice() {
+        Some(FirstWord::At)
     } else {
         None
     }
@@ -49,6 +75,7 @@ pub fn add_word_of(text: &[u8]) -> Option<AddWord>
     }
 }
 
+/// The family that a word names.
 pub fn read_family(text: &[u8]) -> Option<Family>
     ensures { result ≡ family_of text.now }
 {
@@ -139,8 +166,38 @@ pub fn item_word_of(b: &Declaration, text: &[u8]) -> Option<ItemWord>
         None
     } else if text == b"flags".as_slice() && !b.flags {
         Some(ItemWord::Flags)
+    } else if text == b"timeout".as_slice() && b.decl.timeout.is_none() {
+        Some(ItemWord::Timeout)
+    } else if text == b"size".as_slice() && b.decl.size.is_none() {
+        Some(ItemWord::Size)
     } else if text == b"elements".as_slice() {
         Some(ItemWord::Elements)
+    } else {
+        None
+    }
+}
+
+pub fn flag_of_word(b: &Declaration, text: &[u8]) -> Option<Flag>
+    ensures { result ≡ flag_of b.now text.now }
+{
+    if text == b"interval".as_slice() && !b.decl.interval {
+        Some(Flag::Interval)
+    } else if text == b"timeout".as_slice() && !b.timeout_flag {
+        Some(Flag::Timeout)
+    } else {
+        None
+    }
+}
+
+pub fn option_word_of(timed: bool, o: &Options, text: &[u8]) -> Option<OptionWord>
+    ensures { result ≡ option_of timed o.now text.now }
+{
+    if text == b"timeout".as_slice() && timed && o.timeout.is_none() {
+        Some(OptionWord::Timeout)
+    } else if text == b"expires".as_slice() && timed && o.expires.is_none() {
+        Some(OptionWord::Expires)
+    } else if text == b"comment".as_slice() && o.comment.is_none() {
+        Some(OptionWord::Comment)
     } else {
         None
     }

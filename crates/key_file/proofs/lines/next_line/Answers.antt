@@ -1,0 +1,5 @@
+use Rattle.key_file.proofs.KeysLaws.{line_shorter}
+use Rattle.key_file.proofs.lines.next_line.Goals as goal
+
+pub returns-clause-shorter : goal.returns-clause-shorter
+returns-clause-shorter c = line_shorter _ _ _ _ _ _ c.line_or_break.ensures

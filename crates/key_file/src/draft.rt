@@ -1,0 +1,29 @@
+use set_model::{Family, Packets};
+
+/// What has been read of a key file.
+#[derive(Drop)]
+pub struct KeyDraft {
+    pub packets: Packets,
+    /// The moment of the lines that follow, in milliseconds.
+    pub moment: u64,
+}
+
+/// The first word of a line.
+#[derive(Clone, Copy, Debug, PartialEq, Eq)]
+pub enum KeyWord {
+    /// A family.
+    Family(Family),
+    /// The word `at`, which is also the name of a table.
+    At,
+    /// The name of a table of the family `ip`.
+    Table,
+}
+
+/// What stands behind the word `at`.
+#[derive(Clone, Copy, Debug, PartialEq, Eq)]
+pub enum AtWord {
+    /// A moment.
+    Moment(u64),
+    /// A set of the table `at`, by its place among the declared sets.
+    Set(usize),
+}

@@ -1,0 +1,184 @@
+ghost use Rattle.std.specs.Prelude.{◌≡◌, ◌<◌, length, OnOk};
+ghost use Rattle.token_forms.specs.Gives.{Gives};
+ghost use Rattle.token_forms.specs.View.{lexeme_of};
+ghost use Rattle.token_forms.specs.Words.{breaks_off};
+ghost use Rattle.token_forms.specs.WordReading.{line_starts};
+ghost use Rattle.set_script.specs.ScriptReading.{any_word};
+ghost use Rattle.key_file.specs.KeysReading as reading;
+ghost use Rattle.key_file.specs.KeyNames.{key_word_of, at_of};
+ghost use Rattle.key_file.specs.declared.draft.KeyDraft.{KeyDraft as Drafted};
+
+use crate::draft::{AtWord, KeyDraft, KeyWord};
+use crate::packets::{packet, packet_at};
+use set_model::{Family, Listed, SetDecl};
+use set_script::{place_of_set, read_family, read_moment};
+use std::alloc::Global;
+use token_forms::{ReadError, Reader, Reason, Seen, short};
+
+fn read_key_word(text: &[u8]) -> KeyWord
+    ensures { result ≡ key_word_of text.now }
+{
+    match read_family(text) {
+        Some(family) => KeyWord::Family(family),
+        None => {
+            if text == b"at".as_slice() {
+                KeyWord::At
+            } else {
+                KeyWord::Table
+            }
+        }
+    }
+}
+
+fn read_at_word(schema: &[SetDecl], text: &[u8]) -> Option<AtWord>
+    ensures { result ≡ at_of schema.now text.now }
+{
+    match read_moment(0, text) {
+        Some(moment) => Some(AtWord::Moment(moment)),
+        None => match place_of_set(schema, Family::Ip, b"at", text) {
+            Some(place) => Some(AtWord::Set(place)),
+            None => None,
+        },
+    }
+}
+
+/// A moment, or the name of a set of the table `at`.
+#[tactic(auto, unfolding(token_forms::specs::Gives::Refuses))]
+fn at_word(reader: &mut Reader, schema: &[SetDecl]) -> Result<AtWord, ReadError>
+    ensures { Gives (λ x. x) result reader.new (reading.at_word schema.now reader.old) }
+{
+    match reader.take() {
+        Some(t) if t.is_word() => match read_at_word(schema, t.bytes) {
+            Some(word) => Ok(word),
+            None => Err(t.refused(&[Reason::Moment, Reason::Set])),
+        },
+        Some(t) => Err(t.refused(&[Reason::Moment, Reason::Set])),
+        None => Err(short()),
+    }
+}
+
+#[tactic(auto, using(token_forms::proofs::Refusals::refusals), unfolding(crate::specs::KeysReading::at_behind))]
+fn at_behind(
+    reader: &mut Reader,
+    alloc: Global,
+    schema: &[SetDecl],
+    d: &mut KeyDraft,
+    word: AtWord,
+) -> Result<(), ReadError>
+    ensures { Gives (λ _. d.new) result reader.new (reading.at_behind schema.now d.old word reader.old) }
+{
+    match word {
+        AtWord::Moment(moment) => {
+            d.moment = moment;
+            Ok(())
+        }
+        AtWord::Set(place) => packet_at(reader, alloc, schema, d, place),
+    }
+}
+
+/// What stands behind the first word of a line.
+#[tactic(auto, using(token_forms::proofs::Refusals::refusals), unfolding(crate::specs::KeysReading::line_behind))]
+fn line_behind(
+    reader: &mut Reader,
+    alloc: Global,
+    schema: &[SetDecl],
+    d: &mut KeyDraft,
+    first: &[u8],
+    word: KeyWord,
+) -> Result<(), ReadError>
+    ensures { Gives (λ _. d.new) result reader.new (reading.line_behind schema.now d.old first.now word reader.old) }
+{
+    match word {
+        KeyWord::Family(family) => {
+            let table = reader.name()?;
+            packet(reader, alloc, schema, d, family, table)
+        }
+        KeyWord::At => {
+            let word = at_word(reader, schema)?;
+            at_behind(reader, alloc, schema, d, word)
+        }
+        KeyWord::Table => packet(reader, alloc, schema, d, Family::Ip, first),
+    }
+}
+
+#[tactic(auto, using(token_forms::proofs::Refusals::refusals), unfolding(crate::specs::KeysReading::key_line))]
+fn key_line(
+    reader: &mut Reader,
+    alloc: Global,
+    schema: &[SetDecl],
+    d: &mut KeyDraft,
+) -> Result<(), ReadError>
+    ensures { Gives (λ _. d.new) result reader.new (reading.key_line schema.now d.old reader.old) }
+{
+    let first = reader.name()?;
+    line_behind(reader, alloc, schema, d, first, read_key_word(first))
+}
+
+/// A line break, or a line where one may come next.
+#[tactic(auto, using(token_forms::proofs::Refusals::refusals))]
+fn line_or_break(
+    reader: &mut Reader,
+    alloc: Global,
+    schema: &[SetDecl],
+    d: &mut KeyDraft,
+    next: bool,
+) -> Result<bool, ReadError>
+    ensures { Gives (λ x. (d.new, x)) result reader.new (reading.line_or_break schema.now (d.old, next) reader.old) }
+{
+    if next && !reader.is_at_break() {
+        key_line(reader, alloc, schema, d)?;
+        Ok(false)
+    } else {
+        reader.line_break()?;
+        Ok(true)
+    }
+}
+
+fn next_line(
+    reader: &mut Reader,
+    alloc: Global,
+    schema: &[SetDecl],
+    d: &mut KeyDraft,
+    next: bool,
+) -> Result<bool, ReadError>
+    ensures gives { Gives (λ x. (d.new, x)) result reader.new (reading.line_or_break schema.now (d.old, next) reader.old) }
+    ensures shorter { OnOk result (length reader.new < length reader.old) }
+{
+    line_or_break(reader, alloc, schema, d, next)
+}
+
+fn starts_a_line(t: &Seen, next: bool) -> bool
+    ensures { (s : Drafted) → result ≡ line_starts breaks_off any_word (s, next) (lexeme_of t.now) }
+{
+    if next {
+        t.is_break() || t.is_word()
+    } else {
+        t.is_break()
+    }
+}
+
+/// The lines, as far as they go, and whether one more may come next.
+pub fn key_lines(
+    reader: &mut Reader,
+    alloc: Global,
+    schema: &[SetDecl],
+) -> Result<(KeyDraft, bool), ReadError>
+    ensures { Gives (λ x. (x.0, x.1)) result reader.new (reading.key_lines schema.now reader.old) }
+{
+    let mut d = KeyDraft {
+        packets: Listed::new(alloc),
+        moment: 0,
+    };
+    let mut next = true;
+    'lines: while let Some(t) = reader.peek() {
+        let starts = starts_a_line(&t, next);
+        if !starts {
+            return Ok((d, next));
+        }
+        match next_line(reader, alloc, schema, &mut d, next) {
+            Ok(then) => next = then,
+            Err(e) => return Err(e),
+        }
+    }
+    Ok((d, next))
+}

@@ -1,0 +1,20 @@
+use Rattle.std.proofs.Common.{◌≡◌, true, false}
+use Rattle.token_forms.specs.View.{lexeme_of}
+use Rattle.token_forms.proofs.LoopLaws.{left_stop, left_next, left_bad}
+use Rattle.set_script.specs.ScriptReading.{starts_option}
+use Rattle.set_script.proofs.elements.all_options.Goals as goal
+
+pub returns-then-not-starts : goal.returns-then-not-starts
+returns-then-not-starts c =
+    let no : starts_option c.options.o (lexeme_of c.in-Some.t) ≡ false = let k = c.starts_an_option-starts.ensures c.options.o in cc in
+    left_stop c.options.invariant c.in-Some.ensures.1 no
+
+pub options-preserved : goal.options-preserved
+options-preserved c =
+    let yes : starts_option c.options.o (lexeme_of c.in-Some.t) ≡ true = let k = c.starts_an_option-starts.ensures c.options.o in cc in
+    left_next c.options.invariant c.in-Some.ensures.1 yes c.in-Ok.ensures.gives c.in-Ok.ensures.shorter
+
+pub returns-in-Err : goal.returns-in-Err
+returns-in-Err c =
+    let yes : starts_option c.options.o (lexeme_of c.in-Some.t) ≡ true = let k = c.starts_an_option-starts.ensures c.options.o in cc in
+    left_bad c.in-Err.e c.options.invariant c.in-Some.ensures.1 yes c.in-Err.ensures.gives

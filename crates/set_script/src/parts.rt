@@ -1,0 +1,107 @@
+ghost use Rattle.std.specs.Prelude.{◌≡◌};
+ghost use Rattle.token_forms.specs.Gives.{Gives};
+ghost use Rattle.set_script.specs.ScriptReading as reading;
+ghost use Rattle.set_script.specs.Values.{part_of};
+
+use addr_text::read_interval;
+use set_model::{Interval, Kind, Parts};
+use std::alloc::Global;
+use token_forms::{ReadError, Reader, Reason, short};
+
+/// The interval of a text, which has one value unless it may be wide.
+fn read_part(wide: bool, kind: Kind, text: &[u8]) -> Option<Interval>
+    ensures { result ≡ part_of wide kind text.now }
+{
+    match read_interval(kind, text) {
+        Ok(part) if wide || part.high == part.low => Some(part),
+        _ => None,
+    }
+}
+
+/// The first interval of an element, and its line.
+#[tactic(auto, unfolding(token_forms::specs::Gives::Refuses))]
+fn first_part(reader: &mut Reader, wide: bool, kind: Kind) -> Result<(u64, Interval), ReadError>
+    ensures { Gives (λ x. (x.0, x.1)) result reader.new (reading.first_part wide kind reader.old) }
+{
+    match reader.take() {
+        Some(t) if t.is_word() => match read_part(wide, kind, t.bytes) {
+            Some(part) => Ok((t.line, part)),
+            None => Err(t.refused(&[Reason::Value])),
+        },
+        Some(t) => Err(t.refused(&[Reason::Value])),
+        None => Err(short()),
+    }
+}
+
+#[tactic(auto, unfolding(token_forms::specs::Gives::Refuses))]
+fn part(reader: &mut Reader, wide: bool, kind: Kind) -> Result<Interval, ReadError>
+    ensures { Gives (λ x. x) result reader.new (reading.part wide kind reader.old) }
+{
+    match reader.take() {
+        Some(t) if t.is_word() => match read_part(wide, kind, t.bytes) {
+            Some(part) => Ok(part),
+            None => Err(t.refused(&[Reason::Value])),
+        },
+        Some(t) => Err(t.refused(&[Reason::Value])),
+        None => Err(short()),
+    }
+}
+
+/// `.` and the next interval, for each of these kinds.
+#[tactic(auto, using(token_forms::proofs::Refusals::refusals), unfolding(crate::specs::ScriptReading::more_parts))]
+fn more_parts(
+    reader: &mut Reader,
+    wide: bool,
+    kinds: &[Kind],
+    parts: &mut Parts,
+) -> Result<(), ReadError>
+    ensures { Gives (λ _. parts.new) result reader.new (reading.more_parts wide kinds.now parts.old reader.old) }
+{
+    match kinds {
+        [] => Ok(()),
+        [kind, others @ ..] => {
+            reader.breaks();
+            reader.word(b".")?;
+            reader.breaks();
+            let next = part(reader, wide, *kind)?;
+            parts.push(next)?;
+            more_parts(reader, wide, others, parts)
+        }
+    }
+}
+
+#[tactic(auto, using(token_forms::proofs::Refusals::refusals))]
+fn some_parts(
+    reader: &mut Reader,
+    alloc: Global,
+    wide: bool,
+    kind: Kind,
+    others: &[Kind],
+) -> Result<(u64, Parts), ReadError>
+    ensures { Gives (λ x. (x.0, x.1)) result reader.new (reading.some_parts wide kind others.now reader.old) }
+{
+    let (line, first) = first_part(reader, wide, kind)?;
+    let mut parts = Parts::new(alloc);
+    parts.push(first)?;
+    more_parts(reader, wide, others, &mut parts)?;
+    Ok((line, parts))
+}
+
+/// One interval for each kind, and the line of the first.
+#[tactic(auto, using(token_forms::proofs::Refusals::refusals), unfolding(crate::specs::ScriptReading::all_parts, token_forms::specs::Gives::Refuses))]
+pub fn all_parts(
+    reader: &mut Reader,
+    alloc: Global,
+    wide: bool,
+    kinds: &[Kind],
+) -> Result<(u64, Parts), ReadError>
+    ensures { Gives (λ x. (x.0, x.1)) result reader.new (reading.all_parts wide kinds.now reader.old) }
+{
+    match kinds {
+        [] => match reader.take() {
+            Some(t) => Err(t.refused(&[])),
+            None => Err(short()),
+        },
+        [kind, others @ ..] => some_parts(reader, alloc, wide, *kind, others),
+    }
+}

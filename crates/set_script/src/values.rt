@@ -1,0 +1,102 @@
+ghost use Rattle.std.specs.Prelude.{◌≡◌};
+ghost use Rattle.token_forms.specs.Gives.{Gives};
+ghost use Rattle.set_script.specs.ScriptReading as reading;
+ghost use Rattle.set_script.specs.Values.{life_of, moment_of, size_of};
+
+use addr_text::{read_number, read_time};
+use token_forms::{ReadError, Reader, Reason, short};
+
+/// The last moment that a text may name, in milliseconds.
+const LAST_MOMENT: u64 = 1_000_000_000_000_000;
+
+fn read_life(text: &[u8]) -> Option<u64>
+    ensures { result ≡ life_of text.now }
+{
+    if text == b"never".as_slice() {
+        Some(0)
+    } else {
+        match read_time(text) {
+            Ok(time) => Some(time),
+            Err(_) => None,
+        }
+    }
+}
+
+/// The moment that a text names, where it isn't before another.
+pub fn read_moment(before: u64, text: &[u8]) -> Option<u64>
+    ensures { result ≡ moment_of before text.now }
+{
+    match read_number(text, LAST_MOMENT) {
+        Some(moment) if before <= moment => Some(moment),
+        _ => None,
+    }
+}
+
+fn read_size(text: &[u8]) -> Option<u32>
+    ensures { result ≡ size_of text.now }
+{
+    match read_number(text, 0xffff_ffff) {
+        Some(size) if 1 <= size => Some(size as u32),
+        _ => None,
+    }
+}
+
+/// Reads a time, in milliseconds.
+#[tactic(auto, unfolding(token_forms::specs::Gives::Refuses))]
+pub fn time(reader: &mut Reader) -> Result<u64, ReadError>
+    ensures { Gives (λ x. x) result reader.new (reading.time reader.old) }
+{
+    match reader.take() {
+        Some(t) if t.is_word() => match read_time(t.bytes) {
+            Ok(time) => Ok(time),
+            Err(_) => Err(t.refused(&[Reason::Time])),
+        },
+        Some(t) => Err(t.refused(&[Reason::Time])),
+        None => Err(short()),
+    }
+}
+
+/// Reads a time or `never`, which is the time 0.
+#[tactic(auto, unfolding(token_forms::specs::Gives::Refuses))]
+pub fn life(reader: &mut Reader) -> Result<u64, ReadError>
+    ensures { Gives (λ x. x) result reader.new (reading.life_word reader.old) }
+{
+    match reader.take() {
+        Some(t) if t.is_word() => match read_life(t.bytes) {
+            Some(time) => Ok(time),
+            None => Err(t.refused(&[Reason::Time])),
+        },
+        Some(t) => Err(t.refused(&[Reason::Time])),
+        None => Err(short()),
+    }
+}
+
+/// Reads a moment that isn't before another.
+#[tactic(auto, unfolding(token_forms::specs::Gives::Refuses))]
+pub fn moment(reader: &mut Reader, before: u64) -> Result<u64, ReadError>
+    ensures { Gives (λ x. x) result reader.new (reading.moment_word before reader.old) }
+{
+    match reader.take() {
+        Some(t) if t.is_word() => match read_moment(before, t.bytes) {
+            Some(moment) => Ok(moment),
+            None => Err(t.refused(&[Reason::Moment])),
+        },
+        Some(t) => Err(t.refused(&[Reason::Moment])),
+        None => Err(short()),
+    }
+}
+
+/// Reads how many elements a set may have.
+#[tactic(auto, unfolding(token_forms::specs::Gives::Refuses))]
+pub fn size(reader: &mut Reader) -> Result<u32, ReadError>
+    ensures { Gives (λ x. x) result reader.new (reading.size_word reader.old) }
+{
+    match reader.take() {
+        Some(t) if t.is_word() => match read_size(t.bytes) {
+            Some(size) => Ok(size),
+            None => Err(t.refused(&[Reason::Number])),
+        },
+        Some(t) => Err(t.refused(&[Reason::Number])),
+        None => Err(short()),
+    }
+}
