@@ -9,4 +9,4 @@ mod Found
 mod RunLines
 mod Steps
 mod RunTranscript
-mod PlainRun
+mod OneRun

@@ -1,6 +1,6 @@
 use Rattle.std.proofs.Common.{◌≡◌, sym, ◌∙◌, ap, subst, Err, List, ℕ, length, ◌≤◌}
 use Rattle.set_script.specs.ScriptText.{IsScriptText}
-use Rattle.pipapo_cli.proofs.PlainRun.{one-run-of}
+use Rattle.pipapo_cli.proofs.OneRun.{one-run-of}
 use Rattle.pipapo_cli.proofs.inputs.script_of.Goals as goal
 
 pub returns-in-Err-Bad-clause-cause : goal.returns-in-Err-Bad-clause-cause
@@ -14,4 +14,4 @@ returns-in-Err-Bad-clause-cause g c keys =
     )
 
 pub returns-in-Ok-read_script-clause-plain : goal.returns-in-Ok-read_script-clause-plain
-returns-in-Ok-read_script-clause-plain g c = one-run-of c.in-Ok-read_script.script c.in-Ok-read_script.ensures.plain c.in-Ok-read_script.ensures.runnable
+returns-in-Ok-read_script-clause-plain g c = one-run-of c.in-Ok-read_script.script c.in-Ok-read_script.ensures.one_transaction c.in-Ok-read_script.ensures.runnable

@@ -8,7 +8,7 @@ use Rattle.set_model.specs.Control.{Strict, start, section}
 use Rattle.key_file.specs.Fits.{IsFitting}
 use Rattle.pipapo_cli.specs.Run.{IsPacketOf, IsEnd, run_lines}
 use Rattle.pipapo_cli.specs.Transcript.{is_refusal}
-use Rattle.pipapo_cli.proofs.PlainRun.{packets-of}
+use Rattle.pipapo_cli.proofs.OneRun.{packets-of}
 use Rattle.pipapo_cli.proofs.RunTranscript.{one-decl, no-decl, first-only, told, empty-told, if-ok}
 use Rattle.pipapo_cli.proofs.run.transcript.Goals as goal
 
