@@ -1,5 +1,5 @@
 -- An element that comes to the end of a set's list, as it is.
-use Rattle.std.specs.Prelude.{List, [], ◌∷◌, ◌++◌}
+use Rattle.std.specs.Prelude.{[], ◌∷◌, ◌++◌}
 use Rattle.set_model.specs.declared.element.Element.{Element}
 use Rattle.set_model.specs.SetState.{State}
 

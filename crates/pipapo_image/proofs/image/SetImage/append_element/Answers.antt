@@ -1,6 +1,5 @@
 use Rattle.std.proofs.Common.{sym, ap, subst, List, length, get_or}
 use Rattle.lookup_table.specs.declared.table.FieldTable.{FieldTable}
-use Rattle.set_model.specs.declared.element.Element.{Element}
 use Rattle.set_model.specs.SetState.{State}
 use Rattle.set_tables.specs.declared.End.{End}
 use Rattle.set_tables.specs.Search.{of_field}

@@ -1,11 +1,10 @@
-use Rattle.std.proofs.Common.{◌≡◌, ◌<◌, sym, ◌∙◌, ap, subst, Option, None, length, get_or, slice_get, Some}
+use Rattle.std.proofs.Common.{◌≡◌, ◌<◌, sym, ◌∙◌, ap, subst, length, slice_get, Some}
 use Rattle.std.proofs.lemmas.Option.{get_or_from_slice_get}
-use Rattle.set_model.specs.declared.element.Element.{Element}
 use Rattle.set_model.specs.Expiry.{live}
-use Rattle.set_model.specs.SetState.{State, crowded_field}
+use Rattle.set_model.specs.SetState.{crowded_field}
 use Rattle.pipapo_image.specs.Append.{with_last}
 use Rattle.pipapo_image.specs.Image.{IsImage}
-use Rattle.pipapo_image.proofs.Purging.{kept, room-kept, not-expired, is-gone, one-kept, one-gone}
+use Rattle.pipapo_image.proofs.Purging.{room-kept, not-expired, is-gone, one-kept, one-gone}
 use Rattle.pipapo_image.proofs.image.SetImage.made_anew.Goals.{then-not-expired+in_ok-append_copy, else-not-expired}
 use Rattle.pipapo_image.proofs.image.SetImage.made_anew.Goals as goal
 
