@@ -11,11 +11,6 @@ use Rattle.set_space.specs.OpenSets.{open_state, open_states, IsSealed}
 use Rattle.set_space.specs.Open.{Open, with_set, IsChange}
 
 module _ {X : Type 0} where
-  pub get-within : (xs : List X) (i : ℕ) (x : X) → slice_get xs i ≡ Some x → i < length xs
-  get-within [] i x h = absurd (cc h)
-  get-within (y ∷ ys) zero x h = omega arith
-  get-within (y ∷ ys) (suc i) x h = let r = get-within ys i x h in omega (arith, r)
-
   pub set-same : (xs : List X) (i : ℕ) (x : X) → slice_get xs i ≡ Some x → slice_set xs i x ≡ xs
   set-same [] i x h = absurd (cc h)
   set-same (y ∷ ys) zero x h = let e : y ≡ x = cc h in ap (λ z. z ∷ ys) (sym e)
@@ -86,24 +81,16 @@ sealed-all states i now published total over p t =
     (p ∙ ap (map (λ s. purged s now)) whole, t ∙ ap (λ z. expired_count z now) whole)
 
 -- the places of a work
-pub set-within : (g d : Generation) (os : List OpenSet) (i : ℕ) (s : State) (w : Open) → record { base = g; sets = open_states os g.sets } ≡ w
-    → length os ≡ length g.sets → d ≡ g → slice_get w.sets i ≡ Some s → i < length d.sets
-set-within g d os i s w is long same at =
-    let inside : i < length (open_states os g.sets) = get-within (open_states os g.sets) i s (ap (λ (z : Open). slice_get z.sets i) is ∙ at) in
+pub set-within : (g d : Generation) (os : List OpenSet) (i : ℕ) (w : Open) → record { base = g; sets = open_states os g.sets } ≡ w
+    → length os ≡ length g.sets → d ≡ g → i < length w.sets → i < length d.sets
+set-within g d os i w is long same h =
+    let inside : i < length (open_states os g.sets) = subst (λ (z : Open). i < length z.sets) (sym is) h in
     let here : i < length g.sets = subst (λ n. i < n) (open-long os g.sets long) inside in
     subst (λ (z : Generation). i < length z.sets) (sym same) here
 
-pub open-within : (g : Generation) (os : List OpenSet) (i : ℕ) (s : State) (w : Open) → record { base = g; sets = open_states os g.sets } ≡ w
-    → length os ≡ length g.sets → slice_get w.sets i ≡ Some s → i < length os
-open-within g os i s w is long at = subst (λ n. i < n) (sym long) (set-within g g os i s w is long refl at)
-
--- the state of the set at a place
-pub state-at : (g : Generation) (os : List OpenSet) (i : ℕ) (o : OpenSet) (b s : State) (w : Open) → record { base = g; sets = open_states os g.sets } ≡ w
-    → i < length os → o ≡ get_or os i o → slice_get g.sets i ≡ Some b → slice_get w.sets i ≡ Some s → s ≡ open_state o b
-state-at g os i o b s w is h e base at =
-    let one : slice_get (open_states os g.sets) i ≡ Some s = ap (λ (z : Open). slice_get z.sets i) is ∙ at in
-    let two : slice_get (open_states os g.sets) i ≡ Some (open_state o b) = open-at os g.sets i o b h e base in
-    cc (one, two)
+pub open-within : (g : Generation) (os : List OpenSet) (i : ℕ) (w : Open) → record { base = g; sets = open_states os g.sets } ≡ w
+    → length os ≡ length g.sets → i < length w.sets → i < length os
+open-within g os i w is long h = subst (λ n. i < n) (sym long) (set-within g g os i w is long refl h)
 
 -- A work whose set at a place was changed.
 pub one-changed : (step : State → State → Type 0) (g : Generation) (os : List OpenSet) (i : ℕ) (o n : OpenSet) (b : State) (w : Open)
@@ -132,3 +119,13 @@ base-at g d i b same at = ap (λ (z : Generation). slice_get z.sets i) (sym same
 
 pub change-weaker : (P Q : State → State → Type 0) (old new : Open) (i : ℕ) → ((s t : State) → P s t → Q s t) → IsChange P old i new → IsChange Q old i new
 change-weaker P Q old new i more h = record { state = h.state; left = h.left; at = h.at; changed = more h.state h.left h.changed; others = h.others }
+
+-- the sets of a work are as many as those of its base
+pub work-long : (g d : Generation) (os : List OpenSet) (w : Open) → record { base = g; sets = open_states os g.sets } ≡ w → length os ≡ length g.sets → d ≡ g → length d.sets ≡ length w.sets
+work-long g d os w is long same =
+    ap (λ (z : Generation). length z.sets) same ∙ sym (open-long os g.sets long) ∙ ap (λ (z : Open). length z.sets) is
+
+-- the state at a place of a work
+pub work-at : (g : Generation) (os : List OpenSet) (i : ℕ) (o : OpenSet) (b : State) (w : Open) → record { base = g; sets = open_states os g.sets } ≡ w
+    → i < length os → o ≡ get_or os i o → slice_get g.sets i ≡ Some b → slice_get w.sets i ≡ Some (open_state o b)
+work-at g os i o b w is h e base = ap (λ (z : Open). slice_get z.sets i) (sym is) ∙ open-at os g.sets i o b h e base

@@ -26,13 +26,9 @@ pub record CanBeBuilt (d : SetDecl) : Type 0 where
   pub few : length d.kinds ≤ 16
   pub not_disjoint : d.disjoint ≡ false
 
--- A set stands at the place.
-abbrev pub IsSet : Open → ℕ → Type 0
-IsSet w set = (s : State) × (slice_get w.sets set ≡ Some s)
-
--- A set stands at the place, and the intervals fit its kinds.
-abbrev pub Fits : Open → ℕ → List Interval → Type 0
-Fits w set parts = (s : State) × (slice_get w.sets set ≡ Some s) × (parts_fit s.kinds parts ≡ true)
+-- The intervals fit the kinds of the set at a place.
+abbrev pub FitsSet : Open → ℕ → List Interval → Type 0
+FitsSet w set parts = (s : State) → slice_get w.sets set ≡ Some s → parts_fit s.kinds parts ≡ true
 
 -- The set at a place is changed, from one state to another, and nothing else is.
 pub record IsChange (step : State → State → Type 0) (old : Open) (set : ℕ) (new : Open) : Type 0 where

@@ -1,10 +1,10 @@
-ghost use Rattle.std.specs.Prelude.{◌≡◌, ◌<◌, ◌^◌, ◌++◌, length, map, take, drop, IfOk, OnErr};
+ghost use Rattle.std.specs.Prelude.{◌≡◌, ◌<◌, ◌^◌, length, map, slice_get, Some, IfOk, OnErr};
 ghost use Rattle.std.specs.Arc.{arc_value};
 ghost use Rattle.set_model.specs.SetState.{add, removed, purged, cleared};
 ghost use Rattle.set_model.specs.Control.{expired_count};
 ghost use Rattle.pipapo_image.specs.Insert.{IsAnswer};
 ghost use Rattle.pipapo_image.specs.Remove.{IsRemoval};
-ghost use Rattle.set_space.specs.Open.{opened, sealed, Fits, IsSet, IsChange};
+ghost use Rattle.set_space.specs.Open.{opened, sealed, FitsSet, IsChange};
 ghost use Rattle.set_space.specs.Answers.{IsCreation, IsDestruction, IsFlush};
 ghost use Rattle.set_space.specs.OpenSets.{open_states, IsSealed};
 
@@ -137,6 +137,22 @@ impl Work {
         &self.base
     }
 
+    /// How many sets there are.
+    pub fn len(&self) -> u64
+        ensures { result ≡ length self.now.sets }
+    {
+        self.base.len()
+    }
+
+    /// A set as it stands with the open changes.
+    pub fn set(&self, set: u32) -> &SetImage
+        requires { set < length self.now.sets }
+        ensures { slice_get self.now.sets set ≡ Some result.now }
+    {
+        let base = self.base.set(set);
+        self.sets[set as usize].image(base)
+    }
+
     /// Inserts into a set. `expiry` and `now` are in milliseconds.
     ///
     /// # Errors
@@ -150,7 +166,8 @@ impl Work {
         comment: &Comment,
         now: u64,
     ) -> Result<Added, InsertError>
-        requires { Fits self.old set parts.now }
+        requires set { set < length self.old.sets }
+        requires fits { FitsSet self.old set parts.now }
         ensures change { IsChange (λ s t. IsAnswer (add s parts.now expiry comment.now now) result s t) self.old set self.new }
         ensures refused { OnErr result (self.new ≡ self.old) }
     {
@@ -180,7 +197,8 @@ impl Work {
         comment: &Comment,
         now: u64,
     ) -> Result<u64, CreateError>
-        requires { Fits self.old set parts.now }
+        requires set { set < length self.old.sets }
+        requires fits { FitsSet self.old set parts.now }
         ensures change { IsChange (λ s t. IsCreation (add s parts.now expiry comment.now now) result s t) self.old set self.new }
         ensures refused { OnErr result (self.new ≡ self.old) }
     {
@@ -203,7 +221,7 @@ impl Work {
     /// `Missing` exactly if there is none. `Memory` if there is none left. Each leaves the work as it
     /// was.
     pub fn delete(&mut self, set: u32, parts: &Parts, now: u64) -> Result<u64, DeleteError>
-        requires { IsSet self.old set }
+        requires { set < length self.old.sets }
         ensures change { IsChange (λ s t. IsRemoval (removed s parts.now now) result s t) self.old set self.new }
         ensures refused { OnErr result (self.new ≡ self.old) }
     {
@@ -217,7 +235,7 @@ impl Work {
     ///
     /// `Memory` if there is none left. The work is as it was.
     pub fn destroy(&mut self, set: u32, parts: &Parts, now: u64) -> Result<Option<u64>, Memory>
-        requires { IsSet self.old set }
+        requires { set < length self.old.sets }
         ensures change { IsChange (λ s t. IsDestruction (removed s parts.now now) result s t) self.old set self.new }
         ensures refused { OnErr result (self.new ≡ self.old) }
     {
@@ -234,7 +252,7 @@ impl Work {
     ///
     /// `Memory` if there is none left. The work is as it was.
     pub fn flush(&mut self, set: u32) -> Result<u64, Memory>
-        requires { IsSet self.old set }
+        requires { set < length self.old.sets }
         ensures change { IsChange (λ s t. IsFlush result s t) self.old set self.new }
         ensures refused { OnErr result (self.new ≡ self.old) }
     {

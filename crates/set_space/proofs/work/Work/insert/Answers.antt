@@ -6,34 +6,34 @@ use Rattle.set_model.specs.SetState.{State, add}
 use Rattle.pipapo_image.specs.Insert.{IsAnswer}
 use Rattle.set_space.proofs.Refusals.{insertion_err}
 use Rattle.set_space.specs.OpenSets.{open_state}
-use Rattle.set_space.proofs.SetsLaws.{set-within, open-within, base-at, state-at, one-changed, none-changed}
+use Rattle.set_space.proofs.SetsLaws.{set-within, open-within, base-at, work-at, one-changed, none-changed}
 use Rattle.set_space.proofs.work.Work.insert.Goals as goal
 
 pub set-base-requires : goal.set-base-requires
-set-base-requires c = set-within (arc_value c.self.inside.base) c.deref.result.now c.self.inside.sets.items c.args.set c.requires.0 c.args.self.now c.self.view_is c.self.invariant c.deref.ensures c.requires.1
+set-base-requires c = set-within (arc_value c.self.inside.base) c.deref.result.now c.self.inside.sets.items c.args.set c.args.self.now c.self.view_is c.self.invariant c.deref.ensures c.requires.set
 
 pub index_mut-requires : goal.index_mut-requires
 index_mut-requires c =
-    let h = open-within (arc_value c.self.inside.base) c.self.inside.sets.items c.args.set c.requires.0 c.args.self.now c.self.view_is c.self.invariant c.requires.1 in
+    let h = open-within (arc_value c.self.inside.base) c.self.inside.sets.items c.args.set c.args.self.now c.self.view_is c.self.invariant c.requires.set in
     omega (arith, h, c.self.inside.sets.ok)
 
 pub insert-requires : goal.insert-requires
 insert-requires c =
-    let within = open-within (arc_value c.self.inside.base) c.self.inside.sets.items c.args.set c.requires.0 c.args.self.now c.self.view_is c.self.invariant c.requires.1 in
+    let within = open-within (arc_value c.self.inside.base) c.self.inside.sets.items c.args.set c.args.self.now c.self.view_is c.self.invariant c.requires.set in
     let base = base-at (arc_value c.self.inside.base) c.deref.result.now c.args.set c.set-base.result.now c.deref.ensures c.set-base.ensures in
-    let state = state-at (arc_value c.self.inside.base) c.self.inside.sets.items c.args.set c.index_mut.result.now c.set-base.result.now c.requires.0 c.args.self.now c.self.view_is within c.index_mut.ensures.value base c.requires.1 in
-    subst (λ (z : State). parts_fit z.kinds c.args.parts.now ≡ true) state c.requires.2
+    c.requires.fits (open_state c.index_mut.result.now c.set-base.result.now)
+      (work-at (arc_value c.self.inside.base) c.self.inside.sets.items c.args.set c.index_mut.result.now c.set-base.result.now c.args.self.now c.self.view_is within c.index_mut.ensures.value base)
 
 pub returns-clause-change : goal.returns-clause-change
 returns-clause-change c =
-    let within = open-within (arc_value c.self.inside.base) c.self.inside.sets.items c.args.set c.requires.0 c.args.self.now c.self.view_is c.self.invariant c.requires.1 in
+    let within = open-within (arc_value c.self.inside.base) c.self.inside.sets.items c.args.set c.args.self.now c.self.view_is c.self.invariant c.requires.set in
     let base = base-at (arc_value c.self.inside.base) c.deref.result.now c.args.set c.set-base.result.now c.deref.ensures c.set-base.ensures in
     one-changed (λ s t. IsAnswer (add s c.args.parts.now c.args.expiry c.args.comment.now c.args.now) c.insert.result s t) (arc_value c.self.inside.base) c.self.inside.sets.items c.args.set c.index_mut.result.now c.insert.new.self c.set-base.result.now c.args.self.now
     c.self.view_is within c.index_mut.ensures.value base c.insert.ensures
 
 pub returns-clause-refused : goal.returns-clause-refused
 returns-clause-refused c =
-    let within = open-within (arc_value c.self.inside.base) c.self.inside.sets.items c.args.set c.requires.0 c.args.self.now c.self.view_is c.self.invariant c.requires.1 in
+    let within = open-within (arc_value c.self.inside.base) c.self.inside.sets.items c.args.set c.args.self.now c.self.view_is c.self.invariant c.requires.set in
     let base = base-at (arc_value c.self.inside.base) c.deref.result.now c.args.set c.set-base.result.now c.deref.ensures c.set-base.ensures in
     on_err_weaker c.insert.result
     (λ same. none-changed (arc_value c.self.inside.base) c.self.inside.sets.items c.args.set c.index_mut.result.now c.insert.new.self c.set-base.result.now c.args.self.now
