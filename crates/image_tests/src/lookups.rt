@@ -21,7 +21,7 @@ const SHAPES: [Shape; 8] = [
 ];
 
 /// Intervals of each kind, of the first `shapes` shapes.
-fn intervals(
+pub(crate) fn intervals(
     alloc: Global,
     random: &mut Random,
     kinds: &[Kind],
@@ -37,7 +37,7 @@ fn intervals(
 }
 
 /// A key, mostly of values near some element's intervals.
-fn key_near(
+pub(crate) fn key_near(
     alloc: Global,
     random: &mut Random,
     kinds: &[Kind],
@@ -60,7 +60,7 @@ fn key_near(
 }
 
 /// An expiry that is none, or one of the moments up to 2,000 behind `now`.
-fn expiry_behind(random: &mut Random, now: u64) -> Option<u64> {
+pub(crate) fn expiry_behind(random: &mut Random, now: u64) -> Option<u64> {
     match random.below(3) {
         0 => None,
         _ => Some(now.saturating_add(1 + random.below(2_000))),

@@ -3,6 +3,7 @@ ghost use Rattle.std.specs.Prelude.{◌<◌};
 use set_model::{Interval, Kind};
 
 /// Numbers that look random and are the same in each run: a xorshift of 64 bits.
+#[derive(Drop)]
 pub(crate) struct Random {
     state: u64,
 }
