@@ -2,3 +2,4 @@ pub mod BitLaws
 pub mod FillLaws
 pub mod LedLaws
 pub mod MatchLaws
+pub mod SieveLaws

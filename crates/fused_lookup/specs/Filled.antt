@@ -1,5 +1,5 @@
 -- The next field's row while a field's rules are gone through.
-use Rattle.std.specs.Prelude.{◌≡◌, ℕ, ◌+◌, ◌*◌, ◌≤◌, Bool, false, List, length, take}
+use Rattle.std.specs.Prelude.{◌≡◌, ℕ, ◌+◌, ◌*◌, ◌≤◌, Bool, true, false, List, length, take, replicate}
 use Rattle.std.specs.List.{zip, list_any}
 use Rattle.bit_rows.specs.Row.{at}
 use Rattle.set_model.specs.declared.block.Block.{Block}
@@ -33,3 +33,8 @@ Refills t spans test row next = (blocks : List Block) → Stands t blocks → ne
 abbrev pub RefillsWord : FieldTable → List Span → (Block → Bool) → ℕ → ℕ → List Bool → List Bool → Type 0
 RefillsWord t spans test i left old new = (blocks : List Block) (row : List Bool) → Stands t blocks → t.rules ≤ length row → IsLeft t.rules row i left
     → IsFilled spans (matched test blocks row) (64 * i) old → IsFilled spans (matched test blocks row) (64 * (i + 1)) new
+
+-- The words from `from` up to `to` are matched, of all rules, and what is left of them goes into the next row.
+abbrev pub RefillsWords : FieldTable → List Span → (Block → Bool) → ℕ → ℕ → List Bool → List Bool → Type 0
+RefillsWords t spans test from to old new = (blocks : List Block) → Stands t blocks
+    → IsFilled spans (matched test blocks (replicate t.rules true)) (64 * from) old → IsFilled spans (matched test blocks (replicate t.rules true)) (64 * to) new

@@ -1,5 +1,5 @@
 -- The first live end while the last field's rules are gone through.
-use Rattle.std.specs.Prelude.{◌≡◌, ℕ, ◌+◌, ◌*◌, ◌<◌, ◌≤◌, Bool, false, List, length, get_or, Option, Some, None}
+use Rattle.std.specs.Prelude.{◌≡◌, ℕ, ◌+◌, ◌*◌, ◌<◌, ◌≤◌, Bool, true, false, List, length, get_or, replicate, Option, Some, None}
 use Rattle.std.specs.List.{zip}
 use Rattle.set_model.specs.declared.block.Block.{Block}
 use Rattle.set_tables.specs.declared.End.{End}
@@ -29,3 +29,8 @@ Leads t ends test row now found = (blocks : List Block) → Stands t blocks → 
 abbrev pub LeadsOn : FieldTable → List End → (Block → Bool) → ℕ → ℕ → ℕ → Option ℕ → Option ℕ → Type 0
 LeadsOn t ends test i left now before after = (blocks : List Block) (row : List Bool) → Stands t blocks → t.rules ≤ length row → IsLeft t.rules row i left
     → IsLed ends (matched test blocks row) now (64 * i) before → IsLed ends (matched test blocks row) now (64 * (i + 1)) after
+
+-- The words from `from` up to `to` are matched, of all rules, and where the rules before them lead nowhere this is what they lead to.
+abbrev pub LeadsWords : FieldTable → List End → (Block → Bool) → ℕ → ℕ → ℕ → Option ℕ → Type 0
+LeadsWords t ends test from to now found = (blocks : List Block) → Stands t blocks
+    → LeadsNowhere ends (matched test blocks (replicate t.rules true)) now (64 * from) → IsLed ends (matched test blocks (replicate t.rules true)) now (64 * to) found

@@ -2,3 +2,4 @@ pub mod Words
 pub mod Window
 pub mod Filled
 pub mod Led
+pub mod Sieve

@@ -1,11 +1,13 @@
-ghost use Rattle.std.specs.Prelude.{◌≡◌, ◌+◌, ◌^◌, ◌<◌, ◌≤◌, true, replicate, length, All};
+ghost use Rattle.std.specs.Prelude.{◌≡◌, ◌+◌, ◌-◌, ◌*◌, ◌/◌, ◌^◌, ◌<◌, ◌≤◌, true, replicate, length, All};
 ghost use Rattle.set_model.specs.Blocks.{holds_value};
-ghost use Rattle.fused_lookup.specs.Filled.{Refills, IsClear};
-ghost use Rattle.fused_lookup.specs.Led.{Leads};
+ghost use Rattle.fused_lookup.specs.Filled.{Refills, RefillsWords, IsClear};
+ghost use Rattle.fused_lookup.specs.Led.{Leads, LeadsWords};
+ghost use Rattle.fused_lookup.specs.Sieve.{AreLastFour, HaveWords};
 ghost use Rattle.fused_lookup.specs.Window.{IsWindow};
 
-use crate::led::led_on;
-use crate::refill::refill_on;
+use crate::led::first_live;
+use crate::refill::refill_word;
+use crate::sieve::{bucket_words, match_at, none_holds};
 use crate::window::Window;
 use bit_rows::BitRow;
 use lookup_table::FieldTable;
@@ -28,11 +30,68 @@ pub fn refill_from_first(
     ensures next_len { length next.new.bits ≡ length next.old.bits }
     ensures next_spare { next.new.spare ≡ next.old.spare }
 {
+    let groups = table.groups();
+    let fourth = bucket_words(table, value, groups.saturating_sub(4));
+    let third = bucket_words(table, value, groups.saturating_sub(3));
+    let second = bucket_words(table, value, groups.saturating_sub(2));
+    let last = bucket_words(table, value, groups - 1);
+    let rest = groups.saturating_sub(4);
     let mut reached = Window::none();
-    'words: for i in 0..table.rules.div_ceil(64) {
-        reached = refill_on(table, spans, value, i, u64::MAX, next, reached);
+    'eights: for e in 0..table.rules.div_ceil(512) {
+        reached = refill_eight(
+            table,
+            spans,
+            value,
+            fourth,
+            third,
+            second,
+            last,
+            rest,
+            8 * e,
+            next,
+            reached,
+        );
     }
     reached
+}
+
+/// Sets what the matched rules of the eight words from word `w` on map to.
+#[inline(always)]
+fn refill_eight(
+    table: &FieldTable,
+    spans: &[Span],
+    value: u128,
+    fourth: &[u64],
+    third: &[u64],
+    second: &[u64],
+    last: &[u64],
+    rest: u32,
+    w: u32,
+    next: &mut BitRow,
+    window: Window,
+) -> Window
+    requires value { value < 2 ^ table.now.bits }
+    requires rules { length spans.now ≡ table.now.rules }
+    requires inside { All (λ s. s.first + s.count ≤ length next.old.bits) spans.now }
+    requires four { AreLastFour table.now value fourth.now third.now second.now last.now }
+    requires words { HaveWords (w + 8) fourth.now third.now second.now last.now }
+    requires rest { rest ≡ table.now.bits / table.now.width - 4 }
+    requires small { w + 8 < 2 ^ 32 }
+    requires window { IsWindow next.old.bits window }
+    ensures filled { RefillsWords table.now spans.now (λ rule. holds_value rule value) w (w + 8) next.old.bits next.new.bits }
+    ensures window { IsWindow next.new.bits result }
+    ensures len { length next.new.bits ≡ length next.old.bits }
+    ensures spare { next.new.spare ≡ next.old.spare }
+{
+    if none_holds(table, value, fourth, third, second, last, w) {
+        return window;
+    }
+    let mut window = window;
+    'words: for i in w..w + 8 {
+        let word = match_at(table, value, fourth, third, second, last, rest, i);
+        window = refill_word(spans, i, word, next, window);
+    }
+    window
 }
 
 /// Matches the rules of the one field of a set. It gives the place of the element of the lowest rule
@@ -42,8 +101,59 @@ pub fn lead_from_first(table: &FieldTable, ends: &[End], value: u128, now: u64) 
     requires rules { length ends.now ≡ table.now.rules }
     ensures { Leads table.now ends.now (λ rule. holds_value rule value) (replicate table.now.rules true) now result }
 {
-    'words: for i in 0..table.rules.div_ceil(64) {
-        if let Some(place) = led_on(None, table, ends, value, i, u64::MAX, now) {
+    let groups = table.groups();
+    let fourth = bucket_words(table, value, groups.saturating_sub(4));
+    let third = bucket_words(table, value, groups.saturating_sub(3));
+    let second = bucket_words(table, value, groups.saturating_sub(2));
+    let last = bucket_words(table, value, groups - 1);
+    let rest = groups.saturating_sub(4);
+    'eights: for e in 0..table.rules.div_ceil(512) {
+        if let Some(place) = lead_eight(
+            table,
+            ends,
+            value,
+            fourth,
+            third,
+            second,
+            last,
+            rest,
+            8 * e,
+            now,
+        ) {
+            return Some(place);
+        }
+    }
+    None
+}
+
+/// The place that the matched rules of the eight words from word `w` on lead to.
+#[inline(always)]
+fn lead_eight(
+    table: &FieldTable,
+    ends: &[End],
+    value: u128,
+    fourth: &[u64],
+    third: &[u64],
+    second: &[u64],
+    last: &[u64],
+    rest: u32,
+    w: u32,
+    now: u64,
+) -> Option<u64>
+    requires value { value < 2 ^ table.now.bits }
+    requires rules { length ends.now ≡ table.now.rules }
+    requires four { AreLastFour table.now value fourth.now third.now second.now last.now }
+    requires words { HaveWords (w + 8) fourth.now third.now second.now last.now }
+    requires rest { rest ≡ table.now.bits / table.now.width - 4 }
+    requires small { w + 8 < 2 ^ 32 }
+    ensures { LeadsWords table.now ends.now (λ rule. holds_value rule value) w (w + 8) now result }
+{
+    if none_holds(table, value, fourth, third, second, last, w) {
+        return None;
+    }
+    'words: for i in w..w + 8 {
+        let word = match_at(table, value, fourth, third, second, last, rest, i);
+        if let Some(place) = first_live(ends, i, word, now) {
             return Some(place);
         }
     }

@@ -10,6 +10,7 @@ mod first_field;
 mod later_field;
 mod led;
 mod refill;
+mod sieve;
 mod window;
 
 pub use first_field::{lead_from_first, refill_from_first};

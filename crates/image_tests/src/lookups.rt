@@ -1,8 +1,7 @@
 // Lookups in sets of elements that look random, beside the plain list.
 use crate::plain::PlainSet;
 use crate::random::{Random, Shape};
-use crate::sets::{add, look_up, set_of};
-use pipapo_image::{Scratch, SetImage};
+use crate::sets::Trial;
 use set_model::{Interval, Kind, Memory};
 use std::alloc::Global;
 use std::process::Abort;
@@ -36,6 +35,14 @@ pub(crate) fn intervals(
     Ok(parts)
 }
 
+/// A value near the interval of field `f` of the element at a place, or any.
+fn value_near(random: &mut Random, kind: Kind, plain: &PlainSet, place: usize, f: usize) -> u128 {
+    match plain.part(place, f) {
+        Some(part) => random.value_near(kind, part),
+        None => random.value(kind),
+    }
+}
+
 /// A key, mostly of values near some element's intervals.
 pub(crate) fn key_near(
     alloc: Global,
@@ -46,92 +53,97 @@ pub(crate) fn key_near(
     let place = random.next() as usize % plain.elements.len().max(1);
     let mut key = Vec::new(alloc);
     for (f, kind) in kinds.iter().enumerate() {
-        let part = plain
-            .elements
-            .get(place)
-            .and_then(|element| element.parts.get(f));
-        let value = match part {
-            Some(part) => random.value_near(*kind, *part),
-            None => random.value(*kind),
-        };
-        key.push(value)?;
+        key.push(value_near(random, *kind, plain, place, f))?;
     }
     Ok(key)
 }
 
-/// An expiry that is none, or one of the moments up to 2,000 behind `now`.
+/// A moment up to 2,000 behind `now`. Of the first elements, which are small, some never expire.
 pub(crate) fn expiry_behind(random: &mut Random, now: u64) -> Option<u64> {
-    match random.below(3) {
-        0 => None,
-        _ => Some(now.saturating_add(1 + random.below(2_000))),
+    if now < 300 && random.below(3) == 0 {
+        return None;
     }
+    Some(now.saturating_add(1 + random.below(2_000)))
 }
 
-/// Adds so many elements to both, a second apart, and compares what comes of each.
-fn fill(
+/// Adds an element at a moment to both, and compares what comes of it.
+fn add_one(
     rt: &impl Abort,
-    alloc: Global,
     random: &mut Random,
     kinds: &[Kind],
-    set: &mut SetImage,
+    trial: &mut Trial,
     plain: &mut PlainSet,
-    elements: u64,
-) -> Result<(), Fail> {
-    let mut scratch = Scratch::new(alloc)?;
-    for n in 0..elements {
-        let parts = intervals(alloc, random, kinds, 1 + n / 50)?;
-        let expiry = expiry_behind(random, n);
-        let answer = add(rt, alloc, set, &mut scratch, parts.as_slice(), expiry, n);
-        let wanted = plain.add(parts.as_slice(), expiry, n);
-        assert!(rt; answer == wanted, "element {n}");
-    }
+    now: u64,
+) -> Result<(), Memory> {
+    let parts = intervals(trial.alloc, random, kinds, 1 + now / 50)?;
+    let expiry = expiry_behind(random, now);
+    let answer = trial.add(rt, parts.as_slice(), expiry, now);
+    let wanted = plain.add(parts.as_slice(), expiry, now);
+    assert!(rt; answer == wanted, "the element at {now}");
     Ok(())
 }
 
-/// Looks so many keys up in both, at moments up to 2,000, and compares the answers.
+/// Looks a key up in both, at a moment up to 2,600, and compares the answers. Whether it was found.
+fn look_up_one(
+    rt: &impl Abort,
+    random: &mut Random,
+    kinds: &[Kind],
+    trial: &mut Trial,
+    plain: &PlainSet,
+) -> Result<bool, Memory> {
+    let key = key_near(trial.alloc, random, kinds, plain)?;
+    let now = random.below(2_600);
+    let found = trial.find(rt, key.as_slice(), now)?;
+    assert!(rt; found == plain.find(key.as_slice(), now));
+    Ok(found.is_some())
+}
+
+/// Adds so many elements to both, and looks so many keys up. How many were found.
 fn compare(
     rt: &impl Abort,
-    alloc: Global,
-    random: &mut Random,
     kinds: &[Kind],
-    set: &SetImage,
-    plain: &PlainSet,
-    keys: u64,
-) -> Result<(), Fail> {
-    let mut scratch = Scratch::new(alloc)?;
-    for n in 0..keys {
-        let key = key_near(alloc, random, kinds, plain)?;
-        let now = random.below(2_000);
-        let found = look_up(rt, alloc, set, &mut scratch, key.as_slice(), now)?;
-        assert!(rt; found == plain.find(key.as_slice(), now), "key {n}");
+    random: &mut Random,
+    trial: &mut Trial,
+    plain: &mut PlainSet,
+) -> Result<u32, Memory> {
+    for now in 0..500 {
+        add_one(rt, random, kinds, trial, plain, now)?;
     }
-    Ok(())
+    let mut hits = 0u32;
+    for _ in 0..1_500 {
+        if look_up_one(rt, random, kinds, trial, plain)? {
+            hits = hits.saturating_add(1);
+        }
+    }
+    Ok(hits)
 }
 
-fn check(rt: &impl Abort, alloc: Global, kinds: &[Kind], seed: u64) -> Result<(), Fail> {
+/// Compares a set with the plain list, and sees that keys are both found and not.
+fn check(rt: &impl Abort, alloc: Global, kinds: &[Kind], seed: u64) -> Result<(), Memory> {
     let mut random = Random::new(seed);
-    let mut set = set_of(rt, alloc, kinds, None)?;
     let mut plain = PlainSet::new(alloc);
-    fill(rt, alloc, &mut random, kinds, &mut set, &mut plain, 500)?;
-    compare(rt, alloc, &mut random, kinds, &set, &plain, 1_500)
+    let mut trial = Trial::new(rt, alloc, kinds, None)?;
+    let hits = compare(rt, kinds, &mut random, &mut trial, &mut plain)?;
+    assert!(rt; 300 < hits && hits < 1_400, "{hits} hits");
+    Ok(())
 }
 
 #[test]
 fn addresses_and_ports(rt: HostRuntime) -> Result<(), Fail> {
-    check(&rt, rt.alloc(), &[Kind::Ipv4, Kind::Service], 1)
+    Ok(check(&rt, rt.alloc(), &[Kind::Ipv4, Kind::Service], 1)?)
 }
 
 #[test]
 fn protocols(rt: HostRuntime) -> Result<(), Fail> {
-    check(&rt, rt.alloc(), &[Kind::Proto], 2)
+    Ok(check(&rt, rt.alloc(), &[Kind::Proto], 2)?)
 }
 
 #[test]
 fn long_addresses(rt: HostRuntime) -> Result<(), Fail> {
-    check(&rt, rt.alloc(), &[Kind::Ipv6, Kind::Ether, Kind::Mark], 3)
+    Ok(check(&rt, rt.alloc(), &[Kind::Ipv6, Kind::Ether, Kind::Mark], 3)?)
 }
 
 #[test]
 fn sixteen_fields(rt: HostRuntime) -> Result<(), Fail> {
-    check(&rt, rt.alloc(), &[Kind::Proto; 16], 4)
+    Ok(check(&rt, rt.alloc(), &[Kind::Proto; 16], 4)?)
 }

@@ -53,6 +53,14 @@ impl PlainSet {
         None
     }
 
+    /// The interval of field `f` of the element at a place.
+    pub(crate) fn part(&self, place: usize, f: usize) -> Option<Interval> {
+        match self.elements.get(place) {
+            Some(element) => element.parts.get(f).copied(),
+            None => None,
+        }
+    }
+
     /// The first element that is live and holds the key.
     pub(crate) fn find(&self, key: &[u128], now: u64) -> Option<Found> {
         let place = self.place(key, now)?;

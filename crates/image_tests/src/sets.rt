@@ -1,23 +1,74 @@
-// Calls of a set that first see that their conditions hold.
-use pipapo_image::{Added, InsertError, Scratch, SetImage};
+// A set with what a lookup works in. Calls first see that their conditions hold.
+use pipapo_image::{Added, DeleteError, InsertError, Scratch, SetImage};
 use set_model::{Comment, Found, Interval, Key, Kind, Kinds, Memory, Parts, fits, parts_fit};
 use std::alloc::Global;
 use std::process::Abort;
 
-pub(crate) fn kinds_of(alloc: Global, kinds: &[Kind]) -> Result<Kinds, Memory> {
-    Ok(Kinds::from_vec(Vec::from_slice(alloc, kinds)?))
+#[derive(Drop)]
+pub(crate) struct Trial {
+    pub(crate) set: SetImage,
+    pub(crate) scratch: Scratch,
+    pub(crate) alloc: Global,
 }
 
-pub(crate) fn parts_of(alloc: Global, parts: &[Interval]) -> Result<Parts, Memory> {
-    Ok(Parts::from_vec(alloc, Vec::from_slice(alloc, parts)?))
+impl Trial {
+    /// A set without elements.
+    pub(crate) fn new(
+        rt: &impl Abort,
+        alloc: Global,
+        kinds: &[Kind],
+        size: Option<u32>,
+    ) -> Result<Trial, Memory> {
+        let scratch = Scratch::new(alloc)?;
+        match new_set(rt, alloc, kinds, size) {
+            Ok(set) => Ok(Trial {
+                set,
+                scratch,
+                alloc,
+            }),
+            Err(memory) => Err(memory),
+        }
+    }
+
+    /// Adds an element.
+    pub(crate) fn add(
+        &mut self,
+        rt: &impl Abort,
+        parts: &[Interval],
+        expiry: Option<u64>,
+        now: u64,
+    ) -> Result<Added, InsertError> {
+        let parts = parts_of(self.alloc, parts)?;
+        add_to(
+            rt,
+            self.alloc,
+            &mut self.set,
+            &mut self.scratch,
+            &parts,
+            expiry,
+            now,
+        )
+    }
+
+    /// Takes an element out.
+    pub(crate) fn delete(&mut self, parts: &[Interval], now: u64) -> Result<u64, DeleteError> {
+        let parts = parts_of(self.alloc, parts)?;
+        self.set.delete(self.alloc, &parts, now)
+    }
+
+    /// Looks a key up, and sees that the textbook lookup finds the same place.
+    pub(crate) fn find(
+        &mut self,
+        rt: &impl Abort,
+        key: &[u128],
+        now: u64,
+    ) -> Result<Option<Found>, Memory> {
+        let key = key_of(self.alloc, key)?;
+        Ok(find_in(rt, &self.set, &mut self.scratch, &key, now))
+    }
 }
 
-pub(crate) fn key_of(alloc: Global, key: &[u128]) -> Result<Key, Memory> {
-    Ok(Key::from_vec(Vec::from_slice(alloc, key)?))
-}
-
-/// A set without elements.
-pub(crate) fn set_of(
+fn new_set(
     rt: &impl Abort,
     alloc: Global,
     kinds: &[Kind],
@@ -28,31 +79,48 @@ pub(crate) fn set_of(
     SetImage::new(alloc, &kinds, size, false)
 }
 
-/// Adds an element.
-pub(crate) fn add(
+fn add_to(
     rt: &impl Abort,
     alloc: Global,
     set: &mut SetImage,
     scratch: &mut Scratch,
-    parts: &[Interval],
+    parts: &Parts,
     expiry: Option<u64>,
     now: u64,
 ) -> Result<Added, InsertError> {
-    let parts = parts_of(alloc, parts)?;
-    assert!(rt; parts_fit(&set.kinds, &parts));
-    set.insert(alloc, &parts, expiry, &Comment::new(alloc), now, scratch)
+    assert!(rt; parts_fit(&set.kinds, parts));
+    set.insert(alloc, parts, expiry, &Comment::new(alloc), now, scratch)
 }
 
-/// Looks a key up.
-pub(crate) fn look_up(
+fn find_in(
     rt: &impl Abort,
-    alloc: Global,
     set: &SetImage,
     scratch: &mut Scratch,
-    key: &[u128],
+    key: &Key,
     now: u64,
-) -> Result<Option<Found>, Memory> {
-    let key = key_of(alloc, key)?;
-    assert!(rt; fits(&set.kinds, &key));
-    Ok(set.find(&key, now, scratch))
+) -> Option<Found> {
+    assert!(rt; fits(&set.kinds, key));
+    let found = set.find(key, now, scratch);
+    let place = set.plain_place(key, now, scratch);
+    assert!(rt; place_of(found) == place);
+    found
+}
+
+fn place_of(found: Option<Found>) -> Option<u64> {
+    match found {
+        Some(found) => Some(found.place),
+        None => None,
+    }
+}
+
+fn kinds_of(alloc: Global, kinds: &[Kind]) -> Result<Kinds, Memory> {
+    Ok(Kinds::from_vec(Vec::from_slice(alloc, kinds)?))
+}
+
+fn parts_of(alloc: Global, parts: &[Interval]) -> Result<Parts, Memory> {
+    Ok(Parts::from_vec(alloc, Vec::from_slice(alloc, parts)?))
+}
+
+fn key_of(alloc: Global, key: &[u128]) -> Result<Key, Memory> {
+    Ok(Key::from_vec(Vec::from_slice(alloc, key)?))
 }

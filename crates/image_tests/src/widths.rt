@@ -1,83 +1,50 @@
 // The group width of a set of long addresses, as they come and go.
-use crate::sets::{add, look_up, parts_of, set_of};
-use pipapo_image::{Added, Scratch, SetImage};
+use crate::examples::{adds, finds, has_width};
+use crate::sets::Trial;
+use pipapo_image::Added;
 use set_model::{Interval, Kind};
-use std::alloc::Global;
 use std::process::Abort;
 use std::test::Fail;
 
-// An address, far from those before and behind it.
+/// A long address for each number, far from those of the numbers before and behind it.
 fn address(n: u64) -> u128 {
     (n.wrapping_mul(0x9E37_79B9_7F4A_7C15) as u128) << 64 | n as u128
 }
 
-// Adds the addresses of the numbers from `from` up to `to`.
-fn add_addresses(
-    rt: &impl Abort,
-    alloc: Global,
-    set: &mut SetImage,
-    from: u64,
-    to: u64,
-) -> Result<(), Fail> {
-    let mut scratch = Scratch::new(alloc)?;
+/// Adds the addresses of these numbers.
+fn add_addresses(rt: &impl Abort, trial: &mut Trial, from: u64, to: u64) {
     for n in from..to {
-        let low = address(n);
-        let parts = [Interval { low, high: low }];
-        let added = add(rt, alloc, set, &mut scratch, &parts, None, 0);
-        assert!(rt; added == Ok(Added::New { id: n }), "address {n}");
-    }
-    Ok(())
-}
-
-// Whether the address of a number is found under its id.
-fn is_found(
-    rt: &impl Abort,
-    alloc: Global,
-    set: &SetImage,
-    scratch: &mut Scratch,
-    n: u64,
-) -> Result<bool, Fail> {
-    match look_up(rt, alloc, set, scratch, &[address(n)], 0)? {
-        Some(found) => Ok(found.id == n),
-        None => Ok(false),
+        let added = Ok(Added::New { id: n });
+        adds(rt, trial, address(n), address(n), None, added);
     }
 }
 
-// Looks up the addresses of the numbers from `from` up to `to`.
-fn find_addresses(
-    rt: &impl Abort,
-    alloc: Global,
-    set: &SetImage,
-    from: u64,
-    to: u64,
-) -> Result<(), Fail> {
-    let mut scratch = Scratch::new(alloc)?;
+/// Looks up the addresses of these numbers.
+fn find_addresses(rt: &impl Abort, trial: &mut Trial, from: u64, to: u64) {
     for n in from..to {
-        assert!(rt; is_found(rt, alloc, set, &mut scratch, n)?, "address {n}");
+        finds(rt, trial, address(n), 0, Some(n));
     }
-    Ok(())
 }
 
-fn width(rt: &impl Abort, set: &SetImage) -> u32 {
-    assert!(rt; set.index.fields.len() == 1);
-    set.index.fields.at(0).width
+/// Takes the address of a number out.
+fn delete_address(rt: &impl Abort, trial: &mut Trial, n: u64) {
+    let low = address(n);
+    let gone = trial.delete(&[Interval { low, high: low }], 0);
+    assert!(rt; gone == Ok(n));
 }
 
 #[test]
 fn one_address_fewer_wants_groups_of_eight(rt: HostRuntime) -> Result<(), Fail> {
-    let alloc = rt.alloc();
-    let mut set = set_of(&rt, alloc, &[Kind::Ipv6], None)?;
-    add_addresses(&rt, alloc, &mut set, 0, 4_096)?;
-    assert_eq!(rt; width(&rt, &set), 8);
-    find_addresses(&rt, alloc, &set, 0, 4_096)?;
-    add_addresses(&rt, alloc, &mut set, 4_096, 4_097)?;
-    assert_eq!(rt; width(&rt, &set), 4);
-    find_addresses(&rt, alloc, &set, 0, 4_097)?;
-    let low = address(1_000);
-    let gone = set.delete(alloc, &parts_of(alloc, &[Interval { low, high: low }])?, 0);
-    assert!(rt; gone == Ok(1_000));
-    assert_eq!(rt; width(&rt, &set), 8);
-    find_addresses(&rt, alloc, &set, 0, 1_000)?;
-    find_addresses(&rt, alloc, &set, 1_001, 4_097)?;
+    let mut trial = Trial::new(&rt, rt.alloc(), &[Kind::Ipv6], None)?;
+    add_addresses(&rt, &mut trial, 0, 4_096);
+    has_width(&rt, &trial, 8);
+    find_addresses(&rt, &mut trial, 0, 4_096);
+    add_addresses(&rt, &mut trial, 4_096, 4_097);
+    has_width(&rt, &trial, 4);
+    find_addresses(&rt, &mut trial, 0, 4_097);
+    delete_address(&rt, &mut trial, 1_000);
+    has_width(&rt, &trial, 8);
+    find_addresses(&rt, &mut trial, 0, 1_000);
+    find_addresses(&rt, &mut trial, 1_001, 4_097);
     Ok(())
 }

@@ -1,17 +1,13 @@
-use Rattle.std.proofs.Common.{◌≡◌, ◌*◌, List, length, true}
-use Rattle.std.specs.Prelude.{replicate}
-use Rattle.set_model.specs.declared.block.Block.{Block}
+use Rattle.std.proofs.Common.{◌≡◌, ◌*◌, length}
 use Rattle.set_model.specs.Blocks.{holds_value}
-use Rattle.lookup_table.specs.Rules.{Stands}
-use Rattle.set_tables.specs.Rows.{matched}
-use Rattle.fused_lookup.specs.Filled.{IsFilled}
+use Rattle.fused_lookup.specs.Filled.{RefillsWords}
 use Rattle.fused_lookup.specs.Window.{IsWindow}
 use Rattle.fused_lookup.proofs.first_field.refill_from_first.Given as goal
 
-abbrev pub invariant-words : goal.invariant-words
-invariant-words l = record {
-  filled : (blocks : List Block) → Stands l.table blocks → IsFilled l.spans (matched (λ rule. holds_value rule l.value) blocks (replicate l.table.rules true)) (64 * l.i) l.next.bits;
+abbrev pub invariant-eights : goal.invariant-eights
+invariant-eights l = record {
+  filled : RefillsWords l.table l.spans (λ rule. holds_value rule l.value) 0 (8 * l.e) l.fn.next.bits l.next.bits;
   window : IsWindow l.next.bits l.reached;
-  next_len : length l.next.bits ≡ length l.fn.next.bits;
-  next_spare : l.next.spare ≡ l.fn.next.spare;
+  len : length l.next.bits ≡ length l.fn.next.bits;
+  spare : l.next.spare ≡ l.fn.next.spare;
 }

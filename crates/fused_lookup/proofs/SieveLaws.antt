@@ -1,0 +1,163 @@
+-- What the buckets of a value's last four groups leave, and the others of that.
+use Rattle.std.proofs.Common.{◌≡◌, refl, sym, ◌∙◌, ap, ℕ, zero, suc, ◌+◌, ◌-◌, ◌*◌, ◌/◌, ◌%◌, ◌^◌, ◌<◌, ◌≤◌, ◌⊎◌, inl, inr, Bool, true, false, ◌&&◌, List, length, arith, bit_or, Some, slice_get}
+use Rattle.std.specs.Prelude.{slice_index, replicate}
+use Rattle.std.proofs.lemmas.Bool.{cases_lt, lt-ltb}
+use Rattle.std.proofs.lemmas.Nat.{le-div, le_or_l, le_or_r}
+use Rattle.std.proofs.lemmas.List.{get_or_past, length-replicate}
+use Rattle.std.proofs.Math.Bool.{and_comm, and_assoc}
+use Rattle.bit_rows.specs.Row.{Row, at, bit, IsSpelling}
+use Rattle.bit_rows.proofs.Bits.{bit-ones}
+use Rattle.field_groups.specs.Groups.{IsWidth, every}
+use Rattle.set_model.specs.declared.block.Block.{Block}
+use Rattle.set_model.specs.Blocks.{holds_value}
+use Rattle.lookup_table.specs.declared.table.FieldTable.{FieldTable}
+use Rattle.lookup_table.specs.Table.{block_at}
+use Rattle.lookup_table.specs.Rules.{Stands, place_of}
+use Rattle.lookup_table.proofs.RowsLaws.{cell-read}
+use Rattle.lookup_table.proofs.MatchLaws.{held-by-buckets}
+use Rattle.set_tables.specs.Rows.{matched}
+use Rattle.fused_lookup.specs.Words.{IsWordOf}
+use Rattle.fused_lookup.specs.Sieve.{is_set, IsBucket, AreLastFour, in_all, NoneHolds}
+use Rattle.fused_lookup.proofs.MatchLaws.{left-at, length-left, word-left, ones-left}
+
+-- a field has a group
+pub some-group : (width bits : ℕ) → IsWidth width bits → 1 ≤ bits / width
+some-group width bits w = le-div 1 bits width (omega (arith, w.four)) (omega (arith, w.some, w.eight))
+
+pub is-bucket : (t : FieldTable) (value g : ℕ) (words : List ℕ) (bucket : Row) → slice_get t.buckets (place_of t g value) ≡ Some bucket → length bucket.bits ≡ t.rules → IsSpelling words bucket.bits
+    → IsBucket t value g words
+is-bucket t value g words bucket found long spells = record {
+  steps = spells.steps;
+  long = let h = spells.long in omega arith;
+  same = λ w k h. spells.same w k h ∙ sym (cell-read t.buckets (place_of t g value) (64 * w + k) bucket found);
+  past = λ w k h p. spells.same w k h ∙ get_or_past bucket.bits (64 * w + k) false (omega arith);
+}
+
+-- where the OR of two words is 0, both are
+pub or-none : (a b : ℕ) → bit_or a b ≡ 0 → (a ≡ 0) × (b ≡ 0)
+or-none a b e = (none a (le_or_l a b), none b (le_or_r a b)) where
+  none : (y : ℕ) → y ≤ bit_or a b → y ≡ 0
+  none y h = omega arith
+
+-- ---- all groups are the last four and those before them
+
+four : (e a b c d : Bool) → ((((a && b) && c) && d) && e) ≡ ((((e && a) && b) && c) && d)
+four e a b c d =
+    and_comm (((a && b) && c) && d) e ∙ sym (and_assoc e ((a && b) && c) d)
+    ∙ ap (λ t. t && d) (sym (and_assoc e (a && b) c) ∙ ap (λ t. t && c) (sym (and_assoc e a b)))
+
+one-four : (a : Bool) → ((((a && a) && a) && a) && true) ≡ (true && a)
+one-four true = refl
+one-four false = refl
+
+two-four : (a b : Bool) → ((((a && a) && a) && b) && true) ≡ ((true && a) && b)
+two-four true true = refl
+two-four true false = refl
+two-four false true = refl
+two-four false false = refl
+
+three-four : (a b c : Bool) → ((((a && a) && b) && c) && true) ≡ (((true && a) && b) && c)
+three-four true true true = refl
+three-four true true false = refl
+three-four true false true = refl
+three-four true false false = refl
+three-four false true true = refl
+three-four false true false = refl
+three-four false false true = refl
+three-four false false false = refl
+
+by-places : (p : ℕ → Bool) (n a b c d e : ℕ) → n - 4 ≡ a → n - 3 ≡ b → n - 2 ≡ c → n - 1 ≡ d → n - 4 ≡ e
+    → ((((p (n - 4) && p (n - 3)) && p (n - 2)) && p (n - 1)) && every p (n - 4)) ≡ ((((p a && p b) && p c) && p d) && every p e)
+by-places p n a b c d e ha hb hc hd he = ap (λ x. (((p x && p (n - 3)) && p (n - 2)) && p (n - 1)) && every p (n - 4)) ha
+    ∙ ap (λ x. (((p a && p x) && p (n - 2)) && p (n - 1)) && every p (n - 4)) hb
+    ∙ ap (λ x. (((p a && p b) && p x) && p (n - 1)) && every p (n - 4)) hc
+    ∙ ap (λ x. (((p a && p b) && p c) && p x) && every p (n - 4)) hd
+    ∙ ap (λ x. (((p a && p b) && p c) && p d) && every p x) he
+
+pub last-four : (p : ℕ → Bool) (n : ℕ) → 1 ≤ n → ((((p (n - 4) && p (n - 3)) && p (n - 2)) && p (n - 1)) && every p (n - 4)) ≡ every p n
+last-four p zero h = absurd (omega arith)
+last-four p (suc zero) h = by-places p 1 0 0 0 0 0 refl refl refl refl refl ∙ one-four (p 0)
+last-four p (suc (suc zero)) h = by-places p 2 0 0 0 1 0 refl refl refl refl refl ∙ two-four (p 0) (p 1)
+last-four p (suc (suc (suc zero))) h = by-places p 3 0 0 1 2 0 refl refl refl refl refl ∙ three-four (p 0) (p 1) (p 2)
+last-four p (suc (suc (suc (suc m)))) h =
+    by-places p (suc (suc (suc (suc m)))) m (suc m) (suc (suc m)) (suc (suc (suc m))) m (omega arith) (omega arith) (omega arith) (omega arith) (omega arith)
+    ∙ four (every p m) (p m) (p (suc m)) (p (suc (suc m))) (p (suc (suc (suc m))))
+
+-- ---- a word
+
+in-four : (t : FieldTable) (value : ℕ) (fourth third second last : List ℕ) (w k : ℕ) → AreLastFour t value fourth third second last → k < 64
+    → in_all fourth third second last w k
+    ≡ (((is_set t value (64 * w + k) (t.bits / t.width - 4) && is_set t value (64 * w + k) (t.bits / t.width - 3)) && is_set t value (64 * w + k) (t.bits / t.width - 2))
+    && is_set t value (64 * w + k) (t.bits / t.width - 1))
+in-four t value fourth third second last w k are h = two (two (two (are.four.same w k h) (are.three.same w k h)) (are.two.same w k h)) (are.one.same w k h) where
+  two : {a b c d : Bool} → a ≡ b → c ≡ d → (a && c) ≡ (b && d)
+  two x y = cc
+
+-- what is left of a rule in all groups
+pub in-groups : (t : FieldTable) (value : ℕ) (fourth third second last : List ℕ) (blocks : List Block) (w k : ℕ) → AreLastFour t value fourth third second last → Stands t blocks → value < 2 ^ t.bits → k < 64
+    → 64 * w + k < t.rules → (in_all fourth third second last w k && every (is_set t value (64 * w + k)) (t.bits / t.width - 4)) ≡ holds_value (block_at blocks (64 * w + k)) value
+in-groups t value fourth third second last blocks w k are stands small h r =
+    ap (λ x. x && every (is_set t value (64 * w + k)) (t.bits / t.width - 4)) (in-four t value fourth third second last w k are h)
+    ∙ last-four (is_set t value (64 * w + k)) (t.bits / t.width) (some-group t.width t.bits t.shaped.groups)
+    ∙ held-by-buckets t blocks value (64 * w + k) stands small r
+
+and-fails : (a b : Bool) → a ≡ false → (a && b) ≡ false
+and-fails a b e = ap (λ x. x && b) e
+
+-- words in which nothing is left have no rule that holds the value
+pub none-holds : (t : FieldTable) (value : ℕ) (fourth third second last : List ℕ) (from to : ℕ) → AreLastFour t value fourth third second last → value < 2 ^ t.bits
+    → ((v k : ℕ) → from ≤ v → v < to → k < 64 → in_all fourth third second last v k ≡ false) → NoneHolds t value from to
+none-holds t value fourth third second last from to are small none blocks stands r low high inside =
+    let e : 64 * (r / 64) + r % 64 ≡ r = omega arith in
+    let k : r % 64 < 64 = omega arith in
+    let a : 64 * (r / 64) + r % 64 < t.rules = omega arith in
+    ap (λ x. holds_value (block_at blocks x) value) (sym e)
+    ∙ sym (in-groups t value fourth third second last blocks (r / 64) (r % 64) are stands small k a)
+    ∙ and-fails (in_all fourth third second last (r / 64) (r % 64)) (every (is_set t value (64 * (r / 64) + r % 64)) (t.bits / t.width - 4)) (none (r / 64) (r % 64) (omega arith) (omega arith) k)
+
+-- a word of the rules that hold the value
+pub word-held : (t : FieldTable) (value : ℕ) (fourth third second last : List ℕ) (blocks : List Block) (w left word : ℕ) → AreLastFour t value fourth third second last → Stands t blocks → value < 2 ^ t.bits
+    → ((k : ℕ) → k < 64 → bit left k ≡ in_all fourth third second last w k) → ((k : ℕ) → k < 64 → bit word k ≡ (bit left k && every (is_set t value (64 * w + k)) (t.bits / t.width - 4)))
+    → (k : ℕ) → k < 64 → 64 * w + k < t.rules → bit word k ≡ (bit (2 ^ 64 - 1) k && holds_value (block_at blocks (64 * w + k)) value)
+word-held t value fourth third second last blocks w left word are stands small all rest k h r =
+    rest k h ∙ ap (λ x. x && every (is_set t value (64 * w + k)) (t.bits / t.width - 4)) (all k h)
+    ∙ in-groups t value fourth third second last blocks w k are stands small h r
+    ∙ sym (ap (λ x. x && holds_value (block_at blocks (64 * w + k)) value) (bit-ones 64 k ∙ lt-ltb k 64 h))
+
+pub word-past : (t : FieldTable) (value : ℕ) (fourth third second last : List ℕ) (w left word : ℕ) → AreLastFour t value fourth third second last
+    → ((k : ℕ) → k < 64 → bit left k ≡ in_all fourth third second last w k) → ((k : ℕ) → k < 64 → bit word k ≡ (bit left k && every (is_set t value (64 * w + k)) (t.bits / t.width - 4)))
+    → (k : ℕ) → k < 64 → t.rules ≤ 64 * w + k → bit word k ≡ false
+word-past t value fourth third second last w left word are all rest k h p =
+    rest k h
+    ∙ and-fails (bit left k) (every (is_set t value (64 * w + k)) (t.bits / t.width - 4))
+    (all k h
+    ∙ and-fails ((bit (slice_index fourth w) k && bit (slice_index third w) k) && bit (slice_index second w) k) (bit (slice_index last w) k)
+    (and-fails (bit (slice_index fourth w) k && bit (slice_index third w) k) (bit (slice_index second w) k) (and-fails (bit (slice_index fourth w) k) (bit (slice_index third w) k) (are.four.past w k h p))))
+
+-- ---- rows
+
+-- a word of the row of matched rules
+pub word-matched : (t : FieldTable) (test : Block → Bool) (blocks : List Block) (i word : ℕ) → Stands t blocks
+    → ((k : ℕ) → k < 64 → 64 * i + k < t.rules → bit word k ≡ (bit (2 ^ 64 - 1) k && test (block_at blocks (64 * i + k))))
+    → ((k : ℕ) → k < 64 → t.rules ≤ 64 * i + k → bit word k ≡ false) → IsWordOf (matched test blocks (replicate t.rules true)) i word
+word-matched t test blocks i word stands held past =
+    let n = length-replicate t.rules true in
+    word-left test blocks (replicate t.rules true) i t.rules (2 ^ 64 - 1) word stands.one_each (omega arith) (ones-left t.rules i) held past
+
+-- rules that don't hold the value aren't matched
+pub none-matched : (t : FieldTable) (value : ℕ) (blocks : List Block) (from to : ℕ) → Stands t blocks → NoneHolds t value from to → (r : ℕ) → 64 * from ≤ r → r < 64 * to
+    → at (matched (λ rule. holds_value rule value) blocks (replicate t.rules true)) r ≡ false
+none-matched t value blocks from to stands none r low high = go (cases_lt r t.rules) where
+  row : List Bool
+  row = replicate t.rules true
+
+  room : length blocks ≤ length row
+  room = let n = length-replicate t.rules true in let m = stands.one_each in omega arith
+
+  go : (r < t.rules) ⊎ (t.rules ≤ r) → at (matched (λ rule. holds_value rule value) blocks row) r ≡ false
+  go (inl l) =
+      let inside : r < length blocks = let m = stands.one_each in omega arith in
+      left-at (λ rule. holds_value rule value) blocks row r room inside
+      ∙ and_comm (at row r) (holds_value (block_at blocks r) value)
+      ∙ and-fails (holds_value (block_at blocks r) value) (at row r) (none blocks stands r low high l)
+  go (inr l) = get_or_past (matched (λ rule. holds_value rule value) blocks row) r false (let n = length-left (λ rule. holds_value rule value) blocks row room in let m = stands.one_each in omega arith)
