@@ -96,9 +96,9 @@ fn a_renewal_reaches_every_rule(rt: HostRuntime) -> Result<(), Fail> {
         Some(20),
         Ok(Added::Renewed { id: 0 }),
     );
-    for port in 1..255 {
-        finds(&rt, &mut trial, port, 19, Some(0));
-        finds(&rt, &mut trial, port, 20, None);
+    for port in 1..255u64 {
+        finds(&rt, &mut trial, port as u128, 19, Some(0));
+        finds(&rt, &mut trial, port as u128, 20, None);
     }
     Ok(())
 }

@@ -61,7 +61,7 @@ impl Random {
         let near = self.below(64) as u128;
         match self.below(4) {
             0 | 1 => near,
-            2 => greatest - near,
+            2 => greatest.saturating_sub(near),
             _ => {
                 let any = (self.next() as u128) << 64 | self.next() as u128;
                 any & greatest
