@@ -8,7 +8,7 @@ use std::test::Fail;
 const PORTS: [Kind; 1] = [Kind::Service];
 
 /// Adds the values from `low` to `high` at moment 0, and sees what comes of it.
-fn adds(
+pub(crate) fn adds(
     rt: &impl Abort,
     trial: &mut Trial,
     low: u128,
@@ -21,7 +21,13 @@ fn adds(
 }
 
 /// Looks a value up, and sees that the element of this id answers, or none.
-fn finds(rt: &impl Abort, trial: &mut Trial, value: u128, now: u64, wanted: Option<u64>) {
+pub(crate) fn finds(
+    rt: &impl Abort,
+    trial: &mut Trial,
+    value: u128,
+    now: u64,
+    wanted: Option<u64>,
+) {
     match trial.find(rt, &[value], now) {
         Ok(Some(found)) => assert!(rt; wanted == Some(found.id)),
         Ok(None) => assert!(rt; wanted.is_none()),
@@ -124,7 +130,7 @@ fn find_addresses(rt: &impl Abort, trial: &mut Trial, n: u64) {
 }
 
 /// Sees that the groups of the first field have so many bits.
-fn has_width(rt: &impl Abort, trial: &Trial, width: u32) {
+pub(crate) fn has_width(rt: &impl Abort, trial: &Trial, width: u32) {
     assert!(rt; trial.set.index.fields.len() == 1);
     assert!(rt; trial.set.index.fields.at(0).width == width);
 }

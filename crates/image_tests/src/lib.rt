@@ -3,6 +3,8 @@
 #![tactic(auto)]
 
 #[cfg(test)]
+mod changes;
+#[cfg(test)]
 mod examples;
 #[cfg(test)]
 mod lookups;
@@ -12,3 +14,5 @@ mod plain;
 mod random;
 #[cfg(test)]
 mod sets;
+#[cfg(test)]
+mod widths;

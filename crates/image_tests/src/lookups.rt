@@ -20,7 +20,7 @@ const SHAPES: [Shape; 8] = [
 ];
 
 /// Intervals of each kind, of the first `shapes` shapes.
-fn intervals(
+pub(crate) fn intervals(
     alloc: Global,
     random: &mut Random,
     kinds: &[Kind],
@@ -44,7 +44,7 @@ fn value_near(random: &mut Random, kind: Kind, plain: &PlainSet, place: usize, f
 }
 
 /// A key, mostly of values near some element's intervals.
-fn key_near(
+pub(crate) fn key_near(
     alloc: Global,
     random: &mut Random,
     kinds: &[Kind],
@@ -59,7 +59,7 @@ fn key_near(
 }
 
 /// A moment up to 2,000 behind `now`. Of the first elements, which are small, some never expire.
-fn expiry_behind(random: &mut Random, now: u64) -> Option<u64> {
+pub(crate) fn expiry_behind(random: &mut Random, now: u64) -> Option<u64> {
     if now < 300 && random.below(3) == 0 {
         return None;
     }

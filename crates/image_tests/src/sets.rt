@@ -1,5 +1,5 @@
 // A set with what a lookup works in. Calls first see that their conditions hold.
-use pipapo_image::{Added, InsertError, Scratch, SetImage};
+use pipapo_image::{Added, DeleteError, InsertError, Scratch, SetImage};
 use set_model::{Comment, Found, Interval, Key, Kind, Kinds, Memory, Parts, fits, parts_fit};
 use std::alloc::Global;
 use std::process::Abort;
@@ -48,6 +48,12 @@ impl Trial {
             expiry,
             now,
         )
+    }
+
+    /// Takes an element out.
+    pub(crate) fn delete(&mut self, parts: &[Interval], now: u64) -> Result<u64, DeleteError> {
+        let parts = parts_of(self.alloc, parts)?;
+        self.set.delete(self.alloc, &parts, now)
     }
 
     /// Looks a key up, and sees that the textbook lookup finds the same place.

@@ -1,0 +1,334 @@
+/* The driver of checks/speed: reads a workload, and calls the library or its own textbook loop. */
+#include <inttypes.h>
+#include <stdint.h>
+#include <stdio.h>
+#include <stdlib.h>
+#include <string.h>
+#include <time.h>
+
+typedef unsigned __int128 value_t;
+
+/* crates/pipapo_speed: a slice crosses as a pointer and a count. */
+extern uint64_t pipapo_run(const uint32_t *kinds, size_t kind_count, const uint64_t *elements,
+                           size_t element_words, const uint64_t *keys, size_t key_words, uint32_t rounds,
+                           uint32_t textbook, uint64_t *answers, size_t answer_count);
+
+static const char *const kind_names[6] = {"ipv4_addr",  "ipv6_addr",    "ether_addr",
+                                          "inet_proto", "inet_service", "mark"};
+static const unsigned kind_bits[6] = {32, 128, 48, 8, 16, 32};
+
+static void fail(const char *what) {
+    fprintf(stderr, "checks/speed: %s\n", what);
+    exit(1);
+}
+
+static void *grown(void *at, size_t *room, size_t wanted, size_t size) {
+    if (wanted > *room) {
+        *room = wanted * 2;
+        at = realloc(at, *room * size);
+        if (!at) fail("want of memory");
+    }
+    return at;
+}
+
+/* ---- the workload */
+
+struct workload {
+    uint32_t kinds[16];
+    size_t fields;
+    value_t *elements; /* low and high for each field */
+    size_t element_count;
+    value_t *keys;
+    size_t key_count;
+};
+
+static value_t read_value(char **at) {
+    value_t value = 0;
+    char *from = *at;
+    for (;; ++*at) {
+        char c = **at;
+        unsigned digit;
+        if (c >= '0' && c <= '9') digit = c - '0';
+        else if (c >= 'a' && c <= 'f') digit = c - 'a' + 10;
+        else if (c >= 'A' && c <= 'F') digit = c - 'A' + 10;
+        else break;
+        value = value << 4 | digit;
+    }
+    if (*at == from) fail("a value is missing");
+    return value;
+}
+
+static char *past_blanks(char *at) {
+    while (*at == ' ' || *at == '\t') ++at;
+    return at;
+}
+
+static void read_fields(struct workload *w, char *at) {
+    for (char *word = strtok(at, " \t\n"); word; word = strtok(NULL, " \t\n")) {
+        unsigned k = 0;
+        while (k < 6 && strcmp(word, kind_names[k])) ++k;
+        if (k == 6 || w->fields == 16) fail("no such kind, or too many");
+        w->kinds[w->fields++] = k;
+    }
+}
+
+static void read_workload(struct workload *w, const char *name) {
+    FILE *file = fopen(name, "r");
+    if (!file) fail("the file can't be opened");
+    char *line = NULL;
+    size_t line_room = 0, element_room = 0, key_room = 0;
+    while (getline(&line, &line_room, file) > 0) {
+        if (!strncmp(line, "fields ", 7)) {
+            read_fields(w, line + 7);
+        } else if (line[0] == 'e' && line[1] == ' ') {
+            w->elements = grown(w->elements, &element_room, (w->element_count + 1) * w->fields * 2, sizeof(value_t));
+            char *at = line + 2;
+            for (size_t f = 0; f < w->fields; ++f) {
+                value_t *pair = w->elements + (w->element_count * w->fields + f) * 2;
+                at = past_blanks(at);
+                pair[0] = read_value(&at);
+                if (*at++ != '-') fail("an interval is LOW-HIGH");
+                pair[1] = read_value(&at);
+            }
+            ++w->element_count;
+        } else if (line[0] == 'k' && line[1] == ' ') {
+            w->keys = grown(w->keys, &key_room, (w->key_count + 1) * w->fields, sizeof(value_t));
+            char *at = line + 2;
+            for (size_t f = 0; f < w->fields; ++f) {
+                at = past_blanks(at);
+                w->keys[w->key_count * w->fields + f] = read_value(&at);
+            }
+            ++w->key_count;
+        }
+    }
+    free(line);
+    fclose(file);
+    if (!w->fields || !w->element_count || !w->key_count) fail("the workload has no fields, elements or keys");
+}
+
+/* ---- the textbook in C: one flat table a field, groups of eight bits or of four */
+
+struct block {
+    value_t base;
+    unsigned free_bits;
+};
+
+struct field {
+    unsigned bits, width, groups;
+    size_t rules, words;       /* words of one bucket */
+    uint64_t *buckets;         /* (group << width) + value, each `words` long */
+    uint32_t *first, *count;   /* the span of each rule, or its element in the last field */
+};
+
+struct table {
+    size_t fields;
+    struct field field[16];
+    uint64_t *row, *next;
+};
+
+static size_t split(value_t low, value_t high, unsigned bits, struct block *out) {
+    size_t n = 0;
+    for (;;) {
+        unsigned k = 0;
+        while (k < bits && !(low >> k & 1) && (high - low) >> k >> 1) {
+            value_t size = (value_t)1 << (k + 1);
+            if (low % size || size - 1 > high - low) break;
+            ++k;
+        }
+        if (k == 127 && bits == 128 && low == 0 && high == ~(value_t)0) k = 128;
+        out[n].base = low;
+        out[n++].free_bits = k;
+        if (k == 128) return n;
+        value_t last = low + (((value_t)1 << k) - 1);
+        if (last >= high) return n;
+        low = last + 1;
+    }
+}
+
+static unsigned group_at(const struct field *f, value_t value, unsigned g) {
+    return (unsigned)(value >> (f->bits - f->width * (g + 1))) & ((1u << f->width) - 1);
+}
+
+static void mark_block(struct field *f, size_t rule, struct block b) {
+    for (unsigned g = 0; g < f->groups; ++g) {
+        unsigned shift = f->bits - f->width * (g + 1);
+        unsigned free_bits = b.free_bits > shift ? b.free_bits - shift : 0;
+        if (free_bits > f->width) free_bits = f->width;
+        unsigned mask = (1u << f->width) - (1u << free_bits);
+        unsigned from = group_at(f, b.base, g) & mask;
+        for (unsigned v = from; v < from + (1u << free_bits); ++v)
+            f->buckets[(((size_t)g << f->width) + v) * f->words + rule / 64] |= (uint64_t)1 << rule % 64;
+    }
+}
+
+static void build_table(struct table *t, const struct workload *w) {
+    struct block blocks[256];
+    t->fields = w->fields;
+    size_t most = 1;
+    for (size_t f = 0; f < w->fields; ++f) {
+        struct field *field = &t->field[f];
+        field->bits = kind_bits[w->kinds[f]];
+        field->rules = 0;
+        for (size_t e = 0; e < w->element_count; ++e) {
+            const value_t *pair = w->elements + (e * w->fields + f) * 2;
+            field->rules += split(pair[0], pair[1], field->bits, blocks);
+        }
+        field->words = (field->rules + 63) / 64;
+        field->width = (size_t)field->bits / 8 * 256 * 8 * field->words <= 2097152 ? 8 : 4;
+        field->groups = field->bits / field->width;
+        field->buckets = calloc(((size_t)field->groups << field->width) * field->words, 8);
+        field->first = calloc(field->rules, 4);
+        field->count = calloc(field->rules, 4);
+        if (!field->buckets || !field->first || !field->count) fail("want of memory");
+        if (field->words > most) most = field->words;
+    }
+    size_t from[17] = {0};
+    for (size_t e = 0; e < w->element_count; ++e) {
+        size_t counts[17];
+        for (size_t f = 0; f < w->fields; ++f) {
+            const value_t *pair = w->elements + (e * w->fields + f) * 2;
+            counts[f] = split(pair[0], pair[1], t->field[f].bits, blocks);
+            for (size_t i = 0; i < counts[f]; ++i) mark_block(&t->field[f], from[f] + i, blocks[i]);
+        }
+        for (size_t f = 0; f < w->fields; ++f)
+            for (size_t i = 0; i < counts[f]; ++i) {
+                int last = f + 1 == w->fields;
+                t->field[f].first[from[f] + i] = last ? e : from[f + 1];
+                t->field[f].count[from[f] + i] = last ? 1 : counts[f + 1];
+            }
+        for (size_t f = 0; f < w->fields; ++f) from[f] += counts[f];
+    }
+    t->row = calloc(most, 8);
+    t->next = calloc(most, 8);
+    if (!t->row || !t->next) fail("want of memory");
+}
+
+static void set_run(uint64_t *row, size_t from, size_t n) {
+    for (size_t i = from; i < from + n; ++i) row[i / 64] |= (uint64_t)1 << i % 64;
+}
+
+static uint64_t find_plain(struct table *t, const value_t *key) {
+    uint64_t *row = t->row, *next = t->next;
+    memset(row, 0xFF, t->field[0].words * 8);
+    for (size_t f = 0;; ++f) {
+        const struct field *field = &t->field[f];
+        for (unsigned g = 0; g < field->groups; ++g) {
+            const uint64_t *bucket = field->buckets + (((size_t)g << field->width) + group_at(field, key[f], g)) * field->words;
+            for (size_t i = 0; i < field->words; ++i) row[i] &= bucket[i];
+        }
+        if (f + 1 == t->fields) {
+            for (size_t i = 0; i < field->words; ++i)
+                if (row[i]) return field->first[i * 64 + __builtin_ctzll(row[i])] + 1;
+            return 0;
+        }
+        memset(next, 0, t->field[f + 1].words * 8);
+        for (size_t i = 0; i < field->words; ++i)
+            for (uint64_t left = row[i]; left; left &= left - 1) {
+                size_t rule = i * 64 + __builtin_ctzll(left);
+                set_run(next, field->first[rule], field->count[rule]);
+            }
+        uint64_t *other = row;
+        row = next;
+        next = other;
+    }
+}
+
+/* ---- what is measured */
+
+static double seconds(void) {
+    struct timespec now;
+    clock_gettime(CLOCK_THREAD_CPUTIME_ID, &now);
+    return now.tv_sec + now.tv_nsec * 1e-9;
+}
+
+static uint64_t *words_of(const value_t *values, size_t n) {
+    uint64_t *words = malloc(n * 16);
+    if (!words) fail("want of memory");
+    for (size_t i = 0; i < n; ++i) {
+        words[2 * i] = (uint64_t)values[i];
+        words[2 * i + 1] = (uint64_t)(values[i] >> 64);
+    }
+    return words;
+}
+
+struct call {
+    const struct workload *w;
+    uint64_t *elements, *keys, *answers;
+    uint32_t textbook;
+    uint64_t bytes;
+};
+
+static double timed_run(struct call *c, uint32_t rounds) {
+    const struct workload *w = c->w;
+    memset(c->answers, 0, w->key_count * 8);
+    double start = seconds();
+    c->bytes = pipapo_run(w->kinds, w->fields, c->elements, w->element_count * w->fields * 4, c->keys,
+                          w->key_count * w->fields * 2, rounds, c->textbook, c->answers, w->key_count);
+    double time = seconds() - start;
+    if (!c->bytes) fail("want of memory");
+    return time;
+}
+
+/* One call builds the set and looks the keys up; the time of a call without lookups is taken off. */
+static void bench(struct call *c) {
+    double build = 1e9, with = 1e9;
+    for (int i = 0; i < 5; ++i) {
+        double time = timed_run(c, 0);
+        if (time < build) build = time;
+    }
+    uint32_t rounds = 1;
+    while (timed_run(c, rounds) < 3 * build + 0.05 && rounds < 1u << 24) rounds *= 2;
+    for (int i = 0; i < 9; ++i) {
+        double time = timed_run(c, rounds);
+        if (time < with) with = time;
+    }
+    printf("lookups_per_s=%.0f inserts_per_s=%.0f table_bytes=%" PRIu64 "\n",
+           rounds * (double)c->w->key_count / (with - build), c->w->element_count / build, c->bytes);
+}
+
+static void bench_plain(const struct workload *w) {
+    struct table t = {0};
+    double start = seconds();
+    build_table(&t, w);
+    double build = seconds() - start, best = 1e9;
+    uint64_t sum = 0;
+    for (int i = 0; i < 50; ++i) {
+        start = seconds();
+        for (size_t k = 0; k < w->key_count; ++k) sum += find_plain(&t, w->keys + k * w->fields);
+        double time = seconds() - start;
+        if (time < best) best = time;
+    }
+    size_t bytes = 0;
+    for (size_t f = 0; f < t.fields; ++f)
+        bytes += ((size_t)t.field[f].groups << t.field[f].width) * t.field[f].words * 8 + t.field[f].rules * 8;
+    printf("lookups_per_s=%.0f inserts_per_s=%.0f table_bytes=%zu\n", w->key_count / best,
+           w->element_count / build, bytes);
+    if (sum == 1) fail("a sum that is there to be used");
+}
+
+int main(int argc, char **argv) {
+    struct workload w = {0};
+    if (argc != 3) fail("usage: verdict FILE | bench FILE | textbook FILE | plain FILE");
+    read_workload(&w, argv[2]);
+    struct call c = {.w = &w};
+    c.elements = words_of(w.elements, w.element_count * w.fields * 2);
+    c.keys = words_of(w.keys, w.key_count * w.fields);
+    c.answers = calloc(w.key_count, 8);
+    if (!c.answers) fail("want of memory");
+    if (!strcmp(argv[1], "verdict")) {
+        timed_run(&c, 1);
+        for (size_t k = 0; k < w.key_count; ++k)
+            if (c.answers[k]) printf("%" PRIu64 "\n", c.answers[k] - 1);
+            else printf("-\n");
+    } else if (!strcmp(argv[1], "bench")) {
+        bench(&c);
+    } else if (!strcmp(argv[1], "textbook")) {
+        c.textbook = 1;
+        bench(&c);
+    } else if (!strcmp(argv[1], "plain")) {
+        bench_plain(&w);
+    } else {
+        fail("usage: verdict FILE | bench FILE | textbook FILE | plain FILE");
+    }
+    return 0;
+}

@@ -1,0 +1,138 @@
+// Insertions, deletions, purges and lookups in an order that looks random, at moments that rise and
+// fall, beside the plain list.
+use crate::lookups::{expiry_behind, intervals, key_near};
+use crate::plain::{PlainElement, PlainSet};
+use crate::random::Random;
+use crate::sets::Trial;
+use pipapo_image::DeleteError;
+use set_model::{Interval, Kind, Memory};
+use std::alloc::Global;
+use std::process::Abort;
+use std::test::Fail;
+
+impl PlainElement {
+    /// Whether it is live and has exactly these intervals.
+    fn is_exactly(&self, parts: &[Interval], now: u64) -> bool {
+        self.is_live(now) && self.parts.as_slice() == parts
+    }
+}
+
+impl PlainSet {
+    /// Takes the first live element of exactly these intervals out.
+    fn delete(&mut self, parts: &[Interval], now: u64) -> Result<u64, DeleteError> {
+        for i in 0..self.elements.len() {
+            if self.elements[i].is_exactly(parts, now) {
+                return Ok(self.elements.remove(i).id);
+            }
+        }
+        Err(DeleteError::Missing)
+    }
+
+    /// Takes the expired elements out, and answers how many there were.
+    fn purge(&mut self, now: u64) -> u64 {
+        let before = self.elements.len();
+        self.elements.retain(|element| element.is_live(now));
+        before.saturating_sub(self.elements.len()) as u64
+    }
+
+    /// The intervals of the element at a place. Past the end there are none.
+    fn parts_at(&self, alloc: Global, place: usize) -> Result<Vec<Interval>, Memory> {
+        match self.elements.get(place) {
+            Some(element) => Ok(Vec::from_slice(alloc, element.parts.as_slice())?),
+            None => Ok(Vec::new(alloc)),
+        }
+    }
+}
+
+fn insert_one(
+    rt: &impl Abort,
+    random: &mut Random,
+    kinds: &[Kind],
+    trial: &mut Trial,
+    plain: &mut PlainSet,
+    now: u64,
+) -> Result<(), Memory> {
+    let parts = intervals(trial.alloc, random, kinds, 7)?;
+    let expiry = expiry_behind(random, now);
+    let answer = trial.add(rt, parts.as_slice(), expiry, now);
+    let wanted = plain.add(parts.as_slice(), expiry, now);
+    assert!(rt; answer == wanted);
+    Ok(())
+}
+
+/// Deletes the intervals of some element, which may be expired.
+fn delete_one(
+    rt: &impl Abort,
+    random: &mut Random,
+    trial: &mut Trial,
+    plain: &mut PlainSet,
+    now: u64,
+) -> Result<(), Memory> {
+    let place = random.next() as usize % plain.elements.len().max(1);
+    let parts = plain.parts_at(trial.alloc, place)?;
+    let answer = trial.delete(parts.as_slice(), now);
+    let wanted = plain.delete(parts.as_slice(), now);
+    assert!(rt; answer == wanted);
+    Ok(())
+}
+
+fn look_up_one(
+    rt: &impl Abort,
+    random: &mut Random,
+    kinds: &[Kind],
+    trial: &mut Trial,
+    plain: &PlainSet,
+    now: u64,
+) -> Result<(), Memory> {
+    let key = key_near(trial.alloc, random, kinds, plain)?;
+    let found = trial.find(rt, key.as_slice(), now)?;
+    assert!(rt; found == plain.find(key.as_slice(), now));
+    Ok(())
+}
+
+fn purge_both(rt: &impl Abort, trial: &mut Trial, plain: &mut PlainSet, now: u64) {
+    let answer = trial.set.purge(trial.alloc, now);
+    assert!(rt; answer == Ok(plain.purge(now)));
+}
+
+/// One call of any kind, at a moment below 3,000; a purge once in many.
+fn step(
+    rt: &impl Abort,
+    random: &mut Random,
+    kinds: &[Kind],
+    trial: &mut Trial,
+    plain: &mut PlainSet,
+) -> Result<(), Memory> {
+    let now = random.below(3_000);
+    match random.below(256) {
+        0 => Ok(purge_both(rt, trial, plain, now)),
+        1..=96 => insert_one(rt, random, kinds, trial, plain, now),
+        97..=144 => delete_one(rt, random, trial, plain, now),
+        _ => look_up_one(rt, random, kinds, trial, plain, now),
+    }
+}
+
+fn check(rt: &impl Abort, alloc: Global, kinds: &[Kind], seed: u64) -> Result<(), Memory> {
+    let mut random = Random::new(seed);
+    let mut plain = PlainSet::new(alloc);
+    let mut trial = Trial::new(rt, alloc, kinds, None)?;
+    for _ in 0..1_500 {
+        step(rt, &mut random, kinds, &mut trial, &mut plain)?;
+    }
+    Ok(())
+}
+
+#[test]
+fn changes_of_addresses_and_ports(rt: HostRuntime) -> Result<(), Fail> {
+    Ok(check(&rt, rt.alloc(), &[Kind::Ipv4, Kind::Service], 5)?)
+}
+
+#[test]
+fn changes_of_one_field(rt: HostRuntime) -> Result<(), Fail> {
+    Ok(check(&rt, rt.alloc(), &[Kind::Service], 6)?)
+}
+
+#[test]
+fn changes_of_three_fields(rt: HostRuntime) -> Result<(), Fail> {
+    Ok(check(&rt, rt.alloc(), &[Kind::Ether, Kind::Proto, Kind::Mark], 7)?)
+}

@@ -1,0 +1,33 @@
+//! A set's image as a driver in C calls it, to measure lookups and insertions. No crate stands on
+//! this one, and the driver is no part of the program.
+#![tactic(auto)]
+
+mod numbers;
+mod run;
+mod workload;
+
+use std::alloc::Global;
+
+/// Builds a set of these elements and looks up all keys `rounds` times, by the textbook lookup where
+/// `textbook` isn't 0. It gives the bytes of the set's tables, and 0 where there is no memory or the
+/// workload is no good.
+///
+/// `kinds` has a number for each field: 0 to 5 for `ipv4_addr`, `ipv6_addr`, `ether_addr`,
+/// `inet_proto`, `inet_service` and `mark`. A value is two words, the lower one first. An element is
+/// a low and a high value for each field, and a key one value for each field. `answers` has then for
+/// each key the number of the element that it matched, from 1 on in the order of `elements`, or 0.
+#[unsafe(no_mangle)]
+pub extern "C" fn pipapo_run(
+    alloc: Global,
+    kinds: &[u32],
+    elements: &[u64],
+    keys: &[u64],
+    rounds: u32,
+    textbook: u32,
+    answers: &mut [u64],
+) -> u64 {
+    match run::run(alloc, kinds, elements, keys, rounds, textbook != 0, answers) {
+        Ok(bytes) => bytes,
+        Err(_) => 0,
+    }
+}

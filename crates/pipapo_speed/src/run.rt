@@ -1,0 +1,202 @@
+ghost use Rattle.std.specs.Prelude.{◌≡◌, true, All};
+ghost use Rattle.set_model.specs.Key.{key_fits};
+
+use crate::numbers::word_at;
+use crate::workload::{keys_of, kinds_of, parts_at};
+use pipapo_image::{Added, InsertError, Scratch, SetImage};
+use set_model::{Comment, Key, Memory, Parts, parts_fit};
+use std::alloc::Global;
+
+/// Why nothing was measured.
+#[derive(Drop)]
+pub(crate) enum Fault {
+    Memory,
+    Fields,
+}
+
+impl From<Memory> for Fault {
+    fn from(_: Memory) -> Fault {
+        Fault::Memory
+    }
+}
+
+/// A set that is measured, with the number of each of its elements in the workload.
+#[derive(Drop)]
+struct Measured {
+    set: SetImage,
+    scratch: Scratch,
+    numbers: Vec<u64>,
+    alloc: Global,
+}
+
+/// Builds the set, looks the keys up, and gives the bytes of its tables.
+pub(crate) fn run(
+    alloc: Global,
+    kinds: &[u32],
+    elements: &[u64],
+    keys: &[u64],
+    rounds: u32,
+    textbook: bool,
+    answers: &mut [u64],
+) -> Result<u64, Fault> {
+    let mut measured = Measured::new(alloc, kinds)?;
+    measured.fill(elements, kinds.len())?;
+    measured.look_up(keys, rounds, textbook, answers)?;
+    measured.number(answers);
+    Ok(table_bytes(&measured.set))
+}
+
+impl Measured {
+    fn new(alloc: Global, kinds: &[u32]) -> Result<Measured, Fault> {
+        let scratch = Scratch::new(alloc)?;
+        match new_set(alloc, kinds) {
+            Ok(set) => Ok(Measured {
+                set,
+                scratch,
+                numbers: Vec::new(alloc),
+                alloc,
+            }),
+            Err(fault) => Err(fault),
+        }
+    }
+
+    /// Adds all elements. One that is refused is left out.
+    fn fill(&mut self, elements: &[u64], fields: usize) -> Result<(), Memory> {
+        for e in 0..elements.len() / fields.saturating_mul(4).max(1) {
+            self.add_one(elements, fields, e)?;
+        }
+        Ok(())
+    }
+
+    fn add_one(&mut self, elements: &[u64], fields: usize, e: usize) -> Result<(), Memory> {
+        let parts = parts_at(self.alloc, elements, fields, e)?;
+        match add(self.alloc, &mut self.set, &parts, &mut self.scratch) {
+            Ok(true) => note(&mut self.numbers, e as u64),
+            Ok(false) => Ok(()),
+            Err(memory) => Err(memory),
+        }
+    }
+
+    /// Looks all keys up so many times.
+    fn look_up(
+        &mut self,
+        keys: &[u64],
+        rounds: u32,
+        textbook: bool,
+        answers: &mut [u64],
+    ) -> Result<(), Memory> {
+        let keys = keys_of(self.alloc, &self.set.kinds, keys, answers.len())?;
+        let scratch = &mut self.scratch;
+        look_up_all(
+            &self.set,
+            keys.as_slice(),
+            scratch,
+            rounds,
+            textbook,
+            answers,
+        );
+        Ok(())
+    }
+
+    /// Turns places into the numbers of the elements. Both count from 1 on.
+    fn number(&self, answers: &mut [u64]) {
+        for answer in answers.iter_mut() {
+            if *answer != 0 {
+                let place = *answer - 1;
+                *answer = word_at(self.numbers.as_slice(), place as usize).saturating_add(1);
+            }
+        }
+    }
+}
+
+fn new_set(alloc: Global, kinds: &[u32]) -> Result<SetImage, Fault> {
+    let kinds = kinds_of(alloc, kinds)?;
+    if kinds.len() == 0 || kinds.len() > 16 {
+        return Err(Fault::Fields);
+    }
+    Ok(SetImage::new(alloc, &kinds, None, false)?)
+}
+
+fn note(numbers: &mut Vec<u64>, number: u64) -> Result<(), Memory> {
+    numbers.push(number)?;
+    Ok(())
+}
+
+/// Adds an element. Whether it is new.
+fn add(
+    alloc: Global,
+    set: &mut SetImage,
+    parts: &Parts,
+    scratch: &mut Scratch,
+) -> Result<bool, Memory> {
+    if !parts_fit(&set.kinds, parts) {
+        return Ok(false);
+    }
+    match set.insert(alloc, parts, None, &Comment::new(alloc), 0, scratch) {
+        Ok(Added::New { .. }) => Ok(true),
+        Err(InsertError::Memory) => Err(Memory),
+        _ => Ok(false),
+    }
+}
+
+/// Looks each key up so many times.
+fn look_up_all(
+    set: &SetImage,
+    keys: &[Key],
+    scratch: &mut Scratch,
+    rounds: u32,
+    textbook: bool,
+    answers: &mut [u64],
+)
+    requires { All (λ key. key_fits set.now.kinds key ≡ true) keys.now }
+{
+    for _ in 0..rounds {
+        if textbook {
+            plain_round(set, keys, scratch, answers);
+        } else {
+            round(set, keys, scratch, answers);
+        }
+    }
+}
+
+/// Looks each key up once. An answer is the place behind the element's, or 0.
+#[inline(never)]
+fn round(set: &SetImage, keys: &[Key], scratch: &mut Scratch, answers: &mut [u64])
+    requires { All (λ key. key_fits set.now.kinds key ≡ true) keys.now }
+{
+    'keys: for (key, answer) in keys.iter().zip(answers.iter_mut()) {
+        *answer = match set.find(key, 0, scratch) {
+            Some(found) => found.place.saturating_add(1),
+            None => 0,
+        };
+    }
+}
+
+/// The same by the textbook lookup.
+#[inline(never)]
+fn plain_round(set: &SetImage, keys: &[Key], scratch: &mut Scratch, answers: &mut [u64])
+    requires { All (λ key. key_fits set.now.kinds key ≡ true) keys.now }
+{
+    'keys: for (key, answer) in keys.iter().zip(answers.iter_mut()) {
+        *answer = match set.plain_place(key, 0, scratch) {
+            Some(place) => place.saturating_add(1),
+            None => 0,
+        };
+    }
+}
+
+/// The bytes that the rooms of the buckets, the mappings and the ends take.
+fn table_bytes(set: &SetImage) -> u64 {
+    let index = &set.index;
+    let mut bytes = 0u64;
+    for f in 0..index.fields.len() {
+        let buckets = &index.fields.at(f).buckets;
+        for j in 0..buckets.len() {
+            bytes = bytes.saturating_add(buckets.at(j).room() as u64 / 8);
+        }
+    }
+    for f in 0..index.maps.len() {
+        bytes = bytes.saturating_add(index.maps.at(f).len() as u64 * 8);
+    }
+    bytes.saturating_add(index.ends.len() as u64 * 24)
+}
