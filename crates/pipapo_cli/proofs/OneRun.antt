@@ -1,7 +1,6 @@
 -- A script of the grammar is one transaction of at most one set, and packets of the grammar are packets of that set.
-use Rattle.std.proofs.Common.{◌≡◌, refl, sym, ◌∙◌, ap, subst, ℕ, zero, suc, ◌≤◌, List, [], ◌∷◌, ◌++◌, length, slice_get, Some, true, false, inl, arith, All}
+use Rattle.std.proofs.Common.{◌≡◌, refl, sym, subst, ℕ, zero, suc, ◌≤◌, List, [], ◌∷◌, ◌++◌, length, slice_get, Some, true, false, arith, All}
 use Rattle.std.proofs.lemmas.List.Elements.{All-nil, All-cons}
-use Rattle.set_model.specs.declared.kind.Kind.{Kind}
 use Rattle.set_model.specs.declared.packet.Packet.{Packet}
 use Rattle.set_model.specs.declared.script.Script.{Script}
 use Rattle.set_model.specs.declared.script.SetDecl.{SetDecl}
@@ -12,7 +11,7 @@ use Rattle.set_script.specs.Changes.{committed}
 use Rattle.set_script.specs.OneTransaction.{IsOneTransaction, IsChange}
 use Rattle.set_script.specs.Runnable.{IsRunnable, IsRunnableStep, HasFields}
 use Rattle.key_file.specs.Fits.{IsFitting}
-use Rattle.pipapo_cli.specs.Run.{IsStepOf, IsTransactionOf, nothing, changes, HasSet, AreStepsOf, IsOneRun, IsPacketOf}
+use Rattle.pipapo_cli.specs.Run.{IsStepOf, nothing, changes, HasSet, AreStepsOf, IsOneRun, IsPacketOf}
 use Rattle.pipapo_cli.proofs.Lists.{All-head, All-tail}
 
 only-set : (d e : SetDecl) (n : ℕ) → slice_get (d ∷ []) n ≡ Some e → (n ≡ 0) × (d ≡ e)
