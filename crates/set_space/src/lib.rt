@@ -13,3 +13,6 @@ pub use answers::CreateError;
 pub use generation::Generation;
 pub use sets::Sets;
 pub use work::Work;
+
+#[cfg(test)]
+mod tests;

@@ -1,8 +1,7 @@
-use Rattle.std.proofs.Common.{◌≡◌, true, subst, arith}
+use Rattle.std.proofs.Common.{arith}
 use Rattle.std.specs.Arc.{arc_value}
 use Rattle.std.proofs.lemmas.Result.{on_err_weaker}
-use Rattle.set_model.specs.Key.{parts_fit}
-use Rattle.set_model.specs.SetState.{State, add}
+use Rattle.set_model.specs.SetState.{add}
 use Rattle.set_space.specs.Answers.{IsCreation}
 use Rattle.set_space.proofs.Refusals.{creation_err}
 use Rattle.set_space.specs.OpenSets.{open_state}
@@ -22,7 +21,7 @@ create-requires c =
     let within = open-within (arc_value c.self.inside.base) c.self.inside.sets.items c.args.set c.args.self.now c.self.view_is c.self.invariant c.requires.set in
     let base = base-at (arc_value c.self.inside.base) c.deref.result.now c.args.set c.set-base.result.now c.deref.ensures c.set-base.ensures in
     c.requires.fits (open_state c.index_mut.result.now c.set-base.result.now)
-      (work-at (arc_value c.self.inside.base) c.self.inside.sets.items c.args.set c.index_mut.result.now c.set-base.result.now c.args.self.now c.self.view_is within c.index_mut.ensures.value base)
+    (work-at (arc_value c.self.inside.base) c.self.inside.sets.items c.args.set c.index_mut.result.now c.set-base.result.now c.args.self.now c.self.view_is within c.index_mut.ensures.value base)
 
 pub returns-clause-change : goal.returns-clause-change
 returns-clause-change c =

@@ -1,6 +1,5 @@
-use Rattle.std.proofs.Common.{◌≡◌, ◌∙◌, sym, ap, slice_get, Some, arith, rules, subst}
+use Rattle.std.proofs.Common.{◌∙◌, sym, ap, Some, arith}
 use Rattle.std.specs.Arc.{arc_value}
-use Rattle.set_model.specs.SetState.{State}
 use Rattle.set_space.proofs.SetsLaws.{set-within, open-within, base-at, work-at}
 use Rattle.set_space.proofs.work.Work.set.Goals as goal
 

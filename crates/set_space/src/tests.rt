@@ -1,0 +1,169 @@
+ghost use Rattle.std.specs.Prelude.{IfOk, All};
+ghost use Rattle.set_space.specs.Open.{CanBeBuilt};
+
+use crate::{Generation, Work};
+use pipapo_image::Added;
+use set_model::{
+    Comment, Family, Interval, Kind, Kinds, Memory, Name, Parts, Schema, SetDecl, parts_fit,
+};
+use std::alloc::Global;
+use std::process::Abort;
+use std::sync::Arc;
+use std::test::Fail;
+
+/// A set of ports whose elements may expire.
+fn port_set(alloc: Global) -> Result<SetDecl, Memory>
+    ensures { IfOk result CanBeBuilt }
+{
+    let mut kinds = Kinds::new(alloc);
+    kinds.push(Kind::Service)?;
+    Ok(SetDecl {
+        family: Family::Ip,
+        table: Name::new(alloc),
+        name: Name::new(alloc),
+        kinds,
+        interval: true,
+        timed: true,
+        disjoint: false,
+        timeout: None,
+        size: None,
+    })
+}
+
+fn two_sets(alloc: Global) -> Result<Schema, Memory>
+    ensures { IfOk result (All CanBeBuilt) }
+{
+    let mut schema = Schema::new(alloc);
+    schema.push(port_set(alloc)?)?;
+    schema.push(port_set(alloc)?)?;
+    Ok(schema)
+}
+
+/// A work on two sets of ports.
+fn work_on_two_sets(alloc: Global) -> Result<Work, Memory> {
+    let schema = two_sets(alloc)?;
+    let base = Arc::new(alloc, Generation::first(alloc, &schema)?)?;
+    Work::new(alloc, base)
+}
+
+fn port(alloc: Global, number: u128) -> Result<Parts, Memory> {
+    let mut parts = Parts::new(alloc);
+    parts.push(Interval {
+        low: number,
+        high: number,
+    })?;
+    Ok(parts)
+}
+
+/// Inserts a port that expires at a moment. Its id, if it is new.
+fn inserted(
+    rt: &impl Abort,
+    alloc: Global,
+    work: &mut Work,
+    set: u32,
+    expiry: Option<u64>,
+) -> Result<Option<u64>, Memory> {
+    let parts = port(alloc, 80)?;
+    assert!(rt; u64::from(set) < work.len());
+    assert!(rt; parts_fit(&work.set(set).kinds, &parts));
+    match work.insert(set, &parts, expiry, &Comment::new(alloc), 0) {
+        Ok(Added::New { id }) => Ok(Some(id)),
+        _ => Ok(None),
+    }
+}
+
+/// Creates the port in set 0 at a moment. Its id, if it is new.
+fn created(
+    rt: &impl Abort,
+    alloc: Global,
+    work: &mut Work,
+    now: u64,
+) -> Result<Option<u64>, Memory> {
+    let parts = port(alloc, 80)?;
+    assert!(rt; 0 < work.len());
+    assert!(rt; parts_fit(&work.set(0).kinds, &parts));
+    match work.create(0, &parts, None, &Comment::new(alloc), now) {
+        Ok(id) => Ok(Some(id)),
+        Err(_) => Ok(None),
+    }
+}
+
+/// Destroys the port in set 0. Its id, if it was there.
+fn destroyed(rt: &impl Abort, alloc: Global, work: &mut Work) -> Result<Option<u64>, Memory> {
+    let parts = port(alloc, 80)?;
+    assert!(rt; 0 < work.len());
+    work.destroy(0, &parts, 0)
+}
+
+/// Publishes the work at a moment.
+fn sealed(
+    rt: &impl Abort,
+    work: &mut Work,
+    now: u64,
+) -> Result<(Arc<Generation, Global>, u64), Memory> {
+    assert!(rt; work.base().number < 5);
+    work.seal(now)
+}
+
+/// How many elements a set has, with the open changes.
+fn count(rt: &impl Abort, work: &Work, set: u32) -> u64 {
+    assert!(rt; u64::from(set) < work.len());
+    work.set(set).elements.len()
+}
+
+/// How many generations and works share a set of a generation.
+fn owners(rt: &impl Abort, generation: &Generation, set: u64) -> usize {
+    assert!(rt; set < generation.sets.len());
+    Arc::strong_count(generation.shared(set))
+}
+
+#[test]
+fn what_is_expired_is_created_anew_and_purged(rt: HostRuntime) -> Result<(), Fail> {
+    let alloc = rt.alloc();
+    let mut work = work_on_two_sets(alloc)?;
+    assert!(rt; inserted(&rt, alloc, &mut work, 0, Some(30_000))? == Some(0));
+    assert!(rt; created(&rt, alloc, &mut work, 29_999)?.is_none());
+    assert!(rt; created(&rt, alloc, &mut work, 30_000)? == Some(1));
+    let (generation, purged) = sealed(&rt, &mut work, 30_000)?;
+    assert_eq!(rt; purged, 1);
+    assert_eq!(rt; generation.number, 1);
+    assert_eq!(rt; count(&rt, &work, 0), 2);
+    Ok(())
+}
+
+#[test]
+fn a_missing_element_is_no_refusal_to_destroy(rt: HostRuntime) -> Result<(), Fail> {
+    let alloc = rt.alloc();
+    let mut work = work_on_two_sets(alloc)?;
+    assert!(rt; destroyed(&rt, alloc, &mut work)?.is_none());
+    assert!(rt; inserted(&rt, alloc, &mut work, 0, None)? == Some(0));
+    assert!(rt; destroyed(&rt, alloc, &mut work)? == Some(0));
+    Ok(())
+}
+
+#[test]
+fn an_abort_restores_all_sets(rt: HostRuntime) -> Result<(), Fail> {
+    let alloc = rt.alloc();
+    let mut work = work_on_two_sets(alloc)?;
+    assert!(rt; inserted(&rt, alloc, &mut work, 0, None)? == Some(0));
+    assert!(rt; inserted(&rt, alloc, &mut work, 1, None)? == Some(0));
+    work.abort();
+    assert_eq!(rt; count(&rt, &work, 0), 0);
+    assert_eq!(rt; count(&rt, &work, 1), 0);
+    Ok(())
+}
+
+#[test]
+fn an_unchanged_set_is_shared(rt: HostRuntime) -> Result<(), Fail> {
+    let alloc = rt.alloc();
+    let mut work = work_on_two_sets(alloc)?;
+    assert!(rt; inserted(&rt, alloc, &mut work, 0, None)? == Some(0));
+    let (first, _) = sealed(&rt, &mut work, 0)?;
+    let (again, _) = sealed(&rt, &mut work, 0)?;
+    // the changed set: of the work and both generations, and another one of the base
+    assert_eq!(rt; owners(&rt, &again, 0), 3);
+    assert_eq!(rt; owners(&rt, work.base(), 0), 1);
+    // the unchanged set: of the base and both generations
+    assert_eq!(rt; owners(&rt, &first, 1), 3);
+    Ok(())
+}
