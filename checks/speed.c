@@ -1,5 +1,6 @@
 /* The driver of checks/speed: reads a workload, and calls the library or its own textbook loop. */
 #include <inttypes.h>
+#include <malloc.h>
 #include <stdint.h>
 #include <stdio.h>
 #include <stdlib.h>
@@ -12,6 +13,9 @@ typedef unsigned __int128 value_t;
 extern uint64_t pipapo_run(const uint32_t *kinds, size_t kind_count, const uint64_t *elements,
                            size_t element_words, const uint64_t *keys, size_t key_words, uint32_t rounds,
                            uint32_t textbook, uint64_t *answers, size_t answer_count);
+
+extern uint64_t pipapo_change(const uint32_t *kinds, size_t kind_count, const uint64_t *elements,
+                              size_t element_words, uint32_t rounds, uint32_t change);
 
 static const char *const kind_names[6] = {"ipv4_addr",  "ipv6_addr",    "ether_addr",
                                           "inet_proto", "inet_service", "mark"};
@@ -269,6 +273,44 @@ static double timed_run(struct call *c, uint32_t rounds) {
     return time;
 }
 
+/* ---- changes of copies */
+
+enum { COPY = 0, COMMIT = 1, DELETE = 2, PURGE = 3 };
+
+static double timed_change(const struct call *c, uint32_t rounds, uint32_t change) {
+    const struct workload *w = c->w;
+    double start = seconds();
+    uint64_t left = pipapo_change(w->kinds, w->fields, c->elements, w->element_count * w->fields * 4, rounds, change);
+    double time = seconds() - start;
+    if (!left) fail("want of memory, or no element is left");
+    return time;
+}
+
+/* The milliseconds of a copy with its change. The time of a call that makes none is taken off. */
+static double change_ms(const struct call *c, uint32_t change) {
+    double build = 1e9, with = 1e9;
+    /* Memory that a copy gave back is taken again, and not asked of the system anew. */
+    mallopt(M_TRIM_THRESHOLD, 1 << 30);
+    mallopt(M_MMAP_THRESHOLD, 1 << 30);
+    for (int i = 0; i < 5; ++i) {
+        double time = timed_change(c, 0, change);
+        if (time < build) build = time;
+    }
+    uint32_t rounds = 1;
+    while (timed_change(c, rounds, change) < 2 * build + 0.05 && rounds < 1u << 20) rounds *= 2;
+    for (int i = 0; i < 5; ++i) {
+        double time = timed_change(c, rounds, change);
+        if (time < with) with = time;
+    }
+    return (with - build) * 1e3 / rounds;
+}
+
+static void changes(const struct call *c) {
+    double copy = change_ms(c, COPY);
+    printf("copy_ms=%.3f commit_ms=%.3f", copy, change_ms(c, COMMIT));
+    printf(" delete_ms=%.3f purge_ms=%.3f\n", change_ms(c, DELETE) - copy, change_ms(c, PURGE) - copy);
+}
+
 /* One call builds the set and looks the keys up; the time of a call without lookups is taken off. */
 static void bench(struct call *c) {
     double build = 1e9, with = 1e9;
@@ -282,8 +324,9 @@ static void bench(struct call *c) {
         double time = timed_run(c, rounds);
         if (time < with) with = time;
     }
-    printf("lookups_per_s=%.0f inserts_per_s=%.0f table_bytes=%" PRIu64 "\n",
+    printf("lookups_per_s=%.0f inserts_per_s=%.0f table_bytes=%" PRIu64,
            rounds * (double)c->w->key_count / (with - build), c->w->element_count / build, c->bytes);
+    printf(" commit_ms=%.3f\n", change_ms(c, COMMIT));
 }
 
 static void bench_plain(const struct workload *w) {
@@ -308,7 +351,7 @@ static void bench_plain(const struct workload *w) {
 
 int main(int argc, char **argv) {
     struct workload w = {0};
-    if (argc != 3) fail("usage: verdict FILE | bench FILE | textbook FILE | plain FILE");
+    if (argc != 3) fail("usage: verdict FILE | bench FILE | textbook FILE | plain FILE | changes FILE");
     read_workload(&w, argv[2]);
     struct call c = {.w = &w};
     c.elements = words_of(w.elements, w.element_count * w.fields * 2);
@@ -325,10 +368,12 @@ int main(int argc, char **argv) {
     } else if (!strcmp(argv[1], "textbook")) {
         c.textbook = 1;
         bench(&c);
+    } else if (!strcmp(argv[1], "changes")) {
+        changes(&c);
     } else if (!strcmp(argv[1], "plain")) {
         bench_plain(&w);
     } else {
-        fail("usage: verdict FILE | bench FILE | textbook FILE | plain FILE");
+        fail("usage: verdict FILE | bench FILE | textbook FILE | plain FILE | changes FILE");
     }
     return 0;
 }

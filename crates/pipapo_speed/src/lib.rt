@@ -2,6 +2,7 @@
 //! this one, and the driver is no part of the program.
 #![tactic(auto)]
 
+mod changes;
 mod numbers;
 mod run;
 mod workload;
@@ -28,6 +29,25 @@ pub extern "C" fn pipapo_run(
 ) -> u64 {
     match run::run(alloc, kinds, elements, keys, rounds, textbook != 0, answers) {
         Ok(bytes) => bytes,
+        Err(_) => 0,
+    }
+}
+
+/// Builds a set of all elements but the last, of which every tenth expires, and makes `rounds` copies
+/// of it, one after the other. To each copy it adds the last element (`change` 1), or it deletes an
+/// element from its middle (2), or purges it of the expired ones (3), or does nothing more (any other
+/// number). It gives how many elements the last copy had then, and 0 where there is no memory or the
+/// workload is no good. The words are those of `pipapo_run`.
+#[unsafe(no_mangle)]
+pub extern "C" fn pipapo_change(
+    alloc: Global,
+    kinds: &[u32],
+    elements: &[u64],
+    rounds: u32,
+    change: u32,
+) -> u64 {
+    match changes::run(alloc, kinds, elements, rounds, change) {
+        Ok(left) => left,
         Err(_) => 0,
     }
 }

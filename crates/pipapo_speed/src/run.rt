@@ -109,7 +109,7 @@ impl Measured {
     }
 }
 
-fn new_set(alloc: Global, kinds: &[u32]) -> Result<SetImage, Fault> {
+pub(crate) fn new_set(alloc: Global, kinds: &[u32]) -> Result<SetImage, Fault> {
     let kinds = kinds_of(alloc, kinds)?;
     if kinds.len() == 0 || kinds.len() > 16 {
         return Err(Fault::Fields);

@@ -1,0 +1,111 @@
+use crate::run::{Fault, new_set};
+use crate::workload::parts_at;
+use pipapo_image::{Scratch, SetImage};
+use set_model::{Comment, Memory, Parts, parts_fit};
+use std::alloc::Global;
+
+/// A set whose copies are changed.
+#[derive(Drop)]
+struct Full {
+    set: SetImage,
+    scratch: Scratch,
+    alloc: Global,
+}
+
+/// Builds a set of all elements but the last, changes a copy of it so many times, and gives how many
+/// elements the last copy had then.
+pub(crate) fn run(
+    alloc: Global,
+    kinds: &[u32],
+    elements: &[u64],
+    rounds: u32,
+    change: u32,
+) -> Result<u64, Fault> {
+    let fields = kinds.len();
+    let count = elements.len() / fields.saturating_mul(4).max(1);
+    let mut full = Full::new(alloc, kinds)?;
+    full.fill(elements, fields, count.saturating_sub(1))?;
+    let parts = parts_at(alloc, elements, fields, place_of(count, change))?;
+    Ok(full.change_copies(&parts, rounds, change)?)
+}
+
+/// The element that is added, the last one, or deleted, one from the middle.
+fn place_of(count: usize, change: u32) -> usize {
+    if change == 1 {
+        count.saturating_sub(1)
+    } else {
+        count / 2
+    }
+}
+
+impl Full {
+    fn new(alloc: Global, kinds: &[u32]) -> Result<Full, Fault> {
+        let scratch = Scratch::new(alloc)?;
+        match new_set(alloc, kinds) {
+            Ok(set) => Ok(Full {
+                set,
+                scratch,
+                alloc,
+            }),
+            Err(fault) => Err(fault),
+        }
+    }
+
+    /// Adds the first `count` elements at moment 0. Every tenth expires at moment 1.
+    fn fill(&mut self, elements: &[u64], fields: usize, count: usize) -> Result<(), Memory> {
+        for e in 0..count {
+            let expiry = if e % 10 == 0 { Some(1) } else { None };
+            let parts = parts_at(self.alloc, elements, fields, e)?;
+            insert(self.alloc, &mut self.set, &parts, expiry, &mut self.scratch);
+        }
+        Ok(())
+    }
+
+    fn change_copies(&mut self, parts: &Parts, rounds: u32, change: u32) -> Result<u64, Memory> {
+        let mut left = self.set.elements.len();
+        for _ in 0..rounds {
+            left = change_copy(self.alloc, &self.set, parts, &mut self.scratch, change)?;
+        }
+        Ok(left)
+    }
+}
+
+/// Makes a copy and adds an element to it (1), deletes one (2), purges it of every tenth (3), or does
+/// nothing with it (any other number). It gives how many elements it has then.
+fn change_copy(
+    alloc: Global,
+    set: &SetImage,
+    parts: &Parts,
+    scratch: &mut Scratch,
+    change: u32,
+) -> Result<u64, Memory> {
+    let mut copy = set.copy(alloc)?;
+    match change {
+        1 => insert(alloc, &mut copy, parts, None, scratch),
+        2 => delete(alloc, &mut copy, parts),
+        3 => purge(alloc, &mut copy),
+        _ => (),
+    }
+    Ok(copy.elements.len())
+}
+
+/// Adds an element at moment 0, where it isn't refused.
+fn insert(
+    alloc: Global,
+    set: &mut SetImage,
+    parts: &Parts,
+    expiry: Option<u64>,
+    scratch: &mut Scratch,
+) {
+    if parts_fit(&set.kinds, parts) {
+        let _ = set.insert(alloc, parts, expiry, &Comment::new(alloc), 0, scratch);
+    }
+}
+
+fn delete(alloc: Global, set: &mut SetImage, parts: &Parts) {
+    let _ = set.delete(alloc, parts, 0);
+}
+
+fn purge(alloc: Global, set: &mut SetImage) {
+    let _ = set.purge(alloc, 1);
+}
