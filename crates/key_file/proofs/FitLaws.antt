@@ -1,8 +1,9 @@
 -- The packets of a key file fit the declared sets.
-use Rattle.std.proofs.Common.{◌≡◌, refl, sym, ◌∙◌, ap, subst, ℕ, suc, ◌^◌, List, [], ◌∷◌, ◌++◌, length, true, Option, Some, None, slice_get, append_assoc, append-nil}
+use Rattle.std.proofs.Common.{◌≡◌, refl, sym, ◌∙◌, ap, subst, ℕ, suc, ◌^◌, List, [], ◌∷◌, ◌++◌, length, true, Option, Some, None, slice_get, Result, Ok, Err, append_assoc, append-nil}
+use Rattle.std.specs.Prelude.{IfOk}
 use Rattle.std.specs.List.{All}
 use Rattle.std.proofs.lemmas.Bool.{lt-ltb, eq-eqb}
-use Rattle.std.proofs.lemmas.List.Elements.{All-nil, All-push}
+use Rattle.std.proofs.lemmas.List.Elements.{All-nil, All-cons, All-push}
 use Rattle.set_model.specs.declared.kind.Kind.{Kind}
 use Rattle.set_model.specs.declared.script.SetDecl.{SetDecl}
 use Rattle.set_model.specs.declared.packet.Packet.{Packet}
@@ -24,7 +25,8 @@ use Rattle.key_file.specs.declared.draft.AtWord.TheVariants as ats
 use Rattle.key_file.specs.KeyNames.{key_word_of}
 use Rattle.key_file.specs.Keys.{no_keys}
 use Rattle.key_file.specs.KeysText.{IsKeysText}
-use Rattle.key_file.specs.Fits.{IsFitting, IsPlainKeys}
+use Rattle.set_model.specs.Runnable.{IsFitting}
+use Rattle.token_forms.specs.declared.error.ReadError.{ReadError}
 
 -- values of these kinds, one for each
 record AreValues (ks : List Kind) (key : List ℕ) : Type 0 where
@@ -75,8 +77,12 @@ line_keeps schema d after x all (w, x1, y1, e1, w1, behind) = go (key_word_of w)
   go keys.At (a, x2, y2, e2, w2, h) = at a y2 h
   go keys.Table h = packet (families.Ip, w) y1 h
 
-pub keys_are_plain : (schema : List SetDecl) (text : List ℕ) (keys : List (List Packet)) → IsKeysText schema text keys → IsPlainKeys schema keys
+all_fit : (schema : List SetDecl) (text : List ℕ) (keys : List (List Packet)) → IsKeysText schema text keys → All (All (IsFitting schema)) keys
 unfolding IsKeysText
-keys_are_plain schema text keys (read, x, y, e, (s, x1, y1, e1, w, h), (u, x2, y2, e2, w2, h2)) =
+all_fit schema text keys (read, x, y, e, (s, x1, y1, e1, w, h), (u, x2, y2, e2, w2, h2)) =
     let k = lines_keep breaks_off (form.key_line schema) (AllFit schema) (line_keeps schema) (no_keys, true) s x1 (All-nil (IsFitting schema)) w in
-    subst (IsPlainKeys schema) (h.1 ∙ h2.1) (record { packets = s.0.packets; section = refl; each = k })
+    subst (All (All (IsFitting schema))) (h.1 ∙ h2.1) (All-cons (All (IsFitting schema)) s.0.packets [] k (All-nil (All (IsFitting schema))))
+
+pub keys_fit : (schema : List SetDecl) (text : List ℕ) (r : Result (List (List Packet)) ReadError) → IfOk r (IsKeysText schema text) → IfOk r (All (All (IsFitting schema)))
+keys_fit schema text (Ok keys) w = all_fit schema text keys w
+keys_fit schema text (Err e) w = tt

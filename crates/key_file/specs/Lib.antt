@@ -1,5 +1,4 @@
 pub mod KeyNames
 pub mod Keys
 pub mod KeysText
-pub mod Fits
 pub mod KeysReading

@@ -1,15 +1,14 @@
-ghost use Rattle.std.specs.Prelude.{◌≡◌, List, [], ◌∷◌, ℕ, IfOk, Err};
+ghost use Rattle.std.specs.Prelude.{◌≡◌, List, [], ◌∷◌, ℕ, All, IfOk, Err};
 ghost use Rattle.token_forms.specs.Gives.{Gives, IsReadAs};
 ghost use Rattle.token_forms.specs.TextTokens.{text_tokens};
 ghost use Rattle.token_forms.specs.Faults.{IsFault};
 ghost use Rattle.token_forms.specs.declared.token.Reason.{Reason};
-ghost use Rattle.token_forms.specs.declared.token.Reason.TheVariants.{LeftOut};
 ghost use Rattle.token_forms.specs.declared.error.ReadError.TheVariants.{Bad};
 ghost use Rattle.set_model.specs.declared.packet.Packet.{Packet};
 ghost use Rattle.key_file.specs.KeysReading as reading;
 ghost use Rattle.key_file.specs.Keys.{key_file};
 ghost use Rattle.key_file.specs.KeysText.{IsKeysText};
-ghost use Rattle.key_file.specs.Fits.{IsPlainKeys};
+ghost use Rattle.set_model.specs.Runnable.{IsFitting};
 
 use crate::lines::key_lines;
 use set_model::{Keys, Listed, Memory, Packets, Schema, SetDecl};
@@ -45,32 +44,24 @@ fn whole(reader: &mut Reader, alloc: Global, schema: &[SetDecl]) -> Result<Keys,
     Ok(keys)
 }
 
-/// The key file of a text, or the line of its first token that doesn't fit and the reason.
-fn read_placed(alloc: Global, schema: &Schema, text: &[u8]) -> Result<Keys, ReadError>
-    ensures found { IfOk result (IsKeysText schema.now text.now) }
-    ensures only { (keys : List (List Packet)) → IsKeysText schema.now text.now keys → IsReadAs (λ x. x) result keys }
-    ensures bad { (line : ℕ) (reason : Reason) → result ≡ Err (Bad line reason) → IsFault (key_file schema.now) (text_tokens text.now) line reason }
-{
-    let mut reader = Reader::new(text);
-    whole(&mut reader, alloc, schema.as_slice())
-}
-
-/// The key file that a text stands for, for the sets of a schema. A text outside the grammar is answered by `Bad` with
-/// line 0 and the reason `LeftOut`, since no place is given yet.
+/// The key file that a text stands for, for the sets of a schema.
+///
+/// # Errors
+///
+/// `Bad` exactly where the text isn't in the grammar, with the line of its first token that doesn't fit and the reason.
+/// `Memory` where there is none left.
 pub fn read_keys(alloc: Global, schema: &Schema, text: &[u8]) -> Result<Keys, KeyError>
     // What is read is the key file that the text stands for.
     ensures found { IfOk result (IsKeysText schema.now text.now) }
     // A text that stands for a key file is read as that one, unless memory runs out; so it stands for one at most.
     ensures only { (keys : List (List Packet)) → IsKeysText schema.now text.now keys → IsReadAs (λ x. x) result keys }
-    // A text that is refused stands for no key file.
-    ensures bad { (line : ℕ) (reason : Reason) → result ≡ Err (Bad line reason) → (line ≡ 0) × (reason ≡ LeftOut) × ((keys : List (List Packet)) → IsKeysText schema.now text.now keys → ⊥) }
-    // There is one section. Each packet's set is declared, and its key fits the set's kinds.
-    ensures fits { IfOk result (IsPlainKeys schema.now) }
+    // A text that is refused stands for no key file; the line is that of its bad token, with the first reason that applies.
+    ensures bad { (line : ℕ) (reason : Reason) → result ≡ Err (Bad line reason) → IsFault (key_file schema.now) (text_tokens text.now) line reason }
+    // Each packet's set is declared, and its key fits the set's kinds.
+    ensures fits { IfOk result (All (All (IsFitting schema.now))) }
 {
-    match read_placed(alloc, schema, text) {
-        Ok(keys) => Ok(keys),
-        Err(e) => Err(e.without_place()),
-    }
+    let mut reader = Reader::new(text);
+    whole(&mut reader, alloc, schema.as_slice())
 }
 
 /// A text stands for one key file at most.

@@ -1,6 +1,6 @@
 -- What a script does: generations, transactions, refusals (nft(8): a file is applied in whole transactions).
 use Rattle.std.specs.Prelude.{ℕ, ◌+◌, Bool, true, false, List, [], ◌∷◌, ◌++◌, map, if◌then◌else◌, not, Option, Some, None, slice_get, slice_set, fold, count_by}
-use Rattle.std.specs.List.{sum_by as total_by}
+use Rattle.std.specs.List.{sum_by as total_by, list_any}
 use Rattle.set_model.specs.declared.kind.Interval.{Interval}
 use Rattle.set_model.specs.declared.script.Step.{Step}
 use Rattle.set_model.specs.declared.script.Step.TheVariants.{Change, Flush, Commit, Abort}
@@ -11,6 +11,7 @@ use Rattle.set_model.specs.declared.report.Why.TheVariants as causes
 use Rattle.set_model.specs.declared.report.Event.{Event}
 use Rattle.set_model.specs.declared.report.Event.TheVariants as events
 use Rattle.set_model.specs.declared.script.SetDecl.{SetDecl}
+use Rattle.set_model.specs.declared.script.Script.{Script}
 use Rattle.set_model.specs.Expiry.{live}
 use Rattle.set_model.specs.SetState.{State, Added, New, Already, Renewed, Refused, add, removed, purged, cleared, empty_set}
 
@@ -23,6 +24,11 @@ pub record Generation : Type 0 where
 pub data Mode : Type 0 where
   Strict : Mode
   KeepGoing : Mode
+
+-- the mode of a run that keeps going, or not
+abbrev pub mode_of : Bool → Mode
+mode_of true = KeepGoing
+mode_of false = Strict
 
 -- The generations so far and the last of them again, the sets with the open changes, whether the
 -- open transaction has failed, and what was told.
@@ -129,3 +135,14 @@ section mode c steps = fold (step mode) c steps
 -- Sections, one after another, from generation 0 on.
 abbrev pub history : Mode → List SetDecl → List (List Step) → Control
 history mode schema sections = fold (section mode) (start schema) sections
+
+-- An event tells that a change was refused.
+abbrev pub is_refusal : Event → Bool
+is_refusal (events.Refused line set why) = true
+is_refusal (events.Committed generation purged) = false
+is_refusal (events.Aborted generation) = false
+is_refusal (events.Dropped generation) = false
+
+-- A change of the script is refused.
+abbrev pub has_refusal : Mode → Script → Bool
+has_refusal mode script = list_any is_refusal (history mode script.schema script.sections).events

@@ -6,4 +6,5 @@ pub mod Expiry
 pub mod SetState
 pub mod Control
 pub mod Legal
+pub mod Runnable
 pub mod Text

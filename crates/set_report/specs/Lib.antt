@@ -1,2 +1,5 @@
 pub mod Writes
 pub mod Pieces
+pub mod Remarks
+pub mod ListText
+pub mod DumpText

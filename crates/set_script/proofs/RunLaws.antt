@@ -38,8 +38,7 @@ use Rattle.set_script.specs.Names.{is_set, set_place, new_name, kind_of, kind_be
 use Rattle.set_script.specs.Changes.{empty, declaration, declared, with_flag, change, committed}
 use Rattle.set_script.specs.Script as form
 use Rattle.set_script.specs.ScriptText.{IsScriptText}
-use Rattle.set_script.specs.Runnable.{HasFields, IsRunnableStep, IsRunnable}
-use Rattle.set_script.specs.OneTransaction.{IsChange, IsOneTransaction}
+use Rattle.set_model.specs.Runnable.{HasFields, IsRunnableStep, IsRunnable}
 
 -- intervals that fit these kinds, one for each
 record AreParts (ks : List Kind) (parts : List Interval) : Type 0 where
@@ -301,28 +300,15 @@ all_run : (schema : List SetDecl) (now : ℕ) (steps : List Step) → All (IsRun
 all_run schema now [] each = each
 all_run schema now (s ∷ ss) each = All-push (IsRunnableStep schema) (s ∷ ss) (Commit now) each tt
 
-pub record IsRead (s : Script) : Type 0 where
-  pub runnable : IsRunnable s
-  pub one_transaction : IsOneTransaction s
-
-pub script_is_read : (text : List ℕ) (s : Script) → IsScriptText text s → IsRead s
+pub script_is_read : (text : List ℕ) (s : Script) → IsScriptText text s → IsRunnable s
 unfolding IsScriptText
 script_is_read text s (read, x, y, e, (d, x1, y1, e1, w, h), (u, x2, y2, e2, w2, h2)) =
     let k = lines_keep separates form.statement IsRunDraft statement_keeps (empty, true) d x1 empty_runs w in
     let one = k.one_set in
     let runnable : All (IsRunnableStep d.0.schema) d.0.steps = λ i a lt. runs d.0.schema _ ((k.steps i a lt).of) in
-    let changes : All IsChange d.0.steps = λ i a lt. (k.steps i a lt).change in
-    subst IsRead (h.1 ∙ h2.1) (record {
-      runnable = record {
-        sets = k.fields;
-        few_sets = omega arith;
-        steps = All-cons (All (IsRunnableStep d.0.schema)) (committed d.0.moment d.0.steps) [] (all_run d.0.schema d.0.moment d.0.steps runnable) (All-nil (All (IsRunnableStep d.0.schema)));
-      };
-      one_transaction = record {
-        changes = d.0.steps;
-        section = refl;
-        each = changes;
-        not_disjoint = k.not_disjoint;
-        one_set = one;
-      };
+    subst IsRunnable (h.1 ∙ h2.1) (record {
+      sets = k.fields;
+      may_share = k.not_disjoint;
+      few_sets = omega arith;
+      steps = All-cons (All (IsRunnableStep d.0.schema)) (committed d.0.moment d.0.steps) [] (all_run d.0.schema d.0.moment d.0.steps runnable) (All-nil (All (IsRunnableStep d.0.schema)));
     })

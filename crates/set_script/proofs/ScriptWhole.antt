@@ -1,5 +1,6 @@
 -- What reading a whole script says of its text.
-use Rattle.std.proofs.Common.{◌≡◌, sym, subst, List, ℕ, Result}
+use Rattle.std.proofs.Common.{◌≡◌, sym, subst, List, ℕ, Result, Ok, Err}
+use Rattle.std.specs.Prelude.{IfOk}
 use Rattle.set_model.specs.declared.script.Script.{Script}
 use Rattle.token_forms.specs.Token.{Lexeme}
 use Rattle.token_forms.specs.declared.error.ReadError.{ReadError}
@@ -12,7 +13,9 @@ use Rattle.token_forms.proofs.KindLaws.{end_no_line}
 use Rattle.set_script.specs.Script as form
 use Rattle.set_script.specs.ScriptText.{IsScriptText}
 use Rattle.set_script.specs.ScriptReading as reading
+use Rattle.set_model.specs.Runnable.{IsRunnable}
 use Rattle.set_script.proofs.ScriptLaws.{body_reads}
+use Rattle.set_script.proofs.RunLaws.{script_is_read}
 
 pub script_gives : (text : List ℕ) (ts : List Lexeme) (r : Result Script ReadError) (new : List Lexeme) → ts ≡ text_tokens text → Gives (λ x. x) r new (reading.script ts) → TextGives form.body (text_tokens text) (λ x. x) r
 unfolding reading.script
@@ -23,3 +26,7 @@ script_gives text ts r new e g =
 pub script_single : (text : List ℕ) (s t : Script) → IsScriptText text s → IsScriptText text t → s ≡ t
 unfolding IsScriptText
 script_single text s t w v = text_single body_reads (λ _. end_no_line) (text_tokens text) (text_ends text) s t w v
+
+pub script_runs : (text : List ℕ) (r : Result Script ReadError) → IfOk r (IsScriptText text) → IfOk r IsRunnable
+script_runs text (Ok s) w = script_is_read text s w
+script_runs text (Err e) w = tt

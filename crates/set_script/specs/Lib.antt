@@ -4,6 +4,4 @@ pub mod Changes
 pub mod Names
 pub mod Script
 pub mod ScriptText
-pub mod Runnable
-pub mod OneTransaction
 pub mod ScriptReading

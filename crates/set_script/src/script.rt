@@ -3,14 +3,12 @@ ghost use Rattle.token_forms.specs.Gives.{Gives, IsReadAs};
 ghost use Rattle.token_forms.specs.TextTokens.{text_tokens};
 ghost use Rattle.token_forms.specs.Faults.{IsFault};
 ghost use Rattle.token_forms.specs.declared.token.Reason.{Reason};
-ghost use Rattle.token_forms.specs.declared.token.Reason.TheVariants.{LeftOut};
 ghost use Rattle.token_forms.specs.declared.error.ReadError.TheVariants.{Bad};
 ghost use Rattle.set_model.specs.declared.script.Script.{Script};
 ghost use Rattle.set_script.specs.ScriptReading as reading;
 ghost use Rattle.set_script.specs.Script.{script};
 ghost use Rattle.set_script.specs.ScriptText.{IsScriptText};
-ghost use Rattle.set_script.specs.Runnable.{IsRunnable};
-ghost use Rattle.set_script.specs.OneTransaction.{IsOneTransaction};
+ghost use Rattle.set_model.specs.Runnable.{IsRunnable};
 
 use crate::draft::{Draft, Target};
 use crate::elements::list;
@@ -235,34 +233,24 @@ fn whole(reader: &mut Reader, alloc: Global) -> Result<Script, ReadError>
     Ok(s)
 }
 
-/// The script of a text, or the line of its first token that doesn't fit and the reason.
-fn read_placed(alloc: Global, text: &[u8]) -> Result<Script, ReadError>
-    ensures found { IfOk result (IsScriptText text.now) }
-    ensures only { (s : Script) → IsScriptText text.now s → IsReadAs (λ x. x) result s }
-    ensures bad { (line : ℕ) (reason : Reason) → result ≡ Err (Bad line reason) → IsFault script (text_tokens text.now) line reason }
-{
-    let mut reader = Reader::new(text);
-    whole(&mut reader, alloc)
-}
-
-/// The script that a text stands for. A text outside the grammar is answered by `Bad` with line 0 and the reason
-/// `LeftOut`, since no place is given yet.
+/// The script that a text stands for.
+///
+/// # Errors
+///
+/// `Bad` exactly where the text isn't in the grammar, with the line of its first token that doesn't fit and the reason.
+/// `Memory` where there is none left.
 pub fn read_script(alloc: Global, text: &[u8]) -> Result<Script, ScriptError>
     // What is read is the script that the text stands for.
     ensures found { IfOk result (IsScriptText text.now) }
     // A text that stands for a script is read as that one, unless memory runs out; so it stands for one at most.
     ensures only { (s : Script) → IsScriptText text.now s → IsReadAs (λ x. x) result s }
-    // A text that is refused stands for no script.
-    ensures bad { (line : ℕ) (reason : Reason) → result ≡ Err (Bad line reason) → (line ≡ 0) × (reason ≡ LeftOut) × ((s : Script) → IsScriptText text.now s → ⊥) }
-    // Each set has 1 to 16 fields, and each step is of a declared set, whose kinds its intervals fit.
+    // A text that is refused stands for no script; the line is that of its bad token, with the first reason that applies.
+    ensures bad { (line : ℕ) (reason : Reason) → result ≡ Err (Bad line reason) → IsFault script (text_tokens text.now) line reason }
+    // The script can be run on the sets that it declares.
     ensures runnable { IfOk result IsRunnable }
-    // At most one set, and one transaction of additions, deletions and flushes.
-    ensures one_transaction { IfOk result IsOneTransaction }
 {
-    match read_placed(alloc, text) {
-        Ok(s) => Ok(s),
-        Err(e) => Err(e.without_place()),
-    }
+    let mut reader = Reader::new(text);
+    whole(&mut reader, alloc)
 }
 
 /// A text stands for one script at most.

@@ -1,17 +1,19 @@
-use Rattle.std.proofs.Common.{◌≡◌, ap, Err}
-use Rattle.token_forms.specs.Gives.{placeless}
-use Rattle.token_forms.specs.declared.error.ReadError.TheVariants.{Bad}
-use Rattle.token_forms.proofs.AnswerLaws.{of_placeless}
 use Rattle.key_file.specs.KeysText.{IsKeysText}
-use Rattle.key_file.proofs.FitLaws.{keys_are_plain}
+use Rattle.key_file.proofs.KeysLaws.{keys_gives}
+use Rattle.key_file.proofs.FitLaws.{keys_fit}
 use Rattle.key_file.proofs.keys.read_keys.Goals as goal
 
-pub returns-in-Err-clause-bad : goal.returns-in-Err-clause-bad
+pub returns-clause-found : goal.returns-clause-found
 unfolding IsKeysText
-returns-in-Err-clause-bad c = λ line reason h.
-    let same : placeless c.in-Err.e ≡ Bad line reason = cc in
-    let k = of_placeless c.in-Err.e line reason same in
-    (k.0, k.1, (c.in-Err.ensures.bad k.2 k.3 (ap Err k.4)).outside)
+returns-clause-found c = (keys_gives c.args.schema.now _ c.args.text.now _ c.whole.result _ c.as_slice.ensures c.new-reader.ensures c.whole.ensures).found
 
-pub returns-in-Ok-clause-fits : goal.returns-in-Ok-clause-fits
-returns-in-Ok-clause-fits c = keys_are_plain c.args.schema.now c.args.text.now _ c.in-Ok.ensures.found
+pub returns-clause-only : goal.returns-clause-only
+unfolding IsKeysText
+returns-clause-only c = (keys_gives c.args.schema.now _ c.args.text.now _ c.whole.result _ c.as_slice.ensures c.new-reader.ensures c.whole.ensures).only
+
+pub returns-clause-bad : goal.returns-clause-bad
+returns-clause-bad c = (keys_gives c.args.schema.now _ c.args.text.now _ c.whole.result _ c.as_slice.ensures c.new-reader.ensures c.whole.ensures).bad
+
+pub returns-clause-fits : goal.returns-clause-fits
+unfolding IsKeysText
+returns-clause-fits c = keys_fit c.args.schema.now c.args.text.now c.whole.result (keys_gives c.args.schema.now _ c.args.text.now _ c.whole.result _ c.as_slice.ensures c.new-reader.ensures c.whole.ensures).found

@@ -1,0 +1,7 @@
+//! Runs scripts on one thread: the steps of each section on the open sets, and the packets of each key section in the last
+//! generation behind it.
+#![tactic(auto)]
+
+mod output;
+
+pub use output::{Output, dump, listing, transcript};

@@ -1,0 +1,10 @@
+-- What the control of a run told, in front of a listing or a dump of its sets.
+use Rattle.std.specs.Prelude.{ℕ, List, ◌++◌, codes}
+use Rattle.std.specs.List.{flat_map}
+use Rattle.set_model.specs.declared.script.SetDecl.{SetDecl}
+use Rattle.set_model.specs.declared.report.Event.{Event}
+use Rattle.set_model.specs.Text.{event_text}
+
+-- Each event's line, behind `# `: nft(8) reads it as a comment.
+abbrev pub remarks_text : List SetDecl → List Event → List ℕ
+remarks_text schema events = flat_map (λ event. codes "# " ++ event_text schema event) events
