@@ -70,6 +70,12 @@ IsOf sets (Flush line set now) = (ks : List Kind) × (slice_get sets set ≡ Som
 IsOf sets (Commit now) = ⊥
 IsOf sets Abort = ⊥
 
+abbrev IsChange : Step → Type 0
+IsChange (Change line set verb parts expiry comment now) = (verb ≡ verbs.Add) ⊎ (verb ≡ verbs.Delete)
+IsChange (Flush line set now) = Unit {0}
+IsChange (Commit now) = ⊥
+IsChange Abort = ⊥
+
 record IsRunChange (sets : List (List Kind)) (s : Step) : Type 0 where
   of : IsOf sets s
   change : IsChange s
