@@ -1,9 +1,9 @@
 -- A text stands for scripts that can be run.
-use Rattle.std.proofs.Common.{◌≡◌, refl, sym, ◌∙◌, ap, subst, ℕ, zero, suc, ◌+◌, ◌≤◌, ◌<◌, List, [], ◌∷◌, ◌++◌, length, map, Bool, true, false, ◌&&◌, cond, Option, Some, None, option_map, slice_get, nat_lt, nat_le, arith, length-append, append_assoc, append-nil, sum_by, ◌==◌, ◌⊎◌, inl, inr}
+use Rattle.std.proofs.Common.{◌≡◌, refl, sym, ◌∙◌, ap, subst, ℕ, zero, suc, ◌+◌, ◌≤◌, ◌<◌, List, [], ◌∷◌, ◌++◌, length, map, Bool, true, false, ◌&&◌, cond, Option, Some, None, option_map, slice_get, nat_lt, nat_le, arith, length-append, append_assoc, append-nil, sum_by, ◌==◌}
 use Rattle.std.specs.List.{All, position_or_len}
 use Rattle.std.proofs.lemmas.Bool.{ltb-true, eq-eqb}
 use Rattle.std.proofs.lemmas.List.{length-map}
-use Rattle.std.proofs.lemmas.List.Elements.{All-nil, All-cons, All-push}
+use Rattle.std.proofs.lemmas.List.Elements.{All-nil, All-push}
 use Rattle.std.proofs.lemmas.Option.{slice_get-map, cond_some}
 use Rattle.set_model.specs.declared.kind.Kind.{Kind}
 use Rattle.set_model.specs.declared.kind.Interval.{Interval}
@@ -17,7 +17,7 @@ use Rattle.set_model.specs.declared.script.Script.{Script}
 use Rattle.set_model.specs.Key.{intervals_fit}
 use Rattle.addr_text.proofs.IntervalLaws.{IsInterval-good}
 use Rattle.token_forms.specs.Token.{Lexeme}
-use Rattle.token_forms.specs.Words.{is_name, separates, word_value}
+use Rattle.token_forms.specs.Words.{separates, word_value}
 use Rattle.token_forms.proofs.KeepLaws.{many_keeps, lines_keep, word_given}
 use Rattle.token_forms.proofs.WordLaws.{both}
 use Rattle.set_script.specs.declared.draft.Draft.{Draft}

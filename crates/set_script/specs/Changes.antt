@@ -1,4 +1,4 @@
--- What the statements of a script add to what has been read of it.
+-- What the statements of a script, and the parts of them, add to what has been read of it.
 use Rattle.std.specs.Prelude.{ℕ, ◌+◌, ◌-◌, List, [], ◌∷◌, ◌++◌, length, Bool, true, false, nat_lt, Option, Some, None, slice_get, cond}
 use Rattle.set_model.specs.declared.kind.Kind.{Kind}
 use Rattle.set_model.specs.declared.kind.Interval.{Interval}
@@ -16,6 +16,7 @@ use Rattle.set_script.specs.declared.draft.Options.{Options}
 use Rattle.set_script.specs.declared.words.Flag.{Flag}
 use Rattle.set_script.specs.declared.words.Flag.TheVariants as flags
 
+-- before the first statement
 abbrev pub empty : Draft
 empty = record { schema = []; sections = []; steps = []; moment = 0; begun = false; late = false }
 
@@ -105,9 +106,11 @@ change target s line parts o =
     (cond (adds target.verb) (comment_of o.comment) [])
     target.now
 
+-- the steps of the section, with those that a list adds
 abbrev pub with_steps : Draft → List Step → Draft
 with_steps d steps = record d { steps = steps }
 
+-- a flush, whose first word stands in this line
 abbrev pub flush : Draft → ℕ → ℕ → Draft
 flush d line set = record d { steps = d.steps ++ steps.Flush line set d.moment ∷ [] }
 
@@ -119,6 +122,7 @@ declared b steps d = record d { schema = d.schema ++ b.decl ∷ []; steps = step
 abbrev pub begun : Draft → Draft
 begun d = record d { begun = true }
 
+-- `at`: the moment from here on
 abbrev pub at_moment : Draft → ℕ → Draft
 at_moment d moment = record d { moment = moment }
 
@@ -130,7 +134,7 @@ commit d = record d { steps = d.steps ++ steps.Commit d.moment ∷ []; late = tr
 abbrev pub abort : Draft → Draft
 abort d = record d { steps = d.steps ++ steps.Abort ∷ []; late = true }
 
--- a change of an element or a flush, which a transaction then has
+-- A change or a flush leaves its transaction open; a commit and an abort end it.
 abbrev pub opens : Option Step → Bool
 opens None = false
 opens (Some (steps.Change line set verb parts expiry comment now)) = true
@@ -138,7 +142,7 @@ opens (Some (steps.Flush line set now)) = true
 opens (Some (steps.Commit now)) = false
 opens (Some steps.Abort) = false
 
--- A transaction with a change is open where the last step of the section is a change.
+-- Behind these steps of a section a transaction with a change is open: the last step is a change or a flush.
 abbrev pub is_open : List Step → Bool
 is_open steps = opens (slice_get steps (length steps - 1))
 

@@ -1,4 +1,4 @@
--- The script: the table of its forms, as nft(8) writes its statements.
+-- The script: the table of its forms, as nft(8) writes its statements. Marks are named by their bytes: 44 is `,`, 61 `=`, 123 `{`, 125 `}`.
 use Rattle.std.specs.Prelude.{ℕ, List, [], ◌∷◌, ◌++◌, Bool, true, false, Option, Some, None, option_map, codes, slice_get}
 use Rattle.set_model.specs.declared.kind.Kind.{Kind}
 use Rattle.set_model.specs.declared.kind.Interval.{Interval}
@@ -47,7 +47,7 @@ table_place = do
 abbrev pub used_set : List SetDecl → Family × List ℕ → Form ℕ
 used_set schema p = word_by (reasons.Set ∷ []) (λ t. set_place schema p.0 p.1 t.bytes)
 
--- the name of a set that is declared here
+-- the name of a set that is declared by it
 abbrev pub new_set : Draft → Family × List ℕ → Form (List ℕ)
 new_set d p = word_by (reasons.Set ∷ []) (λ t. new_name d p.0 p.1 t.bytes)
 
@@ -79,6 +79,7 @@ all_parts wide (kind ∷ kinds) = do
 abbrev pub time : Form ℕ
 time = word_is (reasons.Time ∷ []) IsTime
 
+-- Options of an element: `timeout` and a life, `expires` and a time, `comment` and a string.
 abbrev pub option_behind : Options → OptionWord → Form Options
 option_behind o options.Timeout = do
   breaks
@@ -138,6 +139,7 @@ more_kinds ks = do
   k ← kind_word ks
   done (ks ++ k ∷ [])
 
+-- `type` and the kinds, one at least
 abbrev pub type_item : Form (List Kind)
 type_item = do
   word (codes "type")
@@ -155,10 +157,12 @@ more_flags b = do
   mark 44
   flag b
 
+-- `performance` or `memory`
 abbrev pub policy : Form (Unit {0})
 policy = word_by [] (λ t. if_true (is_policy t.bytes))
 
--- Items, by their first word. The state: the set, and the changes so far.
+-- Items, by their first word: `flags` and flags, `timeout` and a time, `size` and a number, `gc-interval` and a time,
+-- `policy` and a policy, `comment` and a string, `elements` with `=` and a list. The state: the set, and the steps so far.
 abbrev pub item_behind : Declaration × List Step → ItemWord → Form (Declaration × List Step)
 item_behind (b, steps) items.Flags = do
   b1 ← flag b
@@ -199,6 +203,7 @@ set_body d p n = do
   mark 125
   done (declared s.0 s.1 d)
 
+-- `set`, its name, and its items
 abbrev pub set_block : Family × List ℕ → Draft → Form Draft
 set_block p d = do
   word (codes "set")
@@ -218,6 +223,7 @@ changes d verb = do
   behind ← list_of (record { set = i; verb = verb; now = d.moment }) (slice_get d.schema i) d.steps
   done (with_steps d behind)
 
+-- Behind `add`: `table` and its place, which adds nothing; `set`, its table, its name and its items; `element` and changes.
 abbrev pub add_behind : Draft → AddWord → Form Draft
 add_behind d adds.Table = do
   table_place
@@ -234,6 +240,7 @@ element_changes d verb = do
   word (codes "element")
   changes d verb
 
+-- Behind `flush`: `set` and a declared set, which is one change; `ruleset`, of which nothing stands yet.
 abbrev pub flush_behind : ℕ → Draft → FlushWord → Form Draft
 flush_behind line d flushes.Set = do
   p ← table_place
@@ -241,7 +248,7 @@ flush_behind line d flushes.Set = do
   done (flush d line i)
 flush_behind line d flushes.Ruleset = done d
 
--- set blocks in braces
+-- behind `table`: its place, and any number of set blocks in braces
 abbrev pub table_block : Draft → Form Draft
 table_block d = do
   p ← table_place
@@ -250,7 +257,7 @@ table_block d = do
   mark 125
   done d1
 
--- what stands behind the first word of a statement, which stands in this line
+-- What stands behind the first word of a statement, by that word and its line.
 abbrev pub statement_behind : ℕ → Draft → FirstWord → Form Draft
 statement_behind line d firsts.Add = do
   w ← word_by [] (λ t. add_of t.bytes)
@@ -272,6 +279,7 @@ statement_behind line d firsts.Round = done (round d)
 abbrev pub first_word : Form (ℕ × FirstWord)
 first_word = word_by [] (λ t. option_map (λ w. (t.line, w)) (first_of t.bytes))
 
+-- one statement
 abbrev pub statement : Draft → Form Draft
 statement d = do
   w ← first_word
@@ -282,11 +290,13 @@ statement d = do
 abbrev pub statements : Form (Draft × Bool)
 statements = many (line separates statement) (empty, true)
 
+-- what stands before the end
 abbrev pub body : Form Script
 body = do
   d ← statements
   done (finished d.0)
 
+-- a script, and then the end of the text
 abbrev pub script : Form Script
 script = do
   s ← body
