@@ -1,1 +1,4 @@
 pub mod Listings
+pub mod Packets
+pub mod Running
+pub mod Telling

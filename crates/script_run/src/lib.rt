@@ -2,6 +2,10 @@
 //! generation behind it.
 #![tactic(auto)]
 
+mod changes;
+mod lookup;
 mod output;
+mod runner;
+mod telling;
 
 pub use output::{Output, dump, listing, transcript};

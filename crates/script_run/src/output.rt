@@ -5,8 +5,10 @@ ghost use Rattle.set_model.specs.Runnable.{IsRunnable, IsFitting};
 ghost use Rattle.set_model.specs.Text.{transcript_text};
 ghost use Rattle.set_model.specs.declared.report.Line.{Line as PacketLine};
 ghost use Rattle.script_run.specs.Listings.{listing_text, tables_text};
+ghost use Rattle.script_run.specs.Telling.{section_at};
 
-use set_model::{Keys, Memory, Script};
+use crate::telling::Telling;
+use set_model::{Keys, Listed, Memory, Script};
 use std::alloc::Global;
 
 /// What a command writes: its text, and whether that tells that a change was refused.
@@ -16,23 +18,41 @@ pub struct Output {
     pub refused: bool,
 }
 
+/// The items of a section, of which there are none where there is no such section.
+fn section<T>(sections: &Listed<Listed<T>>, j: u64) -> &[T]
+    ensures { result.now ≡ section_at sections.now j }
+{
+    if j < sections.len() {
+        sections.at(j).as_slice()
+    } else {
+        &[]
+    }
+}
+
 /// Runs a script beside the packets of a key file, and gives the transcript of one thread.
 ///
 /// # Errors
 ///
 /// `Memory` where there is none left.
 pub fn transcript(
-    _alloc: Global,
-    _script: &Script,
-    _keys: &Keys,
-    _keep_going: bool,
+    alloc: Global,
+    script: &Script,
+    keys: &Keys,
+    keep_going: bool,
 ) -> Result<Output, Memory>
-    requires script { IsRunnable _script.now }
-    requires keys { All (All (IsFitting _script.now.schema)) _keys.now }
-    ensures text { IfOk result (λ out. (lines : List PacketLine) × Legal _script.now _keys.now 1 (mode_of _keep_going) lines × (out.text.items ≡ transcript_text (mode_of _keep_going) _script.now _keys.now lines)) }
-    ensures refused { IfOk result (λ out. out.refused ≡ has_refusal (mode_of _keep_going) _script.now) }
+    requires script { IsRunnable script.now }
+    requires keys { All (All (IsFitting script.now.schema)) keys.now }
+    ensures text { IfOk result (λ out. (lines : List PacketLine) × Legal script.now keys.now 1 (mode_of keep_going) lines × (out.text.items ≡ transcript_text (mode_of keep_going) script.now keys.now lines)) }
+    ensures refused { IfOk result (λ out. out.refused ≡ has_refusal (mode_of keep_going) script.now) }
 {
-    Err(Memory)
+    let mut telling = Telling::new(alloc, &script.schema, keep_going)?;
+    telling.do_section(alloc, &script.schema, section(&script.sections, 0), &[])?;
+    let rest = script.sections.len().saturating_sub(1).max(keys.len());
+    'rest: for j in 0..rest {
+        let steps = section(&script.sections, j + 1);
+        telling.do_section(alloc, &script.schema, steps, section(keys, j))?;
+    }
+    Ok(telling.output)
 }
 
 /// Runs a script, and lists its last generation as a script.

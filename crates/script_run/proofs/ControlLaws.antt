@@ -1,0 +1,197 @@
+-- What the steps of a script keep of its control.
+use Rattle.std.proofs.Common.{◌≡◌, refl, sym, ◌∙◌, ap, subst, ℕ, zero, suc, ◌+◌, ◌<◌, ◌≤◌, Bool, true, false, if◌then◌else◌, List, [], ◌∷◌, ◌++◌, length, map, take, fold, Option, Some, None, slice_get, slice_set, arith, All, add-one}
+use Rattle.std.proofs.lemmas.List.{length-map, length-append, take_all}
+use Rattle.std.proofs.lemmas.Option.{slice_get_within}
+use Rattle.set_model.specs.declared.kind.Interval.{Interval}
+use Rattle.set_model.specs.declared.kind.Kind.{Kind}
+use Rattle.set_model.specs.declared.report.Event.{Event}
+use Rattle.set_model.specs.declared.report.Event.TheVariants as events
+use Rattle.set_model.specs.declared.report.Why.{Why}
+use Rattle.set_model.specs.declared.script.SetDecl.{SetDecl}
+use Rattle.set_model.specs.declared.script.Step.{Step}
+use Rattle.set_model.specs.declared.script.Step.TheVariants.{Change, Flush, Commit, Abort}
+use Rattle.set_model.specs.declared.script.Verb.{Verb}
+use Rattle.set_model.specs.SetState.{State, purged, cleared}
+use Rattle.set_model.specs.Control.{Mode, Strict, KeepGoing, Generation, Control, start, step, section, history, with_set, answered, changed, changed_set, flushed, refused, rewound, committed, told}
+use Rattle.set_space.specs.Open.{Open}
+use Rattle.set_report.specs.Writes.{NamesSet}
+use Rattle.script_run.specs.Running.{kinds_of, declared_kinds, HasKinds}
+use Rattle.script_run.specs.Telling.{section_at}
+use Rattle.script_run.proofs.ChangeLaws.{change_kinds, set_kinds}
+use Rattle.script_run.proofs.Lists.{All-snoc, snoc-at}
+
+-- A step does one of these: nothing, another set of the same kinds at a place, a refusal, an end that is taken back, a commit.
+pub record Outcomes (P : Control → Type 0) (mode : Mode) (c : Control) : Type 0 where
+  pub nothing : P c
+  pub made : (set : ℕ) (old new : State) → slice_get c.sets set ≡ Some old → new.kinds ≡ old.kinds → P (with_set c set new)
+  pub refusing : (line set : ℕ) (why : Why) → set < length c.sets → P (refused mode c line set why)
+  pub rewinding : (event : Event) → ((n : ℕ) → NamesSet n event) → P (rewound c event)
+  pub committing : (now : ℕ) → P (committed c now)
+
+module _ (P : Control → Type 0) (mode : Mode) (c : Control) (o : Outcomes P mode c) where
+  either : (b : Bool) (x y : Control) → P x → P y → P (if b then x else y)
+  either true x y p q = p
+  either false x y p q = q
+
+  by_answer : (line set : ℕ) (s : State) (x : Option Why × State) → slice_get c.sets set ≡ Some s → x.1.kinds ≡ s.kinds → P (answered mode c line set x)
+  by_answer line set s (None, t) at kinds = o.made set s t at kinds
+  by_answer line set s (Some why, t) at kinds = o.refusing line set why (slice_get_within c.sets set s at)
+
+  by_set : (line set : ℕ) (verb : Verb) (parts : List Interval) (expiry : Option ℕ) (comment : List ℕ) (now : ℕ) (s : Option State) → slice_get c.sets set ≡ s → P (changed mode c line set verb parts expiry comment now s)
+  by_set line set verb parts expiry comment now None at = o.nothing
+  by_set line set verb parts expiry comment now (Some s) at = by_answer line set s (changed_set verb s parts expiry comment now) at (change_kinds s parts expiry comment now verb)
+
+  by_flush : (set : ℕ) (s : Option State) → slice_get c.sets set ≡ s → P (flushed c set s)
+  by_flush set None at = o.nothing
+  by_flush set (Some s) at = o.made set s (cleared s) at refl
+
+  -- What holds of each outcome holds behind a step.
+  pub by_outcome : (s : Step) → P (step mode c s)
+  by_outcome (Change line set verb parts expiry comment now) = either c.failed c _ o.nothing (by_set line set verb parts expiry comment now (slice_get c.sets set) refl)
+  by_outcome (Flush line set now) = either c.failed c _ o.nothing (by_flush set (slice_get c.sets set) refl)
+  by_outcome (Commit now) = either c.failed _ _ (o.rewinding (events.Dropped c.last.number) (λ n. tt)) (o.committing now)
+  by_outcome Abort = o.rewinding (events.Aborted c.last.number) (λ n. tt)
+
+-- What each step keeps, a section keeps.
+pub by_steps : (P : Control → Type 0) (mode : Mode) → ((c : Control) (s : Step) → P c → P (step mode c s)) → (c : Control) (steps : List Step) → P c → P (section mode c steps)
+by_steps P mode keeps c [] h = h
+by_steps P mode keeps c (s ∷ steps) h = by_steps P mode keeps (step mode c s) steps (keeps c s h)
+
+-- the last generation and the open sets of a control
+abbrev pub work_of : Control → Open
+work_of c = record { base = c.last; sets = c.sets }
+
+purged_kinds : (sets : List State) (now : ℕ) → kinds_of (map (λ s. purged s now) sets) ≡ kinds_of sets
+purged_kinds [] now = refl
+purged_kinds (s ∷ sets) now = ap (λ r. s.kinds ∷ r) (purged_kinds sets now)
+
+-- Sets of these kinds, and events that name one of them.
+pub record IsOf (kinds : List (List Kind)) (c : Control) : Type 0 where
+  pub work : HasKinds kinds (work_of c)
+  pub named : All (NamesSet (length kinds)) c.events
+
+module _ (kinds : List (List Kind)) where
+  refused_kinds : (mode : Mode) (c : Control) (line set : ℕ) (why : Why) → HasKinds kinds (work_of c) → HasKinds kinds (work_of (refused mode c line set why))
+  refused_kinds Strict c line set why h = h
+  refused_kinds KeepGoing c line set why h = h
+
+  committed_kinds : (c : Control) (now : ℕ) → HasKinds kinds (work_of c) → HasKinds kinds (work_of (committed c now))
+  committed_kinds c now h =
+      let same : kinds_of (map (λ s. purged s now) c.sets) ≡ kinds = purged_kinds c.sets now ∙ h.open_sets in
+      record { base = same; open_sets = same }
+
+  step_kinds : (mode : Mode) (c : Control) (s : Step) → HasKinds kinds (work_of c) → HasKinds kinds (work_of (step mode c s))
+  step_kinds mode c s h = by_outcome (λ d. HasKinds kinds (work_of d)) mode c (record {
+    nothing = h;
+    made = λ set old new at same. record { base = h.base; open_sets = set_kinds c.sets set old new at same ∙ h.open_sets };
+    refusing = λ line set why lt. refused_kinds mode c line set why h;
+    rewinding = λ event names. record { base = h.base; open_sets = h.base };
+    committing = λ now. committed_kinds c now h;
+  }) s
+
+  pub section_kinds : (mode : Mode) (c : Control) (steps : List Step) → HasKinds kinds (work_of c) → HasKinds kinds (work_of (section mode c steps))
+  section_kinds mode c steps h = by_steps (λ d. HasKinds kinds (work_of d)) mode (step_kinds mode) c steps h
+
+  pub kinds_long : (sets : List State) → kinds_of sets ≡ kinds → length sets ≡ length kinds
+  kinds_long sets e = sym (length-map sets (λ s. s.kinds)) ∙ ap length e
+
+  told_named : (events : List Event) (event : Event) → All (NamesSet (length kinds)) events → NamesSet (length kinds) event → All (NamesSet (length kinds)) (events ++ event ∷ [])
+  told_named events event h e = All-snoc (NamesSet (length kinds)) events event h e
+
+  refused_named : (mode : Mode) (c : Control) (line set : ℕ) (why : Why) → All (NamesSet (length kinds)) c.events → set < length kinds → All (NamesSet (length kinds)) (refused mode c line set why).events
+  refused_named Strict c line set why h lt = told_named c.events (events.Refused line set why) h lt
+  refused_named KeepGoing c line set why h lt = told_named c.events (events.Refused line set why) h lt
+
+  step_of : (mode : Mode) (c : Control) (s : Step) → IsOf kinds c → IsOf kinds (step mode c s)
+  step_of mode c s h =
+      let long = kinds_long c.sets h.work.open_sets in
+      record {
+        work = step_kinds mode c s h.work;
+        named = by_outcome (λ d. All (NamesSet (length kinds)) d.events) mode c (record {
+          nothing = h.named;
+          made = λ set old new at same. h.named;
+          refusing = λ line set why lt. refused_named mode c line set why h.named (omega (arith, long, lt));
+          rewinding = λ event names. told_named c.events event h.named (names (length kinds));
+          committing = λ now. told_named c.events _ h.named tt;
+        }) s;
+      }
+
+  pub section_of : (mode : Mode) (c : Control) (steps : List Step) → IsOf kinds c → IsOf kinds (section mode c steps)
+  section_of mode c steps h = by_steps (IsOf kinds) mode (step_of mode) c steps h
+
+-- Each committed generation stands at the place of its number, and the last is the last of them.
+pub record IsNumbered (c : Control) : Type 0 where
+  pub at : slice_get c.committed c.last.number ≡ Some c.last
+  pub long : length c.committed ≡ c.last.number + 1
+
+refused_numbered : (mode : Mode) (c : Control) (line set : ℕ) (why : Why) → IsNumbered c → IsNumbered (refused mode c line set why)
+refused_numbered Strict c line set why h = record { at = h.at; long = h.long }
+refused_numbered KeepGoing c line set why h = record { at = h.at; long = h.long }
+
+committed_numbered : (c : Control) (now : ℕ) → IsNumbered c → IsNumbered (committed c now)
+committed_numbered c now h = record {
+  at = snoc-at c.committed _ (c.last.number + 1) (sym h.long);
+  long = let more = length-append c.committed ((committed c now).last ∷ []) in let long = h.long in omega (arith, more, long);
+}
+
+step_numbered : (mode : Mode) (c : Control) (s : Step) → IsNumbered c → IsNumbered (step mode c s)
+step_numbered mode c s h = by_outcome IsNumbered mode c (record {
+  nothing = h;
+  made = λ set old new at same. record { at = h.at; long = h.long };
+  refusing = λ line set why lt. refused_numbered mode c line set why h;
+  rewinding = λ event names. record { at = h.at; long = h.long };
+  committing = λ now. committed_numbered c now h;
+}) s
+
+pub section_numbered : (mode : Mode) (c : Control) (steps : List Step) → IsNumbered c → IsNumbered (section mode c steps)
+section_numbered mode c steps h = by_steps IsNumbered mode (step_numbered mode) c steps h
+
+-- The numbers of generations never fall.
+refused_later : (mode : Mode) (n : ℕ) (c : Control) (line set : ℕ) (why : Why) → n ≤ c.last.number → n ≤ (refused mode c line set why).last.number
+refused_later Strict n c line set why h = h
+refused_later KeepGoing n c line set why h = h
+
+step_later : (mode : Mode) (n : ℕ) (c : Control) (s : Step) → n ≤ c.last.number → n ≤ (step mode c s).last.number
+step_later mode n c s h = by_outcome (λ d. n ≤ d.last.number) mode c (record {
+  nothing = h;
+  made = λ set old new at same. h;
+  refusing = λ line set why lt. refused_later mode n c line set why h;
+  rewinding = λ event names. h;
+  committing = λ now. omega (arith, h);
+}) s
+
+pub section_later : (mode : Mode) (c : Control) (steps : List Step) → c.last.number ≤ (section mode c steps).last.number
+section_later mode c steps = by_steps (λ d. c.last.number ≤ d.last.number) mode (step_later mode c.last.number) c steps (omega arith)
+
+empty_kinds : (schema : List SetDecl) → kinds_of (start schema).sets ≡ declared_kinds schema
+empty_kinds [] = refl
+empty_kinds (d ∷ schema) = ap (λ r. d.kinds ∷ r) (empty_kinds schema)
+
+pub start_of : (schema : List SetDecl) → IsOf (declared_kinds schema) (start schema)
+start_of schema = record { work = record { base = empty_kinds schema; open_sets = empty_kinds schema }; named = λ k e lt. absurd (omega (arith, lt)) }
+
+pub start_numbered : (schema : List SetDecl) → IsNumbered (start schema)
+start_numbered schema = record { at = refl; long = refl }
+
+-- Sections, one after another.
+module _ (mode : Mode) where
+  -- one section more, which is empty where there is none
+  next-from : (c : Control) (sections : List (List Step)) (j : ℕ) → fold (section mode) c (take (suc j) sections) ≡ section mode (fold (section mode) c (take j sections)) (section_at sections j)
+  next-from c [] zero = refl
+  next-from c [] (suc j) = refl
+  next-from c (x ∷ sections) zero = refl
+  next-from c (x ∷ sections) (suc j) = next-from (section mode c x) sections j
+
+  pub history-next : (schema : List SetDecl) (sections : List (List Step)) (j : ℕ) → history mode schema (take (j + 1) sections) ≡ section mode (history mode schema (take j sections)) (section_at sections j)
+  history-next schema sections j = rw add-one (next-from (start schema) sections j)
+
+  -- What each section keeps, a history keeps.
+  pub by_sections : (P : Control → Type 0) → ((c : Control) (steps : List Step) → P c → P (section mode c steps)) → (c : Control) (sections : List (List Step)) → P c → P (fold (section mode) c sections)
+  by_sections P keeps c [] h = h
+  by_sections P keeps c (x ∷ sections) h = by_sections P keeps (section mode c x) sections (keeps c x h)
+
+  pub history_of : (schema : List SetDecl) (sections : List (List Step)) → IsOf (declared_kinds schema) (history mode schema sections)
+  history_of schema sections = by_sections (IsOf (declared_kinds schema)) (section_of (declared_kinds schema) mode) (start schema) sections (start_of schema)
+
+  pub history_numbered : (schema : List SetDecl) (sections : List (List Step)) → IsNumbered (history mode schema sections)
+  history_numbered schema sections = by_sections IsNumbered (section_numbered mode) (start schema) sections (start_numbered schema)

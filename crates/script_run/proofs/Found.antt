@@ -1,0 +1,21 @@
+-- What a lookup in an image finds, as a verdict.
+use Rattle.std.proofs.Common.{◌≡◌, refl, sym, ap, ℕ, List, Option, Some, None, option_map}
+use Rattle.set_tables.proofs.RowLaws.{find-at, find-none}
+use Rattle.set_model.specs.declared.packet.Found.{Found}
+use Rattle.set_model.specs.declared.packet.Verdict.{Verdict}
+use Rattle.set_model.specs.declared.packet.Verdict.TheVariants as verdicts
+use Rattle.set_model.specs.SetState.{State, first, place, answers}
+use Rattle.set_model.specs.Legal.{verdict_of}
+use Rattle.pipapo_image.specs.Found.{found, element_at}
+
+-- what was found, as a verdict
+abbrev pub verdict_found : Option Found → Verdict
+verdict_found None = verdicts.None
+verdict_found (Some f) = verdicts.Element f.id
+
+-- The verdict on what was found is that on the first live element that holds the key.
+pub found-first : (s : State) (key : List ℕ) (now : ℕ) → verdict_found (found s key now) ≡ verdict_of (first s key now)
+found-first s key now = go (place s key now) refl where
+  go : (o : Option ℕ) → place s key now ≡ o → verdict_found (option_map (λ i. record { place = i; id = (element_at s i).id }) o) ≡ verdict_of (first s key now)
+  go None e = ap verdict_of (sym (find-none (answers key now) s.elements e))
+  go (Some i) e = ap verdict_of (sym (find-at (answers key now) s.elements i _ e))

@@ -1,0 +1,6 @@
+pub mod ChangeLaws
+pub mod ControlLaws
+pub mod Found
+pub mod Lists
+pub mod PacketLaws
+pub mod RunLaws

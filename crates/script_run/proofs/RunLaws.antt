@@ -1,0 +1,169 @@
+-- A run goes on as the control does.
+use Rattle.std.proofs.Common.{◌≡◌, refl, sym, ◌∙◌, ap, subst, ℕ, ◌+◌, ◌<◌, Bool, true, false, if◌then◌else◌, List, [], ◌∷◌, ◌++◌, append_assoc, append-nil, length, take, get_or, Option, Some, None, slice_get, slice_set, Result, Ok, Err, OnOk, arith, add-one, drop, map, All, option_map}
+use Rattle.std.proofs.Math.Seq.{take-suc}
+use Rattle.std.proofs.lemmas.List.Sums.{fold-append}
+use Rattle.std.proofs.lemmas.Option.{slice_get-map}
+use Rattle.set_model.specs.declared.kind.Interval.{Interval}
+use Rattle.set_model.specs.declared.report.Event.{Event}
+use Rattle.set_model.specs.declared.report.Event.TheVariants.{Refused, Committed, Aborted, Dropped}
+use Rattle.set_model.specs.declared.report.Why.{Why}
+use Rattle.set_model.specs.declared.script.Step.{Step}
+use Rattle.set_model.specs.declared.script.Step.TheVariants.{Change, Flush, Commit, Abort}
+use Rattle.set_model.specs.declared.script.Verb.{Verb}
+use Rattle.set_model.specs.SetState.{State, cleared}
+use Rattle.set_model.specs.Control.{Mode, Control, Generation, mode_of, step, section, refused, rewound, committed, changed, changed_set, answered, flushed, with_set, expired_count}
+use Rattle.set_space.specs.Open.{Open, IsChange, opened, sealed}
+use Rattle.set_space.specs.Open.{with_set as work_with}
+use Rattle.set_space.proofs.SetsLaws.{set-same}
+use Rattle.script_run.specs.declared.runner.Runner.{Runner}
+use Rattle.set_model.specs.declared.kind.Kind.{Kind}
+use Rattle.set_model.specs.declared.packet.Packet.{Packet}
+use Rattle.set_model.specs.declared.script.SetDecl.{SetDecl}
+use Rattle.set_model.specs.Runnable.{IsRunnableStep, IsFitting}
+use Rattle.set_report.specs.Writes.{NamesSet}
+use Rattle.script_run.specs.Packets.{IsPacketOf}
+use Rattle.script_run.specs.Running.{kinds_of, declared_kinds, HasKinds, IsStepOf, HasCome, Stands, GoesOn}
+use Rattle.script_run.proofs.ChangeLaws.{refusal_keeps}
+use Rattle.script_run.proofs.ControlLaws.{section_kinds, section_of}
+
+-- where the run is, with another work
+abbrev pub with_work : Runner → Open → Runner
+with_work r w = record r { work = w }
+
+-- the run stands where a set was changed
+set_stands : (before : List Event) (c : Control) (r : Runner) (told : List Event) (set : ℕ) (t : State) (w : Open) → w ≡ work_with r.work set t → Stands before c r told
+    → Stands before (with_set c set t) (with_work r w) told
+set_stands before c r told set t w e h = rw e (record { last = h.last; sets = ap (λ z. slice_set z set t) h.sets; failed = h.failed; told = h.told })
+
+-- A change of a set, where it is made and where it is refused.
+module _ (r : Runner) (told : List Event) (line set : ℕ) (verb : Verb) (parts : List Interval) (expiry : Option ℕ) (comment : List ℕ) (now : ℕ) where
+  abbrev goes : Control → Control
+  goes c = changed (mode_of r.keep_going) c line set verb parts expiry comment now (slice_get c.sets set)
+
+  answer-at : (c : Control) (s : State) (o : Option State) → o ≡ Some s → changed (mode_of r.keep_going) c line set verb parts expiry comment now o ≡ answered (mode_of r.keep_going) c line set (changed_set verb s parts expiry comment now)
+  answer-at c s o e = ap (changed (mode_of r.keep_going) c line set verb parts expiry comment now) e
+
+  answer-made : (c : Control) (x : Option Why × State) → None ≡ x.0 → answered (mode_of r.keep_going) c line set x ≡ with_set c set x.1
+  answer-made c (None, t) e = refl
+  answer-made c (Some why, t) e = absurd (cc e)
+
+  answer-refused : (c : Control) (why : Why) (x : Option Why × State) → Some why ≡ x.0 → answered (mode_of r.keep_going) c line set x ≡ refused (mode_of r.keep_going) c line set why
+  answer-refused c why (None, t) e = absurd (cc e)
+  answer-refused c why (Some other, t) e = let same : why ≡ other = cc e in ap (refused (mode_of r.keep_going) c line set) (sym same)
+
+  pub made_goes : (w : Open) → IsChange (λ s t. HasCome (changed_set verb s parts expiry comment now) None t) r.work set w → GoesOn goes r told (with_work r w) told
+  made_goes w change = record {
+    same_mode = refl;
+    stands = λ before c h.
+        let x = changed_set verb change.state parts expiry comment now in
+        let at : slice_get c.sets set ≡ Some change.state = ap (λ z. slice_get z set) h.sets ∙ change.at in
+        let is : w ≡ work_with r.work set x.1 = change.others ∙ ap (λ t. work_with r.work set t) change.changed.leaves in
+        rw (answer-at c change.state (slice_get c.sets set) at, answer-made c x change.changed.answer) (set_stands before c r told set x.1 w is h);
+  }
+
+  -- a refused change leaves the work
+  pub refusal_left : (why : Why) (w : Open) → IsChange (λ s t. HasCome (changed_set verb s parts expiry comment now) (Some why) t) r.work set w → w ≡ r.work
+  refusal_left why w change =
+      let same : change.left ≡ change.state = change.changed.leaves ∙ refusal_keeps change.state parts expiry comment now verb why (sym change.changed.answer) in
+      change.others ∙ ap (λ t. work_with r.work set t) same ∙ ap (λ z. record { base = r.work.base; sets = z }) (set-same r.work.sets set change.state change.at)
+
+  pub refusal_goes : (why : Why) (w : Open) (new : Runner) (events : List Event) → IsChange (λ s t. HasCome (changed_set verb s parts expiry comment now) (Some why) t) r.work set w
+      → GoesOn (λ c. refused (mode_of r.keep_going) c line set why) (with_work r w) told new events → GoesOn goes r told new events
+  refusal_goes why w new events change does = record {
+    same_mode = does.same_mode;
+    stands = λ before c h.
+        let at : slice_get c.sets set ≡ Some change.state = ap (λ z. slice_get z set) h.sets ∙ change.at in
+        rw (answer-at c change.state (slice_get c.sets set) at, answer-refused c why (changed_set verb change.state parts expiry comment now) change.changed.answer)
+        (does.stands before c (rw (refusal_left why w change) h));
+  }
+
+-- A control that goes on in the same way where the run stands.
+pub goes_as : (f g : Control → Control) (r new : Runner) (told events : List Event) → ((before : List Event) (c : Control) → Stands before c r told → f c ≡ g c)
+    → GoesOn f r told new events → GoesOn g r told new events
+goes_as f g r new told events same does = record {
+  same_mode = does.same_mode;
+  stands = λ before c h. subst (λ (k : Control). Stands before k new events) (same before c h) (does.stands before c h);
+}
+
+by_test : (b c : Bool) (x y : Control) → b ≡ c → (if c then x else y) ≡ (if b then x else y)
+by_test b c x y e = ap (λ (t : Bool). if t then x else y) (sym e)
+
+-- A change and a flush where the transaction hasn't failed.
+pub open_change : (r new : Runner) (told events : List Event) (line set : ℕ) (verb : Verb) (parts : List Interval) (expiry : Option ℕ) (comment : List ℕ) (now : ℕ) → r.failed ≡ false
+    → GoesOn (λ c. changed (mode_of r.keep_going) c line set verb parts expiry comment now (slice_get c.sets set)) r told new events
+    → GoesOn (λ c. step (mode_of r.keep_going) c (Change line set verb parts expiry comment now)) r told new events
+open_change r new told events line set verb parts expiry comment now quiet does =
+    goes_as (λ c. changed (mode_of r.keep_going) c line set verb parts expiry comment now (slice_get c.sets set)) (λ c. step (mode_of r.keep_going) c (Change line set verb parts expiry comment now)) r new told events
+    (λ before c h. by_test c.failed false c _ (h.failed ∙ quiet)) does
+
+pub open_flush : (r new : Runner) (told events : List Event) (line set now : ℕ) → r.failed ≡ false
+    → GoesOn (λ c. flushed c set (slice_get c.sets set)) r told new events → GoesOn (λ c. step (mode_of r.keep_going) c (Flush line set now)) r told new events
+open_flush r new told events line set now quiet does =
+    goes_as (λ c. flushed c set (slice_get c.sets set)) (λ c. step (mode_of r.keep_going) c (Flush line set now)) r new told events (λ before c h. by_test c.failed false c _ (h.failed ∙ quiet)) does
+
+-- The end of a transaction that has failed, and one that is taken back.
+pub dropped_end : (r new : Runner) (told events : List Event) (number now : ℕ) → r.failed ≡ true → number ≡ r.work.base.number
+    → GoesOn (λ c. rewound c (Dropped number)) r told new events → GoesOn (λ c. step (mode_of r.keep_going) c (Commit now)) r told new events
+dropped_end r new told events number now failed is does =
+    goes_as (λ c. rewound c (Dropped number)) (λ c. step (mode_of r.keep_going) c (Commit now)) r new told events
+    (λ before c h. ap (λ n. rewound c (Dropped n)) (is ∙ sym (ap (λ (g : Generation). g.number) h.last)) ∙ by_test c.failed true (rewound c (Dropped c.last.number)) (committed c now) (h.failed ∙ failed))
+    does
+
+pub aborted_end : (r new : Runner) (told events : List Event) (number : ℕ) → number ≡ r.work.base.number
+    → GoesOn (λ c. rewound c (Aborted number)) r told new events → GoesOn (λ c. step (mode_of r.keep_going) c Abort) r told new events
+aborted_end r new told events number is does =
+    goes_as (λ c. rewound c (Aborted number)) (λ c. step (mode_of r.keep_going) c Abort) r new told events
+    (λ before c h. ap (λ n. rewound c (Aborted n)) (is ∙ sym (ap (λ (g : Generation). g.number) h.last)))
+    does
+
+-- Sets of these kinds stay such.
+abbrev control_of : Runner → List Event → Control
+control_of r events = record { committed = []; last = r.work.base; sets = r.work.sets; failed = r.failed; events = events }
+
+section-more : (mode : Mode) (c : Control) (steps : List Step) (i : ℕ) (s : Step) → i < length steps → s ≡ get_or steps i s
+    → step mode (section mode c (take i steps)) s ≡ section mode c (take (i + 1) steps)
+section-more mode c steps i s h e =
+    let front : take (i + 1) steps ≡ take i steps ++ s ∷ [] = rw add-one (take-suc steps i s h ∙ ap (λ y. take i steps ++ y ∷ []) (sym e)) in
+    sym (fold-append (step mode) c (take i steps) (s ∷ [])) ∙ ap (section mode c) (sym front)
+
+-- One step more.
+pub goes_more : (steps : List Step) (i : ℕ) (s : Step) (r here new : Runner) (told so_far events : List Event) → i < length steps → s ≡ get_or steps i s
+    → GoesOn (λ c. section (mode_of r.keep_going) c (take i steps)) r told here so_far
+    → GoesOn (λ c. step (mode_of here.keep_going) c s) here so_far new events
+    → GoesOn (λ c. section (mode_of r.keep_going) c (take (i + 1) steps)) r told new events
+goes_more steps i s r here new told so_far events h e first next = record {
+  same_mode = next.same_mode ∙ first.same_mode;
+  stands = λ before c st.
+      let mid = first.stands before c st in
+      let more = next.stands before (section (mode_of r.keep_going) c (take i steps)) mid in
+      subst (λ (k : Control). Stands before k new events) (section-more (mode_of r.keep_going) c steps i s h e)
+      (subst (λ (b : Bool). Stands before (step (mode_of b) (section (mode_of r.keep_going) c (take i steps)) s) new events) first.same_mode more);
+}
+
+-- What the work's sets are of, they stay, and what is told names one of them.
+module _ (kinds : List (List Kind)) (r new : Runner) (told events : List Event) (steps : List Step) where
+  pub kinds_stay : HasKinds kinds r.work → GoesOn (λ c. section (mode_of r.keep_going) c steps) r told new events → HasKinds kinds new.work
+  kinds_stay h does =
+      let st = does.stands [] (control_of r told) (record { last = refl; sets = refl; failed = refl; told = refl }) in
+      let k = section_kinds kinds (mode_of r.keep_going) (control_of r told) steps h in
+      record { base = ap (λ (g : Generation). kinds_of g.sets) (sym st.last) ∙ k.base; open_sets = ap kinds_of (sym st.sets) ∙ k.open_sets }
+
+pub told_named : (kinds : List (List Kind)) (r new : Runner) (events : List Event) (steps : List Step) → HasKinds kinds r.work → GoesOn (λ c. section (mode_of r.keep_going) c steps) r [] new events
+    → All (NamesSet (length kinds)) events
+told_named kinds r new events steps h does =
+    let st = does.stands [] (control_of r []) (record { last = refl; sets = refl; failed = refl; told = refl }) in
+    let k = section_of kinds (mode_of r.keep_going) (control_of r []) steps (record { work = h; named = λ i d lt. absurd (omega (arith, lt)) }) in
+    subst (λ (z : List Event). All (NamesSet (length kinds)) z) st.told k.named
+
+kinds-at : (schema : List SetDecl) (kinds : List (List Kind)) (set : ℕ) (d : SetDecl) → kinds ≡ declared_kinds schema → slice_get schema set ≡ Some d → slice_get kinds set ≡ Some d.kinds
+kinds-at schema kinds set d e h = ap (λ z. slice_get z set) e ∙ slice_get-map (λ (x : SetDecl). x.kinds) schema set ∙ ap (option_map (λ (x : SetDecl). x.kinds)) h
+
+-- A step and a packet of the declared sets are of sets of these kinds.
+pub step-of : (schema : List SetDecl) (kinds : List (List Kind)) (s : Step) → kinds ≡ declared_kinds schema → IsRunnableStep schema s → IsStepOf kinds s
+step-of schema kinds (Change line set verb parts expiry comment now) e h = (h.0.kinds, kinds-at schema kinds set h.0 e h.1, h.2)
+step-of schema kinds (Flush line set now) e h = (h.0.kinds, kinds-at schema kinds set h.0 e h.1)
+step-of schema kinds (Commit now) e h = tt
+step-of schema kinds Abort e h = tt
+
+pub packet-of : (schema : List SetDecl) (kinds : List (List Kind)) (p : Packet) → kinds ≡ declared_kinds schema → IsFitting schema p → IsPacketOf kinds p
+packet-of schema kinds p e h = record { fields = h.set.kinds; at = kinds-at schema kinds p.set h.set e h.declared; fits = h.fits }
