@@ -1,2 +1,4 @@
 mod PartLaws
 mod LineLaws
+mod TwoParts
+mod DumpWorked

@@ -1,8 +1,121 @@
--- The tables of sets as text.
-use Rattle.std.specs.Prelude.{ℕ, List, []}
+-- The tables of sets as text: which values of which bits of a field lead to which rules, and where the
+-- rules lead.
+use Rattle.std.specs.Prelude.{ℕ, ◌+◌, ◌*◌, ◌/◌, ◌^◌, Bool, ◌==◌, if◌then◌else◌, List, [], ◌∷◌, ◌++◌, length, take, drop, map, filter, zip, Some, codes, decimal}
+use Rattle.std.specs.List.{flat_map, list_any, range_with_len, enumerate_from}
+use Rattle.std.specs.Cmp.Lexicographic.{pointwise}
+use Rattle.std.proofs.Math.Bool.{beq}
+use Rattle.addr_text.specs.Written.{hex_text}
+use Rattle.field_groups.specs.Groups.{agrees}
+use Rattle.lookup_table.specs.Width.{width_of}
+use Rattle.set_model.specs.declared.block.Block.{Block}
+use Rattle.set_model.specs.declared.element.Element.{Element}
+use Rattle.set_model.specs.declared.kind.Kind.{Kind}
+use Rattle.set_model.specs.declared.kind.Kind.TheVariants.{Ipv4, Ipv6, Ether, Proto, Service, Mark}
 use Rattle.set_model.specs.declared.script.SetDecl.{SetDecl}
-use Rattle.set_model.specs.SetState.{State}
+use Rattle.set_model.specs.Kind.{bits_of}
+use Rattle.set_model.specs.SetState.{State, field_rules}
+use Rattle.set_model.specs.Text.{line_feed, numbered, set_text}
+use Rattle.set_tables.specs.declared.Span.{Span}
+use Rattle.set_tables.specs.declared.End.{End}
+use Rattle.set_tables.specs.Tables.{field_spans, last_ends}
+
+-- a kind by its name in scripts
+abbrev pub kind_text : Kind → List ℕ
+kind_text Ipv4 = codes "ipv4_addr"
+kind_text Ipv6 = codes "ipv6_addr"
+kind_text Ether = codes "ether_addr"
+kind_text Proto = codes "inet_proto"
+kind_text Service = codes "inet_service"
+kind_text Mark = codes "mark"
+
+-- the number that bits are, the first one the least significant
+abbrev pub number_of : List Bool → ℕ
+number_of [] = 0
+number_of (bit ∷ bits) = (if bit then 1 else 0) + 2 * number_of bits
+
+-- byte j of a bitmap: its bits from bit 8 * j on
+abbrev pub byte_of : List Bool → ℕ → ℕ
+byte_of bitmap j = number_of (take 8 (drop (8 * j) bitmap))
+
+-- a bitmap in hexadecimal, byte by byte, two digits a byte
+abbrev pub bitmap_text : List Bool → List ℕ
+bitmap_text bitmap = flat_map (λ j. hex_text 2 (byte_of bitmap j)) (range_with_len 0 ((length bitmap + 7) / 8))
+
+-- the buckets of a group from one value to another, both included, which all have this bitmap
+pub record Run : Type 0 where
+  pub from : ℕ
+  pub to : ℕ
+  pub bitmap : List Bool
+
+-- One bucket more in front of runs: where it has the bitmap of the first run it belongs to that one.
+abbrev pub with_bucket : ℕ → List Bool → List Run → List Run
+with_bucket v bitmap [] = record { from = v; to = v; bitmap = bitmap } ∷ []
+with_bucket v bitmap (run ∷ runs) =
+    if pointwise beq bitmap run.bitmap
+    then record { from = v; to = run.to; bitmap = bitmap } ∷ runs
+    else record { from = v; to = v; bitmap = bitmap } ∷ run ∷ runs
+
+-- The longest runs of neighbouring buckets with the same bitmap. The first bucket is that of value v.
+abbrev pub runs_from : ℕ → List (List Bool) → List Run
+runs_from v [] = []
+runs_from v (bitmap ∷ bitmaps) = with_bucket v bitmap (runs_from (v + 1) bitmaps)
+
+-- some bit is set
+abbrev pub is_any_set : List Bool → Bool
+is_any_set bitmap = list_any (λ bit. bit) bitmap
+
+-- the line of a run in group g
+abbrev pub run_text : ℕ → Run → List ℕ
+run_text g run = numbered (codes "row") g ++ codes " " ++ decimal run.from ++ codes "-" ++ decimal run.to ++ codes " " ++ bitmap_text run.bitmap ++ line_feed
+
+-- the lines of runs whose bitmap isn't all zeros
+abbrev pub runs_text : ℕ → List Run → List ℕ
+runs_text g runs = flat_map (run_text g) (filter (λ run. is_any_set run.bitmap) runs)
+
+-- The bitmaps of a group's buckets, value by value: bit r of value v is set where v agrees with rule r on
+-- those bits of the group that the rule fixes.
+abbrev pub bitmaps : ℕ → ℕ → List Block → ℕ → List (List Bool)
+bitmaps width bits rules g = map (λ v. map (λ rule. agrees width bits rule g v) rules) (range_with_len 0 (2 ^ width))
+
+-- the lines of all groups, in groups of `width` bits
+abbrev pub groups_text : ℕ → ℕ → List Block → List ℕ
+groups_text width bits rules = flat_map (λ g. runs_text g (runs_from 0 (bitmaps width bits rules g))) (range_with_len 0 (bits / width))
+
+-- the line of a rule that leads to rules of the next field
+abbrev pub span_text : Span → List ℕ
+span_text span = numbered (codes "map") span.first ++ codes " " ++ decimal span.count ++ line_feed
+
+-- the line of a rule that leads to an element, by the element's place
+abbrev pub end_text : End → List ℕ
+end_text end = numbered (codes "end") end.place ++ line_feed
+
+-- the lines of where the rules of field f lead: in the last field to elements
+abbrev pub ways_text : List Kind → List Element → ℕ → List ℕ
+ways_text kinds elements f =
+    if f + 1 == length kinds
+    then flat_map end_text (last_ends kinds elements)
+    else flat_map span_text (field_spans kinds f elements)
+
+-- the first line of field f
+abbrev pub heading_text : ℕ → Kind → ℕ → ℕ → List ℕ
+heading_text f kind width rules = numbered (codes "field") f ++ codes " " ++ kind_text kind ++ numbered (codes " width") width ++ numbered (codes " rules") rules ++ line_feed
+
+-- field f, which is of a kind and has these rules: eight bits to a group, or four where its table would be too large
+abbrev pub table_text : ℕ → Kind → List Block → List ℕ
+table_text f kind rules =
+    let width = width_of (bits_of kind) (length rules) in
+    heading_text f kind width (length rules) ++ groups_text width (bits_of kind) rules
+
+-- field f of these elements: its table, and then where its rules lead
+abbrev pub field_text : List Kind → List Element → ℕ × Kind → List ℕ
+field_text kinds elements field = table_text field.0 field.1 (field_rules kinds field.0 elements) ++ ways_text kinds elements field.0
+
+-- a set, field by field
+abbrev pub tables_text : SetDecl → State → List ℕ
+tables_text d s =
+    codes "set " ++ set_text (Some d) ++ line_feed
+    ++ flat_map (field_text s.kinds s.elements) (enumerate_from 0 s.kinds)
 
 -- The tables of the declared sets with these states.
-abbrev pub dump_text : List SetDecl → List State → List ℕ
-dump_text schema sets = []
+unfoldable pub dump_text : List SetDecl → List State → List ℕ
+dump_text schema sets = flat_map (λ set. tables_text set.0 set.1) (zip schema sets)

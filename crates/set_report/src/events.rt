@@ -82,7 +82,7 @@ fn write_refusal(
 }
 
 /// Appends the line of an event.
-fn write_event(schema: &Schema, event: &Event, out: &mut Vec<u8>) -> Result<(), Memory>
+pub(crate) fn write_event(schema: &Schema, event: &Event, out: &mut Vec<u8>) -> Result<(), Memory>
     requires { NamesSet (length schema.now) event.now }
     ensures ok { OnOk result (out.new.items ≡ out.old.items ++ event_text schema.now event.now) }
     ensures err { OnErr result (AppendsPart out.old.items out.new.items (event_text schema.now event.now)) }

@@ -4,9 +4,11 @@
 mod events;
 mod lines;
 mod piece;
+mod remarks;
 
 pub use events::write_events;
 pub use lines::write_lines;
+pub use remarks::write_remarks;
 
 #[cfg(test)]
 mod tests;
