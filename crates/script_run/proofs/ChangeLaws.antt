@@ -1,12 +1,11 @@
 -- What a change of one set keeps, and what came of it.
-use Rattle.std.proofs.Common.{◌≡◌, refl, sym, ◌∙◌, ap, ℕ, zero, suc, List, [], ◌∷◌, Option, Some, None, slice_get, slice_set, map}
+use Rattle.std.proofs.Common.{◌≡◌, refl, sym, ◌∙◌, ap, ℕ, zero, suc, List, [], ◌∷◌, Option, Some, None, slice_get, slice_set}
 use Rattle.set_model.specs.declared.kind.Interval.{Interval}
 use Rattle.set_model.specs.declared.element.Element.{Element}
 use Rattle.set_model.specs.declared.report.Why.{Why}
-use Rattle.set_model.specs.declared.report.Why.TheVariants as causes
 use Rattle.set_model.specs.declared.script.Verb.{Verb}
 use Rattle.set_model.specs.declared.script.Verb.TheVariants.{Add, Create, Delete, Destroy}
-use Rattle.set_model.specs.SetState.{State, Added, New, Already, Renewed, Refused, add, add_by, add_new, twin, refusal, place, renewed, removed, without, is_exactly}
+use Rattle.set_model.specs.SetState.{State, Added, New, Already, Renewed, Refused, add, add_by, add_new, twin, refusal, place, renewed, removed, without}
 use Rattle.set_model.specs.Key.{start_key}
 use Rattle.set_model.specs.Control.{as_added, as_created, as_deleted, as_destroyed, changed_set}
 use Rattle.script_run.specs.Running.{kinds_of}

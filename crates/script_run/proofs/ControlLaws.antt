@@ -1,6 +1,6 @@
 -- What the steps of a script keep of its control.
-use Rattle.std.proofs.Common.{◌≡◌, refl, sym, ◌∙◌, ap, subst, ℕ, zero, suc, ◌+◌, ◌<◌, ◌≤◌, Bool, true, false, if◌then◌else◌, List, [], ◌∷◌, ◌++◌, length, map, take, fold, Option, Some, None, slice_get, slice_set, arith, All, add-one}
-use Rattle.std.proofs.lemmas.List.{length-map, length-append, take_all}
+use Rattle.std.proofs.Common.{◌≡◌, refl, sym, ◌∙◌, ap, ℕ, zero, suc, ◌+◌, ◌<◌, ◌≤◌, Bool, true, false, if◌then◌else◌, List, [], ◌∷◌, ◌++◌, length, map, take, fold, Option, Some, None, slice_get, arith, All, add-one}
+use Rattle.std.proofs.lemmas.List.{length-map, length-append}
 use Rattle.std.proofs.lemmas.Option.{slice_get_within}
 use Rattle.set_model.specs.declared.kind.Interval.{Interval}
 use Rattle.set_model.specs.declared.kind.Kind.{Kind}
@@ -12,7 +12,7 @@ use Rattle.set_model.specs.declared.script.Step.{Step}
 use Rattle.set_model.specs.declared.script.Step.TheVariants.{Change, Flush, Commit, Abort}
 use Rattle.set_model.specs.declared.script.Verb.{Verb}
 use Rattle.set_model.specs.SetState.{State, purged, cleared}
-use Rattle.set_model.specs.Control.{Mode, Strict, KeepGoing, Generation, Control, start, step, section, history, with_set, answered, changed, changed_set, flushed, refused, rewound, committed, told}
+use Rattle.set_model.specs.Control.{Mode, Strict, KeepGoing, Control, start, step, section, history, with_set, answered, changed, changed_set, flushed, refused, rewound, committed}
 use Rattle.set_space.specs.Open.{Open}
 use Rattle.set_report.specs.Writes.{NamesSet}
 use Rattle.script_run.specs.Running.{kinds_of, declared_kinds, HasKinds}

@@ -1,18 +1,18 @@
 -- A run goes on as the control does.
-use Rattle.std.proofs.Common.{◌≡◌, refl, sym, ◌∙◌, ap, subst, ℕ, ◌+◌, ◌<◌, Bool, true, false, if◌then◌else◌, List, [], ◌∷◌, ◌++◌, append_assoc, append-nil, length, take, get_or, Option, Some, None, slice_get, slice_set, Result, Ok, Err, OnOk, arith, add-one, drop, map, All, option_map}
+use Rattle.std.proofs.Common.{◌≡◌, refl, sym, ◌∙◌, ap, subst, ℕ, ◌+◌, ◌<◌, Bool, true, false, if◌then◌else◌, List, [], ◌∷◌, ◌++◌, length, take, get_or, Option, Some, None, slice_get, slice_set, arith, add-one, All, option_map}
 use Rattle.std.proofs.Math.Seq.{take-suc}
 use Rattle.std.proofs.lemmas.List.Sums.{fold-append}
 use Rattle.std.proofs.lemmas.Option.{slice_get-map}
 use Rattle.set_model.specs.declared.kind.Interval.{Interval}
 use Rattle.set_model.specs.declared.report.Event.{Event}
-use Rattle.set_model.specs.declared.report.Event.TheVariants.{Refused, Committed, Aborted, Dropped}
+use Rattle.set_model.specs.declared.report.Event.TheVariants.{Aborted, Dropped}
 use Rattle.set_model.specs.declared.report.Why.{Why}
 use Rattle.set_model.specs.declared.script.Step.{Step}
 use Rattle.set_model.specs.declared.script.Step.TheVariants.{Change, Flush, Commit, Abort}
 use Rattle.set_model.specs.declared.script.Verb.{Verb}
-use Rattle.set_model.specs.SetState.{State, cleared}
-use Rattle.set_model.specs.Control.{Mode, Control, Generation, mode_of, step, section, refused, rewound, committed, changed, changed_set, answered, flushed, with_set, expired_count}
-use Rattle.set_space.specs.Open.{Open, IsChange, opened, sealed}
+use Rattle.set_model.specs.SetState.{State}
+use Rattle.set_model.specs.Control.{Mode, Control, Generation, mode_of, step, section, refused, rewound, committed, changed, changed_set, answered, flushed, with_set}
+use Rattle.set_space.specs.Open.{Open, IsChange}
 use Rattle.set_space.specs.Open.{with_set as work_with}
 use Rattle.set_space.proofs.SetsLaws.{set-same}
 use Rattle.script_run.specs.declared.runner.Runner.{Runner}

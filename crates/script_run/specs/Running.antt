@@ -1,5 +1,5 @@
 -- How a run on one thread stands beside the control of its script.
-use Rattle.std.specs.Prelude.{◌≡◌, ℕ, true, List, ◌++◌, map, Option, Some, slice_get}
+use Rattle.std.specs.Prelude.{◌≡◌, true, List, ◌++◌, map, Option, Some, slice_get}
 use Rattle.set_model.specs.declared.kind.Kind.{Kind}
 use Rattle.set_model.specs.declared.report.Event.{Event}
 use Rattle.set_model.specs.declared.report.Why.{Why}

@@ -10,13 +10,7 @@ use set_space::Generation;
 use std::alloc::Global;
 
 /// What a lookup of a key in a set of a generation says, at `now` in milliseconds.
-fn verdict(
-    generation: &Generation,
-    set: u32,
-    key: &Key,
-    now: u64,
-    scratch: &mut Scratch,
-) -> Verdict
+fn verdict(generation: &Generation, set: u32, key: &Key, now: u64, scratch: &mut Scratch) -> Verdict
     requires set { set < length generation.now.sets }
     requires fits { (s : State) → slice_get generation.now.sets set ≡ Some s → key_fits s.kinds key.now ≡ true }
     ensures { result ≡ verdict_in key.now now (slice_get generation.now.sets set) }

@@ -1,8 +1,8 @@
-ghost use Rattle.std.specs.Prelude.{◌≡◌, List, All, IfOk};
+ghost use Rattle.std.specs.Prelude.{◌≡◌, ◌+◌, List, All, IfOk};
 ghost use Rattle.set_model.specs.Control.{mode_of, has_refusal};
 ghost use Rattle.set_model.specs.Legal.{Legal};
 ghost use Rattle.set_model.specs.Runnable.{IsRunnable, IsFitting};
-ghost use Rattle.set_model.specs.Text.{transcript_text};
+ghost use Rattle.set_model.specs.Text.{transcript_text, section_count};
 ghost use Rattle.set_model.specs.declared.report.Line.{Line as PacketLine};
 ghost use Rattle.script_run.specs.Listings.{listing_text, tables_text};
 ghost use Rattle.script_run.specs.Telling.{section_at};
@@ -29,6 +29,13 @@ fn section<T>(sections: &Listed<Listed<T>>, j: u64) -> &[T]
     }
 }
 
+/// How many sections a run has behind section 0.
+fn later_sections(script: &Script, keys: &Keys) -> u64
+    ensures { section_count script.now keys.now ≡ result + 1 }
+{
+    script.sections.len().saturating_sub(1).max(keys.len())
+}
+
 /// Runs a script beside the packets of a key file, and gives the transcript of one thread.
 ///
 /// # Errors
@@ -47,8 +54,7 @@ pub fn transcript(
 {
     let mut telling = Telling::new(alloc, &script.schema, keep_going)?;
     telling.do_section(alloc, &script.schema, section(&script.sections, 0), &[])?;
-    let rest = script.sections.len().saturating_sub(1).max(keys.len());
-    'rest: for j in 0..rest {
+    'rest: for j in 0..later_sections(script, keys) {
         let steps = section(&script.sections, j + 1);
         telling.do_section(alloc, &script.schema, steps, section(keys, j))?;
     }

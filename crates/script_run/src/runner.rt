@@ -37,13 +37,7 @@ impl Runner {
     }
 
     /// Tells a refusal, which fails the transaction unless the run keeps going.
-    fn refuse(
-        &mut self,
-        line: u64,
-        set: u32,
-        why: Why,
-        events: &mut Events,
-    ) -> Result<(), Memory>
+    fn refuse(&mut self, line: u64, set: u32, why: Why, events: &mut Events) -> Result<(), Memory>
         requires { self.old.failed ≡ false }
         ensures { OnOk result (GoesOn (λ c. refused (mode_of self.old.keep_going) c line set why) self.old events.old self.new events.new) }
     {

@@ -84,7 +84,13 @@ impl Telling {
         let Some(end) = first.checked_add(packets.len() as u64) else {
             return Err(Memory);
         };
-        let lines = look_up(alloc, self.runner.work.base(), first, packets, &mut self.scratch)?;
+        let lines = look_up(
+            alloc,
+            self.runner.work.base(),
+            first,
+            packets,
+            &mut self.scratch,
+        )?;
         write_lines(&lines, &mut self.output.text)?;
         self.packets = end;
         Ok(())

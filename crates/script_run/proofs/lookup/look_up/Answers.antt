@@ -1,4 +1,4 @@
-use Rattle.std.proofs.Common.{◌≡◌, ◌∙◌, ap, refl, take}
+use Rattle.std.proofs.Common.{◌≡◌, ap, refl, take}
 use Rattle.set_model.specs.Control.{Generation}
 use Rattle.script_run.specs.Packets.{packet_lines}
 use Rattle.script_run.proofs.PacketLaws.{lines-more}

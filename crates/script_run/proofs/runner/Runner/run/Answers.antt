@@ -1,5 +1,4 @@
-use Rattle.std.proofs.Common.{◌∷◌, [], refl, ap, arith}
-use Rattle.set_model.specs.Control.{mode_of, step}
+use Rattle.std.proofs.Common.{◌∷◌, []}
 use Rattle.script_run.specs.Running.{kinds_of}
 use Rattle.script_run.proofs.RunLaws.{goes_more, kinds_stay}
 use Rattle.script_run.proofs.runner.Runner.run.Goals as goal

@@ -1,0 +1,93 @@
+-- The packets of a key file in their order, section by section.
+use Rattle.std.proofs.Common.{◌≡◌, refl, sym, ◌∙◌, ap, ℕ, zero, suc, ◌+◌, ◌<◌, ◌≤◌, List, [], ◌∷◌, length, map, take, drop, slice_get, Some, arith, All, append-nil, add-zero, ◌⊎◌, inl, inr, flat_map}
+use Rattle.std.specs.List.{enumerate_from}
+use Rattle.std.proofs.lemmas.List.{length-map, length-append}
+use Rattle.std.proofs.lemmas.Option.{slice_get_within}
+use Rattle.set_model.specs.declared.packet.Packet.{Packet}
+use Rattle.set_model.specs.Legal.{Placed, placed_from}
+use Rattle.script_run.specs.Telling.{section_at}
+use Rattle.script_run.proofs.Lists.{All-head, All-tail, append-either, take-first, drop-take-behind, numbered, of-item, length-enumerate}
+
+-- the packets of a section, with their places
+abbrev pub in_section : ℕ → ℕ × Packet → Placed
+in_section j p = record { section = j; place = p.0; packet = p.1 }
+
+abbrev pub placed_in : ℕ → List Packet → List Placed
+placed_in j packets = map (in_section j) (enumerate_from 0 packets)
+
+-- how many packets the first sections have
+abbrev pub count_of : List (List Packet) → ℕ → ℕ
+count_of keys j = length (flat_map (λ packets. packets) (take j keys))
+
+placed-long : (j : ℕ) (packets : List Packet) → length (placed_in j packets) ≡ length packets
+placed-long j packets = length-map (enumerate_from 0 packets) (in_section j) ∙ length-enumerate 0 packets
+
+count-cons : (packets : List Packet) (keys : List (List Packet)) (j : ℕ) → count_of (packets ∷ keys) (suc j) ≡ length packets + count_of keys j
+count-cons packets keys j = length-append packets (flat_map (λ ps. ps) (take j keys))
+
+-- the packets of one section among all
+pub section-placed : (s j : ℕ) (keys : List (List Packet)) → drop (count_of keys j) (take (count_of keys (suc j)) (placed_from s keys)) ≡ placed_in (s + j) (section_at keys j)
+section-placed s zero [] = refl
+section-placed s (suc j) [] = refl
+section-placed s zero (packets ∷ keys) =
+    let size : count_of (packets ∷ keys) 1 ≡ length (placed_in s packets) = ap length (append-nil packets) ∙ sym (placed-long s packets) in
+    ap (λ n. take n (placed_from s (packets ∷ keys))) size ∙ take-first (placed_in s packets) (placed_from (s + 1) keys) ∙ ap (λ n. placed_in n packets) (sym (add-zero s))
+section-placed s (suc j) (packets ∷ keys) =
+    let long = placed-long s packets in
+    let a : count_of (packets ∷ keys) (suc j) ≡ length (placed_in s packets) + count_of keys j = count-cons packets keys j ∙ ap (λ n. n + count_of keys j) (sym long) in
+    let b : count_of (packets ∷ keys) (suc (suc j)) ≡ length (placed_in s packets) + count_of keys (suc j) = count-cons packets keys (suc j) ∙ ap (λ n. n + count_of keys (suc j)) (sym long) in
+    ap (λ n. drop n (take (count_of (packets ∷ keys) (suc (suc j))) (placed_from s (packets ∷ keys)))) a
+    ∙ ap (λ n. drop (length (placed_in s packets) + count_of keys j) (take n (placed_from s (packets ∷ keys)))) b
+    ∙ drop-take-behind (placed_in s packets) (placed_from (s + 1) keys) (count_of keys j) (count_of keys (suc j))
+    ∙ section-placed (s + 1) j keys
+    ∙ ap (λ n. placed_in n (section_at keys j)) (omega arith)
+
+-- one section more is so many packets more
+pub count-next : (keys : List (List Packet)) (j : ℕ) → count_of keys (suc j) ≡ count_of keys j + length (section_at keys j)
+count-next [] zero = refl
+count-next [] (suc j) = refl
+count-next (packets ∷ keys) zero = ap length (append-nil packets) ∙ omega arith
+count-next (packets ∷ keys) (suc j) =
+    let more = count-next keys j in
+    let a = count-cons packets keys (suc j) in
+    let b = count-cons packets keys j in
+    omega (arith, a, b, more)
+
+-- What holds of all packets holds of each that is placed.
+pub of-placed : (P : Packet → Type 0) (s p : ℕ) (keys : List (List Packet)) (at : Placed) → All (All P) keys → slice_get (placed_from s keys) p ≡ Some at → P at.packet
+of-placed P s p [] at h e = absurd (cc e)
+of-placed P s p (packets ∷ keys) at h e = go (append-either (placed_in s packets) (placed_from (s + 1) keys) p at e) (λ q k. of-placed P (s + 1) q keys at (All-tail (All P) packets keys h) k) where
+  go : (slice_get (placed_in s packets) p ≡ Some at) ⊎ ((q : ℕ) × (slice_get (placed_from (s + 1) keys) q ≡ Some at) × (p ≡ length (placed_in s packets) + q))
+      → ((q : ℕ) → slice_get (placed_from (s + 1) keys) q ≡ Some at → P at.packet) → P at.packet
+  go (inl k) rest =
+      let here = numbered (in_section s) packets p at k in
+      rw (← here.2) (of-item P packets p here.0 (All-head (All P) packets keys h) here.1)
+  go (inr k) rest = rest k.0 k.1
+
+-- a packet that is placed from a section on is of no earlier section
+from-section : (s p : ℕ) (keys : List (List Packet)) (at : Placed) → slice_get (placed_from s keys) p ≡ Some at → s ≤ at.section
+from-section s p [] at e = absurd (cc e)
+from-section s p (packets ∷ keys) at e = go (append-either (placed_in s packets) (placed_from (s + 1) keys) p at e) (λ q k. from-section (s + 1) q keys at k) where
+  go : (slice_get (placed_in s packets) p ≡ Some at) ⊎ ((q : ℕ) × (slice_get (placed_from (s + 1) keys) q ≡ Some at) × (p ≡ length (placed_in s packets) + q))
+      → ((q : ℕ) → slice_get (placed_from (s + 1) keys) q ≡ Some at → s + 1 ≤ at.section) → s ≤ at.section
+  go (inl k) rest = let here = numbered (in_section s) packets p at k in rw (← here.2) (omega arith)
+  go (inr k) rest = let later = rest k.0 k.1 in omega (arith, later)
+
+in-first : (s p : ℕ) (packets : List Packet) (at : Placed) → slice_get (placed_in s packets) p ≡ Some at → at.section ≡ s
+in-first s p packets at k = let here = numbered (in_section s) packets p at k in ap (λ (z : Placed). z.section) (sym here.2)
+
+-- where an item of the first section and of those behind it stands
+abbrev Where : ℕ → List Packet → List (List Packet) → ℕ → Placed → Type 0
+Where s packets keys n at = (slice_get (placed_in s packets) n ≡ Some at) ⊎ ((i : ℕ) × (slice_get (placed_from (s + 1) keys) i ≡ Some at) × (n ≡ length (placed_in s packets) + i))
+
+-- A later packet is of no earlier section.
+pub sections-rise : (s p q : ℕ) (keys : List (List Packet)) (a b : Placed) → p < q → slice_get (placed_from s keys) p ≡ Some a → slice_get (placed_from s keys) q ≡ Some b → a.section ≤ b.section
+sections-rise s p q [] a b lt e f = absurd (cc e)
+sections-rise s p q (packets ∷ keys) a b lt e f =
+    go (append-either (placed_in s packets) (placed_from (s + 1) keys) p a e) (append-either (placed_in s packets) (placed_from (s + 1) keys) q b f)
+    (λ i j l k m. sections-rise (s + 1) i j keys a b l k m) where
+      go : Where s packets keys p a → Where s packets keys q b → ((i j : ℕ) → i < j → slice_get (placed_from (s + 1) keys) i ≡ Some a → slice_get (placed_from (s + 1) keys) j ≡ Some b → a.section ≤ b.section) → a.section ≤ b.section
+      go (inl k) (inl m) rest = let x = in-first s p packets a k in let y = in-first s q packets b m in omega (arith, x, y)
+      go (inl k) (inr m) rest = let x = in-first s p packets a k in let y = from-section (s + 1) m.0 keys b m.1 in omega (arith, x, y)
+      go (inr k) (inl m) rest = let x = k.2 in let y = slice_get_within (placed_in s packets) q b m in absurd (omega (arith, x, y, lt))
+      go (inr k) (inr m) rest = rest k.0 m.0 (let x = k.2 in let y = m.2 in omega (arith, x, y, lt)) k.1 m.1

@@ -1,0 +1,7 @@
+use Rattle.std.proofs.Common.{◌+◌}
+use Rattle.script_run.proofs.TranscriptLaws.{IsToldUpTo}
+use Rattle.script_run.proofs.output.transcript.Given as goal
+
+-- the sections so far are told
+abbrev pub invariant-rest : goal.invariant-rest
+invariant-rest l = IsToldUpTo l.keep_going l.script l.keys (l.j + 1) l.telling
