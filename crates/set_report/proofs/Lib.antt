@@ -1,3 +1,4 @@
 mod PartLaws
 mod LineLaws
 mod Listings
+mod ListLaws

@@ -1,7 +1,9 @@
 -- What a writer of text leaves, and what it asks of events.
-use Rattle.std.specs.Prelude.{◌≡◌, ◌<◌, ℕ, List, ◌++◌}
+use Rattle.std.specs.Prelude.{◌≡◌, ◌<◌, ℕ, List, ◌++◌, length, slice_get, Some}
+use Rattle.set_model.specs.declared.script.SetDecl.{SetDecl}
 use Rattle.set_model.specs.declared.report.Event.{Event}
 use Rattle.set_model.specs.declared.report.Event.TheVariants.{Refused, Committed, Aborted, Dropped}
+use Rattle.set_model.specs.SetState.{State}
 
 -- Of a text a part from its front was appended, and no more.
 pub record AppendsPart (old new text : List ℕ) : Type 0 where
@@ -16,3 +18,13 @@ NamesSet sets (Refused line set why) = set < sets
 NamesSet sets (Committed generation purged) = Unit {0}
 NamesSet sets (Aborted generation) = Unit {0}
 NamesSet sets (Dropped generation) = Unit {0}
+
+-- A set has the kinds and the size that were declared.
+pub record IsSetOf (d : SetDecl) (s : State) : Type 0 where
+  pub kinds : s.kinds ≡ d.kinds
+  pub size : s.size ≡ d.size
+
+-- The sets are those of a schema: one for each declared set, in their order.
+pub record AreSetsOf (schema : List SetDecl) (sets : List State) : Type 0 where
+  pub one_each : length sets ≡ length schema
+  pub each : (i : ℕ) (d : SetDecl) (s : State) → slice_get schema i ≡ Some d → slice_get sets i ≡ Some s → IsSetOf d s

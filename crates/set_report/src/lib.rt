@@ -3,10 +3,12 @@
 
 mod events;
 mod lines;
+mod list;
 mod piece;
 
 pub use events::write_events;
 pub use lines::write_lines;
+pub use list::write_list;
 
 #[cfg(test)]
 mod tests;
