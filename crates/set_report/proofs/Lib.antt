@@ -3,3 +3,4 @@ mod LineLaws
 mod Listings
 mod TwoParts
 mod DumpWorked
+mod ListLaws

@@ -2,4 +2,5 @@ pub mod Writes
 pub mod Pieces
 pub mod Remarks
 pub mod ListText
+pub mod Kept
 pub mod DumpText

@@ -3,6 +3,7 @@ use Rattle.std.specs.Prelude.{ℕ, ◌-◌, Bool, true, false, ◌&&◌, not, na
 use Rattle.std.specs.List.{zip, join_by}
 use Rattle.set_model.specs.declared.kind.Kind.{Kind}
 use Rattle.set_model.specs.declared.kind.Kind.TheVariants.{Ipv4, Ipv6, Ether, Proto, Service, Mark}
+use Rattle.set_model.specs.declared.kind.Interval.{Interval}
 use Rattle.set_model.specs.declared.element.Element.{Element}
 use Rattle.set_model.specs.declared.script.SetDecl.{SetDecl}
 use Rattle.set_model.specs.SetState.{State}
@@ -19,8 +20,8 @@ kind_text Service = codes "inet_service"
 kind_text Mark = codes "mark"
 
 -- Elements. The intervals, each of its field's kind, with ` . ` between them.
-abbrev pub parts_text : SetDecl → Element → List ℕ
-parts_text d e = join_by (λ p. interval_text p.0 p.1) (codes " . ") (zip d.kinds e.parts)
+abbrev pub parts_text : List Kind → List Interval → List ℕ
+parts_text kinds parts = join_by (λ p. interval_text p.0 p.1) (codes " . ") (zip kinds parts)
 
 -- a set gives its elements a life where they name none
 abbrev pub gives_life : SetDecl → Bool
@@ -38,7 +39,7 @@ comment_text [] = []
 comment_text (byte ∷ bytes) = codes " comment \"" ++ (byte ∷ bytes) ++ codes "\""
 
 abbrev pub element_text : SetDecl → ℕ → Element → List ℕ
-element_text d now e = parts_text d e ++ expiry_text d now e.expiry ++ comment_text e.comment
+element_text d now e = parts_text d.kinds e.parts ++ expiry_text d now e.expiry ++ comment_text e.comment
 
 -- The items of a set, each on a line of its own.
 abbrev pub item_line : List ℕ → List ℕ
@@ -75,16 +76,13 @@ abbrev pub elements_line : SetDecl → ℕ → List Element → List ℕ
 elements_line d now [] = []
 elements_line d now (e ∷ es) = item_line (codes "elements = { " ++ join_by (element_text d now) (codes ",\n\t\t\t     ") (e ∷ es) ++ codes " }")
 
+-- the items of a set, in this order
+abbrev pub items_text : ℕ → SetDecl → State → List ℕ
+items_text now d s = type_line d ++ size_line d.size ++ flags_line (flag_words d) ++ timeout_line d.timeout ++ elements_line d now s.elements
+
 -- A set with its items.
 abbrev pub set_block : ℕ → SetDecl × State → List ℕ
-set_block now (d, s) =
-    codes "\tset " ++ d.name ++ codes " {\n"
-    ++ type_line d
-    ++ size_line d.size
-    ++ flags_line (flag_words d)
-    ++ timeout_line d.timeout
-    ++ elements_line d now s.elements
-    ++ codes "\t}\n"
+set_block now (d, s) = codes "\tset " ++ d.name ++ codes " {\n" ++ items_text now d s ++ codes "\t}\n"
 
 -- Two sets stand in one table: it is told from others by its family and its name.
 abbrev pub same_table : SetDecl → SetDecl → Bool

@@ -3,12 +3,14 @@
 
 mod events;
 mod lines;
+mod list;
 mod piece;
 mod remarks;
 
 pub use events::write_events;
 pub use lines::write_lines;
 pub use remarks::write_remarks;
+pub use list::write_list;
 
 #[cfg(test)]
 mod tests;
