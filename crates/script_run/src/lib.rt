@@ -10,3 +10,6 @@ mod telling;
 mod whole;
 
 pub use output::{Output, dump, listing, transcript};
+
+#[cfg(test)]
+mod tests;
