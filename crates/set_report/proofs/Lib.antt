@@ -2,3 +2,8 @@ mod PartLaws
 mod LineLaws
 mod TwoParts
 mod DumpWorked
+mod Leaves
+mod DumpRuns
+mod DumpBits
+mod DumpLines
+mod DumpTables

@@ -3,3 +3,4 @@ pub mod Pieces
 pub mod Remarks
 pub mod ListText
 pub mod DumpText
+pub mod DumpBuckets
