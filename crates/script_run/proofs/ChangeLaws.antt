@@ -1,5 +1,5 @@
 -- What a change of one set keeps, and what came of it.
-use Rattle.std.proofs.Common.{◌≡◌, refl, sym, ◌∙◌, ap, ℕ, zero, suc, List, [], ◌∷◌, Option, Some, None, slice_get, slice_set}
+use Rattle.std.proofs.Common.{◌≡◌, refl, sym, ◌∙◌, ap, ℕ, zero, suc, List, [], ◌∷◌, Option, Some, None, slice_get, slice_set, map}
 use Rattle.set_model.specs.declared.kind.Interval.{Interval}
 use Rattle.set_model.specs.declared.element.Element.{Element}
 use Rattle.set_model.specs.declared.report.Why.{Why}
@@ -10,62 +10,70 @@ use Rattle.set_model.specs.Key.{start_key}
 use Rattle.set_model.specs.Control.{as_added, as_created, as_deleted, as_destroyed, changed_set}
 use Rattle.script_run.specs.Running.{kinds_of}
 
--- A change leaves the set's kinds, and where it is refused the whole set.
+-- A set has the kinds and the size of another.
+pub record IsAlike (s t : State) : Type 0 where
+  pub kinds : t.kinds ≡ s.kinds
+  pub size : t.size ≡ s.size
+
+-- A change leaves the set's kinds and size, and where it is refused the whole set.
 module _ (s : State) (parts : List Interval) (expiry : Option ℕ) (comment : List ℕ) (now : ℕ) where
   record Keeps (x : Option Why × State) : Type 0 where
-    kinds : x.1.kinds ≡ s.kinds
+    alike : IsAlike s x.1
     all : (why : Why) → x.0 ≡ Some why → x.1 ≡ s
 
   left : (x : Option Why × State) → x.1 ≡ s → Keeps x
-  left x e = record { kinds = ap (λ (t : State). t.kinds) e; all = λ why h. e }
+  left x e = record { alike = record { kinds = ap (λ (t : State). t.kinds) e; size = ap (λ (t : State). t.size) e }; all = λ why h. e }
 
-  made : (t : State) → t.kinds ≡ s.kinds → Keeps (None, t)
-  made t e = record { kinds = e; all = λ why h. absurd (cc h) }
+  made : (t : State) → IsAlike s t → Keeps (None, t)
+  made t e = record { alike = e; all = λ why h. absurd (cc h) }
+
+  same : IsAlike s s
+  same = record { kinds = refl; size = refl }
 
   by_refusal : (r : Option Why) → Keeps (as_added (add_new s parts expiry comment r))
-  by_refusal None = made _ refl
+  by_refusal None = made _ (record { kinds = refl; size = refl })
   by_refusal (Some why) = left _ refl
 
-  renewed_kinds : (i x : Option ℕ) → (renewed s i x).kinds ≡ s.kinds
-  renewed_kinds None x = refl
-  renewed_kinds (Some i) x = refl
+  renewed_alike : (i x : Option ℕ) → IsAlike s (renewed s i x)
+  renewed_alike None x = same
+  renewed_alike (Some i) x = record { kinds = refl; size = refl }
 
   by_expiry : (x : Option ℕ) (e : Element) → Keeps (as_added (add_by s parts x comment now (Some e)))
-  by_expiry None e = made _ refl
-  by_expiry (Some moment) e = made _ (renewed_kinds (place s (start_key parts) now) (Some moment))
+  by_expiry None e = made _ same
+  by_expiry (Some moment) e = made _ (renewed_alike (place s (start_key parts) now) (Some moment))
 
   by_twin : (t : Option Element) → Keeps (as_added (add_by s parts expiry comment now t))
   by_twin None = by_refusal (refusal s parts now)
   by_twin (Some e) = by_expiry expiry e
 
-  by_addition : (a : Added) (t : State) → (as_added (a, t)).1.kinds ≡ s.kinds → Keeps (as_created s (a, t))
+  by_addition : (a : Added) (t : State) → IsAlike s (as_added (a, t)).1 → Keeps (as_created s (a, t))
   by_addition (New id) t e = made t e
   by_addition (Already id) t e = left _ refl
   by_addition (Renewed id) t e = left _ refl
   by_addition (Refused why) t e = left _ refl
 
   by_place : (e : Option Element) (i : Option ℕ) → Keeps (as_deleted s (without s e i)) × Keeps (as_destroyed s (without s e i))
-  by_place (Some e) (Some i) = (made _ refl, made _ refl)
-  by_place (Some e) None = (left _ refl, left _ refl)
-  by_place None i = (left _ refl, left _ refl)
+  by_place (Some e) (Some i) = (made _ (record { kinds = refl; size = refl }), made _ (record { kinds = refl; size = refl }))
+  by_place (Some e) None = (left _ refl, made _ same)
+  by_place None i = (left _ refl, made _ same)
 
   removal : Keeps (as_deleted s (removed s parts now)) × Keeps (as_destroyed s (removed s parts now))
   removal = by_place _ _
 
   change_keeps : (verb : Verb) → Keeps (changed_set verb s parts expiry comment now)
   change_keeps Add = by_twin (twin s parts now)
-  change_keeps Create = let a = add s parts expiry comment now in by_addition a.0 a.1 (by_twin (twin s parts now)).kinds
+  change_keeps Create = let a = add s parts expiry comment now in by_addition a.0 a.1 (by_twin (twin s parts now)).alike
   change_keeps Delete = removal.0
   change_keeps Destroy = removal.1
 
-  pub change_kinds : (verb : Verb) → (changed_set verb s parts expiry comment now).1.kinds ≡ s.kinds
-  change_kinds verb = (change_keeps verb).kinds
+  pub change_alike : (verb : Verb) → IsAlike s (changed_set verb s parts expiry comment now).1
+  change_alike verb = (change_keeps verb).alike
 
   pub refusal_keeps : (verb : Verb) (why : Why) → (changed_set verb s parts expiry comment now).0 ≡ Some why → (changed_set verb s parts expiry comment now).1 ≡ s
   refusal_keeps verb why h = (change_keeps verb).all why h
 
--- a set in place of another of its kinds
-pub set_kinds : (sets : List State) (i : ℕ) (s t : State) → slice_get sets i ≡ Some s → t.kinds ≡ s.kinds → kinds_of (slice_set sets i t) ≡ kinds_of sets
-set_kinds [] i s t h e = absurd (cc h)
-set_kinds (x ∷ xs) zero s t h e = let same : x ≡ s = cc h in ap (λ k. k ∷ kinds_of xs) (e ∙ ap (λ (z : State). z.kinds) (sym same))
-set_kinds (x ∷ xs) (suc i) s t h e = ap (λ r. x.kinds ∷ r) (set_kinds xs i s t h e)
+-- what holds of the sets one by one, where one of them is changed and this stays
+pub set_same : {X : Type 0} (f : State → X) (sets : List State) (i : ℕ) (s t : State) → slice_get sets i ≡ Some s → f t ≡ f s → map f (slice_set sets i t) ≡ map f sets
+set_same f [] i s t h e = absurd (cc h)
+set_same f (x ∷ xs) zero s t h e = let is : x ≡ s = cc h in ap (λ k. k ∷ map f xs) (e ∙ ap f (sym is))
+set_same f (x ∷ xs) (suc i) s t h e = ap (λ r. f x ∷ r) (set_same f xs i s t h e)

@@ -1,7 +1,7 @@
 -- What the steps of a script keep of its control.
-use Rattle.std.proofs.Common.{◌≡◌, refl, sym, ◌∙◌, ap, ℕ, zero, suc, ◌+◌, ◌<◌, ◌≤◌, Bool, true, false, if◌then◌else◌, List, [], ◌∷◌, ◌++◌, length, map, take, fold, Option, Some, None, slice_get, arith, All, add-one}
+use Rattle.std.proofs.Common.{option_map, ◌≡◌, refl, sym, ◌∙◌, ap, ℕ, zero, suc, ◌+◌, ◌<◌, ◌≤◌, Bool, true, false, if◌then◌else◌, List, [], ◌∷◌, ◌++◌, length, map, take, fold, Option, Some, None, slice_get, arith, All, add-one}
 use Rattle.std.proofs.lemmas.List.{length-map, length-append}
-use Rattle.std.proofs.lemmas.Option.{slice_get_within}
+use Rattle.std.proofs.lemmas.Option.{slice_get-map, slice_get_within}
 use Rattle.set_model.specs.declared.kind.Interval.{Interval}
 use Rattle.set_model.specs.declared.kind.Kind.{Kind}
 use Rattle.set_model.specs.declared.report.Event.{Event}
@@ -11,19 +11,19 @@ use Rattle.set_model.specs.declared.script.SetDecl.{SetDecl}
 use Rattle.set_model.specs.declared.script.Step.{Step}
 use Rattle.set_model.specs.declared.script.Step.TheVariants.{Change, Flush, Commit, Abort}
 use Rattle.set_model.specs.declared.script.Verb.{Verb}
-use Rattle.set_model.specs.SetState.{State, purged, cleared}
+use Rattle.set_model.specs.SetState.{State, purged, cleared, empty_set}
 use Rattle.set_model.specs.Control.{Mode, Strict, KeepGoing, Control, start, step, section, history, with_set, answered, changed, changed_set, flushed, refused, rewound, committed}
 use Rattle.set_space.specs.Open.{Open}
-use Rattle.set_report.specs.Writes.{NamesSet}
+use Rattle.set_report.specs.Writes.{NamesSet, AreSetsOf}
 use Rattle.script_run.specs.Running.{kinds_of, declared_kinds, HasKinds}
 use Rattle.script_run.specs.Telling.{section_at}
-use Rattle.script_run.proofs.ChangeLaws.{change_kinds, set_kinds}
+use Rattle.script_run.proofs.ChangeLaws.{IsAlike, change_alike, set_same}
 use Rattle.script_run.proofs.Lists.{All-snoc, snoc-at}
 
--- A step does one of these: nothing, another set of the same kinds at a place, a refusal, an end that is taken back, a commit.
+-- A step does one of these: nothing, a set that is alike at a place, a refusal, an end that is taken back, a commit.
 pub record Outcomes (P : Control → Type 0) (mode : Mode) (c : Control) : Type 0 where
   pub nothing : P c
-  pub made : (set : ℕ) (old new : State) → slice_get c.sets set ≡ Some old → new.kinds ≡ old.kinds → P (with_set c set new)
+  pub made : (set : ℕ) (old new : State) → slice_get c.sets set ≡ Some old → IsAlike old new → P (with_set c set new)
   pub refusing : (line set : ℕ) (why : Why) → set < length c.sets → P (refused mode c line set why)
   pub rewinding : (event : Event) → ((n : ℕ) → NamesSet n event) → P (rewound c event)
   pub committing : (now : ℕ) → P (committed c now)
@@ -33,17 +33,17 @@ module _ (P : Control → Type 0) (mode : Mode) (c : Control) (o : Outcomes P mo
   either true x y p q = p
   either false x y p q = q
 
-  by_answer : (line set : ℕ) (s : State) (x : Option Why × State) → slice_get c.sets set ≡ Some s → x.1.kinds ≡ s.kinds → P (answered mode c line set x)
-  by_answer line set s (None, t) at kinds = o.made set s t at kinds
-  by_answer line set s (Some why, t) at kinds = o.refusing line set why (slice_get_within c.sets set s at)
+  by_answer : (line set : ℕ) (s : State) (x : Option Why × State) → slice_get c.sets set ≡ Some s → IsAlike s x.1 → P (answered mode c line set x)
+  by_answer line set s (None, t) at alike = o.made set s t at alike
+  by_answer line set s (Some why, t) at alike = o.refusing line set why (slice_get_within c.sets set s at)
 
   by_set : (line set : ℕ) (verb : Verb) (parts : List Interval) (expiry : Option ℕ) (comment : List ℕ) (now : ℕ) (s : Option State) → slice_get c.sets set ≡ s → P (changed mode c line set verb parts expiry comment now s)
   by_set line set verb parts expiry comment now None at = o.nothing
-  by_set line set verb parts expiry comment now (Some s) at = by_answer line set s (changed_set verb s parts expiry comment now) at (change_kinds s parts expiry comment now verb)
+  by_set line set verb parts expiry comment now (Some s) at = by_answer line set s (changed_set verb s parts expiry comment now) at (change_alike s parts expiry comment now verb)
 
   by_flush : (set : ℕ) (s : Option State) → slice_get c.sets set ≡ s → P (flushed c set s)
   by_flush set None at = o.nothing
-  by_flush set (Some s) at = o.made set s (cleared s) at refl
+  by_flush set (Some s) at = o.made set s (cleared s) at (record { kinds = refl; size = refl })
 
   -- What holds of each outcome holds behind a step.
   pub by_outcome : (s : Step) → P (step mode c s)
@@ -61,9 +61,36 @@ by_steps P mode keeps c (s ∷ steps) h = by_steps P mode keeps (step mode c s) 
 abbrev pub work_of : Control → Open
 work_of c = record { base = c.last; sets = c.sets }
 
-purged_kinds : (sets : List State) (now : ℕ) → kinds_of (map (λ s. purged s now) sets) ≡ kinds_of sets
-purged_kinds [] now = refl
-purged_kinds (s ∷ sets) now = ap (λ r. s.kinds ∷ r) (purged_kinds sets now)
+-- What a function of their kinds and sizes shows of sets stays.
+pub record Shows {X : Type 0} (f : State → X) (xs : List X) (work : Open) : Type 0 where
+  pub base : map f work.base.sets ≡ xs
+  pub open_sets : map f work.sets ≡ xs
+
+module _ {X : Type 0} (f : State → X) (same : (s t : State) → IsAlike s t → f t ≡ f s) (xs : List X) where
+  purged_shows : (sets : List State) (now : ℕ) → map f (map (λ s. purged s now) sets) ≡ map f sets
+  purged_shows [] now = refl
+  purged_shows (s ∷ sets) now = ap (λ y. y ∷ map f (map (λ t. purged t now) sets)) (same s (purged s now) (record { kinds = refl; size = refl })) ∙ ap (λ r. f s ∷ r) (purged_shows sets now)
+
+  refused_shows : (mode : Mode) (c : Control) (line set : ℕ) (why : Why) → Shows f xs (work_of c) → Shows f xs (work_of (refused mode c line set why))
+  refused_shows Strict c line set why h = h
+  refused_shows KeepGoing c line set why h = h
+
+  committed_shows : (c : Control) (now : ℕ) → Shows f xs (work_of c) → Shows f xs (work_of (committed c now))
+  committed_shows c now h =
+      let purged_is : map f (map (λ s. purged s now) c.sets) ≡ xs = purged_shows c.sets now ∙ h.open_sets in
+      record { base = purged_is; open_sets = purged_is }
+
+  pub step_shows : (mode : Mode) (c : Control) (s : Step) → Shows f xs (work_of c) → Shows f xs (work_of (step mode c s))
+  step_shows mode c s h = by_outcome (λ d. Shows f xs (work_of d)) mode c (record {
+    nothing = h;
+    made = λ set old new at alike. record { base = h.base; open_sets = set_same f c.sets set old new at (same old new alike) ∙ h.open_sets };
+    refusing = λ line set why lt. refused_shows mode c line set why h;
+    rewinding = λ event names. record { base = h.base; open_sets = h.base };
+    committing = λ now. committed_shows c now h;
+  }) s
+
+  pub section_shows : (mode : Mode) (c : Control) (steps : List Step) → Shows f xs (work_of c) → Shows f xs (work_of (section mode c steps))
+  section_shows mode c steps h = by_steps (λ d. Shows f xs (work_of d)) mode (step_shows mode) c steps h
 
 -- Sets of these kinds, and events that name one of them.
 pub record IsOf (kinds : List (List Kind)) (c : Control) : Type 0 where
@@ -71,26 +98,10 @@ pub record IsOf (kinds : List (List Kind)) (c : Control) : Type 0 where
   pub named : All (NamesSet (length kinds)) c.events
 
 module _ (kinds : List (List Kind)) where
-  refused_kinds : (mode : Mode) (c : Control) (line set : ℕ) (why : Why) → HasKinds kinds (work_of c) → HasKinds kinds (work_of (refused mode c line set why))
-  refused_kinds Strict c line set why h = h
-  refused_kinds KeepGoing c line set why h = h
-
-  committed_kinds : (c : Control) (now : ℕ) → HasKinds kinds (work_of c) → HasKinds kinds (work_of (committed c now))
-  committed_kinds c now h =
-      let same : kinds_of (map (λ s. purged s now) c.sets) ≡ kinds = purged_kinds c.sets now ∙ h.open_sets in
-      record { base = same; open_sets = same }
-
-  step_kinds : (mode : Mode) (c : Control) (s : Step) → HasKinds kinds (work_of c) → HasKinds kinds (work_of (step mode c s))
-  step_kinds mode c s h = by_outcome (λ d. HasKinds kinds (work_of d)) mode c (record {
-    nothing = h;
-    made = λ set old new at same. record { base = h.base; open_sets = set_kinds c.sets set old new at same ∙ h.open_sets };
-    refusing = λ line set why lt. refused_kinds mode c line set why h;
-    rewinding = λ event names. record { base = h.base; open_sets = h.base };
-    committing = λ now. committed_kinds c now h;
-  }) s
-
   pub section_kinds : (mode : Mode) (c : Control) (steps : List Step) → HasKinds kinds (work_of c) → HasKinds kinds (work_of (section mode c steps))
-  section_kinds mode c steps h = by_steps (λ d. HasKinds kinds (work_of d)) mode (step_kinds mode) c steps h
+  section_kinds mode c steps h =
+      let k = section_shows (λ s. s.kinds) (λ s t alike. alike.kinds) kinds mode c steps (record { base = h.base; open_sets = h.open_sets }) in
+      record { base = k.base; open_sets = k.open_sets }
 
   pub kinds_long : (sets : List State) → kinds_of sets ≡ kinds → length sets ≡ length kinds
   kinds_long sets e = sym (length-map sets (λ s. s.kinds)) ∙ ap length e
@@ -106,7 +117,7 @@ module _ (kinds : List (List Kind)) where
   step_of mode c s h =
       let long = kinds_long c.sets h.work.open_sets in
       record {
-        work = step_kinds mode c s h.work;
+        work = section_kinds mode c (s ∷ []) h.work;
         named = by_outcome (λ d. All (NamesSet (length kinds)) d.events) mode c (record {
           nothing = h.named;
           made = λ set old new at same. h.named;
@@ -163,15 +174,38 @@ step_later mode n c s h = by_outcome (λ d. n ≤ d.last.number) mode c (record 
 pub section_later : (mode : Mode) (c : Control) (steps : List Step) → c.last.number ≤ (section mode c steps).last.number
 section_later mode c steps = by_steps (λ d. c.last.number ≤ d.last.number) mode (step_later mode c.last.number) c steps (omega arith)
 
-empty_kinds : (schema : List SetDecl) → kinds_of (start schema).sets ≡ declared_kinds schema
-empty_kinds [] = refl
-empty_kinds (d ∷ schema) = ap (λ r. d.kinds ∷ r) (empty_kinds schema)
+empty_shows : {X : Type 0} (f : State → X) (g : SetDecl → X) → ((d : SetDecl) → f (empty_set d.kinds d.size d.disjoint) ≡ g d) → (schema : List SetDecl) → map f (start schema).sets ≡ map g schema
+empty_shows f g same [] = refl
+empty_shows f g same (d ∷ schema) = ap (λ y. y ∷ map f (start schema).sets) (same d) ∙ ap (λ r. g d ∷ r) (empty_shows f g same schema)
 
 pub start_of : (schema : List SetDecl) → IsOf (declared_kinds schema) (start schema)
-start_of schema = record { work = record { base = empty_kinds schema; open_sets = empty_kinds schema }; named = λ k e lt. absurd (omega (arith, lt)) }
+start_of schema =
+    let kinds : kinds_of (start schema).sets ≡ declared_kinds schema = empty_shows (λ s. s.kinds) (λ d. d.kinds) (λ d. refl) schema in
+    record { work = record { base = kinds; open_sets = kinds }; named = λ k e lt. absurd (omega (arith, lt)) }
+
+start_sizes : (schema : List SetDecl) → Shows (λ s. s.size) (map (λ d. d.size) schema) (work_of (start schema))
+start_sizes schema =
+    let sizes : map (λ s. s.size) (start schema).sets ≡ map (λ d. d.size) schema = empty_shows (λ s. s.size) (λ d. d.size) (λ d. refl) schema in
+    record { base = sizes; open_sets = sizes }
 
 pub start_numbered : (schema : List SetDecl) → IsNumbered (start schema)
 start_numbered schema = record { at = refl; long = refl }
+
+shown : {A B X : Type 0} (f : A → X) (g : B → X) (xs : List A) (ys : List B) (i : ℕ) (x : A) (y : B) → map f xs ≡ map g ys → slice_get xs i ≡ Some x → slice_get ys i ≡ Some y → f x ≡ g y
+shown f g xs ys i x y same at_x at_y =
+    let left : slice_get (map f xs) i ≡ Some (f x) = slice_get-map f xs i ∙ ap (option_map f) at_x in
+    let right : slice_get (map g ys) i ≡ Some (g y) = slice_get-map g ys i ∙ ap (option_map g) at_y in
+    let both : Some (f x) ≡ Some (g y) = sym left ∙ ap (λ zs. slice_get zs i) same ∙ right in
+    cc both
+
+sets-alike : (schema : List SetDecl) (sets : List State) → kinds_of sets ≡ declared_kinds schema → map (λ (s : State). s.size) sets ≡ map (λ (d : SetDecl). d.size) schema → AreSetsOf schema sets
+sets-alike schema sets kinds sizes = record {
+  one_each = kinds_long (declared_kinds schema) sets kinds ∙ length-map schema (λ d. d.kinds);
+  each = λ i d s at_d at_s. record {
+    kinds = shown (λ (x : State). x.kinds) (λ (x : SetDecl). x.kinds) sets schema i s d kinds at_s at_d;
+    size = shown (λ (x : State). x.size) (λ (x : SetDecl). x.size) sets schema i s d sizes at_s at_d;
+  };
+}
 
 -- Sections, one after another.
 module _ (mode : Mode) where
@@ -195,3 +229,10 @@ module _ (mode : Mode) where
 
   pub history_numbered : (schema : List SetDecl) (sections : List (List Step)) → IsNumbered (history mode schema sections)
   history_numbered schema sections = by_sections IsNumbered (section_numbered mode) (start schema) sections (start_numbered schema)
+
+  -- The sets of the last generation are those of the schema.
+  pub history_sets : (schema : List SetDecl) (sections : List (List Step)) → AreSetsOf schema (history mode schema sections).last.sets
+  history_sets schema sections =
+      let kinds = (history_of schema sections).work in
+      let sizes = by_sections (λ c. Shows (λ s. s.size) (map (λ d. d.size) schema) (work_of c)) (λ c steps h. section_shows (λ s. s.size) (λ s t alike. alike.size) (map (λ d. d.size) schema) mode c steps h) (start schema) sections (start_sizes schema) in
+      sets-alike schema (history mode schema sections).last.sets kinds.base sizes.base

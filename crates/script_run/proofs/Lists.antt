@@ -1,5 +1,5 @@
 -- Lists: the item at an end or at a place, and lists that are numbered.
-use Rattle.std.proofs.Common.{◌≡◌, refl, sym, ◌∙◌, ap, ℕ, zero, suc, ◌+◌, ◌<◌, Bool, true, false, ◌||◌, List, [], ◌∷◌, ◌++◌, length, map, take, drop, slice_get, Some, None, Option, arith, All, slice_index_or, option_map, unwrap_or, ◌⊎◌, inl, inr, zero-add}
+use Rattle.std.proofs.Common.{subst, get_or, ◌≡◌, refl, sym, ◌∙◌, ap, ℕ, zero, suc, ◌+◌, ◌<◌, Bool, true, false, ◌||◌, List, [], ◌∷◌, ◌++◌, length, map, take, drop, slice_get, Some, None, Option, arith, All, slice_index_or, option_map, unwrap_or, ◌⊎◌, inl, inr, zero-add}
 use Rattle.std.specs.List.{enumerate_from, list_any}
 use Rattle.std.proofs.lemmas.List.{take-map, drop-map}
 use Rattle.std.proofs.lemmas.Option.{slice_get-map, slice_get_within, get_or_from_slice_get}
@@ -84,6 +84,10 @@ module _ {X : Type 0} where
 
   pub of-item : (P : X → Type 0) (xs : List X) (p : ℕ) (x : X) → All P xs → slice_get xs p ≡ Some x → P x
   of-item P xs p x h e = rw (← get_or_from_slice_get xs p x x e) (h p x (slice_get_within xs p x e))
+
+  -- what holds of all items holds of the one at a place
+  pub of-place : (P : X → Type 0) (xs ys : List X) (i : ℕ) (x : X) → xs ≡ ys → i < length xs → x ≡ get_or xs i x → All P ys → P x
+  of-place P xs ys i x same h e all = rw e (subst (λ (z : List X). All P z) (sym same) all i x h)
 
   -- a place within a list has an item
   pub item-at : (xs : List X) (i : ℕ) → i < length xs → (x : X) × (slice_get xs i ≡ Some x)

@@ -1,6 +1,7 @@
 -- A run goes on as the control does.
-use Rattle.std.proofs.Common.{◌≡◌, refl, sym, ◌∙◌, ap, subst, ℕ, ◌+◌, ◌<◌, Bool, true, false, if◌then◌else◌, List, [], ◌∷◌, ◌++◌, length, take, get_or, Option, Some, None, slice_get, slice_set, arith, add-one, All, option_map}
+use Rattle.std.proofs.Common.{fold, ◌≡◌, refl, sym, ◌∙◌, ap, subst, ℕ, ◌+◌, ◌<◌, Bool, true, false, if◌then◌else◌, List, [], ◌∷◌, ◌++◌, length, take, get_or, Option, Some, None, slice_get, slice_set, arith, add-one, All, option_map}
 use Rattle.std.proofs.Math.Seq.{take-suc}
+use Rattle.std.proofs.lemmas.List.{length-map}
 use Rattle.std.proofs.lemmas.List.Sums.{fold-append}
 use Rattle.std.proofs.lemmas.Option.{slice_get-map}
 use Rattle.set_model.specs.declared.kind.Interval.{Interval}
@@ -11,7 +12,7 @@ use Rattle.set_model.specs.declared.script.Step.{Step}
 use Rattle.set_model.specs.declared.script.Step.TheVariants.{Change, Flush, Commit, Abort}
 use Rattle.set_model.specs.declared.script.Verb.{Verb}
 use Rattle.set_model.specs.SetState.{State}
-use Rattle.set_model.specs.Control.{Mode, Control, Generation, mode_of, step, section, refused, rewound, committed, changed, changed_set, answered, flushed, with_set}
+use Rattle.set_model.specs.Control.{Mode, Control, Generation, mode_of, start, step, section, history, refused, rewound, committed, changed, changed_set, answered, flushed, with_set}
 use Rattle.set_space.specs.Open.{Open, IsChange}
 use Rattle.set_space.specs.Open.{with_set as work_with}
 use Rattle.set_space.proofs.SetsLaws.{set-same}
@@ -20,11 +21,11 @@ use Rattle.set_model.specs.declared.kind.Kind.{Kind}
 use Rattle.set_model.specs.declared.packet.Packet.{Packet}
 use Rattle.set_model.specs.declared.script.SetDecl.{SetDecl}
 use Rattle.set_model.specs.Runnable.{IsRunnableStep, IsFitting}
-use Rattle.set_report.specs.Writes.{NamesSet}
+use Rattle.set_report.specs.Writes.{NamesSet, AreSetsOf}
 use Rattle.script_run.specs.Packets.{IsPacketOf}
 use Rattle.script_run.specs.Running.{kinds_of, declared_kinds, HasKinds, IsStepOf, HasCome, Stands, GoesOn}
 use Rattle.script_run.proofs.ChangeLaws.{refusal_keeps}
-use Rattle.script_run.proofs.ControlLaws.{section_kinds, section_of}
+use Rattle.script_run.proofs.ControlLaws.{section_kinds, section_of, history_of, history_sets}
 
 -- where the run is, with another work
 abbrev pub with_work : Runner → Open → Runner
@@ -120,11 +121,11 @@ aborted_end r new told events number is does =
 abbrev control_of : Runner → List Event → Control
 control_of r events = record { committed = []; last = r.work.base; sets = r.work.sets; failed = r.failed; events = events }
 
-section-more : (mode : Mode) (c : Control) (steps : List Step) (i : ℕ) (s : Step) → i < length steps → s ≡ get_or steps i s
-    → step mode (section mode c (take i steps)) s ≡ section mode c (take (i + 1) steps)
-section-more mode c steps i s h e =
-    let front : take (i + 1) steps ≡ take i steps ++ s ∷ [] = rw add-one (take-suc steps i s h ∙ ap (λ y. take i steps ++ y ∷ []) (sym e)) in
-    sym (fold-append (step mode) c (take i steps) (s ∷ [])) ∙ ap (section mode c) (sym front)
+-- a fold over one item more
+pub fold-more : {A B : Type 0} (f : B → A → B) (b : B) (xs : List A) (i : ℕ) (x : A) → i < length xs → x ≡ get_or xs i x → f (fold f b (take i xs)) x ≡ fold f b (take (i + 1) xs)
+fold-more f b xs i x h e =
+    let front : take (i + 1) xs ≡ take i xs ++ x ∷ [] = rw add-one (take-suc xs i x h ∙ ap (λ y. take i xs ++ y ∷ []) (sym e)) in
+    sym (fold-append f b (take i xs) (x ∷ [])) ∙ ap (fold f b) (sym front)
 
 -- One step more.
 pub goes_more : (steps : List Step) (i : ℕ) (s : Step) (r here new : Runner) (told so_far events : List Event) → i < length steps → s ≡ get_or steps i s
@@ -136,7 +137,7 @@ goes_more steps i s r here new told so_far events h e first next = record {
   stands = λ before c st.
       let mid = first.stands before c st in
       let more = next.stands before (section (mode_of r.keep_going) c (take i steps)) mid in
-      subst (λ (k : Control). Stands before k new events) (section-more (mode_of r.keep_going) c steps i s h e)
+      subst (λ (k : Control). Stands before k new events) (fold-more (step (mode_of r.keep_going)) c steps i s h e)
       (subst (λ (b : Bool). Stands before (step (mode_of b) (section (mode_of r.keep_going) c (take i steps)) s) new events) first.same_mode more);
 }
 
@@ -154,6 +155,32 @@ told_named kinds r new events steps h does =
     let st = does.stands [] (control_of r []) (record { last = refl; sets = refl; failed = refl; told = refl }) in
     let k = section_of kinds (mode_of r.keep_going) (control_of r []) steps (record { work = h; named = λ i d lt. absurd (omega (arith, lt)) }) in
     subst (λ (z : List Event). All (NamesSet (length kinds)) z) st.told k.named
+
+-- Where a run stands behind sections, its sets are those that are declared, and what was told names one of them.
+module _ (mode : Mode) (schema : List SetDecl) (sections : List (List Step)) (before : List Event) (r : Runner) (events : List Event) (st : Stands before (history mode schema sections) r events) where
+  pub declared : HasKinds (declared_kinds schema) r.work
+  declared =
+      let k = (history_of mode schema sections).work in
+      record { base = ap (λ (g : Generation). kinds_of g.sets) (sym st.last) ∙ k.base; open_sets = ap kinds_of (sym st.sets) ∙ k.open_sets }
+
+  pub sets_declared : AreSetsOf schema r.work.base.sets
+  sets_declared = subst (λ (g : Generation). AreSetsOf schema g.sets) st.last (history_sets mode schema sections)
+
+pub events_declared : (mode : Mode) (schema : List SetDecl) (sections : List (List Step)) (r : Runner) (events : List Event) → Stands [] (history mode schema sections) r events → All (NamesSet (length schema)) events
+events_declared mode schema sections r events st =
+    subst (λ n. All (NamesSet n) events) (length-map schema (λ (d : SetDecl). d.kinds))
+    (subst (λ (z : List Event). All (NamesSet (length (declared_kinds schema))) z) st.told (history_of mode schema sections).named)
+
+-- The next section.
+pub next_stands : (keep_going : Bool) (schema : List SetDecl) (sections : List (List Step)) (i : ℕ) (steps : List Step) (r new : Runner) (told events : List Event) → i < length sections → steps ≡ get_or sections i steps
+    → r.keep_going ≡ keep_going → Stands [] (history (mode_of keep_going) schema (take i sections)) r told → GoesOn (λ c. section (mode_of r.keep_going) c steps) r told new events
+    → Stands [] (history (mode_of keep_going) schema (take (i + 1) sections)) new events
+next_stands keep_going schema sections i steps r new told events h e same st does =
+    subst (λ (k : Control). Stands [] k new events) (fold-more (section (mode_of keep_going)) (start schema) sections i steps h e)
+    (subst (λ (b : Bool). Stands [] (section (mode_of b) (history (mode_of keep_going) schema (take i sections)) steps) new events) same (does.stands [] _ st))
+
+pub own_kinds : (kinds : List (List Kind)) (w : Open) → HasKinds kinds w → HasKinds (kinds_of w.sets) w
+own_kinds kinds w h = record { base = h.base ∙ sym h.open_sets; open_sets = refl }
 
 kinds-at : (schema : List SetDecl) (kinds : List (List Kind)) (set : ℕ) (d : SetDecl) → kinds ≡ declared_kinds schema → slice_get schema set ≡ Some d → slice_get kinds set ≡ Some d.kinds
 kinds-at schema kinds set d e h = ap (λ z. slice_get z set) e ∙ slice_get-map (λ (x : SetDecl). x.kinds) schema set ∙ ap (option_map (λ (x : SetDecl). x.kinds)) h

@@ -18,6 +18,7 @@ use Rattle.script_run.specs.Running.{kinds_of, declared_kinds, HasKinds, Stands}
 use Rattle.script_run.specs.Telling.{section_at, TellsSection}
 use Rattle.script_run.proofs.ControlLaws.{history-next, history_of, history_numbered, section_later, kinds_long}
 use Rattle.script_run.proofs.Lists.{item-at, length-enumerate, list_any-append, numbered, numbered-again, part-numbered}
+use Rattle.script_run.proofs.RunLaws.{declared}
 use Rattle.script_run.proofs.PlacedLaws.{in_section, count_of, section-placed, count-next, of-placed, sections-rise}
 
 -- one section more of a script
@@ -157,9 +158,7 @@ module _ (keep_going : Bool) (script : Script) (keys : List (List Packet)) where
 
   -- the sets are those that are declared
   pub told_kinds : (n : ℕ) (t : Telling) → IsToldUpTo keep_going script keys n t → HasKinds (declared_kinds script.schema) t.runner.work
-  told_kinds n t h =
-      let k = (history_of mode script.schema (take n script.sections)).work in
-      record { base = ap (λ (g : Generation). kinds_of g.sets) (sym h.stands.last) ∙ k.base; open_sets = ap kinds_of (sym h.stands.sets) ∙ k.open_sets }
+  told_kinds n t h = declared mode script.schema (take n script.sections) (before mode script n).events t.runner [] h.stands
 
   pub told_more : (n : ℕ) (t new : Telling) → IsToldUpTo keep_going script keys n t → TellsSection script.schema (section_at script.sections n) (packets_at keys n) t new → IsToldUpTo keep_going script keys (n + 1) new
   told_more n t new h tells =

@@ -7,5 +7,9 @@ mod lookup;
 mod output;
 mod runner;
 mod telling;
+mod whole;
 
 pub use output::{Output, dump, listing, transcript};
+
+#[cfg(test)]
+mod tests;

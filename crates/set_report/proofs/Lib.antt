@@ -4,3 +4,8 @@ mod Listings
 mod TwoParts
 mod DumpWorked
 mod ListLaws
+mod Leaves
+mod DumpRuns
+mod DumpBits
+mod DumpLines
+mod DumpTables

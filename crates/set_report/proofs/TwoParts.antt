@@ -1,5 +1,5 @@
 -- A text of two parts that are appended one after the other.
-use Rattle.std.proofs.Common.{◌≡◌, sym, ◌∙◌, ap, ℕ, List, ◌++◌, append_assoc}
+use Rattle.std.proofs.Common.{◌≡◌, sym, ◌∙◌, ap, ℕ, List, ◌++◌, append_assoc, Result, Ok, Err, OnOk, OnErr}
 use Rattle.set_report.specs.Writes.{AppendsPart}
 
 -- A part of the first one was appended.
@@ -19,5 +19,15 @@ second_part old mid new first second so_far here = record {
   appended = here.appended ∙ ap (λ m. m ++ here.part) so_far ∙ append_assoc old first here.part;
   front = ap (λ t. first ++ t) here.front ∙ sym (append_assoc first here.part here.rest);
 }
+
+-- What holds at a success follows from what the last call says of one.
+pub ok-with : {T E P Q : Type 0} (r : Result T E) → (P → Q) → OnOk r P → OnOk r Q
+ok-with (Ok v) f h = f h
+ok-with (Err e) f h = tt
+
+-- The same of an error.
+pub err-with : {T E P Q : Type 0} (r : Result T E) → (P → Q) → OnErr r P → OnErr r Q
+err-with (Ok v) f h = tt
+err-with (Err e) f h = f h
 
 pub ruleset two_parts = (first_part, second_part)

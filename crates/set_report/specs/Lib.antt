@@ -4,3 +4,4 @@ pub mod Remarks
 pub mod ListText
 pub mod Kept
 pub mod DumpText
+pub mod DumpBuckets

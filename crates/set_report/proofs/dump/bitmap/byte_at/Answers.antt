@@ -1,0 +1,5 @@
+use Rattle.set_report.proofs.DumpBits.{byte-is}
+use Rattle.set_report.proofs.dump.bitmap.byte_at.Goals as goal
+
+pub returns : goal.returns
+returns c = byte-is c.args.row.now.bits c.args.j c.word.result c.word.ensures

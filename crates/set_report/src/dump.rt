@@ -1,0 +1,177 @@
+ghost use Rattle.std.specs.Prelude.{◌≡◌, ◌+◌, ◌-◌, ◌<◌, ◌++◌, ℕ, List, length, slice_get, Some, OnOk, OnErr};
+ghost use Rattle.std.specs.List.{flat_map, enumerate_from};
+ghost use Rattle.set_model.specs.declared.kind.Kind.{Kind as OneKind};
+ghost use Rattle.set_model.specs.declared.element.Element.{Element};
+ghost use Rattle.set_model.specs.SetState.{field_rules};
+ghost use Rattle.pipapo_image.specs.Index.{IsIndexOf};
+ghost use Rattle.set_report.specs.DumpText.{kind_text, span_text, end_text, heading_text, table_text, ways_text, field_text, tables_text, dump_text};
+ghost use Rattle.set_report.specs.DumpBuckets.{all_buckets_text};
+ghost use Rattle.set_report.specs.Writes.{AppendsPart, AreSetsOf};
+
+mod bitmap;
+mod buckets;
+#[cfg(test)]
+mod tests;
+
+use crate::piece::Piece::{Number, Set, Word};
+use crate::piece::append_pieces;
+use buckets::write_buckets;
+use lookup_table::FieldTable;
+use mapping_table::{EndTable, MapTable};
+use pipapo_image::{Index, SetImage};
+use set_model::{Kind, Memory, Schema, SetDecl};
+use set_space::Generation;
+use set_tables::{End, Span};
+
+fn kind_word(kind: Kind) -> &'static [u8]
+    ensures { result.now ≡ kind_text kind }
+{
+    match kind {
+        Kind::Ipv4 => b"ipv4_addr",
+        Kind::Ipv6 => b"ipv6_addr",
+        Kind::Ether => b"ether_addr",
+        Kind::Proto => b"inet_proto",
+        Kind::Service => b"inet_service",
+        Kind::Mark => b"mark",
+    }
+}
+
+/// Appends the first line of field `f`.
+fn write_heading(f: u64, kind: Kind, table: &FieldTable, out: &mut Vec<u8>) -> Result<(), Memory>
+    ensures ok { OnOk result (out.new.items ≡ out.old.items ++ heading_text f kind table.now.width table.now.rules) }
+    ensures err { OnErr result (AppendsPart out.old.items out.new.items (heading_text f kind table.now.width table.now.rules)) }
+{
+    append_pieces(
+        &[
+            Word(b"field "),
+            Number(f),
+            Word(b" "),
+            Word(kind_word(kind)),
+            Word(b" width "),
+            Number(u64::from(table.width)),
+            Word(b" rules "),
+            Number(u64::from(table.rules)),
+            Word(b"\n"),
+        ],
+        out,
+    )
+}
+
+fn write_span(span: &Span, out: &mut Vec<u8>) -> Result<(), Memory>
+    ensures ok { OnOk result (out.new.items ≡ out.old.items ++ span_text span.now) }
+    ensures err { OnErr result (AppendsPart out.old.items out.new.items (span_text span.now)) }
+{
+    append_pieces(
+        &[
+            Word(b"map "),
+            Number(u64::from(span.first)),
+            Word(b" "),
+            Number(u64::from(span.count)),
+            Word(b"\n"),
+        ],
+        out,
+    )
+}
+
+fn write_end(end: &End, out: &mut Vec<u8>) -> Result<(), Memory>
+    ensures ok { OnOk result (out.new.items ≡ out.old.items ++ end_text end.now) }
+    ensures err { OnErr result (AppendsPart out.old.items out.new.items (end_text end.now)) }
+{
+    append_pieces(&[Word(b"end "), Number(end.place), Word(b"\n")], out)
+}
+
+#[tactic(auto, using(crate::proofs::PartLaws::item_part))]
+fn write_spans(map: &MapTable, out: &mut Vec<u8>) -> Result<(), Memory>
+    ensures ok { OnOk result (out.new.items ≡ out.old.items ++ flat_map span_text map.now.items) }
+    ensures err { OnErr result (AppendsPart out.old.items out.new.items (flat_map span_text map.now.items)) }
+{
+    for span in map.as_slice() {
+        write_span(span, out)?;
+    }
+    Ok(())
+}
+
+#[tactic(auto, using(crate::proofs::PartLaws::item_part))]
+fn write_ends(ends: &EndTable, out: &mut Vec<u8>) -> Result<(), Memory>
+    ensures ok { OnOk result (out.new.items ≡ out.old.items ++ flat_map end_text ends.now.items) }
+    ensures err { OnErr result (AppendsPart out.old.items out.new.items (flat_map end_text ends.now.items)) }
+{
+    for end in ends.as_slice() {
+        write_end(end, out)?;
+    }
+    Ok(())
+}
+
+/// Appends where the rules of field `f` lead.
+fn write_ways(index: &Index, f: u64, out: &mut Vec<u8>) -> Result<(), Memory>
+    ensures ok { (kinds : List OneKind) (es : List Element) → IsIndexOf kinds es index.now → f < length kinds
+        → OnOk result (out.new.items ≡ out.old.items ++ ways_text kinds es f) }
+    ensures err { (kinds : List OneKind) (es : List Element) → IsIndexOf kinds es index.now → f < length kinds
+        → OnErr result (AppendsPart out.old.items out.new.items (ways_text kinds es f)) }
+{
+    if f < index.maps.len() {
+        write_spans(index.maps.at(f), out)
+    } else {
+        write_ends(&index.ends, out)
+    }
+}
+
+/// Appends a field's table: its first line, and the lines of its buckets.
+#[tactic(auto, using(crate::proofs::TwoParts::two_parts))]
+fn write_table(f: u64, kind: Kind, table: &FieldTable, out: &mut Vec<u8>) -> Result<(), Memory>
+    ensures ok { OnOk result (out.new.items ≡ out.old.items ++ (heading_text f kind table.now.width table.now.rules ++ all_buckets_text table.now)) }
+    ensures err { OnErr result (AppendsPart out.old.items out.new.items (heading_text f kind table.now.width table.now.rules ++ all_buckets_text table.now)) }
+{
+    write_heading(f, kind, table, out)?;
+    write_buckets(table, out)
+}
+
+/// Appends field `f`, which is of this kind.
+fn write_field(set: &SetImage, f: u64, kind: Kind, out: &mut Vec<u8>) -> Result<(), Memory>
+    requires { slice_get set.now.kinds f ≡ Some kind }
+    ensures ok { OnOk result (out.new.items ≡ out.old.items ++ field_text set.now.kinds set.now.elements (record { 0 = f; 1 = kind })) }
+    ensures err { OnErr result (AppendsPart out.old.items out.new.items (field_text set.now.kinds set.now.elements (record { 0 = f; 1 = kind }))) }
+{
+    let index = set.index();
+    write_table(f, kind, index.fields.at(f), out)?;
+    write_ways(index, f, out)
+}
+
+/// Appends a set's fields.
+fn write_fields(set: &SetImage, out: &mut Vec<u8>) -> Result<(), Memory>
+    ensures ok { OnOk result (out.new.items ≡ out.old.items ++ flat_map (field_text set.now.kinds set.now.elements) (enumerate_from 0 set.now.kinds)) }
+    ensures err { OnErr result (AppendsPart out.old.items out.new.items (flat_map (field_text set.now.kinds set.now.elements) (enumerate_from 0 set.now.kinds))) }
+{
+    'fields: for f in 0..set.kinds.len() {
+        write_field(set, f, *set.kinds.at(f), out)?;
+    }
+    Ok(())
+}
+
+/// Appends a set's tables.
+fn write_tables(declared: &SetDecl, set: &SetImage, out: &mut Vec<u8>) -> Result<(), Memory>
+    ensures ok { OnOk result (out.new.items ≡ out.old.items ++ tables_text declared.now set.now) }
+    ensures err { OnErr result (AppendsPart out.old.items out.new.items (tables_text declared.now set.now)) }
+{
+    append_pieces(&[Word(b"set "), Set(declared), Word(b"\n")], out)?;
+    write_fields(set, out)
+}
+
+/// Appends the tables of the declared sets as they stand in a generation, for those who look at what
+/// lookups read. For each field there is a line for each longest run of neighbouring buckets with the
+/// same bitmap that isn't all zeros, as `row 3 6-255 02`, and then one line per rule: `map` and the
+/// rules of the next field that it leads to, first and count, or `end` and its element's place.
+///
+/// # Errors
+///
+/// `Memory` where there is none; a part of the text from its front is then appended.
+pub fn write_dump(schema: &Schema, generation: &Generation, out: &mut Vec<u8>) -> Result<(), Memory>
+    requires { AreSetsOf schema.now generation.now.sets }
+    ensures ok { OnOk result (out.new.items ≡ out.old.items ++ dump_text schema.now generation.now.sets) }
+    ensures err { OnErr result (AppendsPart out.old.items out.new.items (dump_text schema.now generation.now.sets)) }
+{
+    'sets: for i in 0..schema.len() {
+        write_tables(schema.at(i), generation.sets.at(i), out)?;
+    }
+    Ok(())
+}

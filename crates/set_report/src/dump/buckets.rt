@@ -1,0 +1,113 @@
+// The buckets of a field's table, as lines of runs with the same bitmap.
+ghost use Rattle.std.specs.Prelude.{◌≡◌, ℕ, ◌+◌, ◌-◌, ◌/◌, ◌^◌, ◌<◌, ◌≤◌, All, [], ◌∷◌, ◌++◌, length, OnOk, OnErr};
+ghost use Rattle.set_model.specs.Text.{line_feed};
+ghost use Rattle.set_report.specs.DumpText.{bitmap_text, run_text, runs_from, runs_text};
+ghost use Rattle.set_report.specs.DumpBuckets.{bits_at, bitmaps_at, buckets_text, all_buckets_text};
+ghost use Rattle.set_report.specs.Writes.{AppendsPart};
+
+use super::bitmap::{is_any_set, is_same, write_bitmap};
+use crate::piece::Piece::{Number, Word};
+use crate::piece::append_pieces;
+use bit_rows::BitRow;
+use lookup_table::{FieldTable, Rows};
+use set_model::Memory;
+
+/// Appends a bitmap and the end of its line.
+#[tactic(auto, using(crate::proofs::TwoParts::two_parts))]
+fn write_bitmap_to_end(row: &BitRow, out: &mut Vec<u8>) -> Result<(), Memory>
+    ensures ok { OnOk result (out.new.items ≡ out.old.items ++ (bitmap_text row.now.bits ++ line_feed)) }
+    ensures err { OnErr result (AppendsPart out.old.items out.new.items (bitmap_text row.now.bits ++ line_feed)) }
+{
+    write_bitmap(row, out)?;
+    append_pieces(&[Word(b"\n")], out)
+}
+
+/// Appends the line of the buckets `from` to `to` of group `g`, which all have this bitmap.
+fn write_run(g: u32, from: u64, to: u64, row: &BitRow, out: &mut Vec<u8>) -> Result<(), Memory>
+    ensures ok { OnOk result (out.new.items ≡ out.old.items ++ run_text g (record { from = from; to = to; bitmap = row.now.bits })) }
+    ensures err { OnErr result (AppendsPart out.old.items out.new.items (run_text g (record { from = from; to = to; bitmap = row.now.bits }))) }
+{
+    append_pieces(
+        &[
+            Word(b"row "),
+            Number(u64::from(g)),
+            Word(b" "),
+            Number(from),
+            Word(b"-"),
+            Number(to),
+            Word(b" "),
+        ],
+        out,
+    )?;
+    write_bitmap_to_end(row, out)
+}
+
+/// Appends the line of a run where its bitmap isn't all zeros.
+fn write_if_set(g: u32, from: u64, to: u64, row: &BitRow, out: &mut Vec<u8>) -> Result<(), Memory>
+    ensures ok { OnOk result (out.new.items ≡ out.old.items ++ runs_text g (record { from = from; to = to; bitmap = row.now.bits } ∷ [])) }
+    ensures err { OnErr result (AppendsPart out.old.items out.new.items (runs_text g (record { from = from; to = to; bitmap = row.now.bits } ∷ []))) }
+{
+    if is_any_set(row) {
+        write_run(g, from, to, row, out)
+    } else {
+        Ok(())
+    }
+}
+
+/// How many of the buckets from place `from` up to `to` have the bitmap of the first one, before the
+/// first one that doesn't.
+fn run_len(rows: &Rows, from: u64, to: u64) -> u64
+    requires some { from < to }
+    requires within { to ≤ length rows.now }
+    requires long { (j : ℕ) → j < length rows.now → length (bits_at rows.now j) ≡ length (bits_at rows.now from) }
+    ensures some { 0 < result }
+    ensures within { from + result ≤ to }
+    ensures same { (k : ℕ) → k < result → bits_at rows.now (from + k) ≡ bits_at rows.now from }
+    ensures other { from + result < to → bits_at rows.now (from + result) ≡ bits_at rows.now from → ⊥ }
+{
+    let first = rows.at(from);
+    for n in 1..to - from {
+        if !is_same(first, rows.at(from + n)) {
+            return n;
+        }
+    }
+    to - from
+}
+
+/// Appends the lines of the `count` buckets of group `g`, the first of which stands at place `first`.
+fn write_runs(rows: &Rows, g: u32, first: u64, count: u64, out: &mut Vec<u8>) -> Result<(), Memory>
+    requires within { first + count ≤ length rows.now }
+    requires few { first + count < 2 ^ 64 }
+    requires long { (i j : ℕ) → i < length rows.now → j < length rows.now → length (bits_at rows.now j) ≡ length (bits_at rows.now i) }
+    ensures ok { OnOk result (out.new.items ≡ out.old.items ++ runs_text g (runs_from 0 (bitmaps_at rows.now first 0 count))) }
+    ensures err { OnErr result (AppendsPart out.old.items out.new.items (runs_text g (runs_from 0 (bitmaps_at rows.now first 0 count)))) }
+{
+    let mut from = 0;
+    'runs: while from < count {
+        let len = run_len(rows, first + from, first + count);
+        write_if_set(g, from, from + len - 1, rows.at(first + from), out)?;
+        from += len;
+    }
+    Ok(())
+}
+
+/// Appends the lines of group `g`.
+fn write_group(table: &FieldTable, g: u32, out: &mut Vec<u8>) -> Result<(), Memory>
+    requires { g < table.now.bits / table.now.width }
+    ensures ok { OnOk result (out.new.items ≡ out.old.items ++ buckets_text table.now g) }
+    ensures err { OnErr result (AppendsPart out.old.items out.new.items (buckets_text table.now g)) }
+{
+    let first = u64::from(g) << table.width;
+    write_runs(&table.buckets, g, first, 1u64 << table.width, out)
+}
+
+/// Appends the lines of a table's buckets, group by group.
+pub(crate) fn write_buckets(table: &FieldTable, out: &mut Vec<u8>) -> Result<(), Memory>
+    ensures ok { OnOk result (out.new.items ≡ out.old.items ++ all_buckets_text table.now) }
+    ensures err { OnErr result (AppendsPart out.old.items out.new.items (all_buckets_text table.now)) }
+{
+    'groups: for g in 0..table.groups() {
+        write_group(table, g, out)?;
+    }
+    Ok(())
+}
