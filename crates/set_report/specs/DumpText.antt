@@ -10,7 +10,6 @@ use Rattle.lookup_table.specs.Width.{width_of}
 use Rattle.set_model.specs.declared.block.Block.{Block}
 use Rattle.set_model.specs.declared.element.Element.{Element}
 use Rattle.set_model.specs.declared.kind.Kind.{Kind}
-use Rattle.set_model.specs.declared.kind.Kind.TheVariants.{Ipv4, Ipv6, Ether, Proto, Service, Mark}
 use Rattle.set_model.specs.declared.script.SetDecl.{SetDecl}
 use Rattle.set_model.specs.Kind.{bits_of}
 use Rattle.set_model.specs.SetState.{State, field_rules}
@@ -18,15 +17,7 @@ use Rattle.set_model.specs.Text.{line_feed, numbered, set_text}
 use Rattle.set_tables.specs.declared.Span.{Span}
 use Rattle.set_tables.specs.declared.End.{End}
 use Rattle.set_tables.specs.Tables.{field_spans, last_ends}
-
--- a kind by its name in scripts
-abbrev pub kind_text : Kind → List ℕ
-kind_text Ipv4 = codes "ipv4_addr"
-kind_text Ipv6 = codes "ipv6_addr"
-kind_text Ether = codes "ether_addr"
-kind_text Proto = codes "inet_proto"
-kind_text Service = codes "inet_service"
-kind_text Mark = codes "mark"
+use Rattle.set_report.specs.KindText.{kind_text}
 
 -- the number that bits are, the first one the least significant
 abbrev pub number_of : List Bool → ℕ

@@ -1,6 +1,7 @@
 pub mod Writes
 pub mod Pieces
 pub mod Remarks
+pub mod KindText
 pub mod ListText
 pub mod Kept
 pub mod DumpText

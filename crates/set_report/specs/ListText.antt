@@ -1,23 +1,14 @@
 -- Sets as nft(8) lists them, so that a script can be made of the text again.
 use Rattle.std.specs.Prelude.{ℕ, ◌-◌, Bool, true, false, ◌&&◌, not, nat_lt, if◌then◌else◌, List, [], ◌∷◌, ◌++◌, filter, Option, Some, None, codes, decimal, bytes_eq}
 use Rattle.std.specs.List.{zip, join_by}
-use Rattle.set_model.specs.declared.kind.Kind.{Kind}
-use Rattle.set_model.specs.declared.kind.Kind.TheVariants.{Ipv4, Ipv6, Ether, Proto, Service, Mark}
 use Rattle.set_model.specs.declared.kind.Interval.{Interval}
+use Rattle.set_model.specs.declared.kind.Kind.{Kind}
 use Rattle.set_model.specs.declared.element.Element.{Element}
 use Rattle.set_model.specs.declared.script.SetDecl.{SetDecl}
 use Rattle.set_model.specs.SetState.{State}
 use Rattle.set_model.specs.Text.{family_text}
 use Rattle.addr_text.specs.Written.{interval_text, time_text}
-
--- a kind by its name in nft(8)
-abbrev pub kind_text : Kind → List ℕ
-kind_text Ipv4 = codes "ipv4_addr"
-kind_text Ipv6 = codes "ipv6_addr"
-kind_text Ether = codes "ether_addr"
-kind_text Proto = codes "inet_proto"
-kind_text Service = codes "inet_service"
-kind_text Mark = codes "mark"
+use Rattle.set_report.specs.KindText.{kind_text}
 
 -- Elements. The intervals, each of its field's kind, with ` . ` between them.
 abbrev pub parts_text : List Kind → List Interval → List ℕ

@@ -4,7 +4,7 @@ ghost use Rattle.set_model.specs.declared.kind.Kind.{Kind as OneKind};
 ghost use Rattle.set_model.specs.declared.element.Element.{Element};
 ghost use Rattle.set_model.specs.SetState.{field_rules};
 ghost use Rattle.pipapo_image.specs.Index.{IsIndexOf};
-ghost use Rattle.set_report.specs.DumpText.{kind_text, span_text, end_text, heading_text, table_text, ways_text, field_text, tables_text, dump_text};
+ghost use Rattle.set_report.specs.DumpText.{span_text, end_text, heading_text, table_text, ways_text, field_text, tables_text, dump_text};
 ghost use Rattle.set_report.specs.DumpBuckets.{all_buckets_text};
 ghost use Rattle.set_report.specs.Writes.{AppendsPart, AreSetsOf};
 
@@ -13,6 +13,7 @@ mod buckets;
 #[cfg(test)]
 mod tests;
 
+use crate::kinds::kind_word;
 use crate::piece::Piece::{Number, Set, Word};
 use crate::piece::append_pieces;
 use buckets::write_buckets;
@@ -22,19 +23,6 @@ use pipapo_image::{Index, SetImage};
 use set_model::{Kind, Memory, Schema, SetDecl};
 use set_space::Generation;
 use set_tables::{End, Span};
-
-fn kind_word(kind: Kind) -> &'static [u8]
-    ensures { result.now ≡ kind_text kind }
-{
-    match kind {
-        Kind::Ipv4 => b"ipv4_addr",
-        Kind::Ipv6 => b"ipv6_addr",
-        Kind::Ether => b"ether_addr",
-        Kind::Proto => b"inet_proto",
-        Kind::Service => b"inet_service",
-        Kind::Mark => b"mark",
-    }
-}
 
 /// Appends the first line of field `f`.
 fn write_heading(f: u64, kind: Kind, table: &FieldTable, out: &mut Vec<u8>) -> Result<(), Memory>

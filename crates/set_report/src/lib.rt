@@ -3,6 +3,7 @@
 
 mod dump;
 mod events;
+mod kinds;
 mod lines;
 mod list;
 mod piece;
@@ -11,8 +12,8 @@ mod remarks;
 pub use dump::write_dump;
 pub use events::write_events;
 pub use lines::write_lines;
-pub use remarks::write_remarks;
 pub use list::write_list;
+pub use remarks::write_remarks;
 
 #[cfg(test)]
 mod tests;

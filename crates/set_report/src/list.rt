@@ -3,10 +3,12 @@ ghost use Rattle.std.specs.List.{zip, join_by, list_any};
 ghost use Rattle.set_model.specs.Key.{is_good, parts_fit};
 ghost use Rattle.addr_text.specs.Written.{interval_text};
 ghost use Rattle.set_report.specs.Kept.{Keeps};
-ghost use Rattle.set_report.specs.ListText.{kind_text, parts_text, expiry_text, comment_text, element_text, type_line, size_line, flag_words, flags_line, timeout_line, elements_line, items_text, set_block, same_table, sets_beside, table_block, first_sets, list_text};
+ghost use Rattle.set_report.specs.KindText.{kind_text};
+ghost use Rattle.set_report.specs.ListText.{parts_text, expiry_text, comment_text, element_text, type_line, size_line, flag_words, flags_line, timeout_line, elements_line, items_text, set_block, same_table, sets_beside, table_block, first_sets, list_text};
 ghost use Rattle.set_report.specs.Pieces.{piece_text};
 ghost use Rattle.set_report.specs.Writes.{AppendsPart, AreSetsOf};
 
+use crate::kinds::kind_word;
 use crate::piece::Piece::{Number, Time, Word};
 use crate::piece::{Piece, append_pieces, family_word};
 use addr_text::write_interval;
@@ -128,20 +130,6 @@ fn write_elements(
             write_each(set, now, elements, out)?;
             write(&[Word(b" }\n")], out)
         }
-    }
-}
-
-/// A kind by its name in scripts.
-fn kind_word(kind: Kind) -> &'static [u8]
-    ensures { result.now ≡ kind_text kind }
-{
-    match kind {
-        Kind::Ipv4 => b"ipv4_addr",
-        Kind::Ipv6 => b"ipv6_addr",
-        Kind::Ether => b"ether_addr",
-        Kind::Proto => b"inet_proto",
-        Kind::Service => b"inet_service",
-        Kind::Mark => b"mark",
     }
 }
 

@@ -1,5 +1,5 @@
 use Rattle.std.proofs.Common.{take, codes}
-use Rattle.set_report.specs.ListText.{kind_text}
+use Rattle.set_report.specs.KindText.{kind_text}
 use Rattle.set_report.proofs.ListLaws.{Joins}
 use Rattle.set_report.proofs.list.write_kinds.Given as goal
 

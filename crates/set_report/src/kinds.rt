@@ -1,0 +1,18 @@
+ghost use Rattle.std.specs.Prelude.{◌≡◌};
+ghost use Rattle.set_report.specs.KindText.{kind_text};
+
+use set_model::Kind;
+
+/// A kind by its name in nft(8).
+pub fn kind_word(kind: Kind) -> &'static [u8]
+    ensures { result.now ≡ kind_text kind }
+{
+    match kind {
+        Kind::Ipv4 => b"ipv4_addr",
+        Kind::Ipv6 => b"ipv6_addr",
+        Kind::Ether => b"ether_addr",
+        Kind::Proto => b"inet_proto",
+        Kind::Service => b"inet_service",
+        Kind::Mark => b"mark",
+    }
+}
