@@ -44,7 +44,8 @@ fn expect_list<R: Abort>(rt: &R, alloc: Global, script: &str, listing: &str) -> 
     expect(rt, alloc, &["list", "a.nft"], script, "", listing, 0)
 }
 
-const TWO_ELEMENTS: &str = TWO_ELEMENTS;
+const TWO_ELEMENTS: &str =
+    "table ip filter {\n\tset s {\n\t\ttype ipv4_addr . inet_service\n\t\tflags interval\n\t\telements = { 10.0.0.5 . 1024, 192.168.1.0-192.168.2.1 . 2048 }\n\t}\n}\n";
 
 #[test]
 fn four_kinds(rt: HostRuntime) -> Result<(), Fail> {
