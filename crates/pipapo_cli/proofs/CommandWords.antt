@@ -64,12 +64,12 @@ others-are (w ∷ ws) h =
     let one : one-of (is_name w) + one-of (is_keep_going w) ≡ 1 = omega (arith, a, b, c, h) in
     let rest : counted ws ≡ length ws = omega (arith, a, b, c, h) in
     go (is_name w) (is_keep_going w) refl one (others-are ws rest) ∙ ap (λ n. replicate n keep_going_word) (sym (count-cons is_keep_going w ws)) where
-  go : (n k : Bool) → is_keep_going w ≡ k → one-of n + one-of k ≡ 1 → filter is_other ws ≡ replicate (count_by is_keep_going ws) keep_going_word
-      → cond (not n) (w ∷ filter is_other ws) (filter is_other ws) ≡ replicate (one-of k + count_by is_keep_going ws) keep_going_word
-  go true true ek h e = absurd (omega (arith, h))
-  go true false ek h e = rw zero-add e
-  go false true ek h e = rw one-add (ap₂ (λ x xs. x ∷ xs) (is_word w ek) e)
-  go false false ek h e = absurd (omega (arith, h))
+      go : (n k : Bool) → is_keep_going w ≡ k → one-of n + one-of k ≡ 1 → filter is_other ws ≡ replicate (count_by is_keep_going ws) keep_going_word
+          → cond (not n) (w ∷ filter is_other ws) (filter is_other ws) ≡ replicate (one-of k + count_by is_keep_going ws) keep_going_word
+      go true true ek h e = absurd (omega (arith, h))
+      go true false ek h e = rw zero-add e
+      go false true ek h e = rw one-add (ap₂ (λ x xs. x ∷ xs) (is_word w ek) e)
+      go false false ek h e = absurd (omega (arith, h))
 
 -- Where those that are no names are `--keep-going`, so many times, each word is counted.
 abbrev AreCounted : List (List ℕ) → ℕ → Type 0
@@ -83,18 +83,18 @@ counted-others (w ∷ ws) n h =
     let a = counted-cons w ws in
     let b = r.0 in
     (omega (arith, a, b), count-cons is_keep_going w ws ∙ r.1) where
-  go : (b : Bool) → is_name w ≡ b → (n : ℕ) → cond (not b) (w ∷ filter is_other ws) (filter is_other ws) ≡ replicate n keep_going_word
-      → ((m : ℕ) → filter is_other ws ≡ replicate m keep_going_word → AreCounted ws m)
-      → ((one-of b + one-of (is_keep_going w)) + counted ws ≡ 1 + length ws) × (one-of (is_keep_going w) + count_by is_keep_going ws ≡ n)
-  go true eb n h more = let r = more n h in let e = r.0 in let f = r.1 in rw (name-no-option w eb) (omega (arith, e), omega (arith, f))
-  go false eb zero h more = absurd (cc h)
-  go false eb (suc n) h more =
-      let same : w ≡ keep_going_word = cc h in
-      let others : filter is_other ws ≡ replicate n keep_going_word = cc h in
-      let r = more n others in
-      let e = r.0 in
-      let f = r.1 in
-      rw same (omega (arith, e), omega (arith, f))
+      go : (b : Bool) → is_name w ≡ b → (n : ℕ) → cond (not b) (w ∷ filter is_other ws) (filter is_other ws) ≡ replicate n keep_going_word
+          → ((m : ℕ) → filter is_other ws ≡ replicate m keep_going_word → AreCounted ws m)
+          → ((one-of b + one-of (is_keep_going w)) + counted ws ≡ 1 + length ws) × (one-of (is_keep_going w) + count_by is_keep_going ws ≡ n)
+      go true eb n h more = let r = more n h in let e = r.0 in let f = r.1 in rw (name-no-option w eb) (omega (arith, e), omega (arith, f))
+      go false eb zero h more = absurd (cc h)
+      go false eb (suc n) h more =
+          let same : w ≡ keep_going_word = cc h in
+          let others : filter is_other ws ≡ replicate n keep_going_word = cc h in
+          let r = more n others in
+          let e = r.0 in
+          let f = r.1 in
+          rw same (omega (arith, e), omega (arith, f))
 
 as-many : (keep_going : Bool) → options keep_going ≡ replicate (cond keep_going 1 0) keep_going_word
 as-many true = refl

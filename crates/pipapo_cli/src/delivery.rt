@@ -53,13 +53,7 @@ fn write_three<K: Sink>(
 }
 
 /// Writes three pieces, one behind the other, and answers their status, or 6 where the sink fails.
-fn deliver_three<K: Sink>(
-    sink: &mut K,
-    status: u8,
-    first: &[u8],
-    second: &[u8],
-    third: &[u8],
-) -> u8
+fn deliver_three<K: Sink>(sink: &mut K, status: u8, first: &[u8], second: &[u8], third: &[u8]) -> u8
     ensures { Ends (IsExactly status ((first.now ++ second.now) ++ third.now)) (K.taken sink.old) (K.taken sink.new) (K.faults sink.old) (K.faults sink.new) result }
 {
     match write_three(sink, first, second, third) {
@@ -87,13 +81,7 @@ fn reason_end(reason: Reason) -> &'static [u8]
 }
 
 /// Writes the line of a bad token, and answers its status, or 6 where the sink fails.
-fn deliver_placed<K: Sink>(
-    sink: &mut K,
-    status: u8,
-    front: &[u8],
-    line: u64,
-    reason: Reason,
-) -> u8
+fn deliver_placed<K: Sink>(sink: &mut K, status: u8, front: &[u8], line: u64, reason: Reason) -> u8
     ensures { Ends (IsExactly status (placed_line front.now line reason)) (K.taken sink.old) (K.taken sink.new) (K.faults sink.old) (K.faults sink.new) result }
 {
     let mut number = Buffer::new();

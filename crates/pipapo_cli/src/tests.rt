@@ -5,8 +5,6 @@ use pip_base::{MemShelf, MemSink, Sink};
 use std::alloc::Global;
 use std::test::Fail;
 
-const SET: &str = "add set ip filter s { type ipv4_addr . inet_service ; flags interval ; }\n";
-
 const SCRIPT: &str =
     "add set ip filter s { type ipv4_addr . inet_service ; flags interval ; }\nadd element ip filter s { 10.0.0.5 . 1024 }\nadd element ip filter s { 10.0.0.6 . 1024 }\n";
 
@@ -14,6 +12,8 @@ const KEYS: &str = "ip filter s 10.0.0.6 . 1024\nip filter s 10.0.0.7 . 1024\n";
 
 const TRANSCRIPT: &str =
     "commit generation 1 purged 0\npacket 0 thread 0 generation 1 element 1\npacket 1 thread 0 generation 1 none\n";
+
+const RUN: [&str; 3] = ["run", "a.nft", "keys"];
 
 const USAGE: &str =
     "pipapo: usage: run SCRIPT KEYS [--threads N] [--keep-going] | list SCRIPT [--keep-going] | dump SCRIPT [--keep-going] | drill SEED COUNT [--threads N]\n";
@@ -71,23 +71,18 @@ fn run_files(
     room: usize,
 ) -> Result<(u8, MemSink), Fail> {
     let shelf = shelf_with(alloc, script, keys, failing)?;
-    run_words(alloc, &["run", "a.nft", "keys"], shelf, room)
+    run_words(alloc, &RUN, shelf, room)
 }
 
-/// The status and output of `run a.nft keys` over a script and a key file.
-pub fn run(alloc: Global, script: &str, keys: &str) -> Result<(u8, MemSink), Fail> {
-    run_files(
-        alloc,
-        Some(script.as_bytes()),
-        Some(keys.as_bytes()),
-        0,
-        1000,
-    )
+/// The status and output of a command over a script under `a.nft` and a key file under `keys`.
+pub fn run(alloc: Global, words: &[&str], script: &str, keys: &str) -> Result<(u8, MemSink), Fail> {
+    let shelf = shelf_with(alloc, Some(script.as_bytes()), Some(keys.as_bytes()), 0)?;
+    run_words(alloc, words, shelf, 1000)
 }
 
 #[test]
 fn two_single_values(rt: HostRuntime) -> Result<(), Fail> {
-    let (status, sink) = run(rt.alloc(), SCRIPT, KEYS)?;
+    let (status, sink) = run(rt.alloc(), &RUN, SCRIPT, KEYS)?;
     assert_eq!(rt; sink.bytes(), TRANSCRIPT.as_bytes());
     assert_eq!(rt; status, 0);
     Ok(())
@@ -99,6 +94,7 @@ fn an_element_again_is_there_already(rt: HostRuntime) -> Result<(), Fail> {
         "add set ip t p { type ipv4_addr . inet_service ; flags interval ; }\nadd element ip t p { 10.0.0.5 . 80 }\nadd element ip t p { 10.0.0.5 . 80 }\nadd element ip t p { 10.0.0.5 . 81 }";
     let (status, sink) = run(
         rt.alloc(),
+        &RUN,
         script,
         "ip t p 10.0.0.5 . 80\nip t p 10.0.0.5 . 81",
     )?;
@@ -112,10 +108,15 @@ fn an_element_again_is_there_already(rt: HostRuntime) -> Result<(), Fail> {
 
 #[test]
 fn empty_files(rt: HostRuntime) -> Result<(), Fail> {
-    let (status, sink) = run(rt.alloc(), "", "")?;
+    let (status, sink) = run(rt.alloc(), &RUN, "", "")?;
     assert_eq!(rt; sink.bytes(), b"".as_slice());
     assert_eq!(rt; status, 0);
-    let (status, sink) = run(rt.alloc(), SET, "ip filter s 10.0.0.6 . 1024\n")?;
+    let (status, sink) = run(
+        rt.alloc(),
+        &RUN,
+        "add set ip t p { type inet_service ; flags interval ; }\n",
+        "ip t p 80\n",
+    )?;
     assert_eq!(rt;
         sink.bytes(),
         b"packet 0 thread 0 generation 0 none\n".as_slice()
@@ -126,15 +127,27 @@ fn empty_files(rt: HostRuntime) -> Result<(), Fail> {
 
 #[test]
 fn bad_words(rt: HostRuntime) -> Result<(), Fail> {
-    let commands: [&[&str]; 8] = [
+    let commands: [&[&str]; 20] = [
         &[],
         &["run", "a"],
-        &["run", "a", "b", "--threads", "17"],
-        &["run", "a", "b", "--threads", "01"],
+        &["run", "a", "b", "c"],
         &["run", "-a", "b"],
         &["run", "a", ""],
-        &["list", "a"],
-        &["run", "a", "b", "c"],
+        &["run", "a", "b", "--threads", "17"],
+        &["run", "a", "b", "--threads", "01"],
+        &["run", "a", "b", "--threads", "4"],
+        &["run", "a", "b", "--keep-going", "--keep-going"],
+        &["run", "a", "b", "--keep-going=1"],
+        &["run", "--", "a", "b"],
+        &["--keep-going", "run", "a", "b"],
+        &["list"],
+        &["list", "a", "b"],
+        &["list", "--help"],
+        &["list", "a", "--threads", "1"],
+        &["dump", "-"],
+        &["dump", "a", "--keep"],
+        &["drill", "1", "2"],
+        &["lists", "a"],
     ];
     for words in commands {
         let (status, sink) = run_words(
@@ -150,16 +163,31 @@ fn bad_words(rt: HostRuntime) -> Result<(), Fail> {
 }
 
 #[test]
-fn bad_files(rt: HostRuntime) -> Result<(), Fail> {
-    let (status, sink) = run(rt.alloc(), "add set\n", KEYS)?;
-    assert_eq!(rt;
-        sink.bytes(),
-        b"pipapo: script line 0: left out\n".as_slice()
-    );
-    assert_eq!(rt; status, 3);
-    let (status, sink) = run(rt.alloc(), SCRIPT, "ip filter s 10.0.0.6\n")?;
-    assert_eq!(rt; sink.bytes(), b"pipapo: keys line 0: left out\n".as_slice());
-    assert_eq!(rt; status, 4);
+fn words_in_any_order(rt: HostRuntime) -> Result<(), Fail> {
+    let commands: [(&[&str], &[u8]); 6] = [
+        (&["run", "help", "b"], b"pipapo: read fault: help\n"),
+        (
+            &["run", "--keep-going", "a", "b"],
+            b"pipapo: read fault: a\n",
+        ),
+        (
+            &["run", "a", "--keep-going", "b"],
+            b"pipapo: read fault: a\n",
+        ),
+        (&["list", "--keep-going", "c"], b"pipapo: read fault: c\n"),
+        (&["list", "run"], b"pipapo: read fault: run\n"),
+        (&["dump", "d", "--keep-going"], b"pipapo: read fault: d\n"),
+    ];
+    for (words, line) in commands {
+        let (status, sink) = run_words(
+            rt.alloc(),
+            words,
+            shelf_with(rt.alloc(), None, None, 0)?,
+            1000,
+        )?;
+        assert_eq!(rt; sink.bytes(), line);
+        assert_eq!(rt; status, 5);
+    }
     Ok(())
 }
 

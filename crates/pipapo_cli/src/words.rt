@@ -149,7 +149,11 @@ fn values_of<'a>(alloc: Global, words: &'a [String]) -> Result<ArgMatches<'a>, E
 }
 
 /// The command of words that are one, or want of memory.
-pub fn command_of<'a>(alloc: Global, verb: Verb, words: &'a [String]) -> Result<Command<'a>, AllocError>
+pub fn command_of<'a>(
+    alloc: Global,
+    verb: Verb,
+    words: &'a [String],
+) -> Result<Command<'a>, AllocError>
     requires { HasVerb (map string_bytes words.now) verb }
     ensures { IfOk result (λ c. IsCommand (map string_bytes words.now) (plain c)) }
 {

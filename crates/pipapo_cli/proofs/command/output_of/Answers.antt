@@ -37,7 +37,7 @@ returns-in-Run-clause-whole g c =
 pub returns-in-Run-clause-cause : goal.returns-in-Run-clause-cause
 returns-in-Run-clause-cause g c =
     let reads : ReadsAs c.in-Ok-script_of.script.schema (g.F.Shelf.told c.script_of.new.shelf c.in-Ok.command.script.now) =
-        λ text t. (c.in-Ok-script_of.script, (c.in-Ok-script_of.ensures.read text (sym (c.in-Ok-script_of.ensures.told c.in-Ok.command.script.now) ∙ t)).1, refl) in
+    λ text t. (c.in-Ok-script_of.script, (c.in-Ok-script_of.ensures.read text (sym (c.in-Ok-script_of.ensures.told c.in-Ok.command.script.now) ∙ t)).1, refl) in
     run-cause (map string_bytes c.args.words.now) (g.F.Shelf.told c.args.shelf.now) _ c.in-Ok-script_of.ensures.told _ _ _ _ (g.F.Shelf.faults c.run_beside.new.shelf) c.in-Ok.command.script.now c.in-Run.keys.now c.in-Ok-script_of.script c.in-Ok-script_of.ensures.read c.in-Ok-script_of.ensures.quiet.0 c.in-Ok-script_of.ensures.quiet.1 c.in-Ok.command.keep_going
     (of-task (map string_bytes c.args.words.now) c.in-Ok.command (tasks.Run c.in-Run.keys) c.in-Run.is c.in-Ok.ensures.found) c.run_beside.result (c.run_beside.ensures.cause c.in-Ok.command.script.now c.in-Ok-script_of.ensures.quiet.0 reads)
 

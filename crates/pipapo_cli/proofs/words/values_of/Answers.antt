@@ -12,7 +12,7 @@ returns c =
     let keys_is : rule_of c.new-keys.result ≡ new_rule (codes "keys") = search rules in
     let keep_is : rule_of c.action-keep_going.result ≡ keep_going_rule = search rules in
     let begun : app_of c.disable_help_flag.result ≡ on_top (λ s. record s { disable_help_flag = true }) (new_app (codes "pipapo")) =
-        ap app_of_fields c.disable_help_flag.ensures ∙ ap (on_top (λ s. record s { disable_help_flag = true })) c.new-2.ensures.app in
+    ap app_of_fields c.disable_help_flag.ensures ∙ ap (on_top (λ s. record s { disable_help_flag = true })) c.new-2.ensures.app in
     let with_script = c.in_ok-arg.ensures.shape (search rules) ∙ ap₂ with_rule begun script_is in
     let with_keys = c.in_ok-arg-2.ensures.shape (search rules) ∙ ap₂ with_rule with_script keys_is in
     let whole : app_of c.in_ok-arg-3.field-0 ≡ program = c.in_ok-arg-3.ensures.shape (search rules) ∙ ap₂ with_rule with_keys keep_is in
