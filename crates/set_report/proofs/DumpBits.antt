@@ -2,8 +2,6 @@
 use Rattle.std.proofs.Common.{◌≡◌, refl, sym, ◌∙◌, ap, ℕ, zero, suc, ◌+◌, ◌*◌, ◌/◌, ◌%◌, ◌^◌, ◌<◌, ◌≤◌, Bool, true, false, ◌==◌, List, [], ◌∷◌, length, get_or, take, drop, zip, arith, Option, Some, None, MatchOption, is_some, get_or-take, get_or-drop, length-take}
 use Rattle.std.specs.Int.{bit_at}
 use Rattle.std.specs.List.{list_all}
-use Rattle.std.specs.Cmp.Lexicographic.{pointwise}
-use Rattle.std.proofs.Math.Bool.{beq}
 use Rattle.std.proofs.Math.Nat.{pow-suc}
 use Rattle.std.proofs.lemmas.Bool.{eq-eqb, eqb-true, and_parts, and_from}
 use Rattle.std.proofs.lemmas.Bool.Decides.{nat_tests, same_from_decides}
@@ -12,7 +10,7 @@ use Rattle.std.proofs.lemmas.Nat.{div-add-mod'}
 use Rattle.std.proofs.lemmas.Nat.Bits.{bit_at-lt, bit_at-suc, bit_at_lowest, bit_at_cat_low, same_from_bits_below}
 use Rattle.bit_rows.specs.Row.{at, bit, IsNextSet, IsSpelling}
 use Rattle.bit_rows.proofs.Bits.{bit-shr, bit-zero}
-use Rattle.set_report.specs.DumpText.{number_of, byte_of, is_any_set}
+use Rattle.set_report.specs.DumpText.{number_of, byte_of, same_bitmap, is_any_set}
 use Rattle.set_report.proofs.DumpRuns.{same-Decides}
 
 -- ---- numbers of bits
@@ -115,8 +113,8 @@ module _ (ws vs : List ℕ) (xs ys : List Bool) (spelled : IsSpelling ws xs) (ot
       ∙ ap (at ys) place)
 
   -- their words are the same as far as both have any
-  pub same-by-words : ((w : ℕ) → get_or ws w 0 < 2 ^ 64) → ((w : ℕ) → get_or vs w 0 < 2 ^ 64) → same_items ws vs ≡ pointwise beq xs ys
-  same-by-words small less = same_from_decides (same_items ws vs) (pointwise beq xs ys) (
+  pub same-by-words : ((w : ℕ) → get_or ws w 0 < 2 ^ 64) → ((w : ℕ) → get_or vs w 0 < 2 ^ 64) → same_items ws vs ≡ same_bitmap xs ys
+  same-by-words small less = same_from_decides (same_items ws vs) (same_bitmap xs ys) (
     bits-same,
     λ e. same-to-items ws vs (λ w here there.
         words-same 64 (get_or ws w 0) (get_or vs w 0) (small w) (less w) (λ k h. spelled.same w k h ∙ ap (λ bits. at bits (64 * w + k)) e ∙ sym (other.same w k h))),

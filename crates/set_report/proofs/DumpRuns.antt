@@ -2,24 +2,27 @@
 use Rattle.std.proofs.Common.{◌≡◌, refl, sym, ◌∙◌, ap, ℕ, zero, suc, ◌+◌, ◌-◌, ◌<◌, ◌≤◌, Bool, true, false, cond, List, [], ◌∷◌, ◌++◌, map, filter, flat_map, append-nil, arith, slice_get, Some}
 use Rattle.std.specs.List.{range_with_len}
 use Rattle.std.specs.Bool.{Decides}
-use Rattle.std.specs.Cmp.{booleans_Decides}
-use Rattle.std.specs.Cmp.Lexicographic.{pointwise}
-use Rattle.std.proofs.Math.Bool.{beq}
 use Rattle.std.proofs.lemmas.Bool.{false_from_ne_true}
 use Rattle.std.proofs.lemmas.Option.{get_or_from_slice_get}
 use Rattle.std.proofs.lemmas.Slice.Eq.{slice_eq-Decides}
 use Rattle.bit_rows.specs.Row.{Row}
-use Rattle.set_report.specs.DumpText.{Run, with_bucket, runs_from, is_any_set, run_text, runs_text}
+use Rattle.set_report.specs.DumpText.{Run, same_bit, same_bitmap, with_bucket, runs_from, is_any_set, run_text, runs_text}
 use Rattle.set_report.specs.DumpBuckets.{bits_at, bitmaps_at}
 
-pub same-Decides : (xs ys : List Bool) → Decides (pointwise beq xs ys) (xs ≡ ys)
-same-Decides xs ys = slice_eq-Decides booleans_Decides xs ys (pointwise beq xs ys) refl
+bit-Decides : (x y : Bool) → Decides (same_bit x y) (x ≡ y)
+bit-Decides true true = (λ e. refl, λ e. refl)
+bit-Decides true false = (λ e. sym e, λ e. sym e)
+bit-Decides false true = (λ e. e, λ e. e)
+bit-Decides false false = (λ e. refl, λ e. refl)
 
-same-to : (xs ys : List Bool) → xs ≡ ys → pointwise beq xs ys ≡ true
+pub same-Decides : (xs ys : List Bool) → Decides (same_bitmap xs ys) (xs ≡ ys)
+same-Decides xs ys = slice_eq-Decides bit-Decides xs ys (same_bitmap xs ys) refl
+
+same-to : (xs ys : List Bool) → xs ≡ ys → same_bitmap xs ys ≡ true
 same-to xs ys e = (same-Decides xs ys).1 e
 
-other-to : (xs ys : List Bool) → (xs ≡ ys → ⊥) → pointwise beq xs ys ≡ false
-other-to xs ys no_way = false_from_ne_true (pointwise beq xs ys) (λ e. no_way ((same-Decides xs ys).0 e))
+other-to : (xs ys : List Bool) → (xs ≡ ys → ⊥) → same_bitmap xs ys ≡ false
+other-to xs ys no_way = false_from_ne_true (same_bitmap xs ys) (λ e. no_way ((same-Decides xs ys).0 e))
 
 -- a bucket with the bitmap of the first run belongs to it
 joins : (v : ℕ) (bits : List Bool) (run : Run) (runs : List Run) → bits ≡ run.bitmap
@@ -42,7 +45,7 @@ pub record IsHead (bits : List Bool) (runs : List Run) : Type 0 where
 
 head-of : (v : ℕ) (bits : List Bool) (runs : List Run) → IsHead bits (with_bucket v bits runs)
 head-of v bits [] = record { first = record { from = v; to = v; bitmap = bits }; rest = []; is = refl; same = refl }
-head-of v bits (run ∷ runs) = by (pointwise beq bits run.bitmap) where
+head-of v bits (run ∷ runs) = by (same_bitmap bits run.bitmap) where
   by : (t : Bool) → IsHead bits (cond t (record { from = v; to = run.to; bitmap = bits } ∷ runs) (record { from = v; to = v; bitmap = bits } ∷ run ∷ runs))
   by true = record { first = record { from = v; to = run.to; bitmap = bits }; rest = runs; is = refl; same = refl }
   by false = record { first = record { from = v; to = v; bitmap = bits }; rest = run ∷ runs; is = refl; same = refl }

@@ -1,9 +1,8 @@
 -- The tables of sets as text: which values of which bits of a field lead to which rules, and where the
 -- rules lead.
-use Rattle.std.specs.Prelude.{ℕ, ◌+◌, ◌*◌, ◌/◌, ◌^◌, Bool, ◌==◌, if◌then◌else◌, List, [], ◌∷◌, ◌++◌, length, take, drop, map, filter, zip, Some, codes, decimal}
+use Rattle.std.specs.Prelude.{ℕ, ◌+◌, ◌*◌, ◌/◌, ◌^◌, Bool, not, ◌==◌, if◌then◌else◌, List, [], ◌∷◌, ◌++◌, length, take, drop, map, filter, zip, Some, codes, decimal}
 use Rattle.std.specs.List.{flat_map, list_any, range_with_len, enumerate_from}
 use Rattle.std.specs.Cmp.Lexicographic.{pointwise}
-use Rattle.std.proofs.Math.Bool.{beq}
 use Rattle.addr_text.specs.Written.{hex_text}
 use Rattle.field_groups.specs.Groups.{agrees}
 use Rattle.lookup_table.specs.Width.{width_of}
@@ -32,6 +31,14 @@ byte_of bitmap j = number_of (take 8 (drop (8 * j) bitmap))
 abbrev pub bitmap_text : List Bool → List ℕ
 bitmap_text bitmap = flat_map (λ j. hex_text 2 (byte_of bitmap j)) (range_with_len 0 ((length bitmap + 7) / 8))
 
+-- two bits are both set, or both not
+abbrev pub same_bit : Bool → Bool → Bool
+same_bit a b = if a then b else not b
+
+-- two bitmaps are the same, bit by bit
+abbrev pub same_bitmap : List Bool → List Bool → Bool
+same_bitmap a b = pointwise same_bit a b
+
 -- the buckets of a group from one value to another, both included, which all have this bitmap
 pub record Run : Type 0 where
   pub from : ℕ
@@ -42,7 +49,7 @@ pub record Run : Type 0 where
 abbrev pub with_bucket : ℕ → List Bool → List Run → List Run
 with_bucket v bitmap [] = record { from = v; to = v; bitmap = bitmap } ∷ []
 with_bucket v bitmap (run ∷ runs) =
-    if pointwise beq bitmap run.bitmap
+    if same_bitmap bitmap run.bitmap
     then record { from = v; to = run.to; bitmap = bitmap } ∷ runs
     else record { from = v; to = v; bitmap = bitmap } ∷ run ∷ runs
 

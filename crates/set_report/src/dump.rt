@@ -1,10 +1,9 @@
-ghost use Rattle.std.specs.Prelude.{◌≡◌, ◌+◌, ◌-◌, ◌<◌, ◌++◌, ℕ, List, length, slice_get, Some, OnOk, OnErr};
+ghost use Rattle.std.specs.Prelude.{◌≡◌, ◌<◌, ◌++◌, List, length, slice_get, Some, OnOk, OnErr};
 ghost use Rattle.std.specs.List.{flat_map, enumerate_from};
 ghost use Rattle.set_model.specs.declared.kind.Kind.{Kind as OneKind};
 ghost use Rattle.set_model.specs.declared.element.Element.{Element};
-ghost use Rattle.set_model.specs.SetState.{field_rules};
 ghost use Rattle.pipapo_image.specs.Index.{IsIndexOf};
-ghost use Rattle.set_report.specs.DumpText.{span_text, end_text, heading_text, table_text, ways_text, field_text, tables_text, dump_text};
+ghost use Rattle.set_report.specs.DumpText.{span_text, end_text, heading_text, ways_text, field_text, tables_text, dump_text};
 ghost use Rattle.set_report.specs.DumpBuckets.{all_buckets_text};
 ghost use Rattle.set_report.specs.Writes.{AppendsPart, AreSetsOf};
 

@@ -1,4 +1,5 @@
 //! What a run tells, as text: the events of the control and the answers to packets, one line each.
+//! A dump has the tables that lookups read, and its remarks are the control's events once more.
 #![tactic(auto)]
 
 mod dump;

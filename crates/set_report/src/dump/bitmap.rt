@@ -1,12 +1,10 @@
 // A row of a table as hexadecimal text.
-ghost use Rattle.std.specs.Prelude.{◌≡◌, ◌+◌, ◌*◌, ◌/◌, ◌<◌, ◌++◌, ◌==◌, Bool, List, length, zip, OnOk, OnErr};
+ghost use Rattle.std.specs.Prelude.{◌≡◌, ◌<◌, ◌++◌, ◌==◌, Bool, List, length, zip, OnOk, OnErr};
 ghost use Rattle.std.specs.List.{list_all};
 ghost use Rattle.std.specs.Char.{digit_char};
-ghost use Rattle.std.specs.Cmp.Lexicographic.{pointwise};
-ghost use Rattle.std.proofs.Math.Bool.{beq};
 ghost use Rattle.addr_text.specs.Written.{hex_text};
 ghost use Rattle.bit_rows.specs.Row.{IsSpelling};
-ghost use Rattle.set_report.specs.DumpText.{byte_of, bitmap_text, is_any_set};
+ghost use Rattle.set_report.specs.DumpText.{byte_of, bitmap_text, same_bitmap, is_any_set};
 ghost use Rattle.set_report.specs.Writes.{AppendsPart};
 
 use crate::piece::Piece::Word;
@@ -24,7 +22,7 @@ pub(crate) fn is_any_set(row: &BitRow) -> bool
 /// Whether two rows of one length have the same places set.
 pub(crate) fn is_same(row: &BitRow, other: &BitRow) -> bool
     requires { length row.now.bits ≡ length other.now.bits }
-    ensures { result ≡ pointwise beq row.now.bits other.now.bits }
+    ensures { result ≡ same_bitmap row.now.bits other.now.bits }
 {
     is_same_words(row.words(), other.words())
 }
@@ -33,7 +31,7 @@ pub(crate) fn is_same(row: &BitRow, other: &BitRow) -> bool
 /// row's, since its room is larger: past its end they are 0.
 fn is_same_words(words: &[u64], others: &[u64]) -> bool
     ensures { (bits other_bits : List Bool) → IsSpelling words.now bits → IsSpelling others.now other_bits → length bits ≡ length other_bits
-        → result ≡ pointwise beq bits other_bits }
+        → result ≡ same_bitmap bits other_bits }
 {
     is_same_so_far(words, others)
 }

@@ -1,5 +1,5 @@
 // The buckets of a field's table, as lines of runs with the same bitmap.
-ghost use Rattle.std.specs.Prelude.{◌≡◌, ℕ, ◌+◌, ◌-◌, ◌/◌, ◌^◌, ◌<◌, ◌≤◌, All, [], ◌∷◌, ◌++◌, length, OnOk, OnErr};
+ghost use Rattle.std.specs.Prelude.{◌≡◌, ℕ, ◌+◌, ◌/◌, ◌^◌, ◌<◌, ◌≤◌, [], ◌∷◌, ◌++◌, length, OnOk, OnErr};
 ghost use Rattle.set_model.specs.Text.{line_feed};
 ghost use Rattle.set_report.specs.DumpText.{bitmap_text, run_text, runs_from, runs_text};
 ghost use Rattle.set_report.specs.DumpBuckets.{bits_at, bitmaps_at, buckets_text, all_buckets_text};
