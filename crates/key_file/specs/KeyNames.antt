@@ -12,9 +12,9 @@ use Rattle.key_file.specs.declared.draft.AtWord.TheVariants as ats
 
 abbrev pub word_or_family : Option Family → List ℕ → KeyWord
 word_or_family (Some family) t = keys.Family family
-word_or_family None t = if bytes_eq t (codes "at") then keys.At else keys.Table
+word_or_family None t = if bytes_eq t (codes "at") then keys.At else if bytes_eq t (codes "round") then keys.Round else keys.Table
 
--- A word at the family's place that is a family is the family. `at` may also be a table.
+-- A word at the family's place that is a family is the family. `at` and `round` may also be tables.
 abbrev pub key_word_of : List ℕ → KeyWord
 key_word_of t = word_or_family (family_of t) t
 

@@ -13,12 +13,12 @@ use Rattle.key_file.specs.declared.draft.AtWord.{AtWord}
 use Rattle.key_file.specs.declared.draft.AtWord.TheVariants as ats
 use Rattle.key_file.specs.KeyNames.{key_word_of, at_of}
 use Rattle.addr_text.specs.Values.{IsValue}
-use Rattle.token_forms.specs.Form.{Form, done, nowhere, many, ◌>>=◌, ◌>>◌}
+use Rattle.token_forms.specs.Form.{Form, done, nowhere, either, many, ◌>>=◌, ◌>>◌}
 use Rattle.token_forms.specs.Words.{word, word_by, word_is, name, the_end, breaks_off, line}
 use Rattle.set_script.specs.Script.{used_set}
 
 abbrev pub no_keys : KeyDraft
-no_keys = record { packets = []; moment = 0 }
+no_keys = record { sections = []; packets = []; moment = 0 }
 
 -- one value
 abbrev pub value : Kind → Form ℕ
@@ -43,6 +43,10 @@ all_values (kind ∷ kinds) = do
 abbrev pub with_packet : KeyDraft → ℕ → List ℕ → KeyDraft
 with_packet d set key = record d { packets = d.packets ++ record { set = set; key = key; now = d.moment } ∷ [] }
 
+-- The next section begins. The moment goes on.
+abbrev pub next_section : KeyDraft → KeyDraft
+next_section d = record d { sections = d.sections ++ d.packets ∷ []; packets = [] }
+
 abbrev pub packet_of : KeyDraft → ℕ → Option SetDecl → Form KeyDraft
 packet_of d i None = nowhere
 packet_of d i (Some s) = do
@@ -63,6 +67,10 @@ abbrev pub at_behind : List SetDecl → KeyDraft → AtWord → Form KeyDraft
 at_behind schema d (ats.Moment n) = done (record d { moment = n })
 at_behind schema d (ats.Set i) = packet_at schema d i
 
+-- Behind `round`: a packet of a set of the table `round`, or nothing, where the next section begins.
+abbrev pub round_behind : List SetDecl → KeyDraft → List ℕ → Form KeyDraft
+round_behind schema d w = either (packet schema d (families.Ip, w)) (done (next_section d))
+
 -- what stands behind the first word of a line
 abbrev pub line_behind : List SetDecl → KeyDraft → List ℕ → KeyWord → Form KeyDraft
 line_behind schema d w (keys.Family family) = do
@@ -71,6 +79,7 @@ line_behind schema d w (keys.Family family) = do
 line_behind schema d w keys.At = do
   a ← word_by (reasons.Moment ∷ reasons.Set ∷ []) (λ t. at_of schema t.bytes)
   at_behind schema d a
+line_behind schema d w keys.Round = round_behind schema d w
 line_behind schema d w keys.Table = packet schema d (families.Ip, w)
 
 abbrev pub key_line : List SetDecl → KeyDraft → Form KeyDraft
@@ -82,11 +91,11 @@ key_line schema d = do
 abbrev pub key_lines : List SetDecl → Form (KeyDraft × Bool)
 key_lines schema = many (line breaks_off (key_line schema)) (no_keys, true)
 
--- the one key section
+-- The packets of all sections. The first section is there also where the file has no line.
 abbrev pub body : List SetDecl → Form (List (List Packet))
 body schema = do
   s ← key_lines schema
-  done (s.0.packets ∷ [])
+  done ((next_section s.0).sections)
 
 abbrev pub key_file : List SetDecl → Form (List (List Packet))
 key_file schema = do

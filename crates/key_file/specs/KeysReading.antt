@@ -13,11 +13,11 @@ use Rattle.key_file.specs.declared.draft.AtWord.{AtWord}
 use Rattle.key_file.specs.declared.draft.AtWord.TheVariants as ats
 use Rattle.key_file.specs.KeyNames.{key_word_of, at_of}
 use Rattle.addr_text.specs.ValuesRead.{value_of}
-use Rattle.token_forms.specs.Reading.{done_read as done, nowhere_read as nowhere, ◌>>=◌, ◌>>◌}
+use Rattle.token_forms.specs.Reading.{done_read as done, nowhere_read as nowhere, either_read, ◌>>=◌, ◌>>◌}
 use Rattle.token_forms.specs.Words.{breaks_off}
 use Rattle.token_forms.specs.WordReading.{Reading, word, word_by, name, the_end, line, line_starts, many}
 use Rattle.set_script.specs.ScriptReading.{any_word, used_set}
-use Rattle.key_file.specs.Keys.{no_keys, with_packet}
+use Rattle.key_file.specs.Keys.{no_keys, with_packet, next_section}
 
 abbrev pub value : Kind → Reading ℕ
 value kind = word_by (reasons.Value ∷ []) (λ t. value_of kind t.bytes)
@@ -59,6 +59,9 @@ unfoldable pub at_behind : List SetDecl → KeyDraft → AtWord → Reading KeyD
 at_behind schema d (ats.Moment n) = done (record d { moment = n })
 at_behind schema d (ats.Set i) = packet_at schema d i
 
+unfoldable pub round_behind : List SetDecl → KeyDraft → List ℕ → Reading KeyDraft
+round_behind schema d w = either_read any_word (packet schema d (families.Ip, w)) (done (next_section d))
+
 unfoldable pub line_behind : List SetDecl → KeyDraft → List ℕ → KeyWord → Reading KeyDraft
 line_behind schema d w (keys.Family family) = do
   table ← name
@@ -66,6 +69,7 @@ line_behind schema d w (keys.Family family) = do
 line_behind schema d w keys.At = do
   a ← at_word schema
   at_behind schema d a
+line_behind schema d w keys.Round = round_behind schema d w
 line_behind schema d w keys.Table = packet schema d (families.Ip, w)
 
 unfoldable pub key_line : List SetDecl → KeyDraft → Reading KeyDraft
@@ -82,7 +86,7 @@ key_lines schema = many (line_starts breaks_off any_word) (line_or_break schema)
 unfoldable pub body : List SetDecl → Reading (List (List Packet))
 body schema = do
   s ← key_lines schema
-  done (s.0.packets ∷ [])
+  done ((next_section s.0).sections)
 
 unfoldable pub key_file : List SetDecl → Reading (List (List Packet))
 key_file schema = do

@@ -1,8 +1,11 @@
-use set_model::{Family, Packets};
+use set_model::{Family, Keys, Packets};
 
 /// What has been read of a key file.
 #[derive(Drop)]
 pub struct KeyDraft {
+    /// The key sections before this one.
+    pub sections: Keys,
+    /// The packets of this section.
     pub packets: Packets,
     /// The moment of the lines that follow, in milliseconds.
     pub moment: u64,
@@ -15,6 +18,8 @@ pub enum KeyWord {
     Family(Family),
     /// The word `at`, which is also the name of a table.
     At,
+    /// The word `round`, which is also the name of a table.
+    Round,
     /// The name of a table of the family `ip`.
     Table,
 }

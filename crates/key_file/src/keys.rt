@@ -1,4 +1,4 @@
-ghost use Rattle.std.specs.Prelude.{◌≡◌, List, [], ◌∷◌, ℕ, All, IfOk, Err};
+ghost use Rattle.std.specs.Prelude.{◌≡◌, List, ℕ, All, IfOk, Err};
 ghost use Rattle.token_forms.specs.Gives.{Gives, IsReadAs};
 ghost use Rattle.token_forms.specs.TextTokens.{text_tokens};
 ghost use Rattle.token_forms.specs.Faults.{IsFault};
@@ -10,29 +10,22 @@ ghost use Rattle.key_file.specs.Keys.{key_file};
 ghost use Rattle.key_file.specs.KeysText.{IsKeysText};
 ghost use Rattle.set_model.specs.Runnable.{IsFitting};
 
-use crate::lines::key_lines;
-use set_model::{Keys, Listed, Memory, Packets, Schema, SetDecl};
+use crate::lines::{begin_section, key_lines};
+use set_model::{Keys, Schema, SetDecl};
 use std::alloc::Global;
 use token_forms::{ReadError, Reader};
 
 /// Why a text isn't read as a key file.
 pub type KeyError = ReadError;
 
-fn one_section(alloc: Global, packets: Packets) -> Result<Keys, Memory>
-    ensures { IfOk result (λ keys. keys ≡ packets ∷ []) }
-{
-    let mut keys = Listed::new(alloc);
-    keys.push(packets)?;
-    Ok(keys)
-}
-
 /// What stands before the end.
 #[tactic(auto, using(token_forms::proofs::Refusals::refusals), unfolding(crate::specs::KeysReading::body))]
 fn body(reader: &mut Reader, alloc: Global, schema: &[SetDecl]) -> Result<Keys, ReadError>
     ensures { Gives (λ x. x) result reader.new (reading.body schema.now reader.old) }
 {
-    let (d, _) = key_lines(reader, alloc, schema)?;
-    Ok(one_section(alloc, d.packets)?)
+    let (mut d, _) = key_lines(reader, alloc, schema)?;
+    begin_section(alloc, &mut d)?;
+    Ok(d.sections)
 }
 
 #[tactic(auto, using(token_forms::proofs::Refusals::refusals), unfolding(crate::specs::KeysReading::key_file))]

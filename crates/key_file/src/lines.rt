@@ -2,15 +2,17 @@ ghost use Rattle.std.specs.Prelude.{◌≡◌, ◌<◌, length, OnOk};
 ghost use Rattle.token_forms.specs.Gives.{Gives};
 ghost use Rattle.token_forms.specs.View.{lexeme_of};
 ghost use Rattle.token_forms.specs.Words.{breaks_off};
+ghost use Rattle.token_forms.specs.Reading.{begins_with};
 ghost use Rattle.token_forms.specs.WordReading.{line_starts};
 ghost use Rattle.set_script.specs.ScriptReading.{any_word};
 ghost use Rattle.key_file.specs.KeysReading as reading;
 ghost use Rattle.key_file.specs.KeyNames.{key_word_of, at_of};
+ghost use Rattle.key_file.specs.Keys.{next_section};
 ghost use Rattle.key_file.specs.declared.draft.KeyDraft.{KeyDraft as Drafted};
 
 use crate::draft::{AtWord, KeyDraft, KeyWord};
 use crate::packets::{packet, packet_at};
-use set_model::{Family, Listed, SetDecl};
+use set_model::{Family, Listed, Memory, SetDecl};
 use set_script::{place_of_set, read_family, read_moment};
 use std::alloc::Global;
 use token_forms::{ReadError, Reader, Reason, Seen, short};
@@ -23,6 +25,8 @@ fn read_key_word(text: &[u8]) -> KeyWord
         None => {
             if text == b"at".as_slice() {
                 KeyWord::At
+            } else if text == b"round".as_slice() {
+                KeyWord::Round
             } else {
                 KeyWord::Table
             }
@@ -76,6 +80,42 @@ fn at_behind(
     }
 }
 
+/// Ends the section, and begins the next one. The moment goes on.
+pub fn begin_section(alloc: Global, d: &mut KeyDraft) -> Result<(), Memory>
+    ensures { OnOk result (d.new ≡ next_section d.old) }
+{
+    let packets = std::mem::replace(&mut d.packets, Listed::new(alloc));
+    d.sections.push(packets)
+}
+
+fn is_at_word(reader: &Reader) -> bool
+    ensures { result ≡ begins_with any_word reader.now }
+{
+    match reader.peek() {
+        Some(t) => t.is_word(),
+        None => false,
+    }
+}
+
+/// A packet of a set of the table `round`, or nothing: then the next section begins.
+#[tactic(auto, using(token_forms::proofs::Refusals::refusals), unfolding(crate::specs::KeysReading::round_behind))]
+fn round_behind(
+    reader: &mut Reader,
+    alloc: Global,
+    schema: &[SetDecl],
+    d: &mut KeyDraft,
+    table: &[u8],
+) -> Result<(), ReadError>
+    ensures { Gives (λ _. d.new) result reader.new (reading.round_behind schema.now d.old table.now reader.old) }
+{
+    if is_at_word(reader) {
+        packet(reader, alloc, schema, d, Family::Ip, table)
+    } else {
+        begin_section(alloc, d)?;
+        Ok(())
+    }
+}
+
 /// What stands behind the first word of a line.
 #[tactic(auto, using(token_forms::proofs::Refusals::refusals), unfolding(crate::specs::KeysReading::line_behind))]
 fn line_behind(
@@ -97,6 +137,7 @@ fn line_behind(
             let word = at_word(reader, schema)?;
             at_behind(reader, alloc, schema, d, word)
         }
+        KeyWord::Round => round_behind(reader, alloc, schema, d, first),
         KeyWord::Table => packet(reader, alloc, schema, d, Family::Ip, first),
     }
 }
@@ -166,6 +207,7 @@ pub fn key_lines(
     ensures { Gives (λ x. (x.0, x.1)) result reader.new (reading.key_lines schema.now reader.old) }
 {
     let mut d = KeyDraft {
+        sections: Listed::new(alloc),
         packets: Listed::new(alloc),
         moment: 0,
     };

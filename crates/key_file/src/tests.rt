@@ -1,5 +1,5 @@
 use crate::{KeyError, read_keys};
-use set_model::{Schema, Script};
+use set_model::{Family, Keys, Kind, Kinds, Memory, Name, Schema, Script, SetDecl};
 use set_script::read_script;
 use std::alloc::Global;
 use std::test::Fail;
@@ -12,15 +12,45 @@ fn script(alloc: Global) -> Result<Script, Fail> {
     )?)
 }
 
-fn is_refused(alloc: Global, schema: &Schema, text: &[u8]) -> bool {
+/// A set of ports in a table of the family `ip`.
+fn ports(alloc: Global, table: &[u8], name: &[u8]) -> Result<SetDecl, Memory> {
+    Ok(SetDecl {
+        family: Family::Ip,
+        table: Name::from_vec(Vec::from_slice(alloc, table)?),
+        name: Name::from_vec(Vec::from_slice(alloc, name)?),
+        kinds: Kinds::from_vec(vec![in alloc; Kind::Service]?),
+        interval: true,
+        timed: false,
+        disjoint: false,
+        timeout: None,
+        size: None,
+    })
+}
+
+/// The sets `ip t p`, `ip at t1` and `ip round x`, of ports.
+fn port_sets(alloc: Global) -> Result<Schema, Memory> {
+    let mut schema = Schema::new(alloc);
+    schema.push(ports(alloc, b"t", b"p")?)?;
+    schema.push(ports(alloc, b"at", b"t1")?)?;
+    schema.push(ports(alloc, b"round", b"x")?)?;
+    Ok(schema)
+}
+
+/// The section, the set and the moment of each packet.
+fn places(alloc: Global, keys: &Keys) -> Result<Vec<(usize, u32, u64)>, Memory> {
+    let mut places = Vec::new(alloc);
+    for (section, packets) in keys.as_slice().iter().enumerate() {
+        for packet in packets.as_slice() {
+            places.push((section, packet.set, packet.now))?;
+        }
+    }
+    Ok(places)
+}
+
+fn is_fault(alloc: Global, schema: &Schema, text: &[u8], line: u64, reason: Reason) -> bool {
     match read_keys(alloc, schema, text) {
         Ok(_) => false,
-        Err(e) => {
-            e == KeyError::Bad {
-                line: 0,
-                reason: Reason::LeftOut,
-            }
-        }
+        Err(e) => e == KeyError::Bad { line, reason },
     }
 }
 
@@ -106,55 +136,101 @@ fn a_family_may_be_left_out(rt: HostRuntime) -> Result<(), Fail> {
 }
 
 #[test]
-fn moments_may_fall(rt: HostRuntime) -> Result<(), Fail> {
+fn moments_may_fall_and_go_on_over_rounds(rt: HostRuntime) -> Result<(), Fail> {
     let alloc = rt.alloc();
-    let script = script(alloc)?;
+    let schema = port_sets(alloc)?;
     let keys = read_keys(
         alloc,
-        &script.schema,
-        b"at round 10.0.0.6 . 1\nat 1000000000000000\nat round 10.0.0.6 . 2\n\nat 5\nip at round 10.0.0.6 . 3\nat 7",
+        &schema,
+        b"ip t p 1\nat 1000000000000000\nt p 2\nround\nt p 3\n\nat 5\nip t p 4\nat 7",
     )?;
-    for section in keys.as_slice() {
-        match section.as_slice() {
-            [first, second, third] => {
-                assert_eq!(rt; first.now, 0);
-                assert_eq!(rt; second.now, 1_000_000_000_000_000);
-                assert_eq!(rt; third.now, 5);
-            }
-            _ => assert!(rt; false, "other packets"),
-        }
+    assert_eq!(rt; keys.len(), 2);
+    assert_eq!(rt;
+        places(alloc, &keys)?.as_slice(),
+        [
+            (0, 0, 0),
+            (0, 0, 1_000_000_000_000_000),
+            (1, 0, 1_000_000_000_000_000),
+            (1, 0, 5)
+        ]
+        .as_slice()
+    );
+    Ok(())
+}
+
+#[test]
+fn at_and_round_are_tables_too(rt: HostRuntime) -> Result<(), Fail> {
+    let alloc = rt.alloc();
+    let schema = port_sets(alloc)?;
+    let keys = read_keys(
+        alloc,
+        &schema,
+        b"at t1 80\nat 9\nround x 80\nround # next\nip round x 80\nip at t1 80",
+    )?;
+    assert_eq!(rt; keys.len(), 2);
+    assert_eq!(rt;
+        places(alloc, &keys)?.as_slice(),
+        [(0, 1, 0), (0, 2, 9), (1, 2, 9), (1, 1, 9)].as_slice()
+    );
+    Ok(())
+}
+
+#[test]
+fn each_round_begins_a_section(rt: HostRuntime) -> Result<(), Fail> {
+    let alloc = rt.alloc();
+    let schema = port_sets(alloc)?;
+    for (text, sections) in [
+        (b"".as_slice(), 1),
+        (b"round", 2),
+        (b"\nround\n\n", 2),
+        (b"round\nround\nt p 1", 3),
+        (b"t p 1\nround\nround", 3),
+    ] {
+        let keys = read_keys(alloc, &schema, text)?;
+        assert_eq!(rt; keys.len(), sections, "in {text:?}");
     }
     Ok(())
 }
 
 #[test]
-fn texts_outside_the_grammar(rt: HostRuntime) -> Result<(), Fail> {
+fn faults_have_their_line_and_reason(rt: HostRuntime) -> Result<(), Fail> {
     let alloc = rt.alloc();
-    let script = script(alloc)?;
-    for text in [
-        b"ip at round 10.0.0.6 . 1024;".as_slice(),
-        b";",
-        b"ip at other 10.0.0.6 . 1024",
-        b"ip other round 10.0.0.6 . 1024",
-        b"inet at round 10.0.0.6 . 1024",
-        b"ip ip round 10.0.0.6 . 1024",
-        b"ip at round 10.0.0.6",
-        b"ip at round 10.0.0.6-10.0.0.6 . 1024",
-        b"ip at round 10.0.0.6 . 1024 . 1",
-        b"ip at round 10.0.0.6 .\n1024",
-        b"ip at round 10.0.0.6 . 1024 ip at round 10.0.0.6 . 1024",
-        b"ip at round 10.0.0.256 . 1024",
-        b"ip at round { 10.0.0.6 . 1024 }",
-        b"at 1000000000000001",
-        b"at 05",
-        b"at x",
-        b"at 5 ip at round 10.0.0.6 . 1024",
-        b"at 5;",
-        b"round",
-        b"\xff",
+    let schema = port_sets(alloc)?;
+    for (text, line, reason) in [
+        (b"ip t p 80 . 81".as_slice(), 1, Reason::Statement),
+        (b"ip t p 80;", 1, Reason::Statement),
+        (b"ip t p 80 ip t p 81", 1, Reason::Statement),
+        (b"5", 1, Reason::Statement),
+        (b"ip ip 5", 1, Reason::Set),
+        (b"at 5 6", 1, Reason::Statement),
+        (b"at 5;", 1, Reason::Statement),
+        (b"round;", 1, Reason::Statement),
+        (b"\"round\"", 1, Reason::Statement),
+        (b"\n\nip t p\n80", 3, Reason::Statement),
+        (b"at\n5", 1, Reason::Statement),
+        (b"at 5\nt p", 2, Reason::End),
+        (b"at", 1, Reason::End),
+        (b"ip t p 80\nt \\\n", 3, Reason::End),
+        (b"ip t p 80-80", 1, Reason::Value),
+        (b"ip t p 65536", 1, Reason::Value),
+        (b"ip t p 80/16", 1, Reason::Value),
+        (b"t p 80\nip t q 80", 2, Reason::Set),
+        (b"inet t p 80", 1, Reason::Set),
+        (b"round y", 1, Reason::Set),
+        (b"round 5", 1, Reason::Set),
+        (b"at x", 1, Reason::Moment),
+        (b"at 05", 1, Reason::Moment),
+        (b"at 1000000000000001", 1, Reason::Moment),
+        (b"delete set 5", 1, Reason::LeftOut),
+        (b"t p 80\nt p counter", 2, Reason::LeftOut),
+        (b"*", 1, Reason::LeftOut),
+        (b"ip t p @", 1, Reason::Character),
+        (b"\xff", 1, Reason::Character),
+        (b"round\n\"", 2, Reason::Character),
     ] {
-        assert!(rt; is_refused(alloc, &script.schema, text), "{text:?}");
+        assert!(rt; is_fault(alloc, &schema, text, line, reason), "{text:?}");
     }
-    assert!(rt; is_refused(alloc, &Schema::new(alloc), b"ip at round 10.0.0.6 . 1024"));
+    let none = Schema::new(alloc);
+    assert!(rt; is_fault(alloc, &none, b"\nip t p 80", 2, Reason::Set));
     Ok(())
 }

@@ -1,13 +1,14 @@
 -- The names that a call asks for, and the files that it reads to their ends.
-use Rattle.std.proofs.Common.{arith, ◌≡◌, ◌≢◌, refl, sym, ◌∙◌, ap, subst, ℕ, List, [], ◌∷◌, ◌++◌, Option, inl, inr}
+use Rattle.std.proofs.Common.{arith, ◌≡◌, ◌≢◌, refl, sym, ◌∙◌, ap, subst, ℕ, Bool, List, [], ◌∷◌, ◌++◌, length, slice_get, Option, Some, inl, inr}
 use Rattle.std.specs.List.{AllPairs}
 use Rattle.std.specs.Io.KnownBytes.{IsAtEnd}
 use Rattle.std.proofs.lemmas.List.Elements.{All-nil, All-cons}
 use Rattle.std.proofs.lemmas.List.Kept.{AllPairs-cons}
 use Rattle.pip_base.specs.Picks.{IsPickOf, AsksOnce, KeepsLeft, ReadsToEnd}
-use Rattle.pipapo_cli.specs.Words.{Run, IsRun, IsNoCommand}
+use Rattle.pipapo_cli.specs.Words.{Command, IsCommand, IsRun, IsScriptOf, a_run, file_names}
 use Rattle.pipapo_cli.specs.Causes.{IsReadable}
-use Rattle.pipapo_cli.specs.Names.{file_names, IsFront, AreReadWhole, AsksInOrder, AsksForAll}
+use Rattle.pipapo_cli.specs.Names.{IsFront, AreReadWhole, AsksInOrder, AsksForAll}
+use Rattle.pipapo_cli.proofs.CommandWords.{one-command}
 use Rattle.pipapo_cli.proofs.Endings.{one-run}
 
 -- what comes of files by the numbers under which they were picked
@@ -53,40 +54,48 @@ two-whole old mid new left_old left_mid left r kept_first kept s =
 
 module _ (words : List (List ℕ)) (told : List ℕ → Option (List ℕ)) where
   -- Words that are no command ask for nothing.
-  pub asks-nothing : (asked : List (List ℕ)) (old new : Numbers) (left : ℕ → Option (List ℕ)) → IsNoCommand words → asked ≡ [] → AsksInOrder words told asked old new left
-  asks-nothing asked old new left not_run none = record {
-    no_command = λ _. none;
-    in_order = λ run is_run. absurd (not_run run is_run);
-    script_first = λ run is_run e. absurd (not_run run is_run);
+  pub asks-nothing : (asked : List (List ℕ)) (old new : Numbers) (left : ℕ → Option (List ℕ)) → asked ≡ [] → AsksInOrder words told asked old new left
+  asks-nothing asked old new left nothing = record {
+    no_command = λ _. nothing;
+    in_order = λ c is_c. record { rest = file_names c; joined = ap (λ (z : List (List ℕ)). z ++ file_names c) (sym nothing) };
+    script_first = λ script keys g is_run both. absurd (let e : [] ≡ script ∷ keys ∷ [] = sym nothing ∙ both in cc e);
   }
 
-  -- The script alone was asked for, or nothing yet.
-  pub asks-script : (asked : List (List ℕ)) (old new : Numbers) (left : ℕ → Option (List ℕ)) (run : Run) → IsRun words run → AsksOnce [] asked run.script → AsksInOrder words told asked old new left
-  asks-script asked old new left run is_run once = record {
-    no_command = λ not_run. absurd (not_run run is_run);
-    in_order = λ other is_other. subst (λ (r : Run). IsFront asked (file_names r)) (one-run words run other is_run is_other) (front once);
-    script_first = λ other is_other e. absurd (not-both other once e);
-  } where
-    front : AsksOnce [] asked run.script → IsFront asked (file_names run)
-    front (inl e) = record { rest = file_names run; joined = ap (λ (z : List (List ℕ)). z ++ file_names run) (sym e) }
-    front (inr e) = record { rest = run.keys ∷ []; joined = ap (λ (z : List (List ℕ)). z ++ run.keys ∷ []) (sym e) }
+  first-name : (c : Command) (script : List ℕ) → IsScriptOf c script → (rest : List (List ℕ)) × (file_names c ≡ script ∷ rest)
+  first-name c script e = go c.names e where
+    go : (names : List (List ℕ)) → slice_get names 0 ≡ Some script → (rest : List (List ℕ)) × (names ≡ script ∷ rest)
+    go [] e = absurd (cc e)
+    go (name ∷ names) e = let same : name ≡ script = cc e in (names, ap (λ n. n ∷ names) same)
 
-    not-both : (other : Run) → AsksOnce [] asked run.script → asked ≡ file_names other → ⊥
-    not-both other (inl e) k = cc (e, k)
-    not-both other (inr e) k = cc (e, k)
+  -- The script alone was asked for, or nothing yet.
+  pub asks-script : (asked : List (List ℕ)) (old new : Numbers) (left : ℕ → Option (List ℕ)) (c : Command) (script : List ℕ) → IsCommand words c → IsScriptOf c script → AsksOnce [] asked script → AsksInOrder words told asked old new left
+  asks-script asked old new left c script is_c is_script once = record {
+    no_command = λ none. absurd (none c is_c);
+    in_order = λ other is_other. subst (λ (x : Command). IsFront asked (file_names x)) (one-command words c other is_c is_other) (front once);
+    script_first = λ a b g is_run both. absurd (not-both a b once both);
+  } where
+    front : AsksOnce [] asked script → IsFront asked (file_names c)
+    front (inl e) = record { rest = file_names c; joined = ap (λ (z : List (List ℕ)). z ++ file_names c) (sym e) }
+    front (inr e) = let f = first-name c script is_script in record { rest = f.0; joined = f.1 ∙ ap (λ (z : List (List ℕ)). z ++ f.0) (sym e) }
+
+    not-both : (a b : List ℕ) → AsksOnce [] asked script → asked ≡ a ∷ b ∷ [] → ⊥
+    not-both a b (inl e) k = cc (e, k)
+    not-both a b (inr e) k = cc (e, k)
 
   -- The key file was asked for behind a script that was read whole and accepted, or not yet.
-  pub asks-keys : (asked_mid asked : List (List ℕ)) (old mid new : Numbers) (left_mid left : ℕ → Option (List ℕ)) (run : Run) → IsRun words run → asked_mid ≡ run.script ∷ []
-      → AsksOnce asked_mid asked run.keys → IsReadable run told → ReadsToEnd old mid left_mid → KeepsLeft mid new left_mid left → AsksInOrder words told asked old new left
-  asks-keys asked_mid asked old mid new left_mid left run is_run first once readable whole kept = record {
-    no_command = λ not_run. absurd (not_run run is_run);
-    in_order = λ other is_other. subst (λ (r : Run). IsFront asked (file_names r)) (one-run words run other is_run is_other) (front once);
-    script_first = λ other is_other _. (subst (λ (r : Run). IsReadable r told) (one-run words run other is_run is_other) readable, one-whole old mid new left_mid left whole kept);
+  pub asks-keys : (asked_mid asked : List (List ℕ)) (old mid new : Numbers) (left_mid left : ℕ → Option (List ℕ)) (script keys : List ℕ) (g : Bool) → IsRun words script keys g → asked_mid ≡ script ∷ []
+      → AsksOnce asked_mid asked keys → IsReadable script told → ReadsToEnd old mid left_mid → KeepsLeft mid new left_mid left → AsksInOrder words told asked old new left
+  asks-keys asked_mid asked old mid new left_mid left script keys g is_run first once readable whole kept = record {
+    no_command = λ none. absurd (none (a_run script keys g) is_run);
+    in_order = λ other is_other. subst (λ (x : Command). IsFront asked (file_names x)) (one-command words (a_run script keys g) other is_run is_other) (front once);
+    script_first = λ a b k is_other _. (subst (λ (x : List ℕ). IsReadable x told) (one-run words script keys a b g k is_run is_other).0 readable, one-whole old mid new left_mid left whole kept);
   } where
-    front : AsksOnce asked_mid asked run.keys → IsFront asked (file_names run)
-    front (inl e) = record { rest = run.keys ∷ []; joined = ap (λ (z : List (List ℕ)). z ++ run.keys ∷ []) (sym (e ∙ first)) }
-    front (inr e) = record { rest = []; joined = ap (λ (z : List (List ℕ)). z ++ []) (sym (e ∙ ap (λ (z : List (List ℕ)). z ++ run.keys ∷ []) first)) }
+    front : AsksOnce asked_mid asked keys → IsFront asked (script ∷ keys ∷ [])
+    front (inl e) = record { rest = keys ∷ []; joined = ap (λ (z : List (List ℕ)). z ++ keys ∷ []) (sym (e ∙ first)) }
+    front (inr e) = record { rest = []; joined = ap (λ (z : List (List ℕ)). z ++ []) (sym (e ∙ ap (λ (z : List (List ℕ)). z ++ keys ∷ []) first)) }
 
--- Both files were asked for and read to their ends.
-pub asks-all : (words asked : List (List ℕ)) (old new : Numbers) (left : ℕ → Option (List ℕ)) (run : Run) → IsRun words run → asked ≡ file_names run → AreReadWhole old new left 2 → AsksForAll words asked old new left
-asks-all words asked old new left run is_run both whole other is_other = (subst (λ (r : Run). asked ≡ file_names r) (one-run words run other is_run is_other) both, whole)
+-- All files of a command were asked for and read to their ends.
+pub asks-all : (words asked : List (List ℕ)) (old new : Numbers) (left : ℕ → Option (List ℕ)) (c : Command) → IsCommand words c → asked ≡ file_names c → AreReadWhole old new left (length (file_names c)) → AsksForAll words asked old new left
+asks-all words asked old new left c is_c all whole other is_other =
+    let same = one-command words c other is_c is_other in
+    (subst (λ (x : Command). asked ≡ file_names x) same all, subst (λ (x : Command). AreReadWhole old new left (length (file_names x))) same whole)

@@ -1,64 +1,116 @@
 -- How a call ends, and what follows of its status.
-use Rattle.std.proofs.Common.{Bool, true, false, refl, ◌≤◌, ◌≡◌, ◌∙◌, ap, subst, ℕ, List, [], ◌∷◌, ◌++◌, Option, Some, inl, inr, arith}
+use Rattle.std.proofs.Common.{Bool, true, false, refl, sym, ◌≤◌, ◌≡◌, ◌∙◌, ap, subst, ℕ, List, [], ◌∷◌, ◌++◌, length, slice_get, Option, Some, inl, inr, arith}
 use Rattle.std.specs.Io.KnownBytes.{Appends}
+use Rattle.token_forms.specs.declared.token.Reason.{Reason}
+use Rattle.token_forms.specs.TextTokens.{text_tokens}
+use Rattle.token_forms.specs.Faults.{IsFault}
+use Rattle.set_model.specs.declared.script.Script.{Script}
+use Rattle.set_model.specs.declared.script.SetDecl.{SetDecl}
+use Rattle.set_model.specs.declared.packet.Packet.{Packet}
+use Rattle.set_model.specs.Control.{mode_of}
+use Rattle.set_script.specs.Script.{script as script_form}
+use Rattle.set_script.specs.ScriptText.{IsScriptText}
+use Rattle.key_file.specs.Keys.{key_file}
+use Rattle.key_file.specs.KeysText.{IsKeysText}
 use Rattle.pipapo_cli.specs.declared.fault.Fault.{Fault}
 use Rattle.pipapo_cli.specs.declared.fault.Fault.TheVariants.{Usage, BadScript, BadKeys, ReadFault, TooLarge, Memory}
-use Rattle.pipapo_cli.specs.Words.{Run, IsRun}
-use Rattle.pipapo_cli.specs.Transcript.{IsOutput}
-use Rattle.pipapo_cli.specs.Causes.{IsCause, FileCause, IsKeysCause, IsReadable, IsSized}
-use Rattle.pipapo_cli.specs.Answers.{Ends, written, cut, memory, IsDue, output, refusal, IsExactly, Transcribes, IsDone, done_status, status_of, line_of}
-
--- a fault of a file is a fault of the call
-pub from-file : (words : List (List ℕ)) (told : List ℕ → Option (List ℕ)) (asked : List (List ℕ)) (before now : ℕ) (fault : Fault)
-    → FileCause words told asked before now fault → IsCause words told asked before now fault
-from-file words told asked before now Usage h = absurd (elim (h.2) as (λ _. ⊥) [ inl a ↦ a | inr b ↦ b.1 ])
-from-file words told asked before now BadScript h = h
-from-file words told asked before now BadKeys h = h
-from-file words told asked before now (ReadFault name) h = h
-from-file words told asked before now (TooLarge name) h = h
-from-file words told asked before now Memory h = h
+use Rattle.pipapo_cli.specs.declared.words.Verb.{Verb}
+use Rattle.pipapo_cli.specs.declared.words.Verb.TheVariants as verbs
+use Rattle.pipapo_cli.specs.Words.{Command, IsCommand, IsRun, IsScriptOf, name_count, a_run, a_list, a_dump}
+use Rattle.pipapo_cli.specs.Transcript.{IsOutput, IsTranscript, IsListing, IsTables}
+use Rattle.pipapo_cli.specs.Causes.{IsCause, IsKeysCause}
+use Rattle.pipapo_cli.specs.Lines.{done_status, status_of, line_of}
+use Rattle.pipapo_cli.specs.Answers.{Ends, written, cut, memory, IsDue, output, refusal, IsExactly, HasOutput, IsDone, Writes, Transcribes, Lists, Dumps}
+use Rattle.pipapo_cli.proofs.CommandWords.{one-command}
 
 -- the status of an output is 0 or 1
 pub done-small : (refused : Bool) → done_status refused ≤ 1
 done-small true = omega arith
 done-small false = omega arith
 
--- a row that is due with status 0 or 1 is an output
-module _ (words : List (List ℕ)) (told : List ℕ → Option (List ℕ)) (asked : List (List ℕ)) (before now : ℕ) where
-  abbrev OutputOf : ℕ → List ℕ → Type 0
-  OutputOf status text = (refused : Bool) × (run : Run) × (status ≡ done_status refused) × IsRun words run × IsOutput run told refused text
-
-  no-output : (status : ℕ) (text : List ℕ) → 2 ≤ status → IsDone status → OutputOf status text
-  no-output status text h (inl e) = absurd (omega (arith, h, e))
-  no-output status text h (inr e) = absurd (omega (arith, h, e))
-
-  due-output : (status : ℕ) (text : List ℕ) → IsDue words told asked before now status text → IsDone status → OutputOf status text
-  due-output status text (output run refused t is_run names quiet readable sized is_output) e = (refused, run, refl, is_run, is_output)
-  due-output status text (refusal Usage cause) e = no-output 2 _ (omega arith) e
-  due-output status text (refusal BadScript cause) e = no-output 3 _ (omega arith) e
-  due-output status text (refusal BadKeys cause) e = no-output 4 _ (omega arith) e
-  due-output status text (refusal (ReadFault name) cause) e = no-output 5 _ (omega arith) e
-  due-output status text (refusal (TooLarge name) cause) e = no-output 8 _ (omega arith) e
-  due-output status text (refusal Memory cause) e = no-output 7 _ (omega arith) e
-
--- words ask for one run at most
-pub one-run : (words : List (List ℕ)) (a b : Run) → IsRun words a → IsRun words b → a ≡ b
-one-run words a b h k = let e : a.script ≡ b.script = cc (h.words_are, k.words_are) in let f : a.keys ≡ b.keys = cc (h.words_are, k.words_are) in ap (λ s. record { script = s; keys = a.keys }) e ∙ ap (λ s. record { script = b.script; keys = s }) f
-
-not-done : (n : ℕ) → 2 ≤ n → IsDone n → ⊥
+pub not-done : (n : ℕ) → 2 ≤ n → IsDone n → ⊥
 not-done n h (inl e) = omega (arith, h, e)
 not-done n h (inr e) = omega (arith, h, e)
 
-pub headline : (words : List (List ℕ)) (told : List ℕ → Option (List ℕ)) (asked : List (List ℕ)) (before now : ℕ) (taken_before taken_now : Option (List ℕ)) (b n result : ℕ)
-    → Ends (IsDue words told asked before now) taken_before taken_now b n result → IsDone result → Transcribes words told taken_before taken_now result
-headline words told asked before now taken_before taken_now b n result (written status text due appends quiet) e run script_text keys_text old new is_run script_told keys_told is_old is_new =
-    let d = due-output words told asked before now status text due e in
-    let same : d.1 ≡ run = one-run words d.1 run d.3 is_run in
-    let given : IsOutput run told d.0 text = subst (λ (r : Run). IsOutput r told d.0 text) same d.4 in
-    let grown : new ≡ old ++ text = subst (λ (o : Option (List ℕ)). Appends (Some old) o text) is_new (subst (λ (o : Option (List ℕ)). Appends o taken_now text) is_old appends) in
-    (d.0, text, d.2, grown, given script_text keys_text script_told keys_told)
-headline words told asked before now taken_before taken_now b n result (cut status text due front rose) e run script_text keys_text old new is_run script_told keys_told is_old is_new = absurd (not-done 6 (omega arith) e)
-headline words told asked before now taken_before taken_now b n result (memory due keeps quiet) e run script_text keys_text old new is_run script_told keys_told is_old is_new = absurd (not-done 7 (omega arith) e)
+-- A text with a bad token isn't in its grammar.
+pub no-script : (text : List ℕ) (line : ℕ) (reason : Reason) → IsFault script_form (text_tokens text) line reason → (s : Script) → IsScriptText text s → ⊥
+unfolding IsScriptText
+no-script text line reason h s w = h.outside s w
+
+pub no-keys : (schema : List SetDecl) (text : List ℕ) (line : ℕ) (reason : Reason) → IsFault (key_file schema) (text_tokens text) line reason → (keys : List (List Packet)) → IsKeysText schema text keys → ⊥
+unfolding IsKeysText
+no-keys schema text line reason h keys w = h.outside keys w
+
+-- the script of a command
+pub the-script : (words : List (List ℕ)) (c : Command) → IsCommand words c → (script : List ℕ) × IsScriptOf c script
+the-script words c h = go c.verb c.names h.each_name where
+  go : (v : Verb) (names : List (List ℕ)) → length names ≡ name_count v → (script : List ℕ) × (slice_get names 0 ≡ Some script)
+  go verbs.Run [] e = absurd (omega (arith, e))
+  go verbs.List [] e = absurd (omega (arith, e))
+  go verbs.Dump [] e = absurd (omega (arith, e))
+  go v (name ∷ names) e = (name, refl)
+
+module _ (words : List (List ℕ)) where
+  -- The words are of one script, and of one run.
+  pub one-script : (c d : Command) (a b : List ℕ) → IsCommand words c → IsScriptOf c a → IsCommand words d → IsScriptOf d b → a ≡ b
+  one-script c d a b h is_a k is_b =
+      let same : slice_get c.names 0 ≡ slice_get d.names 0 = ap (λ (x : Command). slice_get x.names 0) (one-command words c d h k) in
+      cc (is_a, is_b, same)
+
+  pub one-run : (a b s t : List ℕ) (g k : Bool) → IsRun words a b g → IsRun words s t k → (a ≡ s) × (b ≡ t) × (g ≡ k)
+  one-run a b s t g k h j =
+      let same : a_run a b g ≡ a_run s t k = one-command words (a_run a b g) (a_run s t k) h j in
+      let names : a ∷ b ∷ [] ≡ s ∷ t ∷ [] = ap (λ (x : Command). x.names) same in
+      (cc names, cc names, ap (λ (x : Command). x.keep_going) same)
+
+-- what a command of these words does
+pub does : (words : List (List ℕ)) (told : List ℕ → Option (List ℕ)) (asked : List (List ℕ)) (before now : ℕ) (c : Command) (refused : Bool) (text : List ℕ) → IsCommand words c
+    → HasOutput words told asked before now refused text → IsOutput c told refused text
+does words told asked before now c refused text is_c has = subst (λ (x : Command). IsOutput x told refused text) (one-command words has.command c has.is_command is_c) has.is_output
+
+-- The whole output was written.
+module _ (words : List (List ℕ)) (told : List ℕ → Option (List ℕ)) (asked : List (List ℕ)) (before now : ℕ) (taken_before taken_now : Option (List ℕ)) where
+  pub record Wrote (result : ℕ) : Type 0 where
+    pub refused : Bool
+    pub text : List ℕ
+    pub status : result ≡ done_status refused
+    pub has : HasOutput words told asked before now refused text
+    pub appends : Appends taken_before taken_now text
+
+  due-wrote : (status : ℕ) (text : List ℕ) → IsDue words told asked before now status text → IsDone status → Appends taken_before taken_now text → Wrote status
+  due-wrote status text (output refused t has) e appends = record { refused = refused; text = t; status = refl; has = has; appends = appends }
+  due-wrote status text (refusal Usage cause) e appends = absurd (not-done 2 (omega arith) e)
+  due-wrote status text (refusal (BadScript line reason) cause) e appends = absurd (not-done 3 (omega arith) e)
+  due-wrote status text (refusal (BadKeys line reason) cause) e appends = absurd (not-done 4 (omega arith) e)
+  due-wrote status text (refusal (ReadFault name) cause) e appends = absurd (not-done 5 (omega arith) e)
+  due-wrote status text (refusal (TooLarge name) cause) e appends = absurd (not-done 8 (omega arith) e)
+  due-wrote status text (refusal Memory cause) e appends = absurd (not-done 7 (omega arith) e)
+
+  pub wrote : (b n result : ℕ) → Ends (IsDue words told asked before now) taken_before taken_now b n result → IsDone result → Wrote result
+  wrote b n result (written status text due appends quiet) e = due-wrote status text due e appends
+  wrote b n result (cut status text due front rose) e = absurd (not-done 6 (omega arith) e)
+  wrote b n result (memory due keeps quiet) e = absurd (not-done 7 (omega arith) e)
+
+  writes : (result : ℕ) (IsText : Bool → List ℕ → Type 0) (w : Wrote result) → IsText w.refused w.text → Writes IsText taken_before taken_now result
+  writes result IsText w is_text old new is_old is_new =
+      let grown : new ≡ old ++ w.text = subst (λ (o : Option (List ℕ)). Appends (Some old) o w.text) is_new (subst (λ (o : Option (List ℕ)). Appends o taken_now w.text) is_old w.appends) in
+      (w.refused, w.text, w.status, grown, is_text)
+
+  -- The headline, and the same of a listing and of a dump.
+  pub transcribes : (b n result : ℕ) → Ends (IsDue words told asked before now) taken_before taken_now b n result → IsDone result → Transcribes words told taken_before taken_now result
+  transcribes b n result ends e script keys script_text keys_text keep_going is_run at at_keys =
+      let w = wrote b n result ends e in
+      writes result (IsTranscript script_text keys_text 1 (mode_of keep_going)) w (does words told asked before now (a_run script keys keep_going) w.refused w.text is_run w.has script keys script_text keys_text refl at at_keys)
+
+  pub lists : (b n result : ℕ) → Ends (IsDue words told asked before now) taken_before taken_now b n result → IsDone result → Lists words told taken_before taken_now result
+  lists b n result ends e script script_text keep_going is_list at =
+      let w = wrote b n result ends e in
+      writes result (IsListing script_text (mode_of keep_going)) w (does words told asked before now (a_list script keep_going) w.refused w.text is_list w.has script script_text refl at)
+
+  pub dumps : (b n result : ℕ) → Ends (IsDue words told asked before now) taken_before taken_now b n result → IsDone result → Dumps words told taken_before taken_now result
+  dumps b n result ends e script script_text keep_going is_dump at =
+      let w = wrote b n result ends e in
+      writes result (IsTables script_text (mode_of keep_going)) w (does words told asked before now (a_dump script keep_going) w.refused w.text is_dump w.has script script_text refl at)
 
 -- what is due of a fault with its cause
 pub due-refusal : (words : List (List ℕ)) (told : List ℕ → Option (List ℕ)) (asked : List (List ℕ)) (before now : ℕ) (fault : Fault) → IsCause words told asked before now fault
@@ -67,16 +119,15 @@ due-refusal words told asked before now fault cause status text e = rw (e.0, e.1
 
 -- what is due of an output
 pub due-of-output : (words : List (List ℕ)) (told : List ℕ → Option (List ℕ)) (asked : List (List ℕ)) (before now : ℕ) (refused : Bool) (out : List ℕ)
-    → (run : Run) × IsRun words run × (asked ≡ run.script ∷ run.keys ∷ []) × (now ≡ before) × IsReadable run told × IsSized run.keys told × IsOutput run told refused out
-    → (status : ℕ) (text : List ℕ) → IsExactly (done_status refused) out status text → IsDue words told asked before now status text
-due-of-output words told asked before now refused out h status text e = rw (e.0, e.1) (output h.0 refused out h.1 h.2 h.3 h.4 h.5 h.6)
+    → HasOutput words told asked before now refused out → (status : ℕ) (text : List ℕ) → IsExactly (done_status refused) out status text → IsDue words told asked before now status text
+due-of-output words told asked before now refused out h status text e = rw (e.0, e.1) (output refused out h)
 
 -- A cause in the key file is said of what the shelf tells, however that is named.
-pub keys-cause : (run : Run) (told other : List ℕ → Option (List ℕ)) (asked : List (List ℕ)) (before now : ℕ) (fault : Fault) → ((name : List ℕ) → told name ≡ other name)
-    → IsKeysCause run told asked before now fault → IsKeysCause run other asked before now fault
-keys-cause run told other asked before now Usage same h = absurd h
-keys-cause run told other asked before now BadScript same h = absurd h
-keys-cause run told other asked before now BadKeys same h = (h.0, h.1, λ text keys_text a b. h.2 text keys_text (same run.script ∙ a) (same run.keys ∙ b))
-keys-cause run told other asked before now (ReadFault name) same h = h
-keys-cause run told other asked before now (TooLarge name) same h = (h.0, h.1, h.2, λ text a. h.3 text (same run.keys ∙ a))
-keys-cause run told other asked before now Memory same h = h
+pub keys-cause : (script keys : List ℕ) (told other : List ℕ → Option (List ℕ)) (asked : List (List ℕ)) (before now : ℕ) (fault : Fault) → ((name : List ℕ) → told name ≡ other name)
+    → IsKeysCause script keys told asked before now fault → IsKeysCause script keys other asked before now fault
+keys-cause script keys told other asked before now Usage same h = absurd h
+keys-cause script keys told other asked before now (BadScript line reason) same h = absurd h
+keys-cause script keys told other asked before now (BadKeys line reason) same h = (h.0, h.1, λ text keys_text a b. h.2 text keys_text (same script ∙ a) (same keys ∙ b))
+keys-cause script keys told other asked before now (ReadFault name) same h = h
+keys-cause script keys told other asked before now (TooLarge name) same h = (h.0, h.1, h.2, λ text a. h.3 text (same keys ∙ a))
+keys-cause script keys told other asked before now Memory same h = h

@@ -1,12 +1,8 @@
-mod Lists
+pub mod CommandWords
+pub mod ClapValues
 mod Deliveries
-mod Endings
+pub mod Endings
 mod Exact
 mod Asking
 mod Completed
-mod Changes
-mod Found
-mod RunLines
-mod Steps
-mod RunTranscript
-mod OneRun
+pub mod Outputs

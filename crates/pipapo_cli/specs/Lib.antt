@@ -1,6 +1,8 @@
 pub mod Words
-pub mod Run
+pub mod WordForms
 pub mod Transcript
 pub mod Causes
 pub mod Names
+pub mod Lines
 pub mod Answers
+pub mod Exactly

@@ -1,31 +1,20 @@
--- What a run of a script beside a key file writes: the headline.
-use Rattle.std.specs.Prelude.{◌≡◌, ℕ, Bool, true, false, List, Option, Some}
-use Rattle.std.specs.List.{list_any}
-use Rattle.set_model.specs.declared.report.Event.{Event}
-use Rattle.set_model.specs.declared.report.Event.TheVariants.{Refused, Committed, Aborted, Dropped}
+-- What a command writes: the transcript of a run, the listing of a script, the tables of a script.
+use Rattle.std.specs.Prelude.{◌≡◌, ℕ, Bool, List, [], ◌∷◌, Option, Some}
 use Rattle.set_model.specs.declared.script.Script.{Script}
 use Rattle.set_model.specs.declared.packet.Packet.{Packet}
 use Rattle.set_model.specs.declared.report.Line.{Line}
-use Rattle.set_model.specs.Control.{Mode, Strict, history}
+use Rattle.set_model.specs.Control.{Mode, mode_of, has_refusal}
 use Rattle.set_model.specs.Legal.{Legal}
 use Rattle.set_model.specs.Text.{transcript_text}
 use Rattle.set_script.specs.ScriptText.{IsScriptText}
 use Rattle.key_file.specs.KeysText.{IsKeysText}
-use Rattle.pipapo_cli.specs.Words.{Run}
+use Rattle.script_run.specs.Listings.{listing_text, tables_text}
+use Rattle.pipapo_cli.specs.declared.words.Verb.{Verb}
+use Rattle.pipapo_cli.specs.declared.words.Verb.TheVariants as verbs
+use Rattle.pipapo_cli.specs.Words.{Command, file_names, IsScriptOf}
 
--- An event tells that a change was refused.
-abbrev pub is_refusal : Event → Bool
-is_refusal (Refused line set why) = true
-is_refusal (Committed generation purged) = false
-is_refusal (Aborted generation) = false
-is_refusal (Dropped generation) = false
-
--- A change of the script is refused.
-abbrev pub has_refusal : Mode → Script → Bool
-has_refusal mode script = list_any is_refusal (history mode script.schema script.sections).events
-
--- The output is the text of a legal transcript of the script and the key file that the texts stand for.
--- It tells a refusal exactly where a change of the script is refused.
+-- The output is the text of a legal transcript of the script and the key file that the texts stand for. It tells a refusal
+-- exactly where a change of the script is refused.
 pub record IsTranscript (script_text keys_text : List ℕ) (threads : ℕ) (mode : Mode) (refused : Bool) (output : List ℕ) : Type 0 where
   pub script : Script
   pub keys : List (List Packet)
@@ -36,7 +25,27 @@ pub record IsTranscript (script_text keys_text : List ℕ) (threads : ℕ) (mode
   pub text : output ≡ transcript_text mode script keys lines
   pub refusal : refused ≡ has_refusal mode script
 
--- The output of a run, and whether it tells a refusal: where the shelf tells the bytes under both names,
--- the text of a legal transcript of them with one thread in strict mode.
-abbrev pub IsOutput : Run → (List ℕ → Option (List ℕ)) → Bool → List ℕ → Type 0
-IsOutput run told refused output = (script_text keys_text : List ℕ) → told run.script ≡ Some script_text → told run.keys ≡ Some keys_text → IsTranscript script_text keys_text 1 Strict refused output
+-- The output is this text of the script that a text stands for. It tells a refusal exactly where a change of the script is
+-- refused.
+pub record IsTextOf (text : Mode → Script → List ℕ) (script_text : List ℕ) (mode : Mode) (refused : Bool) (output : List ℕ) : Type 0 where
+  pub script : Script
+  pub script_is : IsScriptText script_text script
+  pub text_is : output ≡ text mode script
+  pub refusal : refused ≡ has_refusal mode script
+
+-- the listing of the last generation, and its tables
+abbrev pub IsListing : List ℕ → Mode → Bool → List ℕ → Type 0
+IsListing = IsTextOf listing_text
+
+abbrev pub IsTables : List ℕ → Mode → Bool → List ℕ → Type 0
+IsTables = IsTextOf tables_text
+
+-- what a command does, by the bytes that are told under its files' names
+abbrev pub Does : Verb → Command → (List ℕ → Option (List ℕ)) → Bool → List ℕ → Type 0
+Does verbs.Run c told refused output = (script keys script_text keys_text : List ℕ) → file_names c ≡ script ∷ keys ∷ [] → told script ≡ Some script_text → told keys ≡ Some keys_text → IsTranscript script_text keys_text 1 (mode_of c.keep_going) refused output
+Does verbs.List c told refused output = (script script_text : List ℕ) → IsScriptOf c script → told script ≡ Some script_text → IsListing script_text (mode_of c.keep_going) refused output
+Does verbs.Dump c told refused output = (script script_text : List ℕ) → IsScriptOf c script → told script ≡ Some script_text → IsTables script_text (mode_of c.keep_going) refused output
+
+-- The output of a command, and whether it tells a refusal.
+abbrev pub IsOutput : Command → (List ℕ → Option (List ℕ)) → Bool → List ℕ → Type 0
+IsOutput c told refused output = Does c.verb c told refused output

@@ -1,10 +1,8 @@
-ghost use Rattle.std.specs.Prelude.{◌≡◌, ◌≤◌, ◌<◌, ◌⊎◌, List, [], ◌∷◌, ◌++◌, ℕ, length, Some, IfOk, IfErr, OnOk};
+ghost use Rattle.std.specs.Prelude.{◌≡◌, ◌≤◌, ◌<◌, ◌⊎◌, List, [], ◌∷◌, ◌++◌, ℕ, length, All, Some, IfOk, IfErr, OnOk};
+ghost use Rattle.set_model.specs.Runnable.{IsRunnable, IsFitting};
 ghost use Rattle.set_script.specs.ScriptText.{IsScriptText};
 ghost use Rattle.key_file.specs.KeysText.{IsKeysText};
-ghost use Rattle.key_file.specs.Fits.{IsPlainKeys};
 ghost use Rattle.pip_base.specs.Picks.{AsksOnce, KeepsLeft, ReadsToEnd};
-ghost use Rattle.pipapo_cli.specs.Words.{Run as RunNames};
-ghost use Rattle.pipapo_cli.specs.Run.{IsOneRun};
 ghost use Rattle.pipapo_cli.specs.Causes.{IsScriptCause, IsKeysCause, ReadsAs};
 
 use crate::fault::Fault;
@@ -22,14 +20,14 @@ pub fn script_of<'a, F: Shelf>(
     name: &'a str,
 ) -> Result<Script, Fault<'a>>
     requires { F.asked shelf.old ≡ [] }
-    ensures plain { IfOk result IsOneRun }
+    ensures runnable { IfOk result IsRunnable }
     ensures read { IfOk result (λ s. (text : List ℕ) → F.told shelf.old name.now ≡ Some text → (length text ≤ 67108864) × IsScriptText text s) }
     ensures quiet { OnOk result ((F.asked shelf.new ≡ name.now ∷ []) × (F.faults shelf.new ≡ F.faults shelf.old)) }
     ensures whole { OnOk result (ReadsToEnd (F.is_picked shelf.old) (F.is_picked shelf.new) (F.left shelf.new)) }
     ensures once { AsksOnce (F.asked shelf.old) (F.asked shelf.new) name.now }
     ensures kept { KeepsLeft (F.is_picked shelf.old) (F.is_picked shelf.new) (F.left shelf.old) (F.left shelf.new) }
     ensures told { (other : List ℕ) → F.told shelf.new other ≡ F.told shelf.old other }
-    ensures cause { (keys : List ℕ) → IfErr result (IsScriptCause (record { script = name.now; keys = keys }) (F.told shelf.old) (F.asked shelf.new) (F.faults shelf.old) (F.faults shelf.new)) }
+    ensures cause { IfErr result (IsScriptCause name.now (F.told shelf.old) (F.asked shelf.new) (F.faults shelf.old) (F.faults shelf.new)) }
 {
     let text = match read_whole(alloc, shelf, name) {
         Ok(text) => text,
@@ -39,7 +37,7 @@ pub fn script_of<'a, F: Shelf>(
     };
     match read_script(alloc, text.as_slice()) {
         Ok(script) => Ok(script),
-        Err(FormError::Bad { .. }) => Err(Fault::BadScript),
+        Err(FormError::Bad { line, reason }) => Err(Fault::BadScript { line, reason }),
         Err(FormError::Memory) => Err(Fault::Memory),
     }
 }
@@ -52,14 +50,14 @@ pub fn keys_of<'a, F: Shelf>(
     name: &'a str,
 ) -> Result<Keys, Fault<'a>>
     requires { length (F.asked shelf.old) ≡ 1 }
-    ensures plain { IfOk result (IsPlainKeys schema.now) }
+    ensures fits { IfOk result (All (All (IsFitting schema.now))) }
     ensures read { IfOk result (λ keys. (text : List ℕ) → F.told shelf.old name.now ≡ Some text → (length text ≤ 67108864) × IsKeysText schema.now text keys) }
     ensures quiet { OnOk result ((F.asked shelf.new ≡ F.asked shelf.old ++ name.now ∷ []) × (F.faults shelf.new ≡ F.faults shelf.old)) }
     ensures whole { OnOk result (ReadsToEnd (F.is_picked shelf.old) (F.is_picked shelf.new) (F.left shelf.new)) }
     ensures once { AsksOnce (F.asked shelf.old) (F.asked shelf.new) name.now }
     ensures kept { KeepsLeft (F.is_picked shelf.old) (F.is_picked shelf.new) (F.left shelf.old) (F.left shelf.new) }
     ensures told { (other : List ℕ) → F.told shelf.new other ≡ F.told shelf.old other }
-    ensures cause { (script : List ℕ) → F.asked shelf.old ≡ script ∷ [] → ReadsAs schema.now (F.told shelf.old script) → IfErr result (IsKeysCause (record { script = script; keys = name.now }) (F.told shelf.old) (F.asked shelf.new) (F.faults shelf.old) (F.faults shelf.new)) }
+    ensures cause { (script : List ℕ) → F.asked shelf.old ≡ script ∷ [] → ReadsAs schema.now (F.told shelf.old script) → IfErr result (IsKeysCause script name.now (F.told shelf.old) (F.asked shelf.new) (F.faults shelf.old) (F.faults shelf.new)) }
 {
     let text = match read_whole(alloc, shelf, name) {
         Ok(text) => text,
@@ -69,7 +67,7 @@ pub fn keys_of<'a, F: Shelf>(
     };
     match read_keys(alloc, schema, text.as_slice()) {
         Ok(keys) => Ok(keys),
-        Err(FormError::Bad { .. }) => Err(Fault::BadKeys),
+        Err(FormError::Bad { line, reason }) => Err(Fault::BadKeys { line, reason }),
         Err(FormError::Memory) => Err(Fault::Memory),
     }
 }

@@ -5,11 +5,8 @@ mod command;
 mod delivery;
 mod fault;
 mod inputs;
-mod lookup;
-mod run;
 #[cfg(test)]
 mod tests;
-mod transaction;
 mod words;
 #[cfg(test)]
 mod worked;

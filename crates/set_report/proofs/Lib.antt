@@ -1,7 +1,9 @@
 mod PartLaws
 mod LineLaws
+mod Listings
 mod TwoParts
 mod DumpWorked
+mod ListLaws
 mod Leaves
 mod DumpRuns
 mod DumpBits

@@ -1,8 +1,110 @@
--- Sets as nft(8) lists them.
-use Rattle.std.specs.Prelude.{ℕ, List, []}
+-- Sets as nft(8) lists them, so that a script can be made of the text again.
+use Rattle.std.specs.Prelude.{ℕ, ◌-◌, Bool, true, false, ◌&&◌, not, nat_lt, if◌then◌else◌, List, [], ◌∷◌, ◌++◌, filter, Option, Some, None, codes, decimal, bytes_eq}
+use Rattle.std.specs.List.{zip, join_by}
+use Rattle.set_model.specs.declared.kind.Kind.{Kind}
+use Rattle.set_model.specs.declared.kind.Kind.TheVariants.{Ipv4, Ipv6, Ether, Proto, Service, Mark}
+use Rattle.set_model.specs.declared.kind.Interval.{Interval}
+use Rattle.set_model.specs.declared.element.Element.{Element}
 use Rattle.set_model.specs.declared.script.SetDecl.{SetDecl}
 use Rattle.set_model.specs.SetState.{State}
+use Rattle.set_model.specs.Text.{family_text}
+use Rattle.addr_text.specs.Written.{interval_text, time_text}
 
--- The declared sets with these states, listed at a moment.
+-- a kind by its name in nft(8)
+abbrev pub kind_text : Kind → List ℕ
+kind_text Ipv4 = codes "ipv4_addr"
+kind_text Ipv6 = codes "ipv6_addr"
+kind_text Ether = codes "ether_addr"
+kind_text Proto = codes "inet_proto"
+kind_text Service = codes "inet_service"
+kind_text Mark = codes "mark"
+
+-- Elements. The intervals, each of its field's kind, with ` . ` between them.
+abbrev pub parts_text : List Kind → List Interval → List ℕ
+parts_text kinds parts = join_by (λ p. interval_text p.0 p.1) (codes " . ") (zip kinds parts)
+
+-- a set gives its elements a life where they name none
+abbrev pub gives_life : SetDecl → Bool
+gives_life d = elim d.timeout [ Some t ↦ nat_lt 0 t | None ↦ false ]
+
+-- How long it is until the expiry, and no time where it has passed. An element that never expires, in a set that would
+-- give it a life, says so.
+abbrev pub expiry_text : SetDecl → ℕ → Option ℕ → List ℕ
+expiry_text d now (Some expiry) = codes " expires " ++ time_text (expiry - now)
+expiry_text d now None = if gives_life d then codes " timeout 0s" else []
+
+-- a comment in quotes, where there is one
+abbrev pub comment_text : List ℕ → List ℕ
+comment_text [] = []
+comment_text (byte ∷ bytes) = codes " comment \"" ++ (byte ∷ bytes) ++ codes "\""
+
+abbrev pub element_text : SetDecl → ℕ → Element → List ℕ
+element_text d now e = parts_text d.kinds e.parts ++ expiry_text d now e.expiry ++ comment_text e.comment
+
+-- The items of a set, each on a line of its own.
+abbrev pub item_line : List ℕ → List ℕ
+item_line item = codes "\t\t" ++ item ++ codes "\n"
+
+abbrev pub type_line : SetDecl → List ℕ
+type_line d = item_line (codes "type " ++ join_by kind_text (codes " . ") d.kinds)
+
+-- the greatest number of elements, where there is one
+abbrev pub size_line : Option ℕ → List ℕ
+size_line None = []
+size_line (Some n) = item_line (codes "size " ++ decimal n)
+
+abbrev pub flag_if : Bool → List ℕ → List (List ℕ)
+flag_if true word = word ∷ []
+flag_if false word = []
+
+-- the flags that a set has, in this order
+abbrev pub flag_words : SetDecl → List (List ℕ)
+flag_words d = flag_if d.interval (codes "interval") ++ flag_if d.timed (codes "timeout") ++ flag_if d.disjoint (codes "disjoint")
+
+-- the flags with `,` between them, where there are any
+abbrev pub flags_line : List (List ℕ) → List ℕ
+flags_line [] = []
+flags_line (word ∷ words) = item_line (codes "flags " ++ join_by (λ w. w) (codes ",") (word ∷ words))
+
+-- the life of elements that name none, where there is one
+abbrev pub timeout_line : Option ℕ → List ℕ
+timeout_line None = []
+timeout_line (Some t) = item_line (codes "timeout " ++ time_text t)
+
+-- the elements one below another, where there are any
+abbrev pub elements_line : SetDecl → ℕ → List Element → List ℕ
+elements_line d now [] = []
+elements_line d now (e ∷ es) = item_line (codes "elements = { " ++ join_by (element_text d now) (codes ",\n\t\t\t     ") (e ∷ es) ++ codes " }")
+
+-- the items of a set, in this order
+abbrev pub items_text : ℕ → SetDecl → State → List ℕ
+items_text now d s = type_line d ++ size_line d.size ++ flags_line (flag_words d) ++ timeout_line d.timeout ++ elements_line d now s.elements
+
+-- A set with its items.
+abbrev pub set_block : ℕ → SetDecl × State → List ℕ
+set_block now (d, s) = codes "\tset " ++ d.name ++ codes " {\n" ++ items_text now d s ++ codes "\t}\n"
+
+-- Two sets stand in one table: it is told from others by its family and its name.
+abbrev pub same_table : SetDecl → SetDecl → Bool
+same_table a b = bytes_eq (family_text a.family) (family_text b.family) && bytes_eq a.table b.table
+
+-- Of each table the set that was declared first.
+abbrev pub first_sets : List SetDecl → List SetDecl
+first_sets [] = []
+first_sets (d ∷ schema) = d ∷ filter (λ other. not (same_table d other)) (first_sets schema)
+
+-- the sets of a table, in the order of their declarations
+abbrev pub sets_beside : SetDecl → List (SetDecl × State) → List (SetDecl × State)
+sets_beside d sets = filter (λ p. same_table d p.0) sets
+
+-- The table of a set: its sets with a blank line between two of them.
+abbrev pub table_block : List (SetDecl × State) → ℕ → SetDecl → List ℕ
+table_block sets now d =
+    codes "table " ++ family_text d.family ++ codes " " ++ d.table ++ codes " {\n"
+    ++ join_by (set_block now) (codes "\n") (sets_beside d sets)
+    ++ codes "}\n"
+
+-- The declared sets with these states, listed at a moment: the tables in the order of their first declared sets, with a
+-- blank line between two of them.
 abbrev pub list_text : List SetDecl → List State → ℕ → List ℕ
-list_text schema sets now = []
+list_text schema sets now = join_by (table_block (zip schema sets) now) (codes "\n") (first_sets schema)

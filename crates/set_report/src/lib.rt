@@ -4,6 +4,7 @@
 mod dump;
 mod events;
 mod lines;
+mod list;
 mod piece;
 mod remarks;
 
@@ -11,6 +12,7 @@ pub use dump::write_dump;
 pub use events::write_events;
 pub use lines::write_lines;
 pub use remarks::write_remarks;
+pub use list::write_list;
 
 #[cfg(test)]
 mod tests;

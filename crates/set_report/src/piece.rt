@@ -1,8 +1,10 @@
 ghost use Rattle.std.specs.Prelude.{◌≡◌, ◌++◌, OnOk, OnErr, Some, decimal, flat_map};
 ghost use Rattle.set_model.specs.Text.{family_text, set_text};
+ghost use Rattle.addr_text.specs.Written.{time_text};
 ghost use Rattle.set_report.specs.Pieces.{piece_text};
 ghost use Rattle.set_report.specs.Writes.{AppendsPart};
 
+use addr_text::write_time;
 use itoa::Buffer;
 use set_model::{Family, Memory, SetDecl};
 
@@ -13,13 +15,15 @@ pub enum Piece<'a> {
     Word(&'a [u8]),
     /// A number in decimal.
     Number(u64),
+    /// A time in milliseconds, as `1h30m`.
+    Time(u64),
     /// A set: its family, its table's name and its own.
     Set(&'a SetDecl),
 }
 
 /// Appends bytes. After `Memory` a part of them from the front is appended.
 #[tactic(auto, using(crate::proofs::PartLaws::none_part))]
-fn append(bytes: &[u8], out: &mut Vec<u8>) -> Result<(), Memory>
+pub fn append(bytes: &[u8], out: &mut Vec<u8>) -> Result<(), Memory>
     ensures ok { OnOk result (out.new.items ≡ out.old.items ++ bytes.now) }
     ensures err { OnErr result (AppendsPart out.old.items out.new.items bytes.now) }
 {
@@ -35,7 +39,15 @@ fn append_number(n: u64, out: &mut Vec<u8>) -> Result<(), Memory>
     append(digits.format(n).as_bytes(), out)
 }
 
-fn family_word(family: Family) -> &'static [u8]
+#[tactic(auto, using(crate::proofs::PartLaws::none_part))]
+fn append_time(ms: u64, out: &mut Vec<u8>) -> Result<(), Memory>
+    ensures ok { OnOk result (out.new.items ≡ out.old.items ++ time_text ms) }
+    ensures err { OnErr result (AppendsPart out.old.items out.new.items (time_text ms)) }
+{
+    write_time(ms, out)
+}
+
+pub fn family_word(family: Family) -> &'static [u8]
     ensures { result.now ≡ family_text family }
 {
     match family {
@@ -93,6 +105,7 @@ fn append_piece(piece: &Piece, out: &mut Vec<u8>) -> Result<(), Memory>
     match *piece {
         Piece::Word(bytes) => append(bytes, out),
         Piece::Number(n) => append_number(n, out),
+        Piece::Time(ms) => append_time(ms, out),
         Piece::Set(set) => append_set(set, out),
     }
 }

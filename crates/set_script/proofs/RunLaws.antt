@@ -1,9 +1,9 @@
--- A text stands for scripts that can be run, and are one transaction.
-use Rattle.std.proofs.Common.{◌≡◌, refl, sym, ◌∙◌, ap, subst, ℕ, zero, suc, ◌+◌, ◌≤◌, ◌<◌, List, [], ◌∷◌, ◌++◌, length, map, Bool, true, false, ◌&&◌, Option, Some, None, option_map, slice_get, nat_lt, nat_le, arith, length-append, append_assoc, append-nil, sum_by, ◌==◌, ◌⊎◌, inl, inr}
+-- A text stands for scripts that can be run.
+use Rattle.std.proofs.Common.{◌≡◌, refl, sym, ◌∙◌, ap, subst, ℕ, zero, suc, ◌+◌, ◌≤◌, ◌<◌, List, [], ◌∷◌, ◌++◌, length, map, Bool, true, false, ◌&&◌, cond, Option, Some, None, option_map, slice_get, nat_lt, nat_le, arith, length-append, append_assoc, append-nil, sum_by, ◌==◌}
 use Rattle.std.specs.List.{All, position_or_len}
 use Rattle.std.proofs.lemmas.Bool.{ltb-true, eq-eqb}
 use Rattle.std.proofs.lemmas.List.{length-map}
-use Rattle.std.proofs.lemmas.List.Elements.{All-nil, All-cons, All-push}
+use Rattle.std.proofs.lemmas.List.Elements.{All-nil, All-push}
 use Rattle.std.proofs.lemmas.Option.{slice_get-map, cond_some}
 use Rattle.set_model.specs.declared.kind.Kind.{Kind}
 use Rattle.set_model.specs.declared.kind.Interval.{Interval}
@@ -17,7 +17,7 @@ use Rattle.set_model.specs.declared.script.Script.{Script}
 use Rattle.set_model.specs.Key.{intervals_fit}
 use Rattle.addr_text.proofs.IntervalLaws.{IsInterval-good}
 use Rattle.token_forms.specs.Token.{Lexeme}
-use Rattle.token_forms.specs.Words.{is_name, separates}
+use Rattle.token_forms.specs.Words.{separates, word_value}
 use Rattle.token_forms.proofs.KeepLaws.{many_keeps, lines_keep, word_given}
 use Rattle.token_forms.proofs.WordLaws.{both}
 use Rattle.set_script.specs.declared.draft.Draft.{Draft}
@@ -30,12 +30,14 @@ use Rattle.set_script.specs.declared.words.FirstWord.{FirstWord}
 use Rattle.set_script.specs.declared.words.FirstWord.TheVariants as firsts
 use Rattle.set_script.specs.declared.words.AddWord.{AddWord}
 use Rattle.set_script.specs.declared.words.AddWord.TheVariants as adds
+use Rattle.set_script.specs.declared.words.FlushWord.{FlushWord}
+use Rattle.set_script.specs.declared.words.FlushWord.TheVariants as flushes
 use Rattle.set_script.specs.declared.words.ItemWord.{ItemWord}
 use Rattle.set_script.specs.declared.words.ItemWord.TheVariants as items
 use Rattle.set_script.specs.Values.{IsPart}
 use Rattle.set_script.specs.Limits.{most_sets}
-use Rattle.set_script.specs.Names.{is_set, set_place, new_name, kind_of, kind_behind, has_room, key_bytes}
-use Rattle.set_script.specs.Changes.{empty, declaration, declared, with_flag, change, committed}
+use Rattle.set_script.specs.Names.{is_set, set_place, may_declare, new_name, kind_of, kind_behind, has_room, key_bytes}
+use Rattle.set_script.specs.Changes.{empty, declaration, declared, with_flag, change, is_open, committed, ended}
 use Rattle.set_script.specs.Script as form
 use Rattle.set_script.specs.ScriptText.{IsScriptText}
 use Rattle.set_model.specs.Runnable.{HasFields, IsRunnableStep, IsRunnable}
@@ -63,19 +65,15 @@ all_are wide (kind ∷ ks) ts p (first, x, y, e, (t, et, given), (parts, x2, y2,
     let same : first.1 ∷ k.0 ≡ p.1 = sym k.1 ∙ ap (λ (q : ℕ × List Interval). q.1) h.1 in
     subst (λ (z : List Interval). AreParts (kind ∷ ks) z) same (one_more wide kind ks t.bytes first.1 k.0 given.2 k.2)
 
--- A change or a flush of one of the sets of these kinds.
+-- A step of sets of these kinds: a change or a flush is of one of them.
 IsOf : List (List Kind) → Step → Type 0
 IsOf sets (Change line set verb parts expiry comment now) = (ks : List Kind) × (slice_get sets set ≡ Some ks) × AreParts ks parts
 IsOf sets (Flush line set now) = (ks : List Kind) × (slice_get sets set ≡ Some ks)
-IsOf sets (Commit now) = ⊥
-IsOf sets Abort = ⊥
+IsOf sets (Commit now) = Unit {0}
+IsOf sets Abort = Unit {0}
 
-record IsRunChange (sets : List (List Kind)) (s : Step) : Type 0 where
-  of : IsOf sets s
-  change : IsChange s
-
-abbrev AreChanges : List (List Kind) → List Step → Type 0
-AreChanges sets steps = All (IsRunChange sets) steps
+abbrev AreOf : List (List Kind) → List Step → Type 0
+AreOf sets steps = All (IsOf sets) steps
 
 -- what is declared stays
 still_there : {A : Type 0} (xs : List A) (y : A) (i : ℕ) (x : A) → slice_get xs i ≡ Some x → slice_get (xs ++ y ∷ []) i ≡ Some x
@@ -87,40 +85,37 @@ last_there : {A : Type 0} (xs : List A) (y : A) → slice_get (xs ++ y ∷ []) (
 last_there [] y = refl
 last_there (a ∷ xs) y = last_there xs y
 
-changes_stay : (sets : List (List Kind)) (ks : List Kind) (steps : List Step) → AreChanges sets steps → AreChanges (sets ++ ks ∷ []) steps
+step_stays : (sets : List (List Kind)) (ks : List Kind) (s : Step) → IsOf sets s → IsOf (sets ++ ks ∷ []) s
 unfolding IsOf
-changes_stay sets ks steps all = λ i d lt. stay _ (all i d lt) where
-  of_more : (s : Step) → IsOf sets s → IsOf (sets ++ ks ∷ []) s
-  of_more (Change line set verb parts expiry comment now) k = (k.0, still_there sets ks set k.0 k.1, k.2)
-  of_more (Flush line set now) k = (k.0, still_there sets ks set k.0 k.1)
-  of_more (Commit now) k = absurd k
-  of_more Abort k = absurd k
+step_stays sets ks (Change line set verb parts expiry comment now) k = (k.0, still_there sets ks set k.0 k.1, k.2)
+step_stays sets ks (Flush line set now) k = (k.0, still_there sets ks set k.0 k.1)
+step_stays sets ks (Commit now) k = tt
+step_stays sets ks Abort k = tt
 
-  stay : (s : Step) → IsRunChange sets s → IsRunChange (sets ++ ks ∷ []) s
-  stay s k = record { of = of_more s k.of; change = k.change }
+steps_stay : (sets : List (List Kind)) (ks : List Kind) (steps : List Step) → AreOf sets steps → AreOf (sets ++ ks ∷ []) steps
+steps_stay sets ks steps all = λ i d lt. step_stays sets ks _ (all i d lt)
 
--- an addition or a deletion
-abbrev IsVerb : Verb → Type 0
-IsVerb verb = (verb ≡ verbs.Add) ⊎ (verb ≡ verbs.Delete)
+sections_stay : (sets : List (List Kind)) (ks : List Kind) (sections : List (List Step)) → All (AreOf sets) sections → All (AreOf (sets ++ ks ∷ [])) sections
+sections_stay sets ks sections all = λ i d lt. steps_stay sets ks _ (all i d lt)
 
 -- lists
-module _ (sets : List (List Kind)) (target : Target) (s : SetDecl) (at : slice_get sets target.set ≡ Some s.kinds) (verb : IsVerb target.verb) where
-  made : (line : ℕ) (parts : List Interval) (o : Options) → AreParts s.kinds parts → IsRunChange sets (change target s line parts o)
+module _ (sets : List (List Kind)) (target : Target) (s : SetDecl) (at : slice_get sets target.set ≡ Some s.kinds) where
+  made : (line : ℕ) (parts : List Interval) (o : Options) → AreParts s.kinds parts → IsOf sets (change target s line parts o)
   unfolding IsOf
-  made line parts o k = record { of = (s.kinds, at, k); change = verb }
+  made line parts o k = (s.kinds, at, k)
 
-  element_keeps : (before behind : List Step) (x : List Lexeme) → AreChanges sets before → (form.element target s before).whole x behind → AreChanges sets behind
+  element_keeps : (before behind : List Step) (x : List Lexeme) → AreOf sets before → (form.element target s before).whole x behind → AreOf sets behind
   element_keeps before behind x k (p, x1, y1, e1, w1, (o, x2, y2, e2, w2, h)) =
-      subst (AreChanges sets) h.1 (All-push (IsRunChange sets) before (change target s p.0 p.1 o) k (made p.0 p.1 o (all_are s.interval s.kinds x1 p w1)))
+      subst (AreOf sets) h.1 (All-push (IsOf sets) before (change target s p.0 p.1 o) k (made p.0 p.1 o (all_are s.interval s.kinds x1 p w1)))
 
-  list_item_keeps : (before : List Step) (b : Bool) (behind : List Step × Bool) (x : List Lexeme) → AreChanges sets before → (form.list_item target s (before, b)).whole x behind → AreChanges sets behind.0
-  list_item_keeps before true behind x k (steps, x1, y1, e1, w1, h) = subst (λ (r : List Step × Bool). AreChanges sets r.0) h.1 (element_keeps before steps x1 k w1)
-  list_item_keeps before false behind x k (u1, x1, y1, e1, w1, (u2, x2, y2, e2, w2, h)) = subst (λ (r : List Step × Bool). AreChanges sets r.0) h.1 k
+  list_item_keeps : (before : List Step) (b : Bool) (behind : List Step × Bool) (x : List Lexeme) → AreOf sets before → (form.list_item target s (before, b)).whole x behind → AreOf sets behind.0
+  list_item_keeps before true behind x k (steps, x1, y1, e1, w1, h) = subst (λ (r : List Step × Bool). AreOf sets r.0) h.1 (element_keeps before steps x1 k w1)
+  list_item_keeps before false behind x k (u1, x1, y1, e1, w1, (u2, x2, y2, e2, w2, h)) = subst (λ (r : List Step × Bool). AreOf sets r.0) h.1 k
 
-  list_keeps : (before behind : List Step) (x : List Lexeme) → AreChanges sets before → (form.list target s before).whole x behind → AreChanges sets behind
+  list_keeps : (before behind : List Step) (x : List Lexeme) → AreOf sets before → (form.list target s before).whole x behind → AreOf sets behind
   list_keeps before behind x k (u1, x1, y1, e1, w1, (u2, x2, y2, e2, w2, (r, x3, y3, e3, w3, (u4, x4, y4, e4, w4, h)))) =
-      subst (AreChanges sets) h.1
-      (many_keeps (form.list_item target s) (λ (r : List Step × Bool). AreChanges sets r.0) (λ r r1 x k w. list_item_keeps r.0 r.1 r1 x k w) r (before, true) x3 k w3)
+      subst (AreOf sets) h.1
+      (many_keeps (form.list_item target s) (λ (r : List Step × Bool). AreOf sets r.0) (λ r r1 x k w. list_item_keeps r.0 r.1 r1 x k w) r (before, true) x3 k w3)
 
 -- kinds
 record AreKinds (ks : List Kind) : Type 0 where
@@ -151,14 +146,13 @@ kinds_append (a ∷ schema) s = ap (λ z. a.kinds ∷ z) (kinds_append schema s)
 -- a set that is being declared behind these, with its changes
 record Declares (schema : List SetDecl) (ks : List Kind) (s : Declaration × List Step) : Type 0 where
   place : s.0.target.set ≡ length schema
-  adds : s.0.target.verb ≡ verbs.Add
   kinds : s.0.decl.kinds ≡ ks
   not_disjoint : s.0.decl.disjoint ≡ false
-  steps : AreChanges (kinds_of schema ++ ks ∷ []) s.1
+  steps : AreOf (kinds_of schema ++ ks ∷ []) s.1
 
 flag_keeps : (schema : List SetDecl) (ks : List Kind) (steps : List Step) (b : Declaration) (f : Flag) → Declares schema ks (b, steps) → Declares schema ks (with_flag b f, steps)
-flag_keeps schema ks steps b flags.Interval k = record { place = k.place; adds = k.adds; kinds = k.kinds; not_disjoint = k.not_disjoint; steps = k.steps }
-flag_keeps schema ks steps b flags.Timeout k = record { place = k.place; adds = k.adds; kinds = k.kinds; not_disjoint = k.not_disjoint; steps = k.steps }
+flag_keeps schema ks steps b flags.Interval k = record { place = k.place; kinds = k.kinds; not_disjoint = k.not_disjoint; steps = k.steps }
+flag_keeps schema ks steps b flags.Timeout k = record { place = k.place; kinds = k.kinds; not_disjoint = k.not_disjoint; steps = k.steps }
 
 one_flag_keeps : (schema : List SetDecl) (ks : List Kind) (steps : List Step) (b b1 : Declaration) (x : List Lexeme) → Declares schema ks (b, steps) → (form.flag b).whole x b1 → Declares schema ks (b1, steps)
 one_flag_keeps schema ks steps b b1 x k (f, x1, y1, e1, w1, h) = subst (λ (c : Declaration). Declares schema ks (c, steps)) h.1 (flag_keeps schema ks steps b f k)
@@ -172,14 +166,16 @@ item_keeps schema ks (b, steps) s1 x k (w, x1, y1, e1, w1, behind) = go w behind
   go items.Flags (b1, x2, y2, e2, w2, (b2, x3, y3, e3, w3, h)) =
       subst (Declares schema ks) h.1
       (many_keeps form.more_flags (λ (c : Declaration). Declares schema ks (c, steps)) (λ c c1 x k w. one_flag_keeps schema ks steps c c1 w.2 k w.5) b2 b1 x3 (one_flag_keeps schema ks steps b b1 x2 k w2) w3)
-  go items.Timeout (t, x2, y2, e2, w2, h) = subst (Declares schema ks) h.1 (record { place = k.place; adds = k.adds; kinds = k.kinds; not_disjoint = k.not_disjoint; steps = k.steps })
-  go items.Size (n, x2, y2, e2, w2, h) = subst (Declares schema ks) h.1 (record { place = k.place; adds = k.adds; kinds = k.kinds; not_disjoint = k.not_disjoint; steps = k.steps })
+  go items.Timeout (t, x2, y2, e2, w2, h) = subst (Declares schema ks) h.1 (record { place = k.place; kinds = k.kinds; not_disjoint = k.not_disjoint; steps = k.steps })
+  go items.Size (n, x2, y2, e2, w2, h) = subst (Declares schema ks) h.1 (record { place = k.place; kinds = k.kinds; not_disjoint = k.not_disjoint; steps = k.steps })
+  go items.GcInterval (t, x2, y2, e2, w2, h) = subst (Declares schema ks) h.1 (record { place = k.place; kinds = k.kinds; not_disjoint = k.not_disjoint; steps = k.steps })
+  go items.Policy (u, x2, y2, e2, w2, h) = subst (Declares schema ks) h.1 (record { place = k.place; kinds = k.kinds; not_disjoint = k.not_disjoint; steps = k.steps })
+  go items.Comment (c, x2, y2, e2, w2, h) = subst (Declares schema ks) h.1 (record { place = k.place; kinds = k.kinds; not_disjoint = k.not_disjoint; steps = k.steps })
   go items.Elements (u, x2, y2, e2, w2, (after, x3, y3, e3, w3, h)) = subst (Declares schema ks) h.1 (record {
     place = k.place;
-    adds = k.adds;
     kinds = k.kinds;
     not_disjoint = k.not_disjoint;
-    steps = list_keeps (kinds_of schema ++ ks ∷ []) b.target b.decl at (inl k.adds) steps after x3 k.steps w3;
+    steps = list_keeps (kinds_of schema ++ ks ∷ []) b.target b.decl at steps after x3 k.steps w3;
   })
 
 abbrev IsNotDisjoint : SetDecl → Type 0
@@ -187,53 +183,63 @@ IsNotDisjoint s = s.disjoint ≡ false
 
 -- what every statement keeps
 record IsRunDraft (d : Draft) : Type 0 where
-  steps : AreChanges (kinds_of d.schema) d.steps
+  steps : AreOf (kinds_of d.schema) d.steps
+  sections : All (AreOf (kinds_of d.schema)) d.sections
   fields : All HasFields d.schema
   not_disjoint : All IsNotDisjoint d.schema
-  one_set : length d.schema ≤ most_sets
+  few_sets : length d.schema ≤ most_sets
 
-room_for_set : (d : Draft) (text n : List ℕ) → new_name d text ≡ Some n → length d.schema < most_sets
-room_for_set d text n h = ltb-true (length d.schema) most_sets ((both (is_name text) (nat_lt (length d.schema) most_sets) ((cond_some (is_name text && nat_lt (length d.schema) most_sets) text n h).0)).1)
+-- A new name stands where one more set may be declared.
+room_for_set : (d : Draft) (p : Family × List ℕ) (t : Lexeme) (n : List ℕ) → word_value (λ t. new_name d p.0 p.1 t.bytes) t ≡ Some n → length d.schema < most_sets
+room_for_set d p t n h =
+    let given = word_given (λ t. new_name d p.0 p.1 t.bytes) t n h in
+    let may = (cond_some (may_declare d p.0 p.1 t.bytes) t.bytes n given).0 in
+    ltb-true (length d.schema) most_sets (both _ _ (both _ _ may).0).1
 
 with_set : (d : Draft) (ks : List Kind) (s : Declaration × List Step) → IsRunDraft d → AreKinds ks → length d.schema < most_sets → Declares d.schema ks s → IsRunDraft (declared s.0 s.1 d)
-with_set d ks s k are room made = record {
-  steps = subst (λ z. AreChanges z s.1) (ap (λ z. kinds_of d.schema ++ z ∷ []) (sym made.kinds) ∙ sym (kinds_append d.schema s.0.decl)) made.steps;
-  fields = All-push HasFields d.schema s.0.decl k.fields (record { some = subst (λ (z : List Kind). 0 < length z) (sym made.kinds) are.some; few = subst (λ (z : List Kind). length z ≤ 16) (sym made.kinds) are.few });
-  not_disjoint = All-push IsNotDisjoint d.schema s.0.decl k.not_disjoint made.not_disjoint;
-  one_set = let l = length-append d.schema (s.0.decl ∷ []) in omega arith;
-}
+with_set d ks s k are room made =
+    let same : kinds_of d.schema ++ ks ∷ [] ≡ kinds_of (d.schema ++ s.0.decl ∷ []) = ap (λ z. kinds_of d.schema ++ z ∷ []) (sym made.kinds) ∙ sym (kinds_append d.schema s.0.decl) in
+    record {
+      steps = subst (λ z. AreOf z s.1) same made.steps;
+      sections = subst (λ z. All (AreOf z) d.sections) same (sections_stay (kinds_of d.schema) ks d.sections k.sections);
+      fields = All-push HasFields d.schema s.0.decl k.fields (record { some = subst (λ (z : List Kind). 0 < length z) (sym made.kinds) are.some; few = subst (λ (z : List Kind). length z ≤ 16) (sym made.kinds) are.few });
+      not_disjoint = All-push IsNotDisjoint d.schema s.0.decl k.not_disjoint made.not_disjoint;
+      few_sets = let l = length-append d.schema (s.0.decl ∷ []) in omega arith;
+    }
 
 set_body_keeps : (p : Family × List ℕ) (n : List ℕ) (d d1 : Draft) (x : List Lexeme) → IsRunDraft d → length d.schema < most_sets → (form.set_body d p n).whole x d1 → IsRunDraft d1
 set_body_keeps p n d d1 x k room (u1, x1, y1, e1, w1, (u2, x2, y2, e2, w2, (ks, x3, y3, e3, w3, (s, x4, y4, e4, (r, x5, y5, e5, w5, h5), (u6, x6, y6, e6, w6, h))))) =
     let begun : Declares d.schema ks (declaration d p.0 p.1 n ks, d.steps) = record {
       place = refl;
-      adds = refl;
       kinds = refl;
       not_disjoint = refl;
-      steps = changes_stay (kinds_of d.schema) ks d.steps k.steps;
+      steps = steps_stay (kinds_of d.schema) ks d.steps k.steps;
     } in
     let made : Declares d.schema ks r.0 = lines_keep separates form.item (Declares d.schema ks) (item_keeps d.schema ks) ((declaration d p.0 p.1 n ks, d.steps), false) r x5 begun w5 in
     subst IsRunDraft h.1 (with_set d ks s k (type_kinds x3 ks w3) room (subst (Declares d.schema ks) h5.1 made))
 
 set_block_keeps : (p : Family × List ℕ) (d d1 : Draft) (x : List Lexeme) → IsRunDraft d → (form.set_block p d).whole x d1 → IsRunDraft d1
-set_block_keeps p d d1 x k (u1, x1, y1, e1, w1, (n, x2, y2, e2, (t, et, given), w3)) =
-    set_body_keeps p n d d1 y2 k (room_for_set d t.bytes n (word_given (λ t. new_name d t.bytes) t n given)) w3
+set_block_keeps p d d1 x k (u1, x1, y1, e1, w1, (n, x2, y2, e2, (t, et, given), w3)) = set_body_keeps p n d d1 y2 k (room_for_set d p t n given) w3
 
 kinds_at : (schema : List SetDecl) (i : ℕ) (s : SetDecl) → slice_get schema i ≡ Some s → slice_get (kinds_of schema) i ≡ Some s.kinds
 kinds_at schema i s e = slice_get-map (λ (s : SetDecl). s.kinds) schema i ∙ ap (option_map (λ (s : SetDecl). s.kinds)) e
 
-list_of_keeps : (sets : List (List Kind)) (target : Target) (s : Option SetDecl) → ((decl : SetDecl) → s ≡ Some decl → slice_get sets target.set ≡ Some decl.kinds) → IsVerb target.verb
-    → (before behind : List Step) (x : List Lexeme) → AreChanges sets before → (form.list_of target s before).whole x behind → AreChanges sets behind
-list_of_keeps sets target None at verb before behind x k w = absurd w
-list_of_keeps sets target (Some s) at verb before behind x k w = list_keeps sets target s (at s refl) verb before behind x k w
+list_of_keeps : (sets : List (List Kind)) (target : Target) (s : Option SetDecl) → ((decl : SetDecl) → s ≡ Some decl → slice_get sets target.set ≡ Some decl.kinds)
+    → (before behind : List Step) (x : List Lexeme) → AreOf sets before → (form.list_of target s before).whole x behind → AreOf sets behind
+list_of_keeps sets target None at before behind x k w = absurd w
+list_of_keeps sets target (Some s) at before behind x k w = list_keeps sets target s (at s refl) before behind x k w
 
-changes_keep : (d d1 : Draft) (verb : Verb) (x : List Lexeme) → IsRunDraft d → IsVerb verb → (form.changes d verb).whole x d1 → IsRunDraft d1
-changes_keep d d1 verb x k is (p, x1, y1, e1, w1, (i, x2, y2, e2, w2, (behind, x3, y3, e3, w3, h))) = subst IsRunDraft h.1 (record {
-  steps = list_of_keeps (kinds_of d.schema) (record { set = i; verb = verb; now = d.moment }) (slice_get d.schema i) (λ decl e. kinds_at d.schema i decl e) is d.steps behind x3 k.steps w3;
-  fields = k.fields;
-  not_disjoint = k.not_disjoint;
-  one_set = k.one_set;
-})
+-- steps of declared sets in place of others
+with_others : (d : Draft) (steps : List Step) → IsRunDraft d → AreOf (kinds_of d.schema) steps → IsRunDraft (record d { steps = steps })
+with_others d steps k of = record { steps = of; sections = k.sections; fields = k.fields; not_disjoint = k.not_disjoint; few_sets = k.few_sets }
+
+changes_keep : (d d1 : Draft) (verb : Verb) (x : List Lexeme) → IsRunDraft d → (form.changes d verb).whole x d1 → IsRunDraft d1
+changes_keep d d1 verb x k (p, x1, y1, e1, w1, (i, x2, y2, e2, w2, (behind, x3, y3, e3, w3, h))) =
+    subst IsRunDraft h.1
+    (with_others d behind k (list_of_keeps (kinds_of d.schema) (record { set = i; verb = verb; now = d.moment }) (slice_get d.schema i) (λ decl e. kinds_at d.schema i decl e) d.steps behind x3 k.steps w3))
+
+element_changes_keep : (d d1 : Draft) (verb : Verb) (x : List Lexeme) → IsRunDraft d → (form.element_changes d verb).whole x d1 → IsRunDraft d1
+element_changes_keep d d1 verb x k (u, x1, y1, e1, w1, after) = changes_keep d d1 verb y1 k after
 
 -- a set that is used is declared
 used_there : (schema : List SetDecl) (family : Family) (table text : List ℕ) (i : ℕ) → set_place schema family table text ≡ Some i → (s : SetDecl) × (slice_get schema i ≡ Some s)
@@ -245,37 +251,78 @@ used_there schema family table text i h =
       inside (s ∷ schema) zero lt = (s, refl)
       inside (s ∷ schema) (suc i) lt = inside schema i (omega (arith, lt))
 
-flush_keeps : (line : ℕ) (d d1 : Draft) (x : List Lexeme) → IsRunDraft d → (form.flush_behind line d).whole x d1 → IsRunDraft d1
+flush_keeps : (line : ℕ) (d d1 : Draft) (w : FlushWord) (x : List Lexeme) → IsRunDraft d → (form.flush_behind line d w).whole x d1 → IsRunDraft d1
 unfolding IsOf
-flush_keeps line d d1 x k (u1, x1, y1, e1, w1, (p, x2, y2, e2, w2, (i, x3, y3, e3, (t, et, given), h))) =
+flush_keeps line d d1 flushes.Set x k (p, x2, y2, e2, w2, (i, x3, y3, e3, (t, et, given), h)) =
     let s = used_there d.schema p.0 p.1 t.bytes i (word_given (λ t. set_place d.schema p.0 p.1 t.bytes) t i given) in
-    subst IsRunDraft h.1 (record {
-      steps = All-push (IsRunChange (kinds_of d.schema)) d.steps (Flush line i d.moment) k.steps (record { of = (s.0.kinds, kinds_at d.schema i s.0 s.1); change = tt });
-      fields = k.fields;
-      not_disjoint = k.not_disjoint;
-      one_set = k.one_set;
-    })
+    subst IsRunDraft h.1
+    (with_others d (d.steps ++ Flush line i d.moment ∷ []) k (All-push (IsOf (kinds_of d.schema)) d.steps (Flush line i d.moment) k.steps (s.0.kinds, kinds_at d.schema i s.0 s.1)))
+flush_keeps line d d1 flushes.Ruleset x k h = subst IsRunDraft h.1 k
 
 table_keeps : (d d1 : Draft) (x : List Lexeme) → IsRunDraft d → (form.table_block d).whole x d1 → IsRunDraft d1
 table_keeps d d1 x k (p, x1, y1, e1, w1, (u2, x2, y2, e2, w2, (d2, x3, y3, e3, (r, x4, y4, e4, w4, h4), (u5, x5, y5, e5, w5, h)))) =
     subst IsRunDraft (h4.1 ∙ h.1) (lines_keep separates (form.set_block p) IsRunDraft (set_block_keeps p) (d, true) r x4 k w4)
 
-statement_keeps : (d d1 : Draft) (x : List Lexeme) → IsRunDraft d → (form.statement d).whole x d1 → IsRunDraft d1
-statement_keeps d d1 x k (word, x1, y1, e1, w1, behind) = go word.1 behind where
-  add : (w : AddWord) (y : List Lexeme) → (form.add_behind d w).whole y d1 → IsRunDraft d1
-  add adds.Set y (p, x3, y3, e3, w3, (n, x4, y4, e4, (t4, et4, given4), w5)) =
-      set_body_keeps p n d d1 y4 k (room_for_set d t4.bytes n (word_given (λ t. new_name d t.bytes) t4 n given4)) w5
-  add adds.Element y w = changes_keep d d1 verbs.Add y k (inl refl) w
+add_keeps : (d d1 : Draft) (w : AddWord) (x : List Lexeme) → IsRunDraft d → (form.add_behind d w).whole x d1 → IsRunDraft d1
+add_keeps d d1 adds.Table x k (p, x1, y1, e1, w1, h) = subst IsRunDraft h.1 k
+add_keeps d d1 adds.Set x k (p, x1, y1, e1, w1, (n, x2, y2, e2, (t, et, given), w3)) = set_body_keeps p n d d1 y2 k (room_for_set d p t n given) w3
+add_keeps d d1 adds.Element x k w = changes_keep d d1 verbs.Add x k w
 
-  go : (w : FirstWord) → (form.statement_behind word.0 d w).whole y1 d1 → IsRunDraft d1
-  go firsts.Add (w, x2, y2, e2, w2, after) = add w y2 after
-  go firsts.Table after = table_keeps d d1 y1 k after
-  go firsts.Delete (u, x2, y2, e2, w2, after) = changes_keep d d1 verbs.Delete y2 k (inr refl) after
-  go firsts.Flush after = flush_keeps word.0 d d1 y1 k after
-  go firsts.At (n, x2, y2, e2, w2, h) = subst IsRunDraft h.1 (record { steps = k.steps; fields = k.fields; not_disjoint = k.not_disjoint; one_set = k.one_set })
+-- the end of a section
+ended_keeps : (sets : List (List Kind)) (now : ℕ) (steps : List Step) → AreOf sets steps → AreOf sets (committed now steps)
+unfolding IsOf
+ended_keeps sets now steps k = go (is_open steps) where
+  go : (b : Bool) → AreOf sets (cond b (steps ++ Commit now ∷ []) steps)
+  go true = All-push (IsOf sets) steps (Commit now) k tt
+  go false = k
+
+ended_sections : (d : Draft) → IsRunDraft d → All (AreOf (kinds_of d.schema)) (ended d)
+ended_sections d k = All-push (AreOf (kinds_of d.schema)) d.sections (committed d.moment d.steps) k.sections (ended_keeps (kinds_of d.schema) d.moment d.steps k.steps)
+
+behind_keeps : (line : ℕ) (d d1 : Draft) (w : FirstWord) (x : List Lexeme) → IsRunDraft d → (form.statement_behind line d w).whole x d1 → IsRunDraft d1
+unfolding IsOf
+behind_keeps line d d1 firsts.Add x k (w, x1, y1, e1, w1, after) = add_keeps d d1 w y1 k after
+behind_keeps line d d1 firsts.Table x k after = table_keeps d d1 x k after
+behind_keeps line d d1 firsts.Create x k after = element_changes_keep d d1 verbs.Create x k after
+behind_keeps line d d1 firsts.Delete x k after = element_changes_keep d d1 verbs.Delete x k after
+behind_keeps line d d1 firsts.Destroy x k after = element_changes_keep d d1 verbs.Destroy x k after
+behind_keeps line d d1 firsts.Flush x k (w, x1, y1, e1, w1, after) = flush_keeps line d d1 w y1 k after
+behind_keeps line d d1 firsts.At x k (n, x1, y1, e1, w1, h) = subst IsRunDraft h.1 (record { steps = k.steps; sections = k.sections; fields = k.fields; not_disjoint = k.not_disjoint; few_sets = k.few_sets })
+behind_keeps line d d1 firsts.Commit x k h = subst IsRunDraft h.1 (record {
+  steps = All-push (IsOf (kinds_of d.schema)) d.steps (Commit d.moment) k.steps tt;
+  sections = k.sections;
+  fields = k.fields;
+  not_disjoint = k.not_disjoint;
+  few_sets = k.few_sets;
+})
+behind_keeps line d d1 firsts.Abort x k h = subst IsRunDraft h.1 (record {
+  steps = All-push (IsOf (kinds_of d.schema)) d.steps Abort k.steps tt;
+  sections = k.sections;
+  fields = k.fields;
+  not_disjoint = k.not_disjoint;
+  few_sets = k.few_sets;
+})
+behind_keeps line d d1 firsts.Round x k h = subst IsRunDraft h.1 (record {
+  steps = All-nil (IsOf (kinds_of d.schema));
+  sections = ended_sections d k;
+  fields = k.fields;
+  not_disjoint = k.not_disjoint;
+  few_sets = k.few_sets;
+})
+
+statement_keeps : (d d1 : Draft) (x : List Lexeme) → IsRunDraft d → (form.statement d).whole x d1 → IsRunDraft d1
+statement_keeps d d1 x k (word, x1, y1, e1, w1, (d2, x2, y2, e2, w2, h)) =
+    let then = behind_keeps word.0 d d2 word.1 x2 k w2 in
+    subst IsRunDraft h.1 (record { steps = then.steps; sections = then.sections; fields = then.fields; not_disjoint = then.not_disjoint; few_sets = then.few_sets })
 
 empty_runs : IsRunDraft empty
-empty_runs = record { steps = All-nil (IsRunChange []); fields = All-nil HasFields; not_disjoint = All-nil IsNotDisjoint; one_set = omega arith }
+empty_runs = record {
+  steps = All-nil (IsOf []);
+  sections = All-nil (AreOf []);
+  fields = All-nil HasFields;
+  not_disjoint = All-nil IsNotDisjoint;
+  few_sets = omega arith;
+}
 
 -- a set among the declared ones, by its kinds
 set_of_kinds : (schema : List SetDecl) (i : ℕ) (ks : List Kind) → slice_get (kinds_of schema) i ≡ Some ks → (s : SetDecl) × (slice_get schema i ≡ Some s) × (s.kinds ≡ ks)
@@ -293,22 +340,14 @@ runs schema (Change line set verb parts expiry comment now) k =
     let found = set_of_kinds schema set k.0 k.1 in
     (found.0, found.1, fits_set found.0.kinds parts (subst (λ (z : List Kind). AreParts z parts) (sym found.2) k.2))
 runs schema (Flush line set now) k = let found = set_of_kinds schema set k.0 k.1 in (found.0, found.1)
-runs schema (Commit now) k = absurd k
-runs schema Abort k = absurd k
+runs schema (Commit now) k = tt
+runs schema Abort k = tt
 
-all_run : (schema : List SetDecl) (now : ℕ) (steps : List Step) → All (IsRunnableStep schema) steps → All (IsRunnableStep schema) (committed now steps)
-all_run schema now [] each = each
-all_run schema now (s ∷ ss) each = All-push (IsRunnableStep schema) (s ∷ ss) (Commit now) each tt
+all_run : (schema : List SetDecl) (sections : List (List Step)) → All (AreOf (kinds_of schema)) sections → All (All (IsRunnableStep schema)) sections
+all_run schema sections all = λ i s lt. λ j a le. runs schema _ (all i s lt j a le)
 
 pub script_is_read : (text : List ℕ) (s : Script) → IsScriptText text s → IsRunnable s
 unfolding IsScriptText
 script_is_read text s (read, x, y, e, (d, x1, y1, e1, w, h), (u, x2, y2, e2, w2, h2)) =
     let k = lines_keep separates form.statement IsRunDraft statement_keeps (empty, true) d x1 empty_runs w in
-    let one = k.one_set in
-    let runnable : All (IsRunnableStep d.0.schema) d.0.steps = λ i a lt. runs d.0.schema _ ((k.steps i a lt).of) in
-    subst IsRunnable (h.1 ∙ h2.1) (record {
-      sets = k.fields;
-      may_share = k.not_disjoint;
-      few_sets = omega arith;
-      steps = All-cons (All (IsRunnableStep d.0.schema)) (committed d.0.moment d.0.steps) [] (all_run d.0.schema d.0.moment d.0.steps runnable) (All-nil (All (IsRunnableStep d.0.schema)));
-    })
+    subst IsRunnable (h.1 ∙ h2.1) (record { sets = k.fields; may_share = k.not_disjoint; few_sets = k.few_sets; steps = all_run d.0.schema (ended d.0) (ended_sections d.0 k) })

@@ -34,6 +34,8 @@ use Rattle.set_script.specs.declared.words.FirstWord.{FirstWord}
 use Rattle.set_script.specs.declared.words.FirstWord.TheVariants as firsts
 use Rattle.set_script.specs.declared.words.AddWord.{AddWord}
 use Rattle.set_script.specs.declared.words.AddWord.TheVariants as adds
+use Rattle.set_script.specs.declared.words.FlushWord.{FlushWord}
+use Rattle.set_script.specs.declared.words.FlushWord.TheVariants as flushes
 use Rattle.set_script.specs.declared.words.ItemWord.{ItemWord}
 use Rattle.set_script.specs.declared.words.ItemWord.TheVariants as items
 use Rattle.set_script.specs.Values.{IsPart, IsLife}
@@ -60,8 +62,8 @@ table_place_begins = bind_begins name_reads (word_by_begins [] words.name_value)
 pub used_set_reads : (schema : List SetDecl) (p : Family × List ℕ) → Reads (form.used_set schema p) never (reading.used_set schema p)
 used_set_reads schema p = word_by_reads (reasons.Set ∷ []) _
 
-new_set_reads : (d : Draft) → Reads (form.new_set d) never (reading.new_set d)
-new_set_reads d = word_by_reads (reasons.Set ∷ []) _
+new_set_reads : (d : Draft) (p : Family × List ℕ) → Reads (form.new_set d p) never (reading.new_set d p)
+new_set_reads d p = word_by_reads (reasons.Set ∷ []) _
 
 -- elements
 part_reads : (wide : Bool) (kind : Kind) → Reads (form.part wide kind) never (reading.part wide kind)
@@ -297,6 +299,9 @@ item_behind_reads b steps items.Flags =
     bind_definite (flag_reads b) (λ b1. bind_done_same _ (many_reads starts_flag (λ _. never) (is_the_mark 44) form.more_flags reading.more_flags are_flags b1))
 item_behind_reads b steps items.Timeout = comma (bind_definite time_reads (λ t. done_reads _))
 item_behind_reads b steps items.Size = comma (bind_definite (word_is_reads (reasons.Number ∷ []) size_decides) (λ n. done_reads _))
+item_behind_reads b steps items.GcInterval = comma (bind_definite time_reads (λ _. done_reads _))
+item_behind_reads b steps items.Policy = comma (bind_definite (word_by_reads [] _) (λ _. done_reads _))
+item_behind_reads b steps items.Comment = comma (bind_definite text_reads (λ _. done_reads _))
 item_behind_reads b steps items.Elements = comma (bind_definite (mark_reads 61) (λ _. bind_definite (list_reads b.target b.decl steps) (λ behind. done_reads _)))
 
 item_reads : (b : Declaration) (steps : List Step) → Reads (form.item (b, steps)) (λ _. is_the_mark 44) (reading.item (b, steps))
@@ -359,7 +364,7 @@ set_body_reads d p n =
 
 set_block_reads : (p : Family × List ℕ) (d : Draft) → Reads (form.set_block p d) never (reading.set_block p d)
 unfolding reading.set_block
-set_block_reads p d = bind_definite (word_reads (codes "set")) (λ _. bind_definite (new_set_reads d) (λ n. set_body_reads d p n))
+set_block_reads p d = bind_definite (word_reads (codes "set")) (λ _. bind_definite (new_set_reads d p) (λ n. set_body_reads d p n))
 
 are_blocks : (p : Family × List ℕ) → AreStatements separates any_word any_word (λ _. never) (form.set_block p) (reading.set_block p)
 are_blocks p = record {
@@ -387,16 +392,18 @@ changes_reads d verb =
 
 add_behind_reads : (d : Draft) (w : AddWord) → Reads (form.add_behind d w) never (reading.add_behind d w)
 unfolding reading.add_behind
-add_behind_reads d adds.Set = bind_definite table_place_reads (λ p. bind_definite (new_set_reads d) (λ n. set_body_reads d p n))
+add_behind_reads d adds.Table = bind_definite table_place_reads (λ _. done_reads d)
+add_behind_reads d adds.Set = bind_definite table_place_reads (λ p. bind_definite (new_set_reads d p) (λ n. set_body_reads d p n))
 add_behind_reads d adds.Element = changes_reads d verbs.Add
 
-delete_behind_reads : (d : Draft) → Reads (form.delete_behind d) never (reading.delete_behind d)
-unfolding reading.delete_behind
-delete_behind_reads d = bind_definite (word_reads (codes "element")) (λ _. changes_reads d verbs.Delete)
+element_changes_reads : (d : Draft) (verb : Verb) → Reads (form.element_changes d verb) never (reading.element_changes d verb)
+unfolding reading.element_changes
+element_changes_reads d verb = bind_definite (word_reads (codes "element")) (λ _. changes_reads d verb)
 
-flush_behind_reads : (line : ℕ) (d : Draft) → Reads (form.flush_behind line d) never (reading.flush_behind line d)
+flush_behind_reads : (line : ℕ) (d : Draft) (w : FlushWord) → Reads (form.flush_behind line d w) never (reading.flush_behind line d w)
 unfolding reading.flush_behind
-flush_behind_reads line d = bind_definite (word_reads (codes "set")) (λ _. bind_definite table_place_reads (λ p. bind_definite (used_set_reads d.schema p) (λ i. done_reads _)))
+flush_behind_reads line d flushes.Set = bind_definite table_place_reads (λ p. bind_definite (used_set_reads d.schema p) (λ i. done_reads _))
+flush_behind_reads line d flushes.Ruleset = done_reads d
 
 table_block_reads : (d : Draft) → Reads (form.table_block d) never (reading.table_block d)
 unfolding reading.table_block
@@ -409,16 +416,21 @@ statement_behind_reads : (line : ℕ) (d : Draft) (w : FirstWord) → Reads (for
 unfolding reading.statement_behind
 statement_behind_reads line d firsts.Add = bind_definite (word_by_reads [] _) (λ w. add_behind_reads d w)
 statement_behind_reads line d firsts.Table = table_block_reads d
-statement_behind_reads line d firsts.Delete = delete_behind_reads d
-statement_behind_reads line d firsts.Flush = flush_behind_reads line d
+statement_behind_reads line d firsts.Create = element_changes_reads d verbs.Create
+statement_behind_reads line d firsts.Delete = element_changes_reads d verbs.Delete
+statement_behind_reads line d firsts.Destroy = element_changes_reads d verbs.Destroy
+statement_behind_reads line d firsts.Flush = bind_definite (word_by_reads [] _) (λ w. flush_behind_reads line d w)
 statement_behind_reads line d firsts.At = bind_definite (word_is_reads (reasons.Moment ∷ []) (moment_decides d.moment)) (λ n. done_reads _)
+statement_behind_reads line d firsts.Commit = done_reads _
+statement_behind_reads line d firsts.Abort = done_reads _
+statement_behind_reads line d firsts.Round = done_reads _
 
 first_word_reads : Reads form.first_word never reading.first_word
 first_word_reads = word_by_reads [] _
 
 statement_reads : (d : Draft) → Reads (form.statement d) never (reading.statement d)
 unfolding reading.statement
-statement_reads d = bind_definite first_word_reads (λ w. statement_behind_reads w.0 d w.1)
+statement_reads d = bind_definite first_word_reads (λ w. bind_definite (statement_behind_reads w.0 d w.1) (λ d1. done_reads _))
 
 are_statements : AreStatements separates any_word any_word (λ _. never) form.statement reading.statement
 are_statements = record {

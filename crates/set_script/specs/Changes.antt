@@ -1,5 +1,5 @@
--- What the statements of a script add to what has been read of it.
-use Rattle.std.specs.Prelude.{ℕ, ◌+◌, List, [], ◌∷◌, ◌++◌, length, Bool, true, false, nat_lt, Option, Some, None, cond}
+-- What the statements of a script, and the parts of them, add to what has been read of it.
+use Rattle.std.specs.Prelude.{ℕ, ◌+◌, ◌-◌, List, [], ◌∷◌, ◌++◌, length, Bool, true, false, nat_lt, Option, Some, None, slice_get, cond}
 use Rattle.set_model.specs.declared.kind.Kind.{Kind}
 use Rattle.set_model.specs.declared.kind.Interval.{Interval}
 use Rattle.set_model.specs.declared.script.Family.{Family}
@@ -16,8 +16,9 @@ use Rattle.set_script.specs.declared.draft.Options.{Options}
 use Rattle.set_script.specs.declared.words.Flag.{Flag}
 use Rattle.set_script.specs.declared.words.Flag.TheVariants as flags
 
+-- before the first statement
 abbrev pub empty : Draft
-empty = record { schema = []; steps = []; moment = 0 }
+empty = record { schema = []; sections = []; steps = []; moment = 0; begun = false; late = false }
 
 -- A set whose kinds have been read, behind the sets that are declared: it has no flag, no timeout and no size yet, and
 -- its item `elements` adds elements to it.
@@ -37,6 +38,9 @@ declaration d family table name kinds = record {
   };
   flags = false;
   timeout_flag = false;
+  gc_interval = false;
+  policy = false;
+  comment = false;
   elements = false;
 }
 
@@ -52,6 +56,16 @@ with_timeout b t = record b { decl = record b.decl { timed = true; timeout = Som
 -- the item `size`
 abbrev pub with_size : Declaration → ℕ → Declaration
 with_size b n = record b { decl = record b.decl { size = Some n } }
+
+-- the items `gc-interval`, `policy` and `comment`, which change nothing of the set
+abbrev pub with_gc_interval : Declaration → Declaration
+with_gc_interval b = record b { gc_interval = true }
+
+abbrev pub with_policy : Declaration → Declaration
+with_policy b = record b { policy = true }
+
+abbrev pub with_comment : Declaration → Declaration
+with_comment b = record b { comment = true }
 
 -- the item `elements`
 abbrev pub with_elements : Declaration → Declaration
@@ -92,9 +106,11 @@ change target s line parts o =
     (cond (adds target.verb) (comment_of o.comment) [])
     target.now
 
+-- the steps of the section, with those that a list adds
 abbrev pub with_steps : Draft → List Step → Draft
 with_steps d steps = record d { steps = steps }
 
+-- a flush, whose first word stands in this line
 abbrev pub flush : Draft → ℕ → ℕ → Draft
 flush d line set = record d { steps = d.steps ++ steps.Flush line set d.moment ∷ [] }
 
@@ -102,11 +118,46 @@ flush d line set = record d { steps = d.steps ++ steps.Flush line set d.moment �
 abbrev pub declared : Declaration → List Step → Draft → Draft
 declared b steps d = record d { schema = d.schema ++ b.decl ∷ []; steps = steps }
 
--- The end of a script commits an open transaction that has a change, at the last moment.
-abbrev pub committed : ℕ → List Step → List Step
-committed now [] = []
-committed now (s ∷ ss) = (s ∷ ss) ++ steps.Commit now ∷ []
+-- a statement has been read
+abbrev pub begun : Draft → Draft
+begun d = record d { begun = true }
 
--- A script has its section 0 always, also where that has no step.
+-- `at`: the moment from here on
+abbrev pub at_moment : Draft → ℕ → Draft
+at_moment d moment = record d { moment = moment }
+
+-- `commit` commits always, with no change too, at the moment of its place. No set may be declared behind it.
+abbrev pub commit : Draft → Draft
+commit d = record d { steps = d.steps ++ steps.Commit d.moment ∷ []; late = true }
+
+-- `abort` drops the open changes. No set may be declared behind it.
+abbrev pub abort : Draft → Draft
+abort d = record d { steps = d.steps ++ steps.Abort ∷ []; late = true }
+
+-- A change or a flush leaves its transaction open; a commit and an abort end it.
+abbrev pub opens : Option Step → Bool
+opens None = false
+opens (Some (steps.Change line set verb parts expiry comment now)) = true
+opens (Some (steps.Flush line set now)) = true
+opens (Some (steps.Commit now)) = false
+opens (Some steps.Abort) = false
+
+-- Behind these steps of a section a transaction with a change is open: the last step is a change or a flush.
+abbrev pub is_open : List Step → Bool
+is_open steps = opens (slice_get steps (length steps - 1))
+
+-- The end of a section commits an open transaction that has a change, at the moment of its place.
+abbrev pub committed : ℕ → List Step → List Step
+committed now ss = cond (is_open ss) (ss ++ steps.Commit now ∷ []) ss
+
+-- the sections up to the end of the one that is being read
+abbrev pub ended : Draft → List (List Step)
+ended d = d.sections ++ committed d.moment d.steps ∷ []
+
+-- `round` ends a section, and the next one begins. No set may be declared behind it.
+abbrev pub round : Draft → Draft
+round d = record d { sections = ended d; steps = []; late = true }
+
+-- The end of a script ends its last section. There is section 0 always, and behind each `round` one more, also one without steps.
 abbrev pub finished : Draft → Script
-finished d = record { schema = d.schema; sections = committed d.moment d.steps ∷ []; last = d.moment }
+finished d = record { schema = d.schema; sections = ended d; last = d.moment }

@@ -3,7 +3,7 @@ use Rattle.std.specs.Prelude.{ℕ}
 
 -- how many sets a script may declare
 abbrev pub most_sets : ℕ
-most_sets = 1
+most_sets = 64
 
 -- the last moment that a text may name, in milliseconds
 abbrev pub last_moment : ℕ

@@ -1,5 +1,5 @@
 -- Words that have a meaning at their place.
-use Rattle.std.specs.Prelude.{ℕ, ◌+◌, ◌*◌, ◌/◌, List, length, sum_by, Bool, ◌&&◌, not, ◌==◌, nat_lt, nat_le, Option, Some, None, is_some, codes, cond, bytes_eq, position, if◌then◌else◌}
+use Rattle.std.specs.Prelude.{ℕ, ◌+◌, ◌*◌, ◌/◌, List, length, sum_by, Bool, ◌&&◌, ◌||◌, not, ◌==◌, nat_lt, nat_le, Option, Some, None, is_some, codes, cond, bytes_eq, position, if◌then◌else◌}
 use Rattle.set_model.specs.Kind.{bits_of}
 use Rattle.set_model.specs.declared.kind.Kind.{Kind}
 use Rattle.set_model.specs.declared.kind.Kind.TheVariants as kinds
@@ -14,6 +14,8 @@ use Rattle.set_script.specs.declared.words.FirstWord.{FirstWord}
 use Rattle.set_script.specs.declared.words.FirstWord.TheVariants as firsts
 use Rattle.set_script.specs.declared.words.AddWord.{AddWord}
 use Rattle.set_script.specs.declared.words.AddWord.TheVariants as adds
+use Rattle.set_script.specs.declared.words.FlushWord.{FlushWord}
+use Rattle.set_script.specs.declared.words.FlushWord.TheVariants as flushes
 use Rattle.set_script.specs.declared.words.ItemWord.{ItemWord}
 use Rattle.set_script.specs.declared.words.ItemWord.TheVariants as items
 use Rattle.set_script.specs.declared.words.Flag.{Flag}
@@ -27,16 +29,29 @@ abbrev pub first_of : List ℕ → Option FirstWord
 first_of t =
     if bytes_eq t (codes "add") then Some firsts.Add
     else if bytes_eq t (codes "table") then Some firsts.Table
+    else if bytes_eq t (codes "create") then Some firsts.Create
     else if bytes_eq t (codes "delete") then Some firsts.Delete
+    else if bytes_eq t (codes "destroy") then Some firsts.Destroy
     else if bytes_eq t (codes "flush") then Some firsts.Flush
     else if bytes_eq t (codes "at") then Some firsts.At
+    else if bytes_eq t (codes "commit") then Some firsts.Commit
+    else if bytes_eq t (codes "abort") then Some firsts.Abort
+    else if bytes_eq t (codes "round") then Some firsts.Round
     else None
 
 -- what is added
 abbrev pub add_of : List ℕ → Option AddWord
 add_of t =
-    if bytes_eq t (codes "set") then Some adds.Set
+    if bytes_eq t (codes "table") then Some adds.Table
+    else if bytes_eq t (codes "set") then Some adds.Set
     else if bytes_eq t (codes "element") then Some adds.Element
+    else None
+
+-- What is flushed: a set, or the ruleset by the first statement alone.
+abbrev pub flush_of : Bool → List ℕ → Option FlushWord
+flush_of begun t =
+    if bytes_eq t (codes "set") then Some flushes.Set
+    else if bytes_eq t (codes "ruleset") && not begun then Some flushes.Ruleset
     else None
 
 abbrev pub family_of : List ℕ → Option Family
@@ -90,9 +105,13 @@ is_set family table name s = (family_number s.family == family_number family) &&
 abbrev pub set_place : List SetDecl → Family → List ℕ → List ℕ → Option ℕ
 set_place schema family table name = position (is_set family table name) schema
 
--- a name for one more set, where one more may be declared
-abbrev pub new_name : Draft → List ℕ → Option (List ℕ)
-new_name d name = cond (is_name name && nat_lt (length d.schema) most_sets) (Some name) None
+-- A set may be declared before the first `commit`, `abort` or `round`, and not twice, and no more of them than a script may hold.
+abbrev pub may_declare : Draft → Family → List ℕ → List ℕ → Bool
+may_declare d family table name = is_name name && not d.late && nat_lt (length d.schema) most_sets && not (is_some (set_place d.schema family table name))
+
+-- the name of a set that may be declared
+abbrev pub new_name : Draft → Family → List ℕ → List ℕ → Option (List ℕ)
+new_name d family table name = cond (may_declare d family table name) (Some name) None
 
 -- each item at most once, and none behind `elements`
 abbrev pub item_of : Declaration → List ℕ → Option ItemWord
@@ -101,6 +120,9 @@ item_of b t =
     else if bytes_eq t (codes "flags") && not b.flags then Some items.Flags
     else if bytes_eq t (codes "timeout") && not (is_some b.decl.timeout) then Some items.Timeout
     else if bytes_eq t (codes "size") && not (is_some b.decl.size) then Some items.Size
+    else if bytes_eq t (codes "gc-interval") && not b.gc_interval then Some items.GcInterval
+    else if bytes_eq t (codes "policy") && not b.policy then Some items.Policy
+    else if bytes_eq t (codes "comment") && not b.comment then Some items.Comment
     else if bytes_eq t (codes "elements") then Some items.Elements
     else None
 
@@ -110,6 +132,10 @@ flag_of b t =
     if bytes_eq t (codes "interval") && not b.decl.interval then Some flags.Interval
     else if bytes_eq t (codes "timeout") && not b.timeout_flag then Some flags.Timeout
     else None
+
+-- what a set is best at, which it may say
+abbrev pub is_policy : List ℕ → Bool
+is_policy t = bytes_eq t (codes "performance") || bytes_eq t (codes "memory")
 
 -- each option of an element at most once, the first two in a set with the flag `timeout`
 abbrev pub option_of : Bool → Options → List ℕ → Option OptionWord

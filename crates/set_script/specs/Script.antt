@@ -1,4 +1,4 @@
--- The script: the table of its forms, as nft(8) writes its statements.
+-- The script: the table of its forms, as nft(8) writes its statements. Marks are named by their bytes: 44 is `,`, 61 `=`, 123 `{`, 125 `}`.
 use Rattle.std.specs.Prelude.{ℕ, List, [], ◌∷◌, ◌++◌, Bool, true, false, Option, Some, None, option_map, codes, slice_get}
 use Rattle.set_model.specs.declared.kind.Kind.{Kind}
 use Rattle.set_model.specs.declared.kind.Interval.{Interval}
@@ -15,6 +15,8 @@ use Rattle.set_script.specs.declared.words.FirstWord.{FirstWord}
 use Rattle.set_script.specs.declared.words.FirstWord.TheVariants as firsts
 use Rattle.set_script.specs.declared.words.AddWord.{AddWord}
 use Rattle.set_script.specs.declared.words.AddWord.TheVariants as adds
+use Rattle.set_script.specs.declared.words.FlushWord.{FlushWord}
+use Rattle.set_script.specs.declared.words.FlushWord.TheVariants as flushes
 use Rattle.set_script.specs.declared.words.ItemWord.{ItemWord}
 use Rattle.set_script.specs.declared.words.ItemWord.TheVariants as items
 use Rattle.set_script.specs.declared.words.OptionWord.{OptionWord}
@@ -23,11 +25,11 @@ use Rattle.set_model.specs.declared.script.Verb.{Verb}
 use Rattle.set_model.specs.declared.script.Verb.TheVariants as verbs
 use Rattle.token_forms.specs.declared.token.Reason.TheVariants as reasons
 use Rattle.token_forms.specs.Form.{Form, done, nowhere, either, many, ◌>>=◌, ◌>>◌}
-use Rattle.token_forms.specs.Words.{word, word_by, word_is, lined_word_is, name, mark, text, the_end, breaks, breaks_off, separators, separates, passed, line, lines}
+use Rattle.token_forms.specs.Words.{if_true, word, word_by, word_is, lined_word_is, name, mark, text, the_end, breaks, breaks_off, separators, separates, passed, line, lines}
 use Rattle.addr_text.specs.Times.{IsTime}
 use Rattle.set_script.specs.Values.{IsPart, IsLife, IsMoment, IsSize}
-use Rattle.set_script.specs.Names.{first_of, add_of, family_of, kind_of, kind_behind, set_place, new_name, item_of, flag_of, option_of}
-use Rattle.set_script.specs.Changes.{empty, no_options, declaration, with_flag, with_timeout, with_size, with_elements, change, with_steps, flush, declared, finished}
+use Rattle.set_script.specs.Names.{first_of, add_of, flush_of, family_of, kind_of, kind_behind, set_place, new_name, item_of, flag_of, is_policy, option_of}
+use Rattle.set_script.specs.Changes.{empty, no_options, declaration, with_flag, with_timeout, with_size, with_gc_interval, with_policy, with_comment, with_elements, change, with_steps, flush, declared, begun, at_moment, commit, abort, round, finished}
 
 -- The family and the table. A word at the family's place that is a family is the family; without one it is `ip`.
 abbrev pub table_behind : List ℕ → Option Family → Form (Family × List ℕ)
@@ -45,8 +47,9 @@ table_place = do
 abbrev pub used_set : List SetDecl → Family × List ℕ → Form ℕ
 used_set schema p = word_by (reasons.Set ∷ []) (λ t. set_place schema p.0 p.1 t.bytes)
 
-abbrev pub new_set : Draft → Form (List ℕ)
-new_set d = word_by (reasons.Set ∷ []) (λ t. new_name d t.bytes)
+-- the name of a set that is declared by it
+abbrev pub new_set : Draft → Family × List ℕ → Form (List ℕ)
+new_set d p = word_by (reasons.Set ∷ []) (λ t. new_name d p.0 p.1 t.bytes)
 
 -- Elements. The first interval, with its line.
 abbrev pub first_part : Bool → Kind → Form (ℕ × Interval)
@@ -76,6 +79,7 @@ all_parts wide (kind ∷ kinds) = do
 abbrev pub time : Form ℕ
 time = word_is (reasons.Time ∷ []) IsTime
 
+-- Options of an element: `timeout` and a life, `expires` and a time, `comment` and a string.
 abbrev pub option_behind : Options → OptionWord → Form Options
 option_behind o options.Timeout = do
   breaks
@@ -135,6 +139,7 @@ more_kinds ks = do
   k ← kind_word ks
   done (ks ++ k ∷ [])
 
+-- `type` and the kinds, one at least
 abbrev pub type_item : Form (List Kind)
 type_item = do
   word (codes "type")
@@ -152,7 +157,12 @@ more_flags b = do
   mark 44
   flag b
 
--- Items, by their first word. The state: the set, and the changes so far.
+-- `performance` or `memory`
+abbrev pub policy : Form (Unit {0})
+policy = word_by [] (λ t. if_true (is_policy t.bytes))
+
+-- Items, by their first word: `flags` and flags, `timeout` and a time, `size` and a number, `gc-interval` and a time,
+-- `policy` and a policy, `comment` and a string, `elements` with `=` and a list. The state: the set, and the steps so far.
 abbrev pub item_behind : Declaration × List Step → ItemWord → Form (Declaration × List Step)
 item_behind (b, steps) items.Flags = do
   b1 ← flag b
@@ -164,6 +174,15 @@ item_behind (b, steps) items.Timeout = do
 item_behind (b, steps) items.Size = do
   n ← word_is (reasons.Number ∷ []) IsSize
   done (with_size b n, steps)
+item_behind (b, steps) items.GcInterval = do
+  time
+  done (with_gc_interval b, steps)
+item_behind (b, steps) items.Policy = do
+  policy
+  done (with_policy b, steps)
+item_behind (b, steps) items.Comment = do
+  text
+  done (with_comment b, steps)
 item_behind (b, steps) items.Elements = do
   mark 61
   behind ← list b.target b.decl steps
@@ -184,10 +203,11 @@ set_body d p n = do
   mark 125
   done (declared s.0 s.1 d)
 
+-- `set`, its name, and its items
 abbrev pub set_block : Family × List ℕ → Draft → Form Draft
 set_block p d = do
   word (codes "set")
-  n ← new_set d
+  n ← new_set d p
   set_body d p n
 
 -- Statements. The list of a set that is declared so.
@@ -203,26 +223,32 @@ changes d verb = do
   behind ← list_of (record { set = i; verb = verb; now = d.moment }) (slice_get d.schema i) d.steps
   done (with_steps d behind)
 
+-- Behind `add`: `table` and its place, which adds nothing; `set`, its table, its name and its items; `element` and changes.
 abbrev pub add_behind : Draft → AddWord → Form Draft
+add_behind d adds.Table = do
+  table_place
+  done d
 add_behind d adds.Set = do
   p ← table_place
-  n ← new_set d
+  n ← new_set d p
   set_body d p n
 add_behind d adds.Element = changes d verbs.Add
 
-abbrev pub delete_behind : Draft → Form Draft
-delete_behind d = do
+-- the word `element`, and the changes of a list
+abbrev pub element_changes : Draft → Verb → Form Draft
+element_changes d verb = do
   word (codes "element")
-  changes d verbs.Delete
+  changes d verb
 
-abbrev pub flush_behind : ℕ → Draft → Form Draft
-flush_behind line d = do
-  word (codes "set")
+-- Behind `flush`: `set` and a declared set, which is one change; `ruleset`, of which nothing stands yet.
+abbrev pub flush_behind : ℕ → Draft → FlushWord → Form Draft
+flush_behind line d flushes.Set = do
   p ← table_place
   i ← used_set d.schema p
   done (flush d line i)
+flush_behind line d flushes.Ruleset = done d
 
--- set blocks in braces
+-- behind `table`: its place, and any number of set blocks in braces
 abbrev pub table_block : Draft → Form Draft
 table_block d = do
   p ← table_place
@@ -231,35 +257,46 @@ table_block d = do
   mark 125
   done d1
 
--- what stands behind the first word of a statement, which stands in this line
+-- What stands behind the first word of a statement, by that word and its line.
 abbrev pub statement_behind : ℕ → Draft → FirstWord → Form Draft
 statement_behind line d firsts.Add = do
   w ← word_by [] (λ t. add_of t.bytes)
   add_behind d w
 statement_behind line d firsts.Table = table_block d
-statement_behind line d firsts.Delete = delete_behind d
-statement_behind line d firsts.Flush = flush_behind line d
+statement_behind line d firsts.Create = element_changes d verbs.Create
+statement_behind line d firsts.Delete = element_changes d verbs.Delete
+statement_behind line d firsts.Destroy = element_changes d verbs.Destroy
+statement_behind line d firsts.Flush = do
+  w ← word_by [] (λ t. flush_of d.begun t.bytes)
+  flush_behind line d w
 statement_behind line d firsts.At = do
   n ← word_is (reasons.Moment ∷ []) (IsMoment d.moment)
-  done (record d { moment = n })
+  done (at_moment d n)
+statement_behind line d firsts.Commit = done (commit d)
+statement_behind line d firsts.Abort = done (abort d)
+statement_behind line d firsts.Round = done (round d)
 
 abbrev pub first_word : Form (ℕ × FirstWord)
 first_word = word_by [] (λ t. option_map (λ w. (t.line, w)) (first_of t.bytes))
 
+-- one statement
 abbrev pub statement : Draft → Form Draft
 statement d = do
   w ← first_word
-  statement_behind w.0 d w.1
+  d1 ← statement_behind w.0 d w.1
+  done (begun d1)
 
 -- statements with separators between them, and any number of separators before the first and after the last
 abbrev pub statements : Form (Draft × Bool)
 statements = many (line separates statement) (empty, true)
 
+-- what stands before the end
 abbrev pub body : Form Script
 body = do
   d ← statements
   done (finished d.0)
 
+-- a script, and then the end of the text
 abbrev pub script : Form Script
 script = do
   s ← body

@@ -15,6 +15,8 @@ use Rattle.set_script.specs.declared.words.FirstWord.{FirstWord}
 use Rattle.set_script.specs.declared.words.FirstWord.TheVariants as firsts
 use Rattle.set_script.specs.declared.words.AddWord.{AddWord}
 use Rattle.set_script.specs.declared.words.AddWord.TheVariants as adds
+use Rattle.set_script.specs.declared.words.FlushWord.{FlushWord}
+use Rattle.set_script.specs.declared.words.FlushWord.TheVariants as flushes
 use Rattle.set_script.specs.declared.words.ItemWord.{ItemWord}
 use Rattle.set_script.specs.declared.words.ItemWord.TheVariants as items
 use Rattle.set_script.specs.declared.words.Flag.{Flag}
@@ -25,12 +27,12 @@ use Rattle.set_model.specs.declared.script.Verb.TheVariants as verbs
 use Rattle.token_forms.specs.declared.token.Reason.TheVariants as reasons
 use Rattle.token_forms.specs.Token.{Lexeme, is_word}
 use Rattle.token_forms.specs.Reading.{done_read as done, nowhere_read as nowhere, either_read, ◌>>=◌, ◌>>◌}
-use Rattle.token_forms.specs.Words.{breaks_off, separates, is_the_mark}
+use Rattle.token_forms.specs.Words.{if_true, breaks_off, separates, is_the_mark}
 use Rattle.token_forms.specs.WordReading.{Reading, word, word_by, lined_word_by, name, mark, text, the_end, breaks, separators, passed, line, line_starts, lines, many}
 use Rattle.addr_text.specs.TimesRead.{time_of}
 use Rattle.set_script.specs.Values.{part_of, life_of, moment_of, size_of}
-use Rattle.set_script.specs.Names.{first_of, add_of, family_of, kind_of, kind_behind, set_place, new_name, item_of, flag_of, option_of}
-use Rattle.set_script.specs.Changes.{empty, no_options, declaration, with_flag, with_timeout, with_size, with_elements, change, with_steps, flush, declared, finished}
+use Rattle.set_script.specs.Names.{first_of, add_of, flush_of, family_of, kind_of, kind_behind, set_place, new_name, item_of, flag_of, is_policy, option_of}
+use Rattle.set_script.specs.Changes.{empty, no_options, declaration, with_flag, with_timeout, with_size, with_gc_interval, with_policy, with_comment, with_elements, change, with_steps, flush, declared, begun, at_moment, commit, abort, round, finished}
 
 -- what starts one more
 abbrev pub any_word : Lexeme → Bool
@@ -63,8 +65,8 @@ table_place = do
 abbrev pub used_set : List SetDecl → Family × List ℕ → Reading ℕ
 used_set schema p = word_by (reasons.Set ∷ []) (λ t. set_place schema p.0 p.1 t.bytes)
 
-abbrev pub new_set : Draft → Reading (List ℕ)
-new_set d = word_by (reasons.Set ∷ []) (λ t. new_name d t.bytes)
+abbrev pub new_set : Draft → Family × List ℕ → Reading (List ℕ)
+new_set d p = word_by (reasons.Set ∷ []) (λ t. new_name d p.0 p.1 t.bytes)
 
 abbrev pub first_part : Bool → Kind → Reading (ℕ × Interval)
 first_part wide kind = lined_word_by (reasons.Value ∷ []) (part_of wide kind)
@@ -188,6 +190,9 @@ flags_behind = many starts_flag more_flags
 abbrev pub size_word : Reading ℕ
 size_word = word_by (reasons.Number ∷ []) (λ t. size_of t.bytes)
 
+abbrev pub policy : Reading (Unit {0})
+policy = word_by [] (λ t. if_true (is_policy t.bytes))
+
 abbrev pub elements_item : Declaration × List Step → Reading (Declaration × List Step)
 elements_item (b, steps) = do
   mark 61
@@ -205,6 +210,15 @@ item_behind (b, steps) items.Timeout = do
 item_behind (b, steps) items.Size = do
   n ← size_word
   done (with_size b n, steps)
+item_behind (b, steps) items.GcInterval = do
+  time
+  done (with_gc_interval b, steps)
+item_behind (b, steps) items.Policy = do
+  policy
+  done (with_policy b, steps)
+item_behind (b, steps) items.Comment = do
+  text
+  done (with_comment b, steps)
 item_behind (b, steps) items.Elements = elements_item (b, steps)
 
 abbrev pub item_word : Declaration → Reading ItemWord
@@ -236,7 +250,7 @@ set_body d p n = do
 unfoldable pub set_block : Family × List ℕ → Draft → Reading Draft
 set_block p d = do
   word (codes "set")
-  n ← new_set d
+  n ← new_set d p
   set_body d p n
 
 abbrev pub block_line : Family × List ℕ → Draft × Bool → Reading (Draft × Bool)
@@ -263,23 +277,26 @@ changes d verb = do
   done (with_steps d behind)
 
 unfoldable pub add_behind : Draft → AddWord → Reading Draft
+add_behind d adds.Table = do
+  table_place
+  done d
 add_behind d adds.Set = do
   p ← table_place
-  n ← new_set d
+  n ← new_set d p
   set_body d p n
 add_behind d adds.Element = changes d verbs.Add
 
-unfoldable pub delete_behind : Draft → Reading Draft
-delete_behind d = do
+unfoldable pub element_changes : Draft → Verb → Reading Draft
+element_changes d verb = do
   word (codes "element")
-  changes d verbs.Delete
+  changes d verb
 
-unfoldable pub flush_behind : ℕ → Draft → Reading Draft
-flush_behind line d = do
-  word (codes "set")
+unfoldable pub flush_behind : ℕ → Draft → FlushWord → Reading Draft
+flush_behind line d flushes.Set = do
   p ← table_place
   i ← used_set d.schema p
   done (flush d line i)
+flush_behind line d flushes.Ruleset = done d
 
 unfoldable pub table_block : Draft → Reading Draft
 table_block d = do
@@ -292,6 +309,9 @@ table_block d = do
 abbrev pub add_word : Reading AddWord
 add_word = word_by [] (λ t. add_of t.bytes)
 
+abbrev pub flush_word : Bool → Reading FlushWord
+flush_word begun = word_by [] (λ t. flush_of begun t.bytes)
+
 abbrev pub moment_word : ℕ → Reading ℕ
 moment_word before = word_by (reasons.Moment ∷ []) (λ t. moment_of before t.bytes)
 
@@ -300,11 +320,18 @@ statement_behind line d firsts.Add = do
   w ← add_word
   add_behind d w
 statement_behind line d firsts.Table = table_block d
-statement_behind line d firsts.Delete = delete_behind d
-statement_behind line d firsts.Flush = flush_behind line d
+statement_behind line d firsts.Create = element_changes d verbs.Create
+statement_behind line d firsts.Delete = element_changes d verbs.Delete
+statement_behind line d firsts.Destroy = element_changes d verbs.Destroy
+statement_behind line d firsts.Flush = do
+  w ← flush_word d.begun
+  flush_behind line d w
 statement_behind line d firsts.At = do
   n ← moment_word d.moment
-  done (record d { moment = n })
+  done (at_moment d n)
+statement_behind line d firsts.Commit = done (commit d)
+statement_behind line d firsts.Abort = done (abort d)
+statement_behind line d firsts.Round = done (round d)
 
 abbrev pub first_word : Reading (ℕ × FirstWord)
 first_word = lined_word_by [] first_of
@@ -312,7 +339,8 @@ first_word = lined_word_by [] first_of
 unfoldable pub statement : Draft → Reading Draft
 statement d = do
   w ← first_word
-  statement_behind w.0 d w.1
+  d1 ← statement_behind w.0 d w.1
+  done (begun d1)
 
 abbrev pub statement_line : Draft × Bool → Reading (Draft × Bool)
 statement_line = line separates statement

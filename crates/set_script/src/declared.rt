@@ -5,7 +5,7 @@ use set_model::{Listed, Memory, Schema, SetDecl};
 use std::alloc::Global;
 use std::marker::Model;
 
-const MOST_SETS: u64 = 1;
+const MOST_SETS: u64 = 64;
 
 /// The sets that a script has declared so far, of which there are no more than it may declare.
 #[derive(Drop)]

@@ -1,19 +1,28 @@
-ghost use Rattle.std.specs.Prelude.{◌≡◌, length, IfOk};
-ghost use Rattle.set_script.specs.Changes.{empty, declaration, finished};
+ghost use Rattle.std.specs.Prelude.{◌≡◌, ◌-◌, length, slice_get, OnOk, IfOk};
+ghost use Rattle.set_script.specs.Changes.{empty, declaration, is_open, committed, commit, abort, round, finished};
 
 use crate::declared::Declared;
-use set_model::{Comment, Family, Kinds, Listed, Memory, Name, Script, SetDecl, Step, Steps, Verb};
+use set_model::{
+    Comment, Family, Kinds, Listed, Memory, Name, Script, Sections, SetDecl, Step, Steps, Verb,
+};
 use std::alloc::Global;
+use std::mem;
 
 /// What has been read of a script.
 #[derive(Drop)]
 pub struct Draft {
     /// The declared sets.
     pub schema: Declared,
-    /// The steps of the open transaction.
+    /// The sections that have ended.
+    pub sections: Sections,
+    /// The steps of the section at this place.
     pub steps: Steps,
     /// The moment at this place, in milliseconds.
     pub moment: u64,
+    /// Whether a statement has been read.
+    pub begun: bool,
+    /// Whether a `commit`, an `abort` or a `round` has been read, behind which no set is declared.
+    pub late: bool,
 }
 
 /// Which changes the elements of a list make.
@@ -35,6 +44,9 @@ pub struct Declaration {
     pub flags: bool,
     /// Whether the flag `timeout` is written, which the item `timeout` also sets.
     pub timeout_flag: bool,
+    pub gc_interval: bool,
+    pub policy: bool,
+    pub comment: bool,
     pub elements: bool,
 }
 
@@ -46,30 +58,81 @@ pub struct Options {
     pub comment: Option<Comment>,
 }
 
+/// Whether a transaction that has a change is open behind these steps of a section.
+fn has_open_change(steps: &[Step]) -> bool
+    ensures { result ≡ is_open steps.now }
+{
+    match steps.last() {
+        Some(Step::Change { .. } | Step::Flush { .. }) => true,
+        Some(Step::Commit { .. } | Step::Abort) | None => false,
+    }
+}
+
+/// Ends a section: commits its open transaction where that has a change.
+fn end_section(steps: &mut Steps, now: u64) -> Result<(), Memory>
+    ensures { OnOk result (steps.new ≡ committed now steps.old) }
+{
+    if has_open_change(steps.as_slice()) {
+        steps.push(Step::Commit { now })?;
+    }
+    Ok(())
+}
+
 impl Draft {
     pub fn new(alloc: Global) -> Self
         ensures { result ≡ empty }
     {
         Draft {
             schema: Declared::new(alloc),
+            sections: Listed::new(alloc),
             steps: Listed::new(alloc),
             moment: 0,
+            begun: false,
+            late: false,
         }
     }
 
-    /// The script, whose end commits the open transaction where that has a change.
-    pub fn finish(self, alloc: Global) -> Result<Script, Memory>
+    /// Commits the open transaction, with no change too.
+    pub fn commit(&mut self) -> Result<(), Memory>
+        ensures { OnOk result (self.new ≡ commit self.old) }
+    {
+        self.steps.push(Step::Commit { now: self.moment })?;
+        self.late = true;
+        Ok(())
+    }
+
+    /// Drops the open changes.
+    pub fn abort(&mut self) -> Result<(), Memory>
+        ensures { OnOk result (self.new ≡ abort self.old) }
+    {
+        self.steps.push(Step::Abort)?;
+        self.late = true;
+        Ok(())
+    }
+
+    /// Ends the section, and begins the next one.
+    pub fn round(&mut self, alloc: Global) -> Result<(), Memory>
+        ensures { OnOk result (self.new ≡ round self.old) }
+    {
+        end_section(&mut self.steps, self.moment)?;
+        let steps = mem::replace(&mut self.steps, Listed::new(alloc));
+        self.sections.push(steps)?;
+        self.late = true;
+        Ok(())
+    }
+
+    /// The script, whose last section ends here.
+    pub fn finish(self) -> Result<Script, Memory>
         ensures { IfOk result (λ s. s ≡ finished self) }
     {
         let Draft {
             schema,
+            mut sections,
             mut steps,
             moment,
+            ..
         } = self;
-        if steps.len() > 0 {
-            steps.push(Step::Commit { now: moment })?;
-        }
-        let mut sections = Listed::new(alloc);
+        end_section(&mut steps, moment)?;
         sections.push(steps)?;
         Ok(Script {
             schema: schema.into_schema(),
@@ -115,6 +178,9 @@ pub fn begin_declaration(
         },
         flags: false,
         timeout_flag: false,
+        gc_interval: false,
+        policy: false,
+        comment: false,
         elements: false,
     })
 }

@@ -1,4 +1,5 @@
-//! The reader of scripts: the statements of nft(8) that declare a set and change its elements.
+//! The reader of scripts: the statements of nft(8) that declare sets and change their elements, and the transactions and
+//! sections that they stand in.
 #![tactic(auto)]
 
 mod declared;
@@ -6,6 +7,8 @@ mod draft;
 mod elements;
 mod parts;
 mod place;
+#[cfg(test)]
+mod refusal_tests;
 mod script;
 mod sets;
 #[cfg(test)]

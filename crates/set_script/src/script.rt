@@ -15,7 +15,7 @@ use crate::elements::list;
 use crate::place::{table_place, used_set};
 use crate::sets::{new_set, set_body, starts_a_line, table_block};
 use crate::values;
-use crate::words::{AddWord, FirstWord, add_word_of, first_word_of};
+use crate::words::{AddWord, FirstWord, FlushWord, add_word_of, first_word_of, flush_word_of};
 use set_model::{Script, SetDecl, Step, Steps, Verb};
 use std::alloc::Global;
 use token_forms::{ReadError, Reader, short};
@@ -84,37 +84,70 @@ fn add_behind(
     ensures { Gives (λ _. d.new) result reader.new (reading.add_behind d.old word reader.old) }
 {
     match word {
+        AddWord::Table => {
+            table_place(reader)?;
+            Ok(())
+        }
         AddWord::Set => {
             let (family, table) = table_place(reader)?;
-            let name = new_set(reader, d)?;
+            let name = new_set(reader, d, family, table)?;
             set_body(reader, alloc, d, family, table, name)
         }
         AddWord::Element => changes(reader, alloc, d, Verb::Add),
     }
 }
 
-#[tactic(auto, using(token_forms::proofs::Refusals::refusals), unfolding(crate::specs::ScriptReading::delete_behind))]
-fn delete_behind(reader: &mut Reader, alloc: Global, d: &mut Draft) -> Result<(), ReadError>
-    ensures { Gives (λ _. d.new) result reader.new (reading.delete_behind d.old reader.old) }
+/// The word `element`, and the changes of a list.
+#[tactic(auto, using(token_forms::proofs::Refusals::refusals), unfolding(crate::specs::ScriptReading::element_changes))]
+fn element_changes(
+    reader: &mut Reader,
+    alloc: Global,
+    d: &mut Draft,
+    verb: Verb,
+) -> Result<(), ReadError>
+    ensures { Gives (λ _. d.new) result reader.new (reading.element_changes d.old verb reader.old) }
 {
     reader.word(b"element")?;
-    changes(reader, alloc, d, Verb::Delete)
+    changes(reader, alloc, d, verb)
 }
 
-/// A flush, whose first word stands in this line.
-#[tactic(auto, using(token_forms::proofs::Refusals::refusals), unfolding(crate::specs::ScriptReading::flush_behind))]
-fn flush_behind(reader: &mut Reader, d: &mut Draft, line: u64) -> Result<(), ReadError>
-    ensures { Gives (λ _. d.new) result reader.new (reading.flush_behind line d.old reader.old) }
+#[tactic(auto, unfolding(token_forms::specs::Gives::Refuses))]
+fn flush_word(reader: &mut Reader, begun: bool) -> Result<FlushWord, ReadError>
+    ensures { Gives (λ x. x) result reader.new (reading.flush_word begun reader.old) }
 {
-    reader.word(b"set")?;
-    let (family, table) = table_place(reader)?;
-    let place = used_set(reader, d.schema.as_slice(), family, table)?;
-    d.steps.push(Step::Flush {
-        line,
-        set: place as u32,
-        now: d.moment,
-    })?;
-    Ok(())
+    match reader.take() {
+        Some(t) if t.is_word() => match flush_word_of(begun, t.bytes) {
+            Some(word) => Ok(word),
+            None => Err(t.refused(&[])),
+        },
+        Some(t) => Err(t.refused(&[])),
+        None => Err(short()),
+    }
+}
+
+/// What stands behind what is flushed by a statement whose first word stands in this line.
+#[tactic(auto, using(token_forms::proofs::Refusals::refusals), unfolding(crate::specs::ScriptReading::flush_behind))]
+fn flush_behind(
+    reader: &mut Reader,
+    d: &mut Draft,
+    line: u64,
+    word: FlushWord,
+) -> Result<(), ReadError>
+    ensures { Gives (λ _. d.new) result reader.new (reading.flush_behind line d.old word reader.old) }
+{
+    match word {
+        FlushWord::Set => {
+            let (family, table) = table_place(reader)?;
+            let place = used_set(reader, d.schema.as_slice(), family, table)?;
+            d.steps.push(Step::Flush {
+                line,
+                set: place as u32,
+                now: d.moment,
+            })?;
+            Ok(())
+        }
+        FlushWord::Ruleset => Ok(()),
+    }
 }
 
 #[tactic(auto, using(token_forms::proofs::Refusals::refusals), unfolding(crate::specs::ScriptReading::statement_behind))]
@@ -133,12 +166,20 @@ fn statement_behind(
             add_behind(reader, alloc, d, word)
         }
         FirstWord::Table => table_block(reader, alloc, d),
-        FirstWord::Delete => delete_behind(reader, alloc, d),
-        FirstWord::Flush => flush_behind(reader, d, line),
+        FirstWord::Create => element_changes(reader, alloc, d, Verb::Create),
+        FirstWord::Delete => element_changes(reader, alloc, d, Verb::Delete),
+        FirstWord::Destroy => element_changes(reader, alloc, d, Verb::Destroy),
+        FirstWord::Flush => {
+            let word = flush_word(reader, d.begun)?;
+            flush_behind(reader, d, line, word)
+        }
         FirstWord::At => {
             d.moment = values::moment(reader, d.moment)?;
             Ok(())
         }
+        FirstWord::Commit => Ok(d.commit()?),
+        FirstWord::Abort => Ok(d.abort()?),
+        FirstWord::Round => Ok(d.round(alloc)?),
     }
 }
 
@@ -162,7 +203,9 @@ fn statement(reader: &mut Reader, alloc: Global, d: &mut Draft) -> Result<(), Re
     ensures { Gives (λ _. d.new) result reader.new (reading.statement d.old reader.old) }
 {
     let (line, word) = first_word(reader)?;
-    statement_behind(reader, alloc, d, line, word)
+    statement_behind(reader, alloc, d, line, word)?;
+    d.begun = true;
+    Ok(())
 }
 
 /// A separator, or a statement where one may come next.
@@ -221,7 +264,7 @@ fn body(reader: &mut Reader, alloc: Global) -> Result<Script, ReadError>
     ensures { Gives (λ x. x) result reader.new (reading.body reader.old) }
 {
     let (d, _) = statements(reader, alloc)?;
-    Ok(d.finish(alloc)?)
+    Ok(d.finish()?)
 }
 
 #[tactic(auto, using(token_forms::proofs::Refusals::refusals), unfolding(crate::specs::ScriptReading::script))]

@@ -1,4 +1,5 @@
 ghost use Rattle.std.specs.Prelude.{◌≡◌, ◌<◌, List, length, true, false, OnOk};
+ghost use Rattle.std.specs.Bool.{OnTrue};
 ghost use Rattle.set_model.specs.declared.kind.Kind.{Kind as KindOf};
 ghost use Rattle.set_model.specs.declared.script.Step.{Step};
 ghost use Rattle.token_forms.specs.Gives.{Gives};
@@ -9,26 +10,43 @@ ghost use Rattle.set_script.specs.ScriptReading as reading;
 ghost use Rattle.set_script.specs.ScriptReading.{starts_kind, starts_flag, any_word};
 ghost use Rattle.set_script.specs.Changes.{with_flag};
 ghost use Rattle.set_script.specs.Limits.{most_sets};
+ghost use Rattle.set_script.specs.Names.{may_declare};
 ghost use Rattle.set_script.specs.declared.draft.Draft.{Draft as Drafted};
 ghost use Rattle.set_script.specs.declared.draft.Declaration.{Declaration as Declaring};
 
 use crate::draft::{Declaration, Draft, begin_declaration};
 use crate::elements::list;
-use crate::place::table_place;
+use crate::place::{place_of_set, table_place};
 use crate::values;
-use crate::words::{Flag, ItemWord, flag_of_word, item_word_of, read_kind_behind};
+use crate::words::{Flag, ItemWord, flag_of_word, is_a_policy, item_word_of, read_kind_behind};
 use set_model::{Family, Kind, Kinds, Listed, Steps};
 use std::alloc::Global;
 use token_forms::{ReadError, Reader, Reason, Seen, is_a_name, short};
 
+/// Whether a set of that name may be declared here.
+fn is_declarable(d: &Draft, family: Family, table: &[u8], name: &[u8]) -> bool
+    ensures may { result ≡ may_declare d.now family table.now name.now }
+    ensures room { OnTrue result (length d.now.schema < most_sets) }
+{
+    is_a_name(name)
+        && !d.late
+        && d.schema.has_room()
+        && place_of_set(d.schema.as_slice(), family, table, name).is_none()
+}
+
 /// The name of a set that may be declared.
 #[tactic(auto, unfolding(token_forms::specs::Gives::Refuses))]
-pub fn new_set<'a>(reader: &mut Reader<'a>, d: &Draft) -> Result<&'a [u8], ReadError>
-    ensures gives { Gives (λ x. x.now) result reader.new (reading.new_set d.now reader.old) }
+pub fn new_set<'a>(
+    reader: &mut Reader<'a>,
+    d: &Draft,
+    family: Family,
+    table: &[u8],
+) -> Result<&'a [u8], ReadError>
+    ensures gives { Gives (λ x. x.now) result reader.new (reading.new_set d.now (family, table.now) reader.old) }
     ensures room { OnOk result (length d.now.schema < most_sets) }
 {
     match reader.take() {
-        Some(t) if t.is_word() && is_a_name(t.bytes) && d.schema.has_room() => Ok(t.bytes),
+        Some(t) if t.is_word() && is_declarable(d, family, table, t.bytes) => Ok(t.bytes),
         Some(t) => Err(t.refused(&[Reason::Set])),
         None => Err(short()),
     }
@@ -187,6 +205,18 @@ fn flags_behind(reader: &mut Reader, b: &mut Declaration) -> Result<(), ReadErro
     Ok(())
 }
 
+/// A policy, which has no effect.
+#[tactic(auto, unfolding(token_forms::specs::Gives::Refuses))]
+fn policy(reader: &mut Reader) -> Result<(), ReadError>
+    ensures { Gives (λ x. x) result reader.new (reading.policy reader.old) }
+{
+    match reader.take() {
+        Some(t) if t.is_word() && is_a_policy(t.bytes) => Ok(()),
+        Some(t) => Err(t.refused(&[])),
+        None => Err(short()),
+    }
+}
+
 /// The elements of a set that is being declared.
 #[tactic(auto, using(token_forms::proofs::Refusals::refusals))]
 fn elements_item(
@@ -228,6 +258,21 @@ fn item_behind(
         ItemWord::Size => {
             let size = values::size(reader)?;
             b.decl.size = Some(size);
+            Ok(())
+        }
+        ItemWord::GcInterval => {
+            values::time(reader)?;
+            b.gc_interval = true;
+            Ok(())
+        }
+        ItemWord::Policy => {
+            policy(reader)?;
+            b.policy = true;
+            Ok(())
+        }
+        ItemWord::Comment => {
+            reader.text()?;
+            b.comment = true;
             Ok(())
         }
         ItemWord::Elements => elements_item(reader, alloc, b, steps),
@@ -360,7 +405,7 @@ fn set_block(
     ensures { Gives (λ _. d.new) result reader.new (reading.set_block (family, table.now) d.old reader.old) }
 {
     reader.word(b"set")?;
-    let name = new_set(reader, d)?;
+    let name = new_set(reader, d, family, table)?;
     set_body(reader, alloc, d, family, table, name)
 }
 

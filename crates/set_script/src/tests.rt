@@ -1,8 +1,7 @@
-use crate::{ScriptError, TokenKind, Tokens, read_script};
+use crate::{TokenKind, Tokens, read_script};
 use set_model::{Family, Interval, Kind, Script, Step, Verb};
-use std::alloc::Global;
+use std::alloc::{AllocError, Global};
 use std::test::Fail;
-use token_forms::Reason;
 
 const H: &[u8] = b"add set ip filter s { type ipv4_addr . inet_service ; flags interval ; }\n";
 
@@ -20,18 +19,6 @@ fn sizes(script: &Script) -> (u64, u64, u64) {
         None => 0,
     };
     (script.schema.len(), script.sections.len(), steps)
-}
-
-fn is_refused(alloc: Global, text: &[u8]) -> bool {
-    match read_script(alloc, text) {
-        Ok(_) => false,
-        Err(e) => {
-            e == ScriptError::Bad {
-                line: 0,
-                reason: Reason::LeftOut,
-            }
-        }
-    }
 }
 
 #[test]
@@ -89,6 +76,29 @@ fn scripts_without_changes(rt: HostRuntime) -> Result<(), Fail> {
         (b"add set filter s { type inet_service }", 1),
         (b"add set netdev ip s { type mark; elements = { }; }", 1),
         (b"table bridge t { }", 0),
+        (b"add table t", 0),
+        (b"add table ip6 t; add table ip ip", 0),
+        (b" ;# nft -f\n\nflush ruleset\nadd table t\n", 0),
+        (
+            b"table arp t { set s { type mark }; set t { type mark } }\n",
+            2,
+        ),
+        (
+            b"add set t s { type mark }\nadd set t t { type mark }\nadd set ip6 t s { type mark }\nadd set u s { type mark }\n",
+            4,
+        ),
+        (
+            b"add set t s { type mark; comment \"all\"; policy performance; gc-interval 1m; flags timeout; timeout 5s; size 1; }",
+            1,
+        ),
+        (
+            b"add set t s { type mark; timeout 5s; flags timeout, interval; policy memory }",
+            1,
+        ),
+        (
+            b"add set delete set { type mark }; delete element delete set { }",
+            1,
+        ),
         (
             b"table ip ip { ;; set s { type ether_addr; elements = {\n} } }",
             1,
@@ -222,120 +232,6 @@ fn types_have_64_bytes(rt: HostRuntime) -> Result<(), Fail> {
         let script = read_script(alloc, text)?;
         assert_eq!(rt; first_set(&script).0.len(), fields);
     }
-    for text in [
-        b"add set t s { type ipv6_addr . ipv6_addr . ipv6_addr . ipv6_addr . inet_proto }".as_slice(),
-        b"add set t s { type inet_proto . mark . mark . mark . mark . mark . mark . mark . mark . mark . mark . mark . mark . mark . mark . mark . mark }",
-        b"add set t s { type ipv6_addr . ipv6_addr . ipv6_addr . ether_addr . ether_addr . inet_service }",
-        b"add set t s { type }",
-        b"add set t s { type ipv4_addr . }",
-        b"add set t s { type ipv4_addr , mark }",
-        b"add set t s { type ifname }",
-    ] {
-        assert!(rt; is_refused(alloc, text), "{text:?}");
-    }
-    Ok(())
-}
-
-#[test]
-fn sets_outside_the_grammar(rt: HostRuntime) -> Result<(), Fail> {
-    let alloc = rt.alloc();
-    for text in [
-        b"add element ip filter s { 10.0.0.5 . 1024 }".as_slice(),
-        b"add set ip filter s { type ipv4_addr flags interval ; }",
-        b"add set ip filter s { flags interval; type ipv4_addr }",
-        b"add set ip filter s { type ipv4_addr; flags interval; flags interval }",
-        b"add set ip filter s { type ipv4_addr; flags interval, }",
-        b"add set ip filter s { type ipv4_addr; flags timeout, timeout }",
-        b"add set ip filter s { type ipv4_addr; flags interval timeout }",
-        b"add set ip filter s { type ipv4_addr; timeout 5s; timeout 5s }",
-        b"add set ip filter s { type ipv4_addr; timeout never }",
-        b"add set ip filter s { type ipv4_addr; elements = { }; flags interval }",
-        b"add set ip filter s { type ipv4_addr; elements = { }; elements = { } }",
-        b"add set ip filter s { type ipv4_addr; elements { } }",
-        b"add set ip filter s { type ipv4_addr; elements =\n{ } }",
-        b"add set ip filter s { type ipv4_addr; size 0 }",
-        b"add set ip filter s { type ipv4_addr; size 05 }",
-        b"add set ip filter s { type ipv4_addr; size 4294967296 }",
-        b"add set ip filter s { type ipv4_addr; size 5; size 5 }",
-        b"add set ip filter s { type ipv4_addr; flags disjoint }",
-        b"add set ip filter s { type ipv4_addr; gc-interval 5s }",
-        b"add set ip filter s { type ipv4_addr; policy memory }",
-        b"add set ip filter s { type ipv4_addr; comment \"all\" }",
-        b"add set ip 5 s { type ipv4_addr }",
-        b"add set ip s { type ipv4_addr }",
-        b"add set ip filter s { type ipv4_addr",
-        b"table ip filter",
-        b"table ip filter { set s { type ipv4_addr } set t { type ipv4_addr } }",
-        b"table ip filter { set s { type ipv4_addr }; set t { type ipv4_addr } }",
-        b"table ip filter { } }",
-        b"add table ip filter",
-        b"\xff",
-        b"\"",
-    ] {
-        assert!(rt; is_refused(alloc, text), "{text:?}");
-    }
-    Ok(())
-}
-
-#[test]
-fn changes_outside_the_grammar(rt: HostRuntime) -> Result<(), Fail> {
-    let alloc = rt.alloc();
-    for behind in [
-        b"add set ip filter t { type ipv4_addr . inet_service ; flags interval ; }".as_slice(),
-        b"add element ip filter t { 10.0.0.5 . 1024 }",
-        b"add element ip nat s { 10.0.0.5 . 1024 }",
-        b"add element inet filter s { 10.0.0.5 . 1024 }",
-        b"add element ip filter s { 10.0.0.5 }",
-        b"add element ip filter s { 10.0.0.5 . 1024 . 1 }",
-        b"add element ip filter s { 10.0.0.5 1024 }",
-        b"add element ip filter s { 10.0.0.5 . 1024 10.0.0.6 . 1024 }",
-        b"add element ip filter s { 10.0.0.5 . 1024,, 10.0.0.6 . 1024 }",
-        b"add element ip filter s { , 10.0.0.5 . 1024 }",
-        b"add element ip filter s { , }",
-        b"add element ip filter s { 10.0.0 . 1024 }",
-        b"add element ip filter s { 10.0.0.05 . 1024 }",
-        b"add element ip filter s { 10.0.0.5 . 65536 }",
-        b"add element ip filter s { 10.0.0.6-10.0.0.5 . 1024 }",
-        b"add element ip filter s { 10.0.0.4/33 . 1024 }",
-        b"add element ip filter s { 10.0.0.5 . 1024 ; }",
-        b"add element ip filter s { 10.0.0.5 . 1024 timeout 5s }",
-        b"add element ip filter s { 10.0.0.5 . 1024",
-        b"add element ip filter s { 10.0.0.5 . 1024 } add",
-        b"add\nelement ip filter s { 10.0.0.5 . 1024 }",
-        b"add element ip filter s { 10.0.0.5 . 1024 } *",
-        b"add element ip filter s { 10.0.0.5 . 1024 expires 5s }",
-        b"add element ip filter s { 10.0.0.5 . 1024 comment \"a\" comment \"b\" }",
-        b"add element ip filter s { 10.0.0.5 . 1024 comment a }",
-        b"at 5; at 4",
-        b"at 05",
-        b"at 1000000000000001",
-        b"at",
-        b"flush ip filter s",
-        b"flush ruleset",
-        b"flush set ip filter t",
-        b"delete set ip filter s",
-        b"create element ip filter s { 10.0.0.5 . 1024 }",
-        b"destroy element ip filter s { 10.0.0.5 . 1024 }",
-        b"commit",
-        b"abort",
-        b"round",
-    ] {
-        let text = joined(alloc, H, behind)?;
-        assert!(rt; is_refused(alloc, text.as_slice()), "{behind:?}");
-    }
-    Ok(())
-}
-
-#[test]
-fn single_values_without_the_flag(rt: HostRuntime) -> Result<(), Fail> {
-    let alloc = rt.alloc();
-    for element in [b"10.0.0.4-10.0.0.5".as_slice(), b"10.0.0.4/31".as_slice()] {
-        let mut text = Vec::from_slice(alloc, b"add set t s { type ipv4_addr; flags timeout }; ")?;
-        text.extend_from_slice(b"add element t s { ")?;
-        text.extend_from_slice(element)?;
-        text.extend_from_slice(b" }")?;
-        assert!(rt; is_refused(alloc, text.as_slice()), "{element:?}");
-    }
     Ok(())
 }
 
@@ -431,6 +327,152 @@ fn flushes_and_moments(rt: HostRuntime) -> Result<(), Fail> {
             _ => assert!(rt; false, "other steps"),
         }
     }
+    Ok(())
+}
+
+/// A letter for each step, with its moment, and `|` between the sections.
+fn steps_of(alloc: Global, script: &Script) -> Result<Vec<(char, u64)>, AllocError> {
+    let mut steps = Vec::new(alloc);
+    for (i, section) in script.sections.as_slice().iter().enumerate() {
+        if i > 0 {
+            steps.push(('|', 0))?;
+        }
+        for step in section.as_slice() {
+            steps.push(match step {
+                Step::Change { verb, now, .. } => match verb {
+                    Verb::Add => ('a', *now),
+                    Verb::Create => ('c', *now),
+                    Verb::Delete => ('d', *now),
+                    Verb::Destroy => ('x', *now),
+                },
+                Step::Flush { now, .. } => ('f', *now),
+                Step::Commit { now } => ('C', *now),
+                Step::Abort => ('A', 0),
+            })?;
+        }
+    }
+    Ok(steps)
+}
+
+#[test]
+fn transactions_and_sections(rt: HostRuntime) -> Result<(), Fail> {
+    let alloc = rt.alloc();
+    for (text, expected) in [
+        (b"".as_slice(), [].as_slice()),
+        (b"commit", &[('C', 0)]),
+        (b"abort\nabort", &[('A', 0), ('A', 0)]),
+        (b"round", &[('|', 0)]),
+        (b"at 5\nround\n\nround\n", &[('|', 0), ('|', 0)]),
+        (
+            b"add element t s { 1, 2 }\ncommit\nat 5\ncommit\n",
+            &[('a', 0), ('a', 0), ('C', 0), ('C', 5)],
+        ),
+        (
+            b"create element t s { 1 }\nat 3\nabort\ndestroy element t s { 1 }; at 4",
+            &[('c', 0), ('A', 0), ('x', 3), ('C', 4)],
+        ),
+        (
+            b"delete element t s { 1 }\nat 2\nround\nat 3\nflush set t s\nat 4\nround\nadd element t s { }\n",
+            &[('d', 0), ('C', 2), ('|', 0), ('f', 3), ('C', 4), ('|', 0)],
+        ),
+        (
+            b"commit\nadd element t s { 1 }\nround\nround\ncommit\n",
+            &[('C', 0), ('a', 0), ('C', 0), ('|', 0), ('|', 0), ('C', 0)],
+        ),
+        (
+            b"abort\ntable t { }\nadd table t\ndelete element t s { 1 }\nabort\nround\n",
+            &[('A', 0), ('d', 0), ('A', 0), ('|', 0)],
+        ),
+    ] {
+        let text = joined(alloc, b"add set t s { type mark }\n", text)?;
+        let script = read_script(alloc, text.as_slice())?;
+        let steps = steps_of(alloc, &script)?;
+        assert_eq!(rt; steps.as_slice(), expected, "in {text:?}");
+    }
+    Ok(())
+}
+
+#[test]
+fn four_verbs_with_options(rt: HostRuntime) -> Result<(), Fail> {
+    let alloc = rt.alloc();
+    for (verb, expected) in [
+        (
+            b"add".as_slice(),
+            (Some(30_000), b"web".as_slice(), Verb::Add, 0),
+        ),
+        (b"create", (Some(30_000), b"web", Verb::Create, 0)),
+        (b"delete", (None, b"", Verb::Delete, 0)),
+        (b"destroy", (None, b"", Verb::Destroy, 0)),
+    ] {
+        let mut text = joined(alloc, b"add set t s { type mark; flags timeout }\n", verb)?;
+        text.extend_from_slice(b" element t s { 1 comment \"web\" timeout 30s }")?;
+        let script = read_script(alloc, text.as_slice())?;
+        assert_eq!(rt; change_made(&script, 0), Some(expected), "{verb:?}");
+    }
+    Ok(())
+}
+
+#[test]
+fn a_listing_is_read(rt: HostRuntime) -> Result<(), Fail> {
+    let alloc = rt.alloc();
+    let script = read_script(
+        alloc,
+        b"table ip filter {\n\tset s {\n\t\ttype ipv4_addr . inet_service\n\t\tflags interval,timeout\n\t\telements = { 10.0.0.0/8 . 80 timeout 1h expires 59m30s comment \"web\",\n\t\t\t     192.168.1.0-192.168.2.1 . 1024-65535 timeout 1h expires 59m30s996ms }\n\t}\n}\n",
+    )?;
+    assert_eq!(rt; sizes(&script), (1, 1, 3));
+    assert_eq!(rt;
+        change_made(&script, 0),
+        Some((Some(3_570_000), b"web".as_slice(), Verb::Add, 0))
+    );
+    assert_eq!(rt;
+        change_made(&script, 1),
+        Some((Some(3_570_996), b"".as_slice(), Verb::Add, 0))
+    );
+    Ok(())
+}
+
+#[test]
+fn all_that_nft_lists_of_a_set(rt: HostRuntime) -> Result<(), Fail> {
+    let alloc = rt.alloc();
+    let script = read_script(
+        alloc,
+        b"table inet fw { # handle 5\n\tset marks { # handle 6\n\t\ttype mark . ether_addr\n\t\tpolicy memory\n\t\tsize 65535\n\t\tflags interval,timeout\n\t\ttimeout 1d2h\n\t\tgc-interval 10s\n\t\tcomment \"G\xc3\xa4ste \xe5\xae\xa2\"\n\t\telements = { 0x00000100/24 . 00:00:5e:00:53:01 timeout 1h expires 59m comment \"\xc2\xb5 \xf0\x9f\x94\x92\",\n\t\t\t     0x00000200-0x000002ff . 0:0:5E:0:53:2 }\n\t}\n\n\tset empty { # handle 7\n\t\ttype inet_proto\n\t}\n}\n",
+    )?;
+    assert_eq!(rt; sizes(&script), (2, 1, 3));
+    for set in script.schema.as_slice().iter().take(1) {
+        assert!(rt; set.family == Family::Inet && set.interval && set.timed && !set.disjoint);
+        assert_eq!(rt; set.timeout, Some(93_600_000));
+        assert_eq!(rt; set.size, Some(65_535));
+    }
+    let first = [
+        Interval {
+            low: 0x100,
+            high: 0x1ff,
+        },
+        one(0x0000_5e00_5301),
+    ];
+    let second = [
+        Interval {
+            low: 0x200,
+            high: 0x2ff,
+        },
+        one(0x0000_5e00_5302),
+    ];
+    assert_eq!(rt; change_at(&script, 0), Some((10, first.as_slice())));
+    assert_eq!(rt; change_at(&script, 1), Some((11, second.as_slice())));
+    assert_eq!(rt;
+        change_made(&script, 0),
+        Some((
+            Some(3_540_000),
+            b"\xc2\xb5 \xf0\x9f\x94\x92".as_slice(),
+            Verb::Add,
+            0
+        ))
+    );
+    assert_eq!(rt;
+        change_made(&script, 1),
+        Some((Some(93_600_000), b"".as_slice(), Verb::Add, 0))
+    );
     Ok(())
 }
 

@@ -1,5 +1,5 @@
 ghost use Rattle.std.specs.Prelude.{◌≡◌, ◌<◌, ◌≤◌, ◌*◌, length, sum_by};
-ghost use Rattle.set_script.specs.Names.{first_of, add_of, family_of, kind_of, key_bytes, has_room, kind_behind, item_of, flag_of, option_of};
+ghost use Rattle.set_script.specs.Names.{first_of, add_of, flush_of, family_of, kind_of, key_bytes, has_room, kind_behind, item_of, flag_of, is_policy, option_of};
 
 use crate::draft::{Declaration, Options};
 use set_model::{Family, Kind};
@@ -9,16 +9,29 @@ use set_model::{Family, Kind};
 pub enum FirstWord {
     Add,
     Table,
+    Create,
     Delete,
+    Destroy,
     Flush,
     At,
+    Commit,
+    Abort,
+    Round,
 }
 
 /// What a statement adds.
 #[derive(Clone, Copy, Debug, PartialEq, Eq)]
 pub enum AddWord {
+    Table,
     Set,
     Element,
+}
+
+/// What a statement flushes.
+#[derive(Clone, Copy, Debug, PartialEq, Eq)]
+pub enum FlushWord {
+    Set,
+    Ruleset,
 }
 
 /// The first word of an item of a set, behind its type.
@@ -27,6 +40,9 @@ pub enum ItemWord {
     Flags,
     Timeout,
     Size,
+    GcInterval,
+    Policy,
+    Comment,
     Elements,
 }
 
@@ -52,12 +68,22 @@ pub fn first_word_of(text: &[u8]) -> Option<FirstWord>
         Some(FirstWord::Add)
     } else if text == b"table".as_slice() {
         Some(FirstWord::Table)
+    } else if text == b"create".as_slice() {
+        Some(FirstWord::Create)
     } else if text == b"delete".as_slice() {
         Some(FirstWord::Delete)
+    } else if text == b"destroy".as_slice() {
+        Some(FirstWord::Destroy)
     } else if text == b"flush".as_slice() {
         Some(FirstWord::Flush)
     } else if text == b"at".as_slice() {
         Some(FirstWord::At)
+    } else if text == b"commit".as_slice() {
+        Some(FirstWord::Commit)
+    } else if text == b"abort".as_slice() {
+        Some(FirstWord::Abort)
+    } else if text == b"round".as_slice() {
+        Some(FirstWord::Round)
     } else {
         None
     }
@@ -66,10 +92,25 @@ pub fn first_word_of(text: &[u8]) -> Option<FirstWord>
 pub fn add_word_of(text: &[u8]) -> Option<AddWord>
     ensures { result ≡ add_of text.now }
 {
-    if text == b"set".as_slice() {
+    if text == b"table".as_slice() {
+        Some(AddWord::Table)
+    } else if text == b"set".as_slice() {
         Some(AddWord::Set)
     } else if text == b"element".as_slice() {
         Some(AddWord::Element)
+    } else {
+        None
+    }
+}
+
+/// What a word flushes: a set, or the ruleset where no statement stands before it.
+pub fn flush_word_of(begun: bool, text: &[u8]) -> Option<FlushWord>
+    ensures { result ≡ flush_of begun text.now }
+{
+    if text == b"set".as_slice() {
+        Some(FlushWord::Set)
+    } else if text == b"ruleset".as_slice() && !begun {
+        Some(FlushWord::Ruleset)
     } else {
         None
     }
@@ -170,6 +211,12 @@ pub fn item_word_of(b: &Declaration, text: &[u8]) -> Option<ItemWord>
         Some(ItemWord::Timeout)
     } else if text == b"size".as_slice() && b.decl.size.is_none() {
         Some(ItemWord::Size)
+    } else if text == b"gc-interval".as_slice() && !b.gc_interval {
+        Some(ItemWord::GcInterval)
+    } else if text == b"policy".as_slice() && !b.policy {
+        Some(ItemWord::Policy)
+    } else if text == b"comment".as_slice() && !b.comment {
+        Some(ItemWord::Comment)
     } else if text == b"elements".as_slice() {
         Some(ItemWord::Elements)
     } else {
@@ -187,6 +234,13 @@ pub fn flag_of_word(b: &Declaration, text: &[u8]) -> Option<Flag>
     } else {
         None
     }
+}
+
+/// Whether a word is one of the policies of a set.
+pub fn is_a_policy(text: &[u8]) -> bool
+    ensures { result ≡ is_policy text.now }
+{
+    text == b"performance".as_slice() || text == b"memory".as_slice()
 }
 
 pub fn option_word_of(timed: bool, o: &Options, text: &[u8]) -> Option<OptionWord>

@@ -5,10 +5,10 @@ pub returns-in-Usage : goal.returns-in-Usage
 returns-in-Usage g c = rw c.in-Usage.is c.deliver.ensures
 
 pub returns-in-BadScript : goal.returns-in-BadScript
-returns-in-BadScript g c = rw c.in-BadScript.is c.deliver-in-BadScript.ensures
+returns-in-BadScript g c = rw c.in-BadScript.is c.deliver_placed.ensures
 
 pub returns-in-BadKeys : goal.returns-in-BadKeys
-returns-in-BadKeys g c = rw c.in-BadKeys.is c.deliver-in-BadKeys.ensures
+returns-in-BadKeys g c = rw c.in-BadKeys.is c.deliver_placed-in-BadKeys.ensures
 
 pub returns-in-Memory : goal.returns-in-Memory
 returns-in-Memory g c = rw c.in-Memory.is (ends-memory (g.K.Sink.taken c.args.sink.now) (g.K.Sink.faults c.args.sink.now))

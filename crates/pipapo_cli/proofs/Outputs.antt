@@ -1,0 +1,132 @@
+-- What a command gives behind a script that was read.
+use Rattle.std.proofs.Common.{◌≤◌, Bool, ◌≡◌, refl, sym, ◌∙◌, ap, subst, ℕ, List, [], ◌∷◌, ◌++◌, length, slice_get, Option, Some, Result, Ok, Err, inl, inr}
+use Rattle.std.specs.Prelude.{IfOk, IfErr, IsErrAnd, OnOk}
+use Rattle.pip_base.specs.Picks.{AsksOnce, KeepsLeft, ReadsToEnd}
+use Rattle.set_model.specs.declared.script.Script.{Script}
+use Rattle.set_model.specs.Control.{Mode, mode_of, has_refusal}
+use Rattle.set_script.specs.ScriptText.{IsScriptText}
+use Rattle.script_run.specs.Listings.{listing_text, tables_text}
+use Rattle.pipapo_cli.specs.declared.fault.Fault.{Fault}
+use Rattle.pipapo_cli.specs.declared.fault.Fault.TheVariants as faults
+use Rattle.pipapo_cli.specs.declared.words.Task.{Task}
+use Rattle.pipapo_cli.specs.declared.words.Task.TheVariants as tasks
+use Rattle.pipapo_cli.specs.declared.words.Command.{Command as Asked}
+use Rattle.pipapo_cli.specs.Words.{Command, IsCommand, IsRun, IsList, IsDump, IsScriptOf, a_run, a_list, a_dump, file_names}
+use Rattle.pipapo_cli.specs.WordForms.{plain, verb_of, other_names}
+use Rattle.pipapo_cli.specs.Transcript.{IsTranscript, IsTextOf}
+use Rattle.pipapo_cli.specs.Causes.{IsCause, of_script, of_keys, IsScriptCause, IsKeysCause, IsReadable, IsSized, ReadsAs, size_limit}
+use Rattle.pipapo_cli.specs.Names.{AreReadWhole, AsksInOrder, AsksForAll}
+use Rattle.pipapo_cli.specs.Answers.{HasOutput, AreReadable}
+use Rattle.pipapo_cli.proofs.Endings.{keys-cause}
+use Rattle.pipapo_cli.proofs.Asking.{one-whole, two-whole, asks-script, asks-keys, asks-all}
+
+abbrev Numbers : Type 1
+Numbers = ℕ → Type 0
+
+-- the command of a task
+pub of-task : (words : List (List ℕ)) (c : Asked) (task : Task) → c.task ≡ task → IsCommand words (plain c) → IsCommand words (record { verb = verb_of task; names = c.script.now ∷ other_names task; keep_going = c.keep_going })
+of-task words c task e h = subst (λ (t : Task). IsCommand words (record { verb = verb_of t; names = c.script.now ∷ other_names t; keep_going = c.keep_going })) e h
+
+-- a fact of an answer that was handed on
+pub handed : {X E F : Type 0} (r : Result X F) (m : Result X E) (P : X → Type 0) → IfOk r (λ x. m ≡ Ok x) → IfOk m P → IfOk r P
+handed {X} {E} {F} (Ok x) m P e h = subst (λ (n : Result X E). IfOk n P) e h
+handed (Err f) m P e h = tt
+
+pub is-memory : {X : Type 0} (r : Result X Fault) (P : Fault → Type 0) → IfErr r (λ f. f ≡ faults.Memory) → P faults.Memory → IfErr r P
+is-memory (Ok x) P e p = tt
+is-memory (Err f) P e p = subst P (sym e) p
+
+pub is-memory-and : {X : Type 0} (r : Result X Fault) (P : Fault → Type 0) → IsErrAnd r (λ f. f ≡ faults.Memory) → P faults.Memory → IfErr r P
+is-memory-and (Ok x) P e p = tt
+is-memory-and (Err f) P e p = subst P (sym e) p
+
+on-ok : {X E P : Type 0} (r : Result X E) → P → OnOk r P
+on-ok (Ok x) p = p
+on-ok (Err e) p = tt
+
+-- what reading the script of a name says
+abbrev Read : (List ℕ → Option (List ℕ)) → List ℕ → Script → Type 0
+Read told script s = (text : List ℕ) → told script ≡ Some text → (length text ≤ size_limit) × IsScriptText text s
+
+readable : (told : List ℕ → Option (List ℕ)) (script : List ℕ) (s : Script) → Read told script s → IsReadable script told
+readable told script s read text at = let r = read text at in (r.0, (s, r.1))
+
+module _ (words : List (List ℕ)) (told : List ℕ → Option (List ℕ)) (asked : List (List ℕ)) (before now : ℕ) (script : List ℕ) (s : Script) (read : Read told script s) (names : asked ≡ script ∷ []) (quiet : now ≡ before) where
+  -- A text of the script, where a command has no other file.
+  module _ {X : Type 0} (text_of : X → List ℕ) (refused_of : X → Bool) (text : Mode → Script → List ℕ) (goes : Bool) where
+    text-of-script : (out : X) → text_of out ≡ text (mode_of goes) s → refused_of out ≡ has_refusal (mode_of goes) s → (name script_text : List ℕ) → Some script ≡ Some name → told name ≡ Some script_text → IsTextOf text script_text (mode_of goes) (refused_of out) (text_of out)
+    text-of-script out is_text is_refusal name script_text same at =
+        let here : script ≡ name = cc same in
+        record { script = s; script_is = (read script_text (ap told here ∙ at)).1; text_is = is_text; refusal = is_refusal }
+
+  alone-readable : (c : Command) → file_names c ≡ script ∷ [] → AreReadable c told
+  alone-readable c one = record {
+    script = λ name is_name. let here : script ≡ name = (let e : Some script ≡ Some name = sym (ap (λ (ns : List (List ℕ)). slice_get ns 0) one) ∙ is_name in cc e) in subst (λ (n : List ℕ). IsReadable n told) here (readable told script s read);
+    keys = λ name keys two. absurd (let e : script ∷ [] ≡ name ∷ keys ∷ [] = sym one ∙ two in cc e);
+  }
+
+  pub listed : {X : Type 0} (text_of : X → List ℕ) (refused_of : X → Bool) (goes : Bool) (r : Result X Fault) → IsList words script goes → IfOk r (λ out. text_of out ≡ listing_text (mode_of goes) s) → IfOk r (λ out. refused_of out ≡ has_refusal (mode_of goes) s)
+      → IfOk r (λ out. HasOutput words told asked before now (refused_of out) (text_of out))
+  listed text_of refused_of goes (Ok out) is_list is_text is_refusal =
+      record { command = a_list script goes; is_command = is_list; all_asked = names; quiet = quiet; readable = alone-readable (a_list script goes) refl; is_output = text-of-script text_of refused_of listing_text goes out is_text is_refusal }
+  listed text_of refused_of goes (Err f) is_list is_text is_refusal = tt
+
+  pub dumped : {X : Type 0} (text_of : X → List ℕ) (refused_of : X → Bool) (goes : Bool) (r : Result X Fault) → IsDump words script goes → IfOk r (λ out. text_of out ≡ tables_text (mode_of goes) s) → IfOk r (λ out. refused_of out ≡ has_refusal (mode_of goes) s)
+      → IfOk r (λ out. HasOutput words told asked before now (refused_of out) (text_of out))
+  dumped text_of refused_of goes (Ok out) is_dump is_text is_refusal =
+      record { command = a_dump script goes; is_command = is_dump; all_asked = names; quiet = quiet; readable = alone-readable (a_dump script goes) refl; is_output = text-of-script text_of refused_of tables_text goes out is_text is_refusal }
+  dumped text_of refused_of goes (Err f) is_dump is_text is_refusal = tt
+
+  -- Where memory was wanting behind the script.
+  pub alone-cause : {X : Type 0} (c : Command) (r : Result X Fault) → IsCommand words c → IsScriptOf c script → IfErr r (λ f. f ≡ faults.Memory) → IfErr r (IsCause words told asked before now)
+  alone-cause c r is_c is_script e = is-memory r (IsCause words told asked before now) e (of_script faults.Memory c script is_c is_script (inr names, quiet))
+
+  -- Where the command has no other file, all were read.
+  pub alone-whole : {X : Type 0} (c : Command) (r : Result X Fault) (old new : Numbers) (left : ℕ → Option (List ℕ)) → IsCommand words c → file_names c ≡ script ∷ [] → ReadsToEnd old new left → OnOk r (AsksForAll words asked old new left)
+  alone-whole c r old new left is_c one whole =
+      let read_whole : AreReadWhole old new left 1 = one-whole old new new left left whole (λ m o. (o, refl)) in
+      on-ok r (asks-all words asked old new left c is_c (names ∙ sym one) (subst (λ (n : ℕ). AreReadWhole old new left n) (sym (ap length one)) read_whole))
+
+-- A run, behind a script that was read.
+module _ {X : Type 0} (words : List (List ℕ)) (told told_mid : List ℕ → Option (List ℕ)) (same : (name : List ℕ) → told_mid name ≡ told name) (asked_mid asked : List (List ℕ)) (before mid now : ℕ) (script keys : List ℕ) (s : Script) (read : Read told script s)
+    (names : asked_mid ≡ script ∷ []) (quiet : mid ≡ before) (goes : Bool) (is_run : IsRun words script keys goes) (r : Result X Fault) where
+  abbrev Ended : Type 0
+  Ended = OnOk r ((asked ≡ asked_mid ++ keys ∷ []) × (now ≡ mid))
+
+  pub run-output : (text_of : X → List ℕ) (refused_of : X → Bool) → OnOk r (IsSized keys told_mid)
+      → IfOk r (λ out. (text keys_text : List ℕ) → IsScriptText text s → told_mid keys ≡ Some keys_text → IsTranscript text keys_text 1 (mode_of goes) (refused_of out) (text_of out)) → Ended
+      → IfOk r (λ out. HasOutput words told asked before now (refused_of out) (text_of out))
+  run-output text_of refused_of sized transcript ended = go r sized transcript ended where
+    go : (q : Result X Fault) → OnOk q (IsSized keys told_mid) → IfOk q (λ out. (text keys_text : List ℕ) → IsScriptText text s → told_mid keys ≡ Some keys_text → IsTranscript text keys_text 1 (mode_of goes) (refused_of out) (text_of out))
+        → OnOk q ((asked ≡ asked_mid ++ keys ∷ []) × (now ≡ mid)) → IfOk q (λ out. HasOutput words told asked before now (refused_of out) (text_of out))
+    go (Ok out) sized transcript ended = record {
+      command = a_run script keys goes;
+      is_command = is_run;
+      all_asked = ended.0 ∙ ap (λ (z : List (List ℕ)). z ++ keys ∷ []) names;
+      quiet = ended.1 ∙ quiet;
+      readable = record {
+        script = λ name is_name. let here : script ≡ name = cc is_name in subst (λ (n : List ℕ). IsReadable n told) here (readable told script s read);
+        keys = λ name other two. let here : keys ≡ other = cc two in λ text at. sized text (same keys ∙ ap told here ∙ at);
+      };
+      is_output = λ name other script_text keys_text two at at_keys.
+          let a : script ≡ name = cc two in
+          let b : keys ≡ other = cc two in
+          transcript script_text keys_text (read script_text (ap told a ∙ at)).1 (same keys ∙ ap told b ∙ at_keys);
+    }
+    go (Err f) sized transcript ended = tt
+
+  pub run-cause : IfErr r (IsKeysCause script keys told_mid asked mid now) → IfErr r (IsCause words told asked before now)
+  run-cause cause = go r cause where
+    go : (q : Result X Fault) → IfErr q (IsKeysCause script keys told_mid asked mid now) → IfErr q (IsCause words told asked before now)
+    go (Ok out) cause = tt
+    go (Err f) cause = of_keys f script keys goes is_run (readable told script s read) (subst (λ (n : ℕ). IsKeysCause script keys told asked n now f) quiet (keys-cause script keys told_mid told asked mid now f same cause))
+
+  pub run-whole : (old picked new : Numbers) (left_old left_mid left : ℕ → Option (List ℕ)) → ReadsToEnd old picked left_mid → KeepsLeft old picked left_old left_mid → KeepsLeft picked new left_mid left → OnOk r (ReadsToEnd picked new left) → Ended
+      → OnOk r (AsksForAll words asked old new left)
+  run-whole old picked new left_old left_mid left whole kept_first kept whole_keys ended = go r whole_keys ended where
+    go : (q : Result X Fault) → OnOk q (ReadsToEnd picked new left) → OnOk q ((asked ≡ asked_mid ++ keys ∷ []) × (now ≡ mid)) → OnOk q (AsksForAll words asked old new left)
+    go (Ok out) whole_keys ended = asks-all words asked old new left (a_run script keys goes) is_run (ended.0 ∙ ap (λ (z : List (List ℕ)). z ++ keys ∷ []) names) (two-whole old picked new left_old left_mid left whole kept_first kept whole_keys)
+    go (Err f) whole_keys ended = tt
+
+  pub run-names : (old picked new : Numbers) (left_mid left : ℕ → Option (List ℕ)) → AsksOnce asked_mid asked keys → ReadsToEnd old picked left_mid → KeepsLeft picked new left_mid left → AsksInOrder words told asked old new left
+  run-names old picked new left_mid left once whole kept = asks-keys words told asked_mid asked old picked new left_mid left script keys goes is_run names once (readable told script s read) whole kept

@@ -1,0 +1,7 @@
+use Rattle.std.proofs.Common.{take, codes}
+use Rattle.set_report.specs.ListText.{kind_text}
+use Rattle.set_report.proofs.ListLaws.{Joins}
+use Rattle.set_report.proofs.list.write_kinds.Given as goal
+
+abbrev pub invariant-kinds : goal.invariant-kinds
+invariant-kinds l = Joins kind_text (codes " . ") (take l.kind-index l.kinds) l.initial.out.items l.out.items l.separator

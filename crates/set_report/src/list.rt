@@ -1,0 +1,374 @@
+ghost use Rattle.std.specs.Prelude.{◌≡◌, ◌++◌, ◌<◌, ◌≤◌, true, All, length, take, OnOk, OnErr, slice_get, flat_map, codes};
+ghost use Rattle.std.specs.List.{zip, join_by, list_any};
+ghost use Rattle.set_model.specs.Key.{is_good, parts_fit};
+ghost use Rattle.addr_text.specs.Written.{interval_text};
+ghost use Rattle.set_report.specs.Kept.{Keeps};
+ghost use Rattle.set_report.specs.ListText.{kind_text, parts_text, expiry_text, comment_text, element_text, type_line, size_line, flag_words, flags_line, timeout_line, elements_line, items_text, set_block, same_table, sets_beside, table_block, first_sets, list_text};
+ghost use Rattle.set_report.specs.Pieces.{piece_text};
+ghost use Rattle.set_report.specs.Writes.{AppendsPart, AreSetsOf};
+
+use crate::piece::Piece::{Number, Time, Word};
+use crate::piece::{Piece, append_pieces, family_word};
+use addr_text::write_interval;
+use pipapo_image::SetImage;
+use set_model::{Element, Interval, Kind, Memory, Schema, SetDecl};
+use set_space::Generation;
+
+/// Appends pieces. After `Memory` the old bytes stand in front, as behind each writer of this file.
+fn write(pieces: &[Piece], out: &mut Vec<u8>) -> Result<(), Memory>
+    ensures ok { OnOk result (out.new.items ≡ out.old.items ++ flat_map piece_text pieces.now) }
+    ensures kept { Keeps out.old.items out.new.items }
+{
+    append_pieces(pieces, out)
+}
+
+fn write_part(kind: Kind, part: Interval, out: &mut Vec<u8>) -> Result<(), Memory>
+    requires { is_good kind part ≡ true }
+    ensures ok { OnOk result (out.new.items ≡ out.old.items ++ interval_text kind part) }
+    ensures kept { Keeps out.old.items out.new.items }
+{
+    write_interval(kind, part, out)
+}
+
+/// Appends the intervals of an element.
+fn write_parts(kinds: &[Kind], parts: &[Interval], out: &mut Vec<u8>) -> Result<(), Memory>
+    requires { parts_fit kinds.now parts.now ≡ true }
+    ensures ok { OnOk result (out.new.items ≡ out.old.items ++ parts_text kinds.now parts.now) }
+    ensures kept { Keeps out.old.items out.new.items }
+{
+    let mut separator: &[u8] = b"";
+    'fields: for (field, part) in parts.iter().enumerate() {
+        write(&[Word(separator)], out)?;
+        write_part(kinds[field], *part, out)?;
+        separator = b" . ";
+    }
+    Ok(())
+}
+
+/// Appends how long an element has to live.
+fn write_expiry(
+    set: &SetDecl,
+    now: u64,
+    expiry: Option<u64>,
+    out: &mut Vec<u8>,
+) -> Result<(), Memory>
+    ensures ok { OnOk result (out.new.items ≡ out.old.items ++ expiry_text set.now now expiry) }
+    ensures kept { Keeps out.old.items out.new.items }
+{
+    match (expiry, set.timeout) {
+        (Some(expiry), _) => write(
+            &[Word(b" expires "), Time(expiry.saturating_sub(now))],
+            out,
+        ),
+        (None, Some(life)) if life > 0 => write(&[Word(b" timeout 0s")], out),
+        _ => Ok(()),
+    }
+}
+
+fn write_comment(comment: &[u8], out: &mut Vec<u8>) -> Result<(), Memory>
+    ensures ok { OnOk result (out.new.items ≡ out.old.items ++ comment_text comment.now) }
+    ensures kept { Keeps out.old.items out.new.items }
+{
+    match comment {
+        [] => Ok(()),
+        _ => write(&[Word(b" comment \""), Word(comment), Word(b"\"")], out),
+    }
+}
+
+fn write_element(
+    set: &SetDecl,
+    now: u64,
+    element: &Element,
+    out: &mut Vec<u8>,
+) -> Result<(), Memory>
+    requires { parts_fit set.now.kinds element.now.parts ≡ true }
+    ensures ok { OnOk result (out.new.items ≡ out.old.items ++ element_text set.now now element.now) }
+    ensures kept { Keeps out.old.items out.new.items }
+{
+    write_parts(set.kinds.as_slice(), element.parts.as_slice(), out)?;
+    write_expiry(set, now, element.expiry, out)?;
+    write_comment(element.comment.as_slice(), out)
+}
+
+/// Appends elements, one below another.
+fn write_each(
+    set: &SetDecl,
+    now: u64,
+    elements: &[Element],
+    out: &mut Vec<u8>,
+) -> Result<(), Memory>
+    requires { All (λ e. parts_fit set.now.kinds e.parts ≡ true) elements.now }
+    ensures ok { OnOk result (out.new.items ≡ out.old.items ++ join_by (element_text set.now now) (codes ",\n\t\t\t     ") elements.now) }
+    ensures kept { Keeps out.old.items out.new.items }
+{
+    let mut separator: &[u8] = b"";
+    'elements: for element in elements {
+        write(&[Word(separator)], out)?;
+        write_element(set, now, element, out)?;
+        separator = b",\n\t\t\t     ";
+    }
+    Ok(())
+}
+
+/// Appends the item `elements`, where there are any.
+fn write_elements(
+    set: &SetDecl,
+    now: u64,
+    elements: &[Element],
+    out: &mut Vec<u8>,
+) -> Result<(), Memory>
+    requires { All (λ e. parts_fit set.now.kinds e.parts ≡ true) elements.now }
+    ensures ok { OnOk result (out.new.items ≡ out.old.items ++ elements_line set.now now elements.now) }
+    ensures kept { Keeps out.old.items out.new.items }
+{
+    match elements {
+        [] => Ok(()),
+        _ => {
+            write(&[Word(b"\t\telements = { ")], out)?;
+            write_each(set, now, elements, out)?;
+            write(&[Word(b" }\n")], out)
+        }
+    }
+}
+
+/// A kind by its name in scripts.
+fn kind_word(kind: Kind) -> &'static [u8]
+    ensures { result.now ≡ kind_text kind }
+{
+    match kind {
+        Kind::Ipv4 => b"ipv4_addr",
+        Kind::Ipv6 => b"ipv6_addr",
+        Kind::Ether => b"ether_addr",
+        Kind::Proto => b"inet_proto",
+        Kind::Service => b"inet_service",
+        Kind::Mark => b"mark",
+    }
+}
+
+fn write_kinds(kinds: &[Kind], out: &mut Vec<u8>) -> Result<(), Memory>
+    ensures ok { OnOk result (out.new.items ≡ out.old.items ++ join_by kind_text (codes " . ") kinds.now) }
+    ensures kept { Keeps out.old.items out.new.items }
+{
+    let mut separator: &[u8] = b"";
+    'kinds: for kind in kinds {
+        write(&[Word(separator), Word(kind_word(*kind))], out)?;
+        separator = b" . ";
+    }
+    Ok(())
+}
+
+/// Appends the item `type`.
+fn write_type(set: &SetDecl, out: &mut Vec<u8>) -> Result<(), Memory>
+    ensures ok { OnOk result (out.new.items ≡ out.old.items ++ type_line set.now) }
+    ensures kept { Keeps out.old.items out.new.items }
+{
+    write(&[Word(b"\t\ttype ")], out)?;
+    write_kinds(set.kinds.as_slice(), out)?;
+    write(&[Word(b"\n")], out)
+}
+
+/// Appends the item `size`, where a set has one.
+fn write_size(size: Option<u32>, out: &mut Vec<u8>) -> Result<(), Memory>
+    ensures ok { OnOk result (out.new.items ≡ out.old.items ++ size_line size) }
+    ensures kept { Keeps out.old.items out.new.items }
+{
+    match size {
+        None => Ok(()),
+        Some(most) => write(
+            &[Word(b"\t\tsize "), Number(u64::from(most)), Word(b"\n")],
+            out,
+        ),
+    }
+}
+
+/// Appends the item `flags`, where a set has one.
+fn write_flags(set: &SetDecl, out: &mut Vec<u8>) -> Result<(), Memory>
+    ensures ok { OnOk result (out.new.items ≡ out.old.items ++ flags_line (flag_words set.now)) }
+    ensures kept { Keeps out.old.items out.new.items }
+{
+    let flags: &[u8] = match (set.interval, set.timed, set.disjoint) {
+        (false, false, false) => return Ok(()),
+        (true, false, false) => b"interval",
+        (false, true, false) => b"timeout",
+        (false, false, true) => b"disjoint",
+        (true, true, false) => b"interval,timeout",
+        (true, false, true) => b"interval,disjoint",
+        (false, true, true) => b"timeout,disjoint",
+        (true, true, true) => b"interval,timeout,disjoint",
+    };
+    write(&[Word(b"\t\tflags "), Word(flags), Word(b"\n")], out)
+}
+
+/// Appends the item `timeout`, where a set has one.
+fn write_timeout(timeout: Option<u64>, out: &mut Vec<u8>) -> Result<(), Memory>
+    ensures ok { OnOk result (out.new.items ≡ out.old.items ++ timeout_line timeout) }
+    ensures kept { Keeps out.old.items out.new.items }
+{
+    match timeout {
+        None => Ok(()),
+        Some(life) => write(&[Word(b"\t\ttimeout "), Time(life), Word(b"\n")], out),
+    }
+}
+
+/// The elements of a set. Their intervals fit its kinds.
+fn elements_of(image: &SetImage) -> &[Element]
+    ensures same { result.now ≡ image.now.elements }
+    ensures fit { All (λ e. parts_fit image.now.kinds e.parts ≡ true) image.now.elements }
+{
+    image.elements.as_slice()
+}
+
+/// Appends the items of a set.
+fn write_items(
+    set: &SetDecl,
+    image: &SetImage,
+    now: u64,
+    out: &mut Vec<u8>,
+) -> Result<(), Memory>
+    requires { image.now.kinds ≡ set.now.kinds }
+    ensures ok { OnOk result (out.new.items ≡ out.old.items ++ items_text now set.now image.now) }
+    ensures kept { Keeps out.old.items out.new.items }
+{
+    write_type(set, out)?;
+    write_size(set.size, out)?;
+    write_flags(set, out)?;
+    write_timeout(set.timeout, out)?;
+    write_elements(set, now, elements_of(image), out)
+}
+
+/// Appends a set.
+fn write_set(
+    set: &SetDecl,
+    image: &SetImage,
+    now: u64,
+    out: &mut Vec<u8>,
+) -> Result<(), Memory>
+    requires { image.now.kinds ≡ set.now.kinds }
+    ensures ok { OnOk result (out.new.items ≡ out.old.items ++ set_block now (set.now, image.now)) }
+    ensures kept { Keeps out.old.items out.new.items }
+{
+    write(
+        &[Word(b"\tset "), Word(set.name.as_slice()), Word(b" {\n")],
+        out,
+    )?;
+    write_items(set, image, now, out)?;
+    write(&[Word(b"\t}\n")], out)
+}
+
+/// Whether two sets stand in one table.
+fn is_same_table(one: &SetDecl, other: &SetDecl) -> bool
+    ensures { result ≡ same_table one.now other.now }
+{
+    family_word(one.family) == family_word(other.family)
+        && one.table.as_slice() == other.table.as_slice()
+}
+
+/// Appends the sets of the table in which `first` stands.
+fn write_sets(
+    schema: &Schema,
+    generation: &Generation,
+    first: &SetDecl,
+    now: u64,
+    out: &mut Vec<u8>,
+) -> Result<(), Memory>
+    requires { AreSetsOf schema.now generation.now.sets }
+    ensures ok { OnOk result (out.new.items ≡ out.old.items ++ join_by (set_block now) (codes "\n") (sets_beside first.now (zip schema.now generation.now.sets))) }
+    ensures kept { Keeps out.old.items out.new.items }
+{
+    let mut separator: &[u8] = b"";
+    'sets: for place in 0..schema.len() {
+        let set = schema.at(place);
+        if !is_same_table(first, set) {
+            continue;
+        }
+        write(&[Word(separator)], out)?;
+        write_set(set, generation.sets.at(place), now, out)?;
+        separator = b"\n";
+    }
+    Ok(())
+}
+
+/// Appends the table in which `first` stands.
+fn write_table(
+    schema: &Schema,
+    generation: &Generation,
+    first: &SetDecl,
+    now: u64,
+    out: &mut Vec<u8>,
+) -> Result<(), Memory>
+    requires { AreSetsOf schema.now generation.now.sets }
+    ensures ok { OnOk result (out.new.items ≡ out.old.items ++ table_block (zip schema.now generation.now.sets) now first.now) }
+    ensures kept { Keeps out.old.items out.new.items }
+{
+    write(
+        &[
+            Word(b"table "),
+            Word(family_word(first.family)),
+            Word(b" "),
+            Word(first.table.as_slice()),
+            Word(b" {\n"),
+        ],
+        out,
+    )?;
+    write_sets(schema, generation, first, now, out)?;
+    write(&[Word(b"}\n")], out)
+}
+
+/// Whether a set stands in the table of one that was declared before this place.
+fn has_table(schema: &Schema, place: u64, set: &SetDecl) -> bool
+    requires { place ≤ length schema.now }
+    ensures { result ≡ list_any (λ other. same_table other set.now) (take place schema.now) }
+{
+    schema.as_slice()[..place as usize]
+        .iter()
+        .any(|other| is_same_table(other, set))
+}
+
+/// Appends all tables.
+fn write_tables(
+    schema: &Schema,
+    generation: &Generation,
+    now: u64,
+    out: &mut Vec<u8>,
+) -> Result<(), Memory>
+    requires { AreSetsOf schema.now generation.now.sets }
+    ensures ok { OnOk result (out.new.items ≡ out.old.items ++ list_text schema.now generation.now.sets now) }
+    ensures kept { Keeps out.old.items out.new.items }
+{
+    let mut separator: &[u8] = b"";
+    'tables: for place in 0..schema.len() {
+        let set = schema.at(place);
+        if has_table(schema, place, set) {
+            continue;
+        }
+        write(&[Word(separator)], out)?;
+        write_table(schema, generation, set, now, out)?;
+        separator = b"\n";
+    }
+    Ok(())
+}
+
+/// Appends the declared sets as they stand in a generation, as nft(8) lists them: a table with its sets, a
+/// set with its items and its elements. Of an element that expires it tells how long that is from `now`, in
+/// milliseconds.
+///
+/// # Errors
+///
+/// `Memory` where there is none; `out` is then as before.
+pub fn write_list(
+    schema: &Schema,
+    generation: &Generation,
+    now: u64,
+    out: &mut Vec<u8>,
+) -> Result<(), Memory>
+    requires { AreSetsOf schema.now generation.now.sets }
+    ensures ok { OnOk result (out.new.items ≡ out.old.items ++ list_text schema.now generation.now.sets now) }
+    ensures err { OnErr result (AppendsPart out.old.items out.new.items (list_text schema.now generation.now.sets now)) }
+{
+    let len = out.len();
+    let written = write_tables(schema, generation, now, out);
+    if written.is_err() {
+        out.truncate(len);
+    }
+    written
+}
