@@ -8,7 +8,6 @@ use Rattle.set_model.specs.declared.script.Verb.TheVariants.{Add, Create, Delete
 use Rattle.set_model.specs.SetState.{State, Added, New, Already, Renewed, Refused, add, add_by, add_new, twin, refusal, place, renewed, removed, without}
 use Rattle.set_model.specs.Key.{start_key}
 use Rattle.set_model.specs.Control.{as_added, as_created, as_deleted, as_destroyed, changed_set}
-use Rattle.script_run.specs.Running.{kinds_of}
 
 -- A set has the kinds and the size of another.
 pub record IsAlike (s t : State) : Type 0 where

@@ -8,13 +8,13 @@ use Rattle.set_model.specs.declared.report.Line.{Line}
 use Rattle.set_model.specs.declared.script.Script.{Script}
 use Rattle.set_model.specs.declared.script.SetDecl.{SetDecl}
 use Rattle.set_model.specs.SetState.{State}
-use Rattle.set_model.specs.Control.{Mode, mode_of, Generation, Control, start, section, history, is_refusal, has_refusal}
+use Rattle.set_model.specs.Control.{Mode, mode_of, Control, start, section, history, is_refusal, has_refusal}
 use Rattle.set_model.specs.Legal.{Legal, IsLegalLine, IsLegalPair, IsVerdict, Placed, placed, before, after, last, section_events}
 use Rattle.set_model.specs.Runnable.{IsFitting}
 use Rattle.set_model.specs.Text.{transcript_text, section_text, section_count, events_text, lines_text, section_lines, packets_before}
 use Rattle.script_run.specs.declared.telling.Telling.{Telling}
 use Rattle.script_run.specs.Packets.{verdict_in, packet_line, packet_lines}
-use Rattle.script_run.specs.Running.{kinds_of, declared_kinds, HasKinds, Stands}
+use Rattle.script_run.specs.Running.{declared_kinds, HasKinds, Stands}
 use Rattle.script_run.specs.Telling.{section_at, TellsSection}
 use Rattle.script_run.proofs.ControlLaws.{history-next, history_of, history_numbered, section_later, kinds_long}
 use Rattle.script_run.proofs.Lists.{item-at, length-enumerate, list_any-append, numbered, numbered-again, part-numbered}

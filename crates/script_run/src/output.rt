@@ -7,8 +7,10 @@ ghost use Rattle.set_model.specs.declared.report.Line.{Line as PacketLine};
 ghost use Rattle.script_run.specs.Listings.{listing_text, tables_text};
 ghost use Rattle.script_run.specs.Telling.{section_at};
 
-use crate::telling::Telling;
+use crate::telling::{Telling, tells_refusal};
+use crate::whole::Whole;
 use set_model::{Keys, Listed, Memory, Script};
+use set_report::{write_dump, write_remarks};
 use std::alloc::Global;
 
 /// What a command writes: its text, and whether that tells that a change was refused.
@@ -79,10 +81,17 @@ pub fn listing(_alloc: Global, _script: &Script, _keep_going: bool) -> Result<Ou
 /// # Errors
 ///
 /// `Memory` where there is none left.
-pub fn dump(_alloc: Global, _script: &Script, _keep_going: bool) -> Result<Output, Memory>
-    requires { IsRunnable _script.now }
-    ensures text { IfOk result (λ out. out.text.items ≡ tables_text (mode_of _keep_going) _script.now) }
-    ensures refused { IfOk result (λ out. out.refused ≡ has_refusal (mode_of _keep_going) _script.now) }
+pub fn dump(alloc: Global, script: &Script, keep_going: bool) -> Result<Output, Memory>
+    requires { IsRunnable script.now }
+    ensures text { IfOk result (λ out. out.text.items ≡ tables_text (mode_of keep_going) script.now) }
+    ensures refused { IfOk result (λ out. out.refused ≡ has_refusal (mode_of keep_going) script.now) }
 {
-    Err(Memory)
+    let whole = Whole::run(alloc, script, keep_going)?;
+    let mut text = Vec::new(alloc);
+    write_remarks(&script.schema, &whole.events, &mut text)?;
+    write_dump(&script.schema, whole.runner.work.base(), &mut text)?;
+    Ok(Output {
+        text,
+        refused: tells_refusal(whole.events.as_slice()),
+    })
 }

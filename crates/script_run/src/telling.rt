@@ -35,7 +35,7 @@ fn is_refusal(event: &Event) -> bool
 }
 
 /// Whether an event tells that a change was refused.
-pub fn has_refusal(events: &[Event]) -> bool
+pub fn tells_refusal(events: &[Event]) -> bool
     ensures { result ≡ list_any refuses events.now }
 {
     events.iter().any(|event| is_refusal(event))
@@ -71,7 +71,7 @@ impl Telling {
         let mut events = Events::new(alloc);
         self.runner.run(steps, &mut events)?;
         write_events(schema, &events, &mut self.output.text)?;
-        self.output.refused = self.output.refused || has_refusal(events.as_slice());
+        self.output.refused = self.output.refused || tells_refusal(events.as_slice());
         Ok(())
     }
 

@@ -1,8 +1,8 @@
-use Rattle.std.proofs.Common.{◌≡◌, ◌∙◌, [], List, All, subst, sym, take}
+use Rattle.std.proofs.Common.{◌∙◌, [], List, All, subst, sym, take}
 use Rattle.set_model.specs.declared.script.Step.{Step}
 use Rattle.set_model.specs.Control.{mode_of}
 use Rattle.set_model.specs.Runnable.{IsRunnableStep}
-use Rattle.script_run.specs.Running.{kinds_of, declared_kinds, HasKinds, GoesOn}
+use Rattle.script_run.specs.Running.{kinds_of, declared_kinds}
 use Rattle.script_run.proofs.Lists.{of-place}
 use Rattle.script_run.proofs.RunLaws.{step-of, declared, own_kinds, next_stands, events_declared, sets_declared}
 use Rattle.script_run.proofs.whole.Whole.run.Goals as goal
