@@ -1,0 +1,18 @@
+# Listings that nft(8) itself printed are read, and the sets that `pipapo list` shows are those of the listing. Items
+# without effect, handles, and the lengths of lives beside their ends aren't shown again; blocks of marks are shown by
+# their ends; and blanks don't count.
+top=$(pwd)
+"$top/pipapo" >/dev/null
+plain() {
+    sed -e '/^#/d' -e 's/ # handle [0-9]*$//' -e '/^\t\tpolicy /d' -e '/^\t\tgc-interval /d' -e '/^\t\tcomment /d' \
+        -e '/^\t\tflags timeout$/d' -e 's|0x00000100/24|0x00000100-0x000001ff|' -e 's/ timeout [0-9a-z]* expires / expires /g' | tr -s ' \t\n' '   '
+}
+bad=0
+for listing in checks/listings/*.nft; do
+    if [ "$("$top/pipapo" list "$listing" | plain)" != "$(plain <"$listing")" ]; then
+        echo "$listing: listed as"
+        "$top/pipapo" list "$listing"
+        bad=1
+    fi
+done
+exit $bad
