@@ -2,3 +2,4 @@ mod PartLaws
 mod LineLaws
 mod Listings
 mod ListLaws
+mod SetLaws

@@ -1,4 +1,4 @@
-use Rattle.std.proofs.Common.{◌≡◌, sym, ap, subst, ◌++◌, codes, List, ℕ, OnOk, OnErr}
+use Rattle.std.proofs.Common.{◌≡◌, sym, ap, subst, ◌++◌, codes, OnOk, OnErr}
 use Rattle.set_model.specs.Text.{verdict_text, numbered}
 use Rattle.set_report.specs.Writes.{AppendsPart}
 use Rattle.set_report.proofs.LineLaws.{packet_line}
