@@ -9,3 +9,4 @@ mod DumpRuns
 mod DumpBits
 mod DumpLines
 mod DumpTables
+mod SetLaws

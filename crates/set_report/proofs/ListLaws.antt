@@ -163,11 +163,11 @@ first_more (x ∷ xs) y =
     ap (λ zs. x ∷ filter (of_others x) zs) (first_more xs y)
     ∙ ap (λ zs. x ∷ zs) (filter-append (of_others x) (first_sets xs) (fresh (list_any (λ z. same_table z y) xs) y))
     ∙ go (list_any (λ z. same_table z y) xs) (same_table x y) refl where
-  go : (b a : Bool) → same_table x y ≡ a → x ∷ (filter (of_others x) (first_sets xs) ++ filter (of_others x) (fresh b y)) ≡ (x ∷ filter (of_others x) (first_sets xs)) ++ fresh (same_table x y || b) y
-  go true true e = rw e refl
-  go true false e = rw e refl
-  go false true e = rw e refl
-  go false false e = rw e refl
+      go : (b a : Bool) → same_table x y ≡ a → x ∷ (filter (of_others x) (first_sets xs) ++ filter (of_others x) (fresh b y)) ≡ (x ∷ filter (of_others x) (first_sets xs)) ++ fresh (same_table x y || b) y
+      go true true e = rw e refl
+      go true false e = rw e refl
+      go false true e = rw e refl
+      go false false e = rw e refl
 
 first_known : (xs : List SetDecl) (y : SetDecl) → list_any (λ x. same_table x y) xs ≡ true → first_sets (xs ++ y ∷ []) ≡ first_sets xs
 first_known xs y h = first_more xs y ∙ ap (λ b. first_sets xs ++ fresh b y) h ∙ append-nil (first_sets xs)

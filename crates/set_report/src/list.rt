@@ -8,6 +8,9 @@ ghost use Rattle.set_report.specs.ListText.{parts_text, expiry_text, comment_tex
 ghost use Rattle.set_report.specs.Pieces.{piece_text};
 ghost use Rattle.set_report.specs.Writes.{AppendsPart, AreSetsOf};
 
+#[cfg(test)]
+mod tests;
+
 use crate::kinds::kind_word;
 use crate::piece::Piece::{Number, Time, Word};
 use crate::piece::{Piece, append_pieces, family_word};
@@ -58,10 +61,7 @@ fn write_expiry(
     ensures kept { Keeps out.old.items out.new.items }
 {
     match (expiry, set.timeout) {
-        (Some(expiry), _) => write(
-            &[Word(b" expires "), Time(expiry.saturating_sub(now))],
-            out,
-        ),
+        (Some(expiry), _) => write(&[Word(b" expires "), Time(expiry.saturating_sub(now))], out),
         (None, Some(life)) if life > 0 => write(&[Word(b" timeout 0s")], out),
         _ => Ok(()),
     }
@@ -207,12 +207,7 @@ fn elements_of(image: &SetImage) -> &[Element]
 }
 
 /// Appends the items of a set.
-fn write_items(
-    set: &SetDecl,
-    image: &SetImage,
-    now: u64,
-    out: &mut Vec<u8>,
-) -> Result<(), Memory>
+fn write_items(set: &SetDecl, image: &SetImage, now: u64, out: &mut Vec<u8>) -> Result<(), Memory>
     requires { image.now.kinds ≡ set.now.kinds }
     ensures ok { OnOk result (out.new.items ≡ out.old.items ++ items_text now set.now image.now) }
     ensures kept { Keeps out.old.items out.new.items }
@@ -225,12 +220,7 @@ fn write_items(
 }
 
 /// Appends a set.
-fn write_set(
-    set: &SetDecl,
-    image: &SetImage,
-    now: u64,
-    out: &mut Vec<u8>,
-) -> Result<(), Memory>
+fn write_set(set: &SetDecl, image: &SetImage, now: u64, out: &mut Vec<u8>) -> Result<(), Memory>
     requires { image.now.kinds ≡ set.now.kinds }
     ensures ok { OnOk result (out.new.items ≡ out.old.items ++ set_block now (set.now, image.now)) }
     ensures kept { Keeps out.old.items out.new.items }
