@@ -1,5 +1,5 @@
 -- A run goes on as the control does.
-use Rattle.std.proofs.Common.{fold, ◌≡◌, refl, sym, ◌∙◌, ap, subst, ℕ, ◌+◌, ◌<◌, Bool, true, false, if◌then◌else◌, List, [], ◌∷◌, ◌++◌, length, take, get_or, Option, Some, None, slice_get, slice_set, arith, add-one, All, option_map}
+use Rattle.std.proofs.Common.{fold, ◌≡◌, refl, sym, ◌∙◌, ap, subst, ℕ, ◌+◌, ◌<◌, Bool, true, false, if◌then◌else◌, List, [], ◌∷◌, ◌++◌, length, take, get_or, Option, Some, None, slice_get, arith, add-one, All, option_map}
 use Rattle.std.proofs.Math.Seq.{take-suc}
 use Rattle.std.proofs.lemmas.List.{length-map}
 use Rattle.std.proofs.lemmas.List.Sums.{fold-append}
@@ -12,7 +12,7 @@ use Rattle.set_model.specs.declared.script.Step.{Step}
 use Rattle.set_model.specs.declared.script.Step.TheVariants.{Change, Flush, Commit, Abort}
 use Rattle.set_model.specs.declared.script.Verb.{Verb}
 use Rattle.set_model.specs.SetState.{State}
-use Rattle.set_model.specs.Control.{Mode, Control, Generation, mode_of, start, step, section, history, refused, rewound, committed, changed, changed_set, answered, flushed, with_set}
+use Rattle.set_model.specs.Control.{Mode, Control, Generation, mode_of, start, step, section, history, refused, rewound, committed, changed, changed_set, answered, flushed}
 use Rattle.set_space.specs.Open.{Open, IsChange}
 use Rattle.set_space.specs.Open.{with_set as work_with}
 use Rattle.set_space.proofs.SetsLaws.{set-same}
@@ -31,12 +31,7 @@ use Rattle.script_run.proofs.ControlLaws.{section_kinds, section_of, history_of,
 abbrev pub with_work : Runner → Open → Runner
 with_work r w = record r { work = w }
 
--- the run stands where a set was changed
-set_stands : (before : List Event) (c : Control) (r : Runner) (told : List Event) (set : ℕ) (t : State) (w : Open) → w ≡ work_with r.work set t → Stands before c r told
-    → Stands before (with_set c set t) (with_work r w) told
-set_stands before c r told set t w e h = rw e (record { last = h.last; sets = ap (λ z. slice_set z set t) h.sets; failed = h.failed; told = h.told })
-
--- A change of a set, where it is made and where it is refused.
+-- A change of a set that is refused.
 module _ (r : Runner) (told : List Event) (line set : ℕ) (verb : Verb) (parts : List Interval) (expiry : Option ℕ) (comment : List ℕ) (now : ℕ) where
   abbrev goes : Control → Control
   goes c = changed (mode_of r.keep_going) c line set verb parts expiry comment now (slice_get c.sets set)
@@ -44,23 +39,9 @@ module _ (r : Runner) (told : List Event) (line set : ℕ) (verb : Verb) (parts 
   answer-at : (c : Control) (s : State) (o : Option State) → o ≡ Some s → changed (mode_of r.keep_going) c line set verb parts expiry comment now o ≡ answered (mode_of r.keep_going) c line set (changed_set verb s parts expiry comment now)
   answer-at c s o e = ap (changed (mode_of r.keep_going) c line set verb parts expiry comment now) e
 
-  answer-made : (c : Control) (x : Option Why × State) → None ≡ x.0 → answered (mode_of r.keep_going) c line set x ≡ with_set c set x.1
-  answer-made c (None, t) e = refl
-  answer-made c (Some why, t) e = absurd (cc e)
-
   answer-refused : (c : Control) (why : Why) (x : Option Why × State) → Some why ≡ x.0 → answered (mode_of r.keep_going) c line set x ≡ refused (mode_of r.keep_going) c line set why
   answer-refused c why (None, t) e = absurd (cc e)
   answer-refused c why (Some other, t) e = let same : why ≡ other = cc e in ap (refused (mode_of r.keep_going) c line set) (sym same)
-
-  pub made_goes : (w : Open) → IsChange (λ s t. HasCome (changed_set verb s parts expiry comment now) None t) r.work set w → GoesOn goes r told (with_work r w) told
-  made_goes w change = record {
-    same_mode = refl;
-    stands = λ before c h.
-        let x = changed_set verb change.state parts expiry comment now in
-        let at : slice_get c.sets set ≡ Some change.state = ap (λ z. slice_get z set) h.sets ∙ change.at in
-        let is : w ≡ work_with r.work set x.1 = change.others ∙ ap (λ t. work_with r.work set t) change.changed.leaves in
-        rw (answer-at c change.state (slice_get c.sets set) at, answer-made c x change.changed.answer) (set_stands before c r told set x.1 w is h);
-  }
 
   -- a refused change leaves the work
   pub refusal_left : (why : Why) (w : Open) → IsChange (λ s t. HasCome (changed_set verb s parts expiry comment now) (Some why) t) r.work set w → w ≡ r.work

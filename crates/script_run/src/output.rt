@@ -10,7 +10,7 @@ ghost use Rattle.script_run.specs.Telling.{section_at};
 use crate::telling::{Telling, tells_refusal};
 use crate::whole::Whole;
 use set_model::{Keys, Listed, Memory, Script};
-use set_report::{write_dump, write_remarks};
+use set_report::{write_dump, write_list, write_remarks};
 use std::alloc::Global;
 
 /// What a command writes: its text, and whether that tells that a change was refused.
@@ -68,12 +68,24 @@ pub fn transcript(
 /// # Errors
 ///
 /// `Memory` where there is none left.
-pub fn listing(_alloc: Global, _script: &Script, _keep_going: bool) -> Result<Output, Memory>
-    requires { IsRunnable _script.now }
-    ensures text { IfOk result (λ out. out.text.items ≡ listing_text (mode_of _keep_going) _script.now) }
-    ensures refused { IfOk result (λ out. out.refused ≡ has_refusal (mode_of _keep_going) _script.now) }
+pub fn listing(alloc: Global, script: &Script, keep_going: bool) -> Result<Output, Memory>
+    requires { IsRunnable script.now }
+    ensures text { IfOk result (λ out. out.text.items ≡ listing_text (mode_of keep_going) script.now) }
+    ensures refused { IfOk result (λ out. out.refused ≡ has_refusal (mode_of keep_going) script.now) }
 {
-    Err(Memory)
+    let whole = Whole::run(alloc, script, keep_going)?;
+    let mut text = Vec::new(alloc);
+    write_remarks(&script.schema, &whole.events, &mut text)?;
+    write_list(
+        &script.schema,
+        whole.runner.work.base(),
+        script.last,
+        &mut text,
+    )?;
+    Ok(Output {
+        text,
+        refused: tells_refusal(whole.events.as_slice()),
+    })
 }
 
 /// Runs a script, and shows the tables of its last generation.

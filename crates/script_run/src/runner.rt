@@ -89,6 +89,7 @@ impl Runner {
     }
 
     /// The next generation at `now`, in milliseconds, and how many elements were expired then.
+    /// 2^63 generations can't be there: behind so many there is no memory.
     fn seal(&mut self, now: u64) -> Result<(Arc<Generation, Global>, u64), Memory>
         ensures same { self.new ≡ self.old }
         ensures sealed { IfOk result (λ r. (arc_value r.0 ≡ sealed self.old.work now) × (r.1 ≡ expired_count self.old.work.sets now)) }
