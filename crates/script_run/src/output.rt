@@ -76,7 +76,12 @@ pub fn listing(alloc: Global, script: &Script, keep_going: bool) -> Result<Outpu
     let whole = Whole::run(alloc, script, keep_going)?;
     let mut text = Vec::new(alloc);
     write_remarks(&script.schema, &whole.events, &mut text)?;
-    write_list(&script.schema, whole.runner.work.base(), script.last, &mut text)?;
+    write_list(
+        &script.schema,
+        whole.runner.work.base(),
+        script.last,
+        &mut text,
+    )?;
     Ok(Output {
         text,
         refused: tells_refusal(whole.events.as_slice()),
