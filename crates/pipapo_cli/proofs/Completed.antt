@@ -1,27 +1,25 @@
 -- What a call wrote, by its status.
-use Rattle.std.proofs.Common.{◌≤◌, Bool, ◌≡◌, ◌≢◌, refl, sym, ◌∙◌, ap, subst, ℕ, List, [], ◌∷◌, ◌++◌, Option, Some, None, inl, inr, arith, append-nil}
+use Rattle.std.proofs.Common.{◌≤◌, Bool, ◌≡◌, ◌≢◌, refl, sym, ◌∙◌, ap, subst, ℕ, List, [], ◌∷◌, Option, Some, None, inl, inr, arith, append-nil}
 use Rattle.std.specs.Prelude.{◌⊎◌}
 use Rattle.std.specs.Io.KnownBytes.{Appends, Keeps}
-use Rattle.token_forms.specs.declared.token.Reason.{Reason}
 use Rattle.pip_base.specs.Causes.{Rose}
 use Rattle.set_model.specs.declared.script.Script.{Script}
 use Rattle.set_model.specs.declared.packet.Packet.{Packet}
 use Rattle.set_model.specs.Control.{Mode, mode_of, has_refusal}
 use Rattle.set_model.specs.Legal.{Legal}
 use Rattle.set_model.specs.Text.{transcript_text}
-use Rattle.set_script.specs.ScriptText.{IsScriptText}
 use Rattle.set_script.proofs.ScriptWhole.{script_single}
 use Rattle.key_file.specs.KeysText.{IsKeysText}
 use Rattle.key_file.proofs.KeysLaws.{keys_single}
 use Rattle.script_run.specs.Listings.{listing_text, tables_text}
 use Rattle.pipapo_cli.specs.declared.fault.Fault.{Fault}
 use Rattle.pipapo_cli.specs.declared.fault.Fault.TheVariants.{Usage, BadScript, BadKeys, ReadFault, TooLarge, Memory}
-use Rattle.pipapo_cli.specs.Words.{Command, IsCommand, IsRun, IsScriptOf, a_run, a_list, a_dump}
+use Rattle.pipapo_cli.specs.Words.{a_run, a_list, a_dump}
 use Rattle.pipapo_cli.specs.Transcript.{IsTranscript, IsTextOf}
 use Rattle.pipapo_cli.specs.Causes.{IsCause, no_command, of_script, of_keys, IsScriptCause, IsKeysCause}
-use Rattle.pipapo_cli.specs.Lines.{done_status, status_of, read_fault_line, script_line, keys_line}
+use Rattle.pipapo_cli.specs.Lines.{done_status, status_of}
 use Rattle.pipapo_cli.specs.Answers.{Ends, written, cut, memory, IsDue, output, refusal, IsExactly, IsDone, HasOutput, TellsReadFault, TellsBadScript, TellsBadKeys}
-use Rattle.pipapo_cli.specs.Exactly.{IsExact, IsStatus, HasScript, HasKeys, Completes, Delivers, DeliversRun, RanOut}
+use Rattle.pipapo_cli.specs.Exactly.{IsStatus, HasScript, HasKeys, Completes, Delivers, DeliversRun, RanOut}
 use Rattle.pipapo_cli.proofs.Endings.{done-small, does}
 use Rattle.pipapo_cli.proofs.Exact.{exact}
 

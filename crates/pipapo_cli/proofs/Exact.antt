@@ -1,5 +1,5 @@
 -- Each status comes exactly where its cause is there.
-use Rattle.std.proofs.Common.{Bool, ap, sym, ◌≡◌, ◌∙◌, refl, subst, ℕ, List, [], ◌∷◌, length, slice_get, Option, Some, inl, inr, arith}
+use Rattle.std.proofs.Common.{Bool, ap, ◌≡◌, ◌∙◌, refl, subst, ℕ, List, [], ◌∷◌, length, slice_get, Option, Some, inl, inr, arith}
 use Rattle.token_forms.specs.declared.token.Reason.{Reason}
 use Rattle.pip_base.specs.Causes.{Rose}
 use Rattle.set_model.specs.declared.script.Script.{Script}

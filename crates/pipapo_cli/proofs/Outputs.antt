@@ -1,5 +1,5 @@
 -- What a command gives behind a script that was read.
-use Rattle.std.proofs.Common.{◌≤◌, Bool, ◌≡◌, refl, sym, ◌∙◌, ap, subst, ℕ, List, [], ◌∷◌, ◌++◌, length, slice_get, Option, Some, Result, Ok, Err, inl, inr}
+use Rattle.std.proofs.Common.{◌≤◌, Bool, ◌≡◌, refl, sym, ◌∙◌, ap, subst, ℕ, List, [], ◌∷◌, ◌++◌, length, slice_get, Option, Some, Result, Ok, Err, inr}
 use Rattle.std.specs.Prelude.{IfOk, IfErr, IsErrAnd, OnOk}
 use Rattle.pip_base.specs.Picks.{AsksOnce, KeepsLeft, ReadsToEnd}
 use Rattle.set_model.specs.declared.script.Script.{Script}
@@ -9,16 +9,15 @@ use Rattle.script_run.specs.Listings.{listing_text, tables_text}
 use Rattle.pipapo_cli.specs.declared.fault.Fault.{Fault}
 use Rattle.pipapo_cli.specs.declared.fault.Fault.TheVariants as faults
 use Rattle.pipapo_cli.specs.declared.words.Task.{Task}
-use Rattle.pipapo_cli.specs.declared.words.Task.TheVariants as tasks
 use Rattle.pipapo_cli.specs.declared.words.Command.{Command as Asked}
 use Rattle.pipapo_cli.specs.Words.{Command, IsCommand, IsRun, IsList, IsDump, IsScriptOf, a_run, a_list, a_dump, file_names}
 use Rattle.pipapo_cli.specs.WordForms.{plain, verb_of, other_names}
 use Rattle.pipapo_cli.specs.Transcript.{IsTranscript, IsTextOf}
-use Rattle.pipapo_cli.specs.Causes.{IsCause, of_script, of_keys, IsScriptCause, IsKeysCause, IsReadable, IsSized, ReadsAs, size_limit}
+use Rattle.pipapo_cli.specs.Causes.{IsCause, of_script, of_keys, IsKeysCause, IsReadable, IsSized, size_limit}
 use Rattle.pipapo_cli.specs.Names.{AreReadWhole, AsksInOrder, AsksForAll}
 use Rattle.pipapo_cli.specs.Answers.{HasOutput, AreReadable}
 use Rattle.pipapo_cli.proofs.Endings.{keys-cause}
-use Rattle.pipapo_cli.proofs.Asking.{one-whole, two-whole, asks-script, asks-keys, asks-all}
+use Rattle.pipapo_cli.proofs.Asking.{one-whole, two-whole, asks-keys, asks-all}
 
 abbrev Numbers : Type 1
 Numbers = ℕ → Type 0

@@ -1,5 +1,5 @@
 -- The words of a command.
-use Rattle.std.specs.Prelude.{◌≡◌, ℕ, Bool, false, true, ◌==◌, not, List, [], ◌∷◌, filter, length, if◌then◌else◌, codes, Option, Some, slice_get}
+use Rattle.std.specs.Prelude.{◌≡◌, ℕ, Bool, false, ◌==◌, not, List, [], ◌∷◌, filter, length, if◌then◌else◌, codes, Some, slice_get}
 use Rattle.pipapo_cli.specs.declared.words.Verb.{Verb}
 use Rattle.pipapo_cli.specs.declared.words.Verb.TheVariants as verbs
 

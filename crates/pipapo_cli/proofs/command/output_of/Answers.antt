@@ -1,4 +1,4 @@
-use Rattle.std.proofs.Common.{refl, sym, ◌∙◌, map, List, ℕ, [], ◌∷◌, ◌≡◌, Some}
+use Rattle.std.proofs.Common.{refl, sym, ◌∙◌, map, ◌≡◌}
 use Rattle.std.specs.String.{string_bytes}
 use Rattle.set_model.specs.Control.{mode_of, has_refusal}
 use Rattle.script_run.specs.Listings.{listing_text, tables_text}

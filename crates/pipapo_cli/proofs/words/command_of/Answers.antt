@@ -1,7 +1,6 @@
-use Rattle.std.proofs.Common.{rules, ◌≡◌, ◌∙◌, sym, map, subst, codes}
+use Rattle.std.proofs.Common.{map, subst}
 use Rattle.std.specs.String.{string_bytes}
 use Rattle.clap.specs.Matches.{found_of}
-use Rattle.pipapo_cli.specs.declared.words.Verb.{Verb}
 use Rattle.pipapo_cli.specs.declared.words.Verb.TheVariants as verbs
 use Rattle.pipapo_cli.specs.declared.words.Task.TheVariants as tasks
 use Rattle.pipapo_cli.specs.WordForms.{HasVerb}

@@ -1,7 +1,7 @@
-use Rattle.std.proofs.Common.{rules, ◌≡◌, ◌∙◌, ap, ap₂, subst, codes, map, true, List, ℕ}
+use Rattle.std.proofs.Common.{rules, ◌≡◌, ◌∙◌, ap, ap₂, subst, codes, map, true}
 use Rattle.std.specs.String.{string_bytes}
 use Rattle.std.proofs.lemmas.Result.{IfOk-weaker}
-use Rattle.clap.specs.Walk.{rule_of, Rule}
+use Rattle.clap.specs.Walk.{rule_of}
 use Rattle.clap.specs.Simple.{App, HasMatchesOf, app_of, app_of_fields, new_app, new_rule, on_top, with_rule}
 use Rattle.pipapo_cli.proofs.ClapValues.{program, keep_going_rule, gives-values}
 use Rattle.pipapo_cli.proofs.words.values_of.Goals as goal

@@ -1,7 +1,6 @@
-use Rattle.std.proofs.Common.{◌≡◌, ◌∷◌, List, ℕ, map, sym, ◌∙◌, subst, true, false, true≢false}
+use Rattle.std.proofs.Common.{◌≡◌, ◌∷◌, List, ℕ, map, sym, ◌∙◌, subst, true, true≢false}
 use Rattle.std.specs.String.{string_bytes}
 use Rattle.pipapo_cli.specs.declared.words.Verb.{Verb}
-use Rattle.pipapo_cli.specs.Words.{verb_word}
 use Rattle.pipapo_cli.specs.WordForms.{has_forms, HasVerb}
 use Rattle.pipapo_cli.proofs.CommandWords.{command-of-forms, forms-of-command}
 use Rattle.pipapo_cli.proofs.words.verb_before.Goals as goal

@@ -1,4 +1,4 @@
-use Rattle.std.proofs.Common.{rules, ◌≡◌, ◌∷◌, sym, ◌∙◌, map, ap, subst, List, ℕ}
+use Rattle.std.proofs.Common.{rules, ◌≡◌, ◌∷◌, sym, map, subst}
 use Rattle.std.specs.String.{string_bytes}
 use Rattle.pipapo_cli.specs.Words.{IsNoCommand}
 use Rattle.pipapo_cli.proofs.words.verb_of.Goals as goal
