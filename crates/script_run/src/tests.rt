@@ -1,7 +1,7 @@
 ghost use Rattle.std.specs.Prelude.{◌≤◌, ◌<◌, ◌≡◌, length, All, IfOk};
 ghost use Rattle.set_model.specs.Runnable.{IsRunnable, IsRunnableStep, IsFitting, HasFields, MayShare};
 
-use crate::output::{Output, transcript};
+use crate::output::{Output, dump, listing, transcript};
 use set_model::{
     Comment, Family, Interval, Key, Keys, Kind, Kinds, Memory, Name, Packet, Packets, Parts,
     Schema, Script, Sections, SetDecl, Step, Steps, Verb, fits, parts_fit,
@@ -176,6 +176,16 @@ fn run(
     transcript(alloc, &script, &keys, keep_going)
 }
 
+fn list(alloc: Global, acts: &[&[Act]], keep_going: bool) -> Result<Output, Memory> {
+    let script = script(alloc, acts)?;
+    listing(alloc, &script, keep_going)
+}
+
+fn show(alloc: Global, acts: &[&[Act]], keep_going: bool) -> Result<Output, Memory> {
+    let script = script(alloc, acts)?;
+    dump(alloc, &script, keep_going)
+}
+
 fn expect(rt: &impl Abort, output: Output, text: &str, refused: bool) {
     assert_eq!(rt; output.text.as_slice(), text.as_bytes());
     assert_eq!(rt; output.refused, refused);
@@ -298,6 +308,48 @@ fn script_sections_go_on_behind_the_packets(rt: HostRuntime) -> Result<(), Fail>
          commit generation 2 purged 0\n\
          packet 0 thread 0 generation 2 none\n\
          commit generation 3 purged 0\n",
+        false,
+    );
+    Ok(())
+}
+
+#[test]
+fn a_listing_stands_behind_what_was_told(rt: HostRuntime) -> Result<(), Fail> {
+    let output = list(rt.alloc(), &[&OVERLAP], true)?;
+    expect(
+        &rt,
+        output,
+        "# line 3 refused overlap ip t p element 0\n\
+         # commit generation 1 purged 0\n\
+         table ip t {\n\
+         \tset p {\n\
+         \t\ttype inet_service\n\
+         \t\tflags interval\n\
+         \t\telements = { 5-30,\n\
+         \t\t\t     40 }\n\
+         \t}\n\
+         }\n",
+        true,
+    );
+    Ok(())
+}
+
+#[test]
+fn a_dump_stands_behind_what_was_told(rt: HostRuntime) -> Result<(), Fail> {
+    let first = [Act::Change(Verb::Add, 80, 80), Act::Commit];
+    let second = [Act::Change(Verb::Add, 81, 81), Act::Abort];
+    let sections = [first.as_slice(), second.as_slice()];
+    let output = show(rt.alloc(), &sections, false)?;
+    expect(
+        &rt,
+        output,
+        "# commit generation 1 purged 0\n\
+         # abort generation 1\n\
+         set ip t p\n\
+         field 0 inet_service width 8 rules 1\n\
+         row 0 0-0 01\n\
+         row 1 80-80 01\n\
+         end 0\n",
         false,
     );
     Ok(())
