@@ -16,7 +16,7 @@ use Rattle.set_model.specs.declared.element.Element.{Element}
 use Rattle.set_model.specs.declared.script.SetDecl.{SetDecl}
 use Rattle.set_model.specs.Key.{is_good, parts_fit}
 use Rattle.set_model.specs.SetState.{State, empty_set}
-use Rattle.set_report.specs.Kept.{Keeps, before_next}
+use Rattle.set_report.specs.Kept.{Keeps}
 use Rattle.set_report.specs.ListText.{element_text, elements_line, same_table, sets_beside, first_sets}
 use Rattle.set_report.specs.Writes.{AppendsPart}
 use Rattle.set_report.proofs.PartLaws.{none_part}
@@ -41,6 +41,11 @@ keeps_result (Err v) old new text e p = keeps_part old new text p
 -- Joined items.
 flat_map-more : {X : Type 0} (f : X → List ℕ) (xs : List X) (y : X) → flat_map f (xs ++ y ∷ []) ≡ flat_map f xs ++ f y
 flat_map-more f xs y = flat_map-append f xs (y ∷ []) ∙ ap (λ t. flat_map f xs ++ t) (append-nil (f y))
+
+-- what stands before the next item: nothing before the first one
+abbrev before_next : {X : Type 0} → List ℕ → List X → List ℕ
+before_next separator [] = []
+before_next separator (x ∷ xs) = separator
 
 join-more : {X : Type 0} (f : X → List ℕ) (separator : List ℕ) (xs : List X) (y : X) → join_by f separator (xs ++ y ∷ []) ≡ join_by f separator xs ++ (before_next separator xs ++ f y)
 join-more f separator [] y = append-nil (f y)
