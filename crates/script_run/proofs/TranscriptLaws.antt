@@ -6,6 +6,7 @@ use Rattle.std.proofs.lemmas.Option.{slice_get_within}
 use Rattle.set_model.specs.declared.packet.Packet.{Packet}
 use Rattle.set_model.specs.declared.report.Line.{Line}
 use Rattle.set_model.specs.declared.script.Script.{Script}
+use Rattle.set_model.specs.declared.script.Step.{Step}
 use Rattle.set_model.specs.declared.script.SetDecl.{SetDecl}
 use Rattle.set_model.specs.SetState.{State}
 use Rattle.set_model.specs.Control.{Mode, mode_of, Control, start, section, history, is_refusal, has_refusal}
@@ -160,7 +161,7 @@ module _ (keep_going : Bool) (script : Script) (keys : List (List Packet)) where
   pub told_kinds : (n : ℕ) (t : Telling) → IsToldUpTo keep_going script keys n t → HasKinds (declared_kinds script.schema) t.runner.work
   told_kinds n t h = declared mode script.schema (take n script.sections) (before mode script n).events t.runner [] h.stands
 
-  pub told_more : (n : ℕ) (t new : Telling) → IsToldUpTo keep_going script keys n t → TellsSection script.schema (section_at script.sections n) (packets_at keys n) t new → IsToldUpTo keep_going script keys (n + 1) new
+  told_more : (n : ℕ) (t new : Telling) → IsToldUpTo keep_going script keys n t → TellsSection script.schema (section_at script.sections n) (packets_at keys n) t new → IsToldUpTo keep_going script keys (n + 1) new
   told_more n t new h tells =
       let c : Control = before mode script n in
       let c' : Control = after mode script n in
@@ -187,6 +188,14 @@ module _ (keep_going : Bool) (script : Script) (keys : List (List Packet)) where
       } where
         zero_is : (m : ℕ) → 0 + m ≡ m
         zero_is m = omega arith
+
+  -- the same, by what the section's steps and packets are
+  pub told_next : (n : ℕ) (t new : Telling) (steps : List Step) (packets : List Packet) → IsToldUpTo keep_going script keys n t → steps ≡ section_at script.sections n → packets ≡ packets_at keys n
+      → TellsSection script.schema steps packets t new → IsToldUpTo keep_going script keys (n + 1) new
+  told_next n t new steps packets h steps_are packets_are tells =
+      told_more n t new h
+      (subst (λ (z : List Packet). TellsSection script.schema (section_at script.sections n) z t new) packets_are
+      (subst (λ (z : List Step). TellsSection script.schema z packets t new) steps_are tells))
 
   -- Behind the last section the whole is told.
   pub told_all : (n : ℕ) (t : Telling) → section_count script keys ≡ n → IsToldUpTo keep_going script keys n t
