@@ -3,6 +3,7 @@
 
 transactions   a set of 100 ports, and so many transactions of one change each
 elements       one set of so many ranges of addresses and ports, with expiries and comments
+commits        the same, and behind it 100 transactions of one change each
 refused        so many elements that are read and, since the first change is refused, never tried
 """
 import random
@@ -29,6 +30,14 @@ def elements(count):
         print(f"add element ip t s {{ {first}-{last} . {port}-{port + rng.randrange(64)} comment \"number {n}\" }}")
 
 
+def commits(count):
+    elements(count)
+    print("commit")
+    for n in range(100):
+        print("add" if n % 2 == 0 else "delete", "element ip t s { 0.0.0.1 . 1 }")
+        print("commit")
+
+
 def refused(count):
     print("add set inet filter blocked { type ipv6_addr . inet_service ; flags interval,timeout ; }")
     print("delete element inet filter blocked { ::1 . 1 }")
@@ -37,4 +46,4 @@ def refused(count):
 
 
 if __name__ == "__main__":
-    {"transactions": transactions, "elements": elements, "refused": refused}[sys.argv[1]](int(sys.argv[2]))
+    {"transactions": transactions, "elements": elements, "commits": commits, "refused": refused}[sys.argv[1]](int(sys.argv[2]))
