@@ -17,7 +17,7 @@ use Rattle.lookup_table.proofs.RowsLaws.{cell-read}
 use Rattle.lookup_table.proofs.MatchLaws.{held-by-buckets}
 use Rattle.set_tables.specs.Rows.{matched}
 use Rattle.fused_lookup.specs.Words.{IsWordOf}
-use Rattle.fused_lookup.specs.Sieve.{is_set, IsBucket, AreLastFour, in_all, NoneHolds}
+use Rattle.fused_lookup.specs.Sieve.{is_set, IsBucket, AreLastFour, in_all, KeepsWhereSet, NoneHolds}
 use Rattle.fused_lookup.proofs.MatchLaws.{left-at, length-left, word-left, ones-left}
 
 -- a field has a group
@@ -114,6 +114,10 @@ none-holds t value fourth third second last from to are small none blocks stands
     ap (λ x. holds_value (block_at blocks x) value) (sym e)
     ∙ sym (in-groups t value fourth third second last blocks (r / 64) (r % 64) are stands small k a)
     ∙ and-fails (in_all fourth third second last (r / 64) (r % 64)) (every (is_set t value (64 * (r / 64) + r % 64)) (t.bits / t.width - 4)) (none (r / 64) (r % 64) (omega arith) (omega arith) k)
+
+-- what the groups before the last four leave
+pub rest-left : (t : FieldTable) (value i left word n : ℕ) → KeepsWhereSet t value n i left word → n ≡ t.bits / t.width - 4 → (k : ℕ) → k < 64 → bit word k ≡ (bit left k && every (is_set t value (64 * i + k)) (t.bits / t.width - 4))
+rest-left t value i left word n keeps is k h = keeps k h ∙ ap (λ m. bit left k && every (is_set t value (64 * i + k)) m) is
 
 -- a word of the rules that hold the value
 pub word-held : (t : FieldTable) (value : ℕ) (fourth third second last : List ℕ) (blocks : List Block) (w left word : ℕ) → AreLastFour t value fourth third second last → Stands t blocks → value < 2 ^ t.bits

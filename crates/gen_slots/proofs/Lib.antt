@@ -4,6 +4,7 @@ pub mod Sums
 pub mod Stages
 pub mod Takes
 pub mod Rows
+pub mod SlotStates
 pub mod ReaderSteps
 pub mod WriterSteps
 pub mod NoteSteps

@@ -1,5 +1,5 @@
 -- The writer's steps keep the rule of the table.
-use Rattle.std.proofs.Common.{◌≡◌, ◌≢◌, ℕ, zero, suc, ◌+◌, ◌-◌, ◌*◌, ◌%◌, ◌^◌, ◌<◌, ◌≤◌, List, [], ◌∷◌, ◌++◌, true, false, length, replicate, get_or, set, sym, refl, ap, ◌∙◌, subst, inl, inr, arith, Option, None, eq-eqb, ne_eqb, length-set, get_or-set_other, get_or-set_same}
+use Rattle.std.proofs.Common.{◌≡◌, ◌≢◌, ℕ, zero, suc, ◌+◌, ◌-◌, ◌*◌, ◌%◌, ◌^◌, ◌<◌, ◌≤◌, List, [], ◌∷◌, ◌++◌, true, false, length, replicate, get_or, set, sym, refl, ap, ◌∙◌, subst, arith, Option, Some, None, eq-eqb, ne_eqb, length-set, get_or-set_other, get_or-set_same}
 use Rattle.std.specs.List.{Contains}
 use Rattle.std.specs.Prelude.{slice_index}
 use Rattle.std.proofs.lemmas.List.Elements.{Contains-append_left, Contains-append_right}
@@ -23,10 +23,11 @@ use Rattle.gen_slots.specs.declared.board.SeatView.{SeatView}
 use Rattle.gen_slots.specs.declared.board.Role.{Role}
 use Rattle.gen_slots.specs.declared.board.Role.TheVariants.{Idle, Out, Holds, Keeper}
 use Rattle.gen_slots.specs.SlotRule.{count_at, lags, laggards, sum_below, SlotKept, Plays, Kept, seat_view, moves_of}
-use Rattle.gen_slots.specs.SlotSteps.{taken_plan, tried_plan, published_at, berths, Plans, WereStored, checked, published}
+use Rattle.gen_slots.specs.SlotSteps.{taken_plan, tried_plan, published_at, slot_states, berths, Plans, WereStored, checked, published}
 use Rattle.gen_slots.proofs.Sums.{sum_below-set, sum_below-zeros}
 use Rattle.gen_slots.proofs.Stages.{count_le, count_none, laggards_le, lags-at, lags_else, laggards_plan, laggards_drop, and_both, and_second}
 use Rattle.gen_slots.proofs.Takes.{Lined, take_all, shown_row, empty_row, taken_else, taken_length, take_carried, take_valid, give_all, give_valid, given_carried, given_length, given_else, given_at, berths_same}
+use Rattle.gen_slots.proofs.SlotStates.{state_unused, state_used, state_set, state_retired}
 use Rattle.gen_slots.proofs.ReaderSteps.{plays}
 
 at_some : {A : Type 0} (l : List A) (i : ℕ) → i < length l → (a : A) × (get_elem? l i ≡ some a)
@@ -60,12 +61,12 @@ module _ {T X : Type 0} (state : T → X) (follows : X → X → Type 0) (start 
   plans m m' p p' next is now h q is' = (p', now, subst (λ (z : Plan X). next z p') (ap (plan_or p) (sym is ∙ is')) h)
 
   -- the berths of a slot that nobody holds are at home, and what they hold
-  stored_row : (s : St) (k : Rule s) (c : ℕ) → c < k.n + 2 → get_or k.plan.standing c 0 < 2 → count_at k.n k.stage (c + 2) ≡ 0 → k.plan.hand ≡ 0 → (ys : List (Option T)) × (length ys ≡ k.n) × Lined s.homes c 0 ys × WereStored state k.made k.n ys
+  stored_row : (s : St) (k : Rule s) (c : ℕ) → c < k.n + 2 → get_or k.plan.standing c 0 < 2 → count_at k.n k.stage (c + 2) ≡ 0 → k.plan.hand ≡ 0 → (ys : List (Option T)) × (length ys ≡ k.n) × Lined s.homes c 0 ys × WereStored state k.made k.n (get_or (slot_states k.plan.standing k.plan.states) c None) ys
   stored_row s k c l low none_there bare = let ok = k.each_slot c l in let lists = k.lists.2 in dite (ℕ_discrete (get_or k.plan.standing c 0) 0)
-      (λ z. let row = empty_row s.homes c k.n 0 (λ r below. ok.unused z (λ e. omega arith) r (omega arith)) in (replicate k.n None, row.0, row.1, inl refl))
+      (λ z. let row = empty_row s.homes c k.n 0 (λ r below. ok.unused z (λ e. omega arith) r (omega arith)) in (replicate k.n None, row.0, row.1, subst (λ (o : Option X). WereStored state k.made k.n o (replicate k.n None)) (sym (state_unused k.plan.standing k.plan.states c z)) refl))
       (λ nz. let x = at_some k.plan.states c (let few = k.few.1 in omega (arith, lists)) in let used : 0 < get_or k.plan.standing c 0 = omega arith in
       let row = shown_row state x.0 s.homes c k.n 0 (λ r below. ok.home used r (omega arith) (count_none k.n k.stage (c + 2) r none_there (omega arith)) x.0 x.1) in
-      (row.0, row.1, row.2, inr (x.0, k.of_made c x.0 used x.1, row.3)))
+      (row.0, row.1, row.2, subst (λ (o : Option X). WereStored state k.made k.n o row.0) (sym (state_used k.plan.standing k.plan.states c x.0 used x.1)) (k.of_made c x.0 used x.1, row.3)))
 
   takes_slot : (s : St) (k : Rule s) (id c : ℕ) (d : SeatView X) → get_elem? s.views id ≡ some d → d.role ≡ Keeper k.plan → c < k.n + 2 → c ≢ k.plan.published → k.plan.hand ≡ 0 → get_or s.words (1 + c) 0 ≡ get_or k.plan.counts c 0 → count_at k.n k.stage (c + 2) ≡ 0
       → (ys : List (Option T)) → length ys ≡ k.n → Rule record { words = s.words; homes = homes_after s.homes [] (take_all c 0 ys); views = set s.views id (seat_view (Keeper (taken_plan k.plan c)) d.seen d.told d.moves) }
@@ -168,7 +169,7 @@ module _ {T X : Type 0} (state : T → X) (follows : X → X → Type 0) (start 
       let words_stay = set-get_or s.words (1 + c) 0 in
       dite (ℕ_discrete e (get_or p.counts c 0))
       (λ free. let none_there : count_at k.n k.stage (c + 2) ≡ 0 = dite (ℕ_discrete st 0) (λ z. (ok.free z).1) (λ nz. let r = ok.retired (omega arith) in omega (arith, r, h)) in
-      let row = stored_row s k c l low none_there asked.2 in let stored : WereStored state me.0.seen p.readers row.0 = subst (λ (z : List X × ℕ). WereStored state z.0 z.1 row.0) (λ i. (sym known.2 i, sym readers i)) row.3 in let w : SeatView X = seat_view (Keeper (taken_plan p c)) me.0.seen me.0.told me.0.moves in
+      let row = stored_row s k c l low none_there asked.2 in let stored : WereStored state me.0.seen p.readers (get_or (slot_states p.standing p.states) c None) row.0 = subst (λ (z : List X × ℕ). WereStored state z.0 z.1 (get_or (slot_states p.standing p.states) c None) row.0) (λ i. (sym known.2 i, sym readers i)) row.3 in let w : SeatView X = seat_view (Keeper (taken_plan p c)) me.0.seen me.0.told me.0.moves in
       let carried : carried_after me.1 (take_all c 0 row.0) ≡ berths c 0 row.0 = ap (λ (cs : List (ℕ × Option T)). carried_after cs (take_all c 0 row.0)) bare ∙ take_carried c 0 row.0 in (
         w,
         take_all c 0 row.0,
@@ -179,7 +180,7 @@ module _ {T X : Type 0} (state : T → X) (follows : X → X → Type 0) (start 
           refl,
           refl,
           λ j same_word. let same : c ≡ j = omega arith in subst (λ (j : ℕ). Plans me (w, carried_after me.1 (take_all c 0 row.0)) (λ p p'.
-              (e ≡ get_or p.counts j 0 → (p' ≡ taken_plan p j) × ((ys : List (Option T)) × (length ys ≡ p.readers) × WereStored state me.0.seen p.readers ys × (carried_after me.1 (take_all c 0 row.0) ≡ berths j 0 ys)))
+              (e ≡ get_or p.counts j 0 → (p' ≡ taken_plan p j) × ((ys : List (Option T)) × (length ys ≡ p.readers) × WereStored state me.0.seen p.readers (get_or (slot_states p.standing p.states) j None) ys × (carried_after me.1 (take_all c 0 row.0) ≡ berths j 0 ys)))
               × (e ≢ get_or p.counts j 0 → (p' ≡ tried_plan p j) × (carried_after me.1 (take_all c 0 row.0) ≡ []) × (sum_below (p.readers + 2) (slice_index p'.tried) ≤ p.readers)))) same
               (plans me (w, carried_after me.1 (take_all c 0 row.0)) p (taken_plan p c) _ is refl ((λ _. (refl, (row.0, row.1 ∙ sym readers, stored, carried))), λ busy. absurd (busy free))),
         ),
@@ -194,7 +195,7 @@ module _ {T X : Type 0} (state : T → X) (follows : X → X → Type 0) (start 
           refl,
           refl,
           λ j same_word. let same : c ≡ j = omega arith in subst (λ (j : ℕ). Plans me (w, me.1) (λ p p'.
-              (e ≡ get_or p.counts j 0 → (p' ≡ taken_plan p j) × ((ys : List (Option T)) × (length ys ≡ p.readers) × WereStored state me.0.seen p.readers ys × (me.1 ≡ berths j 0 ys)))
+              (e ≡ get_or p.counts j 0 → (p' ≡ taken_plan p j) × ((ys : List (Option T)) × (length ys ≡ p.readers) × WereStored state me.0.seen p.readers (get_or (slot_states p.standing p.states) j None) ys × (me.1 ≡ berths j 0 ys)))
               × (e ≢ get_or p.counts j 0 → (p' ≡ tried_plan p j) × (me.1 ≡ []) × (sum_below (p.readers + 2) (slice_index p'.tried) ≤ p.readers)))) same
               (plans me (w, me.1) p (tried_plan p c) _ is refl ((λ free. absurd (busy free)), λ _. (refl, bare, subst (λ (z : ℕ). sum_below (z + 2) (slice_index (set p.tried c 1)) ≤ z) (sym readers) did.1))),
         ),
@@ -296,6 +297,7 @@ module _ {T X : Type 0} (state : T → X) (follows : X → X → Type 0) (start 
               (λ y zs has some shows'. let same : zs ≡ ys = berths_same c 0 zs ys (ap (λ (i : ℕ). berths i 0 zs) (sym index) ∙ (sym has ∙ carried)) in
               let one : x ≡ y = all_show_same state x y ys (omega arith) shows (subst (AllShow state y) same shows') in (
                 (λ i. published_at p (sym index i) e (one i)),
+                state_set (set p.standing p.published 1) p.states c x ∙ (ap (λ (z : List (Option X)). set z c (Some x)) (state_retired p.standing p.states p.published (let top = k.published.1 in omega (arith, top))) ∙ (λ i. set (slot_states p.standing p.states) (sym index i) (Some (one i)))),
                 (λ i. me.0.seen ++ one i ∷ []),
               )),
         ),

@@ -1,5 +1,5 @@
 -- What each kind of step on the table tells.
-use Rattle.std.specs.Prelude.{◌≡◌, ◌≢◌, ℕ, ◌+◌, ◌-◌, ◌*◌, ◌%◌, ◌<◌, ◌≤◌, ◌⊎◌, List, [], ◌∷◌, ◌++◌, length, slice_index, slice_set, replicate, Contains, Option, Some, None}
+use Rattle.std.specs.Prelude.{◌≡◌, ◌≢◌, ℕ, zero, suc, ◌+◌, ◌-◌, ◌*◌, ◌%◌, ◌<◌, ◌≤◌, List, [], ◌∷◌, ◌++◌, length, get_or, slice_index, slice_set, replicate, Contains, Option, Some, None}
 use Rattle.atomic_table.specs.Table.{Me, Step}
 use Rattle.history_laws.specs.Histories.{StartsWith, EndsWith, Chain, longer}
 use Rattle.history_laws.specs.States.{AllShow}
@@ -32,6 +32,13 @@ module _ {X : Type 0} where
   abbrev pub tried_plan : Plan X → ℕ → Plan X
   tried_plan p s = record p { tried = slice_set p.tried s 1; checks = p.checks + 1 }
 
+  -- of each slot the state that it was published with, and nothing where it was never used, by the standings and states of a plan between two publications
+  abbrev pub slot_states : List ℕ → List X → List (Option X)
+  slot_states [] xs = []
+  slot_states (s ∷ ss) [] = []
+  slot_states (zero ∷ ss) (x ∷ xs) = None ∷ slot_states ss xs
+  slot_states (suc s ∷ ss) (x ∷ xs) = Some x ∷ slot_states ss xs
+
   abbrev pub given_one : Role X → Role X
   given_one (Keeper p) = Keeper (record p { given = p.given + 1 })
   given_one role = role
@@ -51,9 +58,10 @@ berths s k [] = []
 berths s k (y ∷ ys) = (32 * k + s, y) ∷ berths s (k + 1) ys
 
 module _ {T X : Type 0} where
-  -- what stood in a slot's berths: nothing, or values of one state that was published
-  abbrev pub WereStored : (T → X) → List X → ℕ → List (Option T) → Type 0
-  WereStored state made n ys = (ys ≡ replicate n None) ⊎ ((x : X) × Contains made x × AllShow state x ys)
+  -- what stood in a slot's berths: nothing where it was never used, and else values of its state, which was published
+  abbrev pub WereStored : (T → X) → List X → ℕ → Option X → List (Option T) → Type 0
+  WereStored state made n None ys = ys ≡ replicate n None
+  WereStored state made n (Some x) ys = Contains made x × AllShow state x ys
 
   -- the reader r holds the slot e % 256, its list became the writer's, and it has the value of its berth
   abbrev pub entered : (T → X) → (X → X → Type 0) → Step (Option T) → Me (Option T) (SeatView X) → ℕ → Me (Option T) (SeatView X) → Type 0
@@ -72,13 +80,13 @@ module _ {T X : Type 0} where
   -- the slot that was checked is free and its berths are taken, or it was tried, and few were
   abbrev pub checked : (T → X) → Step (Option T) → Me (Option T) (SeatView X) → ℕ → Me (Option T) (SeatView X) → Type 0
   checked state st m e m' = (m'.0.seen ≡ m.0.seen) × (m'.0.told ≡ m.0.told) × ((s : ℕ) → st.word ≡ 1 + s → Plans m m' (λ p p'.
-      (e ≡ slice_index p.counts s → (p' ≡ taken_plan p s) × ((ys : List (Option T)) × (length ys ≡ p.readers) × WereStored state m.0.seen p.readers ys × (m'.1 ≡ berths s 0 ys)))
+      (e ≡ slice_index p.counts s → (p' ≡ taken_plan p s) × ((ys : List (Option T)) × (length ys ≡ p.readers) × WereStored state m.0.seen p.readers (get_or (slot_states p.standing p.states) s None) ys × (m'.1 ≡ berths s 0 ys)))
       × (e ≢ slice_index p.counts s → (p' ≡ tried_plan p s) × (m'.1 ≡ []) × (sum_below (p.readers + 2) (slice_index p'.tried) ≤ p.readers))))
 
   -- the slot in hand is published, with the values that were put into its berths
   abbrev pub published : (T → X) → (X → X → Type 0) → Step (Option T) → Me (Option T) (SeatView X) → ℕ → Me (Option T) (SeatView X) → Type 0
   published state follows st m e m' = (m'.1 ≡ []) × Chain follows m'.0.seen × (m'.0.told ≡ m.0.told) × Plans m m' (λ p p'. (x : X) (ys : List (Option T)) → m.1 ≡ berths (p.hand - 1) 0 ys → 0 < length ys → AllShow state x ys
-      → (p' ≡ published_at p (p.hand - 1) e x) × (m'.0.seen ≡ m.0.seen ++ x ∷ []))
+      → (p' ≡ published_at p (p.hand - 1) e x) × (slot_states p'.standing p'.states ≡ slice_set (slot_states p.standing p.states) (p.hand - 1) (Some x)) × (m'.0.seen ≡ m.0.seen ++ x ∷ []))
 
   -- the shorter list begins the longer, and the longer was seen
   abbrev pub learned : (X → X → Type 0) → Step (Option T) → Me (Option T) (SeatView X) → ℕ → Me (Option T) (SeatView X) → Type 0

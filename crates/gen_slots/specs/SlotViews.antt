@@ -5,6 +5,7 @@ use Rattle.gen_slots.specs.declared.board.Plan.{Plan}
 use Rattle.gen_slots.specs.declared.board.SeatView.{SeatView}
 use Rattle.gen_slots.specs.declared.board.Role.{Role}
 use Rattle.gen_slots.specs.declared.board.Role.TheVariants.{Keeper}
+use Rattle.gen_slots.specs.SlotSteps.{slot_states}
 
 -- of a reader: which table it is of, the states that it has seen, its number, and how many atomic additions it has made
 pub record Reading (X : Type 0) : Type 0 where
@@ -21,20 +22,26 @@ pub record Telling (X : Type 0) : Type 0 where
   pub of : TableId
   pub list : List X
 
--- of the writer: the states that were published, where every count started, and how many loads of done words it has made
+-- of the writer: the states that were published, where every count started, how many loads of done words it has made, which slot is published, and of each slot the state of its values, which is none where it was never used
 pub record Publishing (X : Type 0) : Type 0 where
   pub of : TableId
   pub made : List X
   pub readers : ℕ
   pub start : ℕ
   pub checks : ℕ
+  pub published : ℕ
+  pub states : List (Option X)
 
 abbrev pub checks_of : {X : Type 0} → Role X → ℕ
 checks_of (Keeper p) = p.checks
 checks_of _ = 0
 
-abbrev pub publishing : {X : Type 0} → TableId → SeatView X → ℕ → ℕ → Publishing X
-publishing z d readers start = record { of = z; made = d.seen; readers = readers; start = start; checks = checks_of d.role }
+abbrev pub states_of : {X : Type 0} → Role X → List (Option X)
+states_of (Keeper p) = slot_states p.standing p.states
+states_of _ = []
+
+abbrev pub publishing : {X : Type 0} → TableId → SeatView X → ℕ → ℕ → ℕ → Publishing X
+publishing z d readers published start = record { of = z; made = d.seen; readers = readers; start = start; checks = checks_of d.role; published = published; states = states_of d.role }
 
 -- for each reader 32 berths, and for each of its slots and the two more a word, and one
 abbrev pub IsSized : TableId → Type 0

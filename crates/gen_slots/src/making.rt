@@ -26,6 +26,7 @@ pub fn make<T: Version + Send + Drop>(
     requires count { (0 < length first.items) × (length first.items ≤ 16) }
     requires one_state { (x : T.State) × AllAre T.state x first.items }
     ensures writer { IfOk result (λ r. (r.0.readers ≡ length first.items) × (r.0.start ≡ 0) × ((x : T.State) → AllAre T.state x first.items → r.0.made ≡ x ∷ [])) }
+    ensures slots { IfOk result (λ r. (r.0.published ≡ 0) × ((x : T.State) → AllAre T.state x first.items → r.0.states ≡ Some x ∷ replicate 17 None)) }
     ensures passes { IfOk result (λ r. (length r.1.items ≡ length first.items) × AllNew r.0.of r.0.made 0 r.1.items) }
 {
     make_at(alloc, first, 0)
@@ -41,6 +42,7 @@ pub fn make_at<T: Version + Send + Drop>(
     requires one_state { (x : T.State) × AllAre T.state x first.items }
     requires start { start < 2 ^ 56 }
     ensures writer { IfOk result (λ r. (r.0.readers ≡ length first.items) × (r.0.start ≡ start) × ((x : T.State) → AllAre T.state x first.items → r.0.made ≡ x ∷ [])) }
+    ensures slots { IfOk result (λ r. (r.0.published ≡ 0) × ((x : T.State) → AllAre T.state x first.items → r.0.states ≡ Some x ∷ replicate 17 None)) }
     ensures passes { IfOk result (λ r. (length r.1.items ≡ length first.items) × AllNew r.0.of r.0.made 0 r.1.items) }
 {
     let readers = first.len();

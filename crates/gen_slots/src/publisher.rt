@@ -1,10 +1,10 @@
 //! The writer, which finds a slot that nobody holds without waiting.
-ghost use Rattle.std.specs.Prelude.{◌≡◌, ◌≢◌, ℕ, ◌+◌, ◌-◌, ◌*◌, ◌%◌, ◌^◌, ◌≤◌, ◌<◌, List, [], ◌∷◌, ◌++◌, length, replicate};
+ghost use Rattle.std.specs.Prelude.{◌≡◌, ◌≢◌, ℕ, ◌+◌, ◌-◌, ◌*◌, ◌%◌, ◌^◌, ◌≤◌, ◌<◌, List, [], ◌∷◌, ◌++◌, length, get_or, replicate, slice_set, Some, None};
 ghost use Rattle.std.specs.Arc.{arc_value};
 ghost use Rattle.history_laws.specs.Histories.{StartsWith, EndsWith, Chain};
 ghost use Rattle.history_laws.specs.States.{AllShow};
 ghost use Rattle.gen_slots.specs.SlotSteps.{WereStored, berths};
-ghost use Rattle.gen_slots.specs.SlotViews.{IsSized, IsPlanned, found_plan, publishing};
+ghost use Rattle.gen_slots.specs.SlotViews.{IsSized, IsPlanned, found_plan, publishing, states_of};
 ghost use Rattle.gen_slots.specs.declared.board.Plan.{Plan};
 ghost use Rattle.gen_slots.specs.declared.board.Role.TheVariants.{Keeper};
 
@@ -40,7 +40,7 @@ impl<T: Version + Drop> Model for Writer<T> {
 
     ghost Value = { Publishing T.State };
 
-    ghost view = { λ w. publishing w.place.table_id w.place.me.0 w.readers (arc_value w.board).shared.key.count };
+    ghost view = { λ w. publishing w.place.table_id w.place.me.0 w.readers w.published (arc_value w.board).shared.key.count };
 
     ghost invariant = { λ w. (w.place.table_id ≡ (arc_value w.board).shared.table_id) × IsSized w.place.table_id × (0 < w.readers) × (w.readers ≤ 16) × (w.published < w.readers + 2) × (w.place.me.1 ≡ []) × (w.place.table_id.words ≡ w.readers + 3) × IsPlanned w.readers w.published w.counts w.place.me.0.role × ((k : ℕ) → slice_index w.counts k % 256 ≡ 0) × Chain T.follows w.place.me.0.seen };
 }
@@ -58,7 +58,7 @@ fn find<T: Version + Drop, L: Ledger>(
     requires seat { (place.old.me.1 ≡ []) × IsPlanned readers published counts.now place.old.me.0.role }
     ensures seat { (place.new.table_id ≡ place.old.table_id) × (place.new.me.0.seen ≡ place.old.me.0.seen) × ((p : Plan T.State) → place.old.me.0.role ≡ Keeper p → (t : List ℕ) × (m : ℕ) × (steps.new ≡ steps.old + m) × (place.new.me.0.role ≡ Keeper (found_plan p result t m))) }
     ensures slot { (result < readers + 2) × (result ≢ published) }
-    ensures berths { (ys : List _) × (length ys ≡ readers) × WereStored T.state place.old.me.0.seen readers ys × (place.new.me.1 ≡ berths result 0 ys) }
+    ensures berths { (ys : List _) × (length ys ≡ readers) × WereStored T.state place.old.me.0.seen readers (get_or (states_of place.old.me.0.role) result None) ys × (place.new.me.1 ≡ berths result 0 ys) }
     ensures cost { steps.new ≤ steps.old + readers + 1 }
 {
     for slot in 0..readers + 2 {
@@ -101,7 +101,7 @@ impl<T: Version + Drop> Writer<T> {
         requires start { (arc_value board).shared.key.count ≡ start }
         requires seat { (place.me.1 ≡ []) × IsPlanned readers 0 (replicate 18 (256 * start)) place.me.0.role × Chain T.follows place.me.0.seen }
         requires count { start < 2 ^ 56 }
-        ensures { result ≡ publishing place.table_id place.me.0 readers start }
+        ensures { result ≡ publishing place.table_id place.me.0 readers 0 start }
     {
         Writer {
             board,
@@ -112,14 +112,15 @@ impl<T: Version + Drop> Writer<T> {
         }
     }
 
-    /// Publishes the state of these values, one for each reader. The vector then has what stood in the slot that they
-    /// were put into: nothing, or values of a state that was published before. It waits for nobody, takes no memory,
-    /// and counts a step for each slot that it checks.
+    /// Publishes the state of these values, one for each reader, in a slot that nobody holds. The vector then has what
+    /// stood in that slot: values of the state that it was published with before, or nothing where it was never used.
+    /// It waits for nobody, takes no memory, and counts a step for each slot that it checks.
     pub fn publish<L: Ledger>(&mut self, berths: &mut Vec<Option<T>>, steps: &mut Steps<L>)
         requires values { (length berths.old.items ≡ self.old.readers) × ((x : T.State) × AllShow T.state x berths.old.items) }
         requires next { (x y : T.State) → AllShow T.state x berths.old.items → EndsWith self.old.made y → T.follows y x }
-        ensures made { (x : T.State) → AllShow T.state x berths.old.items → self.new ≡ record self.old { made = self.old.made ++ x ∷ []; checks = self.new.checks } }
-        ensures stored { (length berths.new.items ≡ self.old.readers) × WereStored T.state self.old.made self.old.readers berths.new.items }
+        ensures made { (x : T.State) → AllShow T.state x berths.old.items → self.new ≡ record self.old { made = self.old.made ++ x ∷ []; checks = self.new.checks; published = self.new.published; states = slice_set self.old.states self.new.published (Some x) } }
+        ensures slot { (self.new.published < self.old.readers + 2) × (self.new.published ≢ self.old.published) }
+        ensures stored { (length berths.new.items ≡ self.old.readers) × WereStored T.state self.old.made self.old.readers (get_or self.old.states self.new.published None) berths.new.items }
         ensures counted { steps.new + self.old.checks ≡ steps.old + self.new.checks }
         ensures cost { steps.new ≤ steps.old + self.old.readers + 1 }
     {

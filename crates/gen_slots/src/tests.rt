@@ -72,7 +72,7 @@ fn publish<L: Ledger>(
 ) -> u64
     requires readers { (length values.items ≡ writer.old.readers) × (0 < length values.items) }
     requires state { AllShow (λ n. n.0) x values.items }
-    ensures made { writer.new ≡ record writer.old { made = writer.old.made ++ x ∷ []; checks = writer.new.checks } }
+    ensures made { writer.new ≡ record writer.old { made = writer.old.made ++ x ∷ []; checks = writer.new.checks; published = writer.new.published; states = writer.new.states } }
     ensures cost { steps.new ≤ steps.old + writer.old.readers + 1 }
 {
     writer.publish(&mut values, steps);

@@ -1,4 +1,4 @@
-use Rattle.std.proofs.Common.{sym, ◌∙◌, arith}
+use Rattle.std.proofs.Common.{rules, sym, ◌∙◌, arith}
 use Rattle.fused_lookup.specs.Words.{IsNextBit}
 use Rattle.fused_lookup.proofs.LedLaws.{led-bit, nowhere-bit, nowhere-rest}
 use Rattle.fused_lookup.proofs.led.first_live.Goals as goal
@@ -15,8 +15,11 @@ rules-preserved c =
     record {
       low = omega (arith, next.within);
       nowhere = λ row long is before.
-          nowhere-bit c.args.ends.now row c.args.now c.args.i c.args.word c.rules.from c.in-Some.k long is next (c.requires.rule c.in-Some.k next.within next.set)
-          (sym c.is_live.ensures ∙ c.if-is_live.false) (c.rules.invariant.nowhere row long is before);
+          search (
+            rules,
+            nowhere-bit c.args.ends.now row c.args.now c.args.i c.args.word c.rules.from c.in-Some.k long is next (c.requires.rule c.in-Some.k next.within next.set)
+                (sym c.is_live.ensures ∙ c.if-is_live.false) (c.rules.invariant.nowhere row long is before),
+          );
     }
 
 pub returns : goal.returns

@@ -1,4 +1,5 @@
-use Rattle.std.proofs.Common.{◌≡◌, ◌∙◌, ap, ◌+◌, ◌*◌, ◌<◌, ◌≤◌, length, get_or, arith}
+use Rattle.std.proofs.Common.{rules, ◌≡◌, ◌∙◌, ap, ◌+◌, ◌*◌, ◌<◌, ◌≤◌, length, get_or, arith}
+use Rattle.bit_rows.specs.Row.{with_run}
 use Rattle.bit_rows.proofs.Rows.{length-run}
 use Rattle.fused_lookup.specs.Words.{IsNextBit}
 use Rattle.fused_lookup.proofs.FillLaws.{no_span, filled-bit, filled-rest, window-run}
@@ -10,12 +11,13 @@ rules-preserved c =
     let here : 64 * c.args.i + c.in-Some.k < length c.args.spans.now = c.requires.rules.rule c.in-Some.k next.within next.set in
     let span = get_or c.args.spans.now (64 * c.args.i + c.in-Some.k) no_span in
     let inside : span.first + span.count ≤ length c.rules.next.bits = omega (arith, c.requires.inside (64 * c.args.i + c.in-Some.k) no_span here, c.rules.invariant.len) in
-    let kept : length c.set_range.new.self.bits ≡ length c.rules.next.bits = ap length c.set_range.ensures.bits ∙ length-run c.rules.next.bits span.first span.count inside in
+    let run : c.set_range.new.self.bits ≡ with_run c.rules.next.bits span.first span.count = search (rules, c.set_range.ensures.bits) in
+    let kept : length c.set_range.new.self.bits ≡ length c.rules.next.bits = ap length run ∙ length-run c.rules.next.bits span.first span.count inside in
     record {
       low = omega (arith, next.within);
       filled = λ row long is before.
-          filled-bit c.args.spans.now row c.args.i c.args.word c.rules.from c.in-Some.k c.rules.next.bits c.set_range.new.self.bits long is next here inside c.set_range.ensures.bits (c.rules.invariant.filled row long is before);
-      window = window-run c.rules.next.bits c.set_range.new.self.bits c.rules.window c.widened-window.result span.first span.count inside c.set_range.ensures.bits kept c.widened-window.ensures c.rules.invariant.window;
+          filled-bit c.args.spans.now row c.args.i c.args.word c.rules.from c.in-Some.k c.rules.next.bits c.set_range.new.self.bits long is next here inside run (c.rules.invariant.filled row long is before);
+      window = window-run c.rules.next.bits c.set_range.new.self.bits c.rules.window c.widened-window.result span.first span.count inside run kept c.widened-window.ensures c.rules.invariant.window;
       len = kept ∙ c.rules.invariant.len;
       spare = c.set_range.ensures.spare ∙ c.rules.invariant.spare;
     }

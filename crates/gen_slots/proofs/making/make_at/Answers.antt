@@ -1,7 +1,8 @@
-use Rattle.std.proofs.Common.{rules, ap, ◌≡◌, ◌+◌, ◌*◌, ℕ, List, Option, replicate, length, ◌∙◌, sym, subst, arith}
+use Rattle.std.proofs.Common.{rules, ap, ◌≡◌, ◌+◌, ◌*◌, ℕ, List, ◌∷◌, Option, Some, None, replicate, length, ◌∙◌, sym, subst, arith}
 use Rattle.atomic_table.specs.Table.{opening}
-use Rattle.gen_slots.specs.SlotRule.{Kept, starting}
-use Rattle.gen_slots.specs.SlotViews.{laid}
+use Rattle.gen_slots.specs.declared.board.Role.TheVariants.{Keeper}
+use Rattle.gen_slots.specs.SlotRule.{Kept, starting, first_plan}
+use Rattle.gen_slots.specs.SlotViews.{laid, states_of}
 use Rattle.history_laws.specs.States.{AllAre}
 use Rattle.history_laws.proofs.States.{first_state}
 use Rattle.gen_slots.proofs.OpeningSteps.{starts, length-laid}
@@ -33,3 +34,11 @@ seated-requires-clause-table g c = let first = c.args.first.items in let count =
     let slots : c.deal.new.place.table_id.slots ≡ length c.in_ok-berths.berths.items = search rules in
     let words : c.deal.new.place.table_id.words ≡ c.len-readers.result + 3 = search rules in
     (search rules, (omega (arith, long), omega (arith, long)), words, omega arith, omega arith)
+
+pub returns-clause-slots : goal.returns-clause-slots
+returns-clause-slots g c = let count = c.requires.count in let seated = c.seated.ensures in
+    let started : c.in-Ok.place.me.0.role ≡ Keeper (first_plan c.len-readers.result c.args.start (g.T.Version.state c.of.result.value)) = search rules in (
+      ap (λ s. s.published) seated,
+      λ x all. let one = ap g.T.Version.state (c.of.ensures ∙ c.index.ensures) ∙ first_state g.T.Version.state x c.args.first.items c.index.result.now all (omega arith) in
+          ap (λ s. s.states) seated ∙ (ap states_of (c.in_ok-passes.ensures.seat.3 _ started) ∙ ap (λ y. Some y ∷ replicate 17 None) one),
+    )

@@ -1,9 +1,9 @@
-use Rattle.std.proofs.Common.{rules, ◌≡◌, ◌+◌, ◌≤◌, ℕ, List, length, arith, sym, refl, ap, ◌∙◌, subst, set, get_or, length-set, slice_index}
+use Rattle.std.proofs.Common.{rules, ◌≡◌, ◌+◌, ◌≤◌, ℕ, List, length, arith, sym, refl, ap, ◌∙◌, subst, set, get_or, length-set, slice_index, Option, None}
 use Rattle.gen_slots.specs.declared.board.Plan.{Plan}
 use Rattle.gen_slots.specs.declared.board.Role.TheVariants.{Keeper}
 use Rattle.gen_slots.specs.SlotRule.{sum_below}
 use Rattle.gen_slots.specs.SlotSteps.{WereStored}
-use Rattle.gen_slots.specs.SlotViews.{found_plan}
+use Rattle.gen_slots.specs.SlotViews.{found_plan, states_of}
 use Rattle.gen_slots.proofs.Sums.{sum_below-zeros, sum_below-most}
 use Rattle.gen_slots.proofs.Stages.{tried_more}
 use Rattle.gen_slots.proofs.WriterSteps.{checks, plan_or}
@@ -59,8 +59,12 @@ returns-then-load-counts-clause-seat g c = let i = c.loop-slot.invariant in let 
 
 pub returns-then-load-counts-clause-berths : goal.returns-then-load-counts-clause-berths
 returns-then-load-counts-clause-berths g c = let i = c.loop-slot.invariant in let did = i.tried.2 in let p = did.plan in let now = c.load.ensures.2.2 c.loop-slot.slot refl (record p { tried = did.tries; checks = p.checks + i.tried.0 }) did.is in
-    let hit = c.if-load-counts.true in let kept = ap (λ (z : List ℕ). get_or z c.loop-slot.slot 0) did.counts_is in let free : c.load.result ≡ get_or p.counts c.loop-slot.slot 0 = omega (arith, hit, kept) in let took = (now.2.0 free).1 in
-    (took.0, took.1 ∙ did.readers_is, subst (λ (z : List g.row.T-State.Denot × ℕ). WereStored g.T.Version.state z.0 z.1 took.0) (λ j. (i.seen j, did.readers_is j)) took.2, took.3)
+    let hit = c.if-load-counts.true in let kept = ap (λ (z : List ℕ). get_or z c.loop-slot.slot 0) did.counts_is in let free : c.load.result ≡ get_or p.counts c.loop-slot.slot 0 = omega (arith, hit, kept) in let took = (now.2.0 free).1 in (
+      took.0,
+      took.1 ∙ did.readers_is,
+      subst (λ (z : List g.row.T-State.Denot × ℕ × List (Option g.row.T-State.Denot)). WereStored g.T.Version.state z.0 z.1 (get_or z.2 c.loop-slot.slot None) took.0) (λ j. (i.seen j, did.readers_is j, ap states_of (sym did.was) j)) took.2,
+      took.3,
+    )
 
 pub loop-slot-preserved : goal.loop-slot-preserved
 loop-slot-preserved g c = let i = c.loop-slot.invariant in let did = i.tried.2 in let p = did.plan in let m = i.tried.0 in let before = i.tried.1 in let t = did.tries in let slot = c.loop-slot.slot in let far = c.loop-slot-test.true in let cost₀ = i.cost.0 in let cost₁ = i.cost.1 in elim c.if-slot-published.branch [

@@ -1,15 +1,13 @@
-use Rattle.std.proofs.Common.{◌≡◌, ◌<◌, ◌^◌, ◌∙◌, ◌/◌, refl, arith}
+use Rattle.std.proofs.Common.{◌≡◌, ◌<◌, ◌^◌, ◌∙◌, ◌/◌, arith}
 use Rattle.lookup_table.proofs.MarkLaws.{size-lengths, block_marked-more, rules-more, run-within, code-first, code-count}
 use Rattle.lookup_table.proofs.marks.mark_block.Goals as goal
 
 pub mark-requires-clause-within : goal.mark-requires-clause-within
 mark-requires-clause-within c =
     let small : c.groups.g < 2 ^ 32 = omega arith in
-    rw (
-      code-first c.args.width c.args.bits c.groups.g _ _ c.args.block c.requires.groups.eight small c.group_mask-base.ensures.base c.group_mask-base.ensures.mask,
-      code-count c.args.width c.args.bits c.groups.g _ c.args.block c.requires.groups.eight c.group_mask-base.ensures.mask,
-    )
-    (run-within c.args.width c.args.bits c.groups.g c.args.block c.groups.buckets (c.groups.invariant.size.long ∙ c.requires.count) c.groups-test.true)
+    let first = code-first c.args.width c.args.bits c.groups.g _ _ c.args.block c.requires.groups.eight small c.group_mask-base.ensures.base c.group_mask-base.ensures.mask in
+    let count = code-count c.args.width c.args.bits c.groups.g _ c.args.block c.requires.groups.eight c.group_mask-base.ensures.mask in
+    omega (arith, first, count, run-within c.args.width c.args.bits c.groups.g c.args.block c.groups.buckets (c.groups.invariant.size.long ∙ c.requires.count) c.groups-test.true)
 
 pub mark-requires-clause-place : goal.mark-requires-clause-place
 mark-requires-clause-place c = size-lengths (λ n. c.args.r < n) c.args.buckets.now c.groups.buckets c.groups.invariant.size c.requires.place
@@ -19,7 +17,7 @@ groups-preserved c =
     let small : c.groups.g < 2 ^ 32 = omega arith in
     let first = code-first c.args.width c.args.bits c.groups.g _ _ c.args.block c.requires.groups.eight small c.group_mask-base.ensures.base c.group_mask-base.ensures.mask in
     let count = code-count c.args.width c.args.bits c.groups.g _ c.args.block c.requires.groups.eight c.group_mask-base.ensures.mask in
-    block_marked-more c.args.width c.args.bits c.groups.g c.args.block c.args.r _ _ c.args.buckets.now c.groups.buckets c.mark.new.self first (rw (first, count) refl) c.mark.ensures c.groups.invariant
+    block_marked-more c.args.width c.args.bits c.groups.g c.args.block c.args.r _ _ c.args.buckets.now c.groups.buckets c.mark.new.self (cc first) (cc (first, count)) c.mark.ensures c.groups.invariant
 
 pub returns-clause-rules : goal.returns-clause-rules
 returns-clause-rules c = λ before long has.

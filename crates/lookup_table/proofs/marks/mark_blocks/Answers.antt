@@ -7,8 +7,6 @@ rules-preserved c = record {
   size = size-both c.args.buckets.now c.rules.buckets c.mark_block.new.buckets c.rules.invariant.size c.mark_block.ensures.size;
   rules = λ before long has.
       let within : c.rules.i < length c.args.blocks.now = omega arith in
-      let count : length (before ++ take c.rules.i c.args.blocks.now) ≡ c.args.first + c.rules.i =
-      omega (arith, length-append before (take c.rules.i c.args.blocks.now), length-take c.rules.i c.args.blocks.now) in
       rules-step c.args.width c.args.bits c.rules.i _ c.args.blocks.now before c.args.buckets.now c.rules.buckets c.mark_block.new.buckets within
-      (c.mark_block.ensures.rules (before ++ take c.rules.i c.args.blocks.now) count) (c.rules.invariant.rules before long has);
+      (c.mark_block.ensures.rules (before ++ take c.rules.i c.args.blocks.now) (omega (arith, length-append before (take c.rules.i c.args.blocks.now), length-take c.rules.i c.args.blocks.now))) (c.rules.invariant.rules before long has);
 }

@@ -30,7 +30,7 @@ rules-preserved c =
     let here = led-there c.args.ends.now c.args.matched.now.bits c.args.now c.in-Some.r false c.requires within s.set (sym c.is_live.ensures ∙ c.if-is_live.false) in
     record {
       within = omega arith;
-      none = below-more (λ k. is_led c.args.now (get_or (zip c.args.ends.now c.args.matched.now.bits) k no_end)) c.in-Some.r before here;
+      none = λ k h. below-more (λ k. is_led c.args.now (get_or (zip c.args.ends.now c.args.matched.now.bits) k no_end)) c.in-Some.r before here k (omega (arith, h));
     } where
       below-more : (p : ℕ → Bool) (r : ℕ) → ((k : ℕ) → k < r → p k ≡ false) → p r ≡ false → (k : ℕ) → k < r + 1 → p k ≡ false
       below-more p r before here k h = go (cases_lt k r) where

@@ -1,4 +1,4 @@
-use Rattle.std.proofs.Common.{arith, ◌<◌, length, get_or, None}
+use Rattle.std.proofs.Common.{rules, arith, ◌<◌, length, get_or, None}
 use Rattle.std.proofs.lemmas.List.{get_or_default}
 use Rattle.std.proofs.lemmas.List.Edits.{map_over_more}
 use Rattle.set_tables.specs.declared.End.{End}
@@ -11,4 +11,4 @@ ends-preserved c =
     let i = c.ends.end-index in
     let within : c.ends.end-index < length c.args.ends.now = omega arith in
     let inside : c.ends.end-index < length c.ends.ends = omega arith in
-    map_over_more (end_renewed c.args.expiry) c.args.ends.now c.ends.ends i (get_or c.ends.ends i d) within c.ends.invariant (get_or_default c.ends.ends i d (get_or c.ends.ends i d) inside)
+    search (rules, map_over_more (end_renewed c.args.expiry) c.args.ends.now c.ends.ends i (get_or c.ends.ends i d) within c.ends.invariant (get_or_default c.ends.ends i d (get_or c.ends.ends i d) inside))

@@ -27,14 +27,14 @@ rules-preserved c =
     let inside : span.first + span.count ≤ length c.rules.next.bits = omega (arith, c.requires.within c.in-Some.r d here, c.rules.invariant.len) in
     record {
       within = omega arith;
-      len = ap length c.set_range.ensures.bits ∙ length-run c.rules.next.bits span.first span.count inside ∙ c.rules.invariant.len;
+      len = grind (arith, inside, length-run);
       spare = c.set_range.ensures.spare ∙ c.rules.invariant.spare;
       bits = λ k h.
           let old : get_or c.rules.next.bits k false ≡ list_any (reaches k) (take c.in-Some.r (zip c.args.spans.now c.args.matched.now.bits)) =
           rw gap at
           (refill-skipped c.args.spans.now c.args.matched.now.bits k c.rules.from (c.in-Some.r - c.rules.from) d _ (omega arith) c.requires.rows (λ i a b. s.least i a (omega arith)) (c.rules.invariant.bits k h)) in
           refill-set c.args.spans.now c.args.matched.now.bits k c.in-Some.r d _ _ here c.requires.rows s.set old
-          (ap (λ z. get_or z k false) c.set_range.ensures.bits ∙ at-run c.rules.next.bits span.first span.count k inside);
+          (cc (ap (λ z. get_or z k false) c.set_range.ensures.bits, at-run c.rules.next.bits span.first span.count k inside));
     }
 
 pub returns-clause-bits : goal.returns-clause-bits

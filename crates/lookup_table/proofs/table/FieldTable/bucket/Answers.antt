@@ -9,9 +9,12 @@ use Rattle.lookup_table.proofs.table.FieldTable.bucket.Goals as goal
 pub at-requires : goal.at-requires
 at-requires c =
     let small : c.args.g < 2 ^ 32 = omega arith in
-    rw (code-place c.args.self.now.width c.args.g c.group_value-v.result c.args.self.now.shaped.groups.eight small, c.group_value-v.ensures)
-    (place-within c.args.self.now.width c.args.self.now.bits c.args.self.now.rules c.args.g _ c.args.self.now.buckets c.args.self.now.shaped c.requires.group
-    (group-below c.args.self.now.width c.args.self.now.bits c.args.g c.args.value))
+    let below : c.group_value-v.result < 2 ^ c.args.self.now.width = rw c.group_value-v.ensures (group-below c.args.self.now.width c.args.self.now.bits c.args.g c.args.value) in
+    omega (
+      arith,
+      code-place c.args.self.now.width c.args.g c.group_value-v.result c.args.self.now.shaped.groups.eight small,
+      place-within c.args.self.now.width c.args.self.now.bits c.args.self.now.rules c.args.g c.group_value-v.result c.args.self.now.buckets c.args.self.now.shaped c.requires.group below,
+    )
 
 pub returns-clause-length : goal.returns-clause-length
 returns-clause-length c = All-read (λ (x : Row). length x.bits ≡ c.args.self.now.rules) c.args.self.now.buckets _ c.at.result.now c.args.self.now.shaped.rows c.at.ensures

@@ -1,3 +1,5 @@
+use Rattle.std.proofs.Common.{rules}
+use Rattle.lookup_table.specs.Rows.{IsClosedUp, Each}
 use Rattle.lookup_table.proofs.RowsLaws.{closed-rooms}
 use Rattle.lookup_table.proofs.RuleLaws.{closed-stands}
 use Rattle.lookup_table.proofs.table.FieldTable.drop_rules.Goals as goal
@@ -6,4 +8,6 @@ pub returns-clause-room : goal.returns-clause-room
 returns-clause-room c = closed-rooms _ _ _ _ c.close_up.ensures
 
 pub returns-clause-stands : goal.returns-clause-stands
-returns-clause-stands c = λ blocks stands. closed-stands _ _ _ _ _ _ _ blocks c.requires c.args.self.now.shaped c.close_up.ensures stands
+returns-clause-stands c = λ blocks stands.
+    let closed : Each (IsClosedUp c.args.first c.args.n) c.args.self.now.buckets c.close_up.new.self = search (rules, c.close_up.ensures) in
+    search (rules, closed-stands c.args.self.now.width c.args.self.now.bits c.args.self.now.rules c.args.first c.args.n c.args.self.now.buckets c.close_up.new.self blocks c.requires c.args.self.now.shaped closed stands)

@@ -1,4 +1,4 @@
-use Rattle.std.proofs.Common.{◌≡◌, ◌∙◌, refl, sym, length}
+use Rattle.std.proofs.Common.{rules, ◌≡◌, ◌∙◌, refl, sym, length}
 use Rattle.bit_rows.specs.Row.{Row}
 use Rattle.lookup_table.proofs.RowsLaws.{All-read}
 use Rattle.lookup_table.proofs.ShareLaws.{joined-none, joined-more}
@@ -13,8 +13,8 @@ rows-init c = record { joined = joined-none _ _ _ _ _ c.requires.row; spare = re
 
 pub rows-preserved : goal.rows-preserved
 rows-preserved c = record {
-  joined = joined-more _ _ _ _ _ _ _ _ c.at.ensures
+  joined = joined-more c.args.self.now.buckets c.args.start c.args.step c.rows.i c.args.self.now.rules c.rows.row _ c.at.result.now (search (rules, c.at.ensures))
       (c.rows.invariant.joined.long ∙ sym (All-read (λ (x : Row). length x.bits ≡ c.args.self.now.rules) c.args.self.now.buckets _ c.at.result.now c.args.self.now.shaped.rows c.at.ensures))
-      c.or_from.ensures.bits c.rows.invariant.joined;
+      (search (rules, c.or_from.ensures.bits)) c.rows.invariant.joined;
   spare = c.or_from.ensures.spare ∙ c.rows.invariant.spare;
 }

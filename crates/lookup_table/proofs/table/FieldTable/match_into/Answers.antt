@@ -1,11 +1,12 @@
-use Rattle.std.proofs.Common.{◌≡◌, ◌∙◌, sym, ◌/◌, length, arith}
+use Rattle.std.proofs.Common.{rules, ◌≡◌, ◌∙◌, sym, ◌/◌, length, arith}
 use Rattle.lookup_table.proofs.MatchLaws.{matched-more, matched-all}
 use Rattle.lookup_table.proofs.table.FieldTable.match_into.Goals as goal
 
 pub groups-preserved : goal.groups-preserved
 groups-preserved c =
     let same : length c.groups.row.bits ≡ length c.bucket.result.now.bits = c.groups.invariant.long ∙ c.requires.length ∙ sym c.bucket.ensures.length in
-    matched-more _ _ _ _ _ _ _ _ _ c.bucket.ensures.bucket same c.and_from.ensures.bits c.and_from.ensures.spare c.groups.invariant
+    matched-more c.args.self.now.width c.args.self.now.bits c.args.value c.groups.g c.args.self.now.buckets c.args.row.now c.groups.row c.and_from.new.self c.bucket.result.now
+    (search (rules, c.bucket.ensures.bucket)) same (search (rules, c.and_from.ensures.bits)) (search (rules, c.and_from.ensures.spare)) c.groups.invariant
 
 pub returns-clause-held : goal.returns-clause-held
 returns-clause-held c = λ blocks stands.

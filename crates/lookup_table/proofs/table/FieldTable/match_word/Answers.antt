@@ -1,10 +1,12 @@
-use Rattle.std.proofs.Common.{◌≡◌, ◌/◌, arith}
+use Rattle.std.proofs.Common.{rules, ◌≡◌, ◌/◌, arith}
 use Rattle.bit_rows.proofs.Bits.{bit-zero}
 use Rattle.lookup_table.proofs.WordLaws.{word-more, word-all, word-early}
 use Rattle.lookup_table.proofs.table.FieldTable.match_word.Goals as goal
 
 pub groups-preserved : goal.groups-preserved
-groups-preserved c = word-more _ _ _ _ _ _ _ _ _ _ _ c.bucket.ensures.bucket c.bucket.ensures.length c.word-left.ensures c.groups.invariant
+groups-preserved c =
+    word-more c.args.self.now.width c.args.self.now.bits c.args.value c.groups.g c.args.i c.args.self.now.rules c.args.self.now.buckets c.args.word c.groups.left c.word-left.result c.bucket.result.now
+    c.bucket.ensures.bucket c.bucket.ensures.length (search (rules, c.word-left.ensures)) c.groups.invariant
 
 pub returns-then-left-eq0-clause-held : goal.returns-then-left-eq0-clause-held
 returns-then-left-eq0-clause-held c = λ blocks stands.

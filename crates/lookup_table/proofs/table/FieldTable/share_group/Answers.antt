@@ -1,4 +1,4 @@
-use Rattle.std.proofs.Common.{◌≡◌, ◌∙◌, sym, ap, ◌<◌, ◌^◌, length, arith}
+use Rattle.std.proofs.Common.{rules, ◌≡◌, ◌∙◌, sym, ap, ◌<◌, ◌^◌, length, arith}
 use Rattle.bit_rows.specs.Row.{Row}
 use Rattle.bit_rows.proofs.Rows.{length-both}
 use Rattle.lookup_table.proofs.RowsLaws.{All-read}
@@ -10,15 +10,13 @@ use Rattle.lookup_table.proofs.table.FieldTable.share_group.Goals as goal
 pub join_into-requires-clause-place : goal.join_into-requires-clause-place
 join_into-requires-clause-place c =
     let small : c.args.g < 2 ^ 32 = omega arith in
-    rw (
+    omega (
+      arith,
       code-first c.args.self.now.width c.args.self.now.bits c.args.g _ _ c.args.block c.args.self.now.shaped.groups.eight small c.group_mask-base.ensures.base c.group_mask-base.ensures.mask,
       code-count c.args.self.now.width c.args.self.now.bits c.args.g _ c.args.block c.args.self.now.shaped.groups.eight c.group_mask-base.ensures.mask,
-    )
-    (omega (
-      arith,
       run-within c.args.self.now.width c.args.self.now.bits c.args.g c.args.block c.args.self.now.buckets c.args.self.now.shaped.count c.requires.group,
       run-some c.args.self.now.width c.args.self.now.bits c.args.g c.args.block,
-    ))
+    )
 
 pub returns-then-count-eq1-clause-length : goal.returns-then-count-eq1-clause-length
 returns-then-count-eq1-clause-length c =
@@ -32,7 +30,7 @@ returns-then-count-eq1-clause-met c =
     (met-one c.args.self.now.width c.args.self.now.bits c.args.self.now.rules c.args.g _ _ c.args.block c.args.self.now.buckets c.args.row.now c.and_from.new.self c.at.result.now c.requires.group
     (code-first c.args.self.now.width c.args.self.now.bits c.args.g _ _ c.args.block c.args.self.now.shaped.groups.eight small c.group_mask-base.ensures.base c.group_mask-base.ensures.mask)
     (code-count c.args.self.now.width c.args.self.now.bits c.args.g _ c.args.block c.args.self.now.shaped.groups.eight c.group_mask-base.ensures.mask)
-    c.if-count-eq1.true c.at.ensures c.requires.length there c.and_from.ensures.bits).at
+    c.if-count-eq1.true (search (rules, c.at.ensures)) c.requires.length there c.and_from.ensures.bits).at
 
 pub returns-then-mask-ne0-clause-length : goal.returns-then-mask-ne0-clause-length
 returns-then-mask-ne0-clause-length c =
@@ -44,7 +42,7 @@ returns-then-mask-ne0-clause-met c =
     (met-some c.args.self.now.width c.args.self.now.bits c.args.self.now.rules c.args.g _ _ c.args.block c.args.self.now.buckets c.args.row.now c.and_from-then-mask-ne0.new.self c.join_into.new.row c.requires.group
     (code-first c.args.self.now.width c.args.self.now.bits c.args.g _ _ c.args.block c.args.self.now.shaped.groups.eight small c.group_mask-base.ensures.base c.group_mask-base.ensures.mask)
     (code-count c.args.self.now.width c.args.self.now.bits c.args.g _ c.args.block c.args.self.now.shaped.groups.eight c.group_mask-base.ensures.mask)
-    c.join_into.ensures.joined c.requires.length c.and_from-then-mask-ne0.ensures.bits).at
+    (search (rules, c.join_into.ensures.joined)) c.requires.length c.and_from-then-mask-ne0.ensures.bits).at
 
 pub returns-else-mask-ne0-clause-met : goal.returns-else-mask-ne0-clause-met
 returns-else-mask-ne0-clause-met c =
