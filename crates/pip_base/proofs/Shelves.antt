@@ -46,21 +46,23 @@ none-left : (xs : List ℕ) → length xs ≡ 0 → xs ≡ []
 none-left [] h = refl
 none-left (x ∷ xs) h = absurd (omega (arith, h))
 
--- A read that gives the next count bytes consumes them, and none only at the end.
-pub read-gives : (files : List (List ℕ × List ℕ)) (opened : List OpenFile) (n count : ℕ) (o : OpenFile) (rest into : List ℕ)
-    → slice_get opened n ≡ Some o → rest ≡ bytes_from (slice_get files o.place) o.from → count ≡ min (length rest) (length into)
-    → (taken : List ℕ) → taken ≡ take count rest
-    → Consumes (rest_of_open files (slice_get opened n)) (rest_of_open files (slice_get (slice_set opened n (record { place = o.place; from = o.from + count })) n)) taken
-    × (count ≡ 0 → 0 < length into → IsAtEnd (rest_of_open files (slice_get (slice_set opened n (record { place = o.place; from = o.from + count })) n)))
-read-gives files opened n count o rest into at_n is_rest is_count taken is_taken = rw (at_n, slice_get-set_same opened n _ (slice_get_within opened n o at_n)) (consumed, ended) where
-  left : bytes_from (slice_get files o.place) o.from ≡ take count (bytes_from (slice_get files o.place) o.from) ++ bytes_from (slice_get files o.place) (o.from + count)
-  left = bytes-left (slice_get files o.place) o.from count
+-- A file that was read then stands `count` bytes further on.
+module _ (files : List (List ℕ × List ℕ)) (opened : List OpenFile) (n count : ℕ) (o moved : OpenFile) (rest : List ℕ) (at_n : slice_get opened n ≡ Some o)
+    (is_rest : rest ≡ bytes_from (slice_get files o.place) o.from) (place : moved.place ≡ o.place) (further : moved.from ≡ o.from + count) where
+  left : rest_of_open files (slice_get (slice_set opened n moved) n) ≡ Some (bytes_from (slice_get files o.place) (o.from + count))
+  left =
+      ap (rest_of_open files) (slice_get-set_same opened n moved (slice_get_within opened n o at_n))
+      ∙ ap (λ p. Some (bytes_from (slice_get files p) moved.from)) place
+      ∙ ap (λ m. Some (bytes_from (slice_get files o.place) m)) further
 
-  consumed : bytes_from (slice_get files o.place) o.from ≡ taken ++ bytes_from (slice_get files o.place) (o.from + count)
-  consumed = left ∙ ap (λ z. z ++ bytes_from (slice_get files o.place) (o.from + count)) (sym (is_taken ∙ ap (take count) is_rest))
+  -- The next count bytes are consumed.
+  pub read-consumes : (taken : List ℕ) → taken ≡ take count rest → Consumes (rest_of_open files (slice_get opened n)) (rest_of_open files (slice_get (slice_set opened n moved) n)) taken
+  read-consumes taken is_taken =
+      rw (at_n, left) (bytes-left (slice_get files o.place) o.from count ∙ ap (λ z. z ++ bytes_from (slice_get files o.place) (o.from + count)) (sym (is_taken ∙ ap (take count) is_rest)))
 
-  ended : count ≡ 0 → 0 < length into → bytes_from (slice_get files o.place) (o.from + count) ≡ []
-  ended none some = rw none (rw add-zero (sym is_rest ∙ none-left rest (omega (arith, is_count, none, some))))
+  -- None are read only at the end.
+  pub read-ends : (into : List ℕ) → count ≡ min (length rest) (length into) → count ≡ 0 → 0 < length into → IsAtEnd (rest_of_open files (slice_get (slice_set opened n moved) n))
+  read-ends into is_count none some = rw left (rw none (rw add-zero (sym is_rest ∙ none-left rest (omega (arith, is_count, none, some)))))
 
 -- what was copied to the front of a buffer is read back from it
 pub front-copied : (count : ℕ) (rest copied others : List ℕ) → count ≤ length rest → copied ≡ take count rest → take count (copied ++ others) ≡ take count rest

@@ -192,8 +192,8 @@ joins_table f separator schema i d old mid new next h fresh j e =
     subst (λ zs. Joins f separator zs old new separator) (sym (ap first_sets (take-get schema i d h) ∙ first_new (take i schema) d fresh)) (joins_one f separator (first_sets (take i schema)) d old mid new next j e)
 
 -- Where memory ran out, what was appended is cut off.
-pub cut : (old mid new text : List ℕ) → Keeps old mid → new ≡ take (length old) mid → AppendsPart old new text
-cut old mid new text k e = none_part old new text (e ∙ ap (take (length old)) k.appended ∙ take-append_seam old k.behind)
+pub cut : (old mid new text : List ℕ) (n : ℕ) → Keeps old mid → n ≡ length old → new ≡ take n mid → AppendsPart old new text
+cut old mid new text n k all e = none_part old new text (e ∙ ap (λ m. take m mid) all ∙ ap (take (length old)) k.appended ∙ take-append_seam old k.behind)
 
 -- Parts of a text, one after the other.
 pub on_ok : {T E P Q : Type 0} (r : Result T E) → (P → Q) → OnOk r P → OnOk r Q

@@ -332,7 +332,7 @@ fn write_tables(
 ///
 /// # Errors
 ///
-/// `Memory` where there is none; `out` is then as before.
+/// `Memory` where there is none; at most a part of the text from its front is then appended.
 pub fn write_list(
     schema: &Schema,
     generation: &Generation,

@@ -10,7 +10,7 @@ use set_model::{Family, Memory, SetDecl};
 
 /// A piece of a line.
 #[derive(Clone, Copy)]
-pub enum Piece<'a> {
+pub(crate) enum Piece<'a> {
     /// Bytes as they are.
     Word(&'a [u8]),
     /// A number in decimal.
@@ -23,7 +23,7 @@ pub enum Piece<'a> {
 
 /// Appends bytes. After `Memory` a part of them from the front is appended.
 #[tactic(auto, using(crate::proofs::PartLaws::none_part))]
-pub fn append(bytes: &[u8], out: &mut Vec<u8>) -> Result<(), Memory>
+fn append(bytes: &[u8], out: &mut Vec<u8>) -> Result<(), Memory>
     ensures ok { OnOk result (out.new.items ≡ out.old.items ++ bytes.now) }
     ensures err { OnErr result (AppendsPart out.old.items out.new.items bytes.now) }
 {
@@ -47,7 +47,8 @@ fn append_time(ms: u64, out: &mut Vec<u8>) -> Result<(), Memory>
     write_time(ms, out)
 }
 
-pub fn family_word(family: Family) -> &'static [u8]
+/// A family by its name in nft(8).
+pub(crate) fn family_word(family: Family) -> &'static [u8]
     ensures { result.now ≡ family_text family }
 {
     match family {
@@ -112,7 +113,7 @@ fn append_piece(piece: &Piece, out: &mut Vec<u8>) -> Result<(), Memory>
 
 /// Appends pieces, one after another. After `Memory` a part of them from the front is appended.
 #[tactic(auto, using(crate::proofs::PartLaws::item_part))]
-pub fn append_pieces(pieces: &[Piece], out: &mut Vec<u8>) -> Result<(), Memory>
+pub(crate) fn append_pieces(pieces: &[Piece], out: &mut Vec<u8>) -> Result<(), Memory>
     ensures ok { OnOk result (out.new.items ≡ out.old.items ++ flat_map piece_text pieces.now) }
     ensures err { OnErr result (AppendsPart out.old.items out.new.items (flat_map piece_text pieces.now)) }
 {

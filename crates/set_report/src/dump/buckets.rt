@@ -43,7 +43,13 @@ fn write_run(g: u32, from: u64, to: u64, row: &BitRow, out: &mut Vec<u8>) -> Res
 }
 
 /// Appends the line of a run where its bitmap isn't all zeros.
-fn write_if_set(g: u32, from: u64, to: u64, row: &BitRow, out: &mut Vec<u8>) -> Result<(), Memory>
+fn write_run_if_any_set(
+    g: u32,
+    from: u64,
+    to: u64,
+    row: &BitRow,
+    out: &mut Vec<u8>,
+) -> Result<(), Memory>
     ensures ok { OnOk result (out.new.items ≡ out.old.items ++ runs_text g (record { from = from; to = to; bitmap = row.now.bits } ∷ [])) }
     ensures err { OnErr result (AppendsPart out.old.items out.new.items (runs_text g (record { from = from; to = to; bitmap = row.now.bits } ∷ []))) }
 {
@@ -85,7 +91,7 @@ fn write_runs(rows: &Rows, g: u32, first: u64, count: u64, out: &mut Vec<u8>) ->
     let mut from = 0;
     'runs: while from < count {
         let len = run_len(rows, first + from, first + count);
-        write_if_set(g, from, from + len - 1, rows.at(first + from), out)?;
+        write_run_if_any_set(g, from, from + len - 1, rows.at(first + from), out)?;
         from += len;
     }
     Ok(())

@@ -1,12 +1,13 @@
-use Rattle.std.proofs.Common.{subst, ◌++◌, codes}
+use Rattle.std.proofs.Common.{rules, subst, ◌++◌, codes}
+use Rattle.std.proofs.lemmas.List.{get_or_default}
 use Rattle.set_model.specs.Text.{event_text}
 use Rattle.set_report.specs.Remarks.{remarks_text}
 use Rattle.set_report.specs.Writes.{AppendsPart}
-use Rattle.set_report.proofs.PartLaws.{on_err, item_part_at}
+use Rattle.set_report.proofs.PartLaws.{on_err, item_part}
 use Rattle.set_report.proofs.remarks.write_remarks.Goals as goal
 
 pub returns-in_err-write_remark-clause-err : goal.returns-in_err-write_remark-clause-err
 returns-in_err-write_remark-clause-err c =
     on_err c.from_residual.result (subst (λ es. AppendsPart c.args.out.now.items c.write_remark.new.out.items (remarks_text c.args.schema.now es)) c.as_slice-event-items.ensures
-    (item_part_at (λ event. codes "# " ++ event_text c.args.schema.now event) c.as_slice-event-items.result.now c.loop-event.event-index _ c.args.out.now.items c.loop-event.out.items c.write_remark.new.out.items
-    c.loop-event-test.true c.loop-event.invariant c.in_err-write_remark.ensures.err))
+    (item_part (λ event. codes "# " ++ event_text c.args.schema.now event) c.as_slice-event-items.result.now c.loop-event.event-index _ c.args.out.now.items c.loop-event.out.items c.write_remark.new.out.items
+    c.loop-event-test.true (search (rules, get_or_default, c.loop-event-test.true)) c.loop-event.invariant c.in_err-write_remark.ensures.err))

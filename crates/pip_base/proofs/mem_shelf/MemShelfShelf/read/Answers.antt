@@ -1,7 +1,7 @@
 use Rattle.std.proofs.Common.{◌≡◌, sym, ◌∙◌, ap, map, ◌<◌, length, drop, slice_get, Some, arith}
 use Rattle.std.proofs.lemmas.Option.{slice_get-get_or}
 use Rattle.pip_base.specs.MemShelf.{stored, rest_of_open, bytes_from}
-use Rattle.pip_base.proofs.Shelves.{slice_get-set_other, read-gives, front-copied}
+use Rattle.pip_base.proofs.Shelves.{slice_get-set_other, read-consumes, read-ends, front-copied}
 use Rattle.pip_base.proofs.mem_shelf.MemShelfShelf.read.Goals as goal
 
 pub returns-clause-others : goal.returns-clause-others
@@ -15,6 +15,8 @@ returns-clause-bytes c =
     let rest_is : c.rest_of-rest.result.now ≡ bytes_from (slice_get (map stored c.self.inside.files.items) c.index-open.result.now.place) c.index-open.result.now.from =
     rw c.as_slice.ensures.value at c.rest_of-rest.ensures.rest in
     let copied = front-copied c.min-count.result c.rest_of-rest.result.now c.copy_from_slice.new.self (drop c.min-count.result c.args.into.now) (omega (arith, c.min-count.ensures)) c.copy_from_slice.ensures.after in
-    let gives = read-gives (map stored c.self.inside.files.items) c.self.inside.opened.items c.args.file c.min-count.result c.index-open.result.now c.rest_of-rest.result.now c.args.into.now
-    at_file rest_is c.min-count.ensures _ copied in
-    rw (← c.self.view_is) (gives.0, λ none some. gives.1 none c.requires.room)
+    rw (← c.self.view_is) (
+      read-consumes (map stored c.self.inside.files.items) c.self.inside.opened.items c.args.file c.min-count.result c.index-open.result.now _ c.rest_of-rest.result.now at_file rest_is (omega arith) (omega arith) _ copied,
+      λ none some. read-ends (map stored c.self.inside.files.items) c.self.inside.opened.items c.args.file c.min-count.result c.index-open.result.now _ c.rest_of-rest.result.now at_file rest_is (omega arith) (omega arith)
+          c.args.into.now c.min-count.ensures none c.requires.room,
+    )
