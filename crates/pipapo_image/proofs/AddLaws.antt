@@ -1,10 +1,13 @@
 -- An addition, by what the lookups of the start key and the end key found.
-use Rattle.std.proofs.Common.{◌≡◌, refl, sym, ◌∙◌, ap, ℕ, ◌^◌, Bool, true, false, ◌==◌, nat_le, nat_lt, List, [], ◌∷◌, length, Option, Some, None, arith}
-use Rattle.std.specs.Prelude.{option_map, if◌then◌else◌}
+use Rattle.std.proofs.Common.{◌≡◌, refl, sym, ◌∙◌, ap, subst, ℕ, ◌^◌, Bool, true, false, ◌==◌, nat_le, nat_lt, List, [], ◌∷◌, length, Option, Some, None, Result, Ok, Err, arith}
+use Rattle.std.proofs.Math.Path.{fun_ext}
+use Rattle.std.specs.Prelude.{option_map, if◌then◌else◌, IsErrAnd}
 use Rattle.std.specs.Option.{option_or}
 use Rattle.std.proofs.lemmas.Bool.{and_parts, and_from}
 use Rattle.std.proofs.lemmas.Bool.Decides.{nat_tests}
 use Rattle.std.proofs.lemmas.List.{length-map}
+use Rattle.std.specs.Global.{Vec}
+use Rattle.set_model.specs.declared.block.Block.{Block}
 use Rattle.set_model.specs.declared.kind.Kind.{Kind}
 use Rattle.set_model.specs.declared.kind.Interval.{Interval}
 use Rattle.set_model.specs.declared.element.Element.{Element}
@@ -15,17 +18,22 @@ use Rattle.set_model.specs.Key.{parts_fit, intervals_fit, key_fits, values_fit, 
 use Rattle.set_model.specs.SetState.{State, Added, add, add_by, add_new, add_again, in_the_way, twin, if_same, first, first_sharing, place, answers, is_full, crowded_field}
 use Rattle.set_tables.proofs.RowLaws.{find-at, find-none}
 use Rattle.pipapo_image.specs.Found.{element_at}
-use Rattle.pipapo_image.specs.Insert.{by_start, by_end, at_start}
+use Rattle.pipapo_image.specs.declared.answers.Added.{Added as Came}
+use Rattle.pipapo_image.specs.declared.answers.InsertError.{InsertError}
+use Rattle.pipapo_image.specs.declared.answers.InsertError.TheVariants as errors
+use Rattle.pipapo_image.specs.declared.insert.Decision.{Decision}
+use Rattle.pipapo_image.specs.declared.insert.Decision.TheVariants.{Adds}
+use Rattle.pipapo_image.specs.Insert.{IsAnswer, IsForecast, IsTest, IsDecision, said, comes, left, by_start, by_end, at_start}
 
 -- the first element, by its place
 first-at : (s : State) (key : List ℕ) (now : ℕ) (o : Option ℕ) → place s key now ≡ o → first s key now ≡ option_map (element_at s) o
 first-at s key now None h = find-none (answers key now) s.elements h
 first-at s key now (Some i) h = find-at (answers key now) s.elements i (record { id = 0; parts = []; expiry = None; comment = [] }) h
 
-by-end : (s : State) (parts : List Interval) (x : Option ℕ) (c : List ℕ) (o : Option ℕ)
-    → add_new s parts x c (option_or (option_map (λ e. Overlap e.id) (option_map (element_at s) o)) (option_or (if is_full s then Some Full else None) (option_map (λ f. RulesFull f) (crowded_field s parts)))) ≡ by_end s parts x c o
-by-end s parts x c None = refl
-by-end s parts x c (Some i) = refl
+by-end : (s : State) (parts : List Interval) (o : Option ℕ)
+    → option_or (option_map (λ e. Overlap e.id) (option_map (element_at s) o)) (option_or (if is_full s then Some Full else None) (option_map (λ f. RulesFull f) (crowded_field s parts))) ≡ by_end s parts o
+by-end s parts None = refl
+by-end s parts (Some i) = refl
 
 abbrev refused_by : State → List Interval → Option Element → Option Why
 refused_by s parts o = option_or (option_map (λ e. Overlap e.id) o) (option_or (if is_full s then Some Full else None) (option_map (λ f. RulesFull f) (crowded_field s parts)))
@@ -39,7 +47,7 @@ decided s parts x c now at_first at_end o = elim (if_same parts at_first) as (λ
 
 by-place : (s : State) (parts : List Interval) (x : Option ℕ) (c : List ℕ) (now : ℕ) (o p : Option ℕ) → place s (end_key parts) now ≡ p
     → decided s parts x c now (option_map (element_at s) o) (option_map (element_at s) p) o ≡ by_start s parts x c now o
-by-place s parts x c now None p h = by-end s parts x c p ∙ ap (by_end s parts x c) (sym h)
+by-place s parts x c now None p h = ap (add_new s parts x c) (by-end s parts p ∙ ap (by_end s parts) (sym h))
 by-place s parts x c now (Some i) p h = go (same_parts (element_at s i).parts parts) where
   go : (t : Bool) → (elim (if t then Some (element_at s i) else None) as (λ _. Added × State) [
     | Some e ↦ add_again s x (Some i) e
@@ -61,6 +69,71 @@ add-by s parts x c now d =
       opened : (t : Option Element) → add_by s parts x c now t ≡ (elim t as (λ _. Added × State) [ Some e ↦ add_again s x (place s (start_key parts) now) e | None ↦ add_new s parts x c (refused_by s parts (in_the_way s parts now)) ])
       opened None = refl
       opened (Some e) = refl
+
+-- ---- what is decided
+-- Where elements may share keys, the places decide.
+pub decision_by : (s : State) (parts : List Interval) (x : Option ℕ) (now : ℕ) (r : Result Decision InsertError) → s.disjoint ≡ false
+    → IsDecision s parts x (λ c. by_start s parts x c now (place s (start_key parts) now)) r → IsDecision s parts x (λ c. add s parts x c now) r
+decision_by s parts x now r d h = subst (λ z. IsDecision s parts x z r) (fun_ext (λ c. sym (add-by s parts x c now d))) h
+
+-- The element that holds the start key decides.
+pub decision_at : (s : State) (parts : List Interval) (x : Option ℕ) (now i : ℕ) (r : Result Decision InsertError) → Some i ≡ place s (start_key parts) now
+    → IsDecision s parts x (λ c. at_start s i x (same_parts (element_at s i).parts parts)) r → IsDecision s parts x (λ c. by_start s parts x c now (place s (start_key parts) now)) r
+decision_at s parts x now i r at h = subst (λ o. IsDecision s parts x (λ c. by_start s parts x c now o) r) at h
+
+-- What nothing refuses is new.
+pub adds : (s : State) (parts : List Interval) (x : Option ℕ) (why : Option Why) (columns : Vec (List Block)) → IsTest s parts why (Ok columns) → IsDecision s parts x (λ c. add_new s parts x c why) (Ok (Adds columns))
+adds s parts x why columns h = (h.1, λ c. ap (add_new s parts x c) h.0)
+
+pub adds_none : (s : State) (parts : List Interval) (x : Option ℕ) (why : Option Why) (e : InsertError) → IsTest s parts why (Err e) → IsDecision s parts x (λ c. add_new s parts x c why) (Err e)
+adds_none s parts x why (errors.Overlap id) h = λ c. ap (add_new s parts x c) h
+adds_none s parts x why errors.Full h = λ c. ap (add_new s parts x c) h
+adds_none s parts x why (errors.RulesFull f) h = λ c. ap (add_new s parts x c) h
+adds_none s parts x why errors.Memory h = tt
+
+pub ruleset decides = (adds, adds_none)
+
+-- ---- what follows of a decision
+-- What is done is the answer.
+pub done : (s t : State) (parts : List Interval) (x : Option ℕ) (c : List ℕ) (now : ℕ) (decision : Decision) (came : Came) → IsDecision s parts x (λ z. add s parts x z now) (Ok decision)
+    → said came ≡ comes decision s.next → t ≡ left s parts x c decision → IsAnswer (add s parts x c now) (Ok came) s t
+done s t parts x c now decision came h a b = (a ∙ ap (λ z. z.0) (sym (h.1 c)), b ∙ ap (λ z. z.1) (sym (h.1 c)))
+
+-- What is refused leaves the set.
+refused_as : (s : State) (parts : List Interval) (x : Option ℕ) (c : List ℕ) (now : ℕ) (e : InsertError) → IsDecision s parts x (λ z. add s parts x z now) (Err e)
+    → IsAnswer (add s parts x c now) (Err e) s s
+refused_as s parts x c now (errors.Overlap id) h = (ap (λ z. z.0) (sym (h c)), ap (λ z. z.1) (sym (h c)))
+refused_as s parts x c now errors.Full h = (ap (λ z. z.0) (sym (h c)), ap (λ z. z.1) (sym (h c)))
+refused_as s parts x c now (errors.RulesFull f) h = (ap (λ z. z.0) (sym (h c)), ap (λ z. z.1) (sym (h c)))
+refused_as s parts x c now errors.Memory h = refl
+
+pub refused : (s : State) (parts : List Interval) (x : Option ℕ) (c : List ℕ) (now : ℕ) (r : Result Came InsertError) (e : InsertError) → IsErrAnd r (λ z. z ≡ e)
+    → IsDecision s parts x (λ z. add s parts x z now) (Err e) → IsAnswer (add s parts x c now) r s s
+refused s parts x c now (Ok came) e is h = absurd is
+refused s parts x c now (Err f) e is h = subst (λ z. IsAnswer (add s parts x c now) (Err z) s s) (sym is) (refused_as s parts x c now e h)
+
+-- What would come of it is told.
+pub forecast : (s : State) (parts : List Interval) (x : Option ℕ) (now : ℕ) (decision : Decision) (came : Came) → IsDecision s parts x (λ c. add s parts x c now) (Ok decision)
+    → said came ≡ comes decision s.next → IsForecast s parts x now (Ok came)
+forecast s parts x now decision came h a = λ c. a ∙ ap (λ z. z.0) (sym (h.1 c))
+
+forecast_as : (s : State) (parts : List Interval) (x : Option ℕ) (now : ℕ) (e : InsertError) → IsDecision s parts x (λ c. add s parts x c now) (Err e) → IsForecast s parts x now (Err e)
+forecast_as s parts x now (errors.Overlap id) h = λ c. ap (λ z. z.0) (sym (h c))
+forecast_as s parts x now errors.Full h = λ c. ap (λ z. z.0) (sym (h c))
+forecast_as s parts x now (errors.RulesFull f) h = λ c. ap (λ z. z.0) (sym (h c))
+forecast_as s parts x now errors.Memory h = tt
+
+pub forecast_none : (s : State) (parts : List Interval) (x : Option ℕ) (now : ℕ) (r : Result Came InsertError) (e : InsertError) → IsErrAnd r (λ z. z ≡ e)
+    → IsDecision s parts x (λ c. add s parts x c now) (Err e) → IsForecast s parts x now r
+forecast_none s parts x now (Ok came) e is h = absurd is
+forecast_none s parts x now (Err f) e is h = subst (λ z. IsForecast s parts x now (Err z)) (sym is) (forecast_as s parts x now e h)
+
+-- The element that is there already, by the place of the one that holds the start key.
+pub twin_some : (s : State) (parts : List Interval) (now i : ℕ) → Some i ≡ place s (start_key parts) now → twin s parts now ≡ if_same parts (Some (element_at s i))
+twin_some s parts now i h = ap (if_same parts) (first-at s (start_key parts) now (Some i) (sym h))
+
+pub twin_none : (s : State) (parts : List Interval) (now : ℕ) → None ≡ place s (start_key parts) now → twin s parts now ≡ None
+twin_none s parts now h = ap (if_same parts) (first-at s (start_key parts) now None (sym h))
 
 -- ---- the keys of intervals that fit
 lt-from : (m n k : ℕ) → nat_le m n ≡ true → nat_lt n k ≡ true → nat_lt m k ≡ true

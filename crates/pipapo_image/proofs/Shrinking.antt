@@ -217,3 +217,7 @@ shrink kinds dis es old new i runs others image h r o d =
 pub removed-at : (s : State) (parts : List Interval) (now i : ℕ) → position (is_exactly parts now) s.elements ≡ Some i → removed s parts now ≡ Some ((element_at s i).id, without_at s i)
 removed-at s parts now i h =
     ap (λ z. removal s z (position (is_exactly parts now) s.elements)) (find-at (is_exactly parts now) s.elements i no_element h) ∙ ap (λ z. removal s (Some (element_at s i)) z) h
+
+-- so it isn't missing
+pub never_missing : (s : State) (parts : List Interval) (now i : ℕ) → Some i ≡ position (is_exactly parts now) s.elements → removed s parts now ≡ None → ⊥
+never_missing s parts now i h none = let one = removed-at s parts now i (sym h) in absurd (cc (one, none))

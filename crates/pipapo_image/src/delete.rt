@@ -1,6 +1,6 @@
 ghost use Rattle.std.specs.Prelude.{◌≡◌, ◌<◌, length, OnErr, IfOk, IfSome, position};
 ghost use Rattle.set_model.specs.SetState.{is_exactly, removed};
-ghost use Rattle.pipapo_image.specs.Found.{element_at};
+ghost use Rattle.pipapo_image.specs.Found.{element_at, exactly_found};
 ghost use Rattle.pipapo_image.specs.Remove.{IsRemoval, IsExactPlace, without_at};
 
 use crate::answers::DeleteError;
@@ -8,7 +8,7 @@ use crate::drops::other_widths_without;
 use crate::image::SetImage;
 use crate::insert::is_same;
 use expiry_scan::expired;
-use set_model::{Element, Interval, Memory, Parts};
+use set_model::{Element, Found, Interval, Memory, Parts};
 use std::alloc::Global;
 
 /// The place of the first element that is live and has exactly these intervals.
@@ -20,14 +20,24 @@ fn exact_place(elements: &[Element], parts: &[Interval], now: u64) -> Option<usi
 }
 
 impl SetImage {
+    /// The first element that is live at `now`, in milliseconds, and has exactly these intervals.
+    /// `None` where there is none. It takes no memory.
+    pub fn find_exact(&self, parts: &Parts, now: u64) -> Option<Found>
+        ensures { result ≡ exactly_found self.now parts.now now }
+    {
+        self.found_at(self.exact_at(parts, now))
+    }
+
     /// Takes the first element out that is live at `now`, in milliseconds, and has exactly these
     /// intervals, and answers its id. The rules of the later elements close up.
     ///
     /// # Errors
     /// `Missing` exactly if there is no such element, also where an expired one has these intervals.
     /// `Memory` if there is none left. Each leaves the set as it was.
+    #[tactic(auto, using(crate::proofs::Shrinking::never_missing))]
     pub fn delete(&mut self, alloc: Global, parts: &Parts, now: u64) -> Result<u64, DeleteError>
-        ensures { IsRemoval (removed self.old parts.now now) result self.old self.new }
+        ensures removal { IsRemoval (removed self.old parts.now now) result self.old self.new }
+        ensures missing { removed self.old parts.now now ≡ None → result ≡ Err DeleteError.Missing }
     {
         match self.exact_at(parts, now) {
             None => Err(DeleteError::Missing),

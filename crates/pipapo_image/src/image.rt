@@ -1,7 +1,7 @@
-ghost use Rattle.std.specs.Prelude.{◌≡◌, ◌+◌, ◌≤◌, ◌<◌, true, false, length, OnOk, OnErr, IfOk};
+ghost use Rattle.std.specs.Prelude.{◌≡◌, ◌+◌, ◌≤◌, ◌<◌, true, false, length, OnOk, OnErr, IfOk, IfSome};
 ghost use Rattle.set_model.specs.Key.{key_fits, parts_fit};
 ghost use Rattle.set_model.specs.SetState.{place, empty_set};
-ghost use Rattle.pipapo_image.specs.Found.{found, element_at, IsPlace};
+ghost use Rattle.pipapo_image.specs.Found.{found, found_at, element_at, IsPlace};
 
 use crate::index::Index;
 use crate::scratch::Scratch;
@@ -94,7 +94,15 @@ impl SetImage {
         requires { key_fits self.now.kinds key.now ≡ true }
         ensures { result ≡ found self.now key.now now }
     {
-        match self.place(key, now, scratch) {
+        self.found_at(self.place(key, now, scratch))
+    }
+
+    /// The place and the id of the element at a place.
+    pub(crate) fn found_at(&self, place: Option<u64>) -> Option<Found>
+        requires { IfSome place (λ i. i < length self.now.elements) }
+        ensures { result ≡ found_at self.now place }
+    {
+        match place {
             Some(place) => Some(Found {
                 place,
                 id: self.elements.at(place).id,

@@ -1,11 +1,11 @@
-ghost use Rattle.std.specs.Prelude.{◌≡◌, ◌+◌, ◌-◌, ◌≤◌, ◌<◌, ◌^◌, ◌==◌, ◌&&◌, true, false, length, OnOk, OnErr, IfOk, None, Some};
+ghost use Rattle.std.specs.Prelude.{◌≡◌, ◌+◌, ◌-◌, ◌≤◌, ◌<◌, ◌^◌, ◌==◌, ◌&&◌, true, false, length, OnOk, OnErr, IfOk, None, Some, option_map};
 ghost use Rattle.std.specs.List.{list_all, zip};
 ghost use Rattle.set_model.specs.Key.{parts_fit, start_key, end_key, same_parts};
-ghost use Rattle.set_model.specs.SetState.{place, add, is_full, crowded_field, renewed, with_element};
+ghost use Rattle.set_model.specs.SetState.{place, add, twin, if_same, is_full, crowded_field, renewed, with_element};
 ghost use Rattle.pipapo_image.specs.Built.{Built};
 ghost use Rattle.pipapo_image.specs.Grow.{IsColumn};
 ghost use Rattle.pipapo_image.specs.Found.{element_at, IsPlace};
-ghost use Rattle.pipapo_image.specs.Insert.{IsAnswer, by_start, by_end, by_size, by_rules, at_start};
+ghost use Rattle.pipapo_image.specs.Insert.{IsAnswer, IsForecast, IsDecision, IsTest, by_start, by_end, by_size, by_rules, at_start};
 
 use crate::answers::{Added, InsertError};
 use crate::columns::{columns, crowded_field};
@@ -50,6 +50,32 @@ fn highs(alloc: Global, parts: &Parts) -> Result<Key, Memory>
     Ok(key)
 }
 
+/// What an insertion does, where nothing refuses it.
+#[derive(Drop)]
+enum Decision {
+    /// The element of the same intervals stays as it is.
+    Stays { id: u64 },
+    /// The element of the same intervals, at this place, gets another expiry.
+    Renews { place: u64, id: u64 },
+    /// A new element is added, with these rules.
+    Adds { columns: Vec<Listed<Block>> },
+}
+
+impl Decision {
+    ghost use Rattle.pipapo_image.specs.Insert.{comes, said};
+
+    /// What an insertion that does this answers, where `next` is the id of a new element.
+    fn added(&self, next: u64) -> Added
+        ensures { said result ≡ comes self.now next }
+    {
+        match self {
+            Decision::Stays { id } => Added::Already { id: *id },
+            Decision::Renews { id, .. } => Added::Renewed { id: *id },
+            Decision::Adds { .. } => Added::New { id: next },
+        }
+    }
+}
+
 impl SetImage {
     /// Adds an element at the end of the list, or renews one of the same intervals, or says why
     /// not. `expiry` and `now` are in milliseconds.
@@ -70,26 +96,106 @@ impl SetImage {
         requires { parts_fit self.old.kinds parts.now ≡ true }
         ensures { IsAnswer (add self.old parts.now expiry comment.now now) result self.old self.new }
     {
-        prove!(!self.disjoint);
-        self.insert_overlapping(alloc, parts, expiry, comment, now, scratch)
+        let decision = self.decide(alloc, parts, expiry, now, scratch)?;
+        match decision {
+            Decision::Stays { id } => Ok(Added::Already { id }),
+            Decision::Renews { place, id } => {
+                self.renew(place, expiry);
+                Ok(Added::Renewed { id })
+            }
+            Decision::Adds { columns } => Ok(Added::New {
+                id: self.push_new(alloc, &columns, parts, expiry, comment)?,
+            }),
+        }
     }
 
-    /// Inserts where elements may share keys.
-    fn insert_overlapping(
-        &mut self,
+    /// What an insertion of these intervals would answer, with any comment. The set stays as it is.
+    ///
+    /// # Errors
+    /// As of an insertion.
+    pub fn would_insert(
+        &self,
         alloc: Global,
         parts: &Parts,
         expiry: Option<u64>,
-        comment: &Comment,
         now: u64,
         scratch: &mut Scratch,
     ) -> Result<Added, InsertError>
-        requires { parts_fit self.old.kinds parts.now ≡ true }
-        ensures { IsAnswer (by_start self.old parts.now expiry comment.now now (place self.old (start_key parts.now) now)) result self.old self.new }
+        requires { parts_fit self.now.kinds parts.now ≡ true }
+        ensures { IsForecast self.now parts.now expiry now result }
+    {
+        let foreseen = self.decide(alloc, parts, expiry, now, scratch)?;
+        Ok(foreseen.added(self.next))
+    }
+
+    /// The id of the element that is there already: the first live one that holds the start key,
+    /// where it has the same intervals. An insertion would find or renew it.
+    ///
+    /// # Errors
+    /// `Memory` if there is none left.
+    pub fn find_twin(
+        &self,
+        alloc: Global,
+        parts: &Parts,
+        now: u64,
+        scratch: &mut Scratch,
+    ) -> Result<Option<u64>, Memory>
+        requires { parts_fit self.now.kinds parts.now ≡ true }
+        ensures { IfOk result (λ id. id ≡ option_map (λ e. e.id) (twin self.now parts.now now)) }
     {
         match self.start_place(alloc, parts, now, scratch)? {
-            Some(i) => self.insert_at(i, parts, expiry),
-            None => self.insert_apart(alloc, parts, expiry, comment, now, scratch),
+            Some(i) => Ok(self.twin_at(i, parts)),
+            None => Ok(None),
+        }
+    }
+
+    /// The id of the element at place `i`, where it has these intervals.
+    fn twin_at(&self, i: u64, parts: &Parts) -> Option<u64>
+        requires { i < length self.now.elements }
+        ensures { result ≡ option_map (λ e. e.id) (if_same parts.now (Some (element_at self.now i))) }
+    {
+        let element = self.elements.at(i);
+        if is_same(element.parts.as_slice(), parts.as_slice()) {
+            Some(element.id)
+        } else {
+            None
+        }
+    }
+
+    /// Decides what an insertion does, before anything changes.
+    fn decide(
+        &self,
+        alloc: Global,
+        parts: &Parts,
+        expiry: Option<u64>,
+        now: u64,
+        scratch: &mut Scratch,
+    ) -> Result<Decision, InsertError>
+        requires { parts_fit self.now.kinds parts.now ≡ true }
+        ensures { IsDecision self.now parts.now expiry (λ c. add self.now parts.now expiry c now) result }
+    {
+        prove!(!self.disjoint);
+        self.decide_overlapping(alloc, parts, expiry, now, scratch)
+    }
+
+    /// Decides where elements may share keys.
+    #[tactic(auto, using(crate::proofs::AddLaws::decides))]
+    fn decide_overlapping(
+        &self,
+        alloc: Global,
+        parts: &Parts,
+        expiry: Option<u64>,
+        now: u64,
+        scratch: &mut Scratch,
+    ) -> Result<Decision, InsertError>
+        requires { parts_fit self.now.kinds parts.now ≡ true }
+        ensures { IsDecision self.now parts.now expiry (λ c. by_start self.now parts.now expiry c now (place self.now (start_key parts.now) now)) result }
+    {
+        match self.start_place(alloc, parts, now, scratch)? {
+            Some(i) => self.decide_at(i, parts, expiry),
+            None => Ok(Decision::Adds {
+                columns: self.columns_apart(alloc, parts, now, scratch)?,
+            }),
         }
     }
 
@@ -130,15 +236,10 @@ impl SetImage {
         self.elements.at(i).id
     }
 
-    /// Inserts where the element at place `i` holds the start key.
-    fn insert_at(
-        &mut self,
-        i: u64,
-        parts: &Parts,
-        expiry: Option<u64>,
-    ) -> Result<Added, InsertError>
-        requires { i < length self.old.elements }
-        ensures { IsAnswer (at_start self.old i expiry (same_parts (element_at self.old i).parts parts.now)) result self.old self.new }
+    /// Decides where the element at place `i` holds the start key.
+    fn decide_at(&self, i: u64, parts: &Parts, expiry: Option<u64>) -> Result<Decision, InsertError>
+        requires { i < length self.now.elements }
+        ensures { IsDecision self.now parts.now expiry (λ _. at_start self.now i expiry (same_parts (element_at self.now i).parts parts.now)) result }
     {
         let found = self.elements.at(i);
         let id = found.id;
@@ -146,10 +247,10 @@ impl SetImage {
             return Err(InsertError::Overlap { id });
         }
         if expiry.is_none() {
-            return Ok(Added::Already { id });
+            Ok(Decision::Stays { id })
+        } else {
+            Ok(Decision::Renews { place: i, id })
         }
-        self.renew(i, expiry);
-        Ok(Added::Renewed { id })
     }
 
     /// Gives the element at place `i` another expiry.
@@ -165,40 +266,36 @@ impl SetImage {
         self.elements.set_expiry(i, expiry);
     }
 
-    /// Inserts where no live element holds the start key.
-    fn insert_apart(
-        &mut self,
+    /// The rules of a new element, where no live element holds the start key.
+    fn columns_apart(
+        &self,
         alloc: Global,
         parts: &Parts,
-        expiry: Option<u64>,
-        comment: &Comment,
         now: u64,
         scratch: &mut Scratch,
-    ) -> Result<Added, InsertError>
-        requires { parts_fit self.old.kinds parts.now ≡ true }
-        ensures { IsAnswer (by_end self.old parts.now expiry comment.now (place self.old (end_key parts.now) now)) result self.old self.new }
+    ) -> Result<Vec<Listed<Block>>, InsertError>
+        requires { parts_fit self.now.kinds parts.now ≡ true }
+        ensures { IsTest self.now parts.now (by_end self.now parts.now (place self.now (end_key parts.now) now)) result }
     {
         match self.end_place(alloc, parts, now, scratch)? {
             Some(i) => Err(InsertError::Overlap { id: self.id_at(i) }),
-            None => self.insert_within(alloc, parts, expiry, comment),
+            None => self.columns_within(alloc, parts),
         }
     }
 
-    /// Inserts where nothing overlaps.
-    fn insert_within(
-        &mut self,
+    /// The rules of a new element, where nothing overlaps.
+    fn columns_within(
+        &self,
         alloc: Global,
         parts: &Parts,
-        expiry: Option<u64>,
-        comment: &Comment,
-    ) -> Result<Added, InsertError>
-        requires { parts_fit self.old.kinds parts.now ≡ true }
-        ensures { IsAnswer (by_size self.old parts.now expiry comment.now (is_full self.old)) result self.old self.new }
+    ) -> Result<Vec<Listed<Block>>, InsertError>
+        requires { parts_fit self.now.kinds parts.now ≡ true }
+        ensures { IsTest self.now parts.now (by_size self.now parts.now (is_full self.now)) result }
     {
         if self.is_full() {
             Err(InsertError::Full)
         } else {
-            self.insert_new(alloc, parts, expiry, comment)
+            self.columns_uncrowded(alloc, parts)
         }
     }
 
@@ -214,24 +311,20 @@ impl SetImage {
         many || self.next == u64::MAX
     }
 
-    /// Inserts a new element, where no field gets too many rules.
-    fn insert_new(
-        &mut self,
+    /// The rules of a new element, where no field gets too many.
+    fn columns_uncrowded(
+        &self,
         alloc: Global,
         parts: &Parts,
-        expiry: Option<u64>,
-        comment: &Comment,
-    ) -> Result<Added, InsertError>
-        requires fit { parts_fit self.old.kinds parts.now ≡ true }
-        requires next { self.old.next < 2 ^ 64 - 1 }
-        ensures { IsAnswer (by_rules self.old parts.now expiry comment.now (crowded_field self.old parts.now)) result self.old self.new }
+    ) -> Result<Vec<Listed<Block>>, InsertError>
+        requires fit { parts_fit self.now.kinds parts.now ≡ true }
+        requires next { self.now.next < 2 ^ 64 - 1 }
+        ensures { IsTest self.now parts.now (by_rules (crowded_field self.now parts.now)) result }
     {
         let columns = columns(alloc, &self.kinds, parts)?;
         match self.first_crowded(&columns, parts) {
             Some(field) => Err(InsertError::RulesFull { field }),
-            None => Ok(Added::New {
-                id: self.push_new(alloc, &columns, parts, expiry, comment)?,
-            }),
+            None => Ok(columns),
         }
     }
 

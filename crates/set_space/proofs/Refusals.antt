@@ -1,16 +1,21 @@
 -- A refused addition leaves the set; what exists is no new element.
-use Rattle.std.proofs.Common.{◌≡◌, refl, sym, ◌∙◌, ap, ℕ, List, Option, Some, None, Result, Ok, Err, ◌⊎◌, inl, inr, option_map, OnErr, IfOk, length}
+use Rattle.std.proofs.Common.{◌≡◌, refl, sym, ◌∙◌, ap, subst, ℕ, List, Option, Some, None, Result, Ok, Err, ◌⊎◌, inl, inr, option_map, OnErr, IfOk, length, position}
+use Rattle.std.specs.Prelude.{IsErrAnd}
 use Rattle.set_model.specs.declared.kind.Interval.{Interval}
 use Rattle.set_model.specs.declared.element.Element.{Element}
+use Rattle.set_model.specs.declared.packet.Found.{Found}
 use Rattle.set_model.specs.declared.report.Why.{Why}
 use Rattle.set_model.specs.Key.{start_key}
-use Rattle.set_model.specs.SetState.{State, Added, Already, Renewed, Refused, add, add_new, add_again, add_by, place, twin, refusal, cleared}
+use Rattle.set_model.specs.SetState.{State, Added, Already, Renewed, Refused, add, add_new, add_again, add_by, place, twin, refusal, removed, is_exactly, cleared}
 use Rattle.pipapo_image.specs.declared.answers.Added.{Added as Came}
+use Rattle.pipapo_image.specs.declared.answers.Added.TheVariants.{Already as CameAlready}
 use Rattle.pipapo_image.specs.declared.answers.InsertError.{InsertError}
 use Rattle.pipapo_image.specs.declared.answers.InsertError.TheVariants.{Overlap, Full, RulesFull, Memory}
 use Rattle.pipapo_image.specs.declared.answers.DeleteError.{DeleteError}
 use Rattle.pipapo_image.specs.declared.answers.DeleteError.TheVariants as deletes
-use Rattle.pipapo_image.specs.Insert.{IsAnswer}
+use Rattle.pipapo_image.specs.Found.{found_at, exactly_found}
+use Rattle.pipapo_image.specs.Insert.{IsAnswer, IsForecast}
+use Rattle.pipapo_image.proofs.Shrinking.{never_missing}
 use Rattle.pipapo_image.specs.Remove.{IsRemoval}
 use Rattle.set_model.specs.declared.memory.Memory.{Memory as NoMemory}
 use Rattle.set_space.specs.declared.answers.CreateError.{CreateError}
@@ -83,6 +88,35 @@ no_twin_already s parts x c now id n h = never_already s parts x c now (twin s p
 
 pub no_twin_renewed : (s : State) (parts : List Interval) (x : Option ℕ) (c : List ℕ) (now id : ℕ) → None ≡ option_map (λ e. e.id) (twin s parts now) → Renewed id ≡ (add s parts x c now).0 → ⊥
 no_twin_renewed s parts x c now id n h = never_renewed s parts x c now (twin s parts now) id n h
+
+already_by : (s : State) (parts : List Interval) (x : Option ℕ) (c : List ℕ) (now : ℕ) (t : Option Element) (id : ℕ) → Already id ≡ (add_by s parts x c now t).0 → s ≡ (add_by s parts x c now t).1
+already_by s parts x c now None id h = absurd (new_already s parts x c (refusal s parts now) id h)
+already_by s parts None c now (Some e) id h = refl
+already_by s parts (Some x) c now (Some e) id h = absurd (cc h)
+
+-- What would be there already leaves the set.
+pub already_answers : (s : State) (parts : List Interval) (x : Option ℕ) (c : List ℕ) (now id : ℕ) → Already id ≡ (add s parts x c now).0
+    → IsAnswer (add s parts x c now) (Ok (CameAlready id)) s s
+already_answers s parts x c now id h = (h, already_by s parts x c now (twin s parts now) id h)
+
+-- What would be refused is refused, and the set as it was.
+forecast_as : (s : State) (parts : List Interval) (x : Option ℕ) (c : List ℕ) (now : ℕ) (e : InsertError) → IsForecast s parts x now (Err e) → IsAnswer (add s parts x c now) (Err e) s s
+forecast_as s parts x c now (Overlap id) h = (h c, refused_keeps s parts x c now _ (h c))
+forecast_as s parts x c now Full h = (h c, refused_keeps s parts x c now _ (h c))
+forecast_as s parts x c now (RulesFull f) h = (h c, refused_keeps s parts x c now _ (h c))
+forecast_as s parts x c now Memory h = refl
+
+pub forecast_refused : (s : State) (parts : List Interval) (x : Option ℕ) (c : List ℕ) (now : ℕ) (r : Result Came InsertError) (e : InsertError) → IsErrAnd r (λ z. z ≡ e)
+    → IsForecast s parts x now (Err e) → IsAnswer (add s parts x c now) r s s
+forecast_refused s parts x c now (Ok came) e is h = absurd is
+forecast_refused s parts x c now (Err f) e is h = subst (λ z. IsAnswer (add s parts x c now) (Err z) s s) (sym is) (forecast_as s parts x c now e h)
+
+-- An element that is found isn't missing.
+pub is_there : (s : State) (parts : List Interval) (now : ℕ) (f : Found) → Some f ≡ exactly_found s parts now → removed s parts now ≡ None → ⊥
+is_there s parts now f h = go (position (is_exactly parts now) s.elements) refl h where
+  go : (o : Option ℕ) → position (is_exactly parts now) s.elements ≡ o → Some f ≡ found_at s o → removed s parts now ≡ None → ⊥
+  go None p h none = absurd (cc h)
+  go (Some i) p h none = never_missing s parts now i (sym p) none
 
 -- A refused change leaves the set.
 pub insertion_err : (s t : State) (parts : List Interval) (x : Option ℕ) (c : List ℕ) (now : ℕ) (r : Result Came InsertError) → IsAnswer (add s parts x c now) r s t → OnErr r (t ≡ s)

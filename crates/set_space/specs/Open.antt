@@ -1,10 +1,10 @@
 -- The open transaction: a base generation and the sets with the open changes (nft(8): a file is applied
 -- in whole transactions).
-use Rattle.std.specs.Prelude.{◌≡◌, ◌≤◌, ℕ, true, false, List, [], length, Some, slice_get, slice_set}
+use Rattle.std.specs.Prelude.{◌≡◌, ◌≤◌, ℕ, true, false, List, [], length, Some, None, slice_get, slice_set}
 use Rattle.set_model.specs.declared.script.SetDecl.{SetDecl}
 use Rattle.set_model.specs.declared.kind.Interval.{Interval}
 use Rattle.set_model.specs.Key.{parts_fit}
-use Rattle.set_model.specs.SetState.{State}
+use Rattle.set_model.specs.SetState.{State, removed}
 use Rattle.set_model.specs.Control.{Generation, Control, next_generation}
 
 -- A base generation, and the states of its sets with the open changes.
@@ -29,6 +29,10 @@ pub record CanBeBuilt (d : SetDecl) : Type 0 where
 -- The intervals fit the kinds of the set at a place.
 abbrev pub FitsSet : Open → ℕ → List Interval → Type 0
 FitsSet w set parts = (s : State) → slice_get w.sets set ≡ Some s → parts_fit s.kinds parts ≡ true
+
+-- The set at a place has no live element of exactly these intervals.
+abbrev pub Lacks : Open → ℕ → List Interval → ℕ → Type 0
+Lacks w set parts now = (s : State) → slice_get w.sets set ≡ Some s → removed s parts now ≡ None
 
 -- The set at a place is changed, from one state to another, and nothing else is.
 pub record IsChange (step : State → State → Type 0) (old : Open) (set : ℕ) (new : Open) : Type 0 where

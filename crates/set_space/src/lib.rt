@@ -1,9 +1,9 @@
 //! Generations of sets, and the open changes of a transaction on them. A set that a transaction
-//! doesn't change is shared between the generations and never copied.
+//! doesn't change is shared between the generations and never copied: what changes nothing, as a
+//! refused insertion or the deletion of a missing element, is found out before a copy is made.
 #![tactic(auto)]
 
 mod answers;
-mod find_twin;
 mod generation;
 mod open_set;
 mod sets;

@@ -1,4 +1,4 @@
-ghost use Rattle.std.specs.Prelude.{◌≡◌, true, length, count_by, IfOk, OnErr};
+ghost use Rattle.std.specs.Prelude.{◌≡◌, true, None, length, count_by, IfOk, OnErr};
 ghost use Rattle.std.specs.Arc.{arc_value};
 ghost use Rattle.set_model.specs.Key.{parts_fit};
 ghost use Rattle.set_model.specs.SetState.{State, add, removed, purged, cleared};
@@ -9,7 +9,6 @@ ghost use Rattle.set_space.specs.OpenSets.{open_state};
 ghost use Rattle.set_space.specs.Answers.{IsCreation};
 
 use crate::answers::CreateError;
-use crate::find_twin::find_twin;
 use expiry_scan::count_expired;
 use pipapo_image::{Added, DeleteError, InsertError, Scratch, SetImage};
 use set_model::{Comment, Memory, Parts};
@@ -49,7 +48,7 @@ impl OpenSet {
         }
     }
 
-    /// Inserts into the set; a set that isn't this work's alone is copied first.
+    /// Inserts into the set; a set that isn't this work's alone is copied where something changes.
     #[tactic(auto, using(crate::proofs::Refusals::insertion_refused))]
     pub(crate) fn insert(
         &mut self,
@@ -67,10 +66,17 @@ impl OpenSet {
         if let OpenSet::Changed(image) = self {
             return image.insert(alloc, parts, expiry, comment, now, scratch);
         }
-        let mut image = self.image(base).copy(alloc)?;
-        let added = image.insert(alloc, parts, expiry, comment, now, scratch)?;
-        *self = OpenSet::Changed(image);
-        Ok(added)
+        let set = self.image(base);
+        let foreseen = set.would_insert(alloc, parts, expiry, now, scratch)?;
+        match foreseen {
+            Added::Already { id } => Ok(Added::Already { id }),
+            Added::New { .. } | Added::Renewed { .. } => {
+                let mut image = set.copy(alloc)?;
+                let added = image.insert(alloc, parts, expiry, comment, now, scratch)?;
+                *self = OpenSet::Changed(image);
+                Ok(added)
+            }
+        }
     }
 
     /// Inserts into the set where no live element of the same intervals is there.
@@ -87,7 +93,7 @@ impl OpenSet {
         requires { parts_fit (open_state self.old base.now).kinds parts.now ≡ true }
         ensures { IsCreation (add (open_state self.old base.now) parts.now expiry comment.now now) result (open_state self.old base.now) (open_state self.new base.now) }
     {
-        if let Some(id) = find_twin(alloc, self.image(base), parts, now, scratch)? {
+        if let Some(id) = self.image(base).find_twin(alloc, parts, now, scratch)? {
             return Err(CreateError::Exists { id });
         }
         match self.insert(alloc, base, parts, expiry, comment, now, scratch)? {
@@ -97,7 +103,8 @@ impl OpenSet {
     }
 
     /// Takes the first live element of exactly these intervals out; a set that isn't this work's
-    /// alone is copied first.
+    /// alone is copied where there is one.
+    #[tactic(auto, using(crate::proofs::Refusals::is_there))]
     pub(crate) fn delete(
         &mut self,
         alloc: Global,
@@ -105,15 +112,22 @@ impl OpenSet {
         parts: &Parts,
         now: u64,
     ) -> Result<u64, DeleteError>
-        ensures { IsRemoval (removed (open_state self.old base.now) parts.now now) result (open_state self.old base.now) (open_state self.new base.now) }
+        ensures removal { IsRemoval (removed (open_state self.old base.now) parts.now now) result (open_state self.old base.now) (open_state self.new base.now) }
+        ensures missing { removed (open_state self.old base.now) parts.now now ≡ None → result ≡ Err DeleteError.Missing }
     {
         if let OpenSet::Changed(image) = self {
             return image.delete(alloc, parts, now);
         }
-        let mut image = self.image(base).copy(alloc)?;
-        let id = image.delete(alloc, parts, now)?;
-        *self = OpenSet::Changed(image);
-        Ok(id)
+        let set = self.image(base);
+        match set.find_exact(parts, now) {
+            None => Err(DeleteError::Missing),
+            Some(_) => {
+                let mut image = set.copy(alloc)?;
+                let id = image.delete(alloc, parts, now)?;
+                *self = OpenSet::Changed(image);
+                Ok(id)
+            }
+        }
     }
 
     /// Takes all elements out, and answers how many there were.

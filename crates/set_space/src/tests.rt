@@ -2,7 +2,7 @@ ghost use Rattle.std.specs.Prelude.{IfOk, All};
 ghost use Rattle.set_space.specs.Open.{CanBeBuilt};
 
 use crate::{Generation, Work};
-use pipapo_image::Added;
+use pipapo_image::{Added, InsertError};
 use set_model::{
     Comment, Family, Interval, Kind, Kinds, Memory, Name, Parts, Schema, SetDecl, parts_fit,
 };
@@ -46,13 +46,14 @@ fn work_on_two_sets(alloc: Global) -> Result<Work, Memory> {
     Work::new(alloc, base)
 }
 
-fn port(alloc: Global, number: u128) -> Result<Parts, Memory> {
+fn ports(alloc: Global, low: u128, high: u128) -> Result<Parts, Memory> {
     let mut parts = Parts::new(alloc);
-    parts.push(Interval {
-        low: number,
-        high: number,
-    })?;
+    parts.push(Interval { low, high })?;
     Ok(parts)
+}
+
+fn port(alloc: Global, number: u128) -> Result<Parts, Memory> {
+    ports(alloc, number, number)
 }
 
 /// Inserts a port that expires at a moment. Its id, if it is new.
@@ -72,6 +73,15 @@ fn inserted(
     }
 }
 
+/// Whether ports 80 and 81 in one interval are refused in set 0.
+fn is_range_refused(rt: &impl Abort, alloc: Global, work: &mut Work) -> Result<bool, Memory> {
+    let parts = ports(alloc, 80, 81)?;
+    assert!(rt; 0 < work.len());
+    assert!(rt; parts_fit(&work.set(0).kinds, &parts));
+    let answer = work.insert(0, &parts, None, &Comment::new(alloc), 0);
+    Ok(answer == Err(InsertError::Overlap { id: 0 }))
+}
+
 /// Creates the port in set 0 at a moment. Its id, if it is new.
 fn created(
     rt: &impl Abort,
@@ -88,11 +98,25 @@ fn created(
     }
 }
 
-/// Destroys the port in set 0. Its id, if it was there.
-fn destroyed(rt: &impl Abort, alloc: Global, work: &mut Work) -> Result<Option<u64>, Memory> {
-    let parts = port(alloc, 80)?;
+/// Destroys a port in set 0. Its id, if it was there.
+fn destroyed(
+    rt: &impl Abort,
+    alloc: Global,
+    work: &mut Work,
+    number: u128,
+) -> Result<Option<u64>, Memory> {
+    let parts = port(alloc, number)?;
     assert!(rt; 0 < work.len());
     work.destroy(0, &parts, 0)
+}
+
+/// Asks for what changes nothing, where port 80 is in set 0.
+fn change_nothing(rt: &impl Abort, alloc: Global, work: &mut Work) -> Result<(), Memory> {
+    assert!(rt; inserted(rt, alloc, work, 0, None)?.is_none());
+    assert!(rt; created(rt, alloc, work, 0)?.is_none());
+    assert!(rt; is_range_refused(rt, alloc, work)?);
+    assert!(rt; destroyed(rt, alloc, work, 443)?.is_none());
+    Ok(())
 }
 
 /// Publishes the work at a moment.
@@ -135,9 +159,9 @@ fn what_is_expired_is_created_anew_and_purged(rt: HostRuntime) -> Result<(), Fai
 fn a_missing_element_is_no_refusal_to_destroy(rt: HostRuntime) -> Result<(), Fail> {
     let alloc = rt.alloc();
     let mut work = work_on_two_sets(alloc)?;
-    assert!(rt; destroyed(&rt, alloc, &mut work)?.is_none());
+    assert!(rt; destroyed(&rt, alloc, &mut work, 80)?.is_none());
     assert!(rt; inserted(&rt, alloc, &mut work, 0, None)? == Some(0));
-    assert!(rt; destroyed(&rt, alloc, &mut work)? == Some(0));
+    assert!(rt; destroyed(&rt, alloc, &mut work, 80)? == Some(0));
     Ok(())
 }
 
@@ -165,5 +189,17 @@ fn an_unchanged_set_is_shared(rt: HostRuntime) -> Result<(), Fail> {
     assert_eq!(rt; owners(&rt, work.base(), 0), 1);
     // the unchanged set: of the base and both generations
     assert_eq!(rt; owners(&rt, &first, 1), 3);
+    Ok(())
+}
+
+#[test]
+fn what_changes_nothing_leaves_the_set_shared(rt: HostRuntime) -> Result<(), Fail> {
+    let alloc = rt.alloc();
+    let mut work = work_on_two_sets(alloc)?;
+    assert!(rt; inserted(&rt, alloc, &mut work, 0, None)? == Some(0));
+    let (generation, _) = sealed(&rt, &mut work, 0)?;
+    change_nothing(&rt, alloc, &mut work)?;
+    // of the work and the generation
+    assert_eq!(rt; owners(&rt, &generation, 0), 2);
     Ok(())
 }

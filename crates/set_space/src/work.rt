@@ -4,7 +4,7 @@ ghost use Rattle.set_model.specs.SetState.{add, removed, purged, cleared};
 ghost use Rattle.set_model.specs.Control.{expired_count};
 ghost use Rattle.pipapo_image.specs.Insert.{IsAnswer};
 ghost use Rattle.pipapo_image.specs.Remove.{IsRemoval};
-ghost use Rattle.set_space.specs.Open.{opened, sealed, FitsSet, IsChange};
+ghost use Rattle.set_space.specs.Open.{opened, sealed, FitsSet, Lacks, IsChange};
 ghost use Rattle.set_space.specs.Answers.{IsCreation, IsDestruction, IsFlush};
 ghost use Rattle.set_space.specs.OpenSets.{open_states, IsSealed};
 
@@ -218,25 +218,27 @@ impl Work {
     ///
     /// # Errors
     ///
-    /// `Missing` exactly if there is none. `Memory` if there is none left. Each leaves the work as it
-    /// was.
+    /// `Missing` exactly if there is none, also where no memory is left. `Memory` if there is none left
+    /// to take it out. Each leaves the work as it was.
     pub fn delete(&mut self, set: u32, parts: &Parts, now: u64) -> Result<u64, DeleteError>
         requires { set < length self.old.sets }
         ensures change { IsChange (λ s t. IsRemoval (removed s parts.now now) result s t) self.old set self.new }
+        ensures missing { Lacks self.old set parts.now now → result ≡ Err DeleteError.Missing }
         ensures refused { OnErr result (self.new ≡ self.old) }
     {
         let base = self.base.set(set);
         self.sets[set as usize].delete(self.alloc, base, parts, now)
     }
 
-    /// As `delete`, and `None` where there is no such element.
+    /// As `delete`, and `None` where there is no such element, which takes no memory.
     ///
     /// # Errors
     ///
-    /// `Memory` if there is none left. The work is as it was.
+    /// `Memory` if there is none left to take it out. The work is as it was.
     pub fn destroy(&mut self, set: u32, parts: &Parts, now: u64) -> Result<Option<u64>, Memory>
         requires { set < length self.old.sets }
         ensures change { IsChange (λ s t. IsDestruction (removed s parts.now now) result s t) self.old set self.new }
+        ensures missing { Lacks self.old set parts.now now → result ≡ Ok None }
         ensures refused { OnErr result (self.new ≡ self.old) }
     {
         match self.delete(set, parts, now) {

@@ -5,7 +5,7 @@ use Rattle.set_model.specs.SetState.{removed}
 use Rattle.pipapo_image.specs.Remove.{IsRemoval}
 use Rattle.set_space.proofs.Refusals.{removal_err}
 use Rattle.set_space.specs.OpenSets.{open_state}
-use Rattle.set_space.proofs.SetsLaws.{set-within, open-within, base-at, one-changed, none-changed}
+use Rattle.set_space.proofs.SetsLaws.{set-within, open-within, base-at, work-at, one-changed, none-changed}
 use Rattle.set_space.proofs.work.Work.delete.Goals as goal
 
 pub set-base-requires : goal.set-base-requires
@@ -21,7 +21,15 @@ returns-clause-change c =
     let within = open-within (arc_value c.self.inside.base) c.self.inside.sets.items c.args.set c.args.self.now c.self.view_is c.self.invariant c.requires in
     let base = base-at (arc_value c.self.inside.base) c.deref.result.now c.args.set c.set-base.result.now c.deref.ensures c.set-base.ensures in
     one-changed (λ s t. IsRemoval (removed s c.args.parts.now c.args.now) c.delete.result s t) (arc_value c.self.inside.base) c.self.inside.sets.items c.args.set c.index_mut.result.now c.delete.new.self c.set-base.result.now c.args.self.now
-    c.self.view_is within c.index_mut.ensures.value base c.delete.ensures
+    c.self.view_is within c.index_mut.ensures.value base c.delete.ensures.removal
+
+pub returns-clause-missing : goal.returns-clause-missing
+returns-clause-missing c =
+    let within = open-within (arc_value c.self.inside.base) c.self.inside.sets.items c.args.set c.args.self.now c.self.view_is c.self.invariant c.requires in
+    let base = base-at (arc_value c.self.inside.base) c.deref.result.now c.args.set c.set-base.result.now c.deref.ensures c.set-base.ensures in
+    λ lacks. c.delete.ensures.missing
+    (lacks (open_state c.index_mut.result.now c.set-base.result.now)
+    (work-at (arc_value c.self.inside.base) c.self.inside.sets.items c.args.set c.index_mut.result.now c.set-base.result.now c.args.self.now c.self.view_is within c.index_mut.ensures.value base))
 
 pub returns-clause-refused : goal.returns-clause-refused
 returns-clause-refused c =
@@ -30,4 +38,4 @@ returns-clause-refused c =
     on_err_weaker c.delete.result
     (λ same. none-changed (arc_value c.self.inside.base) c.self.inside.sets.items c.args.set c.index_mut.result.now c.delete.new.self c.set-base.result.now c.args.self.now
     c.self.view_is within c.index_mut.ensures.value base same)
-    (removal_err _ (open_state c.index_mut.result.now c.set-base.result.now) (open_state c.delete.new.self c.set-base.result.now) c.delete.result c.delete.ensures)
+    (removal_err _ (open_state c.index_mut.result.now c.set-base.result.now) (open_state c.delete.new.self c.set-base.result.now) c.delete.result c.delete.ensures.removal)

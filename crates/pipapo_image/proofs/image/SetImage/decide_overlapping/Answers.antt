@@ -1,0 +1,7 @@
+use Rattle.std.proofs.Common.{rules}
+use Rattle.pipapo_image.proofs.AddLaws.{decision_at}
+use Rattle.pipapo_image.proofs.image.SetImage.decide_overlapping.Goals as goal
+
+pub returns-in-Some : goal.returns-in-Some
+returns-in-Some c =
+    decision_at c.args.self.now c.args.parts.now c.args.expiry c.args.now c.in-Some.i c.decide_at.result (search (rules, c.in_ok-i.ensures.value)) (search (rules, c.decide_at.ensures))
