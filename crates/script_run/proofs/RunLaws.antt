@@ -78,24 +78,26 @@ open_change r new told events line set verb parts expiry comment now quiet does 
     goes_as (λ c. changed (mode_of r.keep_going) c line set verb parts expiry comment now (slice_get c.sets set)) (λ c. step (mode_of r.keep_going) c (Change line set verb parts expiry comment now)) r new told events
     (λ before c h. by_test c.failed false c _ (h.failed ∙ quiet)) does
 
-pub open_flush : (r new : Runner) (told events : List Event) (line set now : ℕ) → r.failed ≡ false
-    → GoesOn (λ c. flushed c set (slice_get c.sets set)) r told new events → GoesOn (λ c. step (mode_of r.keep_going) c (Flush line set now)) r told new events
-open_flush r new told events line set now quiet does =
-    goes_as (λ c. flushed c set (slice_get c.sets set)) (λ c. step (mode_of r.keep_going) c (Flush line set now)) r new told events (λ before c h. by_test c.failed false c _ (h.failed ∙ quiet)) does
+pub open_flush : (r here new : Runner) (told events : List Event) (line set now : ℕ) → here ≡ r → here.failed ≡ false
+    → GoesOn (λ c. flushed c set (slice_get c.sets set)) here told new events → GoesOn (λ c. step (mode_of r.keep_going) c (Flush line set now)) r told new events
+open_flush r here new told events line set now same quiet does =
+    let failed : r.failed ≡ false = subst (λ (z : Runner). z.failed ≡ false) same quiet in
+    goes_as (λ c. flushed c set (slice_get c.sets set)) (λ c. step (mode_of r.keep_going) c (Flush line set now)) r new told events (λ before c h. by_test c.failed false c _ (h.failed ∙ failed))
+    (subst (λ (z : Runner). GoesOn (λ c. flushed c set (slice_get c.sets set)) z told new events) same does)
 
 -- The end of a transaction that has failed, and one that is taken back.
-pub dropped_end : (r new : Runner) (told events : List Event) (number now : ℕ) → r.failed ≡ true → number ≡ r.work.base.number
-    → GoesOn (λ c. rewound c (Dropped number)) r told new events → GoesOn (λ c. step (mode_of r.keep_going) c (Commit now)) r told new events
-dropped_end r new told events number now failed is does =
-    goes_as (λ c. rewound c (Dropped number)) (λ c. step (mode_of r.keep_going) c (Commit now)) r new told events
-    (λ before c h. ap (λ n. rewound c (Dropped n)) (is ∙ sym (ap (λ (g : Generation). g.number) h.last)) ∙ by_test c.failed true (rewound c (Dropped c.last.number)) (committed c now) (h.failed ∙ failed))
+pub dropped_end : (r new : Runner) (told events : List Event) (event : Event) (now : ℕ) → r.failed ≡ true → event ≡ Dropped r.work.base.number
+    → GoesOn (λ c. rewound c event) r told new events → GoesOn (λ c. step (mode_of r.keep_going) c (Commit now)) r told new events
+dropped_end r new told events event now failed is does =
+    goes_as (λ c. rewound c event) (λ c. step (mode_of r.keep_going) c (Commit now)) r new told events
+    (λ before c h. ap (rewound c) (is ∙ sym (ap (λ (g : Generation). Dropped g.number) h.last)) ∙ by_test c.failed true (rewound c (Dropped c.last.number)) (committed c now) (h.failed ∙ failed))
     does
 
-pub aborted_end : (r new : Runner) (told events : List Event) (number : ℕ) → number ≡ r.work.base.number
-    → GoesOn (λ c. rewound c (Aborted number)) r told new events → GoesOn (λ c. step (mode_of r.keep_going) c Abort) r told new events
-aborted_end r new told events number is does =
-    goes_as (λ c. rewound c (Aborted number)) (λ c. step (mode_of r.keep_going) c Abort) r new told events
-    (λ before c h. ap (λ n. rewound c (Aborted n)) (is ∙ sym (ap (λ (g : Generation). g.number) h.last)))
+pub aborted_end : (r new : Runner) (told events : List Event) (event : Event) → event ≡ Aborted r.work.base.number
+    → GoesOn (λ c. rewound c event) r told new events → GoesOn (λ c. step (mode_of r.keep_going) c Abort) r told new events
+aborted_end r new told events event is does =
+    goes_as (λ c. rewound c event) (λ c. step (mode_of r.keep_going) c Abort) r new told events
+    (λ before c h. ap (rewound c) (is ∙ sym (ap (λ (g : Generation). Aborted g.number) h.last)))
     does
 
 -- Sets of these kinds stay such.

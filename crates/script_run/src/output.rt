@@ -1,15 +1,18 @@
-ghost use Rattle.std.specs.Prelude.{◌≡◌, ◌+◌, List, All, IfOk};
-ghost use Rattle.set_model.specs.Control.{mode_of, has_refusal};
+ghost use Rattle.std.specs.Prelude.{◌≡◌, ◌+◌, List, length, All, IfOk};
+ghost use Rattle.std.specs.List.{list_any};
+ghost use Rattle.set_model.specs.Control.{mode_of, has_refusal, is_refusal};
 ghost use Rattle.set_model.specs.Legal.{Legal};
 ghost use Rattle.set_model.specs.Runnable.{IsRunnable, IsFitting};
 ghost use Rattle.set_model.specs.Text.{transcript_text, section_count};
 ghost use Rattle.set_model.specs.declared.report.Line.{Line as PacketLine};
+ghost use Rattle.set_report.specs.Remarks.{remarks_text};
+ghost use Rattle.set_report.specs.Writes.{NamesSet};
 ghost use Rattle.script_run.specs.Listings.{listing_text, tables_text};
 ghost use Rattle.script_run.specs.Telling.{section_at};
 
 use crate::telling::{Telling, tells_refusal};
 use crate::whole::Whole;
-use set_model::{Keys, Listed, Memory, Script};
+use set_model::{Events, Keys, Listed, Memory, Schema, Script};
 use set_report::{write_dump, write_list, write_remarks};
 use std::alloc::Global;
 
@@ -63,6 +66,20 @@ pub fn transcript(
     Ok(telling.output)
 }
 
+/// What was told, as comments: the first lines of a listing and of a dump.
+fn remarks(alloc: Global, schema: &Schema, events: &Events) -> Result<Output, Memory>
+    requires { All (NamesSet (length schema.now)) events.now }
+    ensures text { IfOk result (λ out. out.text.items ≡ remarks_text schema.now events.now) }
+    ensures refused { IfOk result (λ out. out.refused ≡ list_any is_refusal events.now) }
+{
+    let mut text = Vec::new(alloc);
+    write_remarks(schema, events, &mut text)?;
+    Ok(Output {
+        text,
+        refused: tells_refusal(events.as_slice()),
+    })
+}
+
 /// Runs a script, and lists its last generation as a script.
 ///
 /// # Errors
@@ -74,18 +91,14 @@ pub fn listing(alloc: Global, script: &Script, keep_going: bool) -> Result<Outpu
     ensures refused { IfOk result (λ out. out.refused ≡ has_refusal (mode_of keep_going) script.now) }
 {
     let whole = Whole::run(alloc, script, keep_going)?;
-    let mut text = Vec::new(alloc);
-    write_remarks(&script.schema, &whole.events, &mut text)?;
+    let mut output = remarks(alloc, &script.schema, &whole.events)?;
     write_list(
         &script.schema,
         whole.runner.work.base(),
         script.last,
-        &mut text,
+        &mut output.text,
     )?;
-    Ok(Output {
-        text,
-        refused: tells_refusal(whole.events.as_slice()),
-    })
+    Ok(output)
 }
 
 /// Runs a script, and shows the tables of its last generation.
@@ -99,11 +112,7 @@ pub fn dump(alloc: Global, script: &Script, keep_going: bool) -> Result<Output, 
     ensures refused { IfOk result (λ out. out.refused ≡ has_refusal (mode_of keep_going) script.now) }
 {
     let whole = Whole::run(alloc, script, keep_going)?;
-    let mut text = Vec::new(alloc);
-    write_remarks(&script.schema, &whole.events, &mut text)?;
-    write_dump(&script.schema, whole.runner.work.base(), &mut text)?;
-    Ok(Output {
-        text,
-        refused: tells_refusal(whole.events.as_slice()),
-    })
+    let mut output = remarks(alloc, &script.schema, &whole.events)?;
+    write_dump(&script.schema, whole.runner.work.base(), &mut output.text)?;
+    Ok(output)
 }

@@ -43,20 +43,22 @@ returns-in-Run-clause-cause g c =
 
 pub returns-in-List-clause-output : goal.returns-in-List-clause-output
 returns-in-List-clause-output g c =
-    listed (map string_bytes c.args.words.now) (g.F.Shelf.told c.args.shelf.now) _ _ _ c.in-Ok.command.script.now c.in-Ok-script_of.script c.in-Ok-script_of.ensures.read c.in-Ok-script_of.ensures.quiet.0 c.in-Ok-script_of.ensures.quiet.1 (λ out. out.text.items) (λ out. out.refused) c.in-Ok.command.keep_going c.or_memory.result (of-task (map string_bytes c.args.words.now) c.in-Ok.command tasks.List c.in-List.is c.in-Ok.ensures.found)
+    listed (map string_bytes c.args.words.now) (g.F.Shelf.told c.args.shelf.now) _ _ _ c.in-Ok.command.script.now c.in-Ok-script_of.script c.in-Ok-script_of.ensures.read (search c.in-Ok-script_of.ensures.quiet.0) (search c.in-Ok-script_of.ensures.quiet.1) (λ out. out.text.items) (λ out. out.refused) c.in-Ok.command.keep_going c.or_memory.result (of-task (map string_bytes c.args.words.now) c.in-Ok.command tasks.List c.in-List.is c.in-Ok.ensures.found)
     (handed c.or_memory.result c.listing.result (λ out. out.text.items ≡ listing_text (mode_of c.in-Ok.command.keep_going) c.in-Ok-script_of.script) c.or_memory.ensures.ok c.listing.ensures.text)
     (handed c.or_memory.result c.listing.result (λ out. out.refused ≡ has_refusal (mode_of c.in-Ok.command.keep_going) c.in-Ok-script_of.script) c.or_memory.ensures.ok c.listing.ensures.refused)
 
 pub returns-in-List-clause-names : goal.returns-in-List-clause-names
-returns-in-List-clause-names g c = asks-script (map string_bytes c.args.words.now) (g.F.Shelf.told c.args.shelf.now) _ _ _ _ (plain c.in-Ok.command) c.in-Ok.command.script.now c.in-Ok.ensures.found refl (rw c.requires at c.in-Ok-script_of.ensures.once)
+returns-in-List-clause-names g c =
+    let once = rw c.requires at c.in-Ok-script_of.ensures.once in
+    asks-script (map string_bytes c.args.words.now) (g.F.Shelf.told c.args.shelf.now) _ _ _ _ (plain c.in-Ok.command) c.in-Ok.command.script.now c.in-Ok.ensures.found refl (search once)
 
 pub returns-in-List-clause-whole : goal.returns-in-List-clause-whole
 returns-in-List-clause-whole g c =
-    alone-whole (map string_bytes c.args.words.now) (g.F.Shelf.told c.args.shelf.now) _ _ _ c.in-Ok.command.script.now c.in-Ok-script_of.script c.in-Ok-script_of.ensures.read c.in-Ok-script_of.ensures.quiet.0 c.in-Ok-script_of.ensures.quiet.1 (a_list c.in-Ok.command.script.now c.in-Ok.command.keep_going) c.or_memory.result _ _ _ (of-task (map string_bytes c.args.words.now) c.in-Ok.command tasks.List c.in-List.is c.in-Ok.ensures.found) refl c.in-Ok-script_of.ensures.whole
+    search (alone-whole (map string_bytes c.args.words.now) (g.F.Shelf.told c.args.shelf.now) _ _ _ c.in-Ok.command.script.now c.in-Ok-script_of.script c.in-Ok-script_of.ensures.read c.in-Ok-script_of.ensures.quiet.0 c.in-Ok-script_of.ensures.quiet.1 (a_list c.in-Ok.command.script.now c.in-Ok.command.keep_going) c.or_memory.result _ _ _ (of-task (map string_bytes c.args.words.now) c.in-Ok.command tasks.List c.in-List.is c.in-Ok.ensures.found) refl c.in-Ok-script_of.ensures.whole)
 
 pub returns-in-List-clause-cause : goal.returns-in-List-clause-cause
 returns-in-List-clause-cause g c =
-    alone-cause (map string_bytes c.args.words.now) (g.F.Shelf.told c.args.shelf.now) _ _ _ c.in-Ok.command.script.now c.in-Ok-script_of.script c.in-Ok-script_of.ensures.read c.in-Ok-script_of.ensures.quiet.0 c.in-Ok-script_of.ensures.quiet.1 (plain c.in-Ok.command) c.or_memory.result c.in-Ok.ensures.found refl c.or_memory.ensures.err
+    alone-cause (map string_bytes c.args.words.now) (g.F.Shelf.told c.args.shelf.now) _ _ _ c.in-Ok.command.script.now c.in-Ok-script_of.script c.in-Ok-script_of.ensures.read (search c.in-Ok-script_of.ensures.quiet.0) (search c.in-Ok-script_of.ensures.quiet.1) (plain c.in-Ok.command) c.or_memory.result c.in-Ok.ensures.found refl c.or_memory.ensures.err
 
 pub returns-clause-output : goal.returns-clause-output
 returns-clause-output g c =

@@ -8,5 +8,5 @@ pub returns-then-self : goal.returns-then-self
 returns-then-self c =
     let number : c.behind-self.inside.number ≡ c.args.self.now.work.base.number = ap (λ (g : Generation). g.number) (c.behind-self.view_is ∙ c.base.ensures) in
     on_ok_weaker c.rewind.result
-    (dropped_end c.args.self.now c.rewind.new.self c.args.events.now c.rewind.new.events c.behind-self.inside.number c.args.now c.if-self.true number)
+    (dropped_end c.args.self.now c.rewind.new.self c.args.events.now c.rewind.new.events _ c.args.now c.if-self.true (cc number))
     c.rewind.ensures

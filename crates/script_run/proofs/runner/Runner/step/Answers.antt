@@ -1,4 +1,4 @@
-use Rattle.std.proofs.Common.{◌≡◌, ap, ◌∙◌}
+use Rattle.std.proofs.Common.{rules, ◌≡◌, ap, ◌∙◌}
 use Rattle.std.proofs.lemmas.Result.{on_ok_weaker}
 use Rattle.set_model.specs.Control.{Generation}
 use Rattle.script_run.proofs.RunLaws.{open_change, open_flush, aborted_end}
@@ -13,7 +13,7 @@ returns-else-self c =
 pub returns-else-self-2 : goal.returns-else-self-2
 returns-else-self-2 c =
     on_ok_weaker c.flush.result
-    (λ does. rw c.in-Flush.is (open_flush c.args.self.now c.flush.new.self c.args.events.now c.args.events.now c.in-Flush.line c.in-Flush.set c.in-Flush.now c.if-self-2.false (does c.args.events.now)))
+    (λ does. rw c.in-Flush.is (open_flush c.args.self.now _ c.flush.new.self c.args.events.now c.args.events.now c.in-Flush.line c.in-Flush.set c.in-Flush.now (search rules) c.if-self-2.false (does c.args.events.now)))
     c.flush.ensures
 
 pub returns-in-Commit : goal.returns-in-Commit
@@ -22,6 +22,7 @@ returns-in-Commit c = rw c.in-Commit.is c.commit.ensures
 pub returns-in-Abort : goal.returns-in-Abort
 returns-in-Abort c =
     let number : c.behind-self.inside.number ≡ c.args.self.now.work.base.number = ap (λ (g : Generation). g.number) (c.behind-self.view_is ∙ c.base.ensures) in
-    on_ok_weaker c.rewind.result
-    (λ does. rw c.in-Abort.is (aborted_end c.args.self.now c.rewind.new.self c.args.events.now c.rewind.new.events c.behind-self.inside.number number does))
-    c.rewind.ensures
+    rw c.in-Abort.is
+    (on_ok_weaker c.rewind.result
+    (aborted_end c.args.self.now c.rewind.new.self c.args.events.now c.rewind.new.events _ (cc number))
+    c.rewind.ensures)
