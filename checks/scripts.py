@@ -4,6 +4,7 @@
 transactions   a set of 100 ports, and so many transactions of one change each
 elements       one set of so many ranges of addresses and ports, with expiries and comments
 commits        the same, and behind it 100 transactions of one change each
+missing        the same, and behind it 1,000 destructions of elements that aren't there
 refused        so many elements that are read and, since the first change is refused, never tried
 """
 import random
@@ -38,6 +39,12 @@ def commits(count):
         print("commit")
 
 
+def missing(count):
+    elements(count)
+    print("commit")
+    print("destroy element ip t s {", ", ".join(f"0.0.0.1 . {port}" for port in range(1000)), "}")
+
+
 def refused(count):
     print("add set inet filter blocked { type ipv6_addr . inet_service ; flags interval,timeout ; }")
     print("delete element inet filter blocked { ::1 . 1 }")
@@ -46,4 +53,5 @@ def refused(count):
 
 
 if __name__ == "__main__":
-    {"transactions": transactions, "elements": elements, "commits": commits, "refused": refused}[sys.argv[1]](int(sys.argv[2]))
+    makers = [transactions, elements, commits, missing, refused]
+    {maker.__name__: maker for maker in makers}[sys.argv[1]](int(sys.argv[2]))
