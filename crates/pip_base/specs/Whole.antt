@@ -7,3 +7,7 @@ pub record AppendsFront (old new : Option (List ℕ)) (piece : List ℕ) : Type 
   pub count : ℕ
   pub part : count < length piece
   pub front : Appends old new (take count piece)
+
+-- the most bytes that an input file may have
+abbrev pub size_limit : ℕ
+size_limit = 67108864

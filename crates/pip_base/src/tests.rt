@@ -62,6 +62,45 @@ fn real_files_are_read(rt: HostRuntime) -> Result<(), Fail> {
     Ok(())
 }
 
+/// Two files that are read in turn, in pieces of four bytes: each read goes on in its own file.
+#[test]
+fn two_real_files_are_read_in_turn(rt: HostRuntime) -> Result<(), Fail> {
+    std::fs::write(&rt, "pip_base_first.txt", "accept")?;
+    std::fs::write(&rt, "pip_base_second.txt", "drop")?;
+    let mut shelf = DirShelf::new(rt.alloc(), &rt);
+    let first = shelf
+        .pick(rt.alloc(), "pip_base_first.txt")
+        .ok()
+        .ok_or("first")?;
+    let second = shelf
+        .pick(rt.alloc(), "pip_base_second.txt")
+        .ok()
+        .ok_or("second")?;
+    let mut piece = [0u8; 4];
+    assert!(rt; shelf.read(first, &mut piece) == Ok(4));
+    assert_eq!(rt; piece.as_slice(), b"acce".as_slice());
+    assert!(rt; shelf.read(second, &mut piece) == Ok(4));
+    assert_eq!(rt; piece.as_slice(), b"drop".as_slice());
+    assert!(rt; shelf.read(first, &mut piece) == Ok(2));
+    assert_eq!(rt; piece.as_slice(), b"ptop".as_slice());
+    assert!(rt; shelf.read(first, &mut piece) == Ok(0));
+    assert!(rt; shelf.read(second, &mut piece) == Ok(0));
+    std::fs::remove_file(&rt, "pip_base_first.txt")?;
+    std::fs::remove_file(&rt, "pip_base_second.txt")?;
+    Ok(())
+}
+
+/// A folder in a file's place, and a file that has vanished, are faults and no empty files.
+#[test]
+fn a_folder_and_a_vanished_file_are_faults(rt: HostRuntime) -> Result<(), Fail> {
+    std::fs::write(&rt, "pip_base_gone.txt", "accept")?;
+    std::fs::remove_file(&rt, "pip_base_gone.txt")?;
+    let mut shelf = DirShelf::new(rt.alloc(), &rt);
+    assert!(rt; read_whole(rt.alloc(), &mut shelf, ".") == Err(ReadError::Fault));
+    assert!(rt; read_whole(rt.alloc(), &mut shelf, "pip_base_gone.txt") == Err(ReadError::Fault));
+    Ok(())
+}
+
 #[test]
 fn the_standard_output_takes_a_piece(rt: HostRuntime) -> Result<(), Fail> {
     let mut sink = OutSink::new(&rt);

@@ -2,7 +2,7 @@ ghost use Rattle.std.specs.Prelude.{◌≡◌, ◌≢◌, ◌+◌, ◌<◌, ◌�
 ghost use Rattle.std.specs.Io.KnownBytes.{Appends, IsAtEnd};
 ghost use Rattle.pip_base.specs.Causes.{HasCause, Rose};
 ghost use Rattle.pip_base.specs.Picks.{AsksOnce, KeepsLeft, ReadsToEnd};
-ghost use Rattle.pip_base.specs.Whole.{AppendsFront};
+ghost use Rattle.pip_base.specs.Whole.{AppendsFront, size_limit};
 
 use crate::shelf::{PickError, Shelf};
 use crate::sink::Sink;
@@ -48,9 +48,9 @@ pub fn write_whole<K: Sink>(sink: &mut K, piece: &[u8]) -> Result<(), WriteFault
 pub fn read_whole<F: Shelf>(alloc: Global, shelf: &mut F, name: &str) -> Result<Vec<u8>, ReadError>
     requires { length (F.asked shelf.old) < 4294967295 }
     ensures bytes { IfOk result (λ all. (bytes : List ℕ) → F.told shelf.old name.now ≡ Some bytes → all.items ≡ bytes) }
-    ensures limit { IfOk result (λ all. length all.items ≤ FILE_LIMIT) }
+    ensures limit { IfOk result (λ all. length all.items ≤ size_limit) }
     ensures to_end { OnOk result (ReadsToEnd (F.is_picked shelf.old) (F.is_picked shelf.new) (F.left shelf.new)) }
-    ensures too_large { result ≡ Err ReadError.TooLarge → (bytes : List ℕ) → F.told shelf.old name.now ≡ Some bytes → FILE_LIMIT < length bytes }
+    ensures too_large { result ≡ Err ReadError.TooLarge → (bytes : List ℕ) → F.told shelf.old name.now ≡ Some bytes → size_limit < length bytes }
 
     // It asks for that name alone, once, and leaves all other files as they were.
     ensures asked_once { AsksOnce (F.asked shelf.old) (F.asked shelf.new) name.now }
@@ -74,9 +74,9 @@ pub fn read_whole<F: Shelf>(alloc: Global, shelf: &mut F, name: &str) -> Result<
 fn read_picked<F: Shelf>(alloc: Global, shelf: &mut F, file: u32) -> Result<Vec<u8>, ReadError>
     requires { F.is_picked shelf.old file }
     ensures bytes { IfOk result (λ all. (bytes : List ℕ) → F.left shelf.old file ≡ Some bytes → all.items ≡ bytes) }
-    ensures limit { IfOk result (λ all. length all.items ≤ FILE_LIMIT) }
+    ensures limit { IfOk result (λ all. length all.items ≤ size_limit) }
     ensures to_end { OnOk result (IsAtEnd (F.left shelf.new file)) }
-    ensures too_large { result ≡ Err ReadError.TooLarge → (bytes : List ℕ) → F.left shelf.old file ≡ Some bytes → FILE_LIMIT < length bytes }
+    ensures too_large { result ≡ Err ReadError.TooLarge → (bytes : List ℕ) → F.left shelf.old file ≡ Some bytes → size_limit < length bytes }
     ensures asked { F.asked shelf.new ≡ F.asked shelf.old }
     ensures told { (name : List ℕ) → F.told shelf.new name ≡ F.told shelf.old name }
     ensures picked { (m : ℕ) → F.is_picked shelf.old m → F.is_picked shelf.new m }
