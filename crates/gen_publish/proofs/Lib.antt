@@ -1,0 +1,3 @@
+pub mod Berths
+pub mod Growing
+pub mod KindLaws

@@ -1,0 +1,13 @@
+pub use Rattle.history_laws.specs.Histories
+pub use Rattle.set_model.specs.Kind
+pub use Rattle.set_model.specs.Key
+pub use Rattle.set_model.specs.Expiry
+pub use Rattle.set_model.specs.SetState
+pub use Rattle.set_model.specs.Control
+pub use Rattle.set_model.specs.Runnable
+pub use Rattle.pipapo_image.specs.Found
+pub use Rattle.pipapo_image.specs.Insert
+pub use Rattle.pipapo_image.specs.Remove
+pub use Rattle.set_space.specs.Open
+pub use Rattle.set_space.specs.Answers
+pub use Rattle.gen_publish.specs.Publish

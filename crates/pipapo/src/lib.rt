@@ -1,0 +1,95 @@
+//! Packet filter sets under live lookup: one control changes them, and up to sixteen readers look packets up in them,
+//! each in a thread of its own.
+//!
+//! A set has fields, as an address and a port (`Kind`), and elements of one interval per field. A key of one value per
+//! field is looked up: the answer is the earliest inserted element that is live and holds the key, as nft's sets of
+//! concatenated ranges are meant to answer.
+//!
+//! # The model
+//!
+//! `start` takes the declared sets (`Schema`) and how many readers there are, and makes generation 0, in which all sets
+//! are empty.
+//!
+//! - A **generation** is all sets as they stood at a commit. It has a number and never changes.
+//! - The **`Control`** changes the open sets, which no reader sees: `insert`, `create`, `delete`, `destroy`, `flush`. `commit`
+//!   makes them the next generation, without the elements that are expired, and `abort` takes all open changes back.
+//! - A **`Reader`** enters the last generation and is a **`Held`** then, which looks keys up in that generation, until it
+//!   leaves and is a `Reader` again. What is committed meanwhile doesn't change its answers. No enter goes back behind a
+//!   generation that the same reader has seen.
+//! - A **`Note`** tells what one thread has seen. A reader that meets the control's note enters no generation before it.
+//!
+//! **What waits:** nothing. An enter and a leave are one atomic addition each, and a commit finds a free place for its
+//! generation within readers + 1 looks. A `Held` that is never left keeps its generation, and blocks nobody.
+//!
+//! **What takes memory:** `start`, the five changes and `commit`, each of which leaves everything as it was where memory is
+//! wanting. `enter`, `lookup`, `leave`, `abort` and notes take none. A change copies its set once in a transaction, a
+//! commit what has expired. Of older generations the control gives back the memory, and a reader none.
+//!
+//! **What is asked:** a set that is declared, and intervals and values of its kinds. `Control::fits` and `Held::fits` test it;
+//! no call tests it again. Sets and fields are numbered from 0, and moments are milliseconds.
+//!
+//! # Example
+//!
+//! A packet thread beside the control. `services` declares one set, of the kinds `Ipv4` and `Service`. The code stands in
+//! this crate's tests, and is proved.
+//!
+//! ```text
+//! /// Inserts the services of 192.0.2.0/24 at ports from `low` to `high`.
+//! fn open(rt: &impl Abort, alloc: Global, control: &mut Control, low: u128, high: u128) {
+//!     let hosts = Interval {
+//!         low: 0xc000_0200,
+//!         high: 0xc000_02ff,
+//!     };
+//!     let mut parts = Parts::new(alloc);
+//!     parts.push(hosts).expect(rt, "memory");
+//!     parts.push(Interval { low, high }).expect(rt, "memory");
+//!     assert!(rt; control.fits(0, &parts));
+//!     let _ = control
+//!         .insert(0, &parts, None, &Comment::new(alloc), 0)
+//!         .expect(rt, "room");
+//! }
+//!
+//! /// Whether a packet to a port of 192.0.2.7 finds an element.
+//! fn is_open(rt: &impl Abort, alloc: Global, held: &mut Held, port: u128) -> bool {
+//!     let mut key = Key::new(alloc);
+//!     key.push(0xc000_0207).expect(rt, "memory");
+//!     key.push(port).expect(rt, "memory");
+//!     assert!(rt; held.fits(0, &key));
+//!     held.lookup(0, &key, 0).is_some()
+//! }
+//!
+//! fn example<R: Threads + Abort + Sync>(rt: &R, alloc: Global) -> (bool, bool) {
+//!     let schema = services(alloc).expect(rt, "memory");
+//!     let (mut control, mut readers) = start(alloc, schema, 1).expect(rt, "memory");
+//!     let reader = readers.pop().expect(rt, "a reader");
+//!     open(rt, alloc, &mut control, 80, 443);
+//!     assert!(rt; control.number() == 0);
+//!     let receipt = control.commit(0).expect(rt, "memory");
+//!     assert!(rt; receipt.generation == 1);
+//!     let packets = move || {
+//!         let mut held = reader.enter();
+//!         let found = (
+//!             is_open(rt, alloc, &mut held, 443),
+//!             is_open(rt, alloc, &mut held, 22),
+//!         );
+//!         held.leave();
+//!         found
+//!     };
+//!     let second_thought = move || {
+//!         open(rt, alloc, &mut control, 22, 22);
+//!         control.abort();
+//!     };
+//!     join(rt, packets, second_thought).0
+//! }
+//! ```
+#![tactic(auto)]
+
+pub use gen_publish::{Control, Held, Note, Reader, Receipt, start};
+pub use pipapo_image::{Added, DeleteError, InsertError};
+pub use set_model::{
+    Comment, Family, Found, Interval, Key, Kind, Kinds, Memory, Name, Parts, Schema, SetDecl,
+};
+pub use set_space::{CreateError, Generation};
+
+#[cfg(test)]
+mod tests;
