@@ -5,7 +5,7 @@ use Rattle.std.specs.Io.KnownBytes.{IsAtEnd}
 use Rattle.std.proofs.lemmas.List.Elements.{All-nil, All-cons}
 use Rattle.std.proofs.lemmas.List.Kept.{AllPairs-cons}
 use Rattle.pip_base.specs.Picks.{IsPickOf, AsksOnce, KeepsLeft, ReadsToEnd}
-use Rattle.pipapo_cli.specs.Words.{Command, IsCommand, IsRun, IsScriptOf, a_run, file_names}
+use Rattle.pipapo_cli.specs.Words.{Command, IsCommand, IsRun, IsScriptOf, run, file_names}
 use Rattle.pipapo_cli.specs.Causes.{IsReadable}
 use Rattle.pipapo_cli.specs.Names.{IsFront, AreReadWhole, AsksInOrder, AsksForAll}
 use Rattle.pipapo_cli.proofs.CommandWords.{one-command}
@@ -26,6 +26,9 @@ first-whole : (old mid new : Numbers) (left_mid left : ℕ → Option (List ℕ)
 first-whole old mid new left_mid left kept r =
     let k = kept r.file r.is_pick.picked in
     (record { fresh = r.is_pick.fresh; picked = k.0 }, subst IsAtEnd (sym k.1) r.at_end)
+
+pub none-whole : (old new : Numbers) (left : ℕ → Option (List ℕ)) → AreReadWhole old new left 0
+none-whole old new left = record { files = []; one_each = refl; apart = no-pairs; picked = All-nil (IsPickOf old new); at_end = All-nil (λ file. IsAtEnd (left file)) }
 
 pub one-whole : (old mid new : Numbers) (left_mid left : ℕ → Option (List ℕ)) → ReadsToEnd old mid left_mid → KeepsLeft mid new left_mid left → AreReadWhole old new left 1
 one-whole old mid new left_mid left r kept =
@@ -58,11 +61,11 @@ module _ (words : List (List ℕ)) (told : List ℕ → Option (List ℕ)) where
   asks-nothing asked old new left nothing = record {
     no_command = λ _. nothing;
     in_order = λ c is_c. record { rest = file_names c; joined = ap (λ (z : List (List ℕ)). z ++ file_names c) (sym nothing) };
-    script_first = λ script keys g is_run both. absurd (let e : [] ≡ script ∷ keys ∷ [] = sym nothing ∙ both in cc e);
+    script_first = λ script keys n g is_run both. absurd (let e : [] ≡ script ∷ keys ∷ [] = sym nothing ∙ both in cc e);
   }
 
   first-name : (c : Command) (script : List ℕ) → IsScriptOf c script → (rest : List (List ℕ)) × (file_names c ≡ script ∷ rest)
-  first-name c script e = go c.names e where
+  first-name c script e = go (file_names c) e where
     go : (names : List (List ℕ)) → slice_get names 0 ≡ Some script → (rest : List (List ℕ)) × (names ≡ script ∷ rest)
     go [] e = absurd (cc e)
     go (name ∷ names) e = let same : name ≡ script = cc e in (names, ap (λ n. n ∷ names) same)
@@ -72,7 +75,7 @@ module _ (words : List (List ℕ)) (told : List ℕ → Option (List ℕ)) where
   asks-script asked old new left c script is_c is_script once = record {
     no_command = λ none. absurd (none c is_c);
     in_order = λ other is_other. subst (λ (x : Command). IsFront asked (file_names x)) (one-command words c other is_c is_other) (front once);
-    script_first = λ a b g is_run both. absurd (not-both a b once both);
+    script_first = λ a b n g is_run both. absurd (not-both a b once both);
   } where
     front : AsksOnce [] asked script → IsFront asked (file_names c)
     front (inl e) = record { rest = file_names c; joined = ap (λ (z : List (List ℕ)). z ++ file_names c) (sym e) }
@@ -83,12 +86,12 @@ module _ (words : List (List ℕ)) (told : List ℕ → Option (List ℕ)) where
     not-both a b (inr e) k = cc (e, k)
 
   -- The key file was asked for behind a script that was read whole and accepted, or not yet.
-  pub asks-keys : (asked_mid asked : List (List ℕ)) (old mid new : Numbers) (left_mid left : ℕ → Option (List ℕ)) (script keys : List ℕ) (g : Bool) → IsRun words script keys g → asked_mid ≡ script ∷ []
+  pub asks-keys : (asked_mid asked : List (List ℕ)) (old mid new : Numbers) (left_mid left : ℕ → Option (List ℕ)) (script keys : List ℕ) (n : ℕ) (g : Bool) → IsRun words script keys n g → asked_mid ≡ script ∷ []
       → AsksOnce asked_mid asked keys → IsReadable script told → ReadsToEnd old mid left_mid → KeepsLeft mid new left_mid left → AsksInOrder words told asked old new left
-  asks-keys asked_mid asked old mid new left_mid left script keys g is_run first once readable whole kept = record {
-    no_command = λ none. absurd (none (a_run script keys g) is_run);
-    in_order = λ other is_other. subst (λ (x : Command). IsFront asked (file_names x)) (one-command words (a_run script keys g) other is_run is_other) (front once);
-    script_first = λ a b k is_other _. (subst (λ (x : List ℕ). IsReadable x told) (one-run words script keys a b g k is_run is_other).0 readable, one-whole old mid new left_mid left whole kept);
+  asks-keys asked_mid asked old mid new left_mid left script keys n g is_run first once readable whole kept = record {
+    no_command = λ none. absurd (none (run script keys n g) is_run);
+    in_order = λ other is_other. subst (λ (x : Command). IsFront asked (file_names x)) (one-command words (run script keys n g) other is_run is_other) (front once);
+    script_first = λ a b m k is_other _. (subst (λ (x : List ℕ). IsReadable x told) (one-run words script keys a b n m g k is_run is_other).0 readable, one-whole old mid new left_mid left whole kept);
   } where
     front : AsksOnce asked_mid asked keys → IsFront asked (script ∷ keys ∷ [])
     front (inl e) = record { rest = keys ∷ []; joined = ap (λ (z : List (List ℕ)). z ++ keys ∷ []) (sym (e ∙ first)) }

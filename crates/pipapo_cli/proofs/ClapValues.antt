@@ -1,32 +1,35 @@
 -- What the words of a command are to `clap`.
-use Rattle.std.proofs.Common.{◌≡◌, refl, sym, ◌∙◌, ap, subst, ℕ, ◌==◌, Bool, true, false, not, cond, List, [], ◌∷◌, filter, slice_get, length, codes, Option, Some, None, true≢false, arith}
-use Rattle.clap.specs.Walk.{Row, Rule, Text, Held, Walk, idle, walked, to_positional, arg_by_index, first_of, one_of, nothing_held, finished, reacted, rows_of}
+use Rattle.std.proofs.Common.{◌≡◌, refl, sym, ◌∙◌, ap, subst, ℕ, zero, suc, ◌+◌, ◌≤◌, ◌==◌, Bool, true, false, not, cond, ◌||◌, ◌&&◌, List, [], ◌∷◌, ◌++◌, fold, find, slice_get, length, codes, Option, Some, None, is_some, true≢false, arith, append-nil}
+use Rattle.std.specs.Prelude.{IfSome, bytes_eq, option_map, option_and_then}
+use Rattle.std.specs.List.{list_any}
+use Rattle.std.specs.Option.{option_or}
+use Rattle.clap.specs.declared.builder.value_parser.Reading.{Reading}
+use Rattle.clap.specs.declared.parser.matches.ValueSource.{ValueSource}
+use Rattle.clap.specs.declared.parser.matches.ValueSource.TheVariants.{DefaultValue, CommandLine}
+use Rattle.clap.specs.Walk.{reading_by, Row, Rule, Text, Held, Walk, idle, option, walked, to_positional, arg_by_index, first_of, one_of, nothing_held, finished, reacted, settled, rows_of, used, at_row, more_values, positional_held, is_pending, takes_several, pushed, with_values, without, has_row, row_text}
 use Rattle.clap.specs.Simple.{App, HasMatchesOf, built, filled, with_index, is_simple, matches_of, new_app, new_rule, on_top, with_rule}
 use Rattle.clap.specs.declared.builder.action.ArgAction.TheVariants.{SetTrue}
 use Rattle.clap.proofs.OnLiterals.{clap_on_literals}
-use Rattle.pipapo_cli.specs.Words.{is_name, keep_going_word, options, Command, IsCommand, verb_word, name_count}
-use Rattle.pipapo_cli.specs.WordForms.{HasVerb, HasValues, plain, other_names, verb_of}
-use Rattle.pipapo_cli.specs.declared.words.Verb.{Verb}
-use Rattle.pipapo_cli.specs.declared.words.Verb.TheVariants.{Run, List as Lists, Dump}
-use Rattle.clap.specs.declared.parser.matches.ArgMatches.{ArgMatches}
-use Rattle.clap.specs.Matches.{found_of, first_value, one_text}
-use Rattle.clap.specs.declared.parser.matches.Found.{Found}
-use Rattle.pipapo_cli.specs.declared.words.Task.{Task}
-use Rattle.pipapo_cli.specs.declared.words.Task.TheVariants as tasks
-use Rattle.pipapo_cli.specs.declared.words.Command.{Command as Asked}
 use Rattle.clap.proofs.WalkLemmas.{first_value-rows, one_text-rows}
+use Rattle.clap.specs.Matches.{found_of}
+use Rattle.clap.specs.declared.parser.matches.ArgMatches.{ArgMatches}
+use Rattle.pipapo_cli.specs.WordForms.{ArePlain, HasValues}
+use Rattle.pipapo_cli.specs.Words.{is_name, threads_word, keep_going_word, AreArguments, no_words, name_and, threads_and, mark_and, AreWords}
 
-abbrev script : Rule
-script = new_rule (codes "script")
+abbrev first : Rule
+first = new_rule (codes "first")
 
-abbrev keys : Rule
-keys = new_rule (codes "keys")
+abbrev second : Rule
+second = new_rule (codes "second")
+
+abbrev pub threads_rule : Rule
+threads_rule = record (new_rule (codes "threads")) { long = Some (codes "threads") }
 
 abbrev pub keep_going_rule : Rule
 keep_going_rule = record (new_rule (codes "keep-going")) { long = Some (codes "keep-going"); action = Some SetTrue }
 
 abbrev pub program : App
-program = with_rule (with_rule (with_rule (on_top (λ s. record s { disable_help_flag = true }) (new_app (codes "pipapo"))) script) keys) keep_going_rule
+program = with_rule (with_rule (with_rule (with_rule (on_top (λ s. record s { disable_help_flag = true }) (new_app (codes "pipapo"))) first) second) threads_rule) keep_going_rule
 
 abbrev rules : List Rule
 rules = (built program).top.rules
@@ -48,157 +51,263 @@ name-step (b ∷ bs) h position e = go (b == 45) refl e where
   go true eq f = absurd (true≢false (sym f))
   go false eq f = rw (eq, eq) refl
 
--- the walk behind a name, and behind `--keep-going`
-abbrev behind-name : Text → Walk → Walk
-behind-name w at = to_positional rules (arg_by_index rules at.position) w at at.held
+-- `--threads` waits for its value
+abbrev waiting-for : Held → ℕ → Walk
+waiting-for h position = record (between (record (settled rules h) { pending = Some (codes "threads", []) }) position) { waiting = option (codes "threads") }
 
-abbrev behind-mark : Walk → Walk
-behind-mark at = record at { held = reacted rules (with_index 3 (filled keep_going_rule)) [] at.held }
+threads-step : (h : Held) (position : ℕ) → walked rules [] (between h position) threads_word ≡ waiting-for h position
+unfolding clap_on_literals
+threads-step h position = refl
 
-mark-step : (h : Held) (position : ℕ) → walked rules [] (between h position) keep_going_word ≡ behind-mark (between h position)
+-- and takes the next word, which begins with no dash
+abbrev counted : Held → Text → Held
+counted h w = record (settled rules h) { pending = Some (codes "threads", w ∷ []) }
+
+count-step : (w : Text) (h : Held) (position : ℕ) → is_name w ≡ true → walked rules [] (waiting-for h position) w ≡ between (counted h w) position
+unfolding walked
+count-step [] h position e = absurd (true≢false (sym e))
+count-step (b ∷ bs) h position e = go (b == 45) refl e where
+  go : (t : Bool) → (b == 45) ≡ t → not t ≡ true → walked rules [] (waiting-for h position) (b ∷ bs) ≡ between (counted h (b ∷ bs)) position
+  go true eq f = absurd (true≢false (sym f))
+  go false eq f = rw (eq, eq) refl
+
+abbrev marked : Held → Held
+marked h = reacted rules (with_index 3 (filled keep_going_rule)) [] h
+
+mark-step : (h : Held) (position : ℕ) → walked rules [] (between h position) keep_going_word ≡ between (marked h) position
 unfolding clap_on_literals
 mark-step h position = refl
 
-abbrev begun : Walk
-begun = between nothing_held 1
+-- Rows: the first of an id, and one more at the end.
+abbrev is_of : Text → Row → Bool
+is_of id r = bytes_eq r.id id
+
+module _ {X : Type 0} (p : X → Bool) where
+  -- the tail's first, where the head is none of them
+  behind : (x : X) (xs : List X) → find p (x ∷ xs) ≡ None → (p x ≡ false) × (find p xs ≡ None)
+  behind x xs none = go (p x) refl none where
+    go : (b : Bool) → p x ≡ b → cond b (Some x) (find p xs) ≡ None → (p x ≡ false) × (find p xs ≡ None)
+    go true is e = absurd (cc e)
+    go false is e = (is, e)
+
+  found-new : (xs : List X) (x : X) → find p xs ≡ None → p x ≡ true → find p (xs ++ x ∷ []) ≡ Some x
+  found-new [] x none here = rw here refl
+  found-new (y ∷ xs) x none here = let k = behind y xs none in rw k.0 (found-new xs x k.1 here)
+
+  found-old : (xs : List X) (x : X) → p x ≡ false → find p (xs ++ x ∷ []) ≡ find p xs
+  found-old [] x not_here = rw not_here refl
+  found-old (y ∷ xs) x not_here = ap (λ o. cond (p y) (Some y) o) (found-old xs x not_here)
+
+  any-found : (xs : List X) → list_any p xs ≡ is_some (find p xs)
+  any-found [] = refl
+  any-found (x ∷ xs) = ap (λ b. p x || b) (any-found xs) ∙ go (p x) where
+    go : (b : Bool) → (b || is_some (find p xs)) ≡ is_some (cond b (Some x) (find p xs))
+    go true = refl
+    go false = refl
+
+at-end : (id : Text) (change : Row → List Row) (missing rows : List Row) → find (is_of id) rows ≡ None → at_row id change missing rows ≡ rows ++ missing
+at-end id change missing [] none = refl
+at-end id change missing (r ∷ rows) none = let k = behind (is_of id) r rows none in rw k.0 (ap (λ rs. r ∷ rs) (at-end id change missing rows k.1))
+
+abbrev new_row : Text → Reading → ValueSource → List Text → Row
+new_row id how source values = record { id = id; values = values; count = None; source = Some source; reading = how }
+
+-- An argument that is used for the first time has its row at the end.
+first-use : (id : Text) (how : Reading) (source : ValueSource) (values : List Text) (rows : List Row) → find (is_of id) rows ≡ None
+    → with_values id how source values (without id rows) ≡ rows ++ new_row id how source values ∷ []
+first-use id how source values rows none = ap (with_values id how source values) (at-end id (λ _. []) [] rows none ∙ append-nil rows) ∙ at-end id (more_values source values) (new_row id how source values ∷ []) rows none
+
+abbrev name_row : Rule → Text → Row
+name_row a w = new_row a.id (reading_by (filled a)) CommandLine (w ∷ [])
+
+abbrev mark_row : Row
+mark_row = new_row (codes "keep-going") (reading_by (filled keep_going_rule)) CommandLine (codes "true" ∷ [])
+
+abbrev mark_found : Bool → Option Row
+mark_found true = Some mark_row
+mark_found false = None
+
+-- The rows are those of these arguments.
+record Finds (rows : List Row) (names : List Text) (threads : Option Text) (keep_going : Bool) : Type 0 where
+  first_is : find (is_of (codes "first")) rows ≡ option_map (name_row first) (slice_get names 0)
+  second_is : find (is_of (codes "second")) rows ≡ option_map (name_row second) (slice_get names 1)
+  threads_are : find (is_of (codes "threads")) rows ≡ option_map (name_row threads_rule) threads
+  mark_is : find (is_of (codes "keep-going")) rows ≡ mark_found keep_going
+
+abbrev held_rows : Held → List Row
+held_rows h = (settled rules h).rows
+
+abbrev taken : Text → Held → Text → Held
+taken id h w = record (settled rules h) { pending = Some (id, w ∷ []) }
+
+-- A name's word is held for its position.
+first-taken : (h : Held) (w : Text) → to_positional rules (arg_by_index rules 1) w (between h 1) h ≡ between (taken (codes "first") h w) 2
+first-taken h w = go (is_pending (with_index 1 (filled first)) h.pending) where
+  go : (b : Bool) → between (pushed (codes "first") w (cond (b && false) h (settled rules h))) 2 ≡ between (taken (codes "first") h w) 2
+  go true = refl
+  go false = refl
+
+second-taken : (h : Held) (w : Text) → to_positional rules (arg_by_index rules 2) w (between h 2) h ≡ between (taken (codes "second") h w) 3
+second-taken h w = go (is_pending (with_index 2 (filled second)) h.pending) where
+  go : (b : Bool) → between (pushed (codes "second") w (cond (b && false) h (settled rules h))) 3 ≡ between (taken (codes "second") h w) 3
+  go true = refl
+  go false = refl
+
+-- The rows with one argument more.
+module _ (rows : List Row) where
+  finds-first : (w : Text) (threads : Option Text) (goes : Bool) → Finds rows [] threads goes → Finds (rows ++ name_row first w ∷ []) (w ∷ []) threads goes
+  finds-first w threads goes f = record {
+    first_is = found-new _ rows _ f.first_is refl;
+    second_is = found-old _ rows _ refl ∙ f.second_is;
+    threads_are = found-old _ rows _ refl ∙ f.threads_are;
+    mark_is = found-old _ rows _ refl ∙ f.mark_is;
+  }
+
+  finds-second : (v w : Text) (threads : Option Text) (goes : Bool) → Finds rows (v ∷ []) threads goes → Finds (rows ++ name_row second w ∷ []) (v ∷ w ∷ []) threads goes
+  finds-second v w threads goes f = record {
+    first_is = found-old _ rows _ refl ∙ f.first_is;
+    second_is = found-new _ rows _ f.second_is refl;
+    threads_are = found-old _ rows _ refl ∙ f.threads_are;
+    mark_is = found-old _ rows _ refl ∙ f.mark_is;
+  }
+
+  finds-threads : (names : List Text) (w : Text) (goes : Bool) → Finds rows names None goes → Finds (rows ++ name_row threads_rule w ∷ []) names (Some w) goes
+  finds-threads names w goes f = record {
+    first_is = found-old _ rows _ refl ∙ f.first_is;
+    second_is = found-old _ rows _ refl ∙ f.second_is;
+    threads_are = found-new _ rows _ f.threads_are refl;
+    mark_is = found-old _ rows _ refl ∙ f.mark_is;
+  }
+
+  finds-mark : (names : List Text) (threads : Option Text) → Finds rows names threads false → Finds (rows ++ mark_row ∷ []) names threads true
+  finds-mark names threads f = record {
+    first_is = found-old _ rows _ refl ∙ f.first_is;
+    second_is = found-old _ rows _ refl ∙ f.second_is;
+    threads_are = found-old _ rows _ refl ∙ f.threads_are;
+    mark_is = found-new _ rows _ f.mark_is refl;
+  }
+
+-- The walk stands between two words, and holds these arguments.
+record Holds (at : Walk) (names : List Text) (threads : Option Text) (goes : Bool) : Type 0 where
+  held : Held
+  position : ℕ
+  at_is : at ≡ between held position
+  finds : Finds (held_rows held) names threads goes
+
+abbrev Plain : Option Text → Type 0
+Plain threads = IfSome threads (λ w. is_name w ≡ true)
+
+abbrev either : Option Text → Option Text → Option Text
+either None t = t
+either (Some w) t = Some w
+
+either-none : (t : Option Text) → either t None ≡ t
+either-none None = refl
+either-none (Some w) = refl
+
+or-false : (g : Bool) → (g || false) ≡ g
+or-false true = refl
+or-false false = refl
+
+-- a step of the walk, and then the rest
+onward : (rest names : List Text) (threads : Option Text) (goes : Bool) (p q : Walk) → p ≡ q → Holds (fold (walked rules []) q rest) names threads goes → Holds (fold (walked rules []) p rest) names threads goes
+onward rest names threads goes p q same h = subst (λ (at : Walk). Holds (fold (walked rules []) at rest) names threads goes) (sym same) h
+
+finds-of : (rows now : List Row) (names : List Text) (threads : Option Text) (goes : Bool) → now ≡ rows → Finds rows names threads goes → Finds now names threads goes
+finds-of rows now names threads goes same f = subst (λ (r : List Row). Finds r names threads goes) (sym same) f
+
+-- The walk over arguments holds them, behind those that it held before.
+through : (ws names : List Text) (threads : Option Text) (goes : Bool) → AreArguments ws names threads goes → (before : List Text) (t : Option Text) (g : Bool) (h : Held)
+    → length before + length names ≤ 2 → Plain threads → (is_some threads ≡ true → t ≡ None) → (goes ≡ true → g ≡ false) → Finds (held_rows h) before t g
+    → Holds (fold (walked rules []) (between h (1 + length before)) ws) (before ++ names) (either t threads) (g || goes)
+through ws names threads goes no_words before t g h few plain once mark f = record {
+  held = h;
+  position = 1 + length before;
+  at_is = refl;
+  finds = rw (append-nil before, either-none t, or-false g) f;
+}
+through ws names threads goes (name_and {word = word} {rest = rest} {names = more} e a) [] t g h few plain once mark f =
+    onward rest (word ∷ more) (either t threads) (g || goes) _ (between (taken (codes "first") h word) 2) (name-step word h 1 e ∙ first-taken h word)
+    (through rest more threads goes a (word ∷ []) t g (taken (codes "first") h word) (omega (arith, few)) plain once mark
+    (finds-of _ _ (word ∷ []) t g (first-use (codes "first") (reading_by (filled first)) CommandLine (word ∷ []) (held_rows h) f.first_is) (finds-first (held_rows h) word t g f)))
+through ws names threads goes (name_and {word = word} {rest = rest} {names = more} e a) (v ∷ []) t g h few plain once mark f =
+    onward rest (v ∷ word ∷ more) (either t threads) (g || goes) _ (between (taken (codes "second") h word) 3) (name-step word h 2 e ∙ second-taken h word)
+    (through rest more threads goes a (v ∷ word ∷ []) t g (taken (codes "second") h word) (omega (arith, few)) plain once mark
+    (finds-of _ _ (v ∷ word ∷ []) t g (first-use (codes "second") (reading_by (filled second)) CommandLine (word ∷ []) (held_rows h) f.second_is) (finds-second (held_rows h) v word t g f)))
+through ws names threads goes (name_and e a) (v ∷ w ∷ before) t g h few plain once mark f = absurd (omega (arith, few))
+through ws names threads goes (threads_and {count = count} {rest = rest} a) before None g h few plain once mark f =
+    onward rest (before ++ names) (Some count) (g || goes) _ (between (counted h count) (1 + length before)) (ap (λ (at : Walk). walked rules [] at count) (threads-step h (1 + length before)) ∙ count-step count h (1 + length before) plain)
+    (through rest names None goes a before (Some count) g (counted h count) few tt (λ e. absurd (true≢false (sym e))) mark
+    (finds-of _ _ before (Some count) g (first-use (codes "threads") (reading_by (filled threads_rule)) CommandLine (count ∷ []) (held_rows h) f.threads_are) (finds-threads (held_rows h) before count g f)))
+through ws names threads goes (threads_and a) before (Some w) g h few plain once mark f = absurd (cc (once refl))
+through ws names threads goes (mark_and {rest = rest} a) before t false h few plain once mark f =
+    onward rest (before ++ names) (either t threads) true _ (between (marked h) (1 + length before)) (mark-step h (1 + length before))
+    (through rest names threads false a before t true (marked h) few plain once (λ e. absurd (true≢false (sym e)))
+    (finds-of _ _ before t true (first-use (codes "keep-going") (reading_by (filled keep_going_rule)) CommandLine (codes "true" ∷ []) (held_rows h) f.mark_is) (finds-mark (held_rows h) before t f)))
+through ws names threads goes (mark_and a) before t true h few plain once mark f = absurd (cc (mark refl))
 
 -- what `clap` gives by the ids
-record GivesRows (rows : List Row) (names : List Text) (goes : Bool) : Type 0 where
-  pub script_is : first_of (codes "script") rows ≡ slice_get names 0
-  pub keys_are : first_of (codes "keys") rows ≡ slice_get names 1
-  pub keep_going_is : one_of (codes "keep-going") rows ≡ Some (cond goes (codes "true") (codes "false"))
+record GivesRows (rows : List Row) (names : List Text) (threads : Option Text) (goes : Bool) : Type 0 where
+  first_is : first_of (codes "first") rows ≡ slice_get names 0
+  second_is : first_of (codes "second") rows ≡ slice_get names 1
+  threads_are : first_of (codes "threads") rows ≡ threads
+  mark_is : one_of (codes "keep-going") rows ≡ Some (cond goes (codes "true") (codes "false"))
 
--- the walk over two and three words
-two-steps : (x y : Text) (p q : Walk) → walked rules [] begun x ≡ p → walked rules [] p y ≡ q → walked rules [] (walked rules [] begun x) y ≡ q
-two-steps x y p q e f = ap (λ (at : Walk). walked rules [] at y) e ∙ f
+no-default : (b : Bool) (rows : List Row) → cond b rows rows ≡ rows
+no-default true rows = refl
+no-default false rows = refl
 
-three-steps : (x y z : Text) (p q r : Walk) → walked rules [] begun x ≡ p → walked rules [] p y ≡ q → walked rules [] q z ≡ r → walked rules [] (walked rules [] (walked rules [] begun x) y) z ≡ r
-three-steps x y z p q r e f g = ap (λ (at : Walk). walked rules [] at z) (two-steps x y p q e f) ∙ g
+value-of : (a : Rule) (o : Option Text) → option_and_then (λ (r : Row). slice_get r.values 0) (option_map (name_row a) o) ≡ o
+value-of a None = refl
+value-of a (Some w) = refl
 
--- Words behind a command's word: names and others, each in their order.
-data Mix : List Text → List Text → List Text → Type 0 where
-  end : Mix [] [] []
-  name : {w : Text} {ws names others : List Text} → is_name w ≡ true → Mix ws names others → Mix (w ∷ ws) (w ∷ names) others
-  other : {w : Text} {ws names others : List Text} → Mix ws names others → Mix (w ∷ ws) names (w ∷ others)
+abbrev default_row : Row
+default_row = new_row (codes "keep-going") (reading_by (filled keep_going_rule)) DefaultValue (codes "false" ∷ [])
 
-mixed : (ws : List Text) → Mix ws (filter is_name ws) (filter (λ w. not (is_name w)) ws)
-mixed [] = end
-mixed (w ∷ ws) = go (is_name w) refl (mixed ws) where
-  go : (t : Bool) → is_name w ≡ t → Mix ws (filter is_name ws) (filter (λ x. not (is_name x)) ws)
-      → Mix (w ∷ ws) (cond t (w ∷ filter is_name ws) (filter is_name ws)) (cond (not t) (w ∷ filter (λ x. not (is_name x)) ws) (filter (λ x. not (is_name x)) ws))
-  go true e m = name e m
-  go false e m = other m
+-- At the end of the walk a mark that wasn't used has its default.
+with-default : (rows : List Row) (names : List Text) (threads : Option Text) (goes : Bool) → Finds rows names threads goes
+    → GivesRows (cond (has_row (codes "keep-going") rows) rows (with_values (codes "keep-going") (reading_by (filled keep_going_rule)) DefaultValue (codes "false" ∷ []) rows)) names threads goes
+with-default rows names threads goes f = go goes f (any-found (is_of (codes "keep-going")) rows) where
+  go : (g : Bool) → Finds rows names threads g → has_row (codes "keep-going") rows ≡ is_some (find (is_of (codes "keep-going")) rows)
+      → GivesRows (cond (has_row (codes "keep-going") rows) rows (with_values (codes "keep-going") (reading_by (filled keep_going_rule)) DefaultValue (codes "false" ∷ []) rows)) names threads g
+  go true f has =
+      let there : has_row (codes "keep-going") rows ≡ true = has ∙ ap is_some f.mark_is in
+      rw there (record {
+        first_is = ap (option_and_then (λ (r : Row). slice_get r.values 0)) f.first_is ∙ value-of first (slice_get names 0);
+        second_is = ap (option_and_then (λ (r : Row). slice_get r.values 0)) f.second_is ∙ value-of second (slice_get names 1);
+        threads_are = ap (option_and_then (λ (r : Row). slice_get r.values 0)) f.threads_are ∙ value-of threads_rule threads;
+        mark_is = ap (option_and_then row_text) f.mark_is;
+      })
+  go false f has =
+      let missing : has_row (codes "keep-going") rows ≡ false = has ∙ ap is_some f.mark_is in
+      let more : with_values (codes "keep-going") (reading_by (filled keep_going_rule)) DefaultValue (codes "false" ∷ []) rows ≡ rows ++ default_row ∷ [] = at-end (codes "keep-going") (more_values DefaultValue (codes "false" ∷ [])) (default_row ∷ []) rows f.mark_is in
+      rw (missing, more) (record {
+        first_is = ap (option_and_then (λ (r : Row). slice_get r.values 0)) (found-old _ rows default_row refl ∙ f.first_is) ∙ value-of first (slice_get names 0);
+        second_is = ap (option_and_then (λ (r : Row). slice_get r.values 0)) (found-old _ rows default_row refl ∙ f.second_is) ∙ value-of second (slice_get names 1);
+        threads_are = ap (option_and_then (λ (r : Row). slice_get r.values 0)) (found-old _ rows default_row refl ∙ f.threads_are) ∙ value-of threads_rule threads;
+        mark_is = ap (option_and_then row_text) (found-new _ rows default_row f.mark_is refl);
+      })
 
--- what `clap` gives of the words behind a first one, by the walk over them
-module _ (first : Text) where
-  abbrev Gives : List Text → List Text → Bool → Type 0
-  Gives ws names goes = GivesRows (matches_of program (first ∷ ws)) names goes
+ends : (h : Held) (names : List Text) (threads : Option Text) (goes : Bool) → Finds (held_rows h) names threads goes → GivesRows (finished rules h) names threads goes
+ends h names threads goes f =
+    let one = no-default (has_row (codes "first") (held_rows h)) (held_rows h) in
+    let two = no-default (has_row (codes "second") (held_rows h)) (held_rows h) in
+    let three = no-default (has_row (codes "threads") (held_rows h)) (held_rows h) in
+    rw (one, two, three) (with-default (held_rows h) names threads goes f)
 
-  abbrev Ends : List Text → Bool → Walk → Type 0
-  Ends names goes at = GivesRows (finished rules at.held) names goes
-
-  gives-one : (ws : List Text) (a : Text) (goes : Bool) → Mix ws (a ∷ []) (options goes) → Gives ws (a ∷ []) goes
-  gives-one ws a false (name e end) = subst (Ends (a ∷ []) false) (sym (name-step a begun.held begun.position e)) (record { script_is = refl; keys_are = refl; keep_going_is = refl })
-  gives-one ws a true (name e (other end)) =
-      let p = behind-name a begun in
-      subst (Ends (a ∷ []) true) (sym (two-steps a keep_going_word p (behind-mark p) (name-step a nothing_held 1 e) (mark-step p.held p.position))) (record { script_is = refl; keys_are = refl; keep_going_is = refl })
-  gives-one ws a true (other (name e end)) =
-      let p = behind-mark begun in
-      subst (Ends (a ∷ []) true) (sym (two-steps keep_going_word a p (behind-name a p) (mark-step nothing_held 1) (name-step a p.held p.position e))) (record { script_is = refl; keys_are = refl; keep_going_is = refl })
-
-  gives-two : (ws : List Text) (a b : Text) (goes : Bool) → Mix ws (a ∷ b ∷ []) (options goes) → Gives ws (a ∷ b ∷ []) goes
-  gives-two ws a b false (name e (name f end)) =
-      let p = behind-name a begun in
-      subst (Ends (a ∷ b ∷ []) false) (sym (two-steps a b p (behind-name b p) (name-step a nothing_held 1 e) (name-step b p.held p.position f))) (record { script_is = refl; keys_are = refl; keep_going_is = refl })
-  gives-two ws a b true (other (name e (name f end))) =
-      let p = behind-mark begun in
-      let q = behind-name a p in
-      subst (Ends (a ∷ b ∷ []) true) (sym (three-steps keep_going_word a b p q (behind-name b q) (mark-step nothing_held 1) (name-step a p.held p.position e) (name-step b q.held q.position f))) (record { script_is = refl; keys_are = refl; keep_going_is = refl })
-  gives-two ws a b true (name e (other (name f end))) =
-      let p = behind-name a begun in
-      let q = behind-mark p in
-      subst (Ends (a ∷ b ∷ []) true) (sym (three-steps a keep_going_word b p q (behind-name b q) (name-step a nothing_held 1 e) (mark-step p.held p.position) (name-step b q.held q.position f))) (record { script_is = refl; keys_are = refl; keep_going_is = refl })
-  gives-two ws a b true (name e (name f (other end))) =
-      let p = behind-name a begun in
-      let q = behind-name b p in
-      subst (Ends (a ∷ b ∷ []) true) (sym (three-steps a b keep_going_word p q (behind-mark q) (name-step a nothing_held 1 e) (name-step b p.held p.position f) (mark-step q.held q.position))) (record { script_is = refl; keys_are = refl; keep_going_is = refl })
-
-  gives : (ws names : List Text) (verb : Verb) (goes : Bool) → length names ≡ name_count verb → Mix ws names (options goes) → Gives ws names goes
-  gives ws [] Run goes e m = absurd (omega (arith, e))
-  gives ws [] Lists goes e m = absurd (omega (arith, e))
-  gives ws [] Dump goes e m = absurd (omega (arith, e))
-  gives ws (a ∷ []) verb goes e m = gives-one ws a goes m
-  gives ws (a ∷ b ∷ []) verb goes e m = gives-two ws a b goes m
-  gives ws (a ∷ b ∷ c ∷ names) Run goes e m = absurd (omega (arith, e))
-  gives ws (a ∷ b ∷ c ∷ names) Lists goes e m = absurd (omega (arith, e))
-  gives ws (a ∷ b ∷ c ∷ names) Dump goes e m = absurd (omega (arith, e))
+nothing-found : Finds [] [] None false
+nothing-found = record { first_is = refl; second_is = refl; threads_are = refl; mark_is = refl }
 
 -- Of the words of a command `clap` gives its values.
-pub gives-values : (words : List Text) (c : Command) (m : ArgMatches) → IsCommand words c → HasMatchesOf program words m → HasValues (found_of m) c
-gives-values words c m h matches =
-    let mix : Mix h.rest c.names (options c.keep_going) = subst (λ (os : List Text). Mix h.rest c.names os) h.options_are (subst (λ (ns : List Text). Mix h.rest ns (filter (λ w. not (is_name w)) h.rest)) h.names_are (mixed h.rest)) in
-    let rows : rows_of (found_of m) ≡ matches_of program (verb_word c.verb ∷ h.rest) = (matches simple).0 ∙ ap (matches_of program) h.words_are in
-    let given = subst (λ (r : List Row). GivesRows r c.names c.keep_going) (sym rows) (gives (verb_word c.verb) h.rest c.names c.verb c.keep_going h.each_name mix) in
-    record {
-      script = first_value-rows (found_of m) (codes "script") ∙ given.script_is;
-      keys = first_value-rows (found_of m) (codes "keys") ∙ given.keys_are;
-      keep_going = one_text-rows (found_of m) (codes "keep-going") ∙ given.keep_going_is;
+pub gives-values : (words : List Text) (word : Text) (names : List Text) (threads : Option Text) (goes : Bool) (m : ArgMatches) → HasMatchesOf program words m → AreWords words word names threads goes → ArePlain names threads → HasValues (found_of m) names threads goes
+gives-values words word names threads goes m matches said plain =
+    let few = plain.few in
+    let w = through said.rest names threads goes said.arguments [] None false nothing_held (omega (arith, few)) plain.no_dash (λ e. refl) (λ e. refl) nothing-found in
+    let held : Holds (fold (walked rules []) (between nothing_held 1) said.rest) names threads goes = w in
+    let found : rows_of (found_of m) ≡ finished rules held.held = (matches simple).0 ∙ ap (matches_of program) said.words_are ∙ ap (λ (at : Walk). finished rules at.held) held.at_is in
+    let given = subst (λ (r : List Row). GivesRows r names threads goes) (sym found) (ends held.held names threads goes held.finds) in record {
+      first = first_value-rows (found_of m) (codes "first") ∙ given.first_is;
+      second = first_value-rows (found_of m) (codes "second") ∙ given.second_is;
+      threads_are = first_value-rows (found_of m) (codes "threads") ∙ given.threads_are;
+      mark = one_text-rows (found_of m) (codes "keep-going") ∙ given.mark_is;
     }
-
--- the name of the key file, where a task has one
-abbrev KeysAre : Task → Option Text → Type 0
-KeysAre (tasks.Run keys) found = Some keys.now ≡ found
-KeysAre tasks.List found = Unit {0}
-KeysAre tasks.Dump found = Unit {0}
-
-names-are : (task : Task) (names : List Text) (script : Text) → length names ≡ name_count (verb_of task) → Some script ≡ slice_get names 0 → KeysAre task (slice_get names 1) → names ≡ script ∷ other_names task
-names-are (tasks.Run keys) [] script e f g = absurd (omega (arith, e))
-names-are (tasks.Run keys) (a ∷ []) script e f g = absurd (omega (arith, e))
-names-are (tasks.Run keys) (a ∷ b ∷ []) script e f g = let s : script ≡ a = cc f in let k : keys.now ≡ b = cc g in ap (λ x. x ∷ b ∷ []) (sym s) ∙ ap (λ y. script ∷ y ∷ []) (sym k)
-names-are (tasks.Run keys) (a ∷ b ∷ c ∷ names) script e f g = absurd (omega (arith, e))
-names-are tasks.List [] script e f g = absurd (omega (arith, e))
-names-are tasks.List (a ∷ []) script e f g = let s : script ≡ a = cc f in ap (λ x. x ∷ []) (sym s)
-names-are tasks.List (a ∷ b ∷ names) script e f g = absurd (omega (arith, e))
-names-are tasks.Dump [] script e f g = absurd (omega (arith, e))
-names-are tasks.Dump (a ∷ []) script e f g = let s : script ≡ a = cc f in ap (λ x. x ∷ []) (sym s)
-names-are tasks.Dump (a ∷ b ∷ names) script e f g = absurd (omega (arith, e))
-
-keys-same : (task : Task) (a b : Option Text) → a ≡ b → KeysAre task a → KeysAre task b
-keys-same task a b e h = subst (KeysAre task) e h
-
--- what a flag says of the text that was found
-abbrev FlagSays : Bool → Option Text → Type 0
-FlagSays flag found = (found ≡ Some (codes "true") → flag ≡ true) × (found ≡ Some (codes "false") → flag ≡ false)
-
-flag-is : (flag goes : Bool) (found : Option Text) → FlagSays flag found → found ≡ Some (cond goes (codes "true") (codes "false")) → goes ≡ flag
-flag-is flag true found h e = sym (h.0 e)
-flag-is flag false found h e = sym (h.1 e)
-
--- A command of the values that were found is that of the words.
-pub is-of-words : (words : List Text) (found : Found) (c : Asked) → HasVerb words (verb_of c.task) → ((d : Command) → IsCommand words d → HasValues found d)
-    → Some c.script.now ≡ first_value found (codes "script") → KeysAre c.task (first_value found (codes "keys")) → FlagSays c.keep_going (one_text found (codes "keep-going")) → IsCommand words (plain c)
-is-of-words words found c has values script_is keys_are flag =
-    let d = has.0 in
-    let v = values d has.1 in
-    let count : length d.names ≡ name_count (verb_of c.task) = has.1.each_name ∙ ap name_count has.2 in
-    let names : d.names ≡ c.script.now ∷ other_names c.task = names-are c.task d.names c.script.now count (script_is ∙ v.script) (keys-same c.task _ _ v.keys keys_are) in
-    let goes : d.keep_going ≡ c.keep_going = flag-is c.keep_going d.keep_going _ flag v.keep_going in
-    subst (λ (x : Command). IsCommand words x)
-    (ap (λ x. record { verb = x; names = d.names; keep_going = d.keep_going }) has.2 ∙ ap (λ x. record { verb = verb_of c.task; names = x; keep_going = d.keep_going }) names
-    ∙ ap (λ x. record { verb = verb_of c.task; names = c.script.now ∷ other_names c.task; keep_going = x }) goes) has.1
-
--- A command has a script, and a run has a key file.
-pub has-script : (words : List Text) (found : Found) (verb : Verb) → HasVerb words verb → ((d : Command) → IsCommand words d → HasValues found d) → None ≡ first_value found (codes "script") → ⊥
-has-script words found verb has values e = none has.0.verb has.0.names has.1.each_name (e ∙ (values has.0 has.1).script) where
-  none : (v : Verb) (names : List Text) → length names ≡ name_count v → None ≡ slice_get names 0 → ⊥
-  none Run [] e f = omega (arith, e)
-  none Lists [] e f = omega (arith, e)
-  none Dump [] e f = omega (arith, e)
-  none v (a ∷ names) e f = cc f
-
-pub run-has-keys : (words : List Text) (found : Found) → HasVerb words Run → ((d : Command) → IsCommand words d → HasValues found d) → None ≡ first_value found (codes "keys") → ⊥
-run-has-keys words found has values e = none has.0.names (has.1.each_name ∙ ap name_count has.2) (e ∙ (values has.0 has.1).keys) where
-  none : (names : List Text) → length names ≡ 2 → None ≡ slice_get names 1 → ⊥
-  none [] e f = omega (arith, e)
-  none (a ∷ []) e f = omega (arith, e)
-  none (a ∷ b ∷ names) e f = cc f

@@ -1,5 +1,5 @@
 -- What a call wrote, by its status.
-use Rattle.std.proofs.Common.{◌≤◌, Bool, ◌≡◌, ◌≢◌, refl, sym, ◌∙◌, ap, subst, ℕ, List, [], ◌∷◌, Option, Some, None, inl, inr, arith, append-nil}
+use Rattle.std.proofs.Common.{◌≤◌, Bool, false, ◌≡◌, ◌≢◌, refl, sym, ◌∙◌, ap, subst, ℕ, List, [], ◌∷◌, Option, Some, None, inl, inr, arith, append-nil}
 use Rattle.std.specs.Prelude.{◌⊎◌}
 use Rattle.std.specs.Io.KnownBytes.{Appends, Keeps}
 use Rattle.pip_base.specs.Causes.{Rose}
@@ -14,13 +14,13 @@ use Rattle.key_file.proofs.KeysLaws.{keys_single}
 use Rattle.script_run.specs.Listings.{listing_text, tables_text}
 use Rattle.pipapo_cli.specs.declared.fault.Fault.{Fault}
 use Rattle.pipapo_cli.specs.declared.fault.Fault.TheVariants.{Usage, BadScript, BadKeys, ReadFault, TooLarge, Memory}
-use Rattle.pipapo_cli.specs.Words.{a_run, a_list, a_dump}
+use Rattle.pipapo_cli.specs.Words.{run, list, dump}
 use Rattle.pipapo_cli.specs.Transcript.{IsTranscript, IsTextOf}
-use Rattle.pipapo_cli.specs.Causes.{IsCause, no_command, of_script, of_keys, IsScriptCause, IsKeysCause}
+use Rattle.pipapo_cli.specs.Causes.{IsCause, no_command, of_script, of_keys, of_drill, IsScriptCause, IsKeysCause}
 use Rattle.pipapo_cli.specs.Lines.{done_status, status_of}
-use Rattle.pipapo_cli.specs.Answers.{Ends, written, cut, memory, IsDue, output, refusal, IsExactly, IsDone, HasOutput, TellsReadFault, TellsBadScript, TellsBadKeys}
+use Rattle.pipapo_cli.specs.Answers.{Ends, written, cut, memory, IsDue, output, refusal, IsExactly, IsDone, HasOutput, TellsReadFault, TellsBadScript, TellsBadKeys, DeliversDrill}
 use Rattle.pipapo_cli.specs.Exactly.{IsStatus, HasScript, HasKeys, Completes, Delivers, DeliversRun, RanOut}
-use Rattle.pipapo_cli.proofs.Endings.{done-small, does}
+use Rattle.pipapo_cli.proofs.Endings.{done-small, does, drilled}
 use Rattle.pipapo_cli.proofs.Exact.{exact}
 
 -- a fault has another status than an output
@@ -53,7 +53,7 @@ module _ (words : List (List ℕ)) (told : List ℕ → Option (List ℕ)) (aske
   due-fault status text (refusal (BadKeys at reason) cause) e line = absurd (omega (arith, e))
   due-fault status text (refusal (ReadFault name) (of_script f c script is_c is_s cause)) e line =
       record { front = []; name = name.now; last = cause.0 ∙ ap (λ (n : List ℕ). n ∷ []) (sym cause.1); rose = cause.2; line = line }
-  due-fault status text (refusal (ReadFault name) (of_keys f script keys g is_run readable cause)) e line =
+  due-fault status text (refusal (ReadFault name) (of_keys f script keys n g is_run readable cause)) e line =
       record { front = script ∷ []; name = name.now; last = cause.0 ∙ ap (λ (n : List ℕ). script ∷ n ∷ []) (sym cause.1); rose = cause.2; line = line }
   due-fault status text (refusal (TooLarge name) cause) e line = absurd (omega (arith, e))
   due-fault status text (refusal Memory cause) e line = absurd (omega (arith, e))
@@ -69,7 +69,7 @@ module _ (words : List (List ℕ)) (told : List ℕ → Option (List ℕ)) (aske
   due-script status text (refusal Usage cause) e line = absurd (omega (arith, e))
   due-script status text (refusal (BadScript at reason) (of_script f c script is_c is_s cause)) e line =
       record { command = c; script = script; line = at; reason = reason; is_command = is_c; is_script = is_s; is_bad = cause.2; written = line }
-  due-script status text (refusal (BadScript at reason) (of_keys f script keys g is_run readable cause)) e line = absurd cause
+  due-script status text (refusal (BadScript at reason) (of_keys f script keys n g is_run readable cause)) e line = absurd cause
   due-script status text (refusal (BadKeys at reason) cause) e line = absurd (omega (arith, e))
   due-script status text (refusal (ReadFault name) cause) e line = absurd (omega (arith, e))
   due-script status text (refusal (TooLarge name) cause) e line = absurd (omega (arith, e))
@@ -85,8 +85,8 @@ module _ (words : List (List ℕ)) (told : List ℕ → Option (List ℕ)) (aske
   due-keys status text (refusal Usage cause) e line = absurd (omega (arith, e))
   due-keys status text (refusal (BadScript at reason) cause) e line = absurd (omega (arith, e))
   due-keys status text (refusal (BadKeys at reason) (of_script f c script is_c is_s cause)) e line = absurd cause
-  due-keys status text (refusal (BadKeys at reason) (of_keys f script keys g is_run readable cause)) e line =
-      record { script = script; keys = keys; keep_going = g; line = at; reason = reason; is_run = is_run; is_bad = cause.2; written = line }
+  due-keys status text (refusal (BadKeys at reason) (of_keys f script keys n g is_run readable cause)) e line =
+      record { script = script; keys = keys; threads = n; keep_going = g; line = at; reason = reason; is_run = is_run; is_bad = cause.2; written = line }
   due-keys status text (refusal (ReadFault name) cause) e line = absurd (omega (arith, e))
   due-keys status text (refusal (TooLarge name) cause) e line = absurd (omega (arith, e))
   due-keys status text (refusal Memory cause) e line = absurd (omega (arith, e))
@@ -116,7 +116,8 @@ module _ (words : List (List ℕ)) (told : List ℕ → Option (List ℕ)) (aske
   fault-moved : (fault : Fault) → IsCause words told asked before now fault → now ≢ before → status_of fault ≡ 5
   fault-moved fault (no_command none names same) moved = absurd (moved same)
   fault-moved fault (of_script f c script is_c is_s cause) moved = script-moved f script cause moved
-  fault-moved fault (of_keys f script keys g is_run readable cause) moved = keys-moved f script keys cause moved
+  fault-moved fault (of_keys f script keys n g is_run readable cause) moved = keys-moved f script keys cause moved
+  fault-moved fault (of_drill seed count n is_drill names same) moved = absurd (moved same)
 
   due-moved : (status : ℕ) (text : List ℕ) → IsDue words told asked before now status text → now ≢ before → status ≡ 5
   due-moved status text (output refused t has) moved = absurd (moved has.quiet)
@@ -138,13 +139,13 @@ kept-by-nothing (Some xs) None h = absurd h
 kept-by-nothing (Some xs) (Some ys) h = h ∙ append-nil xs
 
 -- the transcript of the script and the key file that the texts stand for
-same-files : (mode : Mode) (told : List ℕ → Option (List ℕ)) (script keys_name : List ℕ) (s : Script) (keys : List (List Packet)) (hs : HasScript told script s) (hk : HasKeys told keys_name s keys) (refused : Bool) (out : List ℕ) (taken_before taken_now : Option (List ℕ))
-    → IsTranscript hs.text hk.text 1 mode refused out → Appends taken_before taken_now out → DeliversRun mode s keys taken_before taken_now (done_status refused)
-same-files mode told script keys_name s keys hs hk refused out taken_before taken_now t appends =
+same-files : (n : ℕ) (mode : Mode) (told : List ℕ → Option (List ℕ)) (script keys_name : List ℕ) (s : Script) (keys : List (List Packet)) (hs : HasScript told script s) (hk : HasKeys told keys_name s keys) (refused : Bool) (out : List ℕ) (taken_before taken_now : Option (List ℕ))
+    → IsTranscript hs.text hk.text n mode refused out → Appends taken_before taken_now out → DeliversRun n mode s keys taken_before taken_now (done_status refused)
+same-files n mode told script keys_name s keys hs hk refused out taken_before taken_now t appends =
     let one : t.script ≡ s = script_single hs.text t.script s t.script_is hs.is_script in
     let their_keys : IsKeysText s.schema hk.text t.keys = subst (λ (x : Script). IsKeysText x.schema hk.text t.keys) one t.keys_are in
     let other : t.keys ≡ keys = keys_single s.schema hk.text t.keys keys their_keys hk.are_keys in
-    let is_legal : Legal s keys 1 mode t.lines = subst (λ (k : List (List Packet)). Legal s k 1 mode t.lines) other (subst (λ (x : Script). Legal x t.keys 1 mode t.lines) one t.legal) in
+    let is_legal : Legal s keys n mode t.lines = subst (λ (k : List (List Packet)). Legal s k n mode t.lines) other (subst (λ (x : Script). Legal x t.keys n mode t.lines) one t.legal) in
     let is_text : out ≡ transcript_text mode s keys t.lines = t.text ∙ ap (λ (x : Script). transcript_text mode x t.keys t.lines) one ∙ ap (λ (k : List (List Packet)). transcript_text mode s k t.lines) other in
     record { lines = t.lines; legal = is_legal; delivers = record { written = subst (λ (o : List ℕ). Appends taken_before taken_now o) is_text appends; status = ap done_status (t.refusal ∙ ap (has_refusal mode) one) } }
 
@@ -182,19 +183,23 @@ pub completes : (words : List (List ℕ)) (told : List ℕ → Option (List ℕ)
 completes words told asked before now taken_before taken_now b n result ends quiet sink_quiet =
     let statuses = exact words told asked before now taken_before taken_now b n result ends quiet sink_quiet in
     record {
-      run = λ script keys g s packets is_run hs hk.
-          ends-done words told asked before now taken_before taken_now (has_refusal (mode_of g) s) (λ (r : ℕ). DeliversRun (mode_of g) s packets taken_before taken_now r)
-          (λ refused out has appends. same-files (mode_of g) told script keys s packets hs hk refused out taken_before taken_now
-          (does words told asked before now (a_run script keys g) refused out is_run has script keys hs.text hk.text refl hs.is_told hk.is_told) appends)
-          b n result ends (statuses.done_run script keys g s packets is_run hs hk) sink_quiet;
+      run = λ script keys m g s packets is_run hs hk.
+          ends-done words told asked before now taken_before taken_now (has_refusal (mode_of g) s) (λ (r : ℕ). DeliversRun m (mode_of g) s packets taken_before taken_now r)
+          (λ refused out has appends. same-files m (mode_of g) told script keys s packets hs hk refused out taken_before taken_now
+          (does words told asked before now (run script keys m g) refused out is_run has hs.text hk.text hs.is_told hk.is_told) appends)
+          b n result ends (statuses.done_run script keys m g s packets is_run hs hk) sink_quiet;
       list = λ script g s is_list hs.
           ends-done words told asked before now taken_before taken_now (has_refusal (mode_of g) s) (λ (r : ℕ). Delivers (mode_of g) s (listing_text (mode_of g) s) taken_before taken_now r)
           (λ refused out has appends. same-script listing_text (mode_of g) told script s hs refused out taken_before taken_now
-          (does words told asked before now (a_list script g) refused out is_list has script hs.text refl hs.is_told) appends)
-          b n result ends (statuses.done_alone (a_list script g) script s is_list refl hs) sink_quiet;
+          (does words told asked before now (list script g) refused out is_list has hs.text hs.is_told) appends)
+          b n result ends (statuses.done_list script g s is_list hs) sink_quiet;
       dump = λ script g s is_dump hs.
           ends-done words told asked before now taken_before taken_now (has_refusal (mode_of g) s) (λ (r : ℕ). Delivers (mode_of g) s (tables_text (mode_of g) s) taken_before taken_now r)
           (λ refused out has appends. same-script tables_text (mode_of g) told script s hs refused out taken_before taken_now
-          (does words told asked before now (a_dump script g) refused out is_dump has script hs.text refl hs.is_told) appends)
-          b n result ends (statuses.done_alone (a_dump script g) script s is_dump refl hs) sink_quiet;
+          (does words told asked before now (dump script g) refused out is_dump has hs.text hs.is_told) appends)
+          b n result ends (statuses.done_dump script g s is_dump hs) sink_quiet;
+      drill = λ seed count threads is_drill.
+          ends-done words told asked before now taken_before taken_now false (λ (r : ℕ). DeliversDrill seed count taken_before taken_now r)
+          (λ refused out has appends. drilled words told asked before now taken_before taken_now seed count threads refused out is_drill has appends)
+          b n result ends (statuses.done_drill seed count threads is_drill) sink_quiet;
     }

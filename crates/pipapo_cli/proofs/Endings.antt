@@ -1,5 +1,5 @@
 -- How a call ends, and what follows of its status.
-use Rattle.std.proofs.Common.{Bool, true, false, refl, ◌≤◌, ◌≡◌, ◌∙◌, ap, subst, ℕ, List, [], ◌∷◌, ◌++◌, length, slice_get, Option, Some, inl, inr, arith}
+use Rattle.std.proofs.Common.{Bool, true, false, refl, sym, ◌≤◌, ◌≡◌, ◌∙◌, ap, subst, ℕ, List, [], ◌∷◌, ◌++◌, length, slice_get, Option, Some, inl, inr, arith}
 use Rattle.std.specs.Io.KnownBytes.{Appends}
 use Rattle.token_forms.specs.declared.token.Reason.{Reason}
 use Rattle.token_forms.specs.TextTokens.{text_tokens}
@@ -14,13 +14,11 @@ use Rattle.key_file.specs.Keys.{key_file}
 use Rattle.key_file.specs.KeysText.{IsKeysText}
 use Rattle.pipapo_cli.specs.declared.fault.Fault.{Fault}
 use Rattle.pipapo_cli.specs.declared.fault.Fault.TheVariants.{Usage, BadScript, BadKeys, ReadFault, TooLarge, Memory}
-use Rattle.pipapo_cli.specs.declared.words.Verb.{Verb}
-use Rattle.pipapo_cli.specs.declared.words.Verb.TheVariants as verbs
-use Rattle.pipapo_cli.specs.Words.{Command, IsCommand, IsRun, IsScriptOf, name_count, a_run, a_list, a_dump}
+use Rattle.pipapo_cli.specs.Words.{Command, run, list, dump, drill, IsCommand, IsRun, IsDrill, IsScriptOf, file_names}
 use Rattle.pipapo_cli.specs.Transcript.{IsOutput, IsTranscript, IsListing, IsTables}
 use Rattle.pipapo_cli.specs.Causes.{IsCause, IsKeysCause}
 use Rattle.pipapo_cli.specs.Lines.{done_status, status_of, line_of}
-use Rattle.pipapo_cli.specs.Answers.{Ends, written, cut, memory, IsDue, output, refusal, IsExactly, HasOutput, IsDone, Writes, Transcribes, Lists, Dumps}
+use Rattle.pipapo_cli.specs.Answers.{Ends, written, cut, memory, IsDue, output, refusal, IsExactly, HasOutput, IsDone, Writes, Transcribes, Lists, Dumps, Drills, DeliversDrill}
 use Rattle.pipapo_cli.proofs.CommandWords.{one-command}
 
 -- the status of an output is 0 or 1
@@ -41,27 +39,17 @@ pub no-keys : (schema : List SetDecl) (text : List ℕ) (line : ℕ) (reason : R
 unfolding IsKeysText
 no-keys schema text line reason h keys w = h.outside keys w
 
--- the script of a command
-pub the-script : (words : List (List ℕ)) (c : Command) → IsCommand words c → (script : List ℕ) × IsScriptOf c script
-the-script words c h = go c.verb c.names h.each_name where
-  go : (v : Verb) (names : List (List ℕ)) → length names ≡ name_count v → (script : List ℕ) × (slice_get names 0 ≡ Some script)
-  go verbs.Run [] e = absurd (omega (arith, e))
-  go verbs.List [] e = absurd (omega (arith, e))
-  go verbs.Dump [] e = absurd (omega (arith, e))
-  go v (name ∷ names) e = (name, refl)
-
 module _ (words : List (List ℕ)) where
   -- The words are of one script, and of one run.
   pub one-script : (c d : Command) (a b : List ℕ) → IsCommand words c → IsScriptOf c a → IsCommand words d → IsScriptOf d b → a ≡ b
   one-script c d a b h is_a k is_b =
-      let same : slice_get c.names 0 ≡ slice_get d.names 0 = ap (λ (x : Command). slice_get x.names 0) (one-command words c d h k) in
+      let same : slice_get (file_names c) 0 ≡ slice_get (file_names d) 0 = ap (λ (x : Command). slice_get (file_names x) 0) (one-command words c d h k) in
       cc (is_a, is_b, same)
 
-  pub one-run : (a b s t : List ℕ) (g k : Bool) → IsRun words a b g → IsRun words s t k → (a ≡ s) × (b ≡ t) × (g ≡ k)
-  one-run a b s t g k h j =
-      let same : a_run a b g ≡ a_run s t k = one-command words (a_run a b g) (a_run s t k) h j in
-      let names : a ∷ b ∷ [] ≡ s ∷ t ∷ [] = ap (λ (x : Command). x.names) same in
-      (cc names, cc names, ap (λ (x : Command). x.keep_going) same)
+  pub one-run : (a b s t : List ℕ) (m n : ℕ) (g k : Bool) → IsRun words a b m g → IsRun words s t n k → (a ≡ s) × (b ≡ t)
+  one-run a b s t m n g k h j =
+      let same : a ∷ b ∷ [] ≡ s ∷ t ∷ [] = ap file_names (one-command words (run a b m g) (run s t n k) h j) in
+      (cc same, cc same)
 
 -- what a command of these words does
 pub does : (words : List (List ℕ)) (told : List ℕ → Option (List ℕ)) (asked : List (List ℕ)) (before now : ℕ) (c : Command) (refused : Bool) (text : List ℕ) → IsCommand words c
@@ -98,19 +86,31 @@ module _ (words : List (List ℕ)) (told : List ℕ → Option (List ℕ)) (aske
 
   -- The headline, and the same of a listing and of a dump.
   pub transcribes : (b n result : ℕ) → Ends (IsDue words told asked before now) taken_before taken_now b n result → IsDone result → Transcribes words told taken_before taken_now result
-  transcribes b n result ends e script keys script_text keys_text keep_going is_run at at_keys =
+  transcribes b n result ends e script keys script_text keys_text threads keep_going is_run at at_keys =
       let w = wrote b n result ends e in
-      writes result (IsTranscript script_text keys_text 1 (mode_of keep_going)) w (does words told asked before now (a_run script keys keep_going) w.refused w.text is_run w.has script keys script_text keys_text refl at at_keys)
+      writes result (IsTranscript script_text keys_text threads (mode_of keep_going)) w (does words told asked before now (run script keys threads keep_going) w.refused w.text is_run w.has script_text keys_text at at_keys)
 
   pub lists : (b n result : ℕ) → Ends (IsDue words told asked before now) taken_before taken_now b n result → IsDone result → Lists words told taken_before taken_now result
   lists b n result ends e script script_text keep_going is_list at =
       let w = wrote b n result ends e in
-      writes result (IsListing script_text (mode_of keep_going)) w (does words told asked before now (a_list script keep_going) w.refused w.text is_list w.has script script_text refl at)
+      writes result (IsListing script_text (mode_of keep_going)) w (does words told asked before now (list script keep_going) w.refused w.text is_list w.has script_text at)
 
   pub dumps : (b n result : ℕ) → Ends (IsDue words told asked before now) taken_before taken_now b n result → IsDone result → Dumps words told taken_before taken_now result
   dumps b n result ends e script script_text keep_going is_dump at =
       let w = wrote b n result ends e in
-      writes result (IsTables script_text (mode_of keep_going)) w (does words told asked before now (a_dump script keep_going) w.refused w.text is_dump w.has script script_text refl at)
+      writes result (IsTables script_text (mode_of keep_going)) w (does words told asked before now (dump script keep_going) w.refused w.text is_dump w.has script_text at)
+
+  -- A drill's line is written, with 0.
+  pub drilled : (seed count threads : ℕ) (refused : Bool) (out : List ℕ) → IsDrill words seed count threads → HasOutput words told asked before now refused out → Appends taken_before taken_now out
+      → DeliversDrill seed count taken_before taken_now (done_status refused)
+  drilled seed count threads refused out is_drill has appends =
+      let d = does words told asked before now (drill seed count threads) refused out is_drill has in
+      record { written = subst (λ (o : List ℕ). Appends taken_before taken_now o) d.1 appends; status = ap done_status d.0 }
+
+  pub drills : (b n result : ℕ) → Ends (IsDue words told asked before now) taken_before taken_now b n result → IsDone result → Drills words taken_before taken_now result
+  drills b n result ends e seed count threads is_drill =
+      let w = wrote b n result ends e in
+      subst (λ (r : ℕ). DeliversDrill seed count taken_before taken_now r) (sym w.status) (drilled seed count threads w.refused w.text is_drill w.has w.appends)
 
 -- what is due of a fault with its cause
 pub due-refusal : (words : List (List ℕ)) (told : List ℕ → Option (List ℕ)) (asked : List (List ℕ)) (before now : ℕ) (fault : Fault) → IsCause words told asked before now fault

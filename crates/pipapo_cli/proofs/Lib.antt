@@ -1,5 +1,6 @@
 pub mod CommandWords
 pub mod ClapValues
+pub mod WordValues
 mod Deliveries
 pub mod Endings
 mod Exact

@@ -5,8 +5,9 @@ use Rattle.token_forms.specs.declared.token.Reason.{Reason}
 use Rattle.pip_base.specs.Causes.{Rose}
 use Rattle.pip_base.specs.Whole.{AppendsFront}
 use Rattle.set_model.specs.Control.{mode_of}
+use Rattle.script_run.specs.Drill.{drill_text}
 use Rattle.pipapo_cli.specs.declared.fault.Fault.{Fault}
-use Rattle.pipapo_cli.specs.Words.{Command, IsCommand, IsRun, IsList, IsDump, IsScriptOf, file_names}
+use Rattle.pipapo_cli.specs.Words.{Command, IsCommand, IsRun, IsList, IsDump, IsDrill, IsScriptOf, file_names}
 use Rattle.pipapo_cli.specs.Transcript.{IsOutput, IsTranscript, IsListing, IsTables}
 use Rattle.pipapo_cli.specs.Causes.{IsCause, IsReadable, IsSized, IsBadScript, IsBadKeys}
 use Rattle.pipapo_cli.specs.Lines.{done_status, status_of, line_of, read_fault_line, script_line, keys_line}
@@ -55,12 +56,12 @@ Writes IsText before after result =
     → (refused : Bool) × (output : List ℕ) × (result ≡ done_status refused) × (taken_now ≡ taken_before ++ output) × IsText refused output
 
 -- The headline, of a call that ended with status 0 or 1: where the words are a run and the shelf tells the bytes under both
--- names, what the sink took in this call is the text of a legal transcript of the script and the key file, with one thread. The
--- status is 1 exactly where a change is refused.
+-- names, what the sink took in this call is the text of a legal transcript of the script and the key file, with as many packet
+-- threads as the words say. The status is 1 exactly where a change is refused.
 abbrev pub Transcribes : List (List ℕ) → (List ℕ → Option (List ℕ)) → Option (List ℕ) → Option (List ℕ) → ℕ → Type 0
 Transcribes words told before after result =
-    (script keys script_text keys_text : List ℕ) (keep_going : Bool) → IsRun words script keys keep_going → told script ≡ Some script_text → told keys ≡ Some keys_text
-    → Writes (IsTranscript script_text keys_text 1 (mode_of keep_going)) before after result
+    (script keys script_text keys_text : List ℕ) (threads : ℕ) (keep_going : Bool) → IsRun words script keys threads keep_going → told script ≡ Some script_text → told keys ≡ Some keys_text
+    → Writes (IsTranscript script_text keys_text threads (mode_of keep_going)) before after result
 
 -- The same of a listing: what the sink took in this call is the listing of the script, behind what its control told.
 abbrev pub Lists : List (List ℕ) → (List ℕ → Option (List ℕ)) → Option (List ℕ) → Option (List ℕ) → ℕ → Type 0
@@ -71,6 +72,15 @@ Lists words told before after result =
 abbrev pub Dumps : List (List ℕ) → (List ℕ → Option (List ℕ)) → Option (List ℕ) → Option (List ℕ) → ℕ → Type 0
 Dumps words told before after result =
     (script script_text : List ℕ) (keep_going : Bool) → IsDump words script keep_going → told script ≡ Some script_text → Writes (IsTables script_text (mode_of keep_going)) before after result
+
+-- A drill's line was written, and its status is 0.
+pub record DeliversDrill (seed count : ℕ) (taken_before taken_now : Option (List ℕ)) (result : ℕ) : Type 0 where
+  pub written : Appends taken_before taken_now (drill_text seed count)
+  pub status : result ≡ 0
+
+-- The same of a drill, with any number of packet threads: what the sink took is the drill's line, and the status is 0.
+abbrev pub Drills : List (List ℕ) → Option (List ℕ) → Option (List ℕ) → ℕ → Type 0
+Drills words before after result = (seed count threads : ℕ) → IsDrill words seed count threads → DeliversDrill seed count before after result
 
 -- A read fault was told: the line names the last name that was asked for, and the shelf's count rose.
 pub record TellsReadFault (asked : List (List ℕ)) (before now : ℕ) (taken_before taken_now : Option (List ℕ)) : Type 0 where
@@ -95,9 +105,10 @@ pub record TellsBadScript (words : List (List ℕ)) (told : List ℕ → Option 
 pub record TellsBadKeys (words : List (List ℕ)) (told : List ℕ → Option (List ℕ)) (taken_before taken_now : Option (List ℕ)) : Type 0 where
   pub script : List ℕ
   pub keys : List ℕ
+  pub threads : ℕ
   pub keep_going : Bool
   pub line : ℕ
   pub reason : Reason
-  pub is_run : IsRun words script keys keep_going
+  pub is_run : IsRun words script keys threads keep_going
   pub is_bad : IsBadKeys script keys told line reason
   pub written : Appends taken_before taken_now (keys_line line reason)

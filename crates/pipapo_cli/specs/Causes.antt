@@ -12,7 +12,7 @@ use Rattle.pip_base.specs.Causes.{Rose}
 use Rattle.pip_base.specs.Picks.{AsksOnce}
 use Rattle.pipapo_cli.specs.declared.fault.Fault.{Fault}
 use Rattle.pipapo_cli.specs.declared.fault.Fault.TheVariants.{Usage, BadScript, BadKeys, ReadFault, TooLarge, Memory}
-use Rattle.pipapo_cli.specs.Words.{Command, IsCommand, IsNoCommand, IsRun, IsScriptOf}
+use Rattle.pipapo_cli.specs.Words.{Command, IsCommand, IsNoCommand, IsRun, IsDrill, IsScriptOf}
 
 -- the most bytes that an input file may have
 abbrev pub size_limit : ℕ
@@ -64,8 +64,9 @@ IsKeysCause script keys told asked before now (TooLarge name) = (asked ≡ scrip
 IsKeysCause script keys told asked before now Memory = AsksOnce (script ∷ []) asked keys × (now ≡ before)
 
 -- A fault has its cause: the words are no command, and nothing was asked for; or it comes of the command's script; or of a run's
--- key file, behind a readable script.
+-- key file, behind a readable script; or memory was wanting for a drill, which asks for nothing.
 pub data IsCause (words : List (List ℕ)) (told : List ℕ → Option (List ℕ)) (asked : List (List ℕ)) (before now : ℕ) : Fault → Type 0 where
   no_command : IsNoCommand words → asked ≡ [] → now ≡ before → IsCause words told asked before now Usage
   of_script : (fault : Fault) (c : Command) (script : List ℕ) → IsCommand words c → IsScriptOf c script → IsScriptCause script told asked before now fault → IsCause words told asked before now fault
-  of_keys : (fault : Fault) (script keys : List ℕ) (keep_going : Bool) → IsRun words script keys keep_going → IsReadable script told → IsKeysCause script keys told asked before now fault → IsCause words told asked before now fault
+  of_keys : (fault : Fault) (script keys : List ℕ) (threads : ℕ) (keep_going : Bool) → IsRun words script keys threads keep_going → IsReadable script told → IsKeysCause script keys told asked before now fault → IsCause words told asked before now fault
+  of_drill : (seed count threads : ℕ) → IsDrill words seed count threads → asked ≡ [] → now ≡ before → IsCause words told asked before now Memory

@@ -25,7 +25,7 @@ pub record AreReadWhole (old new : ℕ → Type 0) (left : ℕ → Option (List 
 pub record AsksInOrder (words : List (List ℕ)) (told : List ℕ → Option (List ℕ)) (asked : List (List ℕ)) (old new : ℕ → Type 0) (left : ℕ → Option (List ℕ)) : Type 0 where
   pub no_command : IsNoCommand words → asked ≡ []
   pub in_order : (c : Command) → IsCommand words c → IsFront asked (file_names c)
-  pub script_first : (script keys : List ℕ) (keep_going : Bool) → IsRun words script keys keep_going → asked ≡ script ∷ keys ∷ [] → IsReadable script told × AreReadWhole old new left 1
+  pub script_first : (script keys : List ℕ) (threads : ℕ) (keep_going : Bool) → IsRun words script keys threads keep_going → asked ≡ script ∷ keys ∷ [] → IsReadable script told × AreReadWhole old new left 1
 
 -- All files of the command were asked for, and read to their ends.
 abbrev pub AsksForAll : List (List ℕ) → List (List ℕ) → (ℕ → Type 0) → (ℕ → Type 0) → (ℕ → Option (List ℕ)) → Type 0

@@ -1,5 +1,5 @@
--- What a command writes: the transcript of a run, the listing of a script, the tables of a script.
-use Rattle.std.specs.Prelude.{◌≡◌, ℕ, Bool, List, [], ◌∷◌, Option, Some}
+-- What a command writes: the transcript of a run, the listing of a script, the tables of a script, a drill's summary.
+use Rattle.std.specs.Prelude.{◌≡◌, ℕ, Bool, false, List, Option, Some}
 use Rattle.set_model.specs.declared.script.Script.{Script}
 use Rattle.set_model.specs.declared.packet.Packet.{Packet}
 use Rattle.set_model.specs.declared.report.Line.{Line}
@@ -9,12 +9,11 @@ use Rattle.set_model.specs.Text.{transcript_text}
 use Rattle.set_script.specs.ScriptText.{IsScriptText}
 use Rattle.key_file.specs.KeysText.{IsKeysText}
 use Rattle.script_run.specs.Listings.{listing_text, tables_text}
-use Rattle.pipapo_cli.specs.declared.words.Verb.{Verb}
-use Rattle.pipapo_cli.specs.declared.words.Verb.TheVariants as verbs
-use Rattle.pipapo_cli.specs.Words.{Command, file_names, IsScriptOf}
+use Rattle.script_run.specs.Drill.{drill_text}
+use Rattle.pipapo_cli.specs.Words.{Command, run, list, dump, drill}
 
--- The output is the text of a legal transcript of the script and the key file that the texts stand for. It tells a refusal
--- exactly where a change of the script is refused.
+-- The output is the text of a legal transcript, with so many threads, of the script and the key file that the texts stand for. It
+-- tells a refusal exactly where a change of the script is refused.
 pub record IsTranscript (script_text keys_text : List ℕ) (threads : ℕ) (mode : Mode) (refused : Bool) (output : List ℕ) : Type 0 where
   pub script : Script
   pub keys : List (List Packet)
@@ -40,12 +39,9 @@ IsListing = IsTextOf listing_text
 abbrev pub IsTables : List ℕ → Mode → Bool → List ℕ → Type 0
 IsTables = IsTextOf tables_text
 
--- what a command does, by the bytes that are told under its files' names
-abbrev pub Does : Verb → Command → (List ℕ → Option (List ℕ)) → Bool → List ℕ → Type 0
-Does verbs.Run c told refused output = (script keys script_text keys_text : List ℕ) → file_names c ≡ script ∷ keys ∷ [] → told script ≡ Some script_text → told keys ≡ Some keys_text → IsTranscript script_text keys_text 1 (mode_of c.keep_going) refused output
-Does verbs.List c told refused output = (script script_text : List ℕ) → IsScriptOf c script → told script ≡ Some script_text → IsListing script_text (mode_of c.keep_going) refused output
-Does verbs.Dump c told refused output = (script script_text : List ℕ) → IsScriptOf c script → told script ≡ Some script_text → IsTables script_text (mode_of c.keep_going) refused output
-
--- The output of a command, and whether it tells a refusal.
+-- What a command writes, by the bytes that are told under its files' names, and whether that tells a refusal.
 abbrev pub IsOutput : Command → (List ℕ → Option (List ℕ)) → Bool → List ℕ → Type 0
-IsOutput c told refused output = Does c.verb c told refused output
+IsOutput (run script keys threads keep_going) told refused output = (script_text keys_text : List ℕ) → told script ≡ Some script_text → told keys ≡ Some keys_text → IsTranscript script_text keys_text threads (mode_of keep_going) refused output
+IsOutput (list script keep_going) told refused output = (script_text : List ℕ) → told script ≡ Some script_text → IsListing script_text (mode_of keep_going) refused output
+IsOutput (dump script keep_going) told refused output = (script_text : List ℕ) → told script ≡ Some script_text → IsTables script_text (mode_of keep_going) refused output
+IsOutput (drill seed count threads) told refused output = (refused ≡ false) × (output ≡ drill_text seed count)

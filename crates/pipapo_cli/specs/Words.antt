@@ -1,74 +1,87 @@
 -- The words of a command.
-use Rattle.std.specs.Prelude.{◌≡◌, ℕ, Bool, false, ◌==◌, not, List, [], ◌∷◌, filter, length, if◌then◌else◌, codes, Some, slice_get}
-use Rattle.pipapo_cli.specs.declared.words.Verb.{Verb}
-use Rattle.pipapo_cli.specs.declared.words.Verb.TheVariants as verbs
+use Rattle.std.specs.Prelude.{◌≡◌, ◌<◌, ◌≤◌, ◌^◌, ℕ, Bool, true, false, ◌==◌, not, List, [], ◌∷◌, codes, decimal, Option, Some, None, slice_get, IsTrue}
 
 -- A name isn't empty and doesn't begin with a dash.
 abbrev pub is_name : List ℕ → Bool
 is_name [] = false
 is_name (b ∷ bytes) = not (b == 45)
 
--- the word of a command
-abbrev pub verb_word : Verb → List ℕ
-verb_word verbs.Run = codes "run"
-verb_word verbs.List = codes "list"
-verb_word verbs.Dump = codes "dump"
-
--- how many names a command has: a script, and with `run` a key file
-abbrev pub name_count : Verb → ℕ
-name_count verbs.Run = 2
-name_count verbs.List = 1
-name_count verbs.Dump = 1
-
--- A command: what it does, its names in order, and whether it keeps going behind a refused change.
-pub record Command : Type 0 where
-  pub verb : Verb
-  pub names : List (List ℕ)
-  pub keep_going : Bool
+abbrev pub threads_word : List ℕ
+threads_word = codes "--threads"
 
 abbrev pub keep_going_word : List ℕ
 keep_going_word = codes "--keep-going"
 
--- the options of a command
-abbrev pub options : Bool → List (List ℕ)
-options keep_going = if keep_going then keep_going_word ∷ [] else []
+-- What may stand behind a command's word, in any order: names; once at most `--threads` and the word behind it, whatever that is;
+-- once at most `--keep-going`.
+pub data AreArguments : List (List ℕ) → List (List ℕ) → Option (List ℕ) → Bool → Type 0 where
+  no_words : AreArguments [] [] None false
+  name_and : {word : List ℕ} {rest names : List (List ℕ)} {threads : Option (List ℕ)} {keep_going : Bool} → IsTrue (is_name word) → AreArguments rest names threads keep_going
+      → AreArguments (word ∷ rest) (word ∷ names) threads keep_going
+  threads_and : {count : List ℕ} {rest names : List (List ℕ)} {keep_going : Bool} → AreArguments rest names None keep_going → AreArguments (threads_word ∷ count ∷ rest) names (Some count) keep_going
+  mark_and : {rest names : List (List ℕ)} {threads : Option (List ℕ)} → AreArguments rest names threads false → AreArguments (keep_going_word ∷ rest) names threads true
 
--- The words are this command. The first is its word. Of those behind it, in whatever order, the names are its names, as many as
--- it has; all others are its options: `--keep-going` once where it keeps going, and else none.
-pub record IsCommand (words : List (List ℕ)) (c : Command) : Type 0 where
+-- The words are this one and these arguments.
+pub record AreWords (words : List (List ℕ)) (first : List ℕ) (names : List (List ℕ)) (threads : Option (List ℕ)) (keep_going : Bool) : Type 0 where
   pub rest : List (List ℕ)
-  pub words_are : words ≡ verb_word c.verb ∷ rest
-  pub names_are : filter is_name rest ≡ c.names
-  pub each_name : length c.names ≡ name_count c.verb
-  pub options_are : filter (λ word. not (is_name word)) rest ≡ options c.keep_going
+  pub words_are : words ≡ first ∷ rest
+  pub arguments : AreArguments rest names threads keep_going
+
+-- A word writes a number within bounds, in plain digits without a sign or a leading zero.
+abbrev pub IsNumber : ℕ → ℕ → List ℕ → ℕ → Type 0
+IsNumber low high word n = (word ≡ decimal n) × (low ≤ n) × (n ≤ high)
+
+abbrev pub last_seed : ℕ
+last_seed = 18446744073709551615
+
+-- the most elements of a drill
+abbrev pub most_elements : ℕ
+most_elements = 20000
+
+-- how many packet threads there are, 1 to 16; 1 where nothing is said
+abbrev pub AreThreads : Option (List ℕ) → ℕ → Type 0
+AreThreads None n = n ≡ 1
+AreThreads (Some word) n = IsNumber 1 16 word n
+
+-- A command: its files' names, or the numbers of a drill; how many packet threads it has; and whether it keeps going behind a
+-- refused change.
+pub data Command : Type 0 where
+  run : (script keys : List ℕ) (threads : ℕ) (keep_going : Bool) → Command
+  list : (script : List ℕ) (keep_going : Bool) → Command
+  dump : (script : List ℕ) (keep_going : Bool) → Command
+  drill : (seed count threads : ℕ) → Command
+
+-- The words are this command.
+abbrev pub IsCommand : List (List ℕ) → Command → Type 0
+IsCommand words (run script keys n keep_going) = (threads : Option (List ℕ)) × AreWords words (codes "run") (script ∷ keys ∷ []) threads keep_going × AreThreads threads n
+IsCommand words (list script keep_going) = AreWords words (codes "list") (script ∷ []) None keep_going
+IsCommand words (dump script keep_going) = AreWords words (codes "dump") (script ∷ []) None keep_going
+IsCommand words (drill seed count n) = (threads : Option (List ℕ)) × (seed_word : List ℕ) × (count_word : List ℕ)
+    × AreWords words (codes "drill") (seed_word ∷ count_word ∷ []) threads false × IsNumber 0 last_seed seed_word seed × IsNumber 1 most_elements count_word count × AreThreads threads n
 
 -- The words are no command.
 abbrev pub IsNoCommand : List (List ℕ) → Type 0
 IsNoCommand words = (c : Command) → IsCommand words c → ⊥
 
--- the commands by their names
-abbrev pub a_run : List ℕ → List ℕ → Bool → Command
-a_run script keys keep_going = record { verb = verbs.Run; names = script ∷ keys ∷ []; keep_going = keep_going }
-
-abbrev pub a_list : List ℕ → Bool → Command
-a_list script keep_going = record { verb = verbs.List; names = script ∷ []; keep_going = keep_going }
-
-abbrev pub a_dump : List ℕ → Bool → Command
-a_dump script keep_going = record { verb = verbs.Dump; names = script ∷ []; keep_going = keep_going }
-
--- The words are a run of a script beside a key file, a listing of a script, or a dump of its tables, by the files' names.
-abbrev pub IsRun : List (List ℕ) → List ℕ → List ℕ → Bool → Type 0
-IsRun words script keys keep_going = IsCommand words (a_run script keys keep_going)
+-- The words are a run of a script beside a key file, a listing of a script, or a dump of its tables, by the files' names; or a drill.
+abbrev pub IsRun : List (List ℕ) → List ℕ → List ℕ → ℕ → Bool → Type 0
+IsRun words script keys threads keep_going = IsCommand words (run script keys threads keep_going)
 
 abbrev pub IsList : List (List ℕ) → List ℕ → Bool → Type 0
-IsList words script keep_going = IsCommand words (a_list script keep_going)
+IsList words script keep_going = IsCommand words (list script keep_going)
 
 abbrev pub IsDump : List (List ℕ) → List ℕ → Bool → Type 0
-IsDump words script keep_going = IsCommand words (a_dump script keep_going)
+IsDump words script keep_going = IsCommand words (dump script keep_going)
+
+abbrev pub IsDrill : List (List ℕ) → ℕ → ℕ → ℕ → Type 0
+IsDrill words seed count threads = IsCommand words (drill seed count threads)
 
 -- the files that a command reads, by their names, in their order
 abbrev pub file_names : Command → List (List ℕ)
-file_names c = c.names
+file_names (run script keys threads keep_going) = script ∷ keys ∷ []
+file_names (list script keep_going) = script ∷ []
+file_names (dump script keep_going) = script ∷ []
+file_names (drill seed count threads) = []
 
 -- The first file of a command is its script.
 abbrev pub IsScriptOf : Command → List ℕ → Type 0

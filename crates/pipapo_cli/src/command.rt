@@ -1,4 +1,4 @@
-ghost use Rattle.std.specs.Prelude.{◌≡◌, ◌≢◌, ◌⊎◌, ◌++◌, [], ◌∷◌, List, ℕ, length, map, Option, Some, Ok, IfOk, IfErr, OnOk};
+ghost use Rattle.std.specs.Prelude.{◌≡◌, ◌≢◌, ◌<◌, ◌≤◌, ◌⊎◌, ◌++◌, [], ◌∷◌, List, ℕ, length, All, map, Option, Some, Ok, IfOk, IfErr, OnOk};
 ghost use Rattle.std.specs.String.{string_bytes};
 ghost use Rattle.set_model.specs.Runnable.{IsRunnable};
 ghost use Rattle.set_model.specs.Control.{mode_of};
@@ -12,17 +12,20 @@ ghost use Rattle.pipapo_cli.specs.Transcript.{IsTranscript};
 ghost use Rattle.pipapo_cli.specs.Causes.{IsCause, IsKeysCause, IsSized, ReadsAs};
 ghost use Rattle.pipapo_cli.specs.Names.{AsksInOrder, AsksForAll};
 ghost use Rattle.pipapo_cli.specs.Lines.{done_status as status_of_done};
-ghost use Rattle.pipapo_cli.specs.Answers.{HasOutput, Ends, IsDue, IsDone, Transcribes, Lists, Dumps, TellsReadFault, TellsBadScript, TellsBadKeys};
+ghost use Rattle.pipapo_cli.specs.Answers.{HasOutput, Ends, IsDue, IsDone, Transcribes, Lists, Dumps, Drills, TellsReadFault, TellsBadScript, TellsBadKeys};
 ghost use Rattle.pipapo_cli.specs.Exactly.{IsExact, Completes};
 
 use crate::delivery::{deliver, tell};
 use crate::fault::Fault;
 use crate::inputs::{keys_of, script_of};
-use crate::words::{Command, Task, command_of, verb_of};
+use crate::shape::verb_of;
+use crate::words::{Command, Task, command_of};
+use packet_pool::Gate;
 use pip_base::{Shelf, Sink};
-use script_run::{Output, dump, listing, transcript};
+use script_run::{Output, drill, dump, listing, transcript};
 use set_model::{Memory, Script};
 use std::alloc::Global;
+use std::thread::Threads;
 
 /// The command of these words.
 fn asked_for<'a>(alloc: Global, words: &'a [String]) -> Result<Command<'a>, Fault<'a>>
@@ -35,26 +38,30 @@ fn asked_for<'a>(alloc: Global, words: &'a [String]) -> Result<Command<'a>, Faul
     }
 }
 
-/// The transcript of a script beside the key file of a name.
-fn run_beside<'a, F: Shelf>(
+/// The transcript of a script beside the key file of a name, whose packets so many threads look up.
+fn run_beside<'a, R: Threads + Sync, F: Shelf, G: Gate>(
+    rt: &R,
     alloc: Global,
     shelf: &mut F,
-    script: &Script,
+    script: Script,
     keys: &'a str,
+    threads: u32,
     keep_going: bool,
+    gate: &G,
 ) -> Result<Output, Fault<'a>>
     requires second { length (F.asked shelf.old) ≡ 1 }
-    requires runnable { IsRunnable script.now }
+    requires runnable { IsRunnable script }
+    requires threads { (0 < threads) × (threads ≤ 16) }
     ensures sized { OnOk result (IsSized keys.now (F.told shelf.old)) }
-    ensures output { IfOk result (λ out. (text keys_text : List ℕ) → IsScriptText text script.now → F.told shelf.old keys.now ≡ Some keys_text → IsTranscript text keys_text 1 (mode_of keep_going) out.refused out.text.items) }
+    ensures output { IfOk result (λ out. (text keys_text : List ℕ) → IsScriptText text script → F.told shelf.old keys.now ≡ Some keys_text → IsTranscript text keys_text threads (mode_of keep_going) out.refused out.text.items) }
     ensures quiet { OnOk result ((F.asked shelf.new ≡ F.asked shelf.old ++ keys.now ∷ []) × (F.faults shelf.new ≡ F.faults shelf.old)) }
     ensures whole { OnOk result (ReadsToEnd (F.is_picked shelf.old) (F.is_picked shelf.new) (F.left shelf.new)) }
     ensures once { AsksOnce (F.asked shelf.old) (F.asked shelf.new) keys.now }
     ensures kept { KeepsLeft (F.is_picked shelf.old) (F.is_picked shelf.new) (F.left shelf.old) (F.left shelf.new) }
-    ensures cause { (name : List ℕ) → F.asked shelf.old ≡ name ∷ [] → ReadsAs script.now.schema (F.told shelf.old name) → IfErr result (IsKeysCause name keys.now (F.told shelf.old) (F.asked shelf.new) (F.faults shelf.old) (F.faults shelf.new)) }
+    ensures cause { (name : List ℕ) → F.asked shelf.old ≡ name ∷ [] → ReadsAs script.schema (F.told shelf.old name) → IfErr result (IsKeysCause name keys.now (F.told shelf.old) (F.asked shelf.new) (F.faults shelf.old) (F.faults shelf.new)) }
 {
     let keys = keys_of(alloc, shelf, &script.schema, keys)?;
-    Ok(transcript(alloc, script, &keys, keep_going)?)
+    Ok(transcript(rt, alloc, script, &keys, keep_going, threads, gate)?)
 }
 
 /// An output, or the fault that there was no memory for it.
@@ -69,10 +76,12 @@ fn or_memory<'a>(made: Result<Output, Memory>) -> Result<Output, Fault<'a>>
 }
 
 /// The output that the command's words ask for.
-fn output_of<'a, F: Shelf>(
+fn output_of<'a, R: Threads + Sync, F: Shelf, G: Gate>(
+    rt: &R,
     alloc: Global,
     words: &'a [String],
     shelf: &mut F,
+    gate: &G,
 ) -> Result<Output, Fault<'a>>
     requires { F.asked shelf.old ≡ [] }
     ensures output { IfOk result (λ out. HasOutput (map string_bytes words.now) (F.told shelf.old) (F.asked shelf.new) (F.faults shelf.old) (F.faults shelf.new) out.refused out.text.items) }
@@ -84,14 +93,29 @@ fn output_of<'a, F: Shelf>(
         Ok(command) => command,
         Err(fault) => return Err(fault),
     };
-    let script = match script_of(alloc, shelf, command.script) {
-        Ok(script) => script,
-        Err(fault) => return Err(fault),
-    };
-    match command.task {
-        Task::Run { keys } => run_beside(alloc, shelf, &script, keys, command.keep_going),
-        Task::List => or_memory(listing(alloc, &script, command.keep_going)),
-        Task::Dump => or_memory(dump(alloc, &script, command.keep_going)),
+    match command {
+        Command::Script {
+            script,
+            task,
+            keep_going,
+        } => {
+            let script = match script_of(alloc, shelf, script) {
+                Ok(script) => script,
+                Err(fault) => return Err(fault),
+            };
+            match task {
+                Task::Run { keys, threads } => {
+                    run_beside(rt, alloc, shelf, script, keys, threads, keep_going, gate)
+                }
+                Task::List => or_memory(listing(alloc, script, keep_going)),
+                Task::Dump => or_memory(dump(alloc, script, keep_going)),
+            }
+        }
+        Command::Drill {
+            seed,
+            count,
+            threads,
+        } => or_memory(drill(rt, alloc, seed, count, threads, gate)),
     }
 }
 
@@ -102,14 +126,38 @@ fn done_status(refused: bool) -> u8
     if refused { 1 } else { 0 }
 }
 
-/// The command `pipapo`. Its words are one of these, with `--keep-going` among the names or not:
+/// Does what the words ask for, writes what comes of it, and answers the status.
+fn carry_out<R: Threads + Sync, F: Shelf, K: Sink, G: Gate>(
+    rt: &R,
+    alloc: Global,
+    words: &[String],
+    shelf: &mut F,
+    sink: &mut K,
+    gate: &G,
+) -> u8
+    requires { F.asked shelf.old ≡ [] }
+    ensures names { AsksInOrder (map string_bytes words.now) (F.told shelf.old) (F.asked shelf.new) (F.is_picked shelf.old) (F.is_picked shelf.new) (F.left shelf.new) }
+    ensures all_read { IsDone result → AsksForAll (map string_bytes words.now) (F.asked shelf.new) (F.is_picked shelf.old) (F.is_picked shelf.new) (F.left shelf.new) }
+    ensures ends { Ends (IsDue (map string_bytes words.now) (F.told shelf.old) (F.asked shelf.new) (F.faults shelf.old) (F.faults shelf.new)) (K.taken sink.old) (K.taken sink.new) (K.faults sink.old) (K.faults sink.new) result }
+{
+    match output_of(rt, alloc, words, shelf, gate) {
+        Ok(output) => deliver(sink, done_status(output.refused), output.text.as_slice()),
+        Err(fault) => tell(sink, fault),
+    }
+}
+
+/// The command `pipapo`. Its words are one of these, the options in any order among the names:
 ///
-/// - `run SCRIPT KEYS` runs a script and looks up the packets of a key file, and writes the transcript;
-/// - `list SCRIPT` runs a script, and lists its last generation as a script;
-/// - `dump SCRIPT` runs a script, and writes the tables of its last generation.
+/// - `run SCRIPT KEYS [--threads N] [--keep-going]` runs a script beside the packets of a key file, which
+///   N packet threads look up, 1 to 16 and else 1, and writes the transcript;
+/// - `list SCRIPT [--keep-going]` runs a script, and lists its last generation as a script;
+/// - `dump SCRIPT [--keep-going]` runs a script, and writes the tables of its last generation;
+/// - `drill SEED COUNT [--threads N]` runs a script of COUNT elements beside as many packets, all drawn from
+///   SEED, and writes one line of what came of them.
 ///
 /// With `--keep-going` a refused change is skipped, and doesn't fail its transaction. Where the words,
-/// a file or its reading is at fault, one line is written in place of the output. The status is:
+/// a file or its reading is at fault, one line is written in place of the output. The `gate` is called
+/// before and after each lookup and each commit; the program's own does nothing. The status is:
 ///
 /// - 0: the whole output was written, and tells no refusal;
 /// - 1: the whole output was written, and tells that a change was refused;
@@ -119,7 +167,14 @@ fn done_status(refused: bool) -> u8
 /// - 6: the sink failed, after a front of what was to be written;
 /// - 7: want of memory, and nothing was written;
 /// - 8: a file has more than 67,108,864 bytes.
-pub fn pipapo<F: Shelf, K: Sink>(alloc: Global, words: &[String], shelf: &mut F, sink: &mut K) -> u8
+pub fn pipapo<R: Threads + Sync, F: Shelf, K: Sink, G: Gate>(
+    rt: &R,
+    alloc: Global,
+    words: &[String],
+    shelf: &mut F,
+    sink: &mut K,
+    gate: &G,
+) -> u8
     requires { F.asked shelf.old ≡ [] }
 
     // With status 0 or 1 the sink took the text of a legal transcript, with 1 exactly where a change is refused.
@@ -128,6 +183,9 @@ pub fn pipapo<F: Shelf, K: Sink>(alloc: Global, words: &[String], shelf: &mut F,
     // In the same way it took the listing of the last generation, and its tables.
     ensures list { IsDone result → Lists (map string_bytes words.now) (F.told shelf.old) (K.taken sink.old) (K.taken sink.new) result }
     ensures dump { IsDone result → Dumps (map string_bytes words.now) (F.told shelf.old) (K.taken sink.old) (K.taken sink.new) result }
+
+    // Of a drill it took the one line, and the status is 0.
+    ensures drill { IsDone result → Drills (map string_bytes words.now) (K.taken sink.old) (K.taken sink.new) result }
 
     // Where no count of faults rose, each status comes exactly where the words and the files are such,
     // but for want of memory.
@@ -156,8 +214,5 @@ pub fn pipapo<F: Shelf, K: Sink>(alloc: Global, words: &[String], shelf: &mut F,
     // Every status has its cause, and what was written is due.
     ensures ends { Ends (IsDue (map string_bytes words.now) (F.told shelf.old) (F.asked shelf.new) (F.faults shelf.old) (F.faults shelf.new)) (K.taken sink.old) (K.taken sink.new) (K.faults sink.old) (K.faults sink.new) result }
 {
-    match output_of(alloc, words, shelf) {
-        Ok(output) => deliver(sink, done_status(output.refused), output.text.as_slice()),
-        Err(fault) => tell(sink, fault),
-    }
+    carry_out(rt, alloc, words, shelf, sink, gate)
 }

@@ -1,10 +1,13 @@
 //! The command `pipapo`: packet filter sets under a script, and packets looked up in them.
 #![tactic(auto)]
 
+#[cfg(test)]
+mod beside;
 mod command;
 mod delivery;
 mod fault;
 mod inputs;
+mod shape;
 #[cfg(test)]
 mod tests;
 mod words;
@@ -12,6 +15,7 @@ mod words;
 mod worked;
 
 use crate::command::pipapo;
+use packet_pool::OpenGate;
 use pip_base::{DirShelf, OutSink};
 use std::env;
 use std::process::ExitCode;
@@ -34,5 +38,12 @@ fn main(rt: HostRuntime) -> ExitCode {
     let words = command_words(&rt);
     let mut shelf = DirShelf::new(rt.alloc(), &rt);
     let mut sink = OutSink::new(&rt);
-    ExitCode::from(pipapo(rt.alloc(), words.as_slice(), &mut shelf, &mut sink))
+    ExitCode::from(pipapo(
+        &rt,
+        rt.alloc(),
+        words.as_slice(),
+        &mut shelf,
+        &mut sink,
+        &OpenGate,
+    ))
 }

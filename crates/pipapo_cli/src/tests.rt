@@ -1,9 +1,11 @@
 ghost use Rattle.std.specs.Prelude.{◌≡◌, [], IfOk};
 
 use crate::command::pipapo;
+use packet_pool::{Gate, OpenGate};
 use pip_base::{MemShelf, MemSink, Sink};
 use std::alloc::Global;
 use std::test::Fail;
+use std::thread::Threads;
 
 const SCRIPT: &str =
     "add set ip filter s { type ipv4_addr . inet_service ; flags interval ; }\nadd element ip filter s { 10.0.0.5 . 1024 }\nadd element ip filter s { 10.0.0.6 . 1024 }\n";
@@ -44,11 +46,13 @@ fn shelf_with(
 }
 
 /// Runs words over a shelf, and a sink that takes 7 bytes at once and so many in all.
-fn run_words(
+fn run_words<R: Threads + Sync, G: Gate>(
+    rt: &R,
     alloc: Global,
     words: &[&str],
     shelf: MemShelf,
     room: usize,
+    gate: &G,
 ) -> Result<(u8, MemSink), Fail>
     requires { shelf.asked ≡ [] }
 {
@@ -58,12 +62,13 @@ fn run_words(
         command.push(String::from_str(alloc, word)?)?;
     }
     let mut sink = MemSink::new(alloc, 7, room)?;
-    let status = pipapo(alloc, command.as_slice(), &mut shelf, &mut sink);
+    let status = pipapo(rt, alloc, command.as_slice(), &mut shelf, &mut sink, gate);
     Ok((status, sink))
 }
 
 /// `run a.nft keys` over a script and a key file, where they are given.
-fn run_files(
+fn run_files<R: Threads + Sync>(
+    rt: &R,
     alloc: Global,
     script: Option<&[u8]>,
     keys: Option<&[u8]>,
@@ -71,18 +76,47 @@ fn run_files(
     room: usize,
 ) -> Result<(u8, MemSink), Fail> {
     let shelf = shelf_with(alloc, script, keys, failing)?;
-    run_words(alloc, &RUN, shelf, room)
+    run_words(rt, alloc, &RUN, shelf, room, &OpenGate)
+}
+
+/// The status and output of a command over a script under `a.nft` and a key file under `keys`, held by a gate.
+pub fn run_held<R: Threads + Sync, G: Gate>(
+    rt: &R,
+    alloc: Global,
+    words: &[&str],
+    script: &str,
+    keys: &str,
+    gate: &G,
+) -> Result<(u8, MemSink), Fail> {
+    let shelf = shelf_with(alloc, Some(script.as_bytes()), Some(keys.as_bytes()), 0)?;
+    run_words(rt, alloc, words, shelf, 10_000, gate)
 }
 
 /// The status and output of a command over a script under `a.nft` and a key file under `keys`.
-pub fn run(alloc: Global, words: &[&str], script: &str, keys: &str) -> Result<(u8, MemSink), Fail> {
-    let shelf = shelf_with(alloc, Some(script.as_bytes()), Some(keys.as_bytes()), 0)?;
-    run_words(alloc, words, shelf, 1000)
+pub fn run<R: Threads + Sync>(
+    rt: &R,
+    alloc: Global,
+    words: &[&str],
+    script: &str,
+    keys: &str,
+) -> Result<(u8, MemSink), Fail> {
+    run_held(rt, alloc, words, script, keys, &OpenGate)
+}
+
+/// The status and output of a command over no files.
+fn run_alone<R: Threads + Sync>(
+    rt: &R,
+    alloc: Global,
+    words: &[&str],
+    room: usize,
+) -> Result<(u8, MemSink), Fail> {
+    let shelf = shelf_with(alloc, None, None, 0)?;
+    run_words(rt, alloc, words, shelf, room, &OpenGate)
 }
 
 #[test]
 fn two_single_values(rt: HostRuntime) -> Result<(), Fail> {
-    let (status, sink) = run(rt.alloc(), &RUN, SCRIPT, KEYS)?;
+    let (status, sink) = run(&rt, rt.alloc(), &RUN, SCRIPT, KEYS)?;
     assert_eq!(rt; sink.bytes(), TRANSCRIPT.as_bytes());
     assert_eq!(rt; status, 0);
     Ok(())
@@ -93,6 +127,7 @@ fn an_element_again_is_there_already(rt: HostRuntime) -> Result<(), Fail> {
     let script =
         "add set ip t p { type ipv4_addr . inet_service ; flags interval ; }\nadd element ip t p { 10.0.0.5 . 80 }\nadd element ip t p { 10.0.0.5 . 80 }\nadd element ip t p { 10.0.0.5 . 81 }";
     let (status, sink) = run(
+        &rt,
         rt.alloc(),
         &RUN,
         script,
@@ -108,10 +143,11 @@ fn an_element_again_is_there_already(rt: HostRuntime) -> Result<(), Fail> {
 
 #[test]
 fn empty_files(rt: HostRuntime) -> Result<(), Fail> {
-    let (status, sink) = run(rt.alloc(), &RUN, "", "")?;
+    let (status, sink) = run(&rt, rt.alloc(), &RUN, "", "")?;
     assert_eq!(rt; sink.bytes(), b"".as_slice());
     assert_eq!(rt; status, 0);
     let (status, sink) = run(
+        &rt,
         rt.alloc(),
         &RUN,
         "add set ip t p { type inet_service ; flags interval ; }\n",
@@ -127,7 +163,7 @@ fn empty_files(rt: HostRuntime) -> Result<(), Fail> {
 
 #[test]
 fn bad_words(rt: HostRuntime) -> Result<(), Fail> {
-    let commands: [&[&str]; 20] = [
+    let commands: [&[&str]; 35] = [
         &[],
         &["run", "a"],
         &["run", "a", "b", "c"],
@@ -135,7 +171,14 @@ fn bad_words(rt: HostRuntime) -> Result<(), Fail> {
         &["run", "a", ""],
         &["run", "a", "b", "--threads", "17"],
         &["run", "a", "b", "--threads", "01"],
-        &["run", "a", "b", "--threads", "4"],
+        &["run", "a", "b", "--threads", "0"],
+        &["run", "a", "b", "--threads", "+1"],
+        &["run", "a", "b", "--threads", ""],
+        &["run", "a", "b", "--threads"],
+        &["run", "a", "b", "--threads", "--keep-going"],
+        &["run", "a", "b", "--threads", "1", "--threads", "1"],
+        &["run", "a", "b", "--threads=1"],
+        &["run", "a", "--threads", "b"],
         &["run", "a", "b", "--keep-going", "--keep-going"],
         &["run", "a", "b", "--keep-going=1"],
         &["run", "--", "a", "b"],
@@ -146,16 +189,19 @@ fn bad_words(rt: HostRuntime) -> Result<(), Fail> {
         &["list", "a", "--threads", "1"],
         &["dump", "-"],
         &["dump", "a", "--keep"],
-        &["drill", "1", "2"],
+        &["dump", "a", "--threads", "1"],
+        &["drill", "1"],
+        &["drill", "1", "2", "3"],
+        &["drill", "1", "0"],
+        &["drill", "1", "20001"],
+        &["drill", "18446744073709551616", "1"],
+        &["drill", "01", "1"],
+        &["drill", "a", "1"],
+        &["drill", "1", "2", "--keep-going"],
         &["lists", "a"],
     ];
     for words in commands {
-        let (status, sink) = run_words(
-            rt.alloc(),
-            words,
-            shelf_with(rt.alloc(), None, None, 0)?,
-            1000,
-        )?;
+        let (status, sink) = run_alone(&rt, rt.alloc(), words, 1000)?;
         assert_eq!(rt; sink.bytes(), USAGE.as_bytes());
         assert_eq!(rt; status, 2);
     }
@@ -164,8 +210,20 @@ fn bad_words(rt: HostRuntime) -> Result<(), Fail> {
 
 #[test]
 fn words_in_any_order(rt: HostRuntime) -> Result<(), Fail> {
-    let commands: [(&[&str], &[u8]); 6] = [
+    let commands: [(&[&str], &[u8]); 9] = [
         (&["run", "help", "b"], b"pipapo: read fault: help\n"),
+        (
+            &["run", "--threads", "16", "16", "b"],
+            b"pipapo: read fault: 16\n",
+        ),
+        (
+            &["run", "a", "--threads", "9", "--keep-going", "b"],
+            b"pipapo: read fault: a\n",
+        ),
+        (
+            &["run", "--keep-going", "a", "b", "--threads", "1"],
+            b"pipapo: read fault: a\n",
+        ),
         (
             &["run", "--keep-going", "a", "b"],
             b"pipapo: read fault: a\n",
@@ -179,12 +237,7 @@ fn words_in_any_order(rt: HostRuntime) -> Result<(), Fail> {
         (&["dump", "d", "--keep-going"], b"pipapo: read fault: d\n"),
     ];
     for (words, line) in commands {
-        let (status, sink) = run_words(
-            rt.alloc(),
-            words,
-            shelf_with(rt.alloc(), None, None, 0)?,
-            1000,
-        )?;
+        let (status, sink) = run_alone(&rt, rt.alloc(), words, 1000)?;
         assert_eq!(rt; sink.bytes(), line);
         assert_eq!(rt; status, 5);
     }
@@ -193,10 +246,10 @@ fn words_in_any_order(rt: HostRuntime) -> Result<(), Fail> {
 
 #[test]
 fn missing_file(rt: HostRuntime) -> Result<(), Fail> {
-    let (status, sink) = run_files(rt.alloc(), None, Some(b""), 0, 1000)?;
+    let (status, sink) = run_files(&rt, rt.alloc(), None, Some(b""), 0, 1000)?;
     assert_eq!(rt; sink.bytes(), b"pipapo: read fault: a.nft\n".as_slice());
     assert_eq!(rt; status, 5);
-    let (status, sink) = run_files(rt.alloc(), Some(SCRIPT.as_bytes()), None, 0, 1000)?;
+    let (status, sink) = run_files(&rt, rt.alloc(), Some(SCRIPT.as_bytes()), None, 0, 1000)?;
     assert_eq!(rt; sink.bytes(), b"pipapo: read fault: keys\n".as_slice());
     assert_eq!(rt; status, 5);
     Ok(())
@@ -206,6 +259,7 @@ fn missing_file(rt: HostRuntime) -> Result<(), Fail> {
 fn each_call_of_the_shelf_may_fail(rt: HostRuntime) -> Result<(), Fail> {
     for call in 1..=6u64 {
         let (status, sink) = run_files(
+            &rt,
             rt.alloc(),
             Some(SCRIPT.as_bytes()),
             Some(KEYS.as_bytes()),
@@ -221,6 +275,7 @@ fn each_call_of_the_shelf_may_fail(rt: HostRuntime) -> Result<(), Fail> {
         assert_eq!(rt; status, 5);
     }
     let (status, _) = run_files(
+        &rt,
         rt.alloc(),
         Some(SCRIPT.as_bytes()),
         Some(KEYS.as_bytes()),
@@ -234,6 +289,7 @@ fn each_call_of_the_shelf_may_fail(rt: HostRuntime) -> Result<(), Fail> {
 #[test]
 fn cut_output(rt: HostRuntime) -> Result<(), Fail> {
     let (status, sink) = run_files(
+        &rt,
         rt.alloc(),
         Some(SCRIPT.as_bytes()),
         Some(KEYS.as_bytes()),
@@ -242,15 +298,10 @@ fn cut_output(rt: HostRuntime) -> Result<(), Fail> {
     )?;
     assert_eq!(rt; sink.bytes(), b"commit gen".as_slice());
     assert_eq!(rt; status, 6);
-    let (status, sink) = run_words(
-        rt.alloc(),
-        &["run"],
-        shelf_with(rt.alloc(), None, None, 0)?,
-        10,
-    )?;
+    let (status, sink) = run_alone(&rt, rt.alloc(), &["run"], 10)?;
     assert_eq!(rt; sink.bytes(), b"pipapo: us".as_slice());
     assert_eq!(rt; status, 6);
-    let (status, sink) = run_files(rt.alloc(), None, None, 0, 24)?;
+    let (status, sink) = run_files(&rt, rt.alloc(), None, None, 0, 24)?;
     assert_eq!(rt; sink.bytes(), b"pipapo: read fault: a.nf".as_slice());
     assert_eq!(rt; status, 6);
     Ok(())
@@ -259,14 +310,35 @@ fn cut_output(rt: HostRuntime) -> Result<(), Fail> {
 #[test]
 fn file_limit(rt: HostRuntime) -> Result<(), Fail> {
     let mut line_feeds = vec![in rt.alloc(); 10u8; 67_108_865]?;
-    let (status, sink) = run_files(rt.alloc(), Some(line_feeds.as_slice()), Some(b""), 0, 1000)?;
+    let (status, sink) = run_files(
+        &rt,
+        rt.alloc(),
+        Some(line_feeds.as_slice()),
+        Some(b""),
+        0,
+        1000,
+    )?;
     assert_eq!(rt; sink.bytes(), b"pipapo: too large: a.nft\n".as_slice());
     assert_eq!(rt; status, 8);
-    let (status, sink) = run_files(rt.alloc(), Some(b""), Some(line_feeds.as_slice()), 0, 1000)?;
+    let (status, sink) = run_files(
+        &rt,
+        rt.alloc(),
+        Some(b""),
+        Some(line_feeds.as_slice()),
+        0,
+        1000,
+    )?;
     assert_eq!(rt; sink.bytes(), b"pipapo: too large: keys\n".as_slice());
     assert_eq!(rt; status, 8);
     let _ = line_feeds.pop();
-    let (status, sink) = run_files(rt.alloc(), Some(line_feeds.as_slice()), Some(b""), 0, 1000)?;
+    let (status, sink) = run_files(
+        &rt,
+        rt.alloc(),
+        Some(line_feeds.as_slice()),
+        Some(b""),
+        0,
+        1000,
+    )?;
     assert_eq!(rt; sink.bytes(), b"".as_slice());
     assert_eq!(rt; status, 0);
     Ok(())

@@ -2,9 +2,10 @@ use crate::tests::run;
 use std::alloc::Global;
 use std::process::Abort;
 use std::test::Fail;
+use std::thread::Threads;
 
 /// Runs a command over a script and a key file, and compares what is written, and the status.
-fn expect<R: Abort>(
+fn expect<R: Threads + Abort + Sync>(
     rt: &R,
     alloc: Global,
     words: &[&str],
@@ -13,14 +14,14 @@ fn expect<R: Abort>(
     output: &str,
     wanted: u8,
 ) -> Result<(), Fail> {
-    let (status, sink) = run(alloc, words, script, keys)?;
+    let (status, sink) = run(rt, alloc, words, script, keys)?;
     assert_eq!(rt; sink.bytes(), output.as_bytes());
     assert_eq!(rt; status, wanted);
     Ok(())
 }
 
 /// Compares the transcript of a run, and its status.
-fn expect_run<R: Abort>(
+fn expect_run<R: Threads + Abort + Sync>(
     rt: &R,
     alloc: Global,
     script: &str,
@@ -40,7 +41,12 @@ fn expect_run<R: Abort>(
 }
 
 /// Compares the listing of a script in which nothing is refused.
-fn expect_list<R: Abort>(rt: &R, alloc: Global, script: &str, listing: &str) -> Result<(), Fail> {
+fn expect_list<R: Threads + Abort + Sync>(
+    rt: &R,
+    alloc: Global,
+    script: &str,
+    listing: &str,
+) -> Result<(), Fail> {
     expect(rt, alloc, &["list", "a.nft"], script, "", listing, 0)
 }
 
@@ -271,18 +277,6 @@ fn purge_and_readd(rt: HostRuntime) -> Result<(), Fail> {
 }
 
 #[test]
-fn two_sets_two_rounds(rt: HostRuntime) -> Result<(), Fail> {
-    expect_run(
-        &rt,
-        rt.alloc(),
-        "add set ip t p { type inet_service ; flags interval ; }\nadd set ip t q { type inet_proto ; }\nadd element ip t p { 80 }\nadd element ip t q { tcp }\nround\ndelete element ip t p { 80 }\n",
-        "ip t q 6\nround\nip t p 80\n",
-        "commit generation 1 purged 0\ncommit generation 2 purged 0\npacket 0 thread 0 generation 2 element 0\npacket 1 thread 0 generation 2 none\n",
-        0,
-    )
-}
-
-#[test]
 fn renewed_expiry(rt: HostRuntime) -> Result<(), Fail> {
     expect_run(
         &rt,
@@ -300,6 +294,35 @@ fn renewed_expiry(rt: HostRuntime) -> Result<(), Fail> {
         "commit generation 1 purged 0\nline 5 refused exists ip t p element 0\nfail generation 1\npacket 0 thread 0 generation 1 none\npacket 1 thread 0 generation 1 none\npacket 2 thread 0 generation 1 none\n",
         1,
     )
+}
+
+#[test]
+fn drill_small(rt: HostRuntime) -> Result<(), Fail> {
+    expect(
+        &rt,
+        rt.alloc(),
+        &["drill", "1", "2"],
+        "",
+        "",
+        "drill elements 2 refused 0 generation 1 packets 2 matched 1 sum 1\n",
+        0,
+    )
+}
+
+#[test]
+fn drill_threads(rt: HostRuntime) -> Result<(), Fail> {
+    for threads in ["1", "4"] {
+        expect(
+            &rt,
+            rt.alloc(),
+            &["drill", "7", "--threads", threads, "2000"],
+            "",
+            "",
+            "drill elements 2000 refused 0 generation 1 packets 2000 matched 1000 sum 1017492\n",
+            0,
+        )?;
+    }
+    Ok(())
 }
 
 #[test]

@@ -15,10 +15,15 @@ use Rattle.set_model.specs.SetState.{State, purged, cleared, empty_set}
 use Rattle.set_model.specs.Control.{Mode, Strict, KeepGoing, Control, start, step, section, history, with_set, answered, changed, changed_set, flushed, refused, rewound, committed}
 use Rattle.set_space.specs.Open.{Open}
 use Rattle.set_report.specs.Writes.{NamesSet, AreSetsOf}
-use Rattle.script_run.specs.Running.{kinds_of, declared_kinds, HasKinds}
+use Rattle.gen_publish.specs.Publish.{kinds_of, declared_kinds}
 use Rattle.script_run.specs.Telling.{section_at}
-use Rattle.script_run.proofs.ChangeLaws.{IsAlike, change_alike, set_same}
+use Rattle.packet_pool.proofs.ChangeLaws.{IsAlike, change_alike, set_same}
 use Rattle.script_run.proofs.Lists.{All-snoc, snoc-at}
+
+-- A work on sets of these kinds, in its base and with the open changes.
+pub record HasKinds (kinds : List (List Kind)) (work : Open) : Type 0 where
+  pub base : kinds_of work.base.sets ≡ kinds
+  pub open_sets : kinds_of work.sets ≡ kinds
 
 -- A step does one of these: nothing, a set that is alike at a place, a refusal, an end that is taken back, a commit.
 pub record Outcomes (P : Control → Type 0) (mode : Mode) (c : Control) : Type 0 where

@@ -1,8 +1,7 @@
-pub mod ChangeLaws
-pub mod ControlLaws
-pub mod Found
 pub mod Lists
-pub mod PacketLaws
+pub mod ControlLaws
 pub mod PlacedLaws
-pub mod RunLaws
+pub mod SectionLaws
 pub mod TranscriptLaws
+pub mod DrillLaws
+mod DrillWorked

@@ -91,3 +91,44 @@ sections-rise s p q (packets ∷ keys) a b lt e f =
       go (inl k) (inr m) rest = let x = in-first s p packets a k in let y = from-section (s + 1) m.0 keys b m.1 in omega (arith, x, y)
       go (inr k) (inl m) rest = let x = k.2 in let y = slice_get_within (placed_in s packets) q b m in absurd (omega (arith, x, y, lt))
       go (inr k) (inr m) rest = rest k.0 m.0 (let x = k.2 in let y = m.2 in omega (arith, x, y, lt)) k.1 m.1
+
+-- the item of a part of a list
+part-at : {A : Type 0} (xs : List A) (a b q : ℕ) → a + q < b → slice_get (drop a (take b xs)) q ≡ slice_get xs (a + q)
+part-at [] zero zero q h = refl
+part-at [] zero (suc b) q h = refl
+part-at [] (suc a) zero q h = refl
+part-at [] (suc a) (suc b) q h = refl
+part-at (x ∷ xs) zero zero q h = absurd (omega (arith, h))
+part-at (x ∷ xs) zero (suc b) zero h = refl
+part-at (x ∷ xs) zero (suc b) (suc q) h = let same : 0 + suc q ≡ suc (0 + q) = omega arith in rw same (part-at xs zero b q (omega (arith, h)))
+part-at (x ∷ xs) (suc a) zero q h = absurd (omega (arith, h))
+part-at (x ∷ xs) (suc a) (suc b) q h = let same : suc a + q ≡ suc (a + q) = omega arith in rw same (part-at xs a b q (omega (arith, h)))
+
+-- A packet that stands among those of section j + 1 is that section's.
+pub placed-here : (j q : ℕ) (keys : List (List Packet)) (at : Placed) → q < length (section_at keys j) → slice_get (placed_from 1 keys) (count_of keys j + q) ≡ Some at
+    → (p : Packet) × (slice_get (section_at keys j) q ≡ Some p) × (in_section (1 + j) (q, p) ≡ at)
+placed-here j q keys at within e =
+    let more = count-next keys j in
+    let part = part-at (placed_from 1 keys) (count_of keys j) (count_of keys (suc j)) q (omega (arith, more, within)) in
+    let here : slice_get (placed_in (1 + j) (section_at keys j)) q ≡ Some at = ap (λ xs. slice_get xs q) (sym (section-placed 1 j keys)) ∙ part ∙ e in
+    numbered (in_section (1 + j)) (section_at keys j) q at here
+
+-- A packet before those is of an earlier section.
+pub placed-before : (s j p : ℕ) (keys : List (List Packet)) (at : Placed) → slice_get (placed_from s keys) p ≡ Some at → p < count_of keys j → at.section < s + j
+placed-before s j p [] at e lt = absurd (cc e)
+placed-before s zero p (packets ∷ keys) at e lt = absurd (omega (arith, lt))
+placed-before s (suc j) p (packets ∷ keys) at e lt = go (append-either (placed_in s packets) (placed_from (s + 1) keys) p at e) (λ q k l. placed-before (s + 1) j q keys at k l) where
+  go : (slice_get (placed_in s packets) p ≡ Some at) ⊎ ((q : ℕ) × (slice_get (placed_from (s + 1) keys) q ≡ Some at) × (p ≡ length (placed_in s packets) + q))
+      → ((q : ℕ) → slice_get (placed_from (s + 1) keys) q ≡ Some at → q < count_of keys j → at.section < s + 1 + j) → at.section < s + suc j
+  go (inl k) rest = let is = in-first s p packets at k in omega (arith, is)
+  go (inr k) rest = let long = placed-long s packets in let more = count-cons packets keys j in let place = k.2 in let r = rest k.0 k.1 (omega (arith, long, more, place, lt)) in omega (arith, r)
+
+-- all packets
+pub placed-count : (s : ℕ) (keys : List (List Packet)) → length (placed_from s keys) ≡ length (flat_map (λ packets. packets) keys)
+placed-count s [] = refl
+placed-count s (packets ∷ keys) =
+    let a = length-append (placed_in s packets) (placed_from (s + 1) keys) in let b = length-append packets (flat_map (λ ps. ps) keys) in let long = placed-long s packets in let rest = placed-count (s + 1) keys in omega (arith, a, b, long, rest)
+
+pub count-rises : (keys : List (List Packet)) (j d : ℕ) → count_of keys j ≤ count_of keys (j + d)
+count-rises keys j zero = rw add-zero (omega arith)
+count-rises keys j (suc d) = let so_far = count-rises keys j d in let more = count-next keys (j + d) in let same : j + suc d ≡ suc (j + d) = omega arith in rw same (omega (arith, so_far, more))

@@ -1,26 +1,35 @@
--- The transcript of one thread: each packet gets the last generation behind its section.
-use Rattle.std.proofs.Common.{◌≡◌, refl, sym, ◌∙◌, ap, subst, ℕ, zero, suc, ◌+◌, ◌-◌, ◌≤◌, Bool, false, ◌||◌, List, [], ◌∷◌, ◌++◌, length, map, take, drop, slice_get, Option, Some, arith, All, append-nil, append_assoc, add-one, add-zero}
-use Rattle.std.specs.List.{enumerate_from, flat_map, range_with_len, list_any}
-use Rattle.std.proofs.lemmas.List.{length-map, take_all}
+-- The transcript of a run: each packet gets a generation that was committed by the end of its section.
+use Rattle.std.proofs.Common.{◌≡◌, refl, sym, ◌∙◌, ap, subst, ℕ, zero, suc, ◌+◌, ◌-◌, ◌/◌, ◌<◌, ◌≤◌, Bool, true, false, ◌||◌, List, [], ◌∷◌, ◌++◌, length, map, take, drop, slice_get, get_or, Option, Some, None, arith, All, append-nil, append_assoc, add-one, add-zero, ◌⊎◌, inl, inr, unwrap_or}
+use Rattle.std.specs.List.{flat_map, range_with_len, list_any}
+use Rattle.std.proofs.lemmas.List.{length-map, length-append, take_all}
 use Rattle.std.proofs.lemmas.Option.{slice_get_within}
 use Rattle.set_model.specs.declared.packet.Packet.{Packet}
+use Rattle.set_model.specs.declared.report.Event.{Event}
 use Rattle.set_model.specs.declared.report.Line.{Line}
 use Rattle.set_model.specs.declared.script.Script.{Script}
 use Rattle.set_model.specs.declared.script.Step.{Step}
 use Rattle.set_model.specs.declared.script.SetDecl.{SetDecl}
 use Rattle.set_model.specs.SetState.{State}
-use Rattle.set_model.specs.Control.{Mode, mode_of, Control, start, section, history, is_refusal, has_refusal}
+use Rattle.set_model.specs.Control.{Mode, mode_of, Control, Generation, start, section, history, is_refusal, has_refusal, first_generation}
 use Rattle.set_model.specs.Legal.{Legal, IsLegalLine, IsLegalPair, IsVerdict, Placed, placed, before, after, last, section_events}
 use Rattle.set_model.specs.Runnable.{IsFitting}
-use Rattle.set_model.specs.Text.{transcript_text, section_text, section_count, events_text, lines_text, section_lines, packets_before}
+use Rattle.set_model.specs.Text.{transcript_text, section_text, section_count, events_text, lines_text, section_lines, packets_before, packets_up_to}
+use Rattle.gen_publish.specs.Publish.{Steering, Grown, kinds_of, declared_kinds}
+use Rattle.gen_publish.proofs.Growing.{as_many}
+use Rattle.packet_pool.specs.Running.{run, Stands, Ran}
+use Rattle.packet_pool.proofs.RunLaws.{fold-more}
+use Rattle.set_report.specs.Writes.{NamesSet, AreSetsOf}
+use Rattle.set_space.specs.Open.{opened}
+use Rattle.packet_pool.specs.Section.{IsSection, IsSectionLine, IsAnswer, verdict_in}
+use Rattle.packet_pool.specs.Work.{AllReady}
 use Rattle.script_run.specs.declared.telling.Telling.{Telling}
-use Rattle.script_run.specs.Packets.{verdict_in, packet_line, packet_lines}
-use Rattle.script_run.specs.Running.{declared_kinds, HasKinds, Stands}
-use Rattle.script_run.specs.Telling.{section_at, TellsSection}
-use Rattle.script_run.proofs.ControlLaws.{history-next, history_of, history_numbered, section_later, kinds_long}
-use Rattle.script_run.proofs.Lists.{item-at, length-enumerate, list_any-append, numbered, numbered-again, part-numbered}
-use Rattle.script_run.proofs.RunLaws.{declared}
-use Rattle.script_run.proofs.PlacedLaws.{in_section, count_of, section-placed, count-next, of-placed, sections-rise}
+use Rattle.set_model.specs.Runnable.{EndsClosed}
+use Rattle.script_run.specs.Telling.{section_at, looked_up, Begins, TellsSection}
+use Rattle.set_model.proofs.ClosedLaws.{closed-section}
+use Rattle.script_run.proofs.ControlLaws.{history-next, history_numbered, section_later, history_of, history_sets}
+use Rattle.script_run.proofs.Lists.{item-at, list_any-append, append-either, drop-take-behind, of-item}
+use Rattle.script_run.proofs.SectionLaws.{grown_at}
+use Rattle.script_run.proofs.PlacedLaws.{in_section, count_of, count-next, of-placed, placed-here, placed-before, placed-count, count-rises}
 
 -- one section more of a script
 pub after-next : (mode : Mode) (script : Script) (j : ℕ) → after mode script j ≡ section mode (before mode script j) (section_at script.sections j)
@@ -39,88 +48,16 @@ last-rises mode script j (suc d) =
 last-order : (mode : Mode) (script : Script) (j k : ℕ) → j ≤ k → last mode script j ≤ last mode script k
 last-order mode script j k h = let same : k ≡ j + (k - j) = omega (arith, h) in rw same (last-rises mode script j (k - j))
 
--- The lines of a run: each packet's in the last generation behind its section.
-abbrev pub line_at : Mode → Script → ℕ × Placed → Line
-line_at mode script p = packet_line (after mode script p.1.section).last (p.0, p.1.packet)
-
-abbrev pub run_lines : Mode → Script → List (List Packet) → List Line
-run_lines mode script keys = map (line_at mode script) (enumerate_from 0 (placed keys))
-
-module _ (mode : Mode) (script : Script) (keys : List (List Packet)) (fits : All (All (IsFitting script.schema)) keys) where
-  -- a declared set has a state in the last generation
-  state-of : (j set : ℕ) (d : SetDecl) → slice_get script.schema set ≡ Some d → (s : State) × (slice_get (after mode script j).last.sets set ≡ Some s)
-  state-of j set d h =
-      let within = slice_get_within script.schema set d h in
-      let long = kinds_long (declared_kinds script.schema) (after mode script j).last.sets (history_of mode script.schema (take (j + 1) script.sections)).work.base in
-      let same = length-map script.schema (λ (x : SetDecl). x.kinds) in
-      item-at (after mode script j).last.sets set (omega (arith, within, long, same))
-
-  verdict-is : (j p : ℕ) (packet : Packet) → IsFitting script.schema packet → IsVerdict (after mode script j).committed packet (after mode script j).last.number (packet_line (after mode script j).last (p, packet)).verdict
-  verdict-is j p packet fit =
-      let at = state-of j packet.set fit.set fit.declared in
-      record {
-        generation = (after mode script j).last;
-        state = at.0;
-        is_committed = (history_numbered mode script.schema (take (j + 1) script.sections)).at;
-        is_set = at.1;
-        first_match = ap (verdict_in packet.key packet.now) at.1;
-      }
-
-  line-is : (p : ℕ) (at : Placed) → IsFitting script.schema at.packet → IsLegalLine mode script 1 p at (line_at mode script (p, at))
-  line-is p at fit = record {
-    names_packet = refl;
-    thread = omega arith;
-    not_too_old = last-order mode script (at.section - 1) at.section (omega arith);
-    not_too_new = omega arith;
-    verdict = verdict-is at.section p at.packet fit;
-  }
-
-  pair-is : (p q : ℕ) (a b : Placed) → a.section ≤ b.section → IsLegalPair a b (line_at mode script (p, a)) (line_at mode script (q, b))
-  pair-is p q a b h = record { one_batch = λ x y. refl; never_falls = λ x. last-order mode script a.section b.section h }
-
-  same-some : {A : Type 0} (a b : A) (o : Option A) → o ≡ Some a → o ≡ Some b → a ≡ b
-  same-some a b o h k = cc
-
-  pub legal : Legal script keys 1 mode (run_lines mode script keys)
-  legal = record {
-    one_each = length-map (enumerate_from 0 (placed keys)) (line_at mode script) ∙ length-enumerate 0 (placed keys);
-    each = λ p at line at_p line_p.
-        let found = numbered (line_at mode script) (placed keys) p line line_p in
-        let same : found.0 ≡ at = same-some found.0 at (slice_get (placed keys) p) found.1 at_p in
-        subst (λ (z : Line). IsLegalLine mode script 1 p at z) found.2
-        (subst (λ (z : Placed). IsLegalLine mode script 1 p at (line_at mode script (p, z))) (sym same) (line-is p at (of-placed (IsFitting script.schema) 1 p keys at fits at_p)));
-    pairs = λ p q a b earlier later lt at_p at_q line_p line_q.
-        let e = numbered (line_at mode script) (placed keys) p earlier line_p in
-        let l = numbered (line_at mode script) (placed keys) q later line_q in
-        let same_e : e.0 ≡ a = same-some e.0 a (slice_get (placed keys) p) e.1 at_p in
-        let same_l : l.0 ≡ b = same-some l.0 b (slice_get (placed keys) q) l.1 at_q in
-        rw (← e.2, ← l.2, same_e, same_l) (pair-is p q a b (sections-rise 1 p q keys a b lt at_p at_q));
-  }
-
 -- the packets of section n of a run, which has none in section 0
 abbrev pub packets_at : List (List Packet) → ℕ → List Packet
 packets_at keys zero = []
 packets_at keys (suc j) = section_at keys j
 
-one-less : (j : ℕ) → suc j - 1 ≡ j
-one-less j = omega arith
-
--- the lines of section n among all
-lines-of : (mode : Mode) (script : Script) (keys : List (List Packet)) (n : ℕ)
-    → section_lines keys n (run_lines mode script keys) ≡ packet_lines (after mode script n).last (packets_before keys n) (packets_at keys n)
-lines-of mode script keys zero = refl
-lines-of mode script keys (suc j) =
-    let same = one-less j in
-    let a : packets_before keys (suc j) ≡ count_of keys j = ap (count_of keys) same in
-    ap (λ n. drop n (take (count_of keys (suc j)) (run_lines mode script keys))) a
-    ∙ part-numbered (line_at mode script) (placed keys) (count_of keys j) (count_of keys (suc j))
-    ∙ ap (λ xs. map (line_at mode script) (enumerate_from (count_of keys j) xs)) (section-placed 1 j keys)
-    ∙ numbered-again (line_at mode script) (in_section (1 + j)) (packet_line (after mode script (1 + j)).last) (λ m i x. refl) (count_of keys j) 0 (section_at keys j)
-    ∙ ap (λ n. packet_lines (after mode script n).last (count_of keys j) (section_at keys j)) (omega arith)
-    ∙ ap (λ n. packet_lines (after mode script (suc j)).last n (section_at keys j)) (sym a)
-
 pub packets-next : (keys : List (List Packet)) (j : ℕ) → section_at keys j ≡ packets_at keys (j + 1)
 packets-next keys j = rw add-one refl
+
+one-less : (j : ℕ) → suc j - 1 ≡ j
+one-less j = omega arith
 
 count-more : (keys : List (List Packet)) (n : ℕ) → packets_before keys n + length (packets_at keys n) ≡ packets_before keys (n + 1)
 count-more keys zero = refl
@@ -134,74 +71,247 @@ range-more f from (suc n) =
     ap (λ t. f from ++ t) (range-more f (from + 1) n) ∙ sym (append_assoc (f from) (flat_map f (range_with_len (from + 1) n)) (f (from + 1 + n)))
     ∙ ap (λ m. flat_map f (range_with_len from (suc n)) ++ f m) (omega arith)
 
+-- the same texts of the first n sections
+range-same : {A : Type 0} (f g : ℕ → List A) (n : ℕ) → ((j : ℕ) → j < n → f j ≡ g j) → flat_map f (range_with_len 0 n) ≡ flat_map g (range_with_len 0 n)
+range-same f g zero h = refl
+range-same f g (suc n) h = range-more f 0 n ∙ (λ i. range-same f g n (λ j lt. h j (omega (arith, lt))) i ++ (let zero_is : 0 + n ≡ n = omega arith in (ap f zero_is ∙ h n (omega arith) ∙ ap g (sym zero_is))) i) ∙ sym (range-more g 0 n)
+
 drop-behind : {A : Type 0} (xs ys : List A) → drop (length xs) (xs ++ ys) ≡ ys
 drop-behind [] ys = refl
 drop-behind (x ∷ xs) ys = drop-behind xs ys
 
+take-within : {A : Type 0} (xs ys : List A) (k : ℕ) → k ≤ length xs → take k (xs ++ ys) ≡ take k xs
+take-within xs ys zero h = refl
+take-within [] ys (suc k) h = absurd (omega (arith, h))
+take-within (x ∷ xs) ys (suc k) h = ap (λ r. x ∷ r) (take-within xs ys k (omega (arith, h)))
+
+-- the lines of earlier sections, and of the last
+before-within : (keys : List (List Packet)) (j n : ℕ) → j < n → packets_up_to keys j ≤ packets_before keys n
+before-within keys j n h = let same : n - 1 ≡ j + (n - 1 - j) = omega (arith, h) in rw same (count-rises keys j (n - 1 - j))
+
+lines-before : (keys : List (List Packet)) (n : ℕ) (lines more : List Line) → length lines ≡ packets_before keys n → (j : ℕ) → j < n → section_lines keys j (lines ++ more) ≡ section_lines keys j lines
+lines-before keys n lines more long j lt = let within = before-within keys j n lt in ap (drop (packets_before keys j)) (take-within lines more (packets_up_to keys j) (omega (arith, within, long)))
+
+lines-here : (keys : List (List Packet)) (n : ℕ) (lines more : List Line) → length lines ≡ packets_before keys n → length more ≡ length (packets_at keys n) → section_lines keys n (lines ++ more) ≡ more
+lines-here keys n lines more long size =
+    let counts = count-more keys n in
+    let same : n + 1 - 1 ≡ n = omega arith in
+    let to : packets_up_to keys n ≡ length lines + length more = (let e = ap (count_of keys) same in omega (arith, counts, e, long, size)) in
+    let from : packets_before keys n ≡ length lines + 0 = omega (arith, long) in
+    (λ i. drop (from i) (take (to i) (lines ++ more))) ∙ drop-take-behind lines more 0 (length more) ∙ take_all (length more) more (omega arith)
+
+-- The lines so far are legal.
+pub record IsLegalSoFar (mode : Mode) (script : Script) (keys : List (List Packet)) (threads : ℕ) (lines : List Line) : Type 0 where
+  pub each : (p : ℕ) (at : Placed) (line : Line) → slice_get (placed keys) p ≡ Some at → slice_get lines p ≡ Some line → IsLegalLine mode script threads p at line
+  pub pairs : (p q : ℕ) (a b : Placed) (earlier later : Line) → p < q
+      → slice_get (placed keys) p ≡ Some a → slice_get (placed keys) q ≡ Some b
+      → slice_get lines p ≡ Some earlier → slice_get lines q ≡ Some later → IsLegalPair a b earlier later
+
+none-legal : (mode : Mode) (script : Script) (keys : List (List Packet)) (threads : ℕ) → IsLegalSoFar mode script keys threads []
+none-legal mode script keys threads = record { each = λ p at line e f. absurd (cc f); pairs = λ p q a b earlier later lt e f g h. absurd (cc g) }
+
+-- The lines of one section more.
+module _ (mode : Mode) (script : Script) (keys : List (List Packet)) (fits : All (All (IsFitting script.schema)) keys) (threads j : ℕ) (lines more : List Line)
+    (long : length lines ≡ count_of keys j) (so_far : IsLegalSoFar mode script keys threads lines)
+    (answers : IsSection looked_up (section_at keys j) (count_of keys j) threads (length (before mode script (suc j)).committed) (after mode script (suc j)).committed more)
+    (grown : Grown script.schema 0 (after mode script (suc j)).committed) where
+  -- a line of the section
+  here : (q : ℕ) (line : Line) (at : Placed) → slice_get more q ≡ Some line → slice_get (placed keys) (length lines + q) ≡ Some at
+      → (p : Packet) × (slice_get (section_at keys j) q ≡ Some p) × (in_section (1 + j) (q, p) ≡ at)
+  here q line at e f = let within = slice_get_within more q line e in let size = answers.one_each in
+      placed-here j q keys at (omega (arith, within, size)) (ap (λ n. slice_get (placed keys) (n + q)) (sym long) ∙ f)
+
+  verdict-is : (packet : Packet) (line : Line) → IsFitting script.schema packet → IsAnswer looked_up (after mode script (suc j)).committed packet line → IsVerdict (after mode script (suc j)).committed packet line.generation line.verdict
+  verdict-is packet line fit answer =
+      let g = answer.0 in
+      let kinds = grown_at script.schema 0 (after mode script (suc j)).committed grown line.generation g answer.1 in
+      let many = as_many g.sets script.schema kinds in
+      let within = slice_get_within script.schema packet.set fit.set fit.declared in
+      let s = item-at g.sets packet.set (omega (arith, many, within)) in
+      record { generation = g; state = s.0; is_committed = answer.1; is_set = s.1; first_match = answer.2 ∙ ap (verdict_in packet.key packet.now) s.1 }
+
+  new-line : (q : ℕ) (packet : Packet) (line : Line) → IsFitting script.schema packet → IsSectionLine looked_up (section_at keys j) (count_of keys j) threads (length (before mode script (suc j)).committed) (after mode script (suc j)).committed q packet line
+      → IsLegalLine mode script threads (length lines + q) (in_section (1 + j) (q, packet)) line
+  new-line q packet line fit l =
+      let one : 1 + j ≡ suc j = omega arith in
+      let old_long = (history_numbered mode script.schema (take (suc j) script.sections)).long in
+      let new_long = (history_numbered mode script.schema (take (suc j + 1) script.sections)).long in
+      let early : last mode script (suc j - 1) ≡ (before mode script (suc j)).last.number = (let e : suc j - 1 + 1 ≡ suc j = omega arith in ap (λ n. (before mode script n).last.number) e) in
+      let names = l.names in let old = l.not_too_old in let new = l.not_too_new in
+      subst (λ (n : ℕ). IsLegalLine mode script threads (length lines + q) (in_section n (q, packet)) line) (sym one) (record {
+        names_packet = omega (arith, names, long);
+        thread = l.thread;
+        not_too_old = omega (arith, old, old_long, early);
+        not_too_new = omega (arith, new, new_long);
+        verdict = verdict-is packet line fit l.answer;
+      })
+
+  each-is : (p : ℕ) (at : Placed) (line : Line) → slice_get (placed keys) p ≡ Some at → (slice_get lines p ≡ Some line) ⊎ ((q : ℕ) × (slice_get more q ≡ Some line) × (p ≡ length lines + q)) → IsLegalLine mode script threads p at line
+  each-is p at line e (inl k) = so_far.each p at line e k
+  each-is p at line e (inr k) =
+      let h = here k.0 line at k.1 (ap (λ n. slice_get (placed keys) n) (sym k.2) ∙ e) in
+      let fit : IsFitting script.schema at.packet = of-placed (IsFitting script.schema) 1 p keys at fits e in
+      let is : IsFitting script.schema h.0 = subst (λ (z : Placed). IsFitting script.schema z.packet) (sym h.2) fit in
+      subst (λ (z : ℕ × Placed). IsLegalLine mode script threads z.0 z.1 line) (λ i. (sym k.2 i, h.2 i)) (new-line k.0 h.0 line is (answers.each k.0 h.0 line h.1 k.1))
+
+  abbrev Where : ℕ → Line → Type 0
+  Where p line = (slice_get lines p ≡ Some line) ⊎ ((q : ℕ) × (slice_get more q ≡ Some line) × (p ≡ length lines + q))
+
+  pair-is : (p q : ℕ) (a b : Placed) (earlier later : Line) → p < q → slice_get (placed keys) p ≡ Some a → slice_get (placed keys) q ≡ Some b → Where p earlier → Where q later → IsLegalPair a b earlier later
+  pair-is p q a b earlier later lt e f (inl k) (inl m) = so_far.pairs p q a b earlier later lt e f k m
+  pair-is p q a b earlier later lt e f (inr k) (inl m) = let within = slice_get_within lines q later m in let place = k.2 in absurd (omega (arith, within, place, lt))
+  pair-is p q a b earlier later lt e f (inl k) (inr m) =
+      let within = slice_get_within lines p earlier k in
+      let early = placed-before 1 j p keys a e (omega (arith, within, long)) in
+      let h = here m.0 later b m.1 (ap (λ n. slice_get (placed keys) n) (sym m.2) ∙ f) in
+      let section_is : 1 + j ≡ b.section = ap (λ (z : Placed). z.section) h.2 in
+      let first = so_far.each p a earlier e k in
+      let second = each-is q b later f (inr m) in
+      let order = last-order mode script a.section (b.section - 1) (omega (arith, early, section_is)) in
+      let x = first.not_too_new in let y = second.not_too_old in record {
+        one_batch = λ same batch. absurd (omega (arith, early, section_is, same));
+        never_falls = λ same. omega (arith, order, x, y);
+      }
+  pair-is p q a b earlier later lt e f (inr k) (inr m) =
+      let g = here k.0 earlier a k.1 (ap (λ n. slice_get (placed keys) n) (sym k.2) ∙ e) in
+      let h = here m.0 later b m.1 (ap (λ n. slice_get (placed keys) n) (sym m.2) ∙ f) in
+      let x : k.0 ≡ a.place = ap (λ (z : Placed). z.place) g.2 in let y : m.0 ≡ b.place = ap (λ (z : Placed). z.place) h.2 in
+      let i = k.2 in let o = m.2 in record {
+        one_batch = λ same batch. answers.one_batch k.0 m.0 earlier later k.1 m.1 (ap (λ n. n / 16) x ∙ batch ∙ sym (ap (λ n. n / 16) y));
+        never_falls = λ same. answers.never_falls k.0 m.0 earlier later (omega (arith, i, o, lt)) k.1 m.1 same;
+      }
+
+  pub more-legal : IsLegalSoFar mode script keys threads (lines ++ more)
+  more-legal = record {
+    each = λ p at line e f. each-is p at line e (append-either lines more p line f);
+    pairs = λ p q a b earlier later lt e f g h. pair-is p q a b earlier later lt e f (append-either lines more p earlier g) (append-either lines more q later h);
+  }
+
 -- The first n sections of a run are told.
-pub record IsToldUpTo (keep_going : Bool) (script : Script) (keys : List (List Packet)) (n : ℕ) (t : Telling) : Type 0 where
-  pub stands : Stands (before (mode_of keep_going) script n).events (before (mode_of keep_going) script n) t.runner []
-  pub mode : t.runner.keep_going ≡ keep_going
-  pub text : t.output.text.items ≡ flat_map (section_text (mode_of keep_going) script keys (run_lines (mode_of keep_going) script keys)) (range_with_len 0 n)
+pub record IsToldUpTo (keep_going : Bool) (script : Script) (keys : List (List Packet)) (threads n : ℕ) (t : Telling) : Type 0 where
+  pub lines : List Line
+  pub stands : Stands (before (mode_of keep_going) script n).events (before (mode_of keep_going) script n) (run t.control false [])
+  pub schema_is : t.control.schema ≡ script.schema
+  pub threads_are : length t.readers.items ≡ threads
+  pub ready : AllReady t.control t.readers.items
+  pub text : t.output.text.items ≡ flat_map (section_text (mode_of keep_going) script keys lines) (range_with_len 0 n)
   pub refused : t.output.refused ≡ list_any is_refusal (before (mode_of keep_going) script n).events
   pub count : t.packets ≡ packets_before keys n
+  pub long : length lines ≡ packets_before keys n
+  pub legal : IsLegalSoFar (mode_of keep_going) script keys threads lines
 
-module _ (keep_going : Bool) (script : Script) (keys : List (List Packet)) where
+module _ (keep_going : Bool) (script : Script) (keys : List (List Packet)) (threads : ℕ) where
   abbrev mode : Mode
   mode = mode_of keep_going
 
-  abbrev told_text : ℕ → List ℕ
-  told_text n = section_text mode script keys (run_lines mode script keys) n
+  pub told_none : (t : Telling) → Begins script.schema threads t → IsToldUpTo keep_going script keys threads 0 t
+  told_none t b = record {
+    lines = [];
+    stands = record { committed = sym b.committed; last = sym (ap (λ w. w.base) b.work); sets = sym (ap (λ w. w.sets) b.work); failed = refl; told = refl };
+    schema_is = b.schema_is;
+    threads_are = b.threads_are;
+    ready = b.ready;
+    text = b.text;
+    refused = b.refused;
+    count = b.packets;
+    long = refl;
+    legal = none-legal mode script keys threads;
+  }
 
-  pub told_none : (t : Telling) → Stands [] (start script.schema) t.runner [] → t.runner.keep_going ≡ keep_going → t.output.text.items ≡ [] → t.output.refused ≡ false → t.packets ≡ 0
-      → IsToldUpTo keep_going script keys 0 t
-  told_none t stands same text refused count = record { stands = stands; mode = same; text = text; refused = refused; count = count }
+  -- the lines of section n
+  legal-more : (fits : All (All (IsFitting script.schema)) keys) (n : ℕ) (lines more : List Line) → length lines ≡ packets_before keys n → IsLegalSoFar mode script keys threads lines
+      → IsSection looked_up (packets_at keys n) (packets_before keys n) threads (length (before mode script n).committed) (after mode script n).committed more → Grown script.schema 0 (after mode script n).committed
+      → IsLegalSoFar mode script keys threads (lines ++ more)
+  legal-more fits zero lines [] long so_far answers grown = subst (λ (z : List Line). IsLegalSoFar mode script keys threads z) (sym (append-nil lines)) so_far
+  legal-more fits zero lines (x ∷ more) long so_far answers grown = let size = answers.one_each in absurd (omega (arith, size))
+  legal-more fits (suc j) lines more long so_far answers grown =
+      more-legal mode script keys fits threads j lines more (long ∙ ap (count_of keys) (one-less j)) so_far
+      (subst (λ (n : ℕ). IsSection looked_up (section_at keys j) (count_of keys n) threads (length (before mode script (suc j)).committed) (after mode script (suc j)).committed more) (one-less j) answers)
+      grown
 
-  -- the sets are those that are declared
-  pub told_kinds : (n : ℕ) (t : Telling) → IsToldUpTo keep_going script keys n t → HasKinds (declared_kinds script.schema) t.runner.work
-  told_kinds n t h = declared mode script.schema (take n script.sections) (before mode script n).events t.runner [] h.stands
-
-  told_more : (n : ℕ) (t new : Telling) → IsToldUpTo keep_going script keys n t → TellsSection script.schema (section_at script.sections n) (packets_at keys n) t new → IsToldUpTo keep_going script keys (n + 1) new
-  told_more n t new h tells =
+  told_more : (fits : All (All (IsFitting script.schema)) keys) (n : ℕ) (t new : Telling) → IsToldUpTo keep_going script keys threads n t → EndsClosed (section_at script.sections n)
+      → TellsSection keep_going (section_at script.sections n) (packets_at keys n) t new → IsToldUpTo keep_going script keys threads (n + 1) new
+  told_more fits n t new h closed tells =
       let c : Control = before mode script n in
       let c' : Control = after mode script n in
-      let next : Stands c.events (section (mode_of t.runner.keep_going) c (section_at script.sections n)) new.runner tells.events = tells.goes_on.stands c.events c h.stands in
-      let here : Stands c.events c' new.runner tells.events =
-      subst (λ (k : Control). Stands c.events k new.runner tells.events) (sym (after-next mode script n))
-      (subst (λ (b : Bool). Stands c.events (section (mode_of b) c (section_at script.sections n)) new.runner tells.events) h.mode next) in
+      let goes = tells.ran.goes_on in
+      let next : Stands c.events (section mode c (section_at script.sections n)) (run new.control tells.ran.failed tells.events) = goes.stands c.events c h.stands in
+      let here : Stands c.events c' (run new.control tells.ran.failed tells.events) = subst (λ (k : Control). Stands c.events k (run new.control tells.ran.failed tells.events)) (sym (after-next mode script n)) next in
+      let quiet : c'.failed ≡ false = ap (λ (k : Control). k.failed) (after-next mode script n) ∙ closed-section (section_at script.sections n) closed mode c h.stands.failed in
       let events : section_events mode script n ≡ tells.events = ap (drop (length c.events)) here.told ∙ drop-behind c.events tells.events in
-      let lines : section_lines keys n (run_lines mode script keys) ≡ packet_lines new.runner.work.base t.packets (packets_at keys n) =
-      lines-of mode script keys n ∙ ap (λ g. packet_lines g (packets_before keys n) (packets_at keys n)) here.last ∙ ap (λ m. packet_lines new.runner.work.base m (packets_at keys n)) (sym h.count) in
+      let all : List Line = h.lines ++ tells.lines in
+      let answers = subst (λ (z : ℕ × ℕ × List Generation × List Generation). IsSection looked_up (packets_at keys n) z.0 z.1 (length z.2) z.3 tells.lines) (λ i. (h.count i, h.threads_are i, sym h.stands.committed i, sym here.committed i)) tells.answers in
+      let grown : Grown script.schema 0 c'.committed = subst (λ (z : List SetDecl × List Generation). Grown z.0 0 z.1) (λ i. ((goes.schema_is ∙ h.schema_is) i, sym here.committed i)) tells.grown in
+      let size : length tells.lines ≡ length (packets_at keys n) = answers.one_each in
+      let counts = count-more keys n in
       record {
-        stands = record { last = here.last; sets = here.sets; failed = here.failed; told = sym (append-nil c'.events) };
-        mode = tells.goes_on.same_mode ∙ h.mode;
+        lines = all;
+        stands = record { committed = here.committed; last = here.last; sets = here.sets; failed = quiet; told = sym (append-nil c'.events) };
+        schema_is = goes.schema_is ∙ h.schema_is;
+        threads_are = tells.threads_are ∙ h.threads_are;
+        ready = tells.ready;
         text =
             tells.text
-            ∙ ap (λ z. z ++ (events_text script.schema tells.events ++ lines_text (packet_lines new.runner.work.base t.packets (packets_at keys n)))) h.text
-            ∙ ap (λ ev. flat_map told_text (range_with_len 0 n) ++ (events_text script.schema ev ++ lines_text (packet_lines new.runner.work.base t.packets (packets_at keys n)))) (sym events)
-            ∙ ap (λ ls. flat_map told_text (range_with_len 0 n) ++ (events_text script.schema (section_events mode script n) ++ lines_text ls)) (sym lines)
-            ∙ ap (λ m. flat_map told_text (range_with_len 0 n) ++ told_text m) (sym (zero_is n))
-            ∙ sym (range-more told_text 0 n)
-            ∙ ap (λ m. flat_map told_text (range_with_len 0 m)) (sym (add-one n));
+            ∙ (λ i. (h.text ∙ range-same (section_text mode script keys h.lines) (section_text mode script keys all) n (λ j lt. ap (λ ls. events_text script.schema (section_events mode script j) ++ lines_text ls) (sym (lines-before keys n h.lines tells.lines h.long j lt)))) i
+            ++ (events_text (h.schema_is i) (sym events i) ++ lines_text (sym (lines-here keys n h.lines tells.lines h.long size) i)))
+            ∙ ap (λ m. flat_map (section_text mode script keys all) (range_with_len 0 n) ++ section_text mode script keys all m) (sym (zero_is n))
+            ∙ sym (range-more (section_text mode script keys all) 0 n)
+            ∙ ap (λ m. flat_map (section_text mode script keys all) (range_with_len 0 m)) (sym (add-one n));
         refused = tells.refused ∙ ap (λ b. b || list_any is_refusal tells.events) h.refused ∙ sym (list_any-append is_refusal c.events tells.events) ∙ ap (list_any is_refusal) (sym here.told);
-        count = tells.count ∙ ap (λ m. m + length (packets_at keys n)) h.count ∙ count-more keys n;
+        count = tells.count ∙ ap (λ m. m + length (packets_at keys n)) h.count ∙ counts;
+        long = let both = length-append h.lines tells.lines in let long = h.long in omega (arith, both, long, size, counts);
+        legal = legal-more fits n h.lines tells.lines h.long h.legal answers grown;
       } where
         zero_is : (m : ℕ) → 0 + m ≡ m
         zero_is m = omega arith
 
   -- the same, by what the section's steps and packets are
-  pub told_next : (n : ℕ) (t new : Telling) (steps : List Step) (packets : List Packet) → IsToldUpTo keep_going script keys n t → steps ≡ section_at script.sections n → packets ≡ packets_at keys n
-      → TellsSection script.schema steps packets t new → IsToldUpTo keep_going script keys (n + 1) new
-  told_next n t new steps packets h steps_are packets_are tells =
-      told_more n t new h
-      (subst (λ (z : List Packet). TellsSection script.schema (section_at script.sections n) z t new) packets_are
-      (subst (λ (z : List Step). TellsSection script.schema z packets t new) steps_are tells))
+  pub told_next : (fits : All (All (IsFitting script.schema)) keys) (n : ℕ) (t new : Telling) (steps : List Step) (packets : List Packet) → IsToldUpTo keep_going script keys threads n t → EndsClosed (section_at script.sections n)
+      → steps ≡ section_at script.sections n → packets ≡ packets_at keys n → TellsSection keep_going steps packets t new → IsToldUpTo keep_going script keys threads (n + 1) new
+  told_next fits n t new steps packets h closed steps_are packets_are tells =
+      told_more fits n t new h closed (subst (λ (z : List Step × List Packet). TellsSection keep_going z.0 z.1 t new) (λ i. (steps_are i, packets_are i)) tells)
 
   -- Behind the last section the whole is told.
-  pub told_all : (n : ℕ) (t : Telling) → section_count script keys ≡ n → IsToldUpTo keep_going script keys n t
-      → (t.output.text.items ≡ transcript_text mode script keys (run_lines mode script keys)) × (t.output.refused ≡ has_refusal mode script)
+  pub told_all : (n : ℕ) (t : Telling) → section_count script keys ≡ n → IsToldUpTo keep_going script keys threads n t
+      → ((lines : List Line) × Legal script keys threads mode lines × (t.output.text.items ≡ transcript_text mode script keys lines)) × (t.output.refused ≡ has_refusal mode script)
   told_all n t size h =
-      let whole : take n script.sections ≡ script.sections = take_all n script.sections (omega (arith, size)) in (
-        h.text ∙ ap (λ m. flat_map told_text (range_with_len 0 m)) (sym size),
+      let whole : take n script.sections ≡ script.sections = take_all n script.sections (omega (arith, size)) in
+      let all_keys : take (n - 1) keys ≡ keys = take_all (n - 1) keys (omega (arith, size)) in
+      let many : packets_before keys n ≡ length (placed keys) = ap (λ ks. length (flat_map (λ packets. packets) ks)) all_keys ∙ sym (placed-count 1 keys) in (
+        (
+          h.lines,
+          record { one_each = h.long ∙ many; each = h.legal.each; pairs = h.legal.pairs },
+          h.text ∙ ap (λ m. flat_map (section_text mode script keys h.lines) (range_with_len 0 m)) (sym size),
+        ),
         h.refused ∙ ap (λ xs. list_any is_refusal (history mode script.schema xs).events) whole,
       )
+
+-- a section that isn't there is closed
+pub closed-at : (sections : List (List Step)) (j : ℕ) → All EndsClosed sections → EndsClosed (section_at sections j)
+closed-at sections j h = go (slice_get sections j) refl where
+  go : (o : Option (List Step)) → slice_get sections j ≡ o → EndsClosed (unwrap_or o [])
+  go None e = refl
+  go (Some ys) e = of-item EndsClosed sections j ys h e
+
+-- Where a control stands behind sections, what was told names a declared set, and its sets are those declared.
+module _ (mode : Mode) (schema : List SetDecl) (sections : List (List Step)) (k : Steering) (events : List Event) (st : Stands [] (history mode schema sections) (run k false events)) where
+  pub events_declared : All (NamesSet (length schema)) events
+  events_declared =
+      subst (λ n. All (NamesSet n) events) (length-map schema (λ (d : SetDecl). d.kinds))
+      (subst (λ (z : List Event). All (NamesSet (length (declared_kinds schema))) z) st.told (history_of mode schema sections).named)
+
+  pub sets_declared : AreSetsOf schema k.work.base.sets
+  sets_declared = subst (λ (g : Generation). AreSetsOf schema g.sets) st.last (history_sets mode schema sections)
+
+pub start_stands : (schema : List SetDecl) (k : Steering) → k.committed ≡ first_generation schema ∷ [] → k.work ≡ opened (first_generation schema) → Stands [] (start schema) (run k false [])
+start_stands schema k list work = record { committed = sym list; last = sym (ap (λ w. w.base) work); sets = sym (ap (λ w. w.sets) work); failed = refl; told = refl }
+
+-- The next section.
+pub next_stands : (keep_going : Bool) (schema : List SetDecl) (sections : List (List Step)) (i : ℕ) (steps : List Step) (k new : Steering) (events told all : List Event) → i < length sections → steps ≡ get_or sections i steps
+    → EndsClosed steps → Stands [] (history (mode_of keep_going) schema (take i sections)) (run k false events) → Ran keep_going steps k new told → all ≡ events ++ told
+    → Stands [] (history (mode_of keep_going) schema (take (i + 1) sections)) (run new false all)
+next_stands keep_going schema sections i steps k new events told all h e closed st ran more =
+    let c : Control = history (mode_of keep_going) schema (take i sections) in
+    let next = ran.goes_on.stands events c (record { committed = st.committed; last = st.last; sets = st.sets; failed = st.failed; told = st.told ∙ sym (append-nil events) }) in
+    subst (λ (x : Control). Stands [] x (run new false all)) (fold-more (section (mode_of keep_going)) (start schema) sections i steps h e)
+    (record { committed = next.committed; last = next.last; sets = next.sets; failed = closed-section steps closed (mode_of keep_going) c st.failed; told = next.told ∙ sym more })

@@ -1,4 +1,3 @@
+pub mod Drill
 pub mod Listings
-pub mod Packets
-pub mod Running
 pub mod Telling

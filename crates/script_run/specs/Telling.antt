@@ -1,39 +1,49 @@
 -- What a run writes of a section: what its steps tell, and the lines of its packets.
-use Rattle.std.specs.Prelude.{◌≡◌, ℕ, ◌+◌, ◌||◌, List, [], ◌++◌, length, unwrap_or, slice_get}
+use Rattle.std.specs.Prelude.{◌≡◌, ℕ, ◌+◌, ◌||◌, Bool, false, List, [], ◌∷◌, ◌++◌, length, unwrap_or, slice_get}
 use Rattle.std.specs.List.{list_any}
 use Rattle.set_model.specs.declared.packet.Packet.{Packet}
+use Rattle.set_model.specs.declared.packet.Verdict.{Verdict}
 use Rattle.set_model.specs.declared.report.Event.{Event}
+use Rattle.set_model.specs.declared.report.Line.{Line}
 use Rattle.set_model.specs.declared.script.SetDecl.{SetDecl}
 use Rattle.set_model.specs.declared.script.Step.{Step}
-use Rattle.set_model.specs.Control.{mode_of, section, is_refusal}
+use Rattle.set_model.specs.Control.{Generation, is_refusal, first_generation}
 use Rattle.set_model.specs.Text.{events_text, lines_text}
+use Rattle.set_space.specs.Open.{opened}
+use Rattle.gen_publish.specs.Publish.{Grown}
+use Rattle.packet_pool.specs.Running.{Ran}
+use Rattle.packet_pool.specs.Section.{IsSection, verdict_in}
+use Rattle.packet_pool.specs.Work.{AllReady}
 use Rattle.script_run.specs.declared.telling.Telling.{Telling}
-use Rattle.script_run.specs.Packets.{packet_lines}
-use Rattle.script_run.specs.Running.{GoesOn}
 
 -- the items of section j, of which there are none where there is no such section
 abbrev pub section_at : {T : Type 0} → List (List T) → ℕ → List T
 section_at sections j = unwrap_or (slice_get sections j) []
 
--- A section's steps are done: these events are told, and their lines stand behind the text.
-pub record TellsSteps (schema : List SetDecl) (steps : List Step) (old new : Telling) : Type 0 where
-  pub events : List Event
-  pub goes_on : GoesOn (λ c. section (mode_of old.runner.keep_going) c steps) old.runner [] new.runner events
-  pub text : new.output.text.items ≡ old.output.text.items ++ events_text schema events
-  pub refused : new.output.refused ≡ (old.output.refused || list_any is_refusal events)
-  pub packets : new.packets ≡ old.packets
+-- what a lookup says of a packet in a generation
+abbrev pub looked_up : Generation → Packet → Verdict
+looked_up g p = verdict_in p.key p.now (slice_get g.sets p.set)
 
--- Packets are looked up in the last generation: their lines stand behind the text, and they are counted.
-pub record TellsPackets (packets : List Packet) (old new : Telling) : Type 0 where
-  pub runner : new.runner ≡ old.runner
-  pub text : new.output.text.items ≡ old.output.text.items ++ lines_text (packet_lines old.runner.work.base old.packets packets)
-  pub refused : new.output.refused ≡ old.output.refused
-  pub count : new.packets ≡ old.packets + length packets
+-- Nothing is done yet: the control is at generation 0, and so are all readers.
+pub record Begins (schema : List SetDecl) (threads : ℕ) (t : Telling) : Type 0 where
+  pub schema_is : t.control.schema ≡ schema
+  pub committed : t.control.committed ≡ first_generation schema ∷ []
+  pub work : t.control.work ≡ opened (first_generation schema)
+  pub threads_are : length t.readers.items ≡ threads
+  pub ready : AllReady t.control t.readers.items
+  pub packets : t.packets ≡ 0
+  pub text : t.output.text.items ≡ []
+  pub refused : t.output.refused ≡ false
 
--- A section is done: its steps, and then its packets in the last generation behind them.
-pub record TellsSection (schema : List SetDecl) (steps : List Step) (packets : List Packet) (old new : Telling) : Type 0 where
+-- A section is done: its steps beside its packets.
+pub record TellsSection (keep_going : Bool) (steps : List Step) (packets : List Packet) (old new : Telling) : Type 0 where
   pub events : List Event
-  pub goes_on : GoesOn (λ c. section (mode_of old.runner.keep_going) c steps) old.runner [] new.runner events
-  pub text : new.output.text.items ≡ old.output.text.items ++ (events_text schema events ++ lines_text (packet_lines new.runner.work.base old.packets packets))
+  pub lines : List Line
+  pub ran : Ran keep_going steps old.control new.control events
+  pub answers : IsSection looked_up packets old.packets (length old.readers.items) (length old.control.committed) new.control.committed lines
+  pub grown : Grown new.control.schema 0 new.control.committed
+  pub threads_are : length new.readers.items ≡ length old.readers.items
+  pub ready : AllReady new.control new.readers.items
+  pub text : new.output.text.items ≡ old.output.text.items ++ (events_text old.control.schema events ++ lines_text lines)
   pub refused : new.output.refused ≡ (old.output.refused || list_any is_refusal events)
   pub count : new.packets ≡ old.packets + length packets

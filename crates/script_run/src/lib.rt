@@ -1,15 +1,17 @@
-//! Runs scripts on one thread: the steps of each section on the open sets, and the packets of each key section in the last
-//! generation behind it.
+//! Runs scripts: the steps of each section beside the packets of its key section, which packet threads look up.
 #![tactic(auto)]
 
-mod changes;
-mod lookup;
+#[cfg(test)]
+mod beside;
+mod drilling;
+#[cfg(test)]
+mod fixture;
+mod numbers;
 mod output;
-mod runner;
 mod telling;
-mod whole;
-
-pub use output::{Output, dump, listing, transcript};
-
 #[cfg(test)]
 mod tests;
+mod whole;
+
+pub use drilling::drill;
+pub use output::{Output, dump, listing, transcript};

@@ -1,9 +1,9 @@
-ghost use Rattle.std.specs.Prelude.{◌≡◌, ◌+◌, List, length, All, IfOk};
+ghost use Rattle.std.specs.Prelude.{◌≡◌, ◌+◌, ◌<◌, ◌≤◌, [], List, length, max, All, IfOk};
 ghost use Rattle.std.specs.List.{list_any};
 ghost use Rattle.set_model.specs.Control.{mode_of, has_refusal, is_refusal};
 ghost use Rattle.set_model.specs.Legal.{Legal};
 ghost use Rattle.set_model.specs.Runnable.{IsRunnable, IsFitting};
-ghost use Rattle.set_model.specs.Text.{transcript_text, section_count};
+ghost use Rattle.set_model.specs.Text.{transcript_text};
 ghost use Rattle.set_model.specs.declared.report.Line.{Line as PacketLine};
 ghost use Rattle.set_report.specs.Remarks.{remarks_text};
 ghost use Rattle.set_report.specs.Writes.{NamesSet};
@@ -12,9 +12,11 @@ ghost use Rattle.script_run.specs.Telling.{section_at};
 
 use crate::telling::{Telling, tells_refusal};
 use crate::whole::Whole;
-use set_model::{Events, Keys, Listed, Memory, Schema, Script};
+use packet_pool::Gate;
+use set_model::{Events, Keys, Listed, Memory, Packets, Schema, Script, Sections, Steps};
 use set_report::{write_dump, write_list, write_remarks};
 use std::alloc::Global;
+use std::thread::Threads;
 
 /// What a command writes: its text, and whether that tells that a change was refused.
 #[derive(Drop)]
@@ -23,45 +25,59 @@ pub struct Output {
     pub refused: bool,
 }
 
-/// The items of a section, of which there are none where there is no such section.
-fn section<T>(sections: &Listed<Listed<T>>, j: u64) -> &[T]
+/// The section at a place, or the empty one where there is none.
+fn section<'a, T>(sections: &'a Listed<Listed<T>>, j: u64, empty: &'a Listed<T>) -> &'a Listed<T>
+    requires { empty.now ≡ [] }
     ensures { result.now ≡ section_at sections.now j }
 {
     if j < sections.len() {
-        sections.at(j).as_slice()
+        sections.at(j)
     } else {
-        &[]
+        empty
     }
 }
 
 /// How many sections a run has behind section 0.
-fn later_sections(script: &Script, keys: &Keys) -> u64
-    ensures { section_count script.now keys.now ≡ result + 1 }
+fn later_sections(sections: &Sections, keys: &Keys) -> u64
+    ensures { max (length sections.now) (length keys.now + 1) ≡ result + 1 }
 {
-    script.sections.len().saturating_sub(1).max(keys.len())
+    sections.len().saturating_sub(1).max(keys.len())
 }
 
-/// Runs a script beside the packets of a key file, and gives the transcript of one thread.
+/// Runs a script beside the packets of a key file, which so many threads look up, and gives the transcript.
 ///
 /// # Errors
 ///
 /// `Memory` where there is none left.
-pub fn transcript(
+pub fn transcript<R: Threads + Sync, G: Gate>(
+    rt: &R,
     alloc: Global,
-    script: &Script,
+    script: Script,
     keys: &Keys,
     keep_going: bool,
+    threads: u32,
+    gate: &G,
 ) -> Result<Output, Memory>
-    requires script { IsRunnable script.now }
-    requires keys { All (All (IsFitting script.now.schema)) keys.now }
-    ensures text { IfOk result (λ out. (lines : List PacketLine) × Legal script.now keys.now 1 (mode_of keep_going) lines × (out.text.items ≡ transcript_text (mode_of keep_going) script.now keys.now lines)) }
-    ensures refused { IfOk result (λ out. out.refused ≡ has_refusal (mode_of keep_going) script.now) }
+    requires script { IsRunnable script }
+    requires keys { All (All (IsFitting script.schema)) keys.now }
+    requires threads { (0 < threads) × (threads ≤ 16) }
+    ensures text { IfOk result (λ out. (lines : List PacketLine) × Legal script keys.now threads (mode_of keep_going) lines × (out.text.items ≡ transcript_text (mode_of keep_going) script keys.now lines)) }
+    ensures refused { IfOk result (λ out. out.refused ≡ has_refusal (mode_of keep_going) script) }
 {
-    let mut telling = Telling::new(alloc, &script.schema, keep_going)?;
-    telling.do_section(alloc, &script.schema, section(&script.sections, 0), &[])?;
-    'rest: for j in 0..later_sections(script, keys) {
-        let steps = section(&script.sections, j + 1);
-        telling.do_section(alloc, &script.schema, steps, section(keys, j))?;
+    let Script {
+        schema,
+        sections,
+        ..
+    } = script;
+    let mut telling = Telling::new(alloc, schema, threads)?;
+    let no_steps = Steps::new(alloc);
+    let no_packets = Packets::new(alloc);
+    let first = section(&sections, 0, &no_steps);
+    telling.do_section(rt, alloc, first, &no_packets, keep_going, gate)?;
+    'rest: for j in 0..later_sections(&sections, keys) {
+        let steps = section(&sections, j + 1, &no_steps);
+        let packets = section(keys, j, &no_packets);
+        telling.do_section(rt, alloc, steps, packets, keep_going, gate)?;
     }
     Ok(telling.output)
 }
@@ -85,17 +101,19 @@ fn remarks(alloc: Global, schema: &Schema, events: &Events) -> Result<Output, Me
 /// # Errors
 ///
 /// `Memory` where there is none left.
-pub fn listing(alloc: Global, script: &Script, keep_going: bool) -> Result<Output, Memory>
-    requires { IsRunnable script.now }
-    ensures text { IfOk result (λ out. out.text.items ≡ listing_text (mode_of keep_going) script.now) }
-    ensures refused { IfOk result (λ out. out.refused ≡ has_refusal (mode_of keep_going) script.now) }
+pub fn listing(alloc: Global, script: Script, keep_going: bool) -> Result<Output, Memory>
+    requires script { IsRunnable script }
+    ensures text { IfOk result (λ out. out.text.items ≡ listing_text (mode_of keep_going) script) }
+    ensures refused { IfOk result (λ out. out.refused ≡ has_refusal (mode_of keep_going) script) }
 {
+    let last = script.last;
     let whole = Whole::run(alloc, script, keep_going)?;
-    let mut output = remarks(alloc, &script.schema, &whole.events)?;
+    let control = &whole.control;
+    let mut output = remarks(alloc, control.schema(), &whole.events)?;
     write_list(
-        &script.schema,
-        whole.runner.work.base(),
-        script.last,
+        control.schema(),
+        control.generation(),
+        last,
         &mut output.text,
     )?;
     Ok(output)
@@ -106,13 +124,14 @@ pub fn listing(alloc: Global, script: &Script, keep_going: bool) -> Result<Outpu
 /// # Errors
 ///
 /// `Memory` where there is none left.
-pub fn dump(alloc: Global, script: &Script, keep_going: bool) -> Result<Output, Memory>
-    requires { IsRunnable script.now }
-    ensures text { IfOk result (λ out. out.text.items ≡ tables_text (mode_of keep_going) script.now) }
-    ensures refused { IfOk result (λ out. out.refused ≡ has_refusal (mode_of keep_going) script.now) }
+pub fn dump(alloc: Global, script: Script, keep_going: bool) -> Result<Output, Memory>
+    requires script { IsRunnable script }
+    ensures text { IfOk result (λ out. out.text.items ≡ tables_text (mode_of keep_going) script) }
+    ensures refused { IfOk result (λ out. out.refused ≡ has_refusal (mode_of keep_going) script) }
 {
     let whole = Whole::run(alloc, script, keep_going)?;
-    let mut output = remarks(alloc, &script.schema, &whole.events)?;
-    write_dump(&script.schema, whole.runner.work.base(), &mut output.text)?;
+    let control = &whole.control;
+    let mut output = remarks(alloc, control.schema(), &whole.events)?;
+    write_dump(control.schema(), control.generation(), &mut output.text)?;
     Ok(output)
 }

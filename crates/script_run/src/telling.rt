@@ -1,25 +1,26 @@
-ghost use Rattle.std.specs.Prelude.{◌≡◌, List, [], false, length, All, IfOk, OnOk};
+ghost use Rattle.std.specs.Prelude.{◌||◌, ◌≡◌, ◌<◌, ◌≤◌, length, map, All, IfOk, OnOk, Some};
 ghost use Rattle.std.specs.List.{list_any};
-ghost use Rattle.set_model.specs.Control.{start, is_refusal as refuses};
+ghost use Rattle.set_model.specs.Control.{is_refusal as refuses};
 ghost use Rattle.set_model.specs.Runnable.{IsFitting, IsRunnableStep};
 ghost use Rattle.set_space.specs.Open.{CanBeBuilt};
-ghost use Rattle.script_run.specs.Packets.{IsPacketOf};
-ghost use Rattle.script_run.specs.Running.{kinds_of, declared_kinds, HasKinds, Stands};
-ghost use Rattle.script_run.specs.Telling.{TellsSteps, TellsPackets, TellsSection};
+ghost use Rattle.packet_pool.specs.Work.{AllReady};
+ghost use Rattle.script_run.specs.Telling.{Begins, TellsSection};
 
-use crate::lookup::look_up;
+use crate::numbers::has_numbers;
 use crate::output::Output;
-use crate::runner::Runner;
-use pipapo_image::Scratch;
-use set_model::{Event, Events, Memory, Packet, Schema, Step};
+use gen_publish::{Control, Reader, start};
+use packet_pool::{Gate, LookupJudge, run_section};
+use set_model::{Event, Memory, Packets, Schema, Steps};
 use set_report::{write_events, write_lines};
 use std::alloc::Global;
+use std::thread::Threads;
 
 /// A run that is told as it goes: where it stands, and what is written so far.
 #[derive(Drop)]
 pub struct Telling {
-    pub runner: Runner,
-    scratch: Scratch,
+    pub control: Control,
+    /// The packet threads' readers, by their numbers.
+    pub readers: Vec<Option<Reader>>,
     /// How many packets are told.
     pub packets: u64,
     pub output: Output,
@@ -41,19 +42,36 @@ pub fn tells_refusal(events: &[Event]) -> bool
     events.iter().any(|event| is_refusal(event))
 }
 
+/// Whether a refusal was told before, or these events tell one.
+fn tells_more(before: bool, events: &[Event]) -> bool
+    ensures { result ≡ (before || list_any refuses events.now) }
+{
+    before || tells_refusal(events)
+}
+
+/// The readers, each at its place.
+fn at_places(alloc: Global, readers: Vec<Reader>) -> Result<Vec<Option<Reader>>, Memory>
+    ensures { IfOk result (λ v. v.items ≡ map Some readers.items) }
+{
+    let mut all = Vec::new(alloc);
+    for reader in readers {
+        all.push(Some(reader))?;
+    }
+    Ok(all)
+}
+
 impl Telling {
     /// A run before its first step.
-    pub fn new(alloc: Global, schema: &Schema, keep_going: bool) -> Result<Telling, Memory>
-        requires { All CanBeBuilt schema.now }
-        ensures stands { IfOk result (λ t. Stands [] (start schema.now) t.runner []) }
-        ensures mode { IfOk result (λ t. t.runner.keep_going ≡ keep_going) }
-        ensures text { IfOk result (λ t. t.output.text.items ≡ []) }
-        ensures refused { IfOk result (λ t. t.output.refused ≡ false) }
-        ensures packets { IfOk result (λ t. t.packets ≡ 0) }
+    pub fn new(alloc: Global, schema: Schema, threads: u32) -> Result<Telling, Memory>
+        requires threads { (0 < threads) × (threads ≤ 16) }
+        requires sets { All CanBeBuilt schema }
+        ensures { IfOk result (λ t. Begins schema threads t) }
     {
+        let (control, readers) = start(alloc, schema, threads)?;
+        let all = at_places(alloc, readers)?;
         Ok(Telling {
-            runner: Runner::new(alloc, schema, keep_going)?,
-            scratch: Scratch::new(alloc)?,
+            control,
+            readers: all,
             packets: 0,
             output: Output {
                 text: Vec::new(alloc),
@@ -62,54 +80,47 @@ impl Telling {
         })
     }
 
-    /// Does steps, and writes what they tell.
-    fn do_steps(&mut self, alloc: Global, schema: &Schema, steps: &[Step]) -> Result<(), Memory>
-        requires kinds { HasKinds (declared_kinds schema.now) self.old.runner.work }
-        requires steps { All (IsRunnableStep schema.now) steps.now }
-        ensures { OnOk result (TellsSteps schema.now steps.now self.old self.new) }
-    {
-        let mut events = Events::new(alloc);
-        self.runner.run(steps, &mut events)?;
-        write_events(schema, &events, &mut self.output.text)?;
-        self.output.refused = self.output.refused || tells_refusal(events.as_slice());
-        Ok(())
-    }
-
-    /// Looks packets up in the last generation, and writes their lines.
-    fn do_packets(&mut self, alloc: Global, packets: &[Packet]) -> Result<(), Memory>
-        requires { All (IsPacketOf (kinds_of self.old.runner.work.base.sets)) packets.now }
-        ensures { OnOk result (TellsPackets packets.now self.old self.new) }
+    /// Does the steps of a section beside its packets, and writes what the steps tell, and then the packets' lines.
+    pub fn do_section<R: Threads + Sync, G: Gate>(
+        &mut self,
+        rt: &R,
+        alloc: Global,
+        steps: &Steps,
+        packets: &Packets,
+        keep_going: bool,
+        gate: &G,
+    ) -> Result<(), Memory>
+        requires readers { (0 < length self.old.readers.items) × (length self.old.readers.items ≤ 16) × AllReady self.old.control self.old.readers.items }
+        requires steps { All (IsRunnableStep self.old.control.schema) steps.now }
+        requires packets { All (IsFitting self.old.control.schema) packets.now }
+        ensures { OnOk result (TellsSection keep_going steps.now packets.now self.old self.new) }
     {
         let first = self.packets;
-        let Some(end) = first.checked_add(packets.len() as u64) else {
+        let Some(end) = first.checked_add(packets.len()) else {
             return Err(Memory);
         };
-        let lines = look_up(
+        if !has_numbers(&self.control, steps) {
+            return Err(Memory);
+        }
+        self.control.known();
+        let section = run_section(
+            rt,
             alloc,
-            self.runner.work.base(),
-            first,
+            &mut self.control,
+            steps,
+            keep_going,
+            &mut self.readers,
             packets,
-            &mut self.scratch,
+            first,
+            &LookupJudge,
+            gate,
         )?;
-        write_lines(&lines, &mut self.output.text)?;
+        self.control.known();
+        let text = &mut self.output.text;
+        write_events(self.control.schema(), &section.events, text)?;
+        write_lines(&section.lines, text)?;
+        self.output.refused = tells_more(self.output.refused, section.events.as_slice());
         self.packets = end;
         Ok(())
-    }
-
-    /// Does the steps of a section, and then looks its packets up.
-    pub fn do_section(
-        &mut self,
-        alloc: Global,
-        schema: &Schema,
-        steps: &[Step],
-        packets: &[Packet],
-    ) -> Result<(), Memory>
-        requires kinds { HasKinds (declared_kinds schema.now) self.old.runner.work }
-        requires steps { All (IsRunnableStep schema.now) steps.now }
-        requires packets { All (IsFitting schema.now) packets.now }
-        ensures { OnOk result (TellsSection schema.now steps.now packets.now self.old self.new) }
-    {
-        self.do_steps(alloc, schema, steps)?;
-        self.do_packets(alloc, packets)
     }
 }

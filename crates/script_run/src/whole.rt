@@ -1,33 +1,55 @@
-ghost use Rattle.std.specs.Prelude.{◌≡◌, [], length, All, IfOk};
+ghost use Rattle.std.specs.Prelude.{◌≡◌, ◌++◌, [], false, length, All, IfOk, OnOk};
 ghost use Rattle.set_model.specs.Control.{mode_of, history};
 ghost use Rattle.set_model.specs.Runnable.{IsRunnable};
 ghost use Rattle.set_report.specs.Writes.{NamesSet, AreSetsOf};
-ghost use Rattle.script_run.specs.Running.{Stands};
+ghost use Rattle.packet_pool.specs.Running.{run, Stands};
 
-use crate::runner::Runner;
+use crate::numbers::has_numbers;
+use gen_publish::{Control, start};
+use packet_pool::run_steps;
 use set_model::{Events, Memory, Script};
 use std::alloc::Global;
 
 /// A script that was run to its end, and all that was told.
 #[derive(Drop)]
 pub struct Whole {
-    pub runner: Runner,
+    pub control: Control,
     pub events: Events,
+}
+
+/// Adds events behind others.
+fn add_all(events: &mut Events, more: &Events) -> Result<(), Memory>
+    ensures { OnOk result (events.new ≡ events.old ++ more.now) }
+{
+    for event in more.as_slice() {
+        events.push(*event)?;
+    }
+    Ok(())
 }
 
 impl Whole {
     /// Runs all sections of a script, without packets.
-    pub fn run(alloc: Global, script: &Script, keep_going: bool) -> Result<Whole, Memory>
-        requires { IsRunnable script.now }
-        ensures ends { IfOk result (λ whole. Stands [] (history (mode_of keep_going) script.now.schema script.now.sections) whole.runner whole.events) }
-        ensures named { IfOk result (λ whole. All (NamesSet (length script.now.schema)) whole.events) }
-        ensures sets { IfOk result (λ whole. AreSetsOf script.now.schema whole.runner.work.base.sets) }
+    pub fn run(alloc: Global, script: Script, keep_going: bool) -> Result<Whole, Memory>
+        requires script { IsRunnable script }
+        ensures ends { IfOk result (λ whole. Stands [] (history (mode_of keep_going) script.schema script.sections) (run whole.control false whole.events)) }
+        ensures schema { IfOk result (λ whole. whole.control.schema ≡ script.schema) }
+        ensures named { IfOk result (λ whole. All (NamesSet (length script.schema)) whole.events) }
+        ensures sets { IfOk result (λ whole. AreSetsOf script.schema whole.control.work.base.sets) }
     {
-        let mut runner = Runner::new(alloc, &script.schema, keep_going)?;
+        let Script {
+            schema,
+            sections,
+            ..
+        } = script;
+        let (mut control, _readers) = start(alloc, schema, 1)?;
         let mut events = Events::new(alloc);
-        'sections: for steps in script.sections.as_slice() {
-            runner.run(steps.as_slice(), &mut events)?;
+        'sections: for steps in sections.as_slice() {
+            if !has_numbers(&control, steps) {
+                return Err(Memory);
+            }
+            let told = run_steps(alloc, &mut control, steps, keep_going)?;
+            add_all(&mut events, &told)?;
         }
-        Ok(Whole { runner, events })
+        Ok(Whole { control, events })
     }
 }

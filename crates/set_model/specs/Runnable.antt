@@ -1,5 +1,5 @@
 -- Scripts and packets that can be run: their steps and keys fit the sets that are declared.
-use Rattle.std.specs.Prelude.{◌≡◌, ◌≤◌, ◌<◌, List, false, length, All, IsTrue, Some, slice_get}
+use Rattle.std.specs.Prelude.{◌≡◌, ◌≤◌, ◌<◌, ◌-◌, List, Bool, true, false, length, All, IsTrue, Option, Some, None, slice_get}
 use Rattle.set_model.specs.declared.packet.Packet.{Packet}
 use Rattle.set_model.specs.declared.script.SetDecl.{SetDecl}
 use Rattle.set_model.specs.declared.script.Step.{Step}
@@ -23,12 +23,29 @@ IsRunnableStep schema (Flush line set now) = (d : SetDecl) × (slice_get schema 
 IsRunnableStep schema (Commit now) = Unit {0}
 IsRunnableStep schema Abort = Unit {0}
 
--- A script declares at most 64 sets, and its steps are of these sets.
+-- A change or a flush leaves its transaction open; a commit and an abort end it.
+abbrev pub opens : Option Step → Bool
+opens None = false
+opens (Some (Change line set verb parts expiry comment now)) = true
+opens (Some (Flush line set now)) = true
+opens (Some (Commit now)) = false
+opens (Some Abort) = false
+
+-- Behind these steps of a section a transaction with a change is open: the last step is a change or a flush.
+abbrev pub is_open : List Step → Bool
+is_open steps = opens (slice_get steps (length steps - 1))
+
+-- The last step of a section, where it has one, ends its transaction: it is a commit or an abort.
+abbrev pub EndsClosed : List Step → Type 0
+EndsClosed steps = is_open steps ≡ false
+
+-- A script declares at most 64 sets, its steps are of these sets, and each section ends its last transaction.
 pub record IsRunnable (s : Script) : Type 0 where
   pub sets : All HasFields s.schema
   pub may_share : All MayShare s.schema
   pub few_sets : length s.schema ≤ 64
   pub steps : All (All (IsRunnableStep s.schema)) s.sections
+  pub closed : All EndsClosed s.sections
 
 -- A packet's set is declared, and its key fits the set's kinds.
 pub record IsFitting (schema : List SetDecl) (p : Packet) : Type 0 where

@@ -10,3 +10,5 @@ mod DumpBits
 mod DumpLines
 mod DumpTables
 mod SetLaws
+mod SummaryWorked
+mod SummaryLaws

@@ -6,3 +6,4 @@ pub mod ListText
 pub mod Kept
 pub mod DumpText
 pub mod DumpBuckets
+pub mod SummaryText

@@ -9,12 +9,14 @@ mod lines;
 mod list;
 mod piece;
 mod remarks;
+mod summary;
 
 pub use dump::write_dump;
 pub use events::write_events;
 pub use lines::write_lines;
 pub use list::write_list;
 pub use remarks::write_remarks;
+pub use summary::write_summary;
 
 #[cfg(test)]
 mod tests;

@@ -15,6 +15,8 @@ pub(crate) enum Piece<'a> {
     Word(&'a [u8]),
     /// A number in decimal.
     Number(u64),
+    /// A number in decimal that is a sum of many.
+    Sum(u128),
     /// A time in milliseconds, as `1h30m`.
     Time(u64),
     /// A set: its family, its table's name and its own.
@@ -32,6 +34,14 @@ fn append(bytes: &[u8], out: &mut Vec<u8>) -> Result<(), Memory>
 }
 
 fn append_number(n: u64, out: &mut Vec<u8>) -> Result<(), Memory>
+    ensures ok { OnOk result (out.new.items ≡ out.old.items ++ decimal n) }
+    ensures err { OnErr result (AppendsPart out.old.items out.new.items (decimal n)) }
+{
+    let mut digits = Buffer::new();
+    append(digits.format(n).as_bytes(), out)
+}
+
+fn append_sum(n: u128, out: &mut Vec<u8>) -> Result<(), Memory>
     ensures ok { OnOk result (out.new.items ≡ out.old.items ++ decimal n) }
     ensures err { OnErr result (AppendsPart out.old.items out.new.items (decimal n)) }
 {
@@ -106,6 +116,7 @@ fn append_piece(piece: &Piece, out: &mut Vec<u8>) -> Result<(), Memory>
     match *piece {
         Piece::Word(bytes) => append(bytes, out),
         Piece::Number(n) => append_number(n, out),
+        Piece::Sum(n) => append_sum(n, out),
         Piece::Time(ms) => append_time(ms, out),
         Piece::Set(set) => append_set(set, out),
     }

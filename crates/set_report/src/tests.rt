@@ -1,10 +1,11 @@
 ghost use Rattle.std.specs.Prelude.{◌≡◌, IfOk, length};
 ghost use Rattle.set_report.specs.Writes.{NamesSet};
 
-use crate::{write_events, write_lines};
+use crate::{write_events, write_lines, write_summary};
 use set_model::{
     Event, Events, Family, Kind, Kinds, Line, Lines, Memory, Name, Schema, SetDecl, Verdict, Why,
 };
+use set_space::Generation;
 use std::alloc::Global;
 use std::test::Fail;
 
@@ -112,6 +113,48 @@ fn each_packet_has_its_line_behind_what_is_there(rt: HostRuntime) -> Result<(), 
           packet 0 thread 15 generation 2 element 7\n\
           packet 1 thread 0 generation 0 none\n"
             .as_slice()
+    );
+    Ok(())
+}
+
+fn refusal(line: u64) -> Event {
+    Event::Refused {
+        line,
+        set: 0,
+        why: Why::Full,
+    }
+}
+
+fn line(packet: u64, verdict: Verdict) -> Line {
+    Line {
+        packet,
+        thread: 0,
+        generation: 0,
+        verdict,
+    }
+}
+
+/// Three events and three packets.
+fn summary(alloc: Global, id: u64, out: &mut Vec<u8>) -> Result<(), Memory> {
+    let committed = Event::Committed {
+        generation: 1,
+        purged: 0,
+    };
+    let events = Events::from_vec(vec![in alloc; refusal(2), committed, refusal(4)]?);
+    let none = line(1, Verdict::None);
+    let found = Verdict::Element { id };
+    let lines = Lines::from_vec(vec![in alloc; line(0, found), none, line(2, found)]?);
+    let generation = Generation::first(alloc, &Schema::new(alloc))?;
+    write_summary(&events, &lines, &generation, out)
+}
+
+#[test]
+fn a_summary_has_sums_of_more_than_64_bits(rt: HostRuntime) -> Result<(), Fail> {
+    let mut out = Vec::from_slice(rt.alloc(), b"# ")?;
+    summary(rt.alloc(), 18_446_744_073_709_551_614, &mut out)?;
+    assert_eq!(rt;
+        out.as_slice(),
+        b"# drill elements 0 refused 2 generation 0 packets 3 matched 2 sum 36893488147419103228\n".as_slice()
     );
     Ok(())
 }

@@ -37,10 +37,11 @@ use Rattle.set_script.specs.declared.words.ItemWord.TheVariants as items
 use Rattle.set_script.specs.Values.{IsPart}
 use Rattle.set_script.specs.Limits.{most_sets}
 use Rattle.set_script.specs.Names.{is_set, set_place, may_declare, new_name, kind_of, kind_behind, has_room, key_bytes}
-use Rattle.set_script.specs.Changes.{empty, declaration, declared, with_flag, change, is_open, committed, ended}
+use Rattle.set_script.specs.Changes.{empty, declaration, declared, with_flag, change, committed, ended}
 use Rattle.set_script.specs.Script as form
 use Rattle.set_script.specs.ScriptText.{IsScriptText}
-use Rattle.set_model.specs.Runnable.{HasFields, IsRunnableStep, IsRunnable}
+use Rattle.set_model.specs.Runnable.{HasFields, IsRunnableStep, is_open, EndsClosed, IsRunnable}
+use Rattle.set_model.proofs.ClosedLaws.{closed-behind}
 
 -- intervals that fit these kinds, one for each
 record AreParts (ks : List Kind) (parts : List Interval) : Type 0 where
@@ -188,6 +189,7 @@ record IsRunDraft (d : Draft) : Type 0 where
   fields : All HasFields d.schema
   not_disjoint : All IsNotDisjoint d.schema
   few_sets : length d.schema ≤ most_sets
+  closed : All EndsClosed d.sections
 
 -- A new name stands where one more set may be declared.
 room_for_set : (d : Draft) (p : Family × List ℕ) (t : Lexeme) (n : List ℕ) → word_value (λ t. new_name d p.0 p.1 t.bytes) t ≡ Some n → length d.schema < most_sets
@@ -205,6 +207,7 @@ with_set d ks s k are room made =
       fields = All-push HasFields d.schema s.0.decl k.fields (record { some = subst (λ (z : List Kind). 0 < length z) (sym made.kinds) are.some; few = subst (λ (z : List Kind). length z ≤ 16) (sym made.kinds) are.few });
       not_disjoint = All-push IsNotDisjoint d.schema s.0.decl k.not_disjoint made.not_disjoint;
       few_sets = let l = length-append d.schema (s.0.decl ∷ []) in omega arith;
+      closed = k.closed;
     }
 
 set_body_keeps : (p : Family × List ℕ) (n : List ℕ) (d d1 : Draft) (x : List Lexeme) → IsRunDraft d → length d.schema < most_sets → (form.set_body d p n).whole x d1 → IsRunDraft d1
@@ -231,7 +234,7 @@ list_of_keeps sets target (Some s) at before behind x k w = list_keeps sets targ
 
 -- steps of declared sets in place of others
 with_others : (d : Draft) (steps : List Step) → IsRunDraft d → AreOf (kinds_of d.schema) steps → IsRunDraft (record d { steps = steps })
-with_others d steps k of = record { steps = of; sections = k.sections; fields = k.fields; not_disjoint = k.not_disjoint; few_sets = k.few_sets }
+with_others d steps k of = record { steps = of; sections = k.sections; fields = k.fields; not_disjoint = k.not_disjoint; few_sets = k.few_sets; closed = k.closed }
 
 changes_keep : (d d1 : Draft) (verb : Verb) (x : List Lexeme) → IsRunDraft d → (form.changes d verb).whole x d1 → IsRunDraft d1
 changes_keep d d1 verb x k (p, x1, y1, e1, w1, (i, x2, y2, e2, w2, (behind, x3, y3, e3, w3, h))) =
@@ -279,6 +282,16 @@ ended_keeps sets now steps k = go (is_open steps) where
 ended_sections : (d : Draft) → IsRunDraft d → All (AreOf (kinds_of d.schema)) (ended d)
 ended_sections d k = All-push (AreOf (kinds_of d.schema)) d.sections (committed d.moment d.steps) k.sections (ended_keeps (kinds_of d.schema) d.moment d.steps k.steps)
 
+-- An open transaction is committed at the end of its section.
+committed_closed : (now : ℕ) (steps : List Step) → EndsClosed (committed now steps)
+committed_closed now steps = go (is_open steps) refl where
+  go : (b : Bool) → is_open steps ≡ b → EndsClosed (cond b (steps ++ Commit now ∷ []) steps)
+  go true e = closed-behind steps (Commit now) refl
+  go false e = e
+
+ended_closed : (d : Draft) → IsRunDraft d → All EndsClosed (ended d)
+ended_closed d k = All-push EndsClosed d.sections (committed d.moment d.steps) k.closed (committed_closed d.moment d.steps)
+
 behind_keeps : (line : ℕ) (d d1 : Draft) (w : FirstWord) (x : List Lexeme) → IsRunDraft d → (form.statement_behind line d w).whole x d1 → IsRunDraft d1
 unfolding IsOf
 behind_keeps line d d1 firsts.Add x k (w, x1, y1, e1, w1, after) = add_keeps d d1 w y1 k after
@@ -287,13 +300,14 @@ behind_keeps line d d1 firsts.Create x k after = element_changes_keep d d1 verbs
 behind_keeps line d d1 firsts.Delete x k after = element_changes_keep d d1 verbs.Delete x k after
 behind_keeps line d d1 firsts.Destroy x k after = element_changes_keep d d1 verbs.Destroy x k after
 behind_keeps line d d1 firsts.Flush x k (w, x1, y1, e1, w1, after) = flush_keeps line d d1 w y1 k after
-behind_keeps line d d1 firsts.At x k (n, x1, y1, e1, w1, h) = subst IsRunDraft h.1 (record { steps = k.steps; sections = k.sections; fields = k.fields; not_disjoint = k.not_disjoint; few_sets = k.few_sets })
+behind_keeps line d d1 firsts.At x k (n, x1, y1, e1, w1, h) = subst IsRunDraft h.1 (record { steps = k.steps; sections = k.sections; fields = k.fields; not_disjoint = k.not_disjoint; few_sets = k.few_sets; closed = k.closed })
 behind_keeps line d d1 firsts.Commit x k h = subst IsRunDraft h.1 (record {
   steps = All-push (IsOf (kinds_of d.schema)) d.steps (Commit d.moment) k.steps tt;
   sections = k.sections;
   fields = k.fields;
   not_disjoint = k.not_disjoint;
   few_sets = k.few_sets;
+  closed = k.closed;
 })
 behind_keeps line d d1 firsts.Abort x k h = subst IsRunDraft h.1 (record {
   steps = All-push (IsOf (kinds_of d.schema)) d.steps Abort k.steps tt;
@@ -301,6 +315,7 @@ behind_keeps line d d1 firsts.Abort x k h = subst IsRunDraft h.1 (record {
   fields = k.fields;
   not_disjoint = k.not_disjoint;
   few_sets = k.few_sets;
+  closed = k.closed;
 })
 behind_keeps line d d1 firsts.Round x k h = subst IsRunDraft h.1 (record {
   steps = All-nil (IsOf (kinds_of d.schema));
@@ -308,12 +323,13 @@ behind_keeps line d d1 firsts.Round x k h = subst IsRunDraft h.1 (record {
   fields = k.fields;
   not_disjoint = k.not_disjoint;
   few_sets = k.few_sets;
+  closed = ended_closed d k;
 })
 
 statement_keeps : (d d1 : Draft) (x : List Lexeme) → IsRunDraft d → (form.statement d).whole x d1 → IsRunDraft d1
 statement_keeps d d1 x k (word, x1, y1, e1, w1, (d2, x2, y2, e2, w2, h)) =
     let then = behind_keeps word.0 d d2 word.1 x2 k w2 in
-    subst IsRunDraft h.1 (record { steps = then.steps; sections = then.sections; fields = then.fields; not_disjoint = then.not_disjoint; few_sets = then.few_sets })
+    subst IsRunDraft h.1 (record { steps = then.steps; sections = then.sections; fields = then.fields; not_disjoint = then.not_disjoint; few_sets = then.few_sets; closed = then.closed })
 
 empty_runs : IsRunDraft empty
 empty_runs = record {
@@ -322,6 +338,7 @@ empty_runs = record {
   fields = All-nil HasFields;
   not_disjoint = All-nil IsNotDisjoint;
   few_sets = omega arith;
+  closed = All-nil EndsClosed;
 }
 
 -- a set among the declared ones, by its kinds
@@ -350,4 +367,4 @@ pub script_is_read : (text : List ℕ) (s : Script) → IsScriptText text s → 
 unfolding IsScriptText
 script_is_read text s (read, x, y, e, (d, x1, y1, e1, w, h), (u, x2, y2, e2, w2, h2)) =
     let k = lines_keep separates form.statement IsRunDraft statement_keeps (empty, true) d x1 empty_runs w in
-    subst IsRunnable (h.1 ∙ h2.1) (record { sets = k.fields; may_share = k.not_disjoint; few_sets = k.few_sets; steps = all_run d.0.schema (ended d.0) (ended_sections d.0 k) })
+    subst IsRunnable (h.1 ∙ h2.1) (record { sets = k.fields; may_share = k.not_disjoint; few_sets = k.few_sets; steps = all_run d.0.schema (ended d.0) (ended_sections d.0 k); closed = ended_closed d.0 k })

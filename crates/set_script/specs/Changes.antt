@@ -1,5 +1,5 @@
 -- What the statements of a script, and the parts of them, add to what has been read of it.
-use Rattle.std.specs.Prelude.{ℕ, ◌+◌, ◌-◌, List, [], ◌∷◌, ◌++◌, length, Bool, true, false, nat_lt, Option, Some, None, slice_get, cond}
+use Rattle.std.specs.Prelude.{ℕ, ◌+◌, List, [], ◌∷◌, ◌++◌, length, Bool, true, false, nat_lt, Option, Some, None, cond}
 use Rattle.set_model.specs.declared.kind.Kind.{Kind}
 use Rattle.set_model.specs.declared.kind.Interval.{Interval}
 use Rattle.set_model.specs.declared.script.Family.{Family}
@@ -9,6 +9,7 @@ use Rattle.set_model.specs.declared.script.Verb.TheVariants as verbs
 use Rattle.set_model.specs.declared.script.Step.{Step}
 use Rattle.set_model.specs.declared.script.Step.TheVariants as steps
 use Rattle.set_model.specs.declared.script.Script.{Script}
+use Rattle.set_model.specs.Runnable.{is_open}
 use Rattle.set_script.specs.declared.draft.Draft.{Draft}
 use Rattle.set_script.specs.declared.draft.Declaration.{Declaration}
 use Rattle.set_script.specs.declared.draft.Target.{Target}
@@ -133,18 +134,6 @@ commit d = record d { steps = d.steps ++ steps.Commit d.moment ∷ []; late = tr
 -- `abort` drops the open changes. No set may be declared behind it.
 abbrev pub abort : Draft → Draft
 abort d = record d { steps = d.steps ++ steps.Abort ∷ []; late = true }
-
--- A change or a flush leaves its transaction open; a commit and an abort end it.
-abbrev pub opens : Option Step → Bool
-opens None = false
-opens (Some (steps.Change line set verb parts expiry comment now)) = true
-opens (Some (steps.Flush line set now)) = true
-opens (Some (steps.Commit now)) = false
-opens (Some steps.Abort) = false
-
--- Behind these steps of a section a transaction with a change is open: the last step is a change or a flush.
-abbrev pub is_open : List Step → Bool
-is_open steps = opens (slice_get steps (length steps - 1))
 
 -- The end of a section commits an open transaction that has a change, at the moment of its place.
 abbrev pub committed : ℕ → List Step → List Step

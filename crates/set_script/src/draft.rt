@@ -1,5 +1,6 @@
 ghost use Rattle.std.specs.Prelude.{◌≡◌, ◌-◌, length, slice_get, OnOk, IfOk};
-ghost use Rattle.set_script.specs.Changes.{empty, declaration, is_open, committed, commit, abort, round, finished};
+ghost use Rattle.set_model.specs.Runnable.{is_open};
+ghost use Rattle.set_script.specs.Changes.{empty, declaration, committed, commit, abort, round, finished};
 
 use crate::declared::Declared;
 use set_model::{

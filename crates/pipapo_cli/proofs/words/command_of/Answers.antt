@@ -1,34 +1,51 @@
-use Rattle.std.proofs.Common.{map, subst}
+use Rattle.std.proofs.Common.{refl, map, codes}
 use Rattle.std.specs.String.{string_bytes}
-use Rattle.clap.specs.Matches.{found_of}
-use Rattle.pipapo_cli.specs.declared.words.Verb.TheVariants as verbs
-use Rattle.pipapo_cli.specs.declared.words.Task.TheVariants as tasks
-use Rattle.pipapo_cli.specs.WordForms.{HasVerb}
-use Rattle.pipapo_cli.proofs.ClapValues.{is-of-words, has-script, run-has-keys}
+use Rattle.pipapo_cli.specs.declared.shape.Verb.TheVariants as verbs
+use Rattle.pipapo_cli.proofs.WordValues.{of-verb, has-first, run-second, drill-second, is-alone, is-run, is-seed, is-count, is-drill}
 use Rattle.pipapo_cli.proofs.words.command_of.Goals as goal
 
-pub unreachable-requires : goal.unreachable-requires
-unreachable-requires c = has-script (map string_bytes c.args.words.now) (found_of c.in-Ok.values) c.args.verb c.requires c.in-Ok.ensures c.in_default.ensures
+pub unwrap-first-requires : goal.unwrap-first-requires
+unwrap-first-requires c = has-first (map string_bytes c.args.words.now) c.in_ok-first.field-0 c.args.verb (of-verb (map string_bytes c.args.words.now) c.in_ok-first.field-0 c.in_ok-first.ensures c.args.verb c.args.verb refl c.requires)
 
-pub unreachable-requires-in-None : goal.unreachable-requires-in-None
-unreachable-requires-in-None c =
-    let is_run : HasVerb (map string_bytes c.args.words.now) verbs.Run = subst (HasVerb (map string_bytes c.args.words.now)) c.in-Run.is c.requires in
-    run-has-keys (map string_bytes c.args.words.now) (found_of c.in-Ok.values) is_run c.in-Ok.ensures c.in-None.ensures
+pub unwrap-requires : goal.unwrap-requires
+unwrap-requires c = run-second (map string_bytes c.args.words.now) c.in_ok-first.field-0 (of-verb (map string_bytes c.args.words.now) c.in_ok-first.field-0 c.in_ok-first.ensures c.args.verb verbs.Run c.in-Run.is c.requires)
 
-pub returns-in-Some-get_str : goal.returns-in-Some-get_str
-returns-in-Some-get_str c =
-    is-of-words (map string_bytes c.args.words.now) (found_of c.in-Ok.values) (record { script = c.in-Some.script; task = tasks.Run c.in-Some-get_str.keys; keep_going = c.get_flag-keep_going.result })
-    (subst (HasVerb (map string_bytes c.args.words.now)) c.in-Run.is c.requires) c.in-Ok.ensures
-    c.in-Some.ensures c.in-Some-get_str.ensures (c.get_flag-keep_going.ensures.value, c.get_flag-keep_going.ensures.other)
+pub thread_count-requires : goal.thread_count-requires
+thread_count-requires c = let of = of-verb (map string_bytes c.args.words.now) c.in_ok-first.field-0 c.in_ok-first.ensures c.args.verb verbs.Run c.in-Run.is c.requires in (of.count, of.threads_are)
+
+pub returns-in-Run : goal.returns-in-Run
+returns-in-Run c =
+    is-run (map string_bytes c.args.words.now) c.in_ok-first.field-0 c.unwrap-first.result c.unwrap-first.ensures c.unwrap.result c.unwrap.ensures c.thread_count.result c.thread_count.ensures
+    (of-verb (map string_bytes c.args.words.now) c.in_ok-first.field-0 c.in_ok-first.ensures c.args.verb verbs.Run c.in-Run.is c.requires)
+
+pub unwrap-requires-in-Drill : goal.unwrap-requires-in-Drill
+unwrap-requires-in-Drill c = drill-second (map string_bytes c.args.words.now) c.in_ok-first.field-0 (of-verb (map string_bytes c.args.words.now) c.in_ok-first.field-0 c.in_ok-first.ensures c.args.verb verbs.Drill c.in-Drill.is c.requires)
+
+pub thread_count-requires-in-Drill : goal.thread_count-requires-in-Drill
+thread_count-requires-in-Drill c = let of = of-verb (map string_bytes c.args.words.now) c.in_ok-first.field-0 c.in_ok-first.ensures c.args.verb verbs.Drill c.in-Drill.is c.requires in (of.count, of.threads_are)
+
+pub written_number-requires : goal.written_number-requires
+written_number-requires c =
+    is-seed (map string_bytes c.args.words.now) c.in_ok-first.field-0 c.unwrap-first.result c.unwrap-first.ensures
+    (of-verb (map string_bytes c.args.words.now) c.in_ok-first.field-0 c.in_ok-first.ensures c.args.verb verbs.Drill c.in-Drill.is c.requires)
+
+pub written_number-requires-in-Drill : goal.written_number-requires-in-Drill
+written_number-requires-in-Drill c =
+    is-count (map string_bytes c.args.words.now) c.in_ok-first.field-0 c.unwrap-first.result c.unwrap-first.ensures c.unwrap-in-Drill.result c.unwrap-in-Drill.ensures
+    (of-verb (map string_bytes c.args.words.now) c.in_ok-first.field-0 c.in_ok-first.ensures c.args.verb verbs.Drill c.in-Drill.is c.requires)
+
+pub returns-in-Drill : goal.returns-in-Drill
+returns-in-Drill c =
+    is-drill (map string_bytes c.args.words.now) c.in_ok-first.field-0 c.unwrap-first.result c.unwrap-first.ensures c.unwrap-in-Drill.result c.unwrap-in-Drill.ensures c.written_number.result c.written_number-in-Drill.result c.thread_count-in-Drill.result
+    c.written_number.ensures c.written_number-in-Drill.ensures c.thread_count-in-Drill.ensures
+    (of-verb (map string_bytes c.args.words.now) c.in_ok-first.field-0 c.in_ok-first.ensures c.args.verb verbs.Drill c.in-Drill.is c.requires)
 
 pub returns-in-List : goal.returns-in-List
 returns-in-List c =
-    is-of-words (map string_bytes c.args.words.now) (found_of c.in-Ok.values) (record { script = c.in-Some.script; task = tasks.List; keep_going = c.get_flag-keep_going.result })
-    (subst (HasVerb (map string_bytes c.args.words.now)) c.in-List.is c.requires) c.in-Ok.ensures
-    c.in-Some.ensures tt (c.get_flag-keep_going.ensures.value, c.get_flag-keep_going.ensures.other)
+    is-alone (map string_bytes c.args.words.now) c.in_ok-first.field-0 c.unwrap-first.result c.unwrap-first.ensures (codes "list")
+    (of-verb (map string_bytes c.args.words.now) c.in_ok-first.field-0 c.in_ok-first.ensures c.args.verb verbs.List c.in-List.is c.requires)
 
-pub returns : goal.returns
-returns c =
-    is-of-words (map string_bytes c.args.words.now) (found_of c.in-Ok.values) (record { script = c.in-Some.script; task = tasks.Dump; keep_going = c.get_flag-keep_going.result })
-    (subst (HasVerb (map string_bytes c.args.words.now)) c.in-Dump.is c.requires) c.in-Ok.ensures
-    c.in-Some.ensures tt (c.get_flag-keep_going.ensures.value, c.get_flag-keep_going.ensures.other)
+pub returns-in-Dump : goal.returns-in-Dump
+returns-in-Dump c =
+    is-alone (map string_bytes c.args.words.now) c.in_ok-first.field-0 c.unwrap-first.result c.unwrap-first.ensures (codes "dump")
+    (of-verb (map string_bytes c.args.words.now) c.in_ok-first.field-0 c.in_ok-first.ensures c.args.verb verbs.Dump c.in-Dump.is c.requires)

@@ -4,4 +4,4 @@ use Rattle.script_run.proofs.output.transcript.Given as goal
 
 -- the sections so far are told
 abbrev pub invariant-rest : goal.invariant-rest
-invariant-rest l = IsToldUpTo l.keep_going l.script l.keys (l.j + 1) l.telling
+invariant-rest g l = IsToldUpTo l.keep_going l.fn.script l.keys l.threads (l.j + 1) l.telling

@@ -1,10 +1,30 @@
-use Rattle.std.proofs.Common.{[]}
-use Rattle.script_run.specs.Running.{kinds_of, declared_kinds}
-use Rattle.script_run.proofs.RunLaws.{packet-of, kinds_stay}
+use Rattle.std.proofs.Common.{rules, ◌≡◌, ◌+◌, ◌++◌, ap, sym, ◌∙◌, subst, All, length, append_assoc, List}
+use Rattle.set_model.specs.declared.script.SetDecl.{SetDecl}
+use Rattle.set_model.specs.Text.{events_text, lines_text}
+use Rattle.set_report.specs.Writes.{NamesSet}
+use Rattle.script_run.proofs.SectionLaws.{told_named}
 use Rattle.script_run.proofs.telling.Telling.do_section.Goals as goal
 
-pub do_packets-requires : goal.do_packets-requires
-do_packets-requires c =
-    let tells = c.in_ok-do_steps.ensures in
-    let kinds = kinds_stay (declared_kinds c.args.schema.now) c.args.self.now.runner c.do_steps.new.self.runner [] tells.events c.args.steps.now c.requires.kinds tells.goes_on in
-    λ k d lt. packet-of c.args.schema.now (kinds_of c.do_steps.new.self.runner.work.base.sets) _ kinds.base (c.requires.packets k d lt)
+pub write_events-requires : goal.write_events-requires
+write_events-requires g c =
+    let ran = c.in_ok-section.ensures.steps in
+    subst (λ (s : List SetDecl). All (NamesSet (length s)) c.in_ok-section.section.events) (sym (c.schema.ensures ∙ ran.goes_on.schema_is))
+    (told_named c.args.keep_going c.args.steps.now c.args.self.now.control c.run_section.new.control c.in_ok-section.section.events c.known.ensures.last c.known.ensures.grown c.known.ensures.open_sets ran)
+
+pub returns : goal.returns
+returns g c =
+    let ran = c.in_ok-section.ensures.steps in
+    let events = c.in_ok-section.section.events in let lines = c.in_ok-section.section.lines in let old = c.args.self.now.output.text.items in record {
+      events = events;
+      lines = lines;
+      ran = ran;
+      answers = c.in_ok-section.ensures.lines;
+      grown = c.known-2.ensures.grown;
+      threads_are = c.in_ok-section.ensures.ready.0;
+      ready = c.in_ok-section.ensures.ready.1;
+      text = c.in_ok-write_lines.ensures.ok ∙ ap (λ z. z ++ lines_text lines) c.in_ok-write_events.ensures.ok
+          ∙ append_assoc old (events_text c.schema.result.now events) (lines_text lines)
+          ∙ ap (λ s. old ++ (events_text s events ++ lines_text lines)) (c.schema.ensures ∙ ran.goes_on.schema_is);
+      refused = search rules;
+      count = search rules;
+    }

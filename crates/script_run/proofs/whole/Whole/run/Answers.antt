@@ -1,37 +1,36 @@
-use Rattle.std.proofs.Common.{◌∙◌, [], List, All, subst, sym, take}
+use Rattle.std.proofs.Common.{◌≡◌, ◌∙◌, [], List, All, subst, sym, ap, take, false}
+use Rattle.set_model.specs.declared.report.Event.{Event}
+use Rattle.set_model.specs.declared.script.SetDecl.{SetDecl}
 use Rattle.set_model.specs.declared.script.Step.{Step}
-use Rattle.set_model.specs.Control.{mode_of}
-use Rattle.set_model.specs.Runnable.{IsRunnableStep}
-use Rattle.script_run.specs.Running.{kinds_of, declared_kinds}
+use Rattle.set_model.specs.Control.{mode_of, start}
+use Rattle.packet_pool.specs.Running.{Stands, run}
+use Rattle.set_model.specs.Runnable.{EndsClosed, IsRunnableStep}
 use Rattle.script_run.proofs.Lists.{of-place}
-use Rattle.script_run.proofs.RunLaws.{step-of, declared, own_kinds, next_stands, events_declared, sets_declared}
+use Rattle.script_run.proofs.TranscriptLaws.{events_declared, sets_declared, start_stands, next_stands}
 use Rattle.script_run.proofs.whole.Whole.run.Goals as goal
 
-pub run-requires-clause-kinds : goal.run-requires-clause-kinds
-run-requires-clause-kinds c =
-    own_kinds (declared_kinds c.args.script.now.schema) c.sections.runner.work
-    (declared (mode_of c.args.keep_going) c.args.script.now.schema (take c.sections.steps-index c.as_slice-steps-items.result.now) [] c.sections.runner c.sections.events c.sections.invariant.stands)
+pub sections-init : goal.sections-init
+sections-init c = let e = c.in_ok-control.ensures.control in record {
+  stands = subst (λ (z : List Event). Stands [] (start c.args.script.schema) (run c.in_ok-control.control false z)) (sym c.new-events.ensures) (start_stands c.args.script.schema c.in_ok-control.control e.2 e.3);
+  schema_is = e.0;
+}
 
-pub run-requires-clause-fits : goal.run-requires-clause-fits
-run-requires-clause-fits c =
-    let kinds = declared (mode_of c.args.keep_going) c.args.script.now.schema (take c.sections.steps-index c.as_slice-steps-items.result.now) [] c.sections.runner c.sections.events c.sections.invariant.stands in
-    let each : All (IsRunnableStep c.args.script.now.schema) c.steps-item.result =
-    of-place (All (IsRunnableStep c.args.script.now.schema)) c.as_slice-steps-items.result.now c.args.script.now.sections c.sections.steps-index c.steps-item.result c.as_slice-steps-items.ensures c.sections-test.true c.steps-item.is c.requires.steps in
-    let here : All (IsRunnableStep c.args.script.now.schema) c.as_slice.result.now = subst (λ (z : List Step). All (IsRunnableStep c.args.script.now.schema) z) (sym c.as_slice.ensures) each in
-    λ k d lt. step-of c.args.script.now.schema (kinds_of c.sections.runner.work.sets) _ kinds.open_sets (here k d lt)
+pub run_steps-requires-clause-steps : goal.run_steps-requires-clause-steps
+run_steps-requires-clause-steps c =
+    subst (λ (s : List SetDecl). All (IsRunnableStep s) c.steps-item.result) (sym c.sections.invariant.schema_is)
+    (of-place (All (IsRunnableStep c.args.script.schema)) c.as_slice-steps-items.result.now c.args.script.sections c.sections.steps-index c.steps-item.result c.as_slice-steps-items.ensures c.sections-test.true c.steps-item.is c.requires.script.steps)
 
 pub sections-preserved : goal.sections-preserved
 sections-preserved c = record {
-  stands = next_stands c.args.keep_going c.args.script.now.schema c.as_slice-steps-items.result.now c.sections.steps-index c.steps-item.result c.sections.runner c.run.new.self c.sections.events c.run.new.events
-      c.sections-test.true c.steps-item.is c.sections.invariant.mode c.sections.invariant.stands
-      (rw c.as_slice.ensures at c.in_ok-run.ensures);
-  mode = c.in_ok-run.ensures.same_mode ∙ c.sections.invariant.mode;
+  stands = next_stands c.args.keep_going c.args.script.schema c.as_slice-steps-items.result.now c.sections.steps-index c.steps-item.result c.sections.control c.run_steps.new.control c.sections.events c.in_ok-told.told c.add_all.new.events
+      c.sections-test.true c.steps-item.is
+      (of-place EndsClosed c.as_slice-steps-items.result.now c.args.script.sections c.sections.steps-index c.steps-item.result c.as_slice-steps-items.ensures c.sections-test.true c.steps-item.is c.requires.script.closed)
+      c.sections.invariant.stands c.in_ok-told.ensures.ok c.in_ok-add_all.ensures;
+  schema_is = c.in_ok-told.ensures.ok.goes_on.schema_is ∙ c.sections.invariant.schema_is;
 }
 
 pub returns-clause-named : goal.returns-clause-named
-returns-clause-named c =
-    events_declared (mode_of c.args.keep_going) c.args.script.now.schema (take c.sections.steps-index c.as_slice-steps-items.result.now) c.sections.runner c.sections.events c.sections.invariant.stands
+returns-clause-named c = events_declared (mode_of c.args.keep_going) c.args.script.schema (take c.sections.steps-index c.as_slice-steps-items.result.now) c.sections.control c.sections.events c.sections.invariant.stands
 
 pub returns-clause-sets : goal.returns-clause-sets
-returns-clause-sets c =
-    sets_declared (mode_of c.args.keep_going) c.args.script.now.schema (take c.sections.steps-index c.as_slice-steps-items.result.now) [] c.sections.runner c.sections.events c.sections.invariant.stands
+returns-clause-sets c = sets_declared (mode_of c.args.keep_going) c.args.script.schema (take c.sections.steps-index c.as_slice-steps-items.result.now) c.sections.control c.sections.events c.sections.invariant.stands

@@ -1,0 +1,4 @@
+mod Worked
+pub mod DrawLaws
+pub mod WorkloadLaws
+pub mod FittingLaws

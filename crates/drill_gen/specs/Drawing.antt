@@ -1,0 +1,76 @@
+-- How a workload is drawn from the state of its generator, one element or packet behind another.
+use Rattle.std.specs.Prelude.{ℕ, ◌+◌, ◌*◌, ◌/◌, ◌%◌, ◌==◌, if◌then◌else◌, List, [], ◌∷◌, ◌++◌, length, None, slice_index_or}
+use Rattle.set_model.specs.declared.kind.Interval.{Interval}
+use Rattle.set_model.specs.declared.packet.Packet.{Packet}
+use Rattle.set_model.specs.declared.script.Verb.TheVariants.{Add}
+use Rattle.set_model.specs.declared.script.Step.{Step}
+use Rattle.set_model.specs.declared.script.Step.TheVariants.{Change, Commit}
+use Rattle.set_model.specs.declared.script.Script.{Script}
+use Rattle.drill_gen.specs.declared.target.Range.{Range}
+use Rattle.drill_gen.specs.declared.target.Target.{Target}
+use Rattle.drill_gen.specs.Drill.{after, draw_from, address, element_draw, address_span, port_span, span_from, value_in, drill_set}
+
+abbrev pub interval_of : Range → Interval
+interval_of r = span_from r.low r.span r.greatest
+
+-- the value that an offset gives, counted round within the span
+abbrev pub value_at : Range → ℕ → ℕ
+value_at r offset = value_in (interval_of r) (offset % (r.span + 1))
+
+-- the element that the next four draws give
+abbrev pub target_from : ℕ → Target
+target_from x = record {
+  addresses = record { low = address (draw_from x 0) (draw_from x 1); span = draw_from x 2 % 256; greatest = 4294967295 };
+  ports = record { low = draw_from x 3; span = draw_from x 2 / 256 % 16; greatest = 65535 };
+}
+
+abbrev pub parts_of : Target → List Interval
+parts_of t = interval_of t.addresses ∷ interval_of t.ports ∷ []
+
+abbrev pub addition_of : Target → ℕ → Step
+addition_of t line = Change line 0 Add (parts_of t) None [] 0
+
+-- a key of an element
+abbrev pub key_of : Target → ℕ → List ℕ
+key_of t offset = value_at t.addresses offset ∷ value_at t.ports offset ∷ []
+
+-- element i of a seed
+abbrev pub target_of : ℕ → ℕ → Target
+target_of seed i = record {
+  addresses = record { low = address (element_draw seed i 0) (element_draw seed i 1); span = address_span seed i; greatest = 4294967295 };
+  ports = record { low = element_draw seed i 3; span = port_span seed i; greatest = 65535 };
+}
+
+-- element i behind a state, and the step that adds it
+abbrev pub target_at : ℕ → ℕ → Target
+target_at x i = target_from (after x (4 * i))
+
+abbrev pub addition_at : ℕ → ℕ → Step
+addition_at x i = addition_of (target_at x i) (i + 1)
+
+-- the script of these steps in one transaction
+abbrev pub one_transaction : List Step → Script
+one_transaction steps = record { schema = drill_set ∷ []; sections = (steps ++ Commit 0 ∷ []) ∷ []; last = 0 }
+
+-- the state in front of packet p
+abbrev pub packet_state : ℕ → ℕ → ℕ
+packet_state x p = after x (5 * (p / 2) + 2 * (p % 2))
+
+-- a key of one of the elements, by the next two draws
+abbrev pub near_from : List Target → ℕ → List ℕ
+near_from targets x = key_of (slice_index_or targets (draw_from x 0 % length targets) (target_from 0)) (draw_from x 1)
+
+-- any key, by the next three draws
+abbrev pub any_from : ℕ → List ℕ
+any_from x = address (draw_from x 0) (draw_from x 1) ∷ draw_from x 2 ∷ []
+
+-- packet p from a state, and how many draws it takes
+abbrev pub packet_from : List Target → ℕ → ℕ → Packet
+packet_from targets x p = record { set = 0; key = if p % 2 == 0 then near_from targets x else any_from x; now = 0 }
+
+abbrev pub packet_draws : ℕ → ℕ
+packet_draws p = if p % 2 == 0 then 2 else 3
+
+-- packet p behind the elements' state
+abbrev pub packet_at : List Target → ℕ → ℕ → Packet
+packet_at targets x p = packet_from targets (packet_state x p) p

@@ -1,0 +1,104 @@
+ghost use Rattle.std.specs.Prelude.{◌≡◌, IfOk};
+ghost use Rattle.drill_gen.specs.Drill.{after};
+
+use crate::draws::Draws;
+use set_model::{Comment, Interval, Key, Memory, Parts, Step, Verb};
+use std::alloc::Global;
+
+/// The values from a lowest one on, so many behind it and none past the greatest of their kind.
+#[derive(Clone, Copy)]
+pub struct Range {
+    pub low: u32,
+    pub span: u16,
+    pub greatest: u32,
+}
+
+impl Range {
+    ghost use Rattle.drill_gen.specs.Drawing.{interval_of, value_at};
+
+    fn interval(&self) -> Interval
+        ensures { result ≡ interval_of self.now }
+    {
+        let low = u128::from(self.low);
+        Interval {
+            low,
+            high: (low + u128::from(self.span)).min(u128::from(self.greatest)),
+        }
+    }
+
+    /// The value so far behind the lowest one, counted round within the span.
+    fn value(&self, offset: u16) -> u128
+        ensures { result ≡ value_at self.now offset }
+    {
+        let interval = self.interval();
+        let behind = u32::from(offset) % (u32::from(self.span) + 1);
+        (interval.low + u128::from(behind)).min(interval.high)
+    }
+}
+
+/// An element of the workload, which packets are drawn for.
+#[derive(Clone, Copy)]
+pub struct Target {
+    pub addresses: Range,
+    pub ports: Range,
+}
+
+impl Target {
+    ghost use Rattle.drill_gen.specs.Drawing.{target_from, parts_of, addition_of, key_of};
+
+    /// The element of the next four numbers.
+    pub fn draw(draws: &mut Draws) -> Target
+        ensures next { draws.new.state ≡ after draws.old.state 4 }
+        ensures drawn { result ≡ target_from draws.old.state }
+    {
+        let address = draws.address();
+        let spans = draws.draw();
+        let port = draws.draw();
+        Target {
+            addresses: Range {
+                low: address,
+                span: spans % 256,
+                greatest: 4_294_967_295,
+            },
+            ports: Range {
+                low: u32::from(port),
+                span: spans / 256 % 16,
+                greatest: 65_535,
+            },
+        }
+    }
+
+    fn parts(&self, alloc: Global) -> Result<Parts, Memory>
+        ensures { IfOk result (λ parts. parts ≡ parts_of self.now) }
+    {
+        let mut parts = Parts::new(alloc);
+        parts.push(self.addresses.interval())?;
+        parts.push(self.ports.interval())?;
+        Ok(parts)
+    }
+
+    /// The step that adds it on this line.
+    pub fn addition(&self, alloc: Global, line: u64) -> Result<Step, Memory>
+        ensures { IfOk result (λ step. step ≡ addition_of self.now line) }
+    {
+        Ok(Step::Change {
+            line,
+            set: 0,
+            verb: Verb::Add,
+            parts: self.parts(alloc)?,
+            expiry: None,
+            comment: Comment::new(alloc),
+            now: 0,
+        })
+    }
+
+    /// The key so far behind its lowest values.
+    pub fn key(&self, alloc: Global, offset: u16) -> Result<Key, Memory>
+        ensures { IfOk result (λ key. key ≡ key_of self.now offset) }
+    {
+        let mut key = Key::new(alloc);
+        key.push(self.addresses.value(offset))?;
+        key.push(self.ports.value(offset))?;
+        Ok(key)
+    }
+}

@@ -1,0 +1,12 @@
+pub mod Lists
+pub mod ChangeLaws
+pub mod RunLaws
+pub mod Found
+pub mod Drawing
+pub mod DrawnNumbers
+pub mod Telling
+pub mod Dealing
+pub mod FilingLaws
+pub mod SectionLaws
+pub mod Restoring
+pub mod FreshReaders

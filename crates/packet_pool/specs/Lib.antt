@@ -1,0 +1,5 @@
+pub mod Draws
+pub mod CounterLaws
+pub mod Section
+pub mod Running
+pub mod Work

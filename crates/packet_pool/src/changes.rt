@@ -1,0 +1,102 @@
+//! A change of a set, and why it was refused.
+ghost use Rattle.std.specs.Prelude.{◌≡◌, ◌<◌, length, IfOk};
+ghost use Rattle.set_model.specs.SetState.{add as added_to, removed};
+ghost use Rattle.set_model.specs.Control.{as_added, as_created, as_deleted, as_destroyed, changed_set};
+ghost use Rattle.set_space.specs.Open.{FitsSet, IsChange};
+ghost use Rattle.packet_pool.specs.Running.{HasCome};
+
+use gen_publish::Control;
+use pipapo_image::{DeleteError, InsertError};
+use set_model::{Comment, Memory, Parts, Verb, Why};
+use set_space::CreateError;
+
+fn add(
+    control: &mut Control,
+    set: u32,
+    parts: &Parts,
+    expiry: Option<u64>,
+    comment: &Comment,
+    now: u64,
+) -> Result<Option<Why>, Memory>
+    requires set { set < length control.old.work.sets }
+    requires fits { FitsSet control.old.work set parts.now }
+    ensures others { control.new ≡ record control.old { work = control.new.work } }
+    ensures change { IfOk result (λ why. IsChange (λ s t. HasCome (as_added (added_to s parts.now expiry comment.now now)) why t) control.old.work set control.new.work) }
+{
+    match control.insert(set, parts, expiry, comment, now) {
+        Ok(_) => Ok(None),
+        Err(InsertError::Overlap { id }) => Ok(Some(Why::Overlap { id })),
+        Err(InsertError::Full) => Ok(Some(Why::Full)),
+        Err(InsertError::RulesFull { field }) => Ok(Some(Why::RulesFull { field })),
+        Err(InsertError::Memory) => Err(Memory),
+    }
+}
+
+fn create(
+    control: &mut Control,
+    set: u32,
+    parts: &Parts,
+    expiry: Option<u64>,
+    comment: &Comment,
+    now: u64,
+) -> Result<Option<Why>, Memory>
+    requires set { set < length control.old.work.sets }
+    requires fits { FitsSet control.old.work set parts.now }
+    ensures others { control.new ≡ record control.old { work = control.new.work } }
+    ensures change { IfOk result (λ why. IsChange (λ s t. HasCome (as_created s (added_to s parts.now expiry comment.now now)) why t) control.old.work set control.new.work) }
+{
+    match control.create(set, parts, expiry, comment, now) {
+        Ok(_) => Ok(None),
+        Err(CreateError::Exists { id }) => Ok(Some(Why::Exists { id })),
+        Err(CreateError::Overlap { id }) => Ok(Some(Why::Overlap { id })),
+        Err(CreateError::Full) => Ok(Some(Why::Full)),
+        Err(CreateError::RulesFull { field }) => Ok(Some(Why::RulesFull { field })),
+        Err(CreateError::Memory) => Err(Memory),
+    }
+}
+
+fn delete(control: &mut Control, set: u32, parts: &Parts, now: u64) -> Result<Option<Why>, Memory>
+    requires { set < length control.old.work.sets }
+    ensures others { control.new ≡ record control.old { work = control.new.work } }
+    ensures change { IfOk result (λ why. IsChange (λ s t. HasCome (as_deleted s (removed s parts.now now)) why t) control.old.work set control.new.work) }
+{
+    match control.delete(set, parts, now) {
+        Ok(_) => Ok(None),
+        Err(DeleteError::Missing) => Ok(Some(Why::Missing)),
+        Err(DeleteError::Memory) => Err(Memory),
+    }
+}
+
+fn destroy(control: &mut Control, set: u32, parts: &Parts, now: u64) -> Result<Option<Why>, Memory>
+    requires { set < length control.old.work.sets }
+    ensures others { control.new ≡ record control.old { work = control.new.work } }
+    ensures change { IfOk result (λ why. IsChange (λ s t. HasCome (as_destroyed s (removed s parts.now now)) why t) control.old.work set control.new.work) }
+{
+    match control.destroy(set, parts, now) {
+        Ok(_) => Ok(None),
+        Err(_) => Err(Memory),
+    }
+}
+
+/// Changes an element of a set, or says why not. `expiry` and `now` are in milliseconds.
+pub(crate) fn change(
+    control: &mut Control,
+    set: u32,
+    verb: Verb,
+    parts: &Parts,
+    expiry: Option<u64>,
+    comment: &Comment,
+    now: u64,
+) -> Result<Option<Why>, Memory>
+    requires set { set < length control.old.work.sets }
+    requires fits { FitsSet control.old.work set parts.now }
+    ensures others { control.new ≡ record control.old { work = control.new.work } }
+    ensures change { IfOk result (λ why. IsChange (λ s t. HasCome (changed_set verb s parts.now expiry comment.now now) why t) control.old.work set control.new.work) }
+{
+    match verb {
+        Verb::Add => add(control, set, parts, expiry, comment, now),
+        Verb::Create => create(control, set, parts, expiry, comment, now),
+        Verb::Delete => delete(control, set, parts, now),
+        Verb::Destroy => destroy(control, set, parts, now),
+    }
+}

@@ -1,0 +1,29 @@
+/// What is told of each packet and each commit of a section, as it comes. A test holds threads by it.
+pub trait Gate: Sync {
+    /// Comes before a thread enters for a packet.
+    fn before(&self, thread: u32, packet: u64);
+
+    /// Comes after a thread has left for a packet.
+    fn after(&self, thread: u32, packet: u64);
+
+    /// Comes before each commit, with the number of the last generation.
+    fn closing(&self, generation: u64);
+
+    /// Comes after each commit that found its memory, with the new number.
+    fn closed(&self, generation: u64);
+}
+
+/// A gate that does nothing.
+pub struct OpenGate;
+
+impl Gate for OpenGate {
+    #[inline]
+    fn before(&self, _thread: u32, _packet: u64) {}
+
+    #[inline]
+    fn after(&self, _thread: u32, _packet: u64) {}
+
+    fn closing(&self, _generation: u64) {}
+
+    fn closed(&self, _generation: u64) {}
+}

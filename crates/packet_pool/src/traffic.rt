@@ -1,0 +1,125 @@
+//! The packets of a section, and how workers answer them: each draws batches until there are no more.
+ghost use Rattle.std.specs.Prelude.{◌≡◌, ◌+◌, ◌*◌, ◌/◌, ◌<◌, ◌≤◌, ◌^◌, ◌==◌, ℕ, cond, length, IfOk};
+ghost use Rattle.history_laws.specs.Histories.{StartsWith};
+ghost use Rattle.packet_pool.specs.Work.{AllFit, batches_of, IsLine, Told, Before, named, IsFresh, Serves, HasWorked};
+
+use crate::counter::{Counter, draw};
+use crate::gate::Gate;
+use crate::judge::Judge;
+use crate::worker::Worker;
+use gen_publish::Reader;
+use set_model::{Line, Memory, Packets};
+
+/// How many packets a worker draws at once.
+pub(crate) const BATCH: u64 = 16;
+
+/// The packets of a section, the number of the first, and what answers them.
+#[derive(Drop)]
+pub(crate) struct Traffic<'a, J, G> {
+    pub(crate) packets: &'a Packets,
+    pub(crate) first: u64,
+    pub(crate) judge: &'a J,
+    pub(crate) gate: &'a G,
+    ghost numbered: { first + length packets.now < 2 ^ 64 },
+}
+
+impl<J: Judge, G: Gate> Traffic<'_, J, G> {
+    /// How many batches there are.
+    pub(crate) fn batches(&self) -> u64
+        ensures { result ≡ batches_of (length self.now.packets.now) }
+    {
+        self.packets.len().div_ceil(BATCH)
+    }
+
+    /// One packet, under an enter and a leave of its own.
+    #[inline]
+    fn answer(&self, reader: Reader, thread: u32, place: u64) -> (Reader, Line)
+        requires place { place < length self.now.packets.now }
+        requires schema { J.serves self.now.judge.now reader.schema }
+        requires packets { AllFit reader.schema self.now.packets.now }
+        ensures seen { StartsWith result.0.seen reader.seen }
+        ensures same { (result.0.of ≡ reader.of) × (result.0.schema ≡ reader.schema) × (result.0.reader ≡ reader.reader) }
+        ensures moves { result.0.moves ≡ reader.moves + 2 }
+        ensures line { IsLine (J.verdict self.now.judge.now) self.now.packets.now self.now.first thread (length result.0.seen) result.0.seen place result.1 }
+        ensures newest { result.1.generation + 1 ≡ length result.0.seen }
+    {
+        let packet = self.packets.at(place);
+        let number = self.first + place;
+        self.gate.before(thread, number);
+        let mut held = reader.enter();
+        let generation = held.generation();
+        let verdict = self.judge.judge(&mut held, packet);
+        let reader = held.leave();
+        self.gate.after(thread, number);
+        (
+            reader,
+            Line {
+                packet: number,
+                thread,
+                generation,
+                verdict,
+            },
+        )
+    }
+
+    /// The packets of one batch. Room for their lines is taken before the first enter.
+    fn answer_batch(
+        &self,
+        reader: Reader,
+        thread: u32,
+        batch: u64,
+        lines: &mut Vec<Line>,
+    ) -> Result<Reader, Memory>
+        requires schema { J.serves self.now.judge.now reader.schema }
+        requires packets { AllFit reader.schema self.now.packets.now }
+        requires batch { BATCH * batch < length self.now.packets.now }
+        requires before { Before (self.now.first + BATCH * batch) lines.old.items }
+        ensures seen { IfOk result (λ r. StartsWith r.seen reader.seen) }
+        ensures same { IfOk result (λ r. (r.of ≡ reader.of) × (r.schema ≡ reader.schema) × (r.reader ≡ reader.reader)) }
+        ensures moves { IfOk result (λ r. r.moves + 2 * length lines.old.items ≡ reader.moves + 2 * length lines.new.items) }
+        ensures told { IfOk result (λ r. (low : ℕ) → low ≤ length reader.seen → Told (J.verdict self.now.judge.now) self.now.packets.now self.now.first thread low reader.seen lines.old.items → Told (J.verdict self.now.judge.now) self.now.packets.now self.now.first thread low r.seen lines.new.items) }
+        ensures before { IfOk result (λ _. Before (self.now.first + BATCH * (batch + 1)) lines.new.items) }
+        ensures named { IfOk result (λ _. (p : ℕ) → p < length self.now.packets.now → named (self.now.first + p) lines.new.items ≡ named (self.now.first + p) lines.old.items + cond (batch == p / BATCH) 1 0) }
+    {
+        let start = BATCH * batch;
+        let end = start + BATCH.min(self.packets.len() - start);
+        lines.reserve(BATCH as usize)?;
+        let mut reader = reader;
+        for place in start..end {
+            let (next, line) = self.answer(reader, thread, place);
+            reader = next;
+            lines.push_reserved(line);
+        }
+        Ok(reader)
+    }
+
+    /// A worker's part: it draws batches until there are no more, and answers their packets.
+    pub(crate) fn work(&self, counter: &Counter, worker: Worker) -> Result<Worker, Memory>
+        requires worker { Serves (J.serves self.now.judge.now) self.now.packets.now worker }
+        requires fresh { IsFresh (batches_of (length self.now.packets.now)) counter.now.shared.table_id worker }
+        requires table { counter.now.shared.table_id.words ≡ 1 }
+        ensures { IfOk result (λ w. HasWorked (J.verdict self.now.judge.now) self.now.packets.now self.now.first worker w) }
+    {
+        let batches = self.batches();
+        let Worker {
+            thread,
+            mut reader,
+            mut place,
+            mut lines,
+        } = worker;
+        let mut least = 0;
+        'draws: loop {
+            let batch = draw(counter, &mut place);
+            if batch >= batches {
+                return Ok(Worker {
+                    thread,
+                    reader,
+                    place,
+                    lines,
+                });
+            }
+            reader = self.answer_batch(reader, thread, batch, &mut lines)?;
+            least = batch + 1;
+        }
+    }
+}

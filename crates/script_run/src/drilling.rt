@@ -1,0 +1,117 @@
+ghost use Rattle.std.specs.Prelude.{◌≡◌, ◌+◌, ◌<◌, ◌≤◌, ◌^◌, ◌∷◌, [], false, length, All, IfOk};
+ghost use Rattle.set_model.specs.Control.{KeepGoing, first_generation, start as begins, section};
+ghost use Rattle.set_model.specs.Runnable.{IsFitting, IsRunnableStep, EndsClosed};
+ghost use Rattle.set_space.specs.Open.{opened};
+ghost use Rattle.packet_pool.specs.Work.{AllReady};
+ghost use Rattle.script_run.specs.Drill.{drill_text, IsDrilled};
+
+#[cfg(test)]
+mod tests;
+
+use crate::numbers::has_numbers;
+use crate::output::Output;
+use crate::telling::Telling;
+use drill_gen::generate;
+use gen_publish::{Control, Reader};
+use packet_pool::{Gate, LookupJudge, SectionResult, run_section};
+use set_model::{Memory, Packets, Script, Steps};
+use set_report::write_summary;
+use std::alloc::Global;
+use std::thread::Threads;
+
+/// Runs steps to their end and then looks packets up. So these meet the last generation alone. It gives what the steps
+/// told and the packets' lines.
+fn answer_behind<R: Threads + Sync, G: Gate>(
+    rt: &R,
+    alloc: Global,
+    control: &mut Control,
+    readers: &mut Vec<Option<Reader>>,
+    steps: &Steps,
+    packets: &Packets,
+    gate: &G,
+) -> Result<SectionResult, Memory>
+    requires begun { (control.old.committed ≡ first_generation control.old.schema ∷ []) × (control.old.work ≡ opened (first_generation control.old.schema)) }
+    requires readers { (0 < length readers.old.items) × (length readers.old.items ≤ 16) × AllReady control.old readers.old.items }
+    requires steps { All (IsRunnableStep control.old.schema) steps.now }
+    requires closed { EndsClosed steps.now }
+    requires packets { All (IsFitting control.old.schema) packets.now }
+    requires room { length packets.now < 2 ^ 64 }
+    ensures { IfOk result (λ r. IsDrilled (section KeepGoing (begins control.old.schema) steps.now) packets.now control.new r) }
+{
+    let keep_going = true;
+    if !has_numbers(control, steps) {
+        return Err(Memory);
+    }
+    let SectionResult { events, .. } = run_section(
+        rt,
+        alloc,
+        control,
+        steps,
+        keep_going,
+        readers,
+        &Packets::new(alloc),
+        0,
+        &LookupJudge,
+        gate,
+    )?;
+    let nothing = Steps::new(alloc);
+    if !has_numbers(control, &nothing) {
+        return Err(Memory);
+    }
+    let SectionResult { lines, .. } = run_section(
+        rt,
+        alloc,
+        control,
+        &nothing,
+        keep_going,
+        readers,
+        packets,
+        0,
+        &LookupJudge,
+        gate,
+    )?;
+    Ok(SectionResult { events, lines })
+}
+
+/// Runs the generated workload of a seed, of `count` elements and as many packets on so many threads. Changes that are
+/// refused are skipped. The text is one line, the same for each number of threads.
+///
+/// # Errors
+///
+/// `Memory` where there is none left.
+pub fn drill<R: Threads + Sync, G: Gate>(
+    rt: &R,
+    alloc: Global,
+    seed: u64,
+    count: u32,
+    threads: u32,
+    gate: &G,
+) -> Result<Output, Memory>
+    requires threads { (0 < threads) × (threads ≤ 16) }
+    ensures text { IfOk result (λ out. out.text.items ≡ drill_text seed count) }
+    ensures refused { IfOk result (λ out. out.refused ≡ false) }
+{
+    let (script, keys) = generate(alloc, seed, count)?;
+    let Script {
+        schema,
+        sections,
+        ..
+    } = script;
+    let mut telling = Telling::new(alloc, schema, threads)?;
+    let told = answer_behind(
+        rt,
+        alloc,
+        &mut telling.control,
+        &mut telling.readers,
+        sections.at(0),
+        keys.at(0),
+        gate,
+    )?;
+    write_summary(
+        &told.events,
+        &told.lines,
+        telling.control.generation(),
+        &mut telling.output.text,
+    )?;
+    Ok(telling.output)
+}
