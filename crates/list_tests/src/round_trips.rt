@@ -10,7 +10,7 @@ use std::test::Fail;
 fn listed(rt: &impl Abort, alloc: Global, text: &[u8]) -> Result<Vec<u8>, Memory> {
     match read_script(alloc, text) {
         Ok(script) => {
-            let output = listing(alloc, &script, true)?;
+            let output = listing(alloc, script, true)?;
             sets_of(alloc, output.text.as_slice())
         }
         Err(ScriptError::Memory) => Err(Memory),
