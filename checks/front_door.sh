@@ -1,4 +1,3 @@
-#!/bin/sh
 # The command ./pipapo where there is no toolchain: it says what to install, and its status is none of the program's.
 cd "$(dirname "$0")/.." || exit 1
 room=$(mktemp -d) || exit 1

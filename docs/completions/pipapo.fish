@@ -1,0 +1,9 @@
+# fish completion of pipapo
+set -l commands run list dump drill
+complete -c pipapo -n "not __fish_seen_subcommand_from $commands" -f
+complete -c pipapo -n "not __fish_seen_subcommand_from $commands" -a run -d 'a script beside the packets of a key file'
+complete -c pipapo -n "not __fish_seen_subcommand_from $commands" -a list -d 'the last generation as a script'
+complete -c pipapo -n "not __fish_seen_subcommand_from $commands" -a dump -d 'the tables of the last generation'
+complete -c pipapo -n "not __fish_seen_subcommand_from $commands" -a drill -d 'one line on a workload that is made'
+complete -c pipapo -n "__fish_seen_subcommand_from run drill" -l threads -x -a '(seq 1 16)' -d 'packet threads'
+complete -c pipapo -n "__fish_seen_subcommand_from run list dump" -l keep-going -d 'skip refused changes'
