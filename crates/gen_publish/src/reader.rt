@@ -15,11 +15,12 @@ use std::alloc::Global;
 use std::marker::Model;
 use std::sync::Arc;
 
-/// What a reader looks up with: the declared sets, and the rows that a lookup works in.
+/// What a reader looks up with: the declared sets, and the rows that a lookup works in. These lie in a box, so that an
+/// enter and a leave move no more than a pointer to them.
 #[derive(Drop)]
 pub(crate) struct Tools {
     pub(crate) schema: Arc<Schema, Global>,
-    pub(crate) scratch: Scratch,
+    pub(crate) scratch: Box<Scratch, Global>,
 }
 
 /// A reader that holds nothing.

@@ -28,7 +28,7 @@ fn seat(
     'passes: for pass in passes {
         let tools = Tools {
             schema: Arc::try_clone(schema)?,
-            scratch: Scratch::new(alloc)?,
+            scratch: Box::new(alloc, Scratch::new(alloc)?)?,
         };
         readers.push(Reader::seated(pass, tools))?;
     }

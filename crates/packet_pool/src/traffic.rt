@@ -7,7 +7,7 @@ use crate::counter::{Counter, draw};
 use crate::gate::Gate;
 use crate::judge::Judge;
 use crate::worker::Worker;
-use gen_publish::Reader;
+use gen_publish::{Held, Reader};
 use set_model::{Line, Memory, Packets};
 
 /// How many packets a worker draws at once.
@@ -31,38 +31,31 @@ impl<J: Judge, G: Gate> Traffic<'_, J, G> {
         self.packets.len().div_ceil(BATCH)
     }
 
-    /// One packet, under an enter and a leave of its own.
+    /// The line of a packet, by the generation that is held for it.
     #[inline]
-    fn answer(&self, reader: Reader, thread: u32, place: u64) -> (Reader, Line)
+    fn answer(&self, held: &mut Held, thread: u32, place: u64) -> Line
         requires place { place < length self.now.packets.now }
-        requires schema { J.serves self.now.judge.now reader.schema }
-        requires packets { AllFit reader.schema self.now.packets.now }
-        ensures seen { StartsWith result.0.seen reader.seen }
-        ensures same { (result.0.of ≡ reader.of) × (result.0.schema ≡ reader.schema) × (result.0.reader ≡ reader.reader) }
-        ensures moves { result.0.moves ≡ reader.moves + 2 }
-        ensures line { IsLine (J.verdict self.now.judge.now) self.now.packets.now self.now.first thread (length result.0.seen) result.0.seen place result.1 }
-        ensures newest { result.1.generation + 1 ≡ length result.0.seen }
+        requires schema { J.serves self.now.judge.now held.old.schema }
+        requires packets { AllFit held.old.schema self.now.packets.now }
+        ensures same { held.new ≡ held.old }
+        ensures line { IsLine (J.verdict self.now.judge.now) self.now.packets.now self.now.first thread (length held.old.seen) held.old.seen place result }
+        ensures newest { result.generation + 1 ≡ length held.old.seen }
     {
         let packet = self.packets.at(place);
         let number = self.first + place;
-        self.gate.before(thread, number);
-        let mut held = reader.enter();
         let generation = held.generation();
-        let verdict = self.judge.judge(&mut held, packet);
-        let reader = held.leave();
-        self.gate.after(thread, number);
-        (
-            reader,
-            Line {
-                packet: number,
-                thread,
-                generation,
-                verdict,
-            },
-        )
+        let verdict = self.judge.judge(held, packet);
+        Line {
+            packet: number,
+            thread,
+            generation,
+            verdict,
+        }
     }
 
-    /// The packets of one batch. Room for their lines is taken before the first enter.
+    /// The packets of one batch, each under an enter and a leave of its own. Room for their lines is taken before the
+    /// first enter. A line is written before its leave: so nothing stands between this leave and the next enter, whose
+    /// words all threads share.
     fn answer_batch(
         &self,
         reader: Reader,
@@ -86,9 +79,13 @@ impl<J: Judge, G: Gate> Traffic<'_, J, G> {
         lines.reserve(BATCH as usize)?;
         let mut reader = reader;
         for place in start..end {
-            let (next, line) = self.answer(reader, thread, place);
-            reader = next;
+            let number = self.first + place;
+            self.gate.before(thread, number);
+            let mut held = reader.enter();
+            let line = self.answer(&mut held, thread, place);
             lines.push_reserved(line);
+            reader = held.leave();
+            self.gate.after(thread, number);
         }
         Ok(reader)
     }
