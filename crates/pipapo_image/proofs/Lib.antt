@@ -5,6 +5,7 @@ pub mod BuiltLaws
 pub mod ImageUse
 pub mod Places
 pub mod GrowLaws
+pub mod SharingRows
 pub mod EndLaws
 pub mod ImageGrowth
 pub mod AddLaws

@@ -4,6 +4,7 @@ pub mod Standing
 pub mod Index
 pub mod Image
 pub mod Found
+pub mod Sharing
 pub mod Built
 pub mod Grow
 pub mod Insert

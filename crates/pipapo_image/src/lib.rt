@@ -22,6 +22,7 @@ mod place;
 mod purge;
 mod runs;
 mod scratch;
+mod sharing;
 
 pub use answers::{Added, DeleteError, InsertError};
 pub use image::SetImage;
