@@ -9,6 +9,7 @@ pub mod SharingRows
 pub mod EndLaws
 pub mod ImageGrowth
 pub mod AddLaws
+pub mod ApartLaws
 pub mod Renewal
 pub mod FusedLaws
 pub mod SpanLaws

@@ -14,3 +14,4 @@ pub mod Runs
 pub mod Shrink
 pub mod Remove
 pub mod Append
+pub mod Apart

@@ -17,7 +17,8 @@ pub struct SetImage {
     pub kinds: Kinds,
     /// How many elements it may have.
     pub size: Option<u32>,
-    /// Whether no two of its live elements share a key.
+    /// Whether a common key with a live element refuses an addition. [`crate::apart_law`] says at
+    /// which moments no two live elements share a key then.
     pub disjoint: bool,
     /// The tables of the elements.
     pub index: Index,
