@@ -17,23 +17,30 @@ use Rattle.set_model.specs.Kind.{bits_of}
 use Rattle.set_model.specs.Key.{parts_fit, intervals_fit, key_fits, values_fit, is_good, is_value, start_key, end_key, same_parts}
 use Rattle.set_model.specs.SetState.{State, Added, add, add_by, add_new, add_again, in_the_way, twin, if_same, first, first_sharing, place, answers, is_full, crowded_field}
 use Rattle.set_tables.proofs.RowLaws.{find-at, find-none}
+use Rattle.set_tables.specs.Sharing.{is_sharing}
 use Rattle.pipapo_image.specs.Found.{element_at}
 use Rattle.pipapo_image.specs.declared.answers.Added.{Added as Came}
 use Rattle.pipapo_image.specs.declared.answers.InsertError.{InsertError}
 use Rattle.pipapo_image.specs.declared.answers.InsertError.TheVariants as errors
 use Rattle.pipapo_image.specs.declared.insert.Decision.{Decision}
 use Rattle.pipapo_image.specs.declared.insert.Decision.TheVariants.{Adds}
-use Rattle.pipapo_image.specs.Insert.{IsAnswer, IsForecast, IsTest, IsDecision, said, comes, left, by_start, by_end, at_start}
+use Rattle.pipapo_image.specs.Insert.{IsAnswer, IsForecast, IsTest, IsDecision, said, comes, left, by_start, by_way, by_twin, same_at, twin_place, at_start}
+use Rattle.pipapo_image.specs.Sharing.{sharing_place}
 
 -- the first element, by its place
 first-at : (s : State) (key : List ℕ) (now : ℕ) (o : Option ℕ) → place s key now ≡ o → first s key now ≡ option_map (element_at s) o
 first-at s key now None h = find-none (answers key now) s.elements h
 first-at s key now (Some i) h = find-at (answers key now) s.elements i (record { id = 0; parts = []; expiry = None; comment = [] }) h
 
-by-end : (s : State) (parts : List Interval) (o : Option ℕ)
-    → option_or (option_map (λ e. Overlap e.id) (option_map (element_at s) o)) (option_or (if is_full s then Some Full else None) (option_map (λ f. RulesFull f) (crowded_field s parts))) ≡ by_end s parts o
-by-end s parts None = refl
-by-end s parts (Some i) = refl
+-- the first that shares a key, by its place
+pub sharing-at : (s : State) (parts : List Interval) (now : ℕ) (o : Option ℕ) → sharing_place s parts now ≡ o → first_sharing s parts now ≡ option_map (element_at s) o
+sharing-at s parts now None h = find-none (is_sharing parts now) s.elements h
+sharing-at s parts now (Some i) h = find-at (is_sharing parts now) s.elements i (record { id = 0; parts = []; expiry = None; comment = [] }) h
+
+by-way : (s : State) (parts : List Interval) (o : Option ℕ)
+    → option_or (option_map (λ e. Overlap e.id) (option_map (element_at s) o)) (option_or (if is_full s then Some Full else None) (option_map (λ f. RulesFull f) (crowded_field s parts))) ≡ by_way s parts o
+by-way s parts None = refl
+by-way s parts (Some i) = refl
 
 abbrev refused_by : State → List Interval → Option Element → Option Why
 refused_by s parts o = option_or (option_map (λ e. Overlap e.id) o) (option_or (if is_full s then Some Full else None) (option_map (λ f. RulesFull f) (crowded_field s parts)))
@@ -47,7 +54,7 @@ decided s parts x c now at_first at_end o = elim (if_same parts at_first) as (λ
 
 by-place : (s : State) (parts : List Interval) (x : Option ℕ) (c : List ℕ) (now : ℕ) (o p : Option ℕ) → place s (end_key parts) now ≡ p
     → decided s parts x c now (option_map (element_at s) o) (option_map (element_at s) p) o ≡ by_start s parts x c now o
-by-place s parts x c now None p h = ap (add_new s parts x c) (by-end s parts p ∙ ap (by_end s parts) (sym h))
+by-place s parts x c now None p h = ap (add_new s parts x c) (by-way s parts p ∙ ap (by_way s parts) (sym h))
 by-place s parts x c now (Some i) p h = go (same_parts (element_at s i).parts parts) where
   go : (t : Bool) → (elim (if t then Some (element_at s i) else None) as (λ _. Added × State) [
     | Some e ↦ add_again s x (Some i) e
@@ -56,25 +63,66 @@ by-place s parts x c now (Some i) p h = go (same_parts (element_at s i).parts pa
   go true = refl
   go false = refl
 
+opened : (s : State) (parts : List Interval) (x : Option ℕ) (c : List ℕ) (now : ℕ) (t : Option Element) → add_by s parts x c now t
+    ≡ (elim t as (λ _. Added × State) [ Some e ↦ add_again s x (place s (start_key parts) now) e | None ↦ add_new s parts x c (refused_by s parts (in_the_way s parts now)) ])
+opened s parts x c now None = refl
+opened s parts x c now (Some e) = refl
+
 pub add-by : (s : State) (parts : List Interval) (x : Option ℕ) (c : List ℕ) (now : ℕ) → s.disjoint ≡ false → add s parts x c now ≡ by_start s parts x c now (place s (start_key parts) now)
 add-by s parts x c now d =
     let o = place s (start_key parts) now in
     let p = place s (end_key parts) now in
     let way : in_the_way s parts now ≡ option_or (first s (start_key parts) now) (first s (end_key parts) now) = ap (λ t. if t then first_sharing s parts now else option_or (first s (start_key parts) now) (first s (end_key parts) now)) d in
-    opened (twin s parts now)
+    opened s parts x c now (twin s parts now)
     ∙ ap (λ z. elim (if_same parts (first s (start_key parts) now)) as (λ _. Added × State) [ Some e ↦ add_again s x o e | None ↦ add_new s parts x c (refused_by s parts z) ]) way
     ∙ ap (λ z. decided s parts x c now z (first s (end_key parts) now) o) (first-at s (start_key parts) now o refl)
     ∙ ap (λ z. decided s parts x c now (option_map (element_at s) o) z o) (first-at s (end_key parts) now p refl)
-    ∙ by-place s parts x c now o p refl where
-      opened : (t : Option Element) → add_by s parts x c now t ≡ (elim t as (λ _. Added × State) [ Some e ↦ add_again s x (place s (start_key parts) now) e | None ↦ add_new s parts x c (refused_by s parts (in_the_way s parts now)) ])
-      opened None = refl
-      opened (Some e) = refl
+    ∙ by-place s parts x c now o p refl
+
+-- in a disjoint set
+abbrev decided_apart : State → List Interval → Option ℕ → List ℕ → Option Element → Option Element → Option ℕ → Added × State
+decided_apart s parts x c at_first sharing o = elim (if_same parts at_first) as (λ _. Added × State) [
+  | Some e ↦ add_again s x o e
+  | None ↦ add_new s parts x c (refused_by s parts sharing)
+]
+
+by-twin : (s : State) (parts : List Interval) (x : Option ℕ) (c : List ℕ) (now : ℕ) (o p : Option ℕ) → sharing_place s parts now ≡ p
+    → decided_apart s parts x c (option_map (element_at s) o) (option_map (element_at s) p) o ≡ by_twin s parts x c now (same_at s parts o)
+by-twin s parts x c now None p h = ap (add_new s parts x c) (by-way s parts p ∙ ap (by_way s parts) (sym h))
+by-twin s parts x c now (Some i) p h = go (same_parts (element_at s i).parts parts) where
+  go : (t : Bool) → (elim (if t then Some (element_at s i) else None) as (λ _. Added × State) [
+    | Some e ↦ add_again s x (Some i) e
+    | None ↦ add_new s parts x c (refused_by s parts (option_map (element_at s) p))
+  ]) ≡ by_twin s parts x c now (if t then Some i else None)
+  go true = refl
+  go false = ap (add_new s parts x c) (by-way s parts p ∙ ap (by_way s parts) (sym h))
+
+pub add-apart : (s : State) (parts : List Interval) (x : Option ℕ) (c : List ℕ) (now : ℕ) → s.disjoint ≡ true → add s parts x c now ≡ by_twin s parts x c now (twin_place s parts now)
+add-apart s parts x c now d =
+    let o = place s (start_key parts) now in
+    let p = sharing_place s parts now in
+    let way : in_the_way s parts now ≡ first_sharing s parts now = ap (λ t. if t then first_sharing s parts now else option_or (first s (start_key parts) now) (first s (end_key parts) now)) d in
+    opened s parts x c now (twin s parts now)
+    ∙ ap (λ z. decided_apart s parts x c (first s (start_key parts) now) z o) way
+    ∙ ap (λ z. decided_apart s parts x c z (first_sharing s parts now) o) (first-at s (start_key parts) now o refl)
+    ∙ ap (λ z. decided_apart s parts x c (option_map (element_at s) o) z o) (sharing-at s parts now p refl)
+    ∙ by-twin s parts x c now o p refl
 
 -- ---- what is decided
 -- Where elements may share keys, the places decide.
 pub decision_by : (s : State) (parts : List Interval) (x : Option ℕ) (now : ℕ) (r : Result Decision InsertError) → s.disjoint ≡ false
     → IsDecision s parts x (λ c. by_start s parts x c now (place s (start_key parts) now)) r → IsDecision s parts x (λ c. add s parts x c now) r
 decision_by s parts x now r d h = subst (λ z. IsDecision s parts x z r) (fun_ext (λ c. sym (add-by s parts x c now d))) h
+
+-- In a disjoint set the place of the element that is there already decides.
+pub decision_apart : (s : State) (parts : List Interval) (x : Option ℕ) (now : ℕ) (r : Result Decision InsertError) → s.disjoint ≡ true
+    → IsDecision s parts x (λ c. by_twin s parts x c now (twin_place s parts now)) r → IsDecision s parts x (λ c. add s parts x c now) r
+decision_apart s parts x now r d h = subst (λ z. IsDecision s parts x z r) (fun_ext (λ c. sym (add-apart s parts x c now d))) h
+
+-- The element that is there already, or that none is, decides.
+pub decision_twin : (s : State) (parts : List Interval) (x : Option ℕ) (now : ℕ) (o : Option ℕ) (r : Result Decision InsertError) → o ≡ twin_place s parts now
+    → IsDecision s parts x (λ c. by_twin s parts x c now o) r → IsDecision s parts x (λ c. by_twin s parts x c now (twin_place s parts now)) r
+decision_twin s parts x now o r at h = subst (λ z. IsDecision s parts x (λ c. by_twin s parts x c now z) r) at h
 
 -- The element that holds the start key decides.
 pub decision_at : (s : State) (parts : List Interval) (x : Option ℕ) (now i : ℕ) (r : Result Decision InsertError) → Some i ≡ place s (start_key parts) now
@@ -128,12 +176,15 @@ pub forecast_none : (s : State) (parts : List Interval) (x : Option ℕ) (now : 
 forecast_none s parts x now (Ok came) e is h = absurd is
 forecast_none s parts x now (Err f) e is h = subst (λ z. IsForecast s parts x now (Err z)) (sym is) (forecast_as s parts x now e h)
 
--- The element that is there already, by the place of the one that holds the start key.
-pub twin_some : (s : State) (parts : List Interval) (now i : ℕ) → Some i ≡ place s (start_key parts) now → twin s parts now ≡ if_same parts (Some (element_at s i))
-twin_some s parts now i h = ap (if_same parts) (first-at s (start_key parts) now (Some i) (sym h))
-
-pub twin_none : (s : State) (parts : List Interval) (now : ℕ) → None ≡ place s (start_key parts) now → twin s parts now ≡ None
-twin_none s parts now h = ap (if_same parts) (first-at s (start_key parts) now None (sym h))
+-- The element that is there already, by its place.
+pub twin-at : (s : State) (parts : List Interval) (now : ℕ) → twin s parts now ≡ option_map (element_at s) (twin_place s parts now)
+twin-at s parts now = ap (if_same parts) (first-at s (start_key parts) now (place s (start_key parts) now) refl) ∙ go (place s (start_key parts) now) where
+  go : (o : Option ℕ) → if_same parts (option_map (element_at s) o) ≡ option_map (element_at s) (same_at s parts o)
+  go None = refl
+  go (Some i) = when (same_parts (element_at s i).parts parts) where
+    when : (t : Bool) → (if t then Some (element_at s i) else None) ≡ option_map (element_at s) (if t then Some i else None)
+    when true = refl
+    when false = refl
 
 -- ---- the keys of intervals that fit
 lt-from : (m n k : ℕ) → nat_le m n ≡ true → nat_lt n k ≡ true → nat_lt m k ≡ true

@@ -56,7 +56,7 @@ none-passes p (suc m) a f e low high = both (cases_lt a f) (step-none p a m e) (
   both (inl b) s ih = ih s.1 (omega arith)
   both (inr b) s ih = let q : a ≡ f = omega arith in subst (λ z. p z ≡ false) q s.0
 
-pub crowded-same : (s : State) (index : Index) (parts : List Interval) (columns : List (List Block)) → IsImage s.kinds s.disjoint s.elements index → Built (IsColumn s.kinds parts) columns (length s.kinds)
+pub crowded-same : (s : State) (index : Index) (parts : List Interval) (columns : List (List Block)) → IsImage s.kinds s.elements index → Built (IsColumn s.kinds parts) columns (length s.kinds)
     → find (is_over (counts index.fields) columns) (range_with_len 0 (length index.fields)) ≡ crowded_field s parts
 crowded-same s index parts columns i b =
     ap (λ n. find (is_over (counts index.fields) columns) (range_with_len 0 n)) i.tables.fields.one_each
@@ -80,7 +80,7 @@ pub room-left : (s : State) (parts : List Interval) (f : ℕ) → crowded_field 
 room-left s parts f h l = ltb-false rules_limit (length (field_rules s.kinds f s.elements) + length (field_blocks s.kinds f parts)) (none-passes (is_crowded s parts) (length s.kinds) 0 f h (omega arith) (omega arith))
 
 -- ---- before the change
-pub columns-of : (s : State) (index : Index) (parts : List Interval) (columns : List (List Block)) → IsImage s.kinds s.disjoint s.elements index → Built (IsColumn s.kinds parts) columns (length s.kinds)
+pub columns-of : (s : State) (index : Index) (parts : List Interval) (columns : List (List Block)) → IsImage s.kinds s.elements index → Built (IsColumn s.kinds parts) columns (length s.kinds)
     → crowded_field s parts ≡ None → AreColumnsOf index columns
 columns-of s index parts columns i b room =
     let n = i.tables.fields.one_each in
@@ -122,18 +122,17 @@ index-kept kinds es old new i k =
       ends = k.ends ∙ i.ends;
     }
 
-pub image-kept : (kinds : List Kind) (dis : Bool) (es : List Element) (old new : Index) → IsImage kinds dis es old → IsSameIndex old new → IsImage kinds dis es new
-image-kept kinds dis es old new i k = record {
+pub image-kept : (kinds : List Kind) (es : List Element) (old new : Index) → IsImage kinds es old → IsSameIndex old new → IsImage kinds es new
+image-kept kinds es old new i k = record {
   some = i.some;
   few_kinds = i.few_kinds;
-  not_disjoint = i.not_disjoint;
   fit = i.fit;
   tables = index-kept kinds es old new i.tables k;
   few_rules = i.few_rules;
 }
 
 -- the tables, or the others in their place, can take the columns
-pub ready : (s : State) (old new : Index) (parts : List Interval) (columns : List (List Block)) (others : List (Option FieldTable)) → IsImage s.kinds s.disjoint s.elements old
+pub ready : (s : State) (old new : Index) (parts : List Interval) (columns : List (List Block)) (others : List (Option FieldTable)) → IsImage s.kinds s.elements old
     → Built (IsColumn s.kinds parts) columns (length s.kinds) → Built (λ f o. (t : FieldTable) → IsOther (length (of_field columns f)) (get_or old.fields f t) o) others (length old.fields)
     → IsSameIndex old new → IsRoomy new columns → AreReady new others columns
 ready s old new parts columns others i b o k r =
@@ -237,14 +236,13 @@ index-grown kinds es e old mid new columns others end some i b o k a last =
           ∙ ap (λ z. replicate (length (split kinds (length kinds - 1) e)) (make z)) (zero-add (length es))));
     }
 
-pub growth : (s : State) (old mid new : Index) (e : Element) (columns : List (List Block)) (others : List (Option FieldTable)) (end : End) → IsImage s.kinds s.disjoint s.elements old
+pub growth : (s : State) (old mid new : Index) (e : Element) (columns : List (List Block)) (others : List (Option FieldTable)) (end : End) → IsImage s.kinds s.elements old
     → parts_fit s.kinds e.parts ≡ true → Built (IsColumn s.kinds e.parts) columns (length s.kinds) → crowded_field s e.parts ≡ None
     → Built (λ f o. (t : FieldTable) → IsOther (length (of_field columns f)) (get_or old.fields f t) o) others (length old.fields)
-    → IsSameIndex old mid → IsAppended mid new others columns end → end ≡ record { place = length s.elements; expiry = e.expiry } → IsImage s.kinds s.disjoint (s.elements ++ e ∷ []) new
+    → IsSameIndex old mid → IsAppended mid new others columns end → end ≡ record { place = length s.elements; expiry = e.expiry } → IsImage s.kinds (s.elements ++ e ∷ []) new
 growth s old mid new e columns others end i fit b room o k a last = record {
   some = i.some;
   few_kinds = i.few_kinds;
-  not_disjoint = i.not_disjoint;
   fit = let P : Element → Type 0 = λ z. parts_fit s.kinds z.parts ≡ true in All-push P s.elements e i.fit fit;
   tables = index-grown s.kinds s.elements e old mid new columns others end i.some i.tables b o k a last;
   few_rules = λ f h.

@@ -1,5 +1,5 @@
 -- What an image gives to those who use its index.
-use Rattle.std.proofs.Common.{◌≡◌, sym, ◌∙◌, ap, subst, ℕ, zero, suc, ◌+◌, ◌-◌, ◌^◌, ◌<◌, ◌≤◌, Bool, true, ◌==◌, nat_lt, List, [], ◌∷◌, length, get_or, arith, add-one}
+use Rattle.std.proofs.Common.{◌≡◌, sym, ◌∙◌, ap, subst, ℕ, zero, suc, ◌+◌, ◌-◌, ◌^◌, ◌<◌, ◌≤◌, true, ◌==◌, nat_lt, List, [], ◌∷◌, length, get_or, arith, add-one}
 use Rattle.std.specs.Prelude.{All}
 use Rattle.std.proofs.lemmas.Bool.{and_parts}
 use Rattle.std.proofs.lemmas.Bool.Decides.{nat_tests}
@@ -24,8 +24,8 @@ pub field-rules : (kinds : List Kind) (es : List Element) (index : Index) (f : �
     → length (field_rules kinds f es) ≡ (get_or index.fields f t).rules
 field-rules kinds es index f t i h = (i.fields.each f Ipv4 t h).stands.one_each
 
-pub image-shaped : (kinds : List Kind) (dis : Bool) (es : List Element) (index : Index) → IsImage kinds dis es index → IsShaped index
-image-shaped kinds dis es index i =
+pub image-shaped : (kinds : List Kind) (es : List Element) (index : Index) → IsImage kinds es index → IsShaped index
+image-shaped kinds es index i =
     let n = i.tables.fields.one_each in
     let m = i.tables.maps.one_fewer in
     record {
@@ -60,8 +60,8 @@ value-within (x ∷ kinds) [] f k h a b = absurd (omega arith)
 value-within (x ∷ kinds) (v ∷ key) zero k h a b = from-less v (2 ^ bits_of x) (and_parts (nat_lt v (2 ^ bits_of x)) (values_fit kinds key) h).0
 value-within (x ∷ kinds) (v ∷ key) (suc f) k h a b = value-within kinds key f k (and_parts (nat_lt v (2 ^ bits_of x)) (values_fit kinds key) h).1 (omega arith) (omega arith)
 
-pub key-of : (kinds : List Kind) (dis : Bool) (es : List Element) (index : Index) (key : List ℕ) → IsImage kinds dis es index → key_fits kinds key ≡ true → IsKeyOf index.fields key
-key-of kinds dis es index key i h =
+pub key-of : (kinds : List Kind) (es : List Element) (index : Index) (key : List ℕ) → IsImage kinds es index → key_fits kinds key ≡ true → IsKeyOf index.fields key
+key-of kinds es index key i h =
     let parts = and_parts (length kinds == length key) (values_fit kinds key) h in
     let n = from-equal (length kinds) (length key) parts.0 in
     let m = i.tables.fields.one_each in

@@ -5,9 +5,11 @@ pub mod BuiltLaws
 pub mod ImageUse
 pub mod Places
 pub mod GrowLaws
+pub mod SharingRows
 pub mod EndLaws
 pub mod ImageGrowth
 pub mod AddLaws
+pub mod ApartLaws
 pub mod Renewal
 pub mod FusedLaws
 pub mod SpanLaws

@@ -3,7 +3,10 @@ use Rattle.std.proofs.Common.{◌≡◌, sym, ℕ, ◌<◌, Bool, List, [], ◌�
 use Rattle.std.specs.Prelude.{position, IfSome}
 use Rattle.std.proofs.lemmas.List.Quantifiers.{position-Some}
 use Rattle.set_model.specs.SetState.{State, place, answers}
+use Rattle.set_model.specs.declared.kind.Interval.{Interval}
+use Rattle.set_tables.specs.Sharing.{is_sharing}
 use Rattle.pipapo_image.specs.Found.{IsPlace}
+use Rattle.pipapo_image.specs.Sharing.{IsSharingPlace, sharing_place}
 
 within-by : {X : Type 0} (p : X → Bool) (xs : List X) (o : Option ℕ) → o ≡ position p xs → IfSome o (λ i. i < length xs)
 within-by p xs None h = tt
@@ -12,3 +15,6 @@ within-by p (x ∷ xs) (Some i) h = (position-Some p (x ∷ xs) i x (sym h)).0
 
 pub is-place : (s : State) (key : List ℕ) (now : ℕ) (result : Option ℕ) → result ≡ place s key now → IsPlace s key now result
 is-place s key now result h = record { value = h; within = within-by (answers key now) s.elements result h }
+
+pub is-sharing-place : (s : State) (parts : List Interval) (now : ℕ) (result : Option ℕ) → result ≡ sharing_place s parts now → IsSharingPlace s parts now result
+is-sharing-place s parts now result h = record { value = h; within = within-by (is_sharing parts now) s.elements result h }

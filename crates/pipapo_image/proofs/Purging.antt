@@ -39,7 +39,7 @@ pub has-room : (s : State) (parts : List Interval) → ((f : ℕ) → f < length
 has-room s parts h = sym (number-none (is_crowded s parts) (length s.kinds) (λ f l. not-above (length (field_rules s.kinds f s.elements) + length (field_blocks s.kinds f parts)) rules_limit (h f l)))
 
 -- an element of the list has room beside those that stay of the ones before it
-pub room-kept : (s : State) (index : Index) (now i : ℕ) (e : Element) → IsImage s.kinds s.disjoint s.elements index → i < length s.elements → e ≡ get_or s.elements i e → crowded_field (kept s now i) e.parts ≡ None
+pub room-kept : (s : State) (index : Index) (now i : ℕ) (e : Element) → IsImage s.kinds s.elements index → i < length s.elements → e ≡ get_or s.elements i e → crowded_field (kept s now i) e.parts ≡ None
 room-kept s index now i e image h g =
     has-room (kept s now i) e.parts
     (λ f l.
@@ -49,7 +49,7 @@ room-kept s index now i e image h g =
     let c = ap (λ z. length (split s.kinds f z)) g in
     omega arith)
 
-pub fit-at : (s : State) (index : Index) (i : ℕ) (e : Element) → IsImage s.kinds s.disjoint s.elements index → i < length s.elements → e ≡ get_or s.elements i e → parts_fit s.kinds e.parts ≡ true
+pub fit-at : (s : State) (index : Index) (i : ℕ) (e : Element) → IsImage s.kinds s.elements index → i < length s.elements → e ≡ get_or s.elements i e → parts_fit s.kinds e.parts ≡ true
 fit-at s index i e image h g =
     let P : Element → Type 0 = λ z. parts_fit s.kinds z.parts ≡ true in
     ap (λ z. parts_fit s.kinds z.parts) g ∙ All-get_or P s.elements i e h image.fit

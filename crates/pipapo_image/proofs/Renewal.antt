@@ -1,5 +1,5 @@
 -- An image with another expiry of an element is an image.
-use Rattle.std.proofs.Common.{◌≡◌, refl, sym, ◌∙◌, ap, subst, ℕ, zero, suc, ◌+◌, ◌-◌, ◌<◌, ◌≤◌, Bool, true, List, [], ◌∷◌, ◌++◌, length, take, drop, get_or, Option, None, arith, flat_map, length-append, append-nil, add-one}
+use Rattle.std.proofs.Common.{◌≡◌, refl, sym, ◌∙◌, ap, subst, ℕ, zero, suc, ◌+◌, ◌-◌, ◌<◌, ◌≤◌, true, List, [], ◌∷◌, ◌++◌, length, take, drop, get_or, Option, None, arith, flat_map, length-append, append-nil, add-one}
 use Rattle.std.specs.Prelude.{All}
 use Rattle.std.proofs.lemmas.List.{set_split, take-append-drop, drop_more}
 use Rattle.std.proofs.lemmas.List.Elements.{All-set, All-get_or}
@@ -40,10 +40,10 @@ rules-next here (e ∷ es) (suc i) d h =
     let n : suc i + 1 ≡ suc (i + 1) = omega arith in
     rw n f
 
-pub renewal : (kinds : List Kind) (dis : Bool) (es : List Element) (index : Index) (i first n : ℕ) (x : Option ℕ) (ends' : Spared End) → IsImage kinds dis es index → i < length es
+pub renewal : (kinds : List Kind) (es : List Element) (index : Index) (i first n : ℕ) (x : Option ℕ) (ends' : Spared End) → IsImage kinds es index → i < length es
     → first ≡ length (field_rules kinds (length kinds - 1) (take i es)) → first + n ≡ length (field_rules kinds (length kinds - 1) (take (i + 1) es))
-    → ends'.items ≡ ends_renewed index.ends.items first n x → IsImage kinds dis (renewed_at es i x) (record index { ends = ends' })
-renewal kinds dis es index i first n x ends' image h at up changed =
+    → ends'.items ≡ ends_renewed index.ends.items first n x → IsImage kinds (renewed_at es i x) (record index { ends = ends' })
+renewal kinds es index i first n x ends' image h at up changed =
     let e = get_or es i no_element in
     let before = take i es in
     let after = drop (suc i) es in
@@ -57,7 +57,6 @@ renewal kinds dis es index i first n x ends' image h at up changed =
     record {
       some = image.some;
       few_kinds = image.few_kinds;
-      not_disjoint = image.not_disjoint;
       fit = subst (λ z. All P z) (sym (ap (renewed_element es i x) (slice_get-get_or es i no_element h))) (All-set P es i (with_expiry x e) (All-get_or P es i no_element h image.fit) image.fit);
       tables = record {
         fields = record {

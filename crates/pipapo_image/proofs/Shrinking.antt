@@ -1,5 +1,5 @@
 -- An image without an element is an image.
-use Rattle.std.proofs.Common.{◌≡◌, refl, sym, ◌∙◌, ap, subst, ℕ, suc, ◌+◌, ◌-◌, ◌<◌, ◌≤◌, Bool, true, List, length, take, drop, get_or, Option, Some, None, arith, length-append}
+use Rattle.std.proofs.Common.{◌≡◌, refl, sym, ◌∙◌, ap, subst, ℕ, suc, ◌+◌, ◌-◌, ◌<◌, ◌≤◌, true, List, length, take, drop, get_or, Option, Some, None, arith, length-append}
 use Rattle.std.specs.Prelude.{All, remove, position}
 use Rattle.std.proofs.lemmas.List.{length-take-le, length-drop}
 use Rattle.std.proofs.lemmas.List.Elements.{All-append, All-take, All-drop}
@@ -46,16 +46,16 @@ runs-few kinds es index i runs is r f t h =
     let b = field-rules kinds es index f t is l in
     omega arith
 
-pub droppable : (kinds : List Kind) (dis : Bool) (es : List Element) (index : Index) (i : ℕ) (runs : List Span) (others : List (Option FieldTable)) → IsImage kinds dis es index → i < length es
+pub droppable : (kinds : List Kind) (es : List Element) (index : Index) (i : ℕ) (runs : List Span) (others : List (Option FieldTable)) → IsImage kinds es index → i < length es
     → AreRuns kinds es i runs (length kinds) → AreOthersWithout index.fields runs others (length index.fields) → IsDroppable index others runs
-droppable kinds dis es index i runs others image h r o =
+droppable kinds es index i runs others image h r o =
     let n = image.tables.fields.one_each in
     let m = image.tables.maps.one_fewer in
     let some = image.some in
     let none : Span = record { first = 0; count = 0 } in
     let e = get_or es i no_element in
     let whole = apart es i no_element h in
-    let shaped = image-shaped kinds dis es index image in
+    let shaped = image-shaped kinds es index image in
     let long = r.one_each in
     let last : length kinds - 1 < length kinds = omega arith in
     let top : length runs - 1 ≡ length kinds - 1 = ap (λ z. z - 1) long in
@@ -194,14 +194,13 @@ index-shrunk kinds es old new i runs others some h is r o d =
           ∙ ends-without (split kinds (length kinds - 1)) (take i es) (drop (suc i) es) e;
     }
 
-pub shrink : (kinds : List Kind) (dis : Bool) (es : List Element) (old new : Index) (i : ℕ) (runs : List Span) (others : List (Option FieldTable)) → IsImage kinds dis es old → i < length es
-    → AreRuns kinds es i runs (length kinds) → AreOthersWithout old.fields runs others (length old.fields) → IsDropped old new others runs → IsImage kinds dis (remove es i) new
-shrink kinds dis es old new i runs others image h r o d =
+pub shrink : (kinds : List Kind) (es : List Element) (old new : Index) (i : ℕ) (runs : List Span) (others : List (Option FieldTable)) → IsImage kinds es old → i < length es
+    → AreRuns kinds es i runs (length kinds) → AreOthersWithout old.fields runs others (length old.fields) → IsDropped old new others runs → IsImage kinds (remove es i) new
+shrink kinds es old new i runs others image h r o d =
     let P : Element → Type 0 = λ z. parts_fit kinds z.parts ≡ true in
     record {
       some = image.some;
       few_kinds = image.few_kinds;
-      not_disjoint = image.not_disjoint;
       fit = All-append P (take i es) (drop (suc i) es) (All-take P i es image.fit) (All-drop P (suc i) es image.fit);
       tables = index-shrunk kinds es old new i runs others image.some h image.tables r o d;
       few_rules = λ f l.

@@ -1,5 +1,5 @@
 -- What holds of a set's parts at every moment between calls.
-use Rattle.std.specs.Prelude.{◌≡◌, ℕ, ◌<◌, ◌≤◌, Bool, true, false, List, length, All}
+use Rattle.std.specs.Prelude.{◌≡◌, ℕ, ◌<◌, ◌≤◌, true, List, length, All}
 use Rattle.set_model.specs.declared.kind.Kind.{Kind}
 use Rattle.set_model.specs.declared.element.Element.{Element}
 use Rattle.set_model.specs.Key.{parts_fit}
@@ -8,11 +8,10 @@ use Rattle.pipapo_image.specs.declared.index.Index.{Index}
 use Rattle.pipapo_image.specs.Index.{IsIndexOf}
 
 -- A set has 1 to 16 kinds, every element's intervals fit them, no field has too many rules, and the
--- index is the tables of the elements. Sets whose elements share no key aren't built yet.
-pub record IsImage (kinds : List Kind) (disjoint : Bool) (elements : List Element) (index : Index) : Type 0 where
+-- index is the tables of the elements.
+pub record IsImage (kinds : List Kind) (elements : List Element) (index : Index) : Type 0 where
   pub some : 1 ≤ length kinds
   pub few_kinds : length kinds ≤ 16
-  pub not_disjoint : disjoint ≡ false
   pub fit : All (λ e. parts_fit kinds e.parts ≡ true) elements
   pub tables : IsIndexOf kinds elements index
   pub few_rules : (f : ℕ) → f < length kinds → length (field_rules kinds f elements) ≤ rules_limit

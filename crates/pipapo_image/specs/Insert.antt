@@ -1,12 +1,13 @@
--- What an insertion answers, by what a lookup of the start key and one of the end key found.
-use Rattle.std.specs.Prelude.{◌≡◌, ℕ, ◌-◌, ◌^◌, ◌<◌, Bool, true, false, List, length, Option, Some, None, Result, Ok, Err, option_map, if◌then◌else◌}
+-- What an insertion answers, by what lookups found: of the start key and the end key, or in a
+-- disjoint set of the start key and the intervals.
+use Rattle.std.specs.Prelude.{◌≡◌, ℕ, ◌-◌, ◌^◌, ◌<◌, Bool, true, false, List, length, Option, Some, None, Result, Ok, Err, option_map, IfSome, if◌then◌else◌}
 use Rattle.std.specs.Option.{option_or}
 use Rattle.std.specs.Global.{Vec}
 use Rattle.set_model.specs.declared.block.Block.{Block}
 use Rattle.set_model.specs.declared.kind.Interval.{Interval}
 use Rattle.set_model.specs.declared.report.Why.{Why}
 use Rattle.set_model.specs.declared.report.Why.TheVariants.{Overlap as Overlaps, Full as IsFull, RulesFull as TooManyRules}
-use Rattle.set_model.specs.Key.{end_key, same_parts}
+use Rattle.set_model.specs.Key.{start_key, end_key, same_parts}
 use Rattle.set_model.specs.SetState.{State, Added, place, is_full, crowded_field, add, add_new, add_again, renewed, with_element}
 use Rattle.set_model.specs.SetState.Added.{New, Already, Renewed, Refused}
 use Rattle.pipapo_image.specs.declared.answers.Added.{Added as Came}
@@ -18,6 +19,7 @@ use Rattle.pipapo_image.specs.declared.insert.Decision.TheVariants.{Stays, Renew
 use Rattle.pipapo_image.specs.Built.{Built}
 use Rattle.pipapo_image.specs.Grow.{IsColumn}
 use Rattle.pipapo_image.specs.Found.{element_at}
+use Rattle.pipapo_image.specs.Sharing.{sharing_place}
 
 -- what the answer of a call says, where there was memory
 abbrev pub said : Came → Added
@@ -90,10 +92,10 @@ by_rules crowded = option_map (λ f. TooManyRules f) crowded
 abbrev pub by_size : State → List Interval → Bool → Option Why
 by_size s parts full = option_or (if full then Some IsFull else None) (by_rules (crowded_field s parts))
 
--- by the place of the element that holds the end key
-abbrev pub by_end : State → List Interval → Option ℕ → Option Why
-by_end s parts (Some i) = Some (Overlaps (element_at s i).id)
-by_end s parts None = by_size s parts (is_full s)
+-- by the place of the element that is in the way, if one is
+abbrev pub by_way : State → List Interval → Option ℕ → Option Why
+by_way s parts (Some i) = Some (Overlaps (element_at s i).id)
+by_way s parts None = by_size s parts (is_full s)
 
 -- The element at a place holds the start key; it has the same intervals or not.
 abbrev pub at_start : State → ℕ → Option ℕ → Bool → Added × State
@@ -103,4 +105,23 @@ at_start s i x false = (Refused (Overlaps (element_at s i).id), s)
 -- what comes of the intervals, by the place of the element that holds the start key
 abbrev pub by_start : State → List Interval → Option ℕ → List ℕ → ℕ → Option ℕ → Added × State
 by_start s parts x c now (Some i) = at_start s i x (same_parts (element_at s i).parts parts)
-by_start s parts x c now None = add_new s parts x c (by_end s parts (place s (end_key parts) now))
+by_start s parts x c now None = add_new s parts x c (by_way s parts (place s (end_key parts) now))
+
+-- a place, where the element there has these intervals
+abbrev pub same_at : State → List Interval → Option ℕ → Option ℕ
+same_at s parts None = None
+same_at s parts (Some i) = if same_parts (element_at s i).parts parts then Some i else None
+
+-- the place of the element that is there already
+abbrev pub twin_place : State → List Interval → ℕ → Option ℕ
+twin_place s parts now = same_at s parts (place s (start_key parts) now)
+
+-- an answer that is that place, which is one of the list
+pub record IsTwinPlace (s : State) (parts : List Interval) (now : ℕ) (result : Option ℕ) : Type 0 where
+  pub value : result ≡ twin_place s parts now
+  pub within : IfSome result (λ i. i < length s.elements)
+
+-- what comes of the intervals in a disjoint set, by the place of the element that is there already
+abbrev pub by_twin : State → List Interval → Option ℕ → List ℕ → ℕ → Option ℕ → Added × State
+by_twin s parts x c now (Some i) = add_again s x (Some i) (element_at s i)
+by_twin s parts x c now None = add_new s parts x c (by_way s parts (sharing_place s parts now))

@@ -4,6 +4,7 @@ pub mod Standing
 pub mod Index
 pub mod Image
 pub mod Found
+pub mod Sharing
 pub mod Built
 pub mod Grow
 pub mod Insert
@@ -13,3 +14,4 @@ pub mod Runs
 pub mod Shrink
 pub mod Remove
 pub mod Append
+pub mod Apart

@@ -1,4 +1,4 @@
-ghost use Rattle.std.specs.Prelude.{◌≡◌, ◌+◌, ◌≤◌, ◌<◌, true, false, length, OnOk, OnErr, IfOk, IfSome};
+ghost use Rattle.std.specs.Prelude.{◌≡◌, ◌+◌, ◌≤◌, ◌<◌, true, length, OnOk, OnErr, IfOk, IfSome};
 ghost use Rattle.set_model.specs.Key.{key_fits, parts_fit};
 ghost use Rattle.set_model.specs.SetState.{place, empty_set};
 ghost use Rattle.pipapo_image.specs.Found.{found, found_at, element_at, IsPlace};
@@ -17,7 +17,8 @@ pub struct SetImage {
     pub kinds: Kinds,
     /// How many elements it may have.
     pub size: Option<u32>,
-    /// Whether no two of its live elements share a key.
+    /// Whether a common key with a live element refuses an addition. [`crate::apart_law`] says at
+    /// which moments no two live elements share a key then.
     pub disjoint: bool,
     /// The tables of the elements.
     pub index: Index,
@@ -34,7 +35,7 @@ impl Model for SetImage {
 
     ghost view = { λ a. record { kinds = a.kinds; size = a.size; disjoint = a.disjoint; elements = a.elements; next = a.next } };
 
-    ghost invariant = { λ a. IsImage a.kinds a.disjoint a.elements a.index };
+    ghost invariant = { λ a. IsImage a.kinds a.elements a.index };
 }
 
 impl SetImage {
@@ -52,7 +53,6 @@ impl SetImage {
     ) -> Result<SetImage, Memory>
         requires some { 1 ≤ length kinds.now }
         requires few { length kinds.now ≤ 16 }
-        requires not_disjoint { disjoint ≡ false }
         ensures { IfOk result (λ set. set ≡ empty_set kinds.now size disjoint) }
     {
         Ok(SetImage {

@@ -145,7 +145,7 @@ fn walk(fields: &[FieldTable], maps: &[MapTable], key: &[u128], row: &mut BitRow
 }
 
 /// The place of the element of the lowest rule of the row whose end is live.
-fn led(ends: &EndTable, row: &BitRow, now: u64) -> Option<u64>
+pub(crate) fn led(ends: &EndTable, row: &BitRow, now: u64) -> Option<u64>
     requires { length row.now.bits ≡ length ends.now.items }
     ensures { result ≡ led_to ends.now.items row.now.bits now }
 {

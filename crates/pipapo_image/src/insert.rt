@@ -1,11 +1,13 @@
-ghost use Rattle.std.specs.Prelude.{◌≡◌, ◌+◌, ◌-◌, ◌≤◌, ◌<◌, ◌^◌, ◌==◌, ◌&&◌, true, false, length, OnOk, OnErr, IfOk, None, Some, option_map};
+ghost use Rattle.std.specs.Prelude.{◌≡◌, ◌+◌, ◌-◌, ◌≤◌, ◌<◌, ◌^◌, ◌==◌, ◌&&◌, true, false, List, length, OnOk, OnErr, IfOk, None, Some, Ok, option_map};
 ghost use Rattle.std.specs.List.{list_all, zip};
+ghost use Rattle.set_model.specs.declared.kind.Interval.{Interval as OneInterval};
 ghost use Rattle.set_model.specs.Key.{parts_fit, start_key, end_key, same_parts};
-ghost use Rattle.set_model.specs.SetState.{place, add, twin, if_same, is_full, crowded_field, renewed, with_element};
+ghost use Rattle.set_model.specs.SetState.{place, add, add_again, twin, is_full, crowded_field, renewed, with_element};
 ghost use Rattle.pipapo_image.specs.Built.{Built};
 ghost use Rattle.pipapo_image.specs.Grow.{IsColumn};
 ghost use Rattle.pipapo_image.specs.Found.{element_at, IsPlace};
-ghost use Rattle.pipapo_image.specs.Insert.{IsAnswer, IsForecast, IsDecision, IsTest, by_start, by_end, by_size, by_rules, at_start};
+ghost use Rattle.pipapo_image.specs.Sharing.{sharing_place};
+ghost use Rattle.pipapo_image.specs.Insert.{IsAnswer, IsForecast, IsDecision, IsTest, IsTwinPlace, by_start, by_twin, twin_place, by_way, by_size, by_rules, at_start};
 
 use crate::answers::{Added, InsertError};
 use crate::columns::{columns, crowded_field};
@@ -82,7 +84,7 @@ impl SetImage {
     ///
     /// # Errors
     /// `Overlap` if a live element holds the start key and has other intervals, or else holds the
-    /// end key; then `Full`; then `RulesFull` with the first field that would have too many rules.
+    /// end key, and in a disjoint set if one shares any key; then `Full`; then `RulesFull` with the first field that would have too many rules.
     /// `Memory` if there is none left. Each leaves the set as it was.
     pub fn insert(
         &mut self,
@@ -143,22 +145,9 @@ impl SetImage {
         requires { parts_fit self.now.kinds parts.now ≡ true }
         ensures { IfOk result (λ id. id ≡ option_map (λ e. e.id) (twin self.now parts.now now)) }
     {
-        match self.start_place(alloc, parts, now, scratch)? {
-            Some(i) => Ok(self.twin_at(i, parts)),
+        match self.twin_place(alloc, parts, now, scratch)? {
+            Some(i) => Ok(Some(self.id_at(i))),
             None => Ok(None),
-        }
-    }
-
-    /// The id of the element at place `i`, where it has these intervals.
-    fn twin_at(&self, i: u64, parts: &Parts) -> Option<u64>
-        requires { i < length self.now.elements }
-        ensures { result ≡ option_map (λ e. e.id) (if_same parts.now (Some (element_at self.now i))) }
-    {
-        let element = self.elements.at(i);
-        if is_same(element.parts.as_slice(), parts.as_slice()) {
-            Some(element.id)
-        } else {
-            None
         }
     }
 
@@ -174,8 +163,32 @@ impl SetImage {
         requires { parts_fit self.now.kinds parts.now ≡ true }
         ensures { IsDecision self.now parts.now expiry (λ c. add self.now parts.now expiry c now) result }
     {
-        prove!(!self.disjoint);
-        self.decide_overlapping(alloc, parts, expiry, now, scratch)
+        if self.disjoint {
+            self.decide_apart(alloc, parts, expiry, now, scratch)
+        } else {
+            self.decide_overlapping(alloc, parts, expiry, now, scratch)
+        }
+    }
+
+    /// Decides where no two live elements may share a key.
+    #[tactic(auto, using(crate::proofs::AddLaws::decides))]
+    fn decide_apart(
+        &self,
+        alloc: Global,
+        parts: &Parts,
+        expiry: Option<u64>,
+        now: u64,
+        scratch: &mut Scratch,
+    ) -> Result<Decision, InsertError>
+        requires { parts_fit self.now.kinds parts.now ≡ true }
+        ensures { IsDecision self.now parts.now expiry (λ c. by_twin self.now parts.now expiry c now (twin_place self.now parts.now now)) result }
+    {
+        match self.twin_place(alloc, parts, now, scratch)? {
+            Some(i) => Ok(self.decide_again(i, expiry)),
+            None => Ok(Decision::Adds {
+                columns: self.columns_unshared(alloc, parts, now, scratch)?,
+            }),
+        }
     }
 
     /// Decides where elements may share keys.
@@ -197,6 +210,32 @@ impl SetImage {
                 columns: self.columns_apart(alloc, parts, now, scratch)?,
             }),
         }
+    }
+
+    /// The place of the element that is there already: the first live one that holds the start key,
+    /// where it has the same intervals.
+    fn twin_place(
+        &self,
+        alloc: Global,
+        parts: &Parts,
+        now: u64,
+        scratch: &mut Scratch,
+    ) -> Result<Option<u64>, Memory>
+        requires { parts_fit self.now.kinds parts.now ≡ true }
+        ensures { IfOk result (IsTwinPlace self.now parts.now now) }
+    {
+        match self.start_place(alloc, parts, now, scratch)? {
+            Some(i) if self.has_parts(i, parts) => Ok(Some(i)),
+            _ => Ok(None),
+        }
+    }
+
+    /// Whether the element at place `i` has these intervals.
+    fn has_parts(&self, i: u64, parts: &Parts) -> bool
+        requires { i < length self.now.elements }
+        ensures { result ≡ same_parts (element_at self.now i).parts parts.now }
+    {
+        is_same(self.elements.at(i).parts.as_slice(), parts.as_slice())
     }
 
     /// The place of the first live element that holds the start key.
@@ -241,15 +280,23 @@ impl SetImage {
         requires { i < length self.now.elements }
         ensures { IsDecision self.now parts.now expiry (λ _. at_start self.now i expiry (same_parts (element_at self.now i).parts parts.now)) result }
     {
-        let found = self.elements.at(i);
-        let id = found.id;
-        if !is_same(found.parts.as_slice(), parts.as_slice()) {
-            return Err(InsertError::Overlap { id });
-        }
-        if expiry.is_none() {
-            Ok(Decision::Stays { id })
+        if self.has_parts(i, parts) {
+            Ok(self.decide_again(i, expiry))
         } else {
-            Ok(Decision::Renews { place: i, id })
+            Err(InsertError::Overlap { id: self.id_at(i) })
+        }
+    }
+
+    /// What an insertion of the intervals of the element at place `i` does.
+    fn decide_again(&self, i: u64, expiry: Option<u64>) -> Decision
+        requires { i < length self.now.elements }
+        ensures { (parts : List OneInterval) → IsDecision self.now parts expiry (λ _. add_again self.now expiry (Some i) (element_at self.now i)) (Ok result) }
+    {
+        let id = self.id_at(i);
+        if expiry.is_none() {
+            Decision::Stays { id }
+        } else {
+            Decision::Renews { place: i, id }
         }
     }
 
@@ -275,9 +322,26 @@ impl SetImage {
         scratch: &mut Scratch,
     ) -> Result<Vec<Listed<Block>>, InsertError>
         requires { parts_fit self.now.kinds parts.now ≡ true }
-        ensures { IsTest self.now parts.now (by_end self.now parts.now (place self.now (end_key parts.now) now)) result }
+        ensures { IsTest self.now parts.now (by_way self.now parts.now (place self.now (end_key parts.now) now)) result }
     {
         match self.end_place(alloc, parts, now, scratch)? {
+            Some(i) => Err(InsertError::Overlap { id: self.id_at(i) }),
+            None => self.columns_within(alloc, parts),
+        }
+    }
+
+    /// The rules of a new element, where no element has the same intervals.
+    fn columns_unshared(
+        &self,
+        alloc: Global,
+        parts: &Parts,
+        now: u64,
+        scratch: &mut Scratch,
+    ) -> Result<Vec<Listed<Block>>, InsertError>
+        requires { parts_fit self.now.kinds parts.now ≡ true }
+        ensures { IsTest self.now parts.now (by_way self.now parts.now (sharing_place self.now parts.now now)) result }
+    {
+        match self.sharing_place(parts, now, scratch) {
             Some(i) => Err(InsertError::Overlap { id: self.id_at(i) }),
             None => self.columns_within(alloc, parts),
         }

@@ -17,14 +17,17 @@ mod grow;
 mod image;
 mod index;
 mod insert;
+mod laws;
 mod per_field;
 mod place;
 mod purge;
 mod runs;
 mod scratch;
+mod sharing;
 
 pub use answers::{Added, DeleteError, InsertError};
 pub use image::SetImage;
 pub use index::Index;
+pub use laws::apart_law;
 pub use per_field::{Fields, Maps, PerField};
 pub use scratch::Scratch;

@@ -17,6 +17,7 @@ use Rattle.set_model.specs.declared.script.SetDecl.{SetDecl}
 use Rattle.set_model.specs.declared.script.Family.TheVariants.{Ip}
 use Rattle.set_model.specs.declared.script.Verb.TheVariants.{Add, Create, Delete, Destroy}
 use Rattle.set_model.specs.SetState.{State, New, Already, Renewed, Refused as IsRefused, add, removed, purged, cleared, empty_set, place, answers, field_rules}
+use Rattle.set_model.specs.Apart.{is_apart}
 use Rattle.set_model.specs.Blocks.{blocks}
 use Rattle.set_model.specs.Control.{Strict, KeepGoing, history}
 use Rattle.set_model.specs.Text.{transcript_text}
@@ -107,6 +108,21 @@ shared_key = refl
 
 neighbours : (add (plus (of_ports true) (ports 10 20) None) (ports 5 9) None [] 0).0 ≡ New 1
 neighbours = refl
+
+-- A disjoint set of 10-20, which expires at 30,000, and of 5-30, which was added then. From that moment
+-- on they are apart. At an earlier one both are live and share 15.
+abbrev added_behind : State
+added_behind = (add (plus (of_ports true) (ports 10 20) (Some 30000)) (ports 5 30) None [] 30000).1
+
+apart_from_then_on : map (is_apart added_behind) (30000 ∷ 30001 ∷ []) ≡ true ∷ true ∷ []
+apart_from_then_on = refl
+
+not_apart_before : is_apart added_behind 29999 ≡ false
+not_apart_before = refl
+
+-- Where moments fall, a renewal at the earlier one keeps both live at the later one too.
+renewed_before : is_apart (add added_behind (ports 10 20) (Some 50000) [] 29999).1 30000 ≡ false
+renewed_before = refl
 
 -- An element with an expiry of 30,000 is live at 29,999 and expired at 30,000.
 abbrev timed : State

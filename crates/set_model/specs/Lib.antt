@@ -4,6 +4,7 @@ pub mod Key
 pub mod Blocks
 pub mod Expiry
 pub mod SetState
+pub mod Apart
 pub mod Control
 pub mod Legal
 pub mod Runnable

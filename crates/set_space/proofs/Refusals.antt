@@ -45,6 +45,13 @@ insertion_refused s t parts x c now Full h = (h.0, refused_keeps s parts x c now
 insertion_refused s t parts x c now (RulesFull f) h = (h.0, refused_keeps s parts x c now _ h.0)
 insertion_refused s t parts x c now Memory h = refl
 
+-- of a copy, too
+pub copy_refused : (s u t : State) (parts : List Interval) (x : Option ℕ) (c : List ℕ) (now : ℕ) (r : Result Came InsertError) (e : InsertError) → u ≡ s → IsErrAnd r (λ z. z ≡ e)
+    → IsAnswer (add u parts x c now) (Err e) u t → IsAnswer (add s parts x c now) r s s
+copy_refused s u t parts x c now (Ok came) e same is h = absurd is
+copy_refused s u t parts x c now (Err f) e same is h =
+    subst (λ z. IsAnswer (add s parts x c now) (Err z) s s) (sym is) (subst (λ z. IsAnswer (add z parts x c now) (Err e) z z) same (insertion_refused u t parts x c now e h))
+
 -- and so the set that it leaves is the same
 pub insertion_keeps : (s t : State) (parts : List Interval) (x : Option ℕ) (c : List ℕ) (now : ℕ) (e : InsertError) → IsAnswer (add s parts x c now) (Err e) s t → t ≡ s
 insertion_keeps s t parts x c now (Overlap id) h = h.1 ∙ sym (refused_keeps s parts x c now _ h.0)

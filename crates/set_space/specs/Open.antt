@@ -20,11 +20,10 @@ opened g = record { base = g; sets = g.sets }
 abbrev pub with_set : Open → ℕ → State → Open
 with_set w set s = record w { sets = slice_set w.sets set s }
 
--- A set that can be built: 1 to 16 fields. Sets whose elements share no key aren't built yet.
+-- A set that can be built: 1 to 16 fields.
 pub record CanBeBuilt (d : SetDecl) : Type 0 where
   pub some : 1 ≤ length d.kinds
   pub few : length d.kinds ≤ 16
-  pub not_disjoint : d.disjoint ≡ false
 
 -- The intervals fit the kinds of the set at a place.
 abbrev pub FitsSet : Open → ℕ → List Interval → Type 0

@@ -3,3 +3,4 @@ pub mod RowLaws
 pub mod MatchLaws
 pub mod UpdateLaws
 pub mod SearchLaws
+pub mod SharingLaws

@@ -1,14 +1,17 @@
 -- The laws that are proved of the tables.
-use Rattle.std.specs.Prelude.{◌≡◌, ℕ, ◌≤◌, ◌<◌, ◌&&◌, nat_le, Bool, List, length, position, All}
+use Rattle.std.specs.Prelude.{◌≡◌, ℕ, ◌≤◌, ◌<◌, ◌&&◌, nat_le, Bool, true, List, length, position, All}
 use Rattle.std.specs.List.{list_any}
 use Rattle.set_model.specs.declared.kind.Kind.{Kind}
+use Rattle.set_model.specs.declared.kind.Interval.{Interval}
 use Rattle.set_model.specs.declared.element.Element.{Element}
 use Rattle.set_model.specs.declared.block.Block.{Block}
+use Rattle.set_model.specs.Key.{parts_fit}
 use Rattle.set_model.specs.SetState.{answers}
 use Rattle.set_model.specs.Blocks.{blocks, holds_value}
 use Rattle.set_tables.specs.Tables.{tables}
 use Rattle.set_tables.specs.Search.{searched, row_behind, key_tests}
 use Rattle.set_tables.specs.Core.{row_of, key_row}
+use Rattle.set_tables.specs.Sharing.{shares_some, share_tests, is_sharing}
 
 -- Some block of an interval's split holds a value exactly where the interval does.
 abbrev pub BlocksCover : Type 0
@@ -28,3 +31,13 @@ RowsHoldCore = (kinds : List Kind) (es : List Element) (key : List ℕ) (f : ℕ
 abbrev pub LookupFindsFirst : Type 0
 LookupFindsFirst = (kinds : List Kind) (es : List Element) (key : List ℕ) (now : ℕ) → 1 ≤ length kinds → length key ≡ length kinds
     → All (λ e. length e.parts ≡ length kinds) es → searched (key_tests key) (tables kinds es) now ≡ position (answers key now) es
+
+-- Some blocks of the splits of two intervals that don't fall share a value exactly where the intervals do.
+abbrev pub SplitsShare : Type 0
+SplitsShare = (p q : Interval) (bits : ℕ) → p.low ≤ p.high → q.low ≤ q.high
+    → list_any (shares_some (blocks q.low q.high bits)) (blocks p.low p.high bits) ≡ (nat_le p.low q.high && nat_le q.low p.high)
+
+-- A walk by intervals finds the place of the first live element that shares a key with them.
+abbrev pub WalkFindsSharing : Type 0
+WalkFindsSharing = (kinds : List Kind) (es : List Element) (parts : List Interval) (now : ℕ) → 1 ≤ length kinds → parts_fit kinds parts ≡ true
+    → All (λ e. parts_fit kinds e.parts ≡ true) es → searched (share_tests kinds parts) (tables kinds es) now ≡ position (is_sharing parts now) es

@@ -1,6 +1,6 @@
 // Laws, each as the contract of a function that does nothing, so that the check proves it and
 // callers may cite it.
-ghost use Rattle.set_tables.specs.Laws.{BlocksCover, RowsHoldCore, RowsHoldMarks, LookupFindsFirst};
+ghost use Rattle.set_tables.specs.Laws.{BlocksCover, RowsHoldCore, RowsHoldMarks, LookupFindsFirst, SplitsShare, WalkFindsSharing};
 
 /// A value lies in an interval exactly where some block of the interval's split holds it.
 pub fn cover_law()
@@ -23,4 +23,16 @@ pub fn core_law()
 /// the key.
 pub fn lookup_law()
     ensures { LookupFindsFirst }
+{}
+
+/// Two intervals have a common value exactly where a block of the one's split and a block of the
+/// other's do.
+pub fn share_law()
+    ensures { SplitsShare }
+{}
+
+/// A walk by intervals in the tables of a list of elements finds the place of the first that is live
+/// and shares a key with them.
+pub fn sharing_law()
+    ensures { WalkFindsSharing }
 {}

@@ -7,7 +7,7 @@
 
 mod laws;
 
-pub use laws::{core_law, cover_law, lookup_law, probe_law};
+pub use laws::{core_law, cover_law, lookup_law, probe_law, share_law, sharing_law};
 
 /// The rules of the next field that belong to the element of a rule.
 #[derive(Clone, Copy, Debug, PartialEq, Eq)]

@@ -21,7 +21,7 @@ other_widths-requires-clause-few c =
     rw c.as_slice.ensures (columns-of s c.self.inside.index c.args.element.parts c.args.columns.now c.self.invariant (rw (← c.self.view_is) at c.requires.columns) (rw (← c.self.view_is) at c.requires.few)).few
 
 pub reserve-requires-clause-shaped : goal.reserve-requires-clause-shaped
-reserve-requires-clause-shaped c = image-shaped c.self.inside.kinds c.self.inside.disjoint c.self.inside.elements c.self.inside.index c.self.invariant
+reserve-requires-clause-shaped c = image-shaped c.self.inside.kinds c.self.inside.elements c.self.inside.index c.self.invariant
 
 pub reserve-requires-clause-columns : goal.reserve-requires-clause-columns
 reserve-requires-clause-columns c =
@@ -29,22 +29,22 @@ reserve-requires-clause-columns c =
     columns-of s c.self.inside.index c.args.element.parts c.args.columns.now c.self.invariant (rw (← c.self.view_is) at c.requires.columns) (rw (← c.self.view_is) at c.requires.few)
 
 pub invariant_of-self : goal.invariant_of-self
-invariant_of-self c = image-kept c.self.inside.kinds c.self.inside.disjoint c.self.inside.elements c.self.inside.index c.reserve.new.self c.self.invariant c.reserve.ensures.kept
+invariant_of-self c = image-kept c.self.inside.kinds c.self.inside.elements c.self.inside.index c.reserve.new.self c.self.invariant c.reserve.ensures.kept
 
 pub invariant_of-self-in_err-push : goal.invariant_of-self-in_err-push
 invariant_of-self-in_err-push c =
-    rw c.in_err-push.ensures.err (image-kept c.self.inside.kinds c.self.inside.disjoint c.self.inside.elements c.self.inside.index c.reserve.new.self c.self.invariant c.reserve.ensures.kept)
+    rw c.in_err-push.ensures.err (image-kept c.self.inside.kinds c.self.inside.elements c.self.inside.index c.reserve.new.self c.self.invariant c.reserve.ensures.kept)
 
 pub append-requires-clause-shaped : goal.append-requires-clause-shaped
 append-requires-clause-shaped c =
-    image-shaped c.self.inside.kinds c.self.inside.disjoint c.self.inside.elements c.reserve.new.self
-    (image-kept c.self.inside.kinds c.self.inside.disjoint c.self.inside.elements c.self.inside.index c.reserve.new.self c.self.invariant c.reserve.ensures.kept)
+    image-shaped c.self.inside.kinds c.self.inside.elements c.reserve.new.self
+    (image-kept c.self.inside.kinds c.self.inside.elements c.self.inside.index c.reserve.new.self c.self.invariant c.reserve.ensures.kept)
 
 pub append-requires-clause-columns : goal.append-requires-clause-columns
 append-requires-clause-columns c =
     let s : State = record { kinds = c.self.inside.kinds; size = c.self.inside.size; disjoint = c.self.inside.disjoint; elements = c.self.inside.elements; next = c.self.inside.next } in
     columns-of s c.reserve.new.self c.args.element.parts c.args.columns.now
-    (image-kept c.self.inside.kinds c.self.inside.disjoint c.self.inside.elements c.self.inside.index c.reserve.new.self c.self.invariant c.reserve.ensures.kept)
+    (image-kept c.self.inside.kinds c.self.inside.elements c.self.inside.index c.reserve.new.self c.self.invariant c.reserve.ensures.kept)
     (rw (← c.self.view_is) at c.requires.columns) (rw (← c.self.view_is) at c.requires.few)
 
 pub append-requires-clause-ready : goal.append-requires-clause-ready

@@ -16,7 +16,7 @@ crowded_field-requires c =
     let m = i.tables.fields.one_each in
     let columns : Built (IsColumn c.self.inside.kinds c.args.parts.now) c.args.columns.now (length c.self.inside.kinds) = rw (← c.self.view_is) at c.requires in
     let b = columns.one_each in
-    let shaped = image-shaped c.self.inside.kinds c.self.inside.disjoint c.self.inside.elements c.self.inside.index i in
+    let shaped = image-shaped c.self.inside.kinds c.self.inside.elements c.self.inside.index i in
     record {
       columns = omega arith;
       few = omega (arith, i.few_kinds);

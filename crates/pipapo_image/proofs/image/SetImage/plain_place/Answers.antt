@@ -6,11 +6,11 @@ use Rattle.pipapo_image.proofs.Places.{is-place}
 use Rattle.pipapo_image.proofs.image.SetImage.plain_place.Goals as goal
 
 pub find_plain-requires-clause-shaped : goal.find_plain-requires-clause-shaped
-find_plain-requires-clause-shaped c = image-shaped c.self.inside.kinds c.self.inside.disjoint c.self.inside.elements c.self.inside.index c.self.invariant
+find_plain-requires-clause-shaped c = image-shaped c.self.inside.kinds c.self.inside.elements c.self.inside.index c.self.invariant
 
 pub find_plain-requires-clause-key : goal.find_plain-requires-clause-key
 find_plain-requires-clause-key c =
-    key-of c.self.inside.kinds c.self.inside.disjoint c.self.inside.elements c.self.inside.index c.args.key.now c.self.invariant
+    key-of c.self.inside.kinds c.self.inside.elements c.self.inside.index c.args.key.now c.self.invariant
     (ap (λ s. key_fits s.kinds c.args.key.now) c.self.view_is ∙ c.requires)
 
 pub returns : goal.returns

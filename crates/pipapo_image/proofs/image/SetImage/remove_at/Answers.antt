@@ -35,7 +35,7 @@ drop_element-requires c =
     let O : List FieldTable → List Span → Type 0 = λ x y. AreOthersWithout x y c.in_ok-others.others.items (length x) in
     let o1 : O s.index.fields c.as_slice-2.result.now = subst (λ z. O z c.as_slice-2.result.now) c.as_slice.ensures c.in_ok-others.ensures in
     let o2 : O s.index.fields c.in_ok-runs.runs.items = subst (λ z. O s.index.fields z) c.as_slice-2.ensures.value o1 in
-    let is = droppable s.kinds s.disjoint s.elements s.index c.args.i c.in_ok-runs.runs.items c.in_ok-others.others.items c.self.invariant h runs o2 in
+    let is = droppable s.kinds s.elements s.index c.args.i c.in_ok-runs.runs.items c.in_ok-others.others.items c.self.invariant h runs o2 in
     subst (λ z. IsDroppable s.index z c.as_slice-3.result.now) (sym c.as_mut_slice.ensures.value) (subst (λ z. IsDroppable s.index c.in_ok-others.others.items z) (sym c.as_slice-3.ensures.value) is)
 
 pub invariant_of-self : goal.invariant_of-self
@@ -49,8 +49,8 @@ invariant_of-self c =
     let D : List (Option FieldTable) → List Span → Type 0 = λ x y. IsDropped s.index c.drop_element.new.self x y in
     let d1 : D c.in_ok-others.others.items c.as_slice-3.result.now = subst (λ z. D z c.as_slice-3.result.now) c.as_mut_slice.ensures.value c.drop_element.ensures in
     let d2 : D c.in_ok-others.others.items c.in_ok-runs.runs.items = subst (λ z. D c.in_ok-others.others.items z) c.as_slice-3.ensures.value d1 in
-    subst (λ z. IsImage s.kinds s.disjoint z c.drop_element.new.self) (sym c.remove-element.ensures.others)
-    (shrink s.kinds s.disjoint s.elements s.index c.drop_element.new.self c.args.i c.in_ok-runs.runs.items c.in_ok-others.others.items c.self.invariant h runs o2 d2)
+    subst (λ z. IsImage s.kinds z c.drop_element.new.self) (sym c.remove-element.ensures.others)
+    (shrink s.kinds s.elements s.index c.drop_element.new.self c.args.i c.in_ok-runs.runs.items c.in_ok-others.others.items c.self.invariant h runs o2 d2)
 
 pub returns-clause-ok : goal.returns-clause-ok
 returns-clause-ok c =

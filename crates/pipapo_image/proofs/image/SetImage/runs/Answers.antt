@@ -14,7 +14,7 @@ use Rattle.pipapo_image.proofs.image.SetImage.runs.Goals as goal
 pub overflow_sub-run : goal.overflow_sub-run
 overflow_sub-run c =
     let s = c.args.self.now in
-    let i : IsImage s.kinds s.disjoint s.elements c.self.inside.index = subst (λ z. IsImage z.kinds z.disjoint z.elements c.self.inside.index) c.self.view_is c.self.invariant in
+    let i : IsImage s.kinds s.elements c.self.inside.index = subst (λ z. IsImage z.kinds z.elements c.self.inside.index) c.self.view_is c.self.invariant in
     let maps = subst (λ z. AreMapsOf s.kinds s.elements z) (sym c.as_slice-maps.ensures) i.tables.maps in
     let a = c.first_rules-first.ensures s.kinds s.elements maps i.tables.ends i.fit in
     let b = c.first_rules-end.ensures s.kinds s.elements maps i.tables.ends i.fit in
@@ -24,7 +24,7 @@ overflow_sub-run c =
 pub maps-init : goal.maps-init
 maps-init c =
     let s = c.args.self.now in
-    let i : IsImage s.kinds s.disjoint s.elements c.self.inside.index = subst (λ z. IsImage z.kinds z.disjoint z.elements c.self.inside.index) c.self.view_is c.self.invariant in
+    let i : IsImage s.kinds s.elements c.self.inside.index = subst (λ z. IsImage z.kinds z.elements c.self.inside.index) c.self.view_is c.self.invariant in
     let maps = subst (λ z. AreMapsOf s.kinds s.elements z) (sym c.as_slice-maps.ensures) i.tables.maps in
     let a = c.first_rules-first.ensures s.kinds s.elements maps i.tables.ends i.fit in
     let b = c.first_rules-end.ensures s.kinds s.elements maps i.tables.ends i.fit in
@@ -38,7 +38,7 @@ maps-init c =
 pub at-run-requires : goal.at-run-requires
 at-run-requires c =
     let s = c.args.self.now in
-    let i : IsImage s.kinds s.disjoint s.elements c.self.inside.index = subst (λ z. IsImage z.kinds z.disjoint z.elements c.self.inside.index) c.self.view_is c.self.invariant in
+    let i : IsImage s.kinds s.elements c.self.inside.index = subst (λ z. IsImage z.kinds z.elements c.self.inside.index) c.self.view_is c.self.invariant in
     let maps = subst (λ z. AreMapsOf s.kinds s.elements z) (sym c.as_slice-maps.ensures) i.tables.maps in
     let n = maps.one_fewer in
     run-inside s.kinds s.elements c.args.i c.maps.f c.maps.run c.index-maps-f.result c.requires i.fit (omega (arith, c.maps-test.true))
@@ -47,7 +47,7 @@ at-run-requires c =
 pub maps-preserved : goal.maps-preserved
 maps-preserved c =
     let s = c.args.self.now in
-    let i : IsImage s.kinds s.disjoint s.elements c.self.inside.index = subst (λ z. IsImage z.kinds z.disjoint z.elements c.self.inside.index) c.self.view_is c.self.invariant in
+    let i : IsImage s.kinds s.elements c.self.inside.index = subst (λ z. IsImage z.kinds z.elements c.self.inside.index) c.self.view_is c.self.invariant in
     let maps = subst (λ z. AreMapsOf s.kinds s.elements z) (sym c.as_slice-maps.ensures) i.tables.maps in
     let n = maps.one_fewer in
     let next = c.at-run.result.now in

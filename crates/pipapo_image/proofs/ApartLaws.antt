@@ -1,0 +1,195 @@
+-- How changes keep the live elements of a disjoint set apart.
+use Rattle.std.proofs.Common.{◌≡◌, refl, sym, ◌∙◌, ap, subst, ℕ, zero, suc, ◌+◌, ◌<◌, ◌≤◌, Bool, true, false, ◌&&◌, nat_lt, List, [], ◌∷◌, ◌++◌, length, cond, get_or, Option, Some, None, arith, inl, inr}
+use Rattle.std.specs.Prelude.{◌⊎◌, not, filter, find, position, remove, slice_get, option_map, if◌then◌else◌}
+use Rattle.std.specs.Option.{option_or}
+use Rattle.std.specs.List.{list_all}
+use Rattle.std.proofs.lemmas.Bool.{and_parts, and_from}
+use Rattle.std.proofs.lemmas.Bool.Decides.{nat_tests}
+use Rattle.std.proofs.lemmas.List.Elements.{filter-append}
+use Rattle.std.proofs.lemmas.List.Quantifiers.{position-Some}
+use Rattle.std.proofs.lemmas.Option.{get_or_from_slice_get}
+use Rattle.set_model.specs.declared.kind.Interval.{Interval}
+use Rattle.set_model.specs.declared.element.Element.{Element}
+use Rattle.set_model.specs.declared.report.Why.{Why}
+use Rattle.set_model.specs.declared.report.Why.TheVariants.{Overlap, Full, RulesFull}
+use Rattle.set_model.specs.Key.{start_key, end_key, parts_share}
+use Rattle.set_model.specs.Expiry.{lives, live, renewed_element, renewed_at}
+use Rattle.set_model.specs.SetState.{State, shares, answers, holds, first, first_sharing, place, in_the_way, refusal, is_full, crowded_field, twin, with_element, renewed, add, add_by, add_again, add_new, is_exactly, without, removed, purged, cleared}
+use Rattle.set_model.specs.Apart.{none_share, is_apart, IsApart}
+use Rattle.pipapo_image.specs.Apart.{KeepsApart}
+
+-- ---- fewer elements
+
+-- A list is another one without some of its elements, and with other expiries of some.
+abbrev Thins : List Element → List Element → Type 0
+Thins [] [] = Unit {0}
+Thins [] (y ∷ ys) = ⊥
+Thins (x ∷ xs) ys = Thins xs ys ⊎ ((y : Element) × (rest : List Element) × (ys ≡ y ∷ rest) × (y.parts ≡ x.parts) × Thins xs rest)
+
+thin-all : (t : List Interval → Bool) (xs ys : List Element) → Thins xs ys → list_all (λ e. t e.parts) xs ≡ true → list_all (λ e. t e.parts) ys ≡ true
+thin-all t [] [] h a = refl
+thin-all t [] (y ∷ ys) h a = absurd h
+thin-all t (x ∷ xs) ys (inl h) a = thin-all t xs ys h (and_parts (t x.parts) (list_all (λ e. t e.parts) xs) a).1
+thin-all t (x ∷ xs) ys (inr h) a =
+    let b = and_parts (t x.parts) (list_all (λ e. t e.parts) xs) a in
+    subst (λ z. list_all (λ e. t e.parts) z ≡ true) (sym h.2) (and_from (t h.0.parts) (list_all (λ e. t e.parts) h.1) (ap t h.3 ∙ b.0) (thin-all t xs h.1 h.4 b.1))
+
+thin-apart : (xs ys : List Element) → Thins xs ys → none_share xs ≡ true → none_share ys ≡ true
+thin-apart [] [] h a = refl
+thin-apart [] (y ∷ ys) h a = absurd h
+thin-apart (x ∷ xs) ys (inl h) a = thin-apart xs ys h (and_parts (list_all (λ d. not (shares x d.parts)) xs) (none_share xs) a).1
+thin-apart (x ∷ xs) ys (inr h) a =
+    let b = and_parts (list_all (λ d. not (shares x d.parts)) xs) (none_share xs) a in
+    let first = thin-all (λ q. not (parts_share x.parts q)) xs h.1 h.4 b.0 in
+    let mine = subst (λ q. list_all (λ d. not (parts_share q d.parts)) h.1 ≡ true) (sym h.3) first in
+    subst (λ z. none_share z ≡ true) (sym h.2) (and_from (list_all (λ d. not (shares h.0 d.parts)) h.1) (none_share h.1) mine (thin-apart xs h.1 h.4 b.1))
+
+thin-same : (xs : List Element) → Thins xs xs
+thin-same [] = tt
+thin-same (x ∷ xs) = inr (x, xs, refl, refl, thin-same xs)
+
+-- an element that passes a test more, before and after
+thin-step : (p q : Bool) (e f : Element) (xs ys : List Element) → f.parts ≡ e.parts → (q ≡ true → p ≡ true) → Thins xs ys → Thins (cond p (e ∷ xs) xs) (cond q (f ∷ ys) ys)
+thin-step true true e f xs ys same less h = inr (f, ys, refl, same, h)
+thin-step true false e f xs ys same less h = inl h
+thin-step false true e f xs ys same less h = absurd (cc (less refl))
+thin-step false false e f xs ys same less h = h
+
+thin-drop : (p : Bool) (e : Element) (xs ys : List Element) → Thins xs ys → Thins (cond p (e ∷ xs) xs) ys
+thin-drop true e xs ys h = inl h
+thin-drop false e xs ys h = h
+
+abbrev living : ℕ → List Element → List Element
+living now es = filter (λ e. live e now) es
+
+-- ---- a later moment
+lived : (x : Option ℕ) (m now : ℕ) → m ≤ now → lives x now ≡ true → lives x m ≡ true
+lived None m now h a = refl
+lived (Some t) m now h a = from-less t m now h a where
+  from-less : (t m now : ℕ) → m ≤ now → nat_lt now t ≡ true → nat_lt m t ≡ true
+  from-less t m now h a = grind (arith, nat_tests)
+
+thin-later : (m now : ℕ) (es : List Element) → m ≤ now → Thins (living m es) (living now es)
+thin-later m now [] h = tt
+thin-later m now (e ∷ es) h = thin-step (live e m) (live e now) e e (living m es) (living now es) refl (lived e.expiry m now h) (thin-later m now es h)
+
+later : (s : State) (m now : ℕ) → m ≤ now → IsApart s m → IsApart s now
+later s m now h a = λ d. thin-apart (living m s.elements) (living now s.elements) (thin-later m now s.elements h) (a d)
+
+-- ---- what takes elements out
+thin-removed : (m i : ℕ) (es : List Element) → Thins (living m es) (living m (remove es i))
+thin-removed m zero [] = tt
+thin-removed m (suc i) [] = tt
+thin-removed m zero (e ∷ es) = thin-drop (live e m) e (living m es) (living m es) (thin-same (living m es))
+thin-removed m (suc i) (e ∷ es) = thin-step (live e m) (live e m) e e (living m es) (living m (remove es i)) refl (λ h. h) (thin-removed m i es)
+
+-- the set of an answer, or this one where there is none
+abbrev set_of : State → Option (ℕ × State) → State
+set_of s None = s
+set_of s (Some found) = found.1
+
+removed-apart : (s left : State) (parts : List Interval) (now id m : ℕ) → removed s parts now ≡ Some (id, left) → IsApart s m → IsApart left m
+removed-apart s left parts now id m h a = go (find (is_exactly parts now) s.elements) (position (is_exactly parts now) s.elements) h where
+  go : (o : Option Element) (p : Option ℕ) → without s o p ≡ Some (id, left) → IsApart left m
+  go None p h = absurd (cc h)
+  go (Some e) None h = absurd (cc h)
+  go (Some e) (Some i) h = subst (λ z. IsApart z m) (ap (set_of s) h) (λ d. thin-apart (living m s.elements) (living m (remove s.elements i)) (thin-removed m i s.elements) (a d))
+
+thin-purged : (m now : ℕ) (es : List Element) → Thins (living m es) (living m (living now es))
+thin-purged m now [] = tt
+thin-purged m now (e ∷ es) = go (live e now) (thin-purged m now es) where
+  go : (t : Bool) → Thins (living m es) (living m (living now es)) → Thins (living m (e ∷ es)) (living m (cond t (e ∷ living now es) (living now es)))
+  go true h = thin-step (live e m) (live e m) e e (living m es) (living m (living now es)) refl (λ g. g) h
+  go false h = thin-drop (live e m) e (living m es) (living m (living now es)) h
+
+purged-apart : (s : State) (now m : ℕ) → IsApart s m → IsApart (purged s now) m
+purged-apart s now m a = λ d. thin-apart (living m s.elements) (living m (living now s.elements)) (thin-purged m now s.elements) (a d)
+
+-- ---- a renewal
+renewed-next : (e : Element) (es : List Element) (i : ℕ) (x : Option ℕ) (o : Option Element) → renewed_element (e ∷ es) (suc i) x o ≡ e ∷ renewed_element es i x o
+renewed-next e es i x None = refl
+renewed-next e es i x (Some f) = refl
+
+thin-renewed : (now i : ℕ) (x : Option ℕ) (es : List Element) → ((e : Element) → slice_get es i ≡ Some e → live e now ≡ true) → Thins (living now es) (living now (renewed_at es i x))
+thin-renewed now i x [] h = tt
+thin-renewed now zero x (e ∷ es) h = thin-step (live e now) (lives x now) e (record e { expiry = x }) (living now es) (living now es) refl (λ _. h e refl) (thin-same (living now es))
+thin-renewed now (suc i) x (e ∷ es) h =
+    subst (λ z. Thins (living now (e ∷ es)) (living now z)) (sym (renewed-next e es i x (slice_get es i)))
+    (thin-step (live e now) (live e now) e e (living now es) (living now (renewed_at es i x)) refl (λ g. g) (thin-renewed now i x es h))
+
+renewed-apart : (s : State) (key : List ℕ) (now : ℕ) (x : Option ℕ) → IsApart s now → IsApart (renewed s (place s key now) x) now
+renewed-apart s key now x a = go (place s key now) refl where
+  go : (o : Option ℕ) → place s key now ≡ o → IsApart (renewed s o x) now
+  go None h = a
+  go (Some i) h = λ d.
+      thin-apart (living now s.elements) (living now (renewed_at s.elements i x))
+      (thin-renewed now i x s.elements (λ e at.
+      let found = (position-Some (answers key now) s.elements i e h).1 in
+      let here = subst (λ z. answers key now z ≡ true) (get_or_from_slice_get s.elements i e e at) found in
+      (and_parts (live e now) (holds e key) here).0))
+      (a d)
+
+-- ---- a new element
+none-found : (parts : List Interval) (now : ℕ) (es : List Element) → find (λ e. live e now && shares e parts) es ≡ None → list_all (λ e. not (shares e parts)) (living now es) ≡ true
+none-found parts now [] h = refl
+none-found parts now (e ∷ es) h = one (live e now) h (none-found parts now es) where
+  two : (t : Bool) → cond t (Some e) (find (λ e. live e now && shares e parts) es) ≡ None
+      → (find (λ e. live e now && shares e parts) es ≡ None → list_all (λ e. not (shares e parts)) (living now es) ≡ true) → (not t && list_all (λ e. not (shares e parts)) (living now es)) ≡ true
+  two true h ih = absurd (cc h)
+  two false h ih = ih h
+
+  one : (l : Bool) → cond (l && shares e parts) (Some e) (find (λ e. live e now && shares e parts) es) ≡ None
+      → (find (λ e. live e now && shares e parts) es ≡ None → list_all (λ e. not (shares e parts)) (living now es) ≡ true) → list_all (λ e. not (shares e parts)) (cond l (e ∷ living now es) (living now es)) ≡ true
+  one true h ih = two (shares e parts) h ih
+  one false h ih = ih h
+
+all-pushed : (t : Element → Bool) (b : Bool) (n : Element) (xs : List Element) → list_all t xs ≡ true → t n ≡ true → list_all t (xs ++ cond b (n ∷ []) []) ≡ true
+all-pushed t true n [] a h = and_from (t n) true h refl
+all-pushed t false n [] a h = refl
+all-pushed t b n (x ∷ xs) a h =
+    let p = and_parts (t x) (list_all t xs) a in
+    and_from (t x) (list_all t (xs ++ cond b (n ∷ []) [])) p.0 (all-pushed t b n xs p.1 h)
+
+apart-pushed : (b : Bool) (n : Element) (xs : List Element) → none_share xs ≡ true → list_all (λ x. not (shares x n.parts)) xs ≡ true → none_share (xs ++ cond b (n ∷ []) []) ≡ true
+apart-pushed true n [] a h = refl
+apart-pushed false n [] a h = refl
+apart-pushed b n (x ∷ xs) a h =
+    let p = and_parts (list_all (λ d. not (shares x d.parts)) xs) (none_share xs) a in
+    let q = and_parts (not (shares x n.parts)) (list_all (λ x. not (shares x n.parts)) xs) h in
+    and_from (list_all (λ d. not (shares x d.parts)) (xs ++ cond b (n ∷ []) [])) (none_share (xs ++ cond b (n ∷ []) [])) (all-pushed (λ d. not (shares x d.parts)) b n xs p.0 q.0) (apart-pushed b n xs p.1 q.1)
+
+nothing-first : (o : Option Element) (rest : Option Why) → option_or (option_map (λ e. Overlap e.id) o) rest ≡ None → o ≡ None
+nothing-first None rest h = refl
+nothing-first (Some e) rest h = absurd (cc h)
+
+new-apart : (s : State) (parts : List Interval) (x : Option ℕ) (c : List ℕ) (now : ℕ) → refusal s parts now ≡ None → IsApart s now → IsApart (with_element s parts x c) now
+new-apart s parts x c now h a = λ d.
+    let n : Element = record { id = s.next; parts = parts; expiry = x; comment = c } in
+    let way : in_the_way s parts now ≡ first_sharing s parts now = ap (λ t. if t then first_sharing s parts now else option_or (first s (start_key parts) now) (first s (end_key parts) now)) d in
+    let none : first_sharing s parts now ≡ None = sym way ∙ nothing-first (in_the_way s parts now) (option_or (if is_full s then Some Full else None) (option_map (λ f. RulesFull f) (crowded_field s parts))) h in
+    ap none_share (filter-append (λ e. live e now) s.elements (n ∷ []))
+    ∙ apart-pushed (lives x now) n (living now s.elements) (a d) (none-found parts now s.elements none)
+
+added-now : (s : State) (parts : List Interval) (x : Option ℕ) (c : List ℕ) (now : ℕ) → IsApart s now → IsApart (add s parts x c now).1 now
+added-now s parts x c now a = go (twin s parts now) where
+  again : (y : Option ℕ) (e : Element) → IsApart (add_again s y (place s (start_key parts) now) e).1 now
+  again None e = a
+  again (Some t) e = renewed-apart s (start_key parts) now (Some t) a
+
+  fresh : (why : Option Why) → refusal s parts now ≡ why → IsApart (add_new s parts x c why).1 now
+  fresh (Some why) h = a
+  fresh None h = new-apart s parts x c now h a
+
+  go : (t : Option Element) → IsApart (add_by s parts x c now t).1 now
+  go (Some e) = again x e
+  go None = fresh (refusal s parts now) refl
+
+pub keeps-apart : KeepsApart
+keeps-apart = record {
+  empty = λ kinds size disjoint now d. refl;
+  later = later;
+  added = λ s parts x c m now h a. added-now s parts x c now (later s m now h a);
+  removed = removed-apart;
+  purged = purged-apart;
+  cleared = λ s now d. refl;
+}

@@ -1,0 +1,87 @@
+-- A walk by intervals, block by block and field by field.
+use Rattle.std.proofs.Common.{◌≡◌, refl, sym, ◌∙◌, ap, subst, ℕ, suc, ◌+◌, ◌<◌, Bool, true, false, ◌||◌, List, ◌∷◌, length, get_or, Some, add-one, arith}
+use Rattle.std.specs.Prelude.{replicate, slice_get}
+use Rattle.std.proofs.lemmas.Option.{slice_get-get_or}
+use Rattle.lookup_table.specs.declared.table.FieldTable.{FieldTable}
+use Rattle.set_model.specs.declared.kind.Kind.{Kind}
+use Rattle.set_model.specs.declared.kind.Kind.TheVariants.{Ipv4}
+use Rattle.set_model.specs.declared.kind.Interval.{Interval}
+use Rattle.set_model.specs.declared.element.Element.{Element}
+use Rattle.set_model.specs.declared.block.Block.{Block}
+use Rattle.set_model.specs.Kind.{bits_of}
+use Rattle.set_model.specs.Blocks.{blocks}
+use Rattle.set_model.specs.SetState.{field_rules, blocks_of}
+use Rattle.field_groups.specs.Groups.{share_value}
+use Rattle.set_tables.specs.declared.Span.{Span}
+use Rattle.set_tables.specs.Rows.{matched, refilled}
+use Rattle.set_tables.specs.Tables.{field_spans}
+use Rattle.set_tables.specs.Core.{row_of}
+use Rattle.set_tables.specs.Sharing.{shares_some, share_tests}
+use Rattle.set_tables.proofs.SearchLaws.{row-first, row-next}
+use Rattle.range_expand.specs.Split.{IsInterval}
+use Rattle.set_model.specs.Key.{parts_fit}
+use Rattle.pipapo_image.specs.declared.index.Index.{Index}
+use Rattle.pipapo_image.specs.Standing.{AreFieldsOf}
+use Rattle.pipapo_image.specs.Image.{IsImage}
+use Rattle.pipapo_image.specs.Sharing.{AreIntervalsOf}
+use Rattle.pipapo_image.proofs.ImageUse.{parts-long}
+use Rattle.pipapo_image.proofs.GrowLaws.{interval-at}
+
+or-assoc : (a b c : Bool) → ((a || b) || c) ≡ (a || (b || c))
+or-assoc true b c = refl
+or-assoc false b c = refl
+
+-- one block more: what is set so far and what the blocks that are left share
+pub one-more : (rule block : Block) (left rest : List Block) (whole old one new : Bool) → left ≡ block ∷ rest → new ≡ (old || one) → one ≡ share_value rule block
+    → (old || shares_some left rule) ≡ whole → (new || shares_some rest rule) ≡ whole
+one-more rule block left rest whole old one new l n o w =
+    ap (λ t. t || shares_some rest rule) n ∙ ap (λ t. (old || t) || shares_some rest rule) o
+    ∙ or-assoc old (share_value rule block) (shares_some rest rule)
+    ∙ ap (λ z. old || shares_some z rule) (sym l) ∙ w
+
+-- the test of field f, by the table's bits
+pub field-test : (kinds : List Kind) (es : List Element) (fields : List FieldTable) (parts : List Interval) (f : ℕ) (t : FieldTable) (d : Interval) → AreFieldsOf kinds es fields → length parts ≡ length fields
+    → f < length fields → t ≡ get_or fields f t → shares_some (blocks (get_or parts f d).low (get_or parts f d).high t.bits) ≡ share_tests kinds parts f
+field-test kinds es fields parts f t d s n h e =
+    let m = s.one_each in
+    let k : f < length kinds = omega arith in
+    let l : f < length parts = omega arith in
+    let bits : t.bits ≡ bits_of (get_or kinds f Ipv4) = ap (λ (z : FieldTable). z.bits) e ∙ (s.each f Ipv4 t k).bits in
+    ap (λ b. shares_some (blocks (get_or parts f d).low (get_or parts f d).high b)) bits
+    ∙ ap (λ z. shares_some (blocks_of (Some (get_or kinds f Ipv4)) z)) (sym (slice_get-get_or parts f d l))
+    ∙ ap (λ z. shares_some (blocks_of z (slice_get parts f))) (sym (slice_get-get_or kinds f Ipv4 k))
+
+pub first-shared : (kinds : List Kind) (es : List Element) (parts : List Interval) (test : Block → Bool) (n : ℕ) → test ≡ share_tests kinds parts 0 → n ≡ length (field_rules kinds 0 es)
+    → matched test (field_rules kinds 0 es) (replicate n true) ≡ row_of kinds es (share_tests kinds parts) 0
+first-shared kinds es parts test n t e =
+    ap (λ z. matched z (field_rules kinds 0 es) (replicate n true)) t
+    ∙ ap (λ k. matched (share_tests kinds parts 0) (field_rules kinds 0 es) (replicate k true)) e
+    ∙ row-first kinds es (share_tests kinds parts)
+
+pub next-shared : (kinds : List Kind) (es : List Element) (parts : List Interval) (test : Block → Bool) (f n : ℕ) (map : List Span) (row : List Bool) → test ≡ share_tests kinds parts (f + 1)
+    → map ≡ field_spans kinds f es → row ≡ row_of kinds es (share_tests kinds parts) f → n ≡ length (field_rules kinds (f + 1) es)
+    → matched test (field_rules kinds (f + 1) es) (refilled map row n) ≡ row_of kinds es (share_tests kinds parts) (f + 1)
+next-shared kinds es parts test f n map row t m r e =
+    ap (λ z. matched z (field_rules kinds (f + 1) es) (refilled map row n)) t
+    ∙ ap (λ k. matched (share_tests kinds parts (f + 1)) (field_rules kinds (f + 1) es) (refilled map row k)) e
+    ∙ ap (λ z. matched (share_tests kinds parts (f + 1)) (field_rules kinds (f + 1) es) (refilled z row (length (field_rules kinds (f + 1) es)))) m
+    ∙ ap (λ z. matched (share_tests kinds parts (f + 1)) (field_rules kinds (f + 1) es) (refilled (field_spans kinds f es) z (length (field_rules kinds (f + 1) es)))) r
+    ∙ whole (f + 1) (add-one f) where
+      whole : (g : ℕ) → g ≡ suc f
+          → matched (share_tests kinds parts g) (field_rules kinds g es) (refilled (field_spans kinds f es) (row_of kinds es (share_tests kinds parts) f) (length (field_rules kinds g es)))
+          ≡ row_of kinds es (share_tests kinds parts) g
+      whole g q = rw q (row-next kinds es (share_tests kinds parts) f)
+
+-- the intervals of a key that fits an image's kinds
+pub intervals-of : (kinds : List Kind) (es : List Element) (index : Index) (parts : List Interval) → IsImage kinds es index → parts_fit kinds parts ≡ true → AreIntervalsOf index.fields parts
+intervals-of kinds es index parts i h =
+    let n = parts-long kinds parts h in
+    let m = i.tables.fields.one_each in
+    record {
+      one_each = n ∙ sym m;
+      within = λ f t p l.
+          let a : f < length kinds = omega arith in
+          let b : f < length parts = omega arith in
+          subst (λ z. IsInterval (get_or parts f p).low (get_or parts f p).high z) (sym (i.tables.fields.each f Ipv4 t a).bits)
+          (interval-at kinds parts f (get_or kinds f Ipv4) (get_or parts f p) h (slice_get-get_or kinds f Ipv4 a) (slice_get-get_or parts f p b));
+    }
