@@ -8,7 +8,7 @@ use Rattle.set_model.specs.declared.script.Step.TheVariants.{Commit}
 use Rattle.set_model.specs.declared.script.Script.{Script}
 use Rattle.set_model.specs.declared.packet.Packet.{Packet}
 use Rattle.set_model.specs.Key.{key_fits, parts_fit}
-use Rattle.set_model.specs.Runnable.{HasFields, MayShare, IsRunnableStep, EndsClosed, IsRunnable, IsFitting}
+use Rattle.set_model.specs.Runnable.{HasFields, IsRunnableStep, EndsClosed, IsRunnable, IsFitting}
 use Rattle.set_model.proofs.ClosedLaws.{closed-behind}
 use Rattle.drill_gen.specs.Drill.{draw_from, seeded, address, address_span, port_span, span_from, addresses, ports, value_in, near_key, packet_place, packet_draw, addition, drill_set, drill_packet, drill_script, drill_keys}
 
@@ -32,7 +32,6 @@ addition-fits seed i = (drill_set, refl, parts-good (addresses seed i).low (addr
 pub drill-runnable : (seed count : ℕ) → IsRunnable (drill_script seed count)
 drill-runnable seed count = record {
   sets = All-push HasFields [] drill_set (All-nil HasFields) (record { some = omega arith; few = omega arith });
-  may_share = All-push MayShare [] drill_set (All-nil MayShare) refl;
   few_sets = omega arith;
   steps = All-push (All (IsRunnableStep (drill_set ∷ []))) [] _ (All-nil (All (IsRunnableStep (drill_set ∷ []))))
       (All-push (IsRunnableStep (drill_set ∷ [])) (map (addition seed) (range_with_len 0 count)) (Commit 0)

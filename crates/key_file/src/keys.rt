@@ -2,6 +2,7 @@ ghost use Rattle.std.specs.Prelude.{◌≡◌, List, ℕ, All, IfOk, Err};
 ghost use Rattle.token_forms.specs.Gives.{Gives, IsReadAs};
 ghost use Rattle.token_forms.specs.TextTokens.{text_tokens};
 ghost use Rattle.token_forms.specs.Faults.{IsFault};
+ghost use Rattle.token_forms.specs.Fronts.{AreFrontsClosed, IsRefusedOnce};
 ghost use Rattle.token_forms.specs.declared.token.Reason.{Reason};
 ghost use Rattle.token_forms.specs.declared.error.ReadError.TheVariants.{Bad};
 ghost use Rattle.set_model.specs.declared.packet.Packet.{Packet};
@@ -60,4 +61,14 @@ pub fn read_keys(alloc: Global, schema: &Schema, text: &[u8]) -> Result<Keys, Ke
 /// A text stands for one key file at most.
 pub fn one_key_file_law(_schema: &Schema, _text: &[u8])
     ensures { (keys other : List (List Packet)) → IsKeysText _schema.now _text.now keys → IsKeysText _schema.now _text.now other → keys ≡ other }
+{}
+
+/// The tokens before any place of a front of a key file are a front of a key file, too.
+pub fn key_file_fronts_law(_schema: &Schema)
+    ensures { AreFrontsClosed (key_file _schema.now) }
+{}
+
+/// A text that is no key file is refused at one line and for one reason.
+pub fn one_key_file_fault_law(_schema: &Schema, _text: &[u8])
+    ensures { IsRefusedOnce (key_file _schema.now) (text_tokens _text.now) }
 {}

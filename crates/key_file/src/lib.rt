@@ -8,5 +8,7 @@ mod packets;
 #[cfg(test)]
 mod tests;
 
-pub use keys::{KeyError, one_key_file_law, read_keys};
+pub use keys::{
+    KeyError, key_file_fronts_law, one_key_file_fault_law, one_key_file_law, read_keys,
+};
 pub use token_forms::Reason;

@@ -1,6 +1,6 @@
 //! Scripts on one set of ports, and packets for it.
 ghost use Rattle.std.specs.Prelude.{◌≡◌, false, length, All, IfOk, Some};
-ghost use Rattle.set_model.specs.Runnable.{EndsClosed, HasFields, IsFitting, IsRunnable, IsRunnableStep, MayShare, opens};
+ghost use Rattle.set_model.specs.Runnable.{EndsClosed, HasFields, IsFitting, IsRunnable, IsRunnableStep, opens};
 
 use set_model::{
     Comment, Family, Interval, Key, Keys, Kind, Kinds, Memory, Name, Packet, Packets, Parts,
@@ -19,7 +19,6 @@ pub enum Act {
 /// The set `ip t p` of ports.
 fn port_set(alloc: Global) -> Result<SetDecl, Memory>
     ensures fields { IfOk result HasFields }
-    ensures may_share { IfOk result MayShare }
 {
     let mut kinds = Kinds::new(alloc);
     kinds.push(Kind::Service)?;
@@ -38,7 +37,6 @@ fn port_set(alloc: Global) -> Result<SetDecl, Memory>
 
 fn one_set(alloc: Global) -> Result<Schema, Memory>
     ensures fields { IfOk result (All HasFields) }
-    ensures may_share { IfOk result (All MayShare) }
     ensures one { IfOk result (λ schema. length schema ≡ 1) }
 {
     let mut schema = Schema::new(alloc);

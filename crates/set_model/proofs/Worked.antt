@@ -1,9 +1,11 @@
 -- Worked examples of the definitions. They compute: a wrong number here is refused.
-use Rattle.std.specs.Prelude.{◌≡◌, refl, ℕ, ◌-◌, ◌^◌, List, [], ◌∷◌, map, Some, None, Option, Bool, length, true, false, codes}
+use Rattle.std.specs.Prelude.{◌≡◌, refl, ℕ, zero, suc, ◌+◌, ◌-◌, ◌^◌, List, [], ◌∷◌, map, find, Some, None, Option, Bool, length, true, false, codes}
+use Rattle.std.proofs.Common.{ap}
 use Rattle.std.specs.Fmt.{digits}
 use Rattle.set_model.specs.declared.kind.Kind.TheVariants.{Service}
 use Rattle.set_model.specs.declared.kind.Interval.{Interval}
-use Rattle.set_model.specs.declared.report.Why.TheVariants.{Overlap, Exists, Missing, Full}
+use Rattle.set_model.specs.declared.element.Element.{Element}
+use Rattle.set_model.specs.declared.report.Why.TheVariants.{Overlap, Exists, Missing, Full, RulesFull}
 use Rattle.set_model.specs.declared.report.Event.TheVariants.{Refused, Committed, Aborted, Dropped}
 use Rattle.set_model.specs.declared.report.Line.{Line}
 use Rattle.set_model.specs.declared.packet.Verdict.TheVariants as verdicts
@@ -14,7 +16,7 @@ use Rattle.set_model.specs.declared.script.Script.{Script}
 use Rattle.set_model.specs.declared.script.SetDecl.{SetDecl}
 use Rattle.set_model.specs.declared.script.Family.TheVariants.{Ip}
 use Rattle.set_model.specs.declared.script.Verb.TheVariants.{Add, Create, Delete, Destroy}
-use Rattle.set_model.specs.SetState.{State, New, Already, Renewed, Refused as IsRefused, add, removed, purged, cleared, empty_set, place}
+use Rattle.set_model.specs.SetState.{State, New, Already, Renewed, Refused as IsRefused, add, removed, purged, cleared, empty_set, place, answers, field_rules}
 use Rattle.set_model.specs.Apart.{is_apart}
 use Rattle.set_model.specs.Blocks.{blocks}
 use Rattle.set_model.specs.Control.{Strict, KeepGoing, history}
@@ -74,6 +76,31 @@ expired_is_added = refl
 
 full : (add (plus (empty_set (Service ∷ []) (Some 1) false) (port 80) (Some 30000)) (port 81) None [] 30000).0 ≡ IsRefused Full
 full = refl
+
+-- A field has at most 1,048,576 rules. So many elements of port 80, each expired at once, have one rule each; they stand in
+-- nobody's way, and count.
+expired_from : ℕ → ℕ → List Element
+expired_from id zero = []
+expired_from id (suc n) = record { id = id; parts = port 80; expiry = Some 0; comment = [] } ∷ expired_from (id + 1) n
+
+abbrev expired_ports : ℕ → State
+expired_ports n = record (of_ports false) { elements = expired_from 0 n; next = n }
+
+expired_rules : (id n : ℕ) → length (field_rules (Service ∷ []) 0 (expired_from id n)) ≡ n
+unfolding expired_from
+expired_rules id zero = refl
+expired_rules id (suc n) = ap suc (expired_rules (id + 1) n)
+
+none_answers : (id n : ℕ) (key : List ℕ) → find (answers key 0) (expired_from id n) ≡ None
+unfolding expired_from
+none_answers id zero key = refl
+none_answers id (suc n) key = none_answers (id + 1) n key
+
+too_many_rules : (add (expired_ports 1048576) (port 80) None [] 0).0 ≡ IsRefused (RulesFull 0)
+too_many_rules = simp (none_answers, expired_rules) refl
+
+as_many_as_may_be : (add (expired_ports 1048575) (port 80) None [] 0).0 ≡ New 1048575
+as_many_as_may_be = simp (none_answers, expired_rules) refl
 
 -- In a disjoint set every shared key is refused, and neighbours are not.
 shared_key : (add (plus (of_ports true) (ports 10 20) None) (ports 5 30) None [] 0).0 ≡ IsRefused (Overlap 0)

@@ -12,10 +12,6 @@ pub record HasFields (d : SetDecl) : Type 0 where
   pub some : 0 < length d.kinds
   pub few : length d.kinds ≤ 16
 
--- The elements of a set may share keys: sets without shared keys aren't built yet.
-abbrev pub MayShare : SetDecl → Type 0
-MayShare d = d.disjoint ≡ false
-
 -- A change and a flush are of a declared set, and a change's intervals fit the set's kinds.
 abbrev pub IsRunnableStep : List SetDecl → Step → Type 0
 IsRunnableStep schema (Change line set verb parts expiry comment now) = (d : SetDecl) × (slice_get schema set ≡ Some d) × IsTrue (parts_fit d.kinds parts)
@@ -42,7 +38,6 @@ EndsClosed steps = is_open steps ≡ false
 -- A script declares at most 64 sets, its steps are of these sets, and each section ends its last transaction.
 pub record IsRunnable (s : Script) : Type 0 where
   pub sets : All HasFields s.schema
-  pub may_share : All MayShare s.schema
   pub few_sets : length s.schema ≤ 64
   pub steps : All (All (IsRunnableStep s.schema)) s.sections
   pub closed : All EndsClosed s.sections

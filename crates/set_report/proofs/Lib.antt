@@ -12,3 +12,4 @@ mod DumpTables
 mod SetLaws
 mod SummaryWorked
 mod SummaryLaws
+mod PacketLineLaws

@@ -56,6 +56,13 @@ passed_is_no_time : list_text ((record (plain (codes "t") (codes "p") (Mark ∷ 
 unfolding digits value_text interval_text time_text
 passed_is_no_time = refl
 
+-- Neighbours in a set in which no two live elements share a key.
+disjoint_is_told : list_text ((record (plain (codes "t") (codes "p") (Service ∷ [])) { interval = true; disjoint = true }) ∷ [])
+    ((record (holding (Service ∷ []) (element 0 ((record { low = 10; high = 20 }) ∷ []) None [] ∷ element 1 ((record { low = 5; high = 9 }) ∷ []) None [] ∷ [])) { disjoint = true }) ∷ []) 0
+    ≡ codes "table ip t {\n\tset p {\n\t\ttype inet_service\n\t\tflags interval,disjoint\n\t\telements = { 10-20,\n\t\t\t     5-9 }\n\t}\n}\n"
+unfolding digits value_text interval_text
+disjoint_is_told = refl
+
 -- Tables stand in the order of their first sets, and a table's sets in their own order; a table is its family and name.
 abbrev other : List ℕ → List ℕ → SetDecl
 other table name = plain table name (Proto ∷ [])

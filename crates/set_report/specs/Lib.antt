@@ -7,3 +7,4 @@ pub mod Kept
 pub mod DumpText
 pub mod DumpBuckets
 pub mod SummaryText
+pub mod PacketLine

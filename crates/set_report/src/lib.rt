@@ -13,7 +13,7 @@ mod summary;
 
 pub use dump::write_dump;
 pub use events::write_events;
-pub use lines::write_lines;
+pub use lines::{packet_line_law, write_lines};
 pub use list::write_list;
 pub use remarks::write_remarks;
 pub use summary::write_summary;

@@ -1,5 +1,6 @@
 ghost use Rattle.std.specs.Prelude.{◌≡◌, ◌++◌, OnOk, OnErr};
 ghost use Rattle.set_model.specs.Text.{packet_text, lines_text};
+ghost use Rattle.set_report.specs.PacketLine.{TellsParts};
 ghost use Rattle.set_report.specs.Writes.{AppendsPart};
 
 use crate::piece::Piece::{Number, Word};
@@ -59,3 +60,8 @@ pub fn write_lines(lines: &Lines, out: &mut Vec<u8>) -> Result<(), Memory>
     }
     Ok(())
 }
+
+/// The bytes of a packet's line determine its four parts: its number, its thread, its generation and its verdict.
+pub fn packet_line_law()
+    ensures { TellsParts }
+{}

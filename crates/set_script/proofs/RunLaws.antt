@@ -148,12 +148,12 @@ kinds_append (a ∷ schema) s = ap (λ z. a.kinds ∷ z) (kinds_append schema s)
 record Declares (schema : List SetDecl) (ks : List Kind) (s : Declaration × List Step) : Type 0 where
   place : s.0.target.set ≡ length schema
   kinds : s.0.decl.kinds ≡ ks
-  not_disjoint : s.0.decl.disjoint ≡ false
   steps : AreOf (kinds_of schema ++ ks ∷ []) s.1
 
 flag_keeps : (schema : List SetDecl) (ks : List Kind) (steps : List Step) (b : Declaration) (f : Flag) → Declares schema ks (b, steps) → Declares schema ks (with_flag b f, steps)
-flag_keeps schema ks steps b flags.Interval k = record { place = k.place; kinds = k.kinds; not_disjoint = k.not_disjoint; steps = k.steps }
-flag_keeps schema ks steps b flags.Timeout k = record { place = k.place; kinds = k.kinds; not_disjoint = k.not_disjoint; steps = k.steps }
+flag_keeps schema ks steps b flags.Interval k = record { place = k.place; kinds = k.kinds; steps = k.steps }
+flag_keeps schema ks steps b flags.Timeout k = record { place = k.place; kinds = k.kinds; steps = k.steps }
+flag_keeps schema ks steps b flags.Disjoint k = record { place = k.place; kinds = k.kinds; steps = k.steps }
 
 one_flag_keeps : (schema : List SetDecl) (ks : List Kind) (steps : List Step) (b b1 : Declaration) (x : List Lexeme) → Declares schema ks (b, steps) → (form.flag b).whole x b1 → Declares schema ks (b1, steps)
 one_flag_keeps schema ks steps b b1 x k (f, x1, y1, e1, w1, h) = subst (λ (c : Declaration). Declares schema ks (c, steps)) h.1 (flag_keeps schema ks steps b f k)
@@ -167,27 +167,22 @@ item_keeps schema ks (b, steps) s1 x k (w, x1, y1, e1, w1, behind) = go w behind
   go items.Flags (b1, x2, y2, e2, w2, (b2, x3, y3, e3, w3, h)) =
       subst (Declares schema ks) h.1
       (many_keeps form.more_flags (λ (c : Declaration). Declares schema ks (c, steps)) (λ c c1 x k w. one_flag_keeps schema ks steps c c1 w.2 k w.5) b2 b1 x3 (one_flag_keeps schema ks steps b b1 x2 k w2) w3)
-  go items.Timeout (t, x2, y2, e2, w2, h) = subst (Declares schema ks) h.1 (record { place = k.place; kinds = k.kinds; not_disjoint = k.not_disjoint; steps = k.steps })
-  go items.Size (n, x2, y2, e2, w2, h) = subst (Declares schema ks) h.1 (record { place = k.place; kinds = k.kinds; not_disjoint = k.not_disjoint; steps = k.steps })
-  go items.GcInterval (t, x2, y2, e2, w2, h) = subst (Declares schema ks) h.1 (record { place = k.place; kinds = k.kinds; not_disjoint = k.not_disjoint; steps = k.steps })
-  go items.Policy (u, x2, y2, e2, w2, h) = subst (Declares schema ks) h.1 (record { place = k.place; kinds = k.kinds; not_disjoint = k.not_disjoint; steps = k.steps })
-  go items.Comment (c, x2, y2, e2, w2, h) = subst (Declares schema ks) h.1 (record { place = k.place; kinds = k.kinds; not_disjoint = k.not_disjoint; steps = k.steps })
+  go items.Timeout (t, x2, y2, e2, w2, h) = subst (Declares schema ks) h.1 (record { place = k.place; kinds = k.kinds; steps = k.steps })
+  go items.Size (n, x2, y2, e2, w2, h) = subst (Declares schema ks) h.1 (record { place = k.place; kinds = k.kinds; steps = k.steps })
+  go items.GcInterval (t, x2, y2, e2, w2, h) = subst (Declares schema ks) h.1 (record { place = k.place; kinds = k.kinds; steps = k.steps })
+  go items.Policy (u, x2, y2, e2, w2, h) = subst (Declares schema ks) h.1 (record { place = k.place; kinds = k.kinds; steps = k.steps })
+  go items.Comment (c, x2, y2, e2, w2, h) = subst (Declares schema ks) h.1 (record { place = k.place; kinds = k.kinds; steps = k.steps })
   go items.Elements (u, x2, y2, e2, w2, (after, x3, y3, e3, w3, h)) = subst (Declares schema ks) h.1 (record {
     place = k.place;
     kinds = k.kinds;
-    not_disjoint = k.not_disjoint;
     steps = list_keeps (kinds_of schema ++ ks ∷ []) b.target b.decl at steps after x3 k.steps w3;
   })
-
-abbrev IsNotDisjoint : SetDecl → Type 0
-IsNotDisjoint s = s.disjoint ≡ false
 
 -- what every statement keeps
 record IsRunDraft (d : Draft) : Type 0 where
   steps : AreOf (kinds_of d.schema) d.steps
   sections : All (AreOf (kinds_of d.schema)) d.sections
   fields : All HasFields d.schema
-  not_disjoint : All IsNotDisjoint d.schema
   few_sets : length d.schema ≤ most_sets
   closed : All EndsClosed d.sections
 
@@ -205,7 +200,6 @@ with_set d ks s k are room made =
       steps = subst (λ z. AreOf z s.1) same made.steps;
       sections = subst (λ z. All (AreOf z) d.sections) same (sections_stay (kinds_of d.schema) ks d.sections k.sections);
       fields = All-push HasFields d.schema s.0.decl k.fields (record { some = subst (λ (z : List Kind). 0 < length z) (sym made.kinds) are.some; few = subst (λ (z : List Kind). length z ≤ 16) (sym made.kinds) are.few });
-      not_disjoint = All-push IsNotDisjoint d.schema s.0.decl k.not_disjoint made.not_disjoint;
       few_sets = let l = length-append d.schema (s.0.decl ∷ []) in omega arith;
       closed = k.closed;
     }
@@ -215,7 +209,6 @@ set_body_keeps p n d d1 x k room (u1, x1, y1, e1, w1, (u2, x2, y2, e2, w2, (ks, 
     let begun : Declares d.schema ks (declaration d p.0 p.1 n ks, d.steps) = record {
       place = refl;
       kinds = refl;
-      not_disjoint = refl;
       steps = steps_stay (kinds_of d.schema) ks d.steps k.steps;
     } in
     let made : Declares d.schema ks r.0 = lines_keep separates form.item (Declares d.schema ks) (item_keeps d.schema ks) ((declaration d p.0 p.1 n ks, d.steps), false) r x5 begun w5 in
@@ -234,7 +227,7 @@ list_of_keeps sets target (Some s) at before behind x k w = list_keeps sets targ
 
 -- steps of declared sets in place of others
 with_others : (d : Draft) (steps : List Step) → IsRunDraft d → AreOf (kinds_of d.schema) steps → IsRunDraft (record d { steps = steps })
-with_others d steps k of = record { steps = of; sections = k.sections; fields = k.fields; not_disjoint = k.not_disjoint; few_sets = k.few_sets; closed = k.closed }
+with_others d steps k of = record { steps = of; sections = k.sections; fields = k.fields; few_sets = k.few_sets; closed = k.closed }
 
 changes_keep : (d d1 : Draft) (verb : Verb) (x : List Lexeme) → IsRunDraft d → (form.changes d verb).whole x d1 → IsRunDraft d1
 changes_keep d d1 verb x k (p, x1, y1, e1, w1, (i, x2, y2, e2, w2, (behind, x3, y3, e3, w3, h))) =
@@ -300,12 +293,11 @@ behind_keeps line d d1 firsts.Create x k after = element_changes_keep d d1 verbs
 behind_keeps line d d1 firsts.Delete x k after = element_changes_keep d d1 verbs.Delete x k after
 behind_keeps line d d1 firsts.Destroy x k after = element_changes_keep d d1 verbs.Destroy x k after
 behind_keeps line d d1 firsts.Flush x k (w, x1, y1, e1, w1, after) = flush_keeps line d d1 w y1 k after
-behind_keeps line d d1 firsts.At x k (n, x1, y1, e1, w1, h) = subst IsRunDraft h.1 (record { steps = k.steps; sections = k.sections; fields = k.fields; not_disjoint = k.not_disjoint; few_sets = k.few_sets; closed = k.closed })
+behind_keeps line d d1 firsts.At x k (n, x1, y1, e1, w1, h) = subst IsRunDraft h.1 (record { steps = k.steps; sections = k.sections; fields = k.fields; few_sets = k.few_sets; closed = k.closed })
 behind_keeps line d d1 firsts.Commit x k h = subst IsRunDraft h.1 (record {
   steps = All-push (IsOf (kinds_of d.schema)) d.steps (Commit d.moment) k.steps tt;
   sections = k.sections;
   fields = k.fields;
-  not_disjoint = k.not_disjoint;
   few_sets = k.few_sets;
   closed = k.closed;
 })
@@ -313,7 +305,6 @@ behind_keeps line d d1 firsts.Abort x k h = subst IsRunDraft h.1 (record {
   steps = All-push (IsOf (kinds_of d.schema)) d.steps Abort k.steps tt;
   sections = k.sections;
   fields = k.fields;
-  not_disjoint = k.not_disjoint;
   few_sets = k.few_sets;
   closed = k.closed;
 })
@@ -321,7 +312,6 @@ behind_keeps line d d1 firsts.Round x k h = subst IsRunDraft h.1 (record {
   steps = All-nil (IsOf (kinds_of d.schema));
   sections = ended_sections d k;
   fields = k.fields;
-  not_disjoint = k.not_disjoint;
   few_sets = k.few_sets;
   closed = ended_closed d k;
 })
@@ -329,14 +319,13 @@ behind_keeps line d d1 firsts.Round x k h = subst IsRunDraft h.1 (record {
 statement_keeps : (d d1 : Draft) (x : List Lexeme) → IsRunDraft d → (form.statement d).whole x d1 → IsRunDraft d1
 statement_keeps d d1 x k (word, x1, y1, e1, w1, (d2, x2, y2, e2, w2, h)) =
     let then = behind_keeps word.0 d d2 word.1 x2 k w2 in
-    subst IsRunDraft h.1 (record { steps = then.steps; sections = then.sections; fields = then.fields; not_disjoint = then.not_disjoint; few_sets = then.few_sets; closed = then.closed })
+    subst IsRunDraft h.1 (record { steps = then.steps; sections = then.sections; fields = then.fields; few_sets = then.few_sets; closed = then.closed })
 
 empty_runs : IsRunDraft empty
 empty_runs = record {
   steps = All-nil (IsOf []);
   sections = All-nil (AreOf []);
   fields = All-nil HasFields;
-  not_disjoint = All-nil IsNotDisjoint;
   few_sets = omega arith;
   closed = All-nil EndsClosed;
 }
@@ -367,4 +356,4 @@ pub script_is_read : (text : List ℕ) (s : Script) → IsScriptText text s → 
 unfolding IsScriptText
 script_is_read text s (read, x, y, e, (d, x1, y1, e1, w, h), (u, x2, y2, e2, w2, h2)) =
     let k = lines_keep separates form.statement IsRunDraft statement_keeps (empty, true) d x1 empty_runs w in
-    subst IsRunnable (h.1 ∙ h2.1) (record { sets = k.fields; may_share = k.not_disjoint; few_sets = k.few_sets; steps = all_run d.0.schema (ended d.0) (ended_sections d.0 k); closed = ended_closed d.0 k })
+    subst IsRunnable (h.1 ∙ h2.1) (record { sets = k.fields; few_sets = k.few_sets; steps = all_run d.0.schema (ended d.0) (ended_sections d.0 k); closed = ended_closed d.0 k })

@@ -49,6 +49,7 @@ declaration d family table name kinds = record {
 abbrev pub with_flag : Declaration → Flag → Declaration
 with_flag b flags.Interval = record b { decl = record b.decl { interval = true }; flags = true }
 with_flag b flags.Timeout = record b { decl = record b.decl { timed = true }; flags = true; timeout_flag = true }
+with_flag b flags.Disjoint = record b { decl = record b.decl { disjoint = true }; flags = true }
 
 -- The item `timeout`: it also sets the flag.
 abbrev pub with_timeout : Declaration → ℕ → Declaration

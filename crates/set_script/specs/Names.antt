@@ -131,6 +131,7 @@ abbrev pub flag_of : Declaration → List ℕ → Option Flag
 flag_of b t =
     if bytes_eq t (codes "interval") && not b.decl.interval then Some flags.Interval
     else if bytes_eq t (codes "timeout") && not b.timeout_flag then Some flags.Timeout
+    else if bytes_eq t (codes "disjoint") && not b.decl.disjoint then Some flags.Disjoint
     else None
 
 -- what a set is best at, which it may say

@@ -99,7 +99,15 @@ fn sets_outside_the_grammar(rt: HostRuntime) -> Result<(), Fail> {
             Reason::Statement,
         ),
         (
-            b"add set ip filter s { type ipv4_addr; flags disjoint }",
+            b"add set ip filter s { type ipv4_addr; flags disjoint, disjoint }",
+            Reason::Statement,
+        ),
+        (
+            b"add set ip filter s { type ipv4_addr; flags disjoint,interval,disjoint }",
+            Reason::Statement,
+        ),
+        (
+            b"add set ip filter s { type ipv4_addr; disjoint }",
             Reason::Statement,
         ),
         (

@@ -2,6 +2,7 @@ ghost use Rattle.std.specs.Prelude.{◌≡◌, ◌<◌, List, ℕ, length, OnOk,
 ghost use Rattle.token_forms.specs.Gives.{Gives, IsReadAs};
 ghost use Rattle.token_forms.specs.TextTokens.{text_tokens};
 ghost use Rattle.token_forms.specs.Faults.{IsFault};
+ghost use Rattle.token_forms.specs.Fronts.{AreFrontsClosed, IsRefusedOnce};
 ghost use Rattle.token_forms.specs.declared.token.Reason.{Reason};
 ghost use Rattle.token_forms.specs.declared.error.ReadError.TheVariants.{Bad};
 ghost use Rattle.set_model.specs.declared.script.Script.{Script};
@@ -299,4 +300,14 @@ pub fn read_script(alloc: Global, text: &[u8]) -> Result<Script, ScriptError>
 /// A text stands for one script at most.
 pub fn one_script_law(_text: &[u8])
     ensures { (s other : Script) → IsScriptText _text.now s → IsScriptText _text.now other → s ≡ other }
+{}
+
+/// The tokens before any place of a front of a script are a front of a script, too.
+pub fn script_fronts_law()
+    ensures { AreFrontsClosed script }
+{}
+
+/// A text that is no script is refused at one line and for one reason.
+pub fn one_script_fault_law(_text: &[u8])
+    ensures { IsRefusedOnce script (text_tokens _text.now) }
 {}

@@ -155,6 +155,7 @@ fn set_flag(b: &mut Declaration, flag: Flag)
             b.decl.timed = true;
             b.timeout_flag = true;
         }
+        Flag::Disjoint => b.decl.disjoint = true,
     }
     b.flags = true;
 }

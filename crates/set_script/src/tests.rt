@@ -303,6 +303,50 @@ fn ranges_sizes_and_flags(rt: HostRuntime) -> Result<(), Fail> {
 }
 
 #[test]
+fn flags_in_any_order(rt: HostRuntime) -> Result<(), Fail> {
+    let alloc = rt.alloc();
+    for (items, interval, timed, disjoint) in [
+        (b"type mark".as_slice(), false, false, false),
+        (b"type mark; flags interval", true, false, false),
+        (b"type mark; flags disjoint", false, false, true),
+        (b"type mark; flags interval,disjoint", true, false, true),
+        (b"type mark; flags disjoint , interval", true, false, true),
+        (b"type mark; timeout 5s; flags disjoint", false, true, true),
+        (b"type mark; flags timeout,disjoint", false, true, true),
+        (
+            b"type mark; flags disjoint,timeout,interval; timeout 5s",
+            true,
+            true,
+            true,
+        ),
+        (
+            b"type mark; size 9; flags timeout,interval",
+            true,
+            true,
+            false,
+        ),
+    ] {
+        for (front, back) in [
+            (b"add set t s { ".as_slice(), b" ; }\n".as_slice()),
+            (b"table t {\nset s {\n", b"\n}\n}\n"),
+        ] {
+            let mut text = joined(alloc, front, items)?;
+            text.extend_from_slice(back)?;
+            let script = read_script(alloc, text.as_slice())?;
+            assert_eq!(rt; script.schema.len(), 1, "{text:?}");
+            for set in script.schema.as_slice() {
+                assert_eq!(rt;
+                    (set.interval, set.timed, set.disjoint),
+                    (interval, timed, disjoint),
+                    "{text:?}"
+                );
+            }
+        }
+    }
+    Ok(())
+}
+
+#[test]
 fn flushes_and_moments(rt: HostRuntime) -> Result<(), Fail> {
     let alloc = rt.alloc();
     let text = joined(

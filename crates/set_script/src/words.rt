@@ -51,6 +51,7 @@ pub enum ItemWord {
 pub enum Flag {
     Interval,
     Timeout,
+    Disjoint,
 }
 
 /// The first word of an option of an element.
@@ -231,6 +232,8 @@ pub fn flag_of_word(b: &Declaration, text: &[u8]) -> Option<Flag>
         Some(Flag::Interval)
     } else if text == b"timeout".as_slice() && !b.timeout_flag {
         Some(Flag::Timeout)
+    } else if text == b"disjoint".as_slice() && !b.decl.disjoint {
+        Some(Flag::Disjoint)
     } else {
         None
     }

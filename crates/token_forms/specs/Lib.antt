@@ -11,3 +11,4 @@ pub mod Reasons
 pub mod Gives
 pub mod TokensLeft
 pub mod View
+pub mod Fronts
