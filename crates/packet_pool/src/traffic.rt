@@ -65,14 +65,14 @@ impl<J: Judge, G: Gate> Traffic<'_, J, G> {
     ) -> Result<Reader, Memory>
         requires schema { J.serves self.now.judge.now reader.schema }
         requires packets { AllFit reader.schema self.now.packets.now }
-        requires batch { BATCH * batch < length self.now.packets.now }
-        requires before { Before (self.now.first + BATCH * batch) lines.old.items }
+        requires batch { 16 * batch < length self.now.packets.now }
+        requires before { Before (self.now.first + 16 * batch) lines.old.items }
         ensures seen { IfOk result (λ r. StartsWith r.seen reader.seen) }
         ensures same { IfOk result (λ r. (r.of ≡ reader.of) × (r.schema ≡ reader.schema) × (r.reader ≡ reader.reader)) }
         ensures moves { IfOk result (λ r. r.moves + 2 * length lines.old.items ≡ reader.moves + 2 * length lines.new.items) }
         ensures told { IfOk result (λ r. (low : ℕ) → low ≤ length reader.seen → Told (J.verdict self.now.judge.now) self.now.packets.now self.now.first thread low reader.seen lines.old.items → Told (J.verdict self.now.judge.now) self.now.packets.now self.now.first thread low r.seen lines.new.items) }
-        ensures before { IfOk result (λ _. Before (self.now.first + BATCH * (batch + 1)) lines.new.items) }
-        ensures named { IfOk result (λ _. (p : ℕ) → p < length self.now.packets.now → named (self.now.first + p) lines.new.items ≡ named (self.now.first + p) lines.old.items + cond (batch == p / BATCH) 1 0) }
+        ensures before { IfOk result (λ _. Before (self.now.first + 16 * (batch + 1)) lines.new.items) }
+        ensures named { IfOk result (λ _. (p : ℕ) → p < length self.now.packets.now → named (self.now.first + p) lines.new.items ≡ named (self.now.first + p) lines.old.items + cond (batch == p / 16) 1 0) }
     {
         let start = BATCH * batch;
         let end = start + BATCH.min(self.packets.len() - start);

@@ -3,6 +3,8 @@
 #![tactic(auto)]
 
 mod dir_shelf;
+#[cfg(test)]
+mod edge;
 mod mem_shelf;
 mod mem_sink;
 mod out_sink;

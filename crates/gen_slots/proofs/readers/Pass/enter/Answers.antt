@@ -8,4 +8,5 @@ fetch_add-requires g c = (search rules, search rules, enters g.T.Version.state g
 
 pub exchange-requires : goal.exchange-requires
 exchange-requires g c = let went = c.fetch_add.ensures.2 _ c.self.invariant.3 in
-    (search rules, (_, went.4.1 ∙ ap (λ cs. (32 * c.self.inside.reader + c.fetch_add.result % 256, Some went.4.0) ∷ rest cs) (sym went.4.1)))
+    let there = went.4.1 ∙ ap (λ cs. (32 * c.self.inside.reader + c.fetch_add.result % 256, Some went.4.0) ∷ rest cs) (sym went.4.1) in
+    (search rules, (Some went.4.0, search there))
