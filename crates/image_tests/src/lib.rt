@@ -5,6 +5,8 @@
 #[cfg(test)]
 mod changes;
 #[cfg(test)]
+mod disjoint;
+#[cfg(test)]
 mod examples;
 #[cfg(test)]
 mod lookups;

@@ -31,7 +31,7 @@ impl PlainElement {
 pub(crate) struct PlainSet {
     pub(crate) elements: Vec<PlainElement>,
     pub(crate) next: u64,
-    alloc: Global,
+    pub(crate) alloc: Global,
 }
 
 impl PlainSet {
@@ -44,7 +44,7 @@ impl PlainSet {
     }
 
     /// The place of the first element that is live and holds the key.
-    fn place(&self, key: &[u128], now: u64) -> Option<usize> {
+    pub(crate) fn place(&self, key: &[u128], now: u64) -> Option<usize> {
         for (i, element) in self.elements.iter().enumerate() {
             if element.is_live(now) && element.holds(key) {
                 return Some(i);
@@ -89,7 +89,7 @@ impl PlainSet {
         self.push(parts, expiry)
     }
 
-    fn add_again(
+    pub(crate) fn add_again(
         &mut self,
         place: usize,
         parts: &[Interval],
@@ -109,7 +109,11 @@ impl PlainSet {
         Ok(Added::Renewed { id })
     }
 
-    fn push(&mut self, parts: &[Interval], expiry: Option<u64>) -> Result<Added, InsertError> {
+    pub(crate) fn push(
+        &mut self,
+        parts: &[Interval],
+        expiry: Option<u64>,
+    ) -> Result<Added, InsertError> {
         let id = self.next;
         if id == u64::MAX {
             return Err(InsertError::Full);
@@ -130,7 +134,7 @@ fn copied(alloc: Global, parts: &[Interval]) -> Result<Vec<Interval>, Memory> {
     Ok(Vec::from_slice(alloc, parts)?)
 }
 
-fn lows(alloc: Global, parts: &[Interval]) -> Result<Vec<u128>, Memory> {
+pub(crate) fn lows(alloc: Global, parts: &[Interval]) -> Result<Vec<u128>, Memory> {
     let mut key = Vec::new(alloc);
     for part in parts {
         key.push(part.low)?;

@@ -19,8 +19,19 @@ impl Trial {
         kinds: &[Kind],
         size: Option<u32>,
     ) -> Result<Trial, Memory> {
+        Trial::of(rt, alloc, kinds, size, false)
+    }
+
+    /// A set without elements that is disjoint, or not.
+    pub(crate) fn of(
+        rt: &impl Abort,
+        alloc: Global,
+        kinds: &[Kind],
+        size: Option<u32>,
+        disjoint: bool,
+    ) -> Result<Trial, Memory> {
         let scratch = Scratch::new(alloc)?;
-        match new_set(rt, alloc, kinds, size) {
+        match new_set(rt, alloc, kinds, size, disjoint) {
             Ok(set) => Ok(Trial {
                 set,
                 scratch,
@@ -28,6 +39,17 @@ impl Trial {
             }),
             Err(memory) => Err(memory),
         }
+    }
+
+    /// Begins anew with a set without elements, which is disjoint or not.
+    pub(crate) fn restart(
+        &mut self,
+        rt: &impl Abort,
+        kinds: &[Kind],
+        disjoint: bool,
+    ) -> Result<(), Memory> {
+        self.set = new_set(rt, self.alloc, kinds, None, disjoint)?;
+        Ok(())
     }
 
     /// Adds an element.
@@ -66,6 +88,17 @@ impl Trial {
         let key = key_of(self.alloc, key)?;
         Ok(find_in(rt, &self.set, &mut self.scratch, &key, now))
     }
+
+    /// The first element that shares a key with the intervals.
+    pub(crate) fn first_sharing(
+        &mut self,
+        rt: &impl Abort,
+        parts: &[Interval],
+        now: u64,
+    ) -> Result<Option<Found>, Memory> {
+        let parts = parts_of(self.alloc, parts)?;
+        Ok(sharing_in(rt, &self.set, &mut self.scratch, &parts, now))
+    }
 }
 
 fn new_set(
@@ -73,10 +106,11 @@ fn new_set(
     alloc: Global,
     kinds: &[Kind],
     size: Option<u32>,
+    disjoint: bool,
 ) -> Result<SetImage, Memory> {
     let kinds = kinds_of(alloc, kinds)?;
     assert!(rt; kinds.len() >= 1 && kinds.len() <= 16);
-    SetImage::new(alloc, &kinds, size, false)
+    SetImage::new(alloc, &kinds, size, disjoint)
 }
 
 fn add_to(
@@ -104,6 +138,17 @@ fn find_in(
     let place = set.plain_place(key, now, scratch);
     assert!(rt; place_of(found) == place);
     found
+}
+
+fn sharing_in(
+    rt: &impl Abort,
+    set: &SetImage,
+    scratch: &mut Scratch,
+    parts: &Parts,
+    now: u64,
+) -> Option<Found> {
+    assert!(rt; parts_fit(&set.kinds, parts));
+    set.first_sharing(parts, now, scratch)
 }
 
 fn place_of(found: Option<Found>) -> Option<u64> {

@@ -1,0 +1,248 @@
+// Disjoint sets: worked examples, and elements that look random beside the plain list, at moments that
+// rise and fall.
+use crate::examples::{adds, finds};
+use crate::plain::{PlainElement, PlainSet, lows};
+use crate::random::{Random, Shape};
+use crate::sets::Trial;
+use pipapo_image::{Added, InsertError};
+use set_model::{Found, Interval, Kind, Memory};
+use std::alloc::Global;
+use std::process::Abort;
+use std::test::Fail;
+
+impl PlainElement {
+    /// Whether some key lies in its intervals and in these.
+    fn shares(&self, parts: &[Interval]) -> bool {
+        self.parts.iter().zip(parts.iter()).all(|(mine, other)| mine.low <= other.high
+            && other.low <= mine.high)
+    }
+}
+
+impl PlainSet {
+    /// The first element that is live and shares a key with the intervals.
+    fn first_sharing(&self, parts: &[Interval], now: u64) -> Option<Found> {
+        for (i, element) in self.elements.iter().enumerate() {
+            if element.is_live(now) && element.shares(parts) {
+                return Some(Found {
+                    place: i as u64,
+                    id: element.id,
+                });
+            }
+        }
+        None
+    }
+
+    /// The place of the first element that is live and holds the start key, where it has these
+    /// intervals.
+    fn twin(&self, parts: &[Interval], now: u64) -> Result<Option<usize>, Memory> {
+        let lows = lows(self.alloc, parts)?;
+        let Some(place) = self.place(lows.as_slice(), now) else {
+            return Ok(None);
+        };
+        match self.elements.get(place) {
+            Some(element) if element.parts.as_slice() == parts => Ok(Some(place)),
+            _ => Ok(None),
+        }
+    }
+
+    /// Adds an element to a disjoint set, or renews it, or says which element is in the way.
+    fn add_apart(
+        &mut self,
+        parts: &[Interval],
+        expiry: Option<u64>,
+        now: u64,
+    ) -> Result<Added, InsertError> {
+        if let Some(place) = self.twin(parts, now)? {
+            return self.add_again(place, parts, expiry);
+        }
+        match self.first_sharing(parts, now) {
+            Some(found) => Err(InsertError::Overlap { id: found.id }),
+            None => self.push(parts, expiry),
+        }
+    }
+}
+
+/// How often an element shared a key, and how often none did.
+#[derive(Drop)]
+struct Tally {
+    shared: u32,
+    apart: u32,
+}
+
+/// An interval of each kind: a value, a few, many or all.
+fn intervals(alloc: Global, random: &mut Random, kinds: &[Kind]) -> Result<Vec<Interval>, Memory> {
+    let mut parts = Vec::new(alloc);
+    for kind in kinds {
+        let shape = match random.below(4) {
+            0 => Shape::Single,
+            1 => Shape::Narrow,
+            2 => Shape::Wide,
+            _ => Shape::Whole,
+        };
+        parts.push(random.interval(*kind, shape))?;
+    }
+    Ok(parts)
+}
+
+/// An expiry soon behind `now`, or none.
+fn expiry_of(random: &mut Random, now: u64) -> Option<u64> {
+    match random.below(4) {
+        0 => None,
+        _ => Some(now.saturating_add(1 + random.below(60))),
+    }
+}
+
+/// Asks both for the first element that shares a key with some intervals, adds these to both at the
+/// same moment, and compares what comes of it.
+fn step(
+    rt: &impl Abort,
+    random: &mut Random,
+    kinds: &[Kind],
+    trial: &mut Trial,
+    plain: &mut PlainSet,
+    tally: &mut Tally,
+) -> Result<(), Memory> {
+    let now = random.below(100);
+    let parts = intervals(trial.alloc, random, kinds)?;
+    let sharing = trial.first_sharing(rt, parts.as_slice(), now)?;
+    assert!(rt; sharing == plain.first_sharing(parts.as_slice(), now));
+    if sharing.is_some() {
+        tally.shared = tally.shared.saturating_add(1);
+    } else {
+        tally.apart = tally.apart.saturating_add(1);
+    }
+    let expiry = expiry_of(random, now);
+    let answer = trial.add(rt, parts.as_slice(), expiry, now);
+    let wanted = if trial.set.disjoint {
+        plain.add_apart(parts.as_slice(), expiry, now)
+    } else {
+        plain.add(parts.as_slice(), expiry, now)
+    };
+    assert!(rt; answer == wanted);
+    Ok(())
+}
+
+/// Steps of a set without elements, which is disjoint or not.
+fn check_set(
+    rt: &impl Abort,
+    random: &mut Random,
+    kinds: &[Kind],
+    trial: &mut Trial,
+    disjoint: bool,
+    tally: &mut Tally,
+) -> Result<(), Memory> {
+    let mut plain = PlainSet::new(trial.alloc);
+    trial.restart(rt, kinds, disjoint)?;
+    for _ in 0..12 {
+        step(rt, random, kinds, trial, &mut plain, tally)?;
+    }
+    Ok(())
+}
+
+/// Compares so many disjoint sets, and as many others, and sees that elements both share keys and
+/// don't.
+fn check(
+    rt: &impl Abort,
+    alloc: Global,
+    kinds: &[Kind],
+    sets: u32,
+    seed: u64,
+) -> Result<(), Memory> {
+    let mut random = Random::new(seed);
+    let mut tally = Tally {
+        shared: 0,
+        apart: 0,
+    };
+    let mut trial = Trial::new(rt, alloc, kinds, None)?;
+    for _ in 0..sets {
+        check_set(rt, &mut random, kinds, &mut trial, true, &mut tally)?;
+        check_set(rt, &mut random, kinds, &mut trial, false, &mut tally)?;
+    }
+    assert!(rt;
+        tally.shared > sets && tally.apart > sets,
+        "{} shared and {} apart",
+        tally.shared,
+        tally.apart
+    );
+    Ok(())
+}
+
+#[test]
+fn protocols_apart(rt: HostRuntime) -> Result<(), Fail> {
+    Ok(check(&rt, rt.alloc(), &[Kind::Proto], 600, 11)?)
+}
+
+#[test]
+fn addresses_and_ports_apart(rt: HostRuntime) -> Result<(), Fail> {
+    Ok(check(&rt, rt.alloc(), &[Kind::Ipv4, Kind::Service], 250, 12)?)
+}
+
+#[test]
+fn long_addresses_apart(rt: HostRuntime) -> Result<(), Fail> {
+    Ok(check(&rt, rt.alloc(), &[Kind::Ipv6, Kind::Mark], 75, 13)?)
+}
+
+#[test]
+fn three_fields_apart(rt: HostRuntime) -> Result<(), Fail> {
+    Ok(check(
+        &rt,
+        rt.alloc(),
+        &[Kind::Ether, Kind::Proto, Kind::Service],
+        150,
+        14,
+    )?)
+}
+
+#[test]
+fn an_enclosing_interval_is_refused(rt: HostRuntime) -> Result<(), Fail> {
+    let mut trial = Trial::of(&rt, rt.alloc(), &[Kind::Service], None, true)?;
+    adds(&rt, &mut trial, 10, 20, None, Ok(Added::New { id: 0 }));
+    adds(&rt, &mut trial, 5, 9, None, Ok(Added::New { id: 1 }));
+    let refused = Err(InsertError::Overlap { id: 0 });
+    adds(&rt, &mut trial, 5, 30, None, refused);
+    finds(&rt, &mut trial, 7, 0, Some(1));
+    finds(&rt, &mut trial, 30, 0, None);
+    Ok(())
+}
+
+/// The network of an address's first byte, and of its second one where there is one.
+fn network(first: u8, second: Option<u8>) -> Interval {
+    let (low, rest) = match second {
+        Some(second) => (
+            first as u128 * 0x100_0000 + second as u128 * 0x1_0000,
+            0xFFFF,
+        ),
+        None => (first as u128 * 0x100_0000, 0xFF_FFFF),
+    };
+    Interval {
+        low,
+        high: low + rest,
+    }
+}
+
+/// Adds a network and ports at moment 0, and sees what comes of it.
+fn adds_pair(
+    rt: &impl Abort,
+    trial: &mut Trial,
+    network: Interval,
+    low: u128,
+    high: u128,
+    wanted: Result<Added, InsertError>,
+) {
+    let answer = trial.add(rt, &[network, Interval { low, high }], None, 0);
+    assert!(rt; answer == wanted);
+}
+
+#[test]
+fn pairs_share_a_key_in_both_fields(rt: HostRuntime) -> Result<(), Fail> {
+    let mut trial = Trial::of(&rt, rt.alloc(), &[Kind::Ipv4, Kind::Service], None, true)?;
+    let ten = network(10, None);
+    adds_pair(&rt, &mut trial, ten, 10, 20, Ok(Added::New { id: 0 }));
+    let inside = network(10, Some(1));
+    let refused = Err(InsertError::Overlap { id: 0 });
+    adds_pair(&rt, &mut trial, inside, 5, 30, refused);
+    let eleven = network(11, None);
+    adds_pair(&rt, &mut trial, eleven, 5, 30, Ok(Added::New { id: 1 }));
+    adds_pair(&rt, &mut trial, ten, 21, 30, Ok(Added::New { id: 2 }));
+    Ok(())
+}
