@@ -67,6 +67,7 @@ class Set:
         self.kinds = [rng.choice(list(BITS)) for _ in range(rng.choice([1, 1, 2, 2, 3, 4]))]
         self.ranges = rng.random() < 0.8
         self.expires = rng.random() < 0.5
+        self.disjoint = rng.random() < 0.3
         self.family = rng.choice(FAMILIES)
         self.table = rng.choice(["filter", "nat"])
         self.name = f"s{number}"
@@ -96,7 +97,7 @@ class Set:
 
     def items(self):
         rng = self.rng
-        flags = ["interval"] * self.ranges + ["timeout"] * self.expires
+        flags = ["interval"] * self.ranges + ["timeout"] * self.expires + ["disjoint"] * self.disjoint
         rng.shuffle(flags)
         items = [f"flags {','.join(flags)}"] * bool(flags)
         items += [f"timeout {rng.randrange(1, 20)}s"] * (self.expires and rng.random() < 0.4)
@@ -398,7 +399,7 @@ def packet_mutants(run, j, place, line):
     yield "a leading zero", [line.replace("packet ", "packet 0")]
     if place % BATCH > 0:
         yield "a batch of two threads", wrong(thread=15)
-    elif place + 1 == len(run.keys[j - 1]):
+    else:
         yield "a thread that isn't there", wrong(thread=16)
     if low > 0:
         yield "a stale generation", wrong(generation=low - 1)

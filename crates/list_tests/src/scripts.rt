@@ -19,6 +19,7 @@ struct Shape {
     first_kind: u64,
     fields: u64,
     timed: bool,
+    disjoint: bool,
 }
 
 impl Draft {
@@ -123,6 +124,9 @@ impl Draft {
     /// The items of a set behind its type.
     fn put_items(&mut self, shape: Shape) -> Result<(), Memory> {
         self.put("flags interval")?;
+        if shape.disjoint {
+            self.put(",disjoint")?;
+        }
         if shape.timed {
             self.put(",timeout")?;
             if self.random.once_in(2) {
@@ -194,6 +198,7 @@ impl Draft {
             first_kind: self.random.below(6),
             fields: 1 + self.random.below(3),
             timed: self.random.once_in(2),
+            disjoint: self.random.once_in(3),
         }
     }
 

@@ -123,6 +123,32 @@ fn overlap_refused(rt: HostRuntime) -> Result<(), Fail> {
 }
 
 #[test]
+fn disjoint_set(rt: HostRuntime) -> Result<(), Fail> {
+    expect(
+        &rt,
+        rt.alloc(),
+        &["run", "a.nft", "keys", "--keep-going"],
+        "add set ip t p { type inet_service ; flags interval,disjoint ; }\nadd element ip t p { 10-20 }\nadd element ip t p { 5-9 }\nadd element ip t p { 5-30 }\n",
+        "ip t p 7\n",
+        "line 4 refused overlap ip t p element 0\ncommit generation 1 purged 0\npacket 0 thread 0 generation 1 element 1\n",
+        1,
+    )
+}
+
+#[test]
+fn disjoint_fields(rt: HostRuntime) -> Result<(), Fail> {
+    expect(
+        &rt,
+        rt.alloc(),
+        &["run", "a.nft", "keys", "--keep-going"],
+        "add set ip t p { type ipv4_addr . inet_service ; flags interval,disjoint ; }\nadd element ip t p { 10.0.0.0/8 . 10-20 }\nadd element ip t p { 10.1.0.0/16 . 5-30 }\nadd element ip t p { 11.0.0.0/8 . 5-30 }\nadd element ip t p { 10.0.0.0/8 . 21-30 }\n",
+        "ip t p 11.0.0.0 . 5\nip t p 10.0.0.0 . 21\n",
+        "line 3 refused overlap ip t p element 0\ncommit generation 1 purged 0\npacket 0 thread 0 generation 1 element 1\npacket 1 thread 0 generation 1 element 2\n",
+        1,
+    )
+}
+
+#[test]
 fn size_full(rt: HostRuntime) -> Result<(), Fail> {
     expect_run(
         &rt,
@@ -396,6 +422,19 @@ fn list_round_trip(rt: HostRuntime) -> Result<(), Fail> {
         "# commit generation 1 purged 0\ntable ip filter {\n\tset s {\n\t\ttype ipv4_addr . inet_service\n\t\tflags interval\n\t\telements = { 10.0.0.5 . 1024,\n\t\t\t     192.168.1.0-192.168.2.1 . 2048 }\n\t}\n}\n",
         "# commit generation 1 purged 0\ntable ip filter {\n\tset s {\n\t\ttype ipv4_addr . inet_service\n\t\tflags interval\n\t\telements = { 10.0.0.5 . 1024,\n\t\t\t     192.168.1.0-192.168.2.1 . 2048 }\n\t}\n}\n",
     )
+}
+
+#[test]
+fn list_of_a_disjoint_set(rt: HostRuntime) -> Result<(), Fail> {
+    let listing =
+        "# commit generation 1 purged 0\ntable ip t {\n\tset p {\n\t\ttype inet_service\n\t\tflags interval,disjoint\n\t\telements = { 10-20,\n\t\t\t     5-9 }\n\t}\n}\n";
+    expect_list(
+        &rt,
+        rt.alloc(),
+        "add set ip t p { type inet_service ; flags disjoint,interval ; elements = { 10-20, 5-9 } ; }\n",
+        listing,
+    )?;
+    expect_list(&rt, rt.alloc(), listing, listing)
 }
 
 #[test]
