@@ -3,3 +3,4 @@ pub mod FillLaws
 pub mod LedLaws
 pub mod MatchLaws
 pub mod SieveLaws
+pub mod CandidateLaws

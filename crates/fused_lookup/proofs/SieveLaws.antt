@@ -1,8 +1,8 @@
 -- What the buckets of a value's last four groups leave, and the others of that.
-use Rattle.std.proofs.Common.{◌≡◌, refl, sym, ◌∙◌, ap, ℕ, zero, suc, ◌+◌, ◌-◌, ◌*◌, ◌/◌, ◌%◌, ◌^◌, ◌<◌, ◌≤◌, ◌⊎◌, inl, inr, Bool, true, false, ◌&&◌, List, length, arith, bit_or, Some, slice_get}
+use Rattle.std.proofs.Common.{◌≡◌, refl, sym, ◌∙◌, ap, ℕ, zero, suc, ◌+◌, ◌-◌, ◌*◌, ◌/◌, ◌^◌, ◌<◌, ◌≤◌, ◌⊎◌, inl, inr, Bool, true, false, ◌&&◌, List, length, arith, Some, slice_get}
 use Rattle.std.specs.Prelude.{slice_index, replicate}
 use Rattle.std.proofs.lemmas.Bool.{cases_lt, lt-ltb}
-use Rattle.std.proofs.lemmas.Nat.{le-div, le_or_l, le_or_r}
+use Rattle.std.proofs.lemmas.Nat.{le-div}
 use Rattle.std.proofs.lemmas.List.{get_or_past, length-replicate}
 use Rattle.std.proofs.Math.Bool.{and_comm, and_assoc}
 use Rattle.bit_rows.specs.Row.{Row, at, bit, IsSpelling}
@@ -32,12 +32,6 @@ is-bucket t value g words bucket found long spells = record {
   same = λ w k h. spells.same w k h ∙ sym (cell-read t.buckets (place_of t g value) (64 * w + k) bucket found);
   past = λ w k h p. spells.same w k h ∙ get_or_past bucket.bits (64 * w + k) false (omega arith);
 }
-
--- where the OR of two words is 0, both are
-pub or-none : (a b : ℕ) → bit_or a b ≡ 0 → (a ≡ 0) × (b ≡ 0)
-or-none a b e = (none a (le_or_l a b), none b (le_or_r a b)) where
-  none : (y : ℕ) → y ≤ bit_or a b → y ≡ 0
-  none y h = omega arith
 
 -- ---- all groups are the last four and those before them
 
@@ -103,17 +97,6 @@ in-groups t value fourth third second last blocks w k are stands small h r =
 
 and-fails : (a b : Bool) → a ≡ false → (a && b) ≡ false
 and-fails a b e = ap (λ x. x && b) e
-
--- words in which nothing is left have no rule that holds the value
-pub none-holds : (t : FieldTable) (value : ℕ) (fourth third second last : List ℕ) (from to : ℕ) → AreLastFour t value fourth third second last → value < 2 ^ t.bits
-    → ((v k : ℕ) → from ≤ v → v < to → k < 64 → in_all fourth third second last v k ≡ false) → NoneHolds t value from to
-none-holds t value fourth third second last from to are small none blocks stands r low high inside =
-    let e : 64 * (r / 64) + r % 64 ≡ r = omega arith in
-    let k : r % 64 < 64 = omega arith in
-    let a : 64 * (r / 64) + r % 64 < t.rules = omega arith in
-    ap (λ x. holds_value (block_at blocks x) value) (sym e)
-    ∙ sym (in-groups t value fourth third second last blocks (r / 64) (r % 64) are stands small k a)
-    ∙ and-fails (in_all fourth third second last (r / 64) (r % 64)) (every (is_set t value (64 * (r / 64) + r % 64)) (t.bits / t.width - 4)) (none (r / 64) (r % 64) (omega arith) (omega arith) k)
 
 -- what the groups before the last four leave
 pub rest-left : (t : FieldTable) (value i left word n : ℕ) → KeepsWhereSet t value n i left word → n ≡ t.bits / t.width - 4 → (k : ℕ) → k < 64 → bit word k ≡ (bit left k && every (is_set t value (64 * i + k)) (t.bits / t.width - 4))

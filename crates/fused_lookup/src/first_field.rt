@@ -2,12 +2,13 @@ ghost use Rattle.std.specs.Prelude.{◌≡◌, ◌+◌, ◌-◌, ◌*◌, ◌/�
 ghost use Rattle.set_model.specs.Blocks.{holds_value};
 ghost use Rattle.fused_lookup.specs.Filled.{Refills, RefillsWords, IsClear};
 ghost use Rattle.fused_lookup.specs.Led.{Leads, LeadsWords};
-ghost use Rattle.fused_lookup.specs.Sieve.{AreLastFour, HaveWords};
+ghost use Rattle.fused_lookup.specs.Sieve.{AreLastFour};
 ghost use Rattle.fused_lookup.specs.Window.{IsWindow};
 
+use crate::bits::next_bit;
 use crate::led::first_live;
 use crate::refill::refill_word;
-use crate::sieve::{bucket_words, match_at, none_holds};
+use crate::sieve::{bucket_words, match_at};
 use crate::window::Window;
 use bit_rows::BitRow;
 use lookup_table::FieldTable;
@@ -37,27 +38,17 @@ pub fn refill_from_first(
     let last = bucket_words(table, value, groups - 1);
     let rest = groups.saturating_sub(4);
     let mut reached = Window::none();
-    'eights: for e in 0..table.rules.div_ceil(512) {
-        reached = refill_eight(
-            table,
-            spans,
-            value,
-            fourth,
-            third,
-            second,
-            last,
-            rest,
-            8 * e,
-            next,
-            reached,
+    'pages: for p in 0..table.rules.div_ceil(4096) {
+        reached = refill_page(
+            table, spans, value, fourth, third, second, last, rest, p, next, reached,
         );
     }
     reached
 }
 
-/// Sets what the matched rules of the eight words from word `w` on map to.
+/// Sets what the matched rules of the 64 words from word `64 * p` on map to.
 #[inline(always)]
-fn refill_eight(
+fn refill_page(
     table: &FieldTable,
     spans: &[Span],
     value: u128,
@@ -66,7 +57,7 @@ fn refill_eight(
     second: &[u64],
     last: &[u64],
     rest: u32,
-    w: u32,
+    p: u32,
     next: &mut BitRow,
     window: Window,
 ) -> Window
@@ -74,22 +65,23 @@ fn refill_eight(
     requires rules { length spans.now ≡ table.now.rules }
     requires inside { All (λ s. s.first + s.count ≤ length next.old.bits) spans.now }
     requires four { AreLastFour table.now value fourth.now third.now second.now last.now }
-    requires words { HaveWords (w + 8) fourth.now third.now second.now last.now }
     requires rest { rest ≡ table.now.bits / table.now.width - 4 }
-    requires small { w + 8 < 2 ^ 32 }
+    requires page { 4096 * p < table.now.rules }
     requires window { IsWindow next.old.bits window }
-    ensures filled { RefillsWords table.now spans.now (λ rule. holds_value rule value) w (w + 8) next.old.bits next.new.bits }
+    ensures filled { RefillsWords table.now spans.now (λ rule. holds_value rule value) (64 * p) (64 * (p + 1)) next.old.bits next.new.bits }
     ensures window { IsWindow next.new.bits result }
     ensures len { length next.new.bits ≡ length next.old.bits }
     ensures spare { next.new.spare ≡ next.old.spare }
 {
-    if none_holds(table, value, fourth, third, second, last, w) {
-        return window;
-    }
+    let _rules = table.rules;
+    let candidates = table.candidates(value, p);
     let mut window = window;
-    'words: for i in w..w + 8 {
+    let mut from = 0;
+    'words: while let Some(k) = next_bit(candidates, from) {
+        let i = 64 * p + k;
         let word = match_at(table, value, fourth, third, second, last, rest, i);
         window = refill_word(spans, i, word, next, window);
+        from = k + 1;
     }
     window
 }
@@ -107,18 +99,9 @@ pub fn lead_from_first(table: &FieldTable, ends: &[End], value: u128, now: u64) 
     let second = bucket_words(table, value, groups.saturating_sub(2));
     let last = bucket_words(table, value, groups - 1);
     let rest = groups.saturating_sub(4);
-    'eights: for e in 0..table.rules.div_ceil(512) {
-        if let Some(place) = lead_eight(
-            table,
-            ends,
-            value,
-            fourth,
-            third,
-            second,
-            last,
-            rest,
-            8 * e,
-            now,
+    'pages: for p in 0..table.rules.div_ceil(4096) {
+        if let Some(place) = lead_page(
+            table, ends, value, fourth, third, second, last, rest, p, now,
         ) {
             return Some(place);
         }
@@ -126,9 +109,9 @@ pub fn lead_from_first(table: &FieldTable, ends: &[End], value: u128, now: u64) 
     None
 }
 
-/// The place that the matched rules of the eight words from word `w` on lead to.
+/// The place that the matched rules of the 64 words from word `64 * p` on lead to.
 #[inline(always)]
-fn lead_eight(
+fn lead_page(
     table: &FieldTable,
     ends: &[End],
     value: u128,
@@ -137,25 +120,26 @@ fn lead_eight(
     second: &[u64],
     last: &[u64],
     rest: u32,
-    w: u32,
+    p: u32,
     now: u64,
 ) -> Option<u64>
     requires value { value < 2 ^ table.now.bits }
     requires rules { length ends.now ≡ table.now.rules }
     requires four { AreLastFour table.now value fourth.now third.now second.now last.now }
-    requires words { HaveWords (w + 8) fourth.now third.now second.now last.now }
     requires rest { rest ≡ table.now.bits / table.now.width - 4 }
-    requires small { w + 8 < 2 ^ 32 }
-    ensures { LeadsWords table.now ends.now (λ rule. holds_value rule value) w (w + 8) now result }
+    requires page { 4096 * p < table.now.rules }
+    ensures { LeadsWords table.now ends.now (λ rule. holds_value rule value) (64 * p) (64 * (p + 1)) now result }
 {
-    if none_holds(table, value, fourth, third, second, last, w) {
-        return None;
-    }
-    'words: for i in w..w + 8 {
+    let _rules = table.rules;
+    let candidates = table.candidates(value, p);
+    let mut from = 0;
+    'words: while let Some(k) = next_bit(candidates, from) {
+        let i = 64 * p + k;
         let word = match_at(table, value, fourth, third, second, last, rest, i);
         if let Some(place) = first_live(ends, i, word, now) {
             return Some(place);
         }
+        from = k + 1;
     }
     None
 }

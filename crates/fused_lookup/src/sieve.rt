@@ -2,12 +2,12 @@ ghost use Rattle.std.specs.Prelude.{◌≡◌, ℕ, ◌+◌, ◌-◌, ◌*◌, �
 ghost use Rattle.bit_rows.specs.Row.{bit};
 ghost use Rattle.set_model.specs.Blocks.{holds_value};
 ghost use Rattle.lookup_table.specs.Rules.{KeepsBitsWhere};
-ghost use Rattle.fused_lookup.specs.Sieve.{IsBucket, AreLastFour, HaveWords, in_all, KeepsWhereSet, NoneHolds};
+ghost use Rattle.fused_lookup.specs.Sieve.{IsBucket, AreLastFour, HaveWords, in_all, KeepsWhereSet};
 
 use lookup_table::FieldTable;
 
-// A value's last four groups tell most rules apart. So their buckets are ANDed first, eight words at
-// a time, and the other groups are looked up only for a word in which something is left.
+// A value's last four groups tell most rules apart. So their buckets are ANDed first, and the other
+// groups are looked up only for a word in which something is left.
 
 /// The words of the bucket of a value's group `g`.
 #[inline(always)]
@@ -26,41 +26,6 @@ fn left_at(fourth: &[u64], third: &[u64], second: &[u64], last: &[u64], w: usize
     ensures { (k : ℕ) → k < 64 → bit result k ≡ in_all fourth.now third.now second.now last.now w k }
 {
     fourth[w] & third[w] & second[w] & last[w]
-}
-
-/// Whether nothing is left of the eight words from word `w` on in four buckets.
-#[inline(always)]
-fn is_nothing_left(fourth: &[u64], third: &[u64], second: &[u64], last: &[u64], w: usize) -> bool
-    requires { HaveWords (w + 8) fourth.now third.now second.now last.now }
-    ensures { result ≡ true → (v k : ℕ) → w ≤ v → v < w + 8 → k < 64 → in_all fourth.now third.now second.now last.now v k ≡ false }
-{
-    let mut any = 0;
-    'words: for v in w..w + 8 {
-        any |= left_at(fourth, third, second, last, v);
-    }
-    any == 0
-}
-
-/// Whether it is plain from four buckets that no rule of the eight words from word `w` on holds the
-/// value.
-#[inline(always)]
-pub(crate) fn none_holds(
-    table: &FieldTable,
-    value: u128,
-    fourth: &[u64],
-    third: &[u64],
-    second: &[u64],
-    last: &[u64],
-    w: u32,
-) -> bool
-    requires value { value < 2 ^ table.now.bits }
-    requires four { AreLastFour table.now value fourth.now third.now second.now last.now }
-    requires words { HaveWords (w + 8) fourth.now third.now second.now last.now }
-    ensures { result ≡ true → NoneHolds table.now value w (w + 8) }
-{
-    let _ = table;
-    let _ = value;
-    is_nothing_left(fourth, third, second, last, w as usize)
 }
 
 /// What the first `n` groups leave of a word.

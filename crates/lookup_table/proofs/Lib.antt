@@ -6,3 +6,4 @@ pub mod WordLaws
 pub mod ShareLaws
 pub mod WideLaws
 pub mod NarrowLaws
+pub mod SummaryLaws

@@ -1,6 +1,7 @@
 -- Setting a rule in the buckets that agree with its block.
 use Rattle.std.proofs.Common.{◌≡◌, refl, sym, ◌∙◌, ap, subst, ℕ, suc, take, append_assoc, ◌+◌, ◌-◌, ◌*◌, ◌/◌, ◌%◌, ◌^◌, ◌<◌, ◌≤◌, ◌⊎◌, [], ◌∷◌, ◌++◌, Bool, true, false, ◌&&◌, ◌||◌, ◌==◌, nat_le, nat_lt, List, length, get_or, set, arith, inl, inr, All, bit_and}
-use Rattle.std.proofs.lemmas.Bool.{cases_lt, cases_eq, lt-ltb, le-ltb, le-leb, lt-leb, eq-eqb, ne_eqb}
+use Rattle.std.proofs.lemmas.Bool.{cases_lt, cases_eq, lt-ltb, le-ltb, le-leb, lt-leb, eq-eqb, ne_eqb, and_parts}
+use Rattle.std.proofs.lemmas.Bool.Decides.{nat_tests}
 use Rattle.std.proofs.lemmas.List.{get_or-set_same, get_or-set_other, length-set, get_or_default, get_or_append_left, get_or_push, length_push}
 use Rattle.std.proofs.lemmas.List.Elements.{All-push}
 use Rattle.std.proofs.lemmas.Nat.{shl_whole, one_shl}
@@ -14,7 +15,7 @@ use Rattle.bit_rows.proofs.Rows.{at-run, length-run}
 use Rattle.field_groups.specs.Groups.{group, fixed, agrees, first_agreeing, agreeing_count}
 use Rattle.field_groups.proofs.RunLaws.{run-fits, agrees-run}
 use Rattle.lookup_table.specs.Table.{bucket_at, bucket_place, cell, block_at}
-use Rattle.lookup_table.specs.Rows.{IsSameSize, IsMarked, IsBlockMarked, HasRules}
+use Rattle.lookup_table.specs.Rows.{IsSameSize, IsMarked, IsBlockMarked, HasRules, KeepsCells, IsFresh, HasOnly}
 use Rattle.lookup_table.proofs.RowsLaws.{cell-is, All-bucket, bucket-All}
 
 pub same-size : (rows : List Row) → IsSameSize rows rows
@@ -260,3 +261,67 @@ rules-step width bits i d blocks before old rows new h step has =
     let e : (before ++ take i blocks) ++ get_or blocks i d ∷ [] ≡ before ++ take (i + 1) blocks =
     append_assoc before (take i blocks) (get_or blocks i d ∷ []) ∙ ap (λ xs. before ++ xs) (sym (take-suc blocks i d h) ∙ ap (λ n. take n blocks) (let f : suc i ≡ i + 1 = omega arith in f)) in
     subst (λ xs. HasRules width bits new xs) e (step has)
+
+-- ---- what stays
+
+pub cells-both : (n : ℕ) (old rows new : List Row) → KeepsCells n old rows → KeepsCells n rows new → KeepsCells n old new
+cells-both n old rows new first second = record { cells = λ j i h. second.cells j i h ∙ first.cells j i h }
+
+pub cells-fewer : (n m : ℕ) (old new : List Row) → n ≤ m → KeepsCells m old new → KeepsCells n old new
+cells-fewer n m old new le kept = record { cells = λ j i h. kept.cells j i (omega arith) }
+
+-- a mark of place r leaves the places before it
+pub cells-marked : (from to r : ℕ) (n : ℕ) (old rows new : List Row) → n ≤ r → KeepsCells n old rows → IsMarked from to r rows new → KeepsCells n old new
+cells-marked from to r n old rows new le kept marked = record {
+  cells = λ j i h.
+      marked.cells j i ∙ ap (λ t. cell rows j i || (lies from to j && t)) (ne_eqb i r (λ e. absurd (omega arith)))
+      ∙ ap (λ t. cell rows j i || t) (and-false (lies from to j)) ∙ or-false (cell rows j i) ∙ kept.cells j i h;
+}
+
+-- ---- what is set is no more than the blocks
+
+pub only-none : (width bits first : ℕ) (blocks : List Block) (rows : List Row) → IsFresh first rows → HasOnly width bits first 0 blocks rows
+only-none width bits first blocks rows fresh = record {
+  within = λ g v i h l set. go (sym (fresh.cells (bucket_place width g v) i l) ∙ set);
+  agree = λ g v i h l set. gone (sym (fresh.cells (bucket_place width g v) i l) ∙ set);
+} where
+  go : {A : Type 0} → false ≡ true → A
+  go e = absurd (cc e)
+
+  gone : {A : Type 0} → false ≡ true → A
+  gone e = absurd (cc e)
+
+same-number : (a b : ℕ) → (a == b) ≡ true → a ≡ b
+same-number a b h = grind (arith, nat_tests)
+
+pub only-more : (width bits first n : ℕ) (block : Block) (blocks : List Block) (rows new : List Row) → block ≡ block_at blocks n → IsBlockMarked width bits (bits / width) block (first + n) rows new
+    → HasOnly width bits first n blocks rows → HasOnly width bits first (n + 1) blocks new
+only-more width bits first n block blocks rows new e marked so_far = record {
+  within = λ g v i h l set. near g v i h l (split g v i h set);
+  agree = λ g v i h l set. agree g v i h l (split g v i h set);
+} where
+  either : (a b : Bool) → (a || b) ≡ true → (a ≡ true) ⊎ (b ≡ true)
+  either true b x = inl refl
+  either false b x = inr x
+
+  split : (g v i : ℕ) → v < 2 ^ width → cell new (bucket_place width g v) i ≡ true
+      → (cell rows (bucket_place width g v) i ≡ true) ⊎ ((nat_lt g (bits / width) && agrees width bits block g v && i == first + n) ≡ true)
+  split g v i h set = either (cell rows (bucket_place width g v) i) (nat_lt g (bits / width) && agrees width bits block g v && i == first + n) (sym (marked.cells g v i h) ∙ set)
+
+  here : (g v i : ℕ) → (nat_lt g (bits / width) && agrees width bits block g v && i == first + n) ≡ true → (agrees width bits block g v ≡ true) × (i ≡ first + n)
+  here g v i set =
+      let outer = and_parts (nat_lt g (bits / width) && agrees width bits block g v) (i == first + n) set in
+      let inner = and_parts (nat_lt g (bits / width)) (agrees width bits block g v) outer.0 in
+      (inner.1, same-number i (first + n) outer.1)
+
+  near : (g v i : ℕ) → v < 2 ^ width → first ≤ i → (cell rows (bucket_place width g v) i ≡ true) ⊎ ((nat_lt g (bits / width) && agrees width bits block g v && i == first + n) ≡ true) → i < first + (n + 1)
+  near g v i h l (inl set) = let a = so_far.within g v i h l set in omega arith
+  near g v i h l (inr set) = let a = (here g v i set).1 in omega arith
+
+  agree : (g v i : ℕ) → v < 2 ^ width → first ≤ i → (cell rows (bucket_place width g v) i ≡ true) ⊎ ((nat_lt g (bits / width) && agrees width bits block g v && i == first + n) ≡ true)
+      → agrees width bits (block_at blocks (i - first)) g v ≡ true
+  agree g v i h l (inl set) = so_far.agree g v i h l set
+  agree g v i h l (inr set) =
+      let a = here g v i set in
+      let k : i - first ≡ n = let b = a.1 in omega arith in
+      ap (λ x. agrees width bits (block_at blocks x) g v) k ∙ ap (λ b. agrees width bits b g v) (sym e) ∙ a.0

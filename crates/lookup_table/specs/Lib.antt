@@ -3,3 +3,5 @@ pub mod Rules
 pub mod Rows
 pub mod Width
 pub mod Laws
+pub mod Summary
+pub mod Candidates

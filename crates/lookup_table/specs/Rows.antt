@@ -1,5 +1,5 @@
 -- Changes of buckets, one by one, and what is made of some of them.
-use Rattle.std.specs.Prelude.{◌≡◌, ℕ, ◌+◌, ◌*◌, ◌/◌, ◌%◌, ◌^◌, ◌<◌, ◌≤◌, false, cond, ◌&&◌, ◌||◌, ◌==◌, nat_lt, List, ◌++◌, length, replicate, All}
+use Rattle.std.specs.Prelude.{◌≡◌, ℕ, ◌+◌, ◌-◌, ◌*◌, ◌/◌, ◌%◌, ◌^◌, ◌<◌, ◌≤◌, true, false, cond, ◌&&◌, ◌||◌, ◌==◌, nat_lt, List, ◌++◌, length, replicate, All}
 use Rattle.set_model.specs.declared.block.Block.{Block}
 use Rattle.set_model.specs.Blocks.{IsWithin}
 use Rattle.bit_rows.specs.Row.{Row, at, lies, without_run}
@@ -51,6 +51,19 @@ pub record IsMarked (from to r : ℕ) (old new : List Row) : Type 0 where
 pub record IsBlockMarked (width bits n : ℕ) (block : Block) (r : ℕ) (old new : List Row) : Type 0 where
   pub size : IsSameSize old new
   pub cells : (g v i : ℕ) → v < 2 ^ width → cell new (bucket_place width g v) i ≡ (cell old (bucket_place width g v) i || (nat_lt g n && agrees width bits block g v && i == r))
+
+-- the first n places of each row are as they were
+pub record KeepsCells (n : ℕ) (old new : List Row) : Type 0 where
+  pub cells : (j i : ℕ) → i < n → cell new j i ≡ cell old j i
+
+-- None of the rules from `first` on is set.
+pub record IsFresh (first : ℕ) (rows : List Row) : Type 0 where
+  pub cells : (j i : ℕ) → first ≤ i → cell rows j i ≡ false
+
+-- Of the rules from `first` on those of the first n blocks alone are set, and in no bucket whose value doesn't agree with the block.
+pub record HasOnly (width bits first n : ℕ) (blocks : List Block) (rows : List Row) : Type 0 where
+  pub within : (g v i : ℕ) → v < 2 ^ width → first ≤ i → cell rows (bucket_place width g v) i ≡ true → i < first + n
+  pub agree : (g v i : ℕ) → v < 2 ^ width → first ≤ i → cell rows (bucket_place width g v) i ≡ true → agrees width bits (block_at blocks (i - first)) g v ≡ true
 
 -- The first bits of the buckets are those of the blocks' rules, and no other bit is set.
 pub record HasRules (width bits : ℕ) (buckets : List Row) (blocks : List Block) : Type 0 where

@@ -8,6 +8,7 @@
 mod laws;
 mod marks;
 mod rows;
+mod summary;
 mod table;
 #[cfg(test)]
 mod tests;

@@ -3,7 +3,7 @@ ghost use Rattle.set_model.specs.declared.block.Block.{Block};
 ghost use Rattle.set_model.specs.Blocks.{IsWithin};
 ghost use Rattle.field_groups.specs.Groups.{IsWidth};
 ghost use Rattle.lookup_table.specs.Table.{IsShaped};
-ghost use Rattle.lookup_table.specs.Rows.{IsSameSize, MarksRules};
+ghost use Rattle.lookup_table.specs.Rows.{IsSameSize, KeepsCells, IsFresh, HasOnly, IsBlockMarked, MarksRules};
 
 use crate::rows::Rows;
 use field_groups::group_mask;
@@ -14,7 +14,10 @@ pub(crate) fn mark_blocks(buckets: &mut Rows, blocks: &[Block], width: u32, bits
     requires count { first + length blocks.now < 2 ^ 32 }
     requires shape { IsShaped width bits (first + length blocks.now) buckets.old }
     requires within { All (IsWithin bits) blocks.now }
+    requires fresh { IsFresh first buckets.old }
     ensures size { IsSameSize buckets.old buckets.new }
+    ensures kept { KeepsCells first buckets.old buckets.new }
+    ensures only { HasOnly width bits first (length blocks.now) blocks.now buckets.new }
     ensures rules { MarksRules width bits first buckets.old buckets.new blocks.now }
 {
     'rules: for (i, block) in blocks.iter().enumerate() {
@@ -29,6 +32,8 @@ fn mark_block(buckets: &mut Rows, block: Block, width: u32, bits: u32, r: u32)
     requires place { All (λ row. r < length row.bits) buckets.old }
     requires block { IsWithin bits block }
     ensures size { IsSameSize buckets.old buckets.new }
+    ensures kept { KeepsCells r buckets.old buckets.new }
+    ensures marked { IsBlockMarked width bits (bits / width) block r buckets.old buckets.new }
     ensures rules { MarksRules width bits r buckets.old buckets.new (block ∷ []) }
 {
     'groups: for g in 0..bits / width {

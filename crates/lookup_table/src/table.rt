@@ -1,12 +1,15 @@
 ghost use Rattle.lookup_table.specs.Table.{IsShaped};
+ghost use Rattle.lookup_table.specs.Summary.{IsSummed};
 
 use crate::marks::mark_blocks;
 use crate::rows::Rows;
+use crate::summary::{add_pages, mark_added, pages_for, renew_pages, words_of};
 use crate::widths::halves_of;
 use bit_rows::BitRow;
 use field_groups::{group_mask, group_value};
 use set_model::{Block, Memory};
 use std::alloc::Global;
+use word_summary::{Page, copy_pages};
 
 /// The lookup table of a field.
 ///
@@ -14,17 +17,24 @@ use std::alloc::Global;
 /// rules. The bucket of value `v` of group `g`, most significant group first, stands at place
 /// `g * 2^width + v`. Its bit `r` says whether `v` agrees with rule `r`'s block on those bits of
 /// the group that the block fixes.
+///
+/// A table that is summed has a summary above its rules: a page of marks for each 4,096 of them, once
+/// there are more than 64. `candidates` reads it. The summary is made from the buckets, and is the same
+/// at either width.
 #[derive(Drop)]
 pub struct FieldTable {
     pub width: u32,
     pub bits: u32,
     pub rules: u32,
     pub buckets: Rows,
+    pub is_summed: bool,
+    pub pages: Vec<Page>,
     pub ghost shaped: { IsShaped width bits rules buckets },
+    pub ghost summed: { IsSummed width bits rules buckets pages.items },
 }
 
 impl FieldTable {
-    ghost use Rattle.std.specs.Prelude.{◌≡◌, ℕ, ◌+◌, ◌*◌, ◌/◌, ◌^◌, ◌<◌, ◌≤◌, ◌&&◌, false, List, [], ◌∷◌, ◌++◌, length, slice_get, Some, replicate, ◌-◌, All, IfOk, OnOk};
+    ghost use Rattle.std.specs.Prelude.{◌≡◌, ℕ, ◌+◌, ◌*◌, ◌/◌, ◌^◌, ◌<◌, ◌≤◌, ◌&&◌, true, false, List, [], ◌∷◌, ◌++◌, length, slice_get, Some, replicate, ◌-◌, All, IfOk, OnOk};
     ghost use Rattle.set_model.specs.declared.block.Block.{Block};
     ghost use Rattle.set_model.specs.Blocks.{holds_value, IsWithin};
     ghost use Rattle.bit_rows.specs.Row.{bit};
@@ -32,6 +42,7 @@ impl FieldTable {
     ghost use Rattle.lookup_table.specs.Table.{rooms_of, bits_of};
     ghost use Rattle.lookup_table.specs.Rules.{Stands, IsSameField, KeepsRules, AppendsRules, DropsRules, KeepsWhere, KeepsBitsWhere, place_of};
     ghost use Rattle.lookup_table.specs.Rows.{IsJoined, IsWide, halves_start, halves_step};
+    ghost use Rattle.lookup_table.specs.Candidates.{LeavesNone};
 
     /// A table without rules, in groups of eight bits, of a field of `bits` bits: a multiple of 8
     /// from 8 to 128.
@@ -51,7 +62,19 @@ impl FieldTable {
             bits,
             rules: 0,
             buckets,
+            is_summed: false,
+            pages: Vec::new(alloc),
         })
+    }
+
+    /// Says whether the table keeps a summary of its rules, from the next [`FieldTable::reserve`] on.
+    pub fn set_summed(&mut self, is_summed: bool)
+        ensures summed { self.new.is_summed ≡ is_summed }
+        ensures same { IsSameField self.old self.new }
+        ensures rules { self.new.rules ≡ self.old.rules }
+        ensures buckets { self.new.buckets ≡ self.old.buckets }
+    {
+        self.is_summed = is_summed;
     }
 
     /// How many groups the field has.
@@ -91,7 +114,23 @@ impl FieldTable {
         ensures spare { OnOk result (All (λ row. n ≤ row.spare) self.new.buckets) }
     {
         self.buckets.reserve(self.rules + n)?;
+        self.take_pages(pages_for(self.is_summed, self.rules + n))?;
         Ok(())
+    }
+
+    /// Takes pages of the summary, up to `n` pages.
+    ///
+    /// # Errors
+    /// `Memory` if there is none left. The table is as it was, or has some of the pages.
+    fn take_pages(&mut self, n: u32) -> Result<(), Memory>
+        requires { n ≤ 2 ^ 26 }
+        ensures same { IsSameField self.old self.new }
+        ensures rules { self.new.rules ≡ self.old.rules }
+        ensures buckets { self.new.buckets ≡ self.old.buckets }
+    {
+        let alloc = *self.pages.allocator();
+        let (width, bits, rules) = (self.width, self.bits, self.rules);
+        add_pages(alloc, &mut self.pages, n, &self.buckets, width, bits, rules)
     }
 
     /// Adds a rule with the next number, for which there is room in each bucket.
@@ -118,9 +157,11 @@ impl FieldTable {
         // The room is what bounds the number of blocks.
         let _room = self.buckets.at(0).room();
         let count = added.len() as u32;
+        let before = self.rules;
         self.buckets.raise(count);
-        mark_blocks(&mut self.buckets, added, self.width, self.bits, self.rules);
+        mark_blocks(&mut self.buckets, added, self.width, self.bits, before);
         self.rules += count;
+        mark_added(&mut self.pages, added, self.bits, before);
     }
 
     /// Takes the `n` rules from `first` on out. The later rules close up.
@@ -133,6 +174,14 @@ impl FieldTable {
     {
         self.buckets.close_up(first, n);
         self.rules -= n;
+        renew_pages(
+            &mut self.pages,
+            &self.buckets,
+            self.width,
+            self.bits,
+            self.rules,
+            first / 64,
+        );
     }
 
     /// Leaves bit `r` of the row set where rule `r`'s block holds the value.
@@ -145,6 +194,21 @@ impl FieldTable {
     {
         'groups: for g in 0..self.groups() {
             row.and_from(self.bucket(value, g));
+        }
+    }
+
+    /// The words of rules, of the 64 from word `64 * p` on, that may have a rule whose block holds the
+    /// value. Bit 0 stands for the first. In a table without a summary they are all that have rules.
+    #[inline(always)]
+    pub fn candidates(&self, value: u128, p: u32) -> u64
+        requires value { value < 2 ^ self.now.bits }
+        ensures none { LeavesNone self.now value p result }
+        ensures within { (k : ℕ) → k < 64 → bit result k ≡ true → 64 * (64 * p + k) < self.now.rules }
+    {
+        let words = words_of(self.rules, p);
+        match self.pages.get(p as usize) {
+            Some(page) => words & page.candidates(value, self.bits),
+            None => words,
         }
     }
 
@@ -258,12 +322,16 @@ impl FieldTable {
         'rows: for j in 0..self.bits / 8 * 256 {
             buckets.push(self.wide_bucket(alloc, j as u64)?)?;
         }
-        Ok(FieldTable {
+        let mut table = FieldTable {
             width: 8,
             bits: self.bits,
             rules: self.rules,
             buckets,
-        })
+            is_summed: self.is_summed,
+            pages: Vec::new(alloc),
+        };
+        table.take_pages(self.pages.len() as u32)?;
+        Ok(table)
     }
 
     /// Bucket `j` in groups of eight bits, from groups of four: a rule is set where it is set for
@@ -291,12 +359,16 @@ impl FieldTable {
         'rows: for j in 0..self.bits / 4 * 16 {
             buckets.push(self.narrow_bucket(alloc, j as u64)?)?;
         }
-        Ok(FieldTable {
+        let mut table = FieldTable {
             width: 4,
             bits: self.bits,
             rules: self.rules,
             buckets,
-        })
+            is_summed: self.is_summed,
+            pages: Vec::new(alloc),
+        };
+        table.take_pages(self.pages.len() as u32)?;
+        Ok(table)
     }
 
     /// Bucket `j` in groups of four bits, from groups of eight: a rule is set where it is set for
@@ -323,11 +395,14 @@ impl FieldTable {
         ensures buckets { IfOk result (λ t. t.buckets ≡ self.now.buckets) }
     {
         let buckets = self.buckets.copy(alloc)?;
+        let pages = copy_pages(alloc, self.pages.as_slice())?;
         Ok(FieldTable {
             width: self.width,
             bits: self.bits,
             rules: self.rules,
             buckets,
+            is_summed: self.is_summed,
+            pages,
         })
     }
 }

@@ -50,7 +50,8 @@ impl Index {
             if fields.len() > 0 {
                 maps.push(MapTable::new(alloc))?;
             }
-            fields.push(empty_table(alloc, *kind)?)?;
+            let is_first = fields.len() == 0;
+            fields.push(empty_table(alloc, *kind, is_first)?)?;
         }
         Ok(Index {
             fields,
@@ -99,11 +100,13 @@ impl Index {
     }
 }
 
-/// The table of a field without rules.
-fn empty_table(alloc: Global, kind: Kind) -> Result<FieldTable, Memory>
+/// The table of a field without rules. The first field's keeps a summary: a lookup goes through all
+/// its rules, and in the later fields through those alone that are left.
+fn empty_table(alloc: Global, kind: Kind, is_first: bool) -> Result<FieldTable, Memory>
     ensures { IfOk result (IsTableOf kind []) }
 {
-    let table = FieldTable::new(alloc, kind.bits())?;
+    let mut table = FieldTable::new(alloc, kind.bits())?;
+    table.set_summed(is_first);
     Ok(table)
 }
 

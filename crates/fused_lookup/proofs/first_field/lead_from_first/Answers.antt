@@ -15,5 +15,5 @@ returns c = λ blocks s.
     let n = s.one_each in
     let m = matched test blocks (replicate c.args.table.now.rules true) in
     let long : length m ≡ length c.args.ends.now = length-left test blocks (replicate c.args.table.now.rules true) (omega arith) ∙ n ∙ sym c.requires.rules in
-    let past : length c.args.ends.now ≤ 64 * (8 * c.eights.e) = omega (arith, c.requires.rules, c.div_ceil-e-end.ensures) in
-    nowhere-all c.args.ends.now m c.args.now (64 * (8 * c.eights.e)) long past (c.eights.invariant blocks s (nowhere-none c.args.ends.now m c.args.now))
+    let past : length c.args.ends.now ≤ 64 * (64 * c.pages.p) = omega (arith, c.requires.rules, c.div_ceil-p-end.ensures) in
+    nowhere-all c.args.ends.now m c.args.now (64 * (64 * c.pages.p)) long past (c.pages.invariant blocks s (nowhere-none c.args.ends.now m c.args.now))

@@ -3,5 +3,5 @@ use Rattle.set_model.specs.Blocks.{holds_value}
 use Rattle.fused_lookup.specs.Led.{LeadsWords}
 use Rattle.fused_lookup.proofs.first_field.lead_from_first.Given as goal
 
-abbrev pub invariant-eights : goal.invariant-eights
-invariant-eights l = LeadsWords l.table l.ends (λ rule. holds_value rule l.value) 0 (8 * l.e) l.now None
+abbrev pub invariant-pages : goal.invariant-pages
+invariant-pages l = LeadsWords l.table l.ends (λ rule. holds_value rule l.value) 0 (64 * l.p) l.now None

@@ -1,7 +1,25 @@
 use Rattle.std.proofs.Common.{◌∙◌, length-append, arith}
 use Rattle.lookup_table.proofs.RowsLaws.{raised-rooms, size-rooms}
-use Rattle.lookup_table.proofs.RuleLaws.{raised-rules, rules-stand}
+use Rattle.lookup_table.proofs.RuleLaws.{raised-shape, raised-rules, sized-shape, rules-stand}
+use Rattle.lookup_table.proofs.MarkLaws.{cells-both}
+use Rattle.lookup_table.proofs.SummaryLaws.{cells-raised, fresh-raised, summed-pages, summed-added, eight-groups}
 use Rattle.lookup_table.proofs.table.FieldTable.add_blocks.Goals as goal
+
+pub mark_blocks-requires-clause-fresh : goal.mark_blocks-requires-clause-fresh
+mark_blocks-requires-clause-fresh c = fresh-raised _ _ _ _ _ _ c.args.self.now.shaped c.raise.ensures
+
+pub mark_added-requires-clause-groups : goal.mark_added-requires-clause-groups
+mark_added-requires-clause-groups c = eight-groups _ _ c.args.self.now.shaped.groups
+
+pub mark_added-requires-clause-pages : goal.mark_added-requires-clause-pages
+mark_added-requires-clause-pages c = summed-pages _ _ _ _ _ c.args.self.now.summed
+
+pub invariant_of-self : goal.invariant_of-self
+invariant_of-self c = record {
+  shaped = sized-shape _ _ _ _ _ (raised-shape _ _ _ _ _ _ c.args.self.now.shaped c.raise.ensures) c.mark_blocks.ensures.size;
+  summed = summed-added _ _ _ _ _ _ _ _ _ c.args.self.now.shaped.groups c.args.self.now.summed (cells-both _ _ _ _ (cells-raised _ _ _ _ _ _ c.args.self.now.shaped c.raise.ensures) c.mark_blocks.ensures.kept)
+      c.mark_blocks.ensures.only c.mark_added.ensures.kept c.mark_added.ensures.marked;
+}
 
 pub returns-clause-room : goal.returns-clause-room
 returns-clause-room c = size-rooms _ _ c.mark_blocks.ensures.size ∙ raised-rooms _ _ _ c.raise.ensures

@@ -1,5 +1,8 @@
+use Rattle.std.proofs.Common.{ap, ◌∙◌, arith}
+use Rattle.lookup_table.specs.Table.{bits_of}
 use Rattle.lookup_table.proofs.RowsLaws.{grown-bits}
-use Rattle.lookup_table.proofs.RuleLaws.{grown-stands}
+use Rattle.lookup_table.proofs.RuleLaws.{grown-shape, grown-stands}
+use Rattle.lookup_table.proofs.SummaryLaws.{summed-kept, cells-grown}
 use Rattle.lookup_table.proofs.table.FieldTable.reserve.Goals as goal
 
 pub returns-in_err-reserve-clause-bits : goal.returns-in_err-reserve-clause-bits
@@ -8,8 +11,24 @@ returns-in_err-reserve-clause-bits c = grown-bits _ _ c.reserve.ensures.grown
 pub returns-in_err-reserve-clause-stands : goal.returns-in_err-reserve-clause-stands
 returns-in_err-reserve-clause-stands c = λ blocks stands. grown-stands _ _ _ _ _ blocks c.args.self.now.shaped c.reserve.ensures.grown stands
 
+pub invariant_of-self : goal.invariant_of-self
+invariant_of-self c = record {
+  shaped = grown-shape _ _ _ _ _ c.args.self.now.shaped c.reserve.ensures.grown;
+  summed = summed-kept _ _ _ _ _ _ _ (omega arith) (cells-grown _ _ _ c.reserve.ensures.grown) c.args.self.now.summed;
+}
+
+pub returns-in_err-take_pages-clause-bits : goal.returns-in_err-take_pages-clause-bits
+returns-in_err-take_pages-clause-bits c = ap bits_of c.take_pages.ensures.buckets ∙ grown-bits _ _ c.reserve.ensures.grown
+
+pub returns-in_err-take_pages-clause-stands : goal.returns-in_err-take_pages-clause-stands
+returns-in_err-take_pages-clause-stands c = λ blocks stands.
+    let same = c.take_pages.ensures in
+    rw (same.same.width, same.same.bits, same.rules, same.buckets) (grown-stands _ _ _ _ _ blocks c.args.self.now.shaped c.reserve.ensures.grown stands)
+
 pub returns-clause-bits : goal.returns-clause-bits
-returns-clause-bits c = grown-bits _ _ c.reserve.ensures.grown
+returns-clause-bits c = ap bits_of c.take_pages.ensures.buckets ∙ grown-bits _ _ c.reserve.ensures.grown
 
 pub returns-clause-stands : goal.returns-clause-stands
-returns-clause-stands c = λ blocks stands. grown-stands _ _ _ _ _ blocks c.args.self.now.shaped c.reserve.ensures.grown stands
+returns-clause-stands c = λ blocks stands.
+    let same = c.take_pages.ensures in
+    rw (same.same.width, same.same.bits, same.rules, same.buckets) (grown-stands _ _ _ _ _ blocks c.args.self.now.shaped c.reserve.ensures.grown stands)

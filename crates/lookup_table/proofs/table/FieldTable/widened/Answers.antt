@@ -3,6 +3,7 @@ use Rattle.field_groups.specs.Groups.{IsWidth}
 use Rattle.lookup_table.specs.Table.{IsShaped}
 use Rattle.lookup_table.specs.Rows.{IsWide}
 use Rattle.lookup_table.proofs.WideLaws.{made-none, made-more, wide-shape, wide-stands}
+use Rattle.lookup_table.proofs.SummaryLaws.{summed-none}
 use Rattle.lookup_table.proofs.table.FieldTable.widened.Goals as goal
 
 pub rows-init : goal.rows-init
@@ -13,15 +14,16 @@ rows-preserved c =
     let e : c.push.new.self ≡ c.rows.buckets ++ c.in_ok-wide_bucket.field-0 ∷ [] = c.in_ok-push.ensures in
     rw e (made-more (IsWide c.args.self.now.buckets c.args.self.now.rules) _ _ _ c.in_ok-wide_bucket.ensures c.rows.invariant)
 
-pub invariant_of-result : goal.invariant_of-result
-invariant_of-result c =
+pub invariant_of-table : goal.invariant_of-table
+invariant_of-table c =
     let all : c.rows.j ≡ c.args.self.now.bits / 8 * 256 = omega arith in
     let shape : IsShaped 4 c.args.self.now.bits c.args.self.now.rules c.args.self.now.buckets =
     subst (λ (w : ℕ). IsShaped w c.args.self.now.bits c.args.self.now.rules c.args.self.now.buckets) c.requires c.args.self.now.shaped in
-    record { shaped = wide-shape _ _ _ _ shape (rw all at c.rows.invariant) }
+    record { shaped = wide-shape _ _ _ _ shape (rw all at c.rows.invariant); summed = summed-none _ _ _ _ _ c.new.ensures.items }
 
 pub returns-clause-stands : goal.returns-clause-stands
 returns-clause-stands c = λ blocks stands.
     let all : c.rows.j ≡ c.args.self.now.bits / 8 * 256 = omega arith in
     let groups : IsWidth 4 c.args.self.now.bits = subst (λ (w : ℕ). IsWidth w c.args.self.now.bits) c.requires c.args.self.now.shaped.groups in
-    wide-stands _ _ _ _ blocks groups (rw all at c.rows.invariant) (rw c.requires at stands)
+    let same = c.take_pages.ensures in
+    rw (same.same.width, same.same.bits, same.rules, same.buckets) (wide-stands _ _ _ _ blocks groups (rw all at c.rows.invariant) (rw c.requires at stands))

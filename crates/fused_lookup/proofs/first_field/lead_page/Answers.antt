@@ -1,0 +1,69 @@
+use Rattle.std.proofs.Common.{◌≡◌, ◌+◌, ◌*◌, ◌≤◌, ◌<◌, sym, ◌∙◌, subst, arith, length, Bool, true}
+use Rattle.std.specs.Prelude.{replicate}
+use Rattle.std.proofs.lemmas.List.{length-replicate}
+use Rattle.set_model.specs.declared.block.Block.{Block}
+use Rattle.set_model.specs.Blocks.{holds_value}
+use Rattle.set_tables.specs.Rows.{matched}
+use Rattle.fused_lookup.specs.Words.{IsNextBit}
+use Rattle.fused_lookup.specs.Led.{LeadsNowhere}
+use Rattle.fused_lookup.proofs.LedLaws.{nowhere-skip}
+use Rattle.fused_lookup.proofs.MatchLaws.{length-left, has-rules}
+use Rattle.fused_lookup.proofs.SieveLaws.{word-matched, none-matched}
+use Rattle.fused_lookup.proofs.CandidateLaws.{none-between, have-words}
+use Rattle.fused_lookup.proofs.first_field.lead_page.Goals as goal
+
+pub match_at-word-requires-clause-words : goal.match_at-word-requires-clause-words
+match_at-word-requires-clause-words c =
+    let next : IsNextBit c.candidates-candidates.result c.words.from c.in-Some.k = c.in-Some.ensures in
+    have-words c.args.table.now c.args.value (64 * c.args.p + c.in-Some.k) _ _ _ _ c.requires.four (c.candidates-candidates.ensures.within c.in-Some.k next.within next.set)
+
+pub first_live-requires : goal.first_live-requires
+first_live-requires c = has-rules (length c.args.ends.now) (64 * c.args.p + c.in-Some.k) c.match_at-word.result (λ k h p. c.match_at-word.ensures.past k h (omega (arith, c.requires.rules)))
+
+pub returns-in-Some-first_live : goal.returns-in-Some-first_live
+returns-in-Some-first_live c = λ blocks s before.
+    let next : IsNextBit c.candidates-candidates.result c.words.from c.in-Some.k = c.in-Some.ensures in
+    let test : Block → Bool = λ rule. holds_value rule c.args.value in
+    let ones = length-replicate c.args.table.now.rules true in
+    let n = s.one_each in
+    let m = matched test blocks (replicate c.args.table.now.rules true) in
+    let long : length m ≡ length c.args.ends.now = length-left test blocks (replicate c.args.table.now.rules true) (omega arith) ∙ n ∙ sym c.requires.rules in
+    let high : c.in-Some.k < 64 = next.within in
+    let skipped = nowhere-skip c.args.ends.now m c.args.now (64 * (64 * c.args.p + c.words.from)) (64 * (64 * c.args.p + c.in-Some.k)) long
+    (none-matched c.args.table.now c.args.value blocks _ _ s (none-between c.args.table.now c.args.value c.args.p c.candidates-candidates.result c.words.from c.in-Some.k c.candidates-candidates.ensures.none (omega arith) next.least))
+    (c.words.invariant.nowhere blocks s before) in
+    let word = word-matched c.args.table.now test blocks (64 * c.args.p + c.in-Some.k) c.match_at-word.result s (c.match_at-word.ensures.held blocks s) c.match_at-word.ensures.past in
+    c.in-Some-first_live.ensures m long word skipped
+
+pub words-preserved : goal.words-preserved
+words-preserved c = record {
+  low = omega (arith, c.in-Some.ensures.within);
+  nowhere = λ blocks s before.
+      let next : IsNextBit c.candidates-candidates.result c.words.from c.in-Some.k = c.in-Some.ensures in
+      let test : Block → Bool = λ rule. holds_value rule c.args.value in
+      let ones = length-replicate c.args.table.now.rules true in
+      let n = s.one_each in
+      let m = matched test blocks (replicate c.args.table.now.rules true) in
+      let long : length m ≡ length c.args.ends.now = length-left test blocks (replicate c.args.table.now.rules true) (omega arith) ∙ n ∙ sym c.requires.rules in
+      let high : c.in-Some.k < 64 = next.within in
+      let skipped = nowhere-skip c.args.ends.now m c.args.now (64 * (64 * c.args.p + c.words.from)) (64 * (64 * c.args.p + c.in-Some.k)) long
+      (none-matched c.args.table.now c.args.value blocks _ _ s (none-between c.args.table.now c.args.value c.args.p c.candidates-candidates.result c.words.from c.in-Some.k c.candidates-candidates.ensures.none (omega arith) next.least))
+      (c.words.invariant.nowhere blocks s before) in
+      let word = word-matched c.args.table.now test blocks (64 * c.args.p + c.in-Some.k) c.match_at-word.result s (c.match_at-word.ensures.held blocks s) c.match_at-word.ensures.past in
+      let up : 64 * c.args.p + c.in-Some.k + 1 ≡ 64 * c.args.p + (c.in-Some.k + 1) = omega arith in
+      subst (λ z. LeadsNowhere c.args.ends.now m c.args.now (64 * z)) up (c.in_default-first_live.ensures m long word skipped);
+}
+
+pub returns : goal.returns
+returns c = λ blocks s before.
+    let test : Block → Bool = λ rule. holds_value rule c.args.value in
+    let low : c.words.from ≤ 64 = c.words.invariant.low in
+    let ones = length-replicate c.args.table.now.rules true in
+    let n = s.one_each in
+    let m = matched test blocks (replicate c.args.table.now.rules true) in
+    let long : length m ≡ length c.args.ends.now = length-left test blocks (replicate c.args.table.now.rules true) (omega arith) ∙ n ∙ sym c.requires.rules in
+    let up : 64 * c.args.p + 64 ≡ 64 * (c.args.p + 1) = omega arith in
+    subst (λ z. LeadsNowhere c.args.ends.now m c.args.now (64 * z)) up
+    (nowhere-skip c.args.ends.now m c.args.now (64 * (64 * c.args.p + c.words.from)) (64 * (64 * c.args.p + 64)) long
+    (none-matched c.args.table.now c.args.value blocks _ _ s (none-between c.args.table.now c.args.value c.args.p c.candidates-candidates.result c.words.from 64 c.candidates-candidates.ensures.none (omega arith) c.in_default.ensures))
+    (c.words.invariant.nowhere blocks s before))

@@ -1,0 +1,421 @@
+-- The summary of a table as it is made, and what it leaves out.
+use Rattle.std.proofs.Common.{◌≡◌, refl, sym, ◌∙◌, ap, subst, ℕ, zero, suc, ◌+◌, ◌-◌, All, ◌*◌, ◌/◌, ◌%◌, ◌^◌, ◌<◌, ◌≤◌, ◌⊎◌, inl, inr, Bool, true, false, ◌&&◌, nat_lt, List, [], ◌∷◌, ◌++◌, length, get_or, take, drop, replicate, set, arith, Some, slice_get, bit_and}
+use Rattle.std.specs.Prelude.{slice_index}
+use Rattle.std.proofs.lemmas.Bool.{cases_lt, cases_eq, lt-ltb, le-ltb, ltb-true}
+use Rattle.std.proofs.lemmas.List.{get_or_past, get_or_append_left, get_or_push, length_push, length-replicate, get_or-take, length-take, get_or-set_same, get_or-set_other, length-set, get_or_default, get_or-append_right, get_or-replicate}
+use Rattle.std.proofs.lemmas.List.Elements.{All-get_or, All-from_get_or}
+use Rattle.std.proofs.lemmas.Bool.{and_parts}
+use Rattle.set_model.specs.declared.block.Block.{Block}
+use Rattle.set_model.specs.Blocks.{holds_value, IsWithin}
+use Rattle.bit_rows.specs.Row.{Row, at, bit, IsSpelling}
+use Rattle.bit_rows.proofs.Bits.{bit-and}
+use Rattle.field_groups.specs.Groups.{agrees, group, every, IsWidth}
+use Rattle.field_groups.proofs.GroupLaws.{groups-hold, group-below}
+use Rattle.field_groups.proofs.HalfLaws.{agrees-halves}
+use Rattle.word_summary.specs.Marks.{IsMarked, IsPage, IsBlockMarked, is_candidate, share}
+use Rattle.word_summary.proofs.MarkLaws.{share-bit}
+use Rattle.lookup_table.specs.Table.{bucket_at, cell, IsShaped, block_at, StandsFor}
+use Rattle.lookup_table.specs.Rows.{Each, IsRaised, IsClosedUp, IsGrown, KeepsCells, IsFresh, HasOnly}
+use Rattle.lookup_table.specs.Summary.{upper_place, lower_place, agrees_at, page_at, HasMarks, IsSummed, KeepsMarks, IsRuleMarked, AreRulesMarked}
+use Rattle.lookup_table.proofs.RowsLaws.{cell-is, cell-read, All-bucket}
+
+pub same-lt : (a b c d : ℕ) → (a < b → c < d) → (c < d → a < b) → nat_lt a b ≡ nat_lt c d
+same-lt a b c d there back = go (cases_lt a b) (cases_lt c d) where
+  go : (a < b) ⊎ (b ≤ a) → (c < d) ⊎ (d ≤ c) → nat_lt a b ≡ nat_lt c d
+  go (inl x) y = lt-ltb a b x ∙ sym (lt-ltb c d (there x))
+  go (inr x) (inl y) = absurd (let z = back y in omega arith)
+  go (inr x) (inr y) = le-ltb a b x ∙ sym (le-ltb c d y)
+
+-- ---- places
+
+eight-or-four : (width bits : ℕ) → IsWidth width bits → (width ≡ 8) ⊎ (width ≡ 4)
+eight-or-four width bits w = go (cases_lt width 8) where
+  go : (width < 8) ⊎ (8 ≤ width) → (width ≡ 8) ⊎ (width ≡ 4)
+  go (inl h) = inr (omega (arith, w.fours, w.four))
+  go (inr h) = inl (omega (arith, w.eight))
+
+pub upper-within : (width bits rules j : ℕ) (buckets : List Row) → IsShaped width bits rules buckets → j < bits / 8 * 256 → upper_place width j < length buckets
+upper-within width bits rules j buckets shape h = go (eight-or-four width bits shape.groups) where
+  go : (width ≡ 8) ⊎ (width ≡ 4) → upper_place width j < length buckets
+  go (inl e) =
+      let n : length buckets ≡ bits / 8 * 256 = rw e at shape.count in
+      rw e (omega arith)
+  go (inr e) =
+      let n : length buckets ≡ bits / 4 * 16 = rw e at shape.count in
+      let w = shape.groups.bytes in
+      rw e (omega arith)
+
+pub lower-within : (width bits rules j : ℕ) (buckets : List Row) → IsShaped width bits rules buckets → j < bits / 8 * 256 → lower_place width j < length buckets
+lower-within width bits rules j buckets shape h = go (eight-or-four width bits shape.groups) where
+  go : (width ≡ 8) ⊎ (width ≡ 4) → lower_place width j < length buckets
+  go (inl e) =
+      let n : length buckets ≡ bits / 8 * 256 = rw e at shape.count in
+      rw e (omega arith)
+  go (inr e) =
+      let n : length buckets ≡ bits / 4 * 16 = rw e at shape.count in
+      let w = shape.groups.bytes in
+      rw e (omega arith)
+
+-- ---- a page
+
+-- the first j lines of a page have the marks of all rules, and the others are as they were
+pub record LinesDone (width bits p j : ℕ) (buckets : List Row) (old page : List ℕ) : Type 0 where
+  pub long : length page ≡ bits / 8 * 256
+  pub done : (i r : ℕ) → i < j → r / 4096 ≡ p → agrees_at width buckets i r ≡ true → bit (slice_index page i) (r / 64 % 64) ≡ true
+  pub rest : (i : ℕ) → j ≤ i → slice_index page i ≡ slice_index old i
+
+pub lines-none : (width bits p n : ℕ) (buckets : List Row) (page : List ℕ) → HasMarks width bits n buckets p page → LinesDone width bits p 0 buckets page page
+lines-none width bits p n buckets page has = record { long = has.long; done = λ i r h e a. absurd (omega arith); rest = λ i h. refl }
+
+-- a rule that two rows have is seen in the words that they share
+shared-rule : (buckets : List Row) (j i r w : ℕ) (upper lower : List ℕ) (a b : Row) → slice_get buckets j ≡ Some a → slice_get buckets i ≡ Some b → IsSpelling upper a.bits → IsSpelling lower b.bits
+    → (cell buckets j r && cell buckets i r) ≡ true → w ≡ r / 64 → share (slice_index upper w) (slice_index lower w) ≡ true
+shared-rule buckets j i r w upper lower a b read_a read_b spells_a spells_b both e =
+    let parts = and_parts (cell buckets j r) (cell buckets i r) both in
+    let whole : 64 * w + r % 64 ≡ r = omega arith in
+    share-bit (slice_index upper w) (slice_index lower w) (r % 64)
+    (spells_a.same w (r % 64) (omega arith) ∙ ap (at a.bits) whole ∙ sym (cell-read buckets j r a read_a) ∙ parts.0)
+    (spells_b.same w (r % 64) (omega arith) ∙ ap (at b.bits) whole ∙ sym (cell-read buckets i r b read_b) ∙ parts.1)
+
+pub lines-more : (width bits p from j : ℕ) (buckets : List Row) (upper lower old page new : List ℕ) (a b : Row) → j < bits / 8 * 256 → from < 64
+    → slice_get buckets (upper_place width j) ≡ Some a → slice_get buckets (lower_place width j) ≡ Some b → IsSpelling upper a.bits → IsSpelling lower b.bits
+    → HasMarks width bits (64 * (64 * p + from)) buckets p old → IsMarked j (64 * p) from upper lower page new → LinesDone width bits p j buckets old page → LinesDone width bits p (j + 1) buckets old new
+lines-more width bits p from j buckets upper lower old page new a b h small read_a read_b spells_a spells_b has marked so_far = record {
+  long = marked.long ∙ so_far.long;
+  done = λ i r l e agree. go i r l e agree (cases_eq i j);
+  rest = λ i l. marked.others i (λ e. absurd (omega arith)) ∙ so_far.rest i (omega arith);
+} where
+  here : (r : ℕ) → r / 4096 ≡ p → agrees_at width buckets j r ≡ true → (r / 64 % 64 < from) ⊎ (from ≤ r / 64 % 64) → bit (slice_index new j) (r / 64 % 64) ≡ true
+  here r e agree (inl l) =
+      marked.kept (r / 64 % 64) l ∙ ap (λ x. bit x (r / 64 % 64)) (so_far.rest j (omega arith)) ∙ has.marks j r h (omega arith) e agree
+  here r e agree (inr l) =
+      marked.marks (r / 64 % 64) l (omega arith)
+      ∙ shared-rule buckets (upper_place width j) (lower_place width j) r (64 * p + r / 64 % 64) upper lower a b read_a read_b spells_a spells_b agree (omega arith)
+
+  go : (i r : ℕ) → i < j + 1 → r / 4096 ≡ p → agrees_at width buckets i r ≡ true → (i ≡ j) ⊎ (i ≡ j → ⊥) → bit (slice_index new i) (r / 64 % 64) ≡ true
+  go i r l e agree (inl same) =
+      let agree_j : agrees_at width buckets j r ≡ true = subst (λ x. agrees_at width buckets x r ≡ true) same agree in
+      ap (λ x. bit (slice_index new x) (r / 64 % 64)) same ∙ here r e agree_j (cases_lt (r / 64 % 64) from)
+  go i r l e agree (inr differs) = ap (λ x. bit x (r / 64 % 64)) (marked.others i differs) ∙ so_far.done i r (before l differs) e agree where
+    before : i < j + 1 → (i ≡ j → ⊥) → i < j
+    before a b = omega arith
+
+pub lines-all : (width bits n p j : ℕ) (buckets : List Row) (old page : List ℕ) → bits / 8 * 256 ≤ j → LinesDone width bits p j buckets old page → HasMarks width bits n buckets p page
+lines-all width bits n p j buckets old page le so_far = record { long = so_far.long; marks = λ i r h l e agree. so_far.done i r (omega arith) e agree }
+
+-- ---- pages
+
+pub marks-weaker : (width bits n m p : ℕ) (buckets : List Row) (page : List ℕ) → ((r : ℕ) → r < m → r / 4096 ≡ p → r < n) → HasMarks width bits n buckets p page → HasMarks width bits m buckets p page
+marks-weaker width bits n m p buckets page within has = record { long = has.long; marks = λ j r h l e agree. has.marks j r h (within r l e) e agree }
+
+-- a page without marks, for no rules
+pub no-marks : (width bits n p : ℕ) (buckets : List Row) (page : List ℕ) → page ≡ replicate (bits / 8 * 256) 0 → n ≤ 4096 * p → HasMarks width bits n buckets p page
+no-marks width bits n p buckets page e le = record { long = ap length e ∙ length-replicate (bits / 8 * 256) 0; marks = λ j r h l same agree. absurd (omega arith) }
+
+-- the pages before page p have the marks of all rules, and the others are as they were
+pub record PagesDone (width bits n p : ℕ) (buckets : List Row) (old pages : List (List ℕ)) : Type 0 where
+  pub long : length pages ≡ length old
+  pub done : (q : ℕ) → q < p → q < length pages → HasMarks width bits n buckets q (page_at pages q)
+  pub rest : (q : ℕ) → p ≤ q → page_at pages q ≡ page_at old q
+
+pub pages-none : (width bits n m p : ℕ) (buckets : List Row) (pages : List (List ℕ)) → 4096 * p ≤ m → IsSummed width bits m buckets pages → PagesDone width bits n p buckets pages pages
+pages-none width bits n m p buckets pages le summed = record {
+  long = refl;
+  done = λ q h l. marks-weaker width bits m n q buckets (page_at pages q) (λ r a e. omega arith) (summed.each q l);
+  rest = λ q h. refl;
+}
+
+pub pages-more : (width bits n p : ℕ) (buckets : List Row) (old pages : List (List ℕ)) (page : List ℕ) → p < length pages → HasMarks width bits n buckets p page → PagesDone width bits n p buckets old pages
+    → PagesDone width bits n (p + 1) buckets old (set pages p page)
+pages-more width bits n p buckets old pages page h has so_far = record {
+  long = length-set pages p page ∙ so_far.long;
+  done = λ q l m. go q l (cases_eq q p);
+  rest = λ q l. get_or-set_other pages p q page [] (λ e. absurd (omega arith)) ∙ so_far.rest q (omega arith);
+} where
+  go : (q : ℕ) → q < p + 1 → (q ≡ p) ⊎ (q ≡ p → ⊥) → HasMarks width bits n buckets q (page_at (set pages p page) q)
+  go q l (inl e) =
+      let same : page_at (set pages p page) q ≡ page = ap (page_at (set pages p page)) e ∙ get_or-set_same pages p page [] h in
+      subst (HasMarks width bits n buckets q) (sym same) (subst (λ x. HasMarks width bits n buckets x page) (sym e) has)
+  go q l (inr e) =
+      let before : q < p = apart l e in
+      subst (HasMarks width bits n buckets q) (sym (get_or-set_other pages p q page [] e)) (so_far.done q before (omega arith)) where
+        apart : q < p + 1 → (q ≡ p → ⊥) → q < p
+        apart a b = omega arith
+
+pub pages-all : (width bits n m p : ℕ) (buckets : List Row) (old pages : List (List ℕ)) → length pages ≤ p → IsSummed width bits m buckets old → PagesDone width bits n p buckets old pages → IsSummed width bits n buckets pages
+pages-all width bits n m p buckets old pages le summed so_far = record {
+  few = let a = summed.few in let b = so_far.long in omega arith;
+  each = λ q h. so_far.done q (omega arith) h;
+}
+
+pub pages-push : (width bits n : ℕ) (buckets : List Row) (pages : List (List ℕ)) (page : List ℕ) → length pages < 2 ^ 26 → HasMarks width bits n buckets (length pages) page → IsSummed width bits n buckets pages
+    → IsSummed width bits n buckets (pages ++ page ∷ [])
+pages-push width bits n buckets pages page small has summed = record {
+  few = omega (arith, length_push pages page);
+  each = λ q h. go q h (cases_lt q (length pages));
+} where
+  go : (q : ℕ) → q < length (pages ++ page ∷ []) → (q < length pages) ⊎ (length pages ≤ q) → HasMarks width bits n buckets q (page_at (pages ++ page ∷ []) q)
+  go q h (inl l) = subst (HasMarks width bits n buckets q) (sym (get_or_append_left pages (page ∷ []) [] q l)) (summed.each q l)
+  go q h (inr l) =
+      let e : length pages ≡ q = omega (arith, length_push pages page) in
+      subst (HasMarks width bits n buckets q) (sym (get_or_push pages page [] q e)) (subst (λ x. HasMarks width bits n buckets x page) e has)
+
+-- a page that is read
+pub page-marks : (width bits n p : ℕ) (buckets : List Row) (pages : List (List ℕ)) (page : List ℕ) → IsSummed width bits n buckets pages → p < length pages → page ≡ get_or pages p [] → HasMarks width bits n buckets p page
+page-marks width bits n p buckets pages page summed h e = subst (HasMarks width bits n buckets p) (sym e) (summed.each p h)
+
+pub summed-none : (width bits n : ℕ) (buckets : List Row) (pages : List (List ℕ)) → pages ≡ [] → IsSummed width bits n buckets pages
+summed-none width bits n buckets pages e = record { few = let l = ap length e in omega arith; each = λ p h. absurd (omega (arith, ap length e)) }
+
+-- ---- a table that changes
+
+-- the marks of rules that stay
+pub summed-kept : (width bits n m : ℕ) (old new : List Row) (pages : List (List ℕ)) → m ≤ n → KeepsCells m old new → IsSummed width bits n old pages → IsSummed width bits m new pages
+summed-kept width bits n m old new pages le kept summed = record {
+  few = summed.few;
+  each = λ p h. one p (summed.each p h);
+} where
+  two : (a b c d : Bool) → a ≡ b → c ≡ d → (a && c) ≡ (b && d)
+  two a b c d x y = cc
+
+  one : (p : ℕ) → HasMarks width bits n old p (page_at pages p) → HasMarks width bits m new p (page_at pages p)
+  one p has = record {
+    long = has.long;
+    marks = λ j r h l e agree.
+        has.marks j r h (omega arith) e (sym (two _ _ _ _ (kept.cells (upper_place width j) r l) (kept.cells (lower_place width j) r l)) ∙ agree);
+  }
+
+cells-each : (n : ℕ) (old new : List Row) → length new ≡ length old → ((j i : ℕ) → j < length old → i < n → at (bucket_at new j).bits i ≡ at (bucket_at old j).bits i) → KeepsCells n old new
+cells-each n old new long same = record { cells = λ j i h. cell-is new j i ∙ go j i h (cases_lt j (length old)) ∙ sym (cell-is old j i) } where
+  go : (j i : ℕ) → i < n → (j < length old) ⊎ (length old ≤ j) → at (bucket_at new j).bits i ≡ at (bucket_at old j).bits i
+  go j i h (inl l) = same j i l h
+  go j i h (inr l) =
+      ap (λ (x : Row). at x.bits i) (get_or_past new j (record { bits = []; spare = 0 }) (omega arith))
+      ∙ sym (ap (λ (x : Row). at x.bits i) (get_or_past old j (record { bits = []; spare = 0 }) l))
+
+pub cells-grown : (n : ℕ) (old new : List Row) → Each IsGrown old new → KeepsCells n old new
+cells-grown n old new grown = cells-each n old new grown.long (λ j i l h. ap (λ xs. at xs i) (grown.at j l).bits)
+
+pub cells-raised : (width bits rules n : ℕ) (old new : List Row) → IsShaped width bits rules old → Each (IsRaised n) old new → KeepsCells rules old new
+cells-raised width bits rules n old new shape raised =
+    cells-each rules old new raised.long
+    (λ j i l h.
+    let long = All-bucket (λ (x : Row). length x.bits ≡ rules) old j shape.rows l in
+    ap (λ xs. at xs i) (raised.at j l).bits ∙ get_or_append_left (bucket_at old j).bits (replicate n false) false i (omega arith))
+
+pub cells-closed : (width bits rules first n : ℕ) (old new : List Row) → first + n ≤ rules → IsShaped width bits rules old → Each (IsClosedUp first n) old new → KeepsCells first old new
+cells-closed width bits rules first n old new fits shape closed =
+    cells-each first old new closed.long
+    (λ j i l h.
+    let long = All-bucket (λ (x : Row). length x.bits ≡ rules) old j shape.rows l in
+    let front : length (take first (bucket_at old j).bits) ≡ first = omega (arith, length-take first (bucket_at old j).bits) in
+    ap (λ xs. at xs i) (closed.at j l).bits
+    ∙ get_or_append_left (take first (bucket_at old j).bits) (drop (first + n) (bucket_at old j).bits) false i (omega (arith, front))
+    ∙ get_or-take first (bucket_at old j).bits i false h)
+
+-- ---- what is left out
+
+-- the two halves of a byte tell which rules agree with it
+pub agrees-at : (width bits rules g v r : ℕ) (buckets : List Row) (blocks : List Block) → IsWidth width bits → StandsFor width bits rules buckets blocks → g < bits / 8 → v < 2 ^ 8 → r < rules
+    → agrees_at width buckets (g * 2 ^ 8 + v) r ≡ agrees 8 bits (block_at blocks r) g v
+agrees-at width bits rules g v r buckets blocks w stands h k l = go (eight-or-four width bits w) where
+  same : (a : Bool) → (a && a) ≡ a
+  same true = refl
+  same false = refl
+
+  two : (a b c d : Bool) → a ≡ b → c ≡ d → (a && c) ≡ (b && d)
+  two a b c d x y = cc
+
+  e : (g * 2 ^ 8 + v) / 2 ^ 8 ≡ g
+  e = omega arith
+
+  f : (g * 2 ^ 8 + v) % 2 ^ 8 ≡ v
+  f = omega arith
+
+  wide : StandsFor 8 bits rules buckets blocks → agrees_at 8 buckets (g * 2 ^ 8 + v) r ≡ agrees 8 bits (block_at blocks r) g v
+  wide s = same (cell buckets (g * 2 ^ 8 + v) r) ∙ s.bucket g v r h k l
+
+  narrow : StandsFor 4 bits rules buckets blocks → agrees_at 4 buckets (g * 2 ^ 8 + v) r ≡ agrees 8 bits (block_at blocks r) g v
+  narrow s =
+      ap (λ x. cell buckets (2 * x * 2 ^ 4 + (g * 2 ^ 8 + v) % 2 ^ 8 / 2 ^ 4) r && cell buckets ((2 * x + 1) * 2 ^ 4 + (g * 2 ^ 8 + v) % 2 ^ 8 % 2 ^ 4) r) e
+      ∙ ap (λ x. cell buckets (2 * g * 2 ^ 4 + x / 2 ^ 4) r && cell buckets ((2 * g + 1) * 2 ^ 4 + x % 2 ^ 4) r) f
+      ∙ two _ _ _ _ (s.bucket (2 * g) (v / 2 ^ 4) r (omega (arith, w.bytes)) (omega arith) l) (s.bucket (2 * g + 1) (v % 2 ^ 4) r (omega (arith, w.bytes)) (omega arith) l)
+      ∙ sym (agrees-halves bits g (block_at blocks r) v (omega arith) k)
+
+  go : (width ≡ 8) ⊎ (width ≡ 4) → agrees_at width buckets (g * 2 ^ 8 + v) r ≡ agrees 8 bits (block_at blocks r) g v
+  go (inl same_width) =
+      ap (λ x. agrees_at x buckets (g * 2 ^ 8 + v) r) same_width ∙ wide (subst (λ x. StandsFor x bits rules buckets blocks) same_width stands)
+  go (inr same_width) =
+      ap (λ x. agrees_at x buckets (g * 2 ^ 8 + v) r) same_width ∙ narrow (subst (λ x. StandsFor x bits rules buckets blocks) same_width stands)
+
+every-weaker : (p q : ℕ → Bool) (n : ℕ) → ((g : ℕ) → g < n → p g ≡ true → q g ≡ true) → every p n ≡ true → every q n ≡ true
+every-weaker p q zero each h = refl
+every-weaker p q (suc n) each h =
+    let s = and_parts (every p n) (p n) h in
+    let a = every-weaker p q n (λ g l e. each g (omega arith) e) s.0 in
+    ap (λ t. t && q n) a ∙ each n (omega arith) s.1
+
+pub eight-groups : (width bits : ℕ) → IsWidth width bits → IsWidth 8 bits
+eight-groups width bits w = record { fours = refl; four = omega arith; eight = omega arith; bytes = w.bytes; some = w.some; most = w.most }
+
+-- a rule that holds the value is in a word that is marked for each of its bytes
+pub holds-marked : (width bits rules p value r : ℕ) (buckets : List Row) (page : List ℕ) (blocks : List Block) → IsWidth width bits → value < 2 ^ bits → StandsFor width bits rules buckets blocks
+    → HasMarks width bits rules buckets p page → r < rules → r / 4096 ≡ p → holds_value (block_at blocks r) value ≡ true → is_candidate bits page value (r / 64 % 64) ≡ true
+holds-marked width bits rules p value r buckets page blocks w small stands has h e holds =
+    let fits : IsWithin bits (block_at blocks r) = All-get_or (IsWithin bits) blocks r (record { base = 0; free_bits = 0 }) (let s = stands.one_each in omega arith) stands.within in
+    every-weaker (λ g. agrees 8 bits (block_at blocks r) g (group 8 bits g value)) (λ g. bit (slice_index page (g * 256 + group 8 bits g value)) (r / 64 % 64)) (bits / 8)
+    (λ g l agree.
+    let v = group-below 8 bits g value in
+    has.marks (g * 2 ^ 8 + group 8 bits g value) r (omega (arith, v)) h e (agrees-at width bits rules g (group 8 bits g value) r buckets blocks w stands l v h ∙ agree))
+    (groups-hold 8 bits (block_at blocks r) value (eight-groups width bits w) fits small ∙ holds)
+
+not-true : (b : Bool) → (b ≡ true → ⊥) → b ≡ false
+not-true true h = absurd (h refl)
+not-true false h = refl
+
+-- so one that isn't marked holds none
+pub leaves-none : (width bits rules p value r k candidates words marked : ℕ) (buckets : List Row) (page : List ℕ) (blocks : List Block) → IsWidth width bits → value < 2 ^ bits
+    → StandsFor width bits rules buckets blocks → HasMarks width bits rules buckets p page
+    → bit candidates k ≡ (bit words k && bit marked k) → bit words k ≡ nat_lt (64 * (64 * p + k)) rules → bit marked k ≡ is_candidate bits page value k
+    → k < 64 → bit candidates k ≡ false → r < rules → r / 64 ≡ 64 * p + k → holds_value (block_at blocks r) value ≡ false
+leaves-none width bits rules p value r k candidates words marked buckets page blocks w small stands has both all mark l unset h at_word = not-true _ no where
+  no : holds_value (block_at blocks r) value ≡ true → ⊥
+  no holds =
+      let here : r / 64 % 64 ≡ k = omega arith in
+      let page_of : r / 4096 ≡ p = omega arith in
+      let one : is_candidate bits page value k ≡ true = subst (λ x. is_candidate bits page value x ≡ true) here (holds-marked width bits rules p value r buckets page blocks w small stands has h page_of holds) in
+      let there : nat_lt (64 * (64 * p + k)) rules ≡ true = lt-ltb (64 * (64 * p + k)) rules (omega arith) in
+      let a : (bit words k && bit marked k) ≡ true = ap (λ t. t && bit marked k) (all ∙ there) ∙ mark ∙ one in
+      let b : false ≡ true = sym unset ∙ both ∙ a in
+      absurd (cc b)
+
+pub words-within : (rules p k words marked : ℕ) → bit words k ≡ nat_lt (64 * (64 * p + k)) rules → bit (bit_and words marked) k ≡ true → 64 * (64 * p + k) < rules
+words-within rules p k words marked all set = ltb-true (64 * (64 * p + k)) rules (sym all ∙ (and_parts (bit words k) (bit marked k) (sym (bit-and words marked k) ∙ set)).0)
+
+-- ---- rules that are added
+
+pub keeps-none : (pages : List (List ℕ)) → KeepsMarks pages pages
+keeps-none pages = record { long = refl; sizes = λ p. refl; marks = λ p j i h. h }
+
+pub keeps-both : (old pages new : List (List ℕ)) → KeepsMarks old pages → KeepsMarks pages new → KeepsMarks old new
+keeps-both old pages new first second = record {
+  long = second.long ∙ first.long;
+  sizes = λ p. second.sizes p ∙ first.sizes p;
+  marks = λ p j i h. second.marks p j i (first.marks p j i h);
+}
+
+pub no-page : (bits r : ℕ) (block : Block) (pages : List (List ℕ)) → length pages ≤ r / 4096 → IsRuleMarked bits block r pages
+no-page bits r block pages past = record { set = λ g v h k a inside. absurd (omega arith) }
+
+-- a page that is marked
+pub keeps-page : (bits k p : ℕ) (block : Block) (pages : List (List ℕ)) (page new : List ℕ) → p < length pages → page ≡ page_at pages p → IsBlockMarked bits block k page new → KeepsMarks pages (set pages p new)
+keeps-page bits k p block pages page new h e marked = record {
+  long = length-set pages p new;
+  sizes = λ q. sizes q (cases_eq q p);
+  marks = λ q j i m. marks q j i m (cases_eq q p);
+} where
+  sizes : (q : ℕ) → (q ≡ p) ⊎ (q ≡ p → ⊥) → length (page_at (set pages p new) q) ≡ length (page_at pages q)
+  sizes q (inl same) =
+      ap (λ x. length (page_at (set pages p new) x)) same ∙ ap length (get_or-set_same pages p new [] h) ∙ marked.kept.long ∙ ap length e ∙ ap (λ x. length (page_at pages x)) (sym same)
+  sizes q (inr differs) = ap length (get_or-set_other pages p q new [] differs)
+
+  marks : (q j i : ℕ) → bit (slice_index (page_at pages q) j) i ≡ true → (q ≡ p) ⊎ (q ≡ p → ⊥) → bit (slice_index (page_at (set pages p new) q) j) i ≡ true
+  marks q j i m (inl same) =
+      let there : page_at (set pages p new) q ≡ new = ap (page_at (set pages p new)) same ∙ get_or-set_same pages p new [] h in
+      let before : page_at pages q ≡ page = ap (page_at pages) same ∙ sym e in
+      ap (λ x. bit (slice_index x j) i) there ∙ marked.kept.marks j i (ap (λ x. bit (slice_index x j) i) (sym before) ∙ m)
+  marks q j i m (inr differs) = ap (λ x. bit (slice_index x j) i) (get_or-set_other pages p q new [] differs) ∙ m
+
+pub page-marked : (bits r p : ℕ) (block : Block) (pages : List (List ℕ)) (page new : List ℕ) → p ≡ r / 4096 → p < length pages → IsBlockMarked bits block (r / 64 % 64) page new → IsRuleMarked bits block r (set pages p new)
+page-marked bits r p block pages page new e h marked = record {
+  set = λ g v a b agree inside.
+      let there : page_at (set pages p new) (r / 4096) ≡ new = ap (page_at (set pages p new)) (sym e) ∙ get_or-set_same pages p new [] h in
+      ap (λ x. bit (slice_index x (g * 256 + v)) (r / 64 % 64)) there ∙ marked.set g v a b agree;
+}
+
+pub pages-page : (bits : ℕ) (old new : List (List ℕ)) → KeepsMarks old new → All (IsPage bits) old → All (IsPage bits) new
+pages-page bits old new kept all =
+    All-from_get_or (IsPage bits) new [] (λ p h. let l = kept.long in let was = All-get_or (IsPage bits) old p [] (omega arith) all in record { long = kept.sizes p ∙ was.long })
+
+pub rules-none : (bits first : ℕ) (blocks : List Block) (pages : List (List ℕ)) → AreRulesMarked bits first 0 blocks pages
+rules-none bits first blocks pages = record { each = λ i h. absurd (omega arith) }
+
+pub rules-more : (bits first n : ℕ) (d : Block) (blocks : List Block) (pages new : List (List ℕ)) → n < length blocks → KeepsMarks pages new → IsRuleMarked bits (get_or blocks n d) (first + n) new
+    → AreRulesMarked bits first n blocks pages → AreRulesMarked bits first (n + 1) blocks new
+rules-more bits first n d blocks pages new within kept marked so_far = record { each = λ i h. go i h (cases_eq i n) } where
+  same : get_or blocks n d ≡ block_at blocks n
+  same = get_or_default blocks n d (record { base = 0; free_bits = 0 }) within
+
+  go : (i : ℕ) → i < n + 1 → (i ≡ n) ⊎ (i ≡ n → ⊥) → IsRuleMarked bits (block_at blocks i) (first + i) new
+  go i h (inl e) = subst (λ x. IsRuleMarked bits (block_at blocks x) (first + x) new) (sym e) (subst (λ b. IsRuleMarked bits b (first + n) new) same marked)
+  go i h (inr e) = record {
+    set = λ g v a b agree inside. kept.marks ((first + i) / 4096) (g * 256 + v) ((first + i) / 64 % 64) ((so_far.each i (before h e)).set g v a b agree (let l = kept.long in omega arith));
+  } where
+    before : i < n + 1 → (i ≡ n → ⊥) → i < n
+    before a b = omega arith
+
+pub summed-pages : (width bits n : ℕ) (buckets : List Row) (pages : List (List ℕ)) → IsSummed width bits n buckets pages → All (IsPage bits) pages
+summed-pages width bits n buckets pages summed = All-from_get_or (IsPage bits) pages [] (λ p h. record { long = (summed.each p h).long })
+
+-- no rule of raised rows is set
+pub fresh-raised : (width bits rules n : ℕ) (old new : List Row) → IsShaped width bits rules old → Each (IsRaised n) old new → IsFresh rules new
+fresh-raised width bits rules n old new shape raised = record { cells = λ j i h. cell-is new j i ∙ go j i h (cases_lt j (length old)) } where
+  none : (i : ℕ) → (i < n) ⊎ (n ≤ i) → get_or (replicate n false) i false ≡ false
+  none i (inl h) = get_or-replicate n i false false h
+  none i (inr h) = get_or_past (replicate n false) i false (omega (arith, length-replicate n false))
+
+  go : (j i : ℕ) → rules ≤ i → (j < length old) ⊎ (length old ≤ j) → at (bucket_at new j).bits i ≡ false
+  go j i h (inl l) =
+      let long = All-bucket (λ (x : Row). length x.bits ≡ rules) old j shape.rows l in
+      ap (λ xs. at xs i) (raised.at j l).bits ∙ get_or-append_right (bucket_at old j).bits (replicate n false) rules i false long h ∙ none (i - rules) (cases_lt (i - rules) n)
+  go j i h (inr l) = let m = raised.long in ap (λ (x : Row). at x.bits i) (get_or_past new j (record { bits = []; spare = 0 }) (omega arith))
+
+-- a new rule that agrees with a line has a block that does
+new-agrees : (width bits first n j r : ℕ) (blocks : List Block) (new : List Row) → IsWidth width bits → HasOnly width bits first n blocks new → j < bits / 8 * 256 → first ≤ r → agrees_at width new j r ≡ true
+    → agrees 8 bits (block_at blocks (r - first)) (j / 2 ^ 8) (j % 2 ^ 8) ≡ true
+new-agrees width bits first n j r blocks new w only h low agree = go (eight-or-four width bits w) where
+  small : j % 2 ^ 8 < 2 ^ 8
+  small = omega arith
+
+  two : (a b : Bool) → a ≡ true → b ≡ true → (a && b) ≡ true
+  two a b x y = cc
+
+  wide : HasOnly 8 bits first n blocks new → agrees_at 8 new j r ≡ true → agrees 8 bits (block_at blocks (r - first)) (j / 2 ^ 8) (j % 2 ^ 8) ≡ true
+  wide o a =
+      let whole : j ≡ j / 2 ^ 8 * 2 ^ 8 + j % 2 ^ 8 = omega arith in
+      let set : cell new (j / 2 ^ 8 * 2 ^ 8 + j % 2 ^ 8) r ≡ true = ap (λ x. cell new x r) (sym whole) ∙ (and_parts (cell new j r) (cell new j r) a).0 in
+      o.agree (j / 2 ^ 8) (j % 2 ^ 8) r small low set
+
+  narrow : HasOnly 4 bits first n blocks new → agrees_at 4 new j r ≡ true → agrees 8 bits (block_at blocks (r - first)) (j / 2 ^ 8) (j % 2 ^ 8) ≡ true
+  narrow o a =
+      let parts = and_parts (cell new (upper_place 4 j) r) (cell new (lower_place 4 j) r) a in
+      agrees-halves bits (j / 2 ^ 8) (block_at blocks (r - first)) (j % 2 ^ 8) (omega (arith, w.bytes)) small
+      ∙ two _ _ (o.agree (2 * (j / 2 ^ 8)) (j % 2 ^ 8 / 2 ^ 4) r (omega arith) low parts.0) (o.agree (2 * (j / 2 ^ 8) + 1) (j % 2 ^ 8 % 2 ^ 4) r (omega arith) low parts.1)
+
+  go : (width ≡ 8) ⊎ (width ≡ 4) → agrees 8 bits (block_at blocks (r - first)) (j / 2 ^ 8) (j % 2 ^ 8) ≡ true
+  go (inl e) = wide (subst (λ x. HasOnly x bits first n blocks new) e only) (subst (λ x. agrees_at x new j r ≡ true) e agree)
+  go (inr e) = narrow (subst (λ x. HasOnly x bits first n blocks new) e only) (subst (λ x. agrees_at x new j r ≡ true) e agree)
+
+-- the summary with the rules that are added
+pub summed-added : (width bits first n : ℕ) (blocks : List Block) (old new : List Row) (pages marked : List (List ℕ)) → IsWidth width bits → IsSummed width bits first old pages → KeepsCells first old new
+    → HasOnly width bits first n blocks new → KeepsMarks pages marked → AreRulesMarked bits first n blocks marked → IsSummed width bits (first + n) new marked
+summed-added width bits first n blocks old new pages marked w summed cells only kept rules = record {
+  few = let l = kept.long in let f = summed.few in omega arith;
+  each = λ p h. let l = kept.long in one p h (summed.each p (omega arith));
+} where
+  two : (a b c d : Bool) → a ≡ b → c ≡ d → (a && c) ≡ (b && d)
+  two a b c d x y = cc
+
+  one : (p : ℕ) → p < length marked → HasMarks width bits first old p (page_at pages p) → HasMarks width bits (first + n) new p (page_at marked p)
+  one p h has = record { long = kept.sizes p ∙ has.long; marks = λ j r a b e agree. go j r a b e agree (cases_lt r first) } where
+    go : (j r : ℕ) → j < bits / 8 * 256 → r < first + n → r / 4096 ≡ p → agrees_at width new j r ≡ true → (r < first) ⊎ (first ≤ r) → bit (slice_index (page_at marked p) j) (r / 64 % 64) ≡ true
+    go j r a b e agree (inl l) =
+        kept.marks p j (r / 64 % 64) (has.marks j r a l e (sym (two _ _ _ _ (cells.cells (upper_place width j) r l) (cells.cells (lower_place width j) r l)) ∙ agree))
+    go j r a b e agree (inr l) =
+        let i : first + (r - first) ≡ r = omega arith in
+        let whole : j / 256 * 256 + j % 256 ≡ j = omega arith in
+        let inside : (first + (r - first)) / 4096 < length marked = rw (i, e) h in
+        let set = (rules.each (r - first) (omega arith)).set (j / 256) (j % 256) (omega arith) (omega arith) (new-agrees width bits first n j r blocks new w only a l agree) inside in
+        ap (λ x. bit (slice_index (page_at marked p) x) (r / 64 % 64)) (sym whole)
+        ∙ ap (λ x. bit (slice_index (page_at marked x) (j / 256 * 256 + j % 256)) (r / 64 % 64)) (sym e)
+        ∙ ap (λ x. bit (slice_index (page_at marked (x / 4096)) (j / 256 * 256 + j % 256)) (x / 64 % 64)) (sym i) ∙ set

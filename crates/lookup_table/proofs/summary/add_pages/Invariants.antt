@@ -1,0 +1,9 @@
+use Rattle.std.proofs.Common.{◌≡◌, ◌≤◌, length}
+use Rattle.lookup_table.specs.Summary.{IsSummed}
+use Rattle.lookup_table.proofs.summary.add_pages.Given as goal
+
+abbrev pub invariant-pages : goal.invariant-pages
+invariant-pages l = record {
+  long : length l.initial.pages.items ≤ l.n → length l.pages.items ≡ l.p;
+  summed : IsSummed l.width l.bits l.rules l.buckets l.pages.items;
+}

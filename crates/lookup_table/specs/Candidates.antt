@@ -1,0 +1,13 @@
+-- The words of rules that may have one which holds a value.
+use Rattle.std.specs.Prelude.{◌≡◌, ℕ, ◌+◌, ◌*◌, ◌/◌, ◌<◌, false, List}
+use Rattle.set_model.specs.declared.block.Block.{Block}
+use Rattle.set_model.specs.Blocks.{holds_value}
+use Rattle.bit_rows.specs.Row.{bit}
+use Rattle.lookup_table.specs.declared.table.FieldTable.{FieldTable}
+use Rattle.lookup_table.specs.Table.{block_at}
+use Rattle.lookup_table.specs.Rules.{Stands}
+
+-- A word of rules, of the 64 from word 64 * p on, that is no candidate has no rule which holds the value.
+abbrev pub LeavesNone : FieldTable → ℕ → ℕ → ℕ → Type 0
+LeavesNone t value p candidates = (blocks : List Block) → Stands t blocks
+    → (k r : ℕ) → k < 64 → bit candidates k ≡ false → r < t.rules → r / 64 ≡ 64 * p + k → holds_value (block_at blocks r) value ≡ false
