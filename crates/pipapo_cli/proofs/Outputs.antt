@@ -17,7 +17,8 @@ use Rattle.pipapo_cli.specs.declared.words.Command.TheVariants as asked
 use Rattle.pipapo_cli.specs.Words.{Command, run, list, dump, drill, IsCommand, IsRun, IsList, IsDump, IsDrill, IsScriptOf, AreThreads, file_names}
 use Rattle.pipapo_cli.specs.WordForms.{plain}
 use Rattle.pipapo_cli.specs.Transcript.{IsTranscript, IsTextOf}
-use Rattle.pipapo_cli.specs.Causes.{IsCause, of_script, of_keys, of_drill, IsKeysCause, IsReadable, IsSized, size_limit}
+use Rattle.pip_base.specs.Whole.{size_limit}
+use Rattle.pipapo_cli.specs.Causes.{IsCause, of_script, of_keys, of_drill, IsKeysCause, IsReadable, IsSized}
 use Rattle.pipapo_cli.specs.Names.{AreReadWhole, AsksInOrder, AsksForAll}
 use Rattle.pipapo_cli.specs.Answers.{HasOutput, AreReadable}
 use Rattle.pipapo_cli.proofs.Endings.{keys-cause}

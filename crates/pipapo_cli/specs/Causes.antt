@@ -10,13 +10,10 @@ use Rattle.set_script.specs.ScriptText.{IsScriptText}
 use Rattle.key_file.specs.Keys.{key_file}
 use Rattle.pip_base.specs.Causes.{Rose}
 use Rattle.pip_base.specs.Picks.{AsksOnce}
+use Rattle.pip_base.specs.Whole.{size_limit}
 use Rattle.pipapo_cli.specs.declared.fault.Fault.{Fault}
 use Rattle.pipapo_cli.specs.declared.fault.Fault.TheVariants.{Usage, BadScript, BadKeys, ReadFault, TooLarge, Memory}
 use Rattle.pipapo_cli.specs.Words.{Command, IsCommand, IsNoCommand, IsRun, IsDrill, IsScriptOf}
-
--- the most bytes that an input file may have
-abbrev pub size_limit : ℕ
-size_limit = 67108864
 
 -- The script of this name is within its size and in the grammar.
 abbrev pub IsReadable : List ℕ → (List ℕ → Option (List ℕ)) → Type 0

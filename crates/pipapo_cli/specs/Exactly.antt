@@ -10,8 +10,8 @@ use Rattle.set_model.specs.Text.{transcript_text}
 use Rattle.set_script.specs.ScriptText.{IsScriptText}
 use Rattle.key_file.specs.KeysText.{IsKeysText}
 use Rattle.script_run.specs.Listings.{listing_text, tables_text}
+use Rattle.pip_base.specs.Whole.{size_limit}
 use Rattle.pipapo_cli.specs.Words.{Command, IsCommand, IsNoCommand, IsRun, IsList, IsDump, IsDrill, IsScriptOf, file_names}
-use Rattle.pipapo_cli.specs.Causes.{size_limit}
 use Rattle.pipapo_cli.specs.Lines.{done_status}
 use Rattle.pipapo_cli.specs.Answers.{DeliversDrill}
 

@@ -3,6 +3,7 @@ ghost use Rattle.set_model.specs.Runnable.{IsRunnable, IsFitting};
 ghost use Rattle.set_script.specs.ScriptText.{IsScriptText};
 ghost use Rattle.key_file.specs.KeysText.{IsKeysText};
 ghost use Rattle.pip_base.specs.Picks.{AsksOnce, KeepsLeft, ReadsToEnd};
+ghost use Rattle.pip_base.specs.Whole.{size_limit};
 ghost use Rattle.pipapo_cli.specs.Causes.{IsScriptCause, IsKeysCause, ReadsAs};
 
 use crate::fault::Fault;
@@ -21,7 +22,7 @@ pub fn script_of<'a, F: Shelf>(
 ) -> Result<Script, Fault<'a>>
     requires { F.asked shelf.old ≡ [] }
     ensures runnable { IfOk result IsRunnable }
-    ensures read { IfOk result (λ s. (text : List ℕ) → F.told shelf.old name.now ≡ Some text → (length text ≤ 67108864) × IsScriptText text s) }
+    ensures read { IfOk result (λ s. (text : List ℕ) → F.told shelf.old name.now ≡ Some text → (length text ≤ size_limit) × IsScriptText text s) }
     ensures quiet { OnOk result ((F.asked shelf.new ≡ name.now ∷ []) × (F.faults shelf.new ≡ F.faults shelf.old)) }
     ensures whole { OnOk result (ReadsToEnd (F.is_picked shelf.old) (F.is_picked shelf.new) (F.left shelf.new)) }
     ensures once { AsksOnce (F.asked shelf.old) (F.asked shelf.new) name.now }
@@ -51,7 +52,7 @@ pub fn keys_of<'a, F: Shelf>(
 ) -> Result<Keys, Fault<'a>>
     requires { length (F.asked shelf.old) ≡ 1 }
     ensures fits { IfOk result (All (All (IsFitting schema.now))) }
-    ensures read { IfOk result (λ keys. (text : List ℕ) → F.told shelf.old name.now ≡ Some text → (length text ≤ 67108864) × IsKeysText schema.now text keys) }
+    ensures read { IfOk result (λ keys. (text : List ℕ) → F.told shelf.old name.now ≡ Some text → (length text ≤ size_limit) × IsKeysText schema.now text keys) }
     ensures quiet { OnOk result ((F.asked shelf.new ≡ F.asked shelf.old ++ name.now ∷ []) × (F.faults shelf.new ≡ F.faults shelf.old)) }
     ensures whole { OnOk result (ReadsToEnd (F.is_picked shelf.old) (F.is_picked shelf.new) (F.left shelf.new)) }
     ensures once { AsksOnce (F.asked shelf.old) (F.asked shelf.new) name.now }
