@@ -1,13 +1,14 @@
 //! The packets of a section, and how workers answer them: each draws batches until there are no more.
-ghost use Rattle.std.specs.Prelude.{◌≡◌, ◌+◌, ◌*◌, ◌/◌, ◌<◌, ◌≤◌, ◌^◌, ◌==◌, ℕ, cond, length, IfOk};
+ghost use Rattle.std.specs.Prelude.{◌≡◌, ◌+◌, ◌*◌, ◌/◌, ◌<◌, ◌≤◌, ◌^◌, ◌==◌, ◌∷◌, ◌++◌, [], ℕ, cond, length, vec_capacity, IfOk};
 ghost use Rattle.history_laws.specs.Histories.{StartsWith};
+ghost use Rattle.set_model.specs.declared.report.Line.{Line as PacketLine};
 ghost use Rattle.packet_pool.specs.Work.{AllFit, batches_of, IsLine, Told, Before, named, IsFresh, Serves, HasWorked};
 
 use crate::counter::{Counter, draw};
 use crate::gate::Gate;
 use crate::judge::Judge;
 use crate::worker::Worker;
-use gen_publish::{Held, Reader};
+use gen_publish::Reader;
 use set_model::{Line, Memory, Packets};
 
 /// How many packets a worker draws at once.
@@ -31,31 +32,38 @@ impl<J: Judge, G: Gate> Traffic<'_, J, G> {
         self.packets.len().div_ceil(BATCH)
     }
 
-    /// The line of a packet, by the generation that is held for it.
+    /// One packet, under an enter and a leave of its own. Its line is written before the leave: so nothing stands between
+    /// this leave and the next enter, whose words all threads share.
     #[inline]
-    fn answer(&self, held: &mut Held, thread: u32, place: u64) -> Line
+    fn answer(&self, reader: Reader, thread: u32, place: u64, lines: &mut Vec<Line>) -> Reader
         requires place { place < length self.now.packets.now }
-        requires schema { J.serves self.now.judge.now held.old.schema }
-        requires packets { AllFit held.old.schema self.now.packets.now }
-        ensures same { held.new ≡ held.old }
-        ensures line { IsLine (J.verdict self.now.judge.now) self.now.packets.now self.now.first thread (length held.old.seen) held.old.seen place result }
-        ensures newest { result.generation + 1 ≡ length held.old.seen }
+        requires schema { J.serves self.now.judge.now reader.schema }
+        requires packets { AllFit reader.schema self.now.packets.now }
+        requires room { length lines.old.items < vec_capacity lines.old }
+        ensures seen { StartsWith result.seen reader.seen }
+        ensures same { (result.of ≡ reader.of) × (result.schema ≡ reader.schema) × (result.reader ≡ reader.reader) }
+        ensures moves { result.moves ≡ reader.moves + 2 }
+        ensures line { (line : PacketLine) × (lines.new.items ≡ lines.old.items ++ line ∷ []) × IsLine (J.verdict self.now.judge.now) self.now.packets.now self.now.first thread (length result.seen) result.seen place line × (line.generation + 1 ≡ length result.seen) }
+        ensures room { vec_capacity lines.new ≡ vec_capacity lines.old }
     {
         let packet = self.packets.at(place);
         let number = self.first + place;
+        self.gate.before(thread, number);
+        let mut held = reader.enter();
         let generation = held.generation();
-        let verdict = self.judge.judge(held, packet);
-        Line {
+        let verdict = self.judge.judge(&mut held, packet);
+        lines.push_reserved(Line {
             packet: number,
             thread,
             generation,
             verdict,
-        }
+        });
+        let reader = held.leave();
+        self.gate.after(thread, number);
+        reader
     }
 
-    /// The packets of one batch, each under an enter and a leave of its own. Room for their lines is taken before the
-    /// first enter. A line is written before its leave: so nothing stands between this leave and the next enter, whose
-    /// words all threads share.
+    /// The packets of one batch. Room for their lines is taken before the first enter.
     fn answer_batch(
         &self,
         reader: Reader,
@@ -79,13 +87,7 @@ impl<J: Judge, G: Gate> Traffic<'_, J, G> {
         lines.reserve(BATCH as usize)?;
         let mut reader = reader;
         for place in start..end {
-            let number = self.first + place;
-            self.gate.before(thread, number);
-            let mut held = reader.enter();
-            let line = self.answer(&mut held, thread, place);
-            lines.push_reserved(line);
-            reader = held.leave();
-            self.gate.after(thread, number);
+            reader = self.answer(reader, thread, place, lines);
         }
         Ok(reader)
     }
