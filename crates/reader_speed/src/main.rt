@@ -1,9 +1,9 @@
 //! Measures readers and packet threads on a workload of `checks/workloads.py`. `checks/speed` calls it.
 //!
 //! ```text
-//! reader_speed readers N FILE    millions of lookups a second of 1, 2, 4 .. up to N readers, each in a thread of its own,
-//!                                while the control rests and while it commits as fast as it can, and the time of a commit
-//! reader_speed packets N FILE    millions of packets a second of a section of 1,000,000 packets on 1, 2, 4 .. up to N threads
+//! reader_speed readers N FILE    lookups a second of 1, 2, 4 .. up to N readers, each in a thread of its own, while the
+//!                                control rests and while it commits as fast as it can, and the time of a commit
+//! reader_speed packets N FILE    packets a second of a section of 1,000,000 packets on 1, 2, 4 .. up to N threads
 //! ```
 //!
 //! A reader enters once for all keys of the workload; a packet thread enters and leaves for each packet. Each number is the

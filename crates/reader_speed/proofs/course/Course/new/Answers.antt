@@ -1,4 +1,4 @@
-use Rattle.std.proofs.Common.{◌≡◌, ◌<◌, ◌≤◌, ◌∷◌, [], length, map, All, Some, ap, sym, ◌∙◌, subst}
+use Rattle.std.proofs.Common.{◌<◌, ◌≤◌, ◌∷◌, [], length, All, Some, ap, sym, ◌∙◌, subst}
 use lib.ListN.{length-map}
 use Rattle.set_model.specs.Control.{first_generation}
 use Rattle.set_model.specs.Runnable.{IsFitting}
