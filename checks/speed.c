@@ -13,6 +13,9 @@ extern uint64_t pipapo_run(const uint32_t *kinds, size_t kind_count, const uint6
 extern uint64_t pipapo_change(const uint32_t *kinds, size_t kind_count, const uint64_t *elements,
                               size_t element_words, uint32_t rounds, uint32_t change);
 
+extern uint64_t pipapo_disjoint(const uint32_t *kinds, size_t kind_count, const uint64_t *elements,
+                                size_t element_words, uint32_t count);
+
 /* ---- the textbook in C: one flat table a field, groups of eight bits or of four */
 
 struct block {
@@ -208,6 +211,31 @@ static void changes(const struct call *c) {
     printf(" delete_ms=%.3f purge_ms=%.3f\n", change_ms(c, DELETE) - copy, change_ms(c, PURGE) - copy);
 }
 
+/* ---- additions to a disjoint set */
+
+enum { KEPT_BACK = 1000 };
+
+static double timed_disjoint(const struct call *c, uint32_t count) {
+    const struct workload *w = c->w;
+    double start = seconds();
+    uint64_t left = pipapo_disjoint(w->kinds, w->fields, c->elements, w->element_count * w->fields * 4, count);
+    double time = seconds() - start;
+    if (!left) fail("want of memory");
+    return time;
+}
+
+/* The time of a call that adds nothing to the disjoint set is taken off. */
+static void disjoint(const struct call *c) {
+    double build = 1e9, with = 1e9;
+    for (int i = 0; i < 5; ++i) {
+        double time = timed_disjoint(c, 0);
+        if (time < build) build = time;
+        time = timed_disjoint(c, KEPT_BACK);
+        if (time < with) with = time;
+    }
+    printf("disjoint_inserts_per_s=%.0f\n", KEPT_BACK / (with - build));
+}
+
 /* One call builds the set and looks the keys up; the time of a call without lookups is taken off. */
 static void bench(struct call *c) {
     double build = 1e9, with = 1e9;
@@ -248,7 +276,7 @@ static void bench_plain(const struct workload *w) {
 
 int main(int argc, char **argv) {
     struct workload w = {0};
-    if (argc != 3) fail("usage: verdict FILE | bench FILE | textbook FILE | plain FILE | changes FILE");
+    if (argc != 3) fail("usage: verdict FILE | bench FILE | textbook FILE | plain FILE | changes FILE | disjoint FILE");
     read_workload(&w, argv[2]);
     struct call c = {.w = &w};
     c.elements = words_of(w.elements, w.element_count * w.fields * 2);
@@ -267,10 +295,12 @@ int main(int argc, char **argv) {
         bench(&c);
     } else if (!strcmp(argv[1], "changes")) {
         changes(&c);
+    } else if (!strcmp(argv[1], "disjoint")) {
+        disjoint(&c);
     } else if (!strcmp(argv[1], "plain")) {
         bench_plain(&w);
     } else {
-        fail("usage: verdict FILE | bench FILE | textbook FILE | plain FILE | changes FILE");
+        fail("usage: verdict FILE | bench FILE | textbook FILE | plain FILE | changes FILE | disjoint FILE");
     }
     return 0;
 }

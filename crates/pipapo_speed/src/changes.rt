@@ -29,6 +29,28 @@ pub(crate) fn run(
     Ok(full.change_copies(&parts, rounds, change)?)
 }
 
+/// How many elements of a workload are kept back, to be added to a disjoint set of the others.
+const KEPT_BACK: usize = 1_000;
+
+/// Builds a set of all elements but the last thousand, makes it disjoint, adds the first `count` of
+/// these, and gives how many elements it has then.
+pub(crate) fn run_disjoint(
+    alloc: Global,
+    kinds: &[u32],
+    elements: &[u64],
+    count: u32,
+) -> Result<u64, Fault> {
+    let fields = kinds.len();
+    let all = elements.len() / fields.saturating_mul(4).max(1);
+    let built = all.saturating_sub(KEPT_BACK);
+    let last = built.saturating_add(count as usize).min(all);
+    let mut full = Full::new(alloc, kinds)?;
+    full.fill(elements, fields, built)?;
+    full.set.disjoint = true;
+    full.add(elements, fields, built, last)?;
+    Ok(full.set.elements.len())
+}
+
 /// The element that is added, the last one, or deleted, one from the middle.
 fn place_of(count: usize, change: u32) -> usize {
     if change == 1 {
@@ -57,6 +79,21 @@ impl Full {
             let expiry = if e % 10 == 0 { Some(1) } else { None };
             let parts = parts_at(self.alloc, elements, fields, e)?;
             insert(self.alloc, &mut self.set, &parts, expiry, &mut self.scratch);
+        }
+        Ok(())
+    }
+
+    /// Adds the elements from number `from` up to `to` at moment 0.
+    fn add(
+        &mut self,
+        elements: &[u64],
+        fields: usize,
+        from: usize,
+        to: usize,
+    ) -> Result<(), Memory> {
+        for e in from..to {
+            let parts = parts_at(self.alloc, elements, fields, e)?;
+            insert(self.alloc, &mut self.set, &parts, None, &mut self.scratch);
         }
         Ok(())
     }
