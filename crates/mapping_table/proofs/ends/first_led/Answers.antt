@@ -14,9 +14,9 @@ returns-then-is_live c =
     let long = length-zip c.args.ends.now c.args.matched.now.bits in
     let inside : c.in-Some.r < length (zip c.args.ends.now c.args.matched.now.bits) = omega (arith, c.requires) in
     let first =
-      position-first (is_led c.args.now) (zip c.args.ends.now c.args.matched.now.bits) c.in-Some.r no_end inside
-      (skipped c.args.ends.now c.args.matched.now.bits c.args.now c.rules.from c.in-Some.r c.requires (omega arith) c.rules.invariant.none s.least)
-      (led-there c.args.ends.now c.args.matched.now.bits c.args.now c.in-Some.r true c.requires within s.set (sym c.is_live.ensures ∙ c.if-is_live.true)) in
+    position-first (is_led c.args.now) (zip c.args.ends.now c.args.matched.now.bits) c.in-Some.r no_end inside
+    (skipped c.args.ends.now c.args.matched.now.bits c.args.now c.rules.from c.in-Some.r c.requires (omega arith) c.rules.invariant.none s.least)
+    (led-there c.args.ends.now c.args.matched.now.bits c.args.now c.in-Some.r true c.requires within s.set (sym c.is_live.ensures ∙ c.if-is_live.true)) in
     search first
 
 pub overflow_add-from : goal.overflow_add-from
