@@ -17,4 +17,6 @@ mod random;
 #[cfg(test)]
 mod sets;
 #[cfg(test)]
+mod summaries;
+#[cfg(test)]
 mod widths;

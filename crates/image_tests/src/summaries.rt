@@ -1,0 +1,98 @@
+// Sets about as large as a step of their summary: a word of 64 rules, a step of room, a page of words.
+// Copies of them live on beside each other.
+use crate::examples::{adds, finds};
+use crate::sets::Trial;
+use pipapo_image::Added;
+use set_model::{Interval, Kind};
+use std::alloc::Global;
+use std::mem::swap;
+use std::process::Abort;
+use std::test::Fail;
+
+/// A moment at which elements with an expiry are expired.
+const LATER: u64 = 2_000;
+
+/// An address for each number, far from those of the numbers before and behind it.
+fn address(n: u64) -> u128 {
+    (n.wrapping_mul(0x9E37_79B1) % 0x1_0000_0000) as u128
+}
+
+/// The addresses of every third number expire.
+fn expiry(n: u64) -> Option<u64> {
+    if n % 3 == 0 { Some(1_000) } else { None }
+}
+
+/// Adds the addresses of these numbers.
+fn add_addresses(rt: &impl Abort, trial: &mut Trial, from: u64, to: u64) {
+    for n in from..to {
+        let added = Ok(Added::New { id: n });
+        adds(rt, trial, address(n), address(n), expiry(n), added);
+    }
+}
+
+/// Looks up the addresses of these numbers, but for one that was taken out.
+fn find_addresses(rt: &impl Abort, trial: &mut Trial, n: u64, gone: Option<u64>) {
+    for i in 0..n {
+        let id = if Some(i) == gone { None } else { Some(i) };
+        finds(rt, trial, address(i), 0, id);
+    }
+    finds(rt, trial, address(n), 0, None);
+}
+
+/// Takes the address of a number out.
+fn delete_address(rt: &impl Abort, trial: &mut Trial, n: u64) {
+    let low = address(n);
+    let gone = trial.delete(&[Interval { low, high: low }], 0);
+    assert!(rt; gone == Ok(n));
+}
+
+/// Takes the expired addresses out, and looks up all.
+fn purge_addresses(rt: &impl Abort, trial: &mut Trial, n: u64) {
+    let gone = trial.set.purge(trial.alloc, LATER);
+    assert!(rt; gone == Ok(n.div_ceil(3)));
+    for i in 0..n {
+        let id = if expiry(i).is_some() { None } else { Some(i) };
+        finds(rt, trial, address(i), LATER, id);
+    }
+}
+
+/// Adds `n` addresses, copies the set, and takes one of them out of the copy and the expired ones out of
+/// the set. The set as it was before the last address lives on.
+fn check(rt: &impl Abort, trial: &mut Trial, n: u64) -> Result<(), Fail> {
+    let last = n.saturating_sub(1);
+    add_addresses(rt, trial, 0, last);
+    let mut before = trial.set.copy(trial.alloc)?;
+    add_addresses(rt, trial, last, n);
+    find_addresses(rt, trial, n, None);
+    let mut other = trial.set.copy(trial.alloc)?;
+    purge_addresses(rt, trial, n);
+    swap(&mut trial.set, &mut other);
+    delete_address(rt, trial, n / 2);
+    find_addresses(rt, trial, n, Some(n / 2));
+    swap(&mut trial.set, &mut before);
+    find_addresses(rt, trial, last, None);
+    Ok(())
+}
+
+fn check_sizes(rt: &impl Abort, alloc: Global, kind: Kind, sizes: &[u64]) -> Result<(), Fail> {
+    for n in sizes {
+        let mut trial = Trial::new(rt, alloc, &[kind], None)?;
+        check(rt, &mut trial, *n)?;
+    }
+    Ok(())
+}
+
+#[test]
+fn steps_of_words(rt: HostRuntime) -> Result<(), Fail> {
+    check_sizes(
+        &rt,
+        rt.alloc(),
+        Kind::Ipv4,
+        &[64, 65, 66, 511, 512, 513, 1_024],
+    )
+}
+
+#[test]
+fn steps_of_pages(rt: HostRuntime) -> Result<(), Fail> {
+    check_sizes(&rt, rt.alloc(), Kind::Mark, &[4_096, 4_097])
+}
