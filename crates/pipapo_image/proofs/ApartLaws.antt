@@ -1,5 +1,5 @@
 -- How changes keep the live elements of a disjoint set apart.
-use Rattle.std.proofs.Common.{◌≡◌, refl, sym, ◌∙◌, ap, subst, ℕ, zero, suc, ◌+◌, ◌<◌, ◌≤◌, Bool, true, false, ◌&&◌, nat_lt, List, [], ◌∷◌, ◌++◌, length, cond, get_or, Option, Some, None, arith, inl, inr}
+use Rattle.std.proofs.Common.{◌≡◌, refl, sym, ◌∙◌, ap, subst, ℕ, zero, suc, ◌≤◌, Bool, true, false, ◌&&◌, nat_lt, List, [], ◌∷◌, ◌++◌, cond, Option, Some, None, arith, inl, inr}
 use Rattle.std.specs.Prelude.{◌⊎◌, not, filter, find, position, remove, slice_get, option_map, if◌then◌else◌}
 use Rattle.std.specs.Option.{option_or}
 use Rattle.std.specs.List.{list_all}
@@ -14,8 +14,8 @@ use Rattle.set_model.specs.declared.report.Why.{Why}
 use Rattle.set_model.specs.declared.report.Why.TheVariants.{Overlap, Full, RulesFull}
 use Rattle.set_model.specs.Key.{start_key, end_key, parts_share}
 use Rattle.set_model.specs.Expiry.{lives, live, renewed_element, renewed_at}
-use Rattle.set_model.specs.SetState.{State, shares, answers, holds, first, first_sharing, place, in_the_way, refusal, is_full, crowded_field, twin, with_element, renewed, add, add_by, add_again, add_new, is_exactly, without, removed, purged, cleared}
-use Rattle.set_model.specs.Apart.{none_share, is_apart, IsApart}
+use Rattle.set_model.specs.SetState.{State, shares, answers, holds, first, first_sharing, place, in_the_way, refusal, is_full, crowded_field, twin, with_element, renewed, add, add_by, add_again, add_new, is_exactly, without, removed, purged}
+use Rattle.set_model.specs.Apart.{none_share, IsApart}
 use Rattle.pipapo_image.specs.Apart.{KeepsApart}
 
 -- ---- fewer elements

@@ -1,7 +1,6 @@
-use Rattle.std.proofs.Common.{rules, arith, ◌≡◌, ◌+◌, ◌++◌, ◌∷◌, [], length, sym, ap, ◌∙◌, subst}
+use Rattle.std.proofs.Common.{rules, arith, ◌≡◌, ◌++◌, ◌∷◌, [], sym, ap, ◌∙◌, subst}
 use Rattle.std.specs.Arc.{arc_value}
 use Rattle.history_laws.specs.States.{AllShow}
-use Rattle.set_model.specs.Control.{expired_count}
 use Rattle.set_space.specs.Open.{opened, sealed}
 use Rattle.gen_publish.specs.Publish.{IsSteered, after_commit}
 use Rattle.gen_publish.proofs.Growing.{shown_follows, next_long, steered_next}

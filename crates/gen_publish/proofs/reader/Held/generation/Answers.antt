@@ -1,5 +1,4 @@
-use Rattle.std.proofs.Common.{arith, ◌≡◌, ◌+◌, length}
-use Rattle.std.specs.Arc.{arc_value}
+use Rattle.std.proofs.Common.{arith}
 use Rattle.gen_publish.proofs.Growing.{seen_last}
 use Rattle.gen_publish.proofs.reader.Held.generation.Goals as goal
 

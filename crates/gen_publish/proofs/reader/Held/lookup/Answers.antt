@@ -1,6 +1,5 @@
 use Rattle.std.proofs.Common.{rules, arith, ◌≡◌, ◌<◌, length, sym, ap, subst, slice_get, Some}
 use Rattle.std.specs.Arc.{arc_value}
-use Rattle.set_model.specs.SetState.{State}
 use Rattle.set_model.specs.Runnable.{IsFitting}
 use Rattle.gen_publish.proofs.KindLaws.{seen_fits}
 use Rattle.gen_publish.proofs.reader.Held.lookup.Goals as goal
