@@ -17,10 +17,6 @@ if [ "$("$program" list "$folder/printed.nft")" != "$(cat "$folder/listing.nft")
     cat "$folder/printed.nft"
     bad=1
 fi
-# the flag disjoint is no word of nft, which takes nothing of a file that has it
-printf 'add table ip t\nadd set ip t p { type inet_service ; flags interval,disjoint ; }\n' >"$folder/disjoint.nft"
-if [ -n "$(unshare -rn sh -c "nft -f '$folder/disjoint.nft' 2>/dev/null; nft list ruleset")" ]; then
-    echo "nft takes a file with the flag disjoint"
-    bad=1
-fi
+# what each of both takes of the other's words
+unshare -rn python3 checks/nft_words.py "$program" || bad=1
 exit $bad
