@@ -1,0 +1,75 @@
+"""Cuts and flips bits of all listings and examples, and looks at what the program says of them: words PROGRAM.
+
+A text that was cut or flipped is read or refused, and nothing else comes of it: the status is one of 0, 1 and that of a
+refused text, a refusal is its one line with one of the known reasons and a line that the text has, and nothing stands on
+the standard error. What is drawn is the same each time.
+"""
+import glob
+import os
+import random
+import re
+import subprocess
+import sys
+import tempfile
+
+CUTS, FLIPS = 12, 24
+REASONS = "character|end|left out|type|value|time|moment|set|number|statement"
+
+
+def mutants(rng, text):
+    """The text cut at some places, and with some bits flipped."""
+    for _ in range(CUTS):
+        yield text[: rng.randrange(len(text) + 1)]
+    for _ in range(FLIPS):
+        flipped = bytearray(text)
+        for _ in range(rng.choice([1, 1, 2])):
+            flipped[rng.randrange(len(text))] ^= 1 << rng.randrange(8)
+        yield bytes(flipped)
+
+
+def complaint(run, text, what, refused):
+    """What is wrong with a run of the program, or none."""
+    if run.stderr:
+        return f"something on the standard error: {run.stderr[:200]!r}"
+    if run.returncode in (0, 1):
+        return None
+    if run.returncode != refused:
+        return f"status {run.returncode}"
+    line = re.fullmatch(rf"pipapo: {what} line ([1-9][0-9]*): (?:{REASONS})\n", run.stdout.decode(errors="replace"))
+    if not line:
+        return f"status {refused} with {run.stdout[:200]!r}"
+    if int(line.group(1)) > text.count(b"\n") + 1:
+        return f"a line that isn't there: {line.group(1)}"
+    return None
+
+
+def texts():
+    """Each text with the words before its own name, what a refusal calls it, and the refusal's status."""
+    for name in sorted(glob.glob("checks/listings/*.nft") + glob.glob("examples/*/*.nft")):
+        yield name, ["list"], "script", 3
+    for name in sorted(glob.glob("examples/*/*.keys")):
+        yield name, ["run", glob.glob(f"{os.path.dirname(name)}/*.nft")[0]], "keys", 4
+
+
+def main():
+    program, rng, counts, bad = sys.argv[1], random.Random(2026), {}, 0
+    with tempfile.TemporaryDirectory() as folder:
+        path = f"{folder}/text"
+        for name, words, what, refused in texts():
+            with open(name, "rb") as file:
+                whole = file.read()
+            for text in mutants(rng, whole):
+                with open(path, "wb") as file:
+                    file.write(text)
+                run = subprocess.run([program, *words, path], capture_output=True)
+                counts[run.returncode] = counts.get(run.returncode, 0) + 1
+                wrong = complaint(run, text, what, refused)
+                if wrong:
+                    bad += 1
+                    print(f"{name}, cut or flipped: {wrong}")
+    told = ", ".join(f"{counts[status]} with status {status}" for status in sorted(counts))
+    print(f"{sum(counts.values())} texts that were cut or flipped: {told}")
+    sys.exit(1 if bad or len(counts) < 3 else 0)
+
+
+main()
