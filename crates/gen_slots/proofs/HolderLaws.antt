@@ -1,5 +1,6 @@
 -- Counts modulo 2 ^ 56, and how many readers hold a slot.
-use Rattle.std.proofs.Common.{◌≡◌, ◌↔◌, ℕ, ◌+◌, ◌<◌, ◌≤◌, ◌∙◌, ap, cond, Bool, true, refl, arith, eq-eqb, slice_index, Option, Some, None}
+use Rattle.std.proofs.Common.{◌≡◌, ◌↔◌, ℕ, ◌+◌, ◌<◌, ◌≤◌, ◌∙◌, ap, cond, Bool, true, refl, sym, arith, eq-eqb, get_or, length, slice_index, Option, Some, None}
+use Rattle.std.proofs.lemmas.List.{get_or_read_under}
 use Rattle.std.proofs.lemmas.List.Sums.{count_by-le-length, get_or-le-sum_by}
 use Rattle.std.proofs.lemmas.Grind.{common_steps}
 use Rattle.gen_slots.specs.declared.machine.Standing.TheVariants.{Retired}
@@ -32,3 +33,8 @@ pub holders-held : (m : Machine) (r s : ℕ) → Kept m → r < m.readers → ho
 holders-held m r s k below held = let wide = k.wide.3 in
     let counts = get_or-le-sum_by (λ (o : Option ℕ). cond {A = ℕ} (is_slot s o) 1 0) m.held r None (omega arith) in
     let one : ◌≡◌ {A = ℕ} (cond {A = ℕ} (is_slot s (holder m r)) 1 0) 1 = ap (λ (o : Option ℕ). cond {A = ℕ} (is_slot s o) 1 0) held ∙ ap (λ (b : Bool). cond {A = ℕ} b 1 0) (eq-eqb s s refl) in omega (arith, counts, one)
+
+-- what was read of both counts of a slot is equal, so the counts are
+pub counts_agree : (m : Machine) (s a b : ℕ) → length m.done ≡ m.readers + 2 → length m.entered ≡ m.readers + 2 → s < m.readers + 2 → a ≡ get_or m.done s a → b ≡ get_or m.entered s b → a ≡ b → slice_index m.done s ≡ slice_index m.entered s
+counts_agree m s a b done entered low is_a is_b same =
+    sym (get_or_read_under m.done s (length m.done) a 0 is_a (omega (arith, done, low)) refl) ∙ (same ∙ get_or_read_under m.entered s (length m.entered) b 0 is_b (omega (arith, entered, low)) refl)

@@ -135,7 +135,7 @@ module _ {T X : Type 0} (state : T → X) (follows : X → X → Type 0) (start 
       → Plays state (record p { given = given }) made n writer (put stage m 1) (put owner m new) j seen role
   others p made n writer stage owner m given new j seen fresh other Idle k = tt
   others p made n writer stage owner m given new j seen fresh other (Out r) k = let apart : r ≢ m = (λ z. let a = ap stage z in let b = k.1 in omega arith) in (k.0, put_else stage m 1 r apart ∙ k.1, put_else owner m new r apart ∙ k.2)
-  others p made n writer stage owner m given new j seen fresh other (Holds r c) k = let apart : r ≢ m = (λ z. let a = ap stage z in let b = k.1 in omega arith) in (k.0, put_else stage m 1 r apart ∙ k.1, put_else owner m new r apart ∙ k.2, k.3)
+  others p made n writer stage owner m given new j seen fresh other (Holds r c) k = let apart : r ≢ m = (λ z. let a = ap stage z in let b = k.1 in omega arith) in (k.0, put_else stage m 1 r apart ∙ k.1, put_else owner m new r apart ∙ k.2, k.3, k.4)
   others p made n writer stage owner m given new j seen fresh other (Keeper q) k = absurd (other k.1)
 
   pub deals : (id : ℕ) (v : SeatView X) (p₀ : Plan X) → v.role ≡ Keeper p₀ → p₀.given < p₀.readers → Splits Rule id v (seat_view (given_one v.role) v.seen v.told v.moves) (seat_view (next_reader v.role) v.seen [] 0)

@@ -56,7 +56,7 @@ module _ {T X : Type 0} (state : T → X) (follows : X → X → Type 0) (start 
       go : (role : Role X) → Plays state p made n writer stage owner j seen role → Plays state p made n writer (put stage q t) owner j seen role
       go Idle k = tt
       go (Out r) k = (k.0, put_else stage q t r (apart r k.2) ∙ k.1, k.2)
-      go (Holds r i) k = (k.0, put_else stage q t r (apart r k.2) ∙ k.1, k.2, k.3)
+      go (Holds r i) k = (k.0, put_else stage q t r (apart r k.2) ∙ k.1, k.2, k.3, k.4)
       go (Keeper x) k = k
 
   -- a step of the reader r, to the stage t, which sets the word i to x and makes one addition
@@ -119,7 +119,7 @@ module _ {T X : Type 0} (state : T → X) (follows : X → X → Type 0) (start 
             })
             refl
             (let c = inside_more k.n k.stage r (q + 2) below (omega arith) (omega arith) in omega (arith, c))
-            (([], sym (append-nil k.made)), (k.each_seat id me.0 at).1, (below, put_here k.stage r (q + 2), known.2, top)),
+            (([], sym (append-nil k.made)), (k.each_seat id me.0 at).1, (below, put_here k.stage r (q + 2), known.2, (λ _. refl), top)),
         λ j is'. let same : r ≡ j = ap (reader_or 0) (sym is ∙ is') in (
           omega arith,
           (λ i. Holds (same i) (sym names i)),
@@ -135,7 +135,7 @@ module _ {T X : Type 0} (state : T → X) (follows : X → X → Type 0) (start 
   leaves slots id me r c v is carried shows s k deep at fits = let known = plays s k id me.0 (Holds r c) at is in let below = known.0 in let was = known.1 in let p : Plan X = k.plan in let few = k.few.1 in let wide = k.wide in let deep' = k.deep in
       let top = k.inside r in let in_range : c < k.n + 2 = omega arith in let used = k.in_use r c below was in let ok = k.each_slot c in_range in let e : ℕ = get_or s.words (1 + c) 0 in let done = ok.done in
       let y : ℕ = (e + 256) % 18446744073709551616 in let homes' : Homes = set s.homes (32 * r + c) (some (Some v)) in let w : SeatView X = seat_view (Out r) me.0.seen me.0.told (me.0.moves + 1) in let leaves' : ℕ → ℕ = put k.leaves c (k.leaves c + 1) in
-      let same_value = one_last me.0.seen known.3.0 (state v) known.3.2 shows in let less = count_less k.n k.stage r 1 (c + 2) below was (λ z. omega arith) in
+      let same_value = one_last me.0.seen known.4.0 (state v) known.4.2 shows in let less = count_less k.n k.stage r 1 (c + 2) below was (λ z. omega arith) in
       let zero_stays = get_or-set_other s.words (1 + c) 0 y 0 (λ z. omega arith) in let now = get_or-set_same s.words (1 + c) y 0 (omega arith) in let one_left = put_here k.leaves c (k.leaves c + 1) in (
         w,
         gives,
@@ -152,7 +152,7 @@ module _ {T X : Type 0} (state : T → X) (follows : X → X → Type 0) (start 
                   (λ mine. (
                     v,
                     subst (λ (b : ℕ). get_elem? homes' (32 * b + c) ≡ some (some (Some v))) (sym mine) (set_here s.homes (32 * r + c) (some (Some v)) (omega arith)),
-                    sym same_value ∙ some-injective known.3.0 x (sym known.3.1 ∙ at_x),
+                    sym same_value ∙ some-injective known.4.0 x (sym known.4.1 ∙ at_x),
                   ))
                   (λ apart. let there = ok.home a i low (λ z. away (put_else k.stage r 1 i apart ∙ z)) x at_x in
                   (there.0, set_else s.homes (32 * r + c) (32 * i + c) (some (Some v)) (λ z. apart (omega arith)) ∙ there.1, there.2));

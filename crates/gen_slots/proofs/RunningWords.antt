@@ -30,7 +30,8 @@ module _ {T X : Type 0} (state : T → X) (follows : X → X → Type 0) where
   holds_safely start s k = record {
     not_free = λ j r c d at is. let known = plays state follows start s k j d (Holds r c) at is in k.in_use r c known.0 known.1;
     same_state = λ j r c d x at is at_x. let known = plays state follows start s k j d (Holds r c) at is in
-        (subst (EndsWith d.seen) (some-injective known.3.0 x (sym known.3.1 ∙ at_x)) known.3.2, (k.each_seat j d at).0);
+        (subst (EndsWith d.seen) (some-injective known.4.0 x (sym known.4.1 ∙ at_x)) known.4.2, (k.each_seat j d at).0);
+    newest = λ i j r d e p at_i at_j is_d is_e. (plays state follows start s k i d (Holds r k.plan.published) at_i is_d).3 (λ _. k.plan.published) ∙ sym (plays state follows start s k j e (Keeper p) at_j is_e).2;
     at_home = λ c q x l used below away at_x. (k.each_slot c l).home used q below away x at_x;
   }
 

@@ -51,11 +51,11 @@ module _ {T X : Type 0} (state : T → X) (follows : X → X → Type 0) (start 
 
   -- the plan changes, and the list grows
   others_plan : (p p' : Plan X) (made made' : List X) (n writer : ℕ) (stage owner : ℕ → ℕ) (j : ℕ) (seen : List X) → j ≢ writer
-      → ((r c : ℕ) → r < n → stage r ≡ c + 2 → get_elem? p'.states c ≡ get_elem? p.states c) → (role : Role X) → Plays state p made n writer stage owner j seen role → Plays state p' made' n writer stage owner j seen role
-  others_plan p p' made made' n writer stage owner j seen other same Idle k = tt
-  others_plan p p' made made' n writer stage owner j seen other same (Out r) k = k
-  others_plan p p' made made' n writer stage owner j seen other same (Holds r c) k = (k.0, k.1, k.2, (k.3.0, same r c k.0 k.1 ∙ k.3.1, k.3.2))
-  others_plan p p' made made' n writer stage owner j seen other same (Keeper q) k = absurd (other k.1)
+      → ((r c : ℕ) → r < n → stage r ≡ c + 2 → get_elem? p'.states c ≡ get_elem? p.states c) → ((r c : ℕ) → r < n → stage r ≡ c + 2 → (c ≡ p.published → seen ≡ made) → c ≡ p'.published → seen ≡ made') → (role : Role X) → Plays state p made n writer stage owner j seen role → Plays state p' made' n writer stage owner j seen role
+  others_plan p p' made made' n writer stage owner j seen other same last Idle k = tt
+  others_plan p p' made made' n writer stage owner j seen other same last (Out r) k = k
+  others_plan p p' made made' n writer stage owner j seen other same last (Holds r c) k = (k.0, k.1, k.2, last r c k.0 k.1 k.3, (k.4.0, same r c k.0 k.1 ∙ k.4.1, k.4.2))
+  others_plan p p' made made' n writer stage owner j seen other same last (Keeper q) k = absurd (other k.1)
 
   plans : (m m' : M) (p p' : Plan X) (next : Plan X → Plan X → Type 0) → m.0.role ≡ Keeper p → m'.0.role ≡ Keeper p' → next p p' → Plans m m' next
   plans m m' p p' next is now h q is' = (p', now, subst (λ (z : Plan X). next z p') (ap (plan_or p) (sym is ∙ is')) h)
@@ -115,7 +115,7 @@ module _ {T X : Type 0} (state : T → X) (follows : X → X → Type 0) (start 
             let b = sum_below-set (k.n + 2) p.tried c 0 l (omega arith) in let f = k.few_fail in omega (arith, a, b, f);
         moved = let total = sum_by-view_set moves_of s.views id d (seat_view (Keeper p') d.seen d.told d.moves) at in let was = k.moved in omega (arith, total, was);
         each_seat = views_stay (λ (j : ℕ) (e : SeatView X). StartsWith k.made e.seen × StartsWith k.made e.told × Plays state p' k.made k.n k.writer k.stage k.owner j e.seen e.role) s.views id (seat_view (Keeper p') d.seen d.told d.moves)
-            (mine.0, mine.1, (refl, knew.1, knew.2)) (λ j e other at_j. let h = k.each_seat j e at_j in (h.0, h.1, others_plan p p' k.made k.made k.n k.writer k.stage k.owner j e.seen (λ z. other (z ∙ sym knew.1)) (λ _ _ _ _. refl) e.role h.2));
+            (mine.0, mine.1, (refl, knew.1, knew.2)) (λ j e other at_j. let h = k.each_seat j e at_j in (h.0, h.1, others_plan p p' k.made k.made k.n k.writer k.stage k.owner j e.seen (λ z. other (z ∙ sym knew.1)) (λ _ _ _ _. refl) (λ _ _ _ _ whole. whole) e.role h.2));
       }
 
   tries_slot : (s : St) (k : Rule s) (id c : ℕ) (d : SeatView X) → get_elem? s.views id ≡ some d → d.role ≡ Keeper k.plan → c < k.n + 2 → get_or k.plan.standing c 0 ≡ 1 → 0 < count_at k.n k.stage (c + 2)
@@ -155,7 +155,7 @@ module _ {T X : Type 0} (state : T → X) (follows : X → X → Type 0) (start 
           few_fail = fails;
           moved = let total = sum_by-view_set moves_of s.views id d (seat_view (Keeper p') d.seen d.told d.moves) at in let was = k.moved in omega (arith, total, was);
           each_seat = views_stay (λ (j : ℕ) (e : SeatView X). StartsWith k.made e.seen × StartsWith k.made e.told × Plays state p' k.made k.n k.writer k.stage k.owner j e.seen e.role) s.views id (seat_view (Keeper p') d.seen d.told d.moves)
-              (mine.0, mine.1, (refl, knew.1, knew.2)) (λ j e other at_j. let h = k.each_seat j e at_j in (h.0, h.1, others_plan p p' k.made k.made k.n k.writer k.stage k.owner j e.seen (λ z. other (z ∙ sym knew.1)) (λ _ _ _ _. refl) e.role h.2));
+              (mine.0, mine.1, (refl, knew.1, knew.2)) (λ j e other at_j. let h = k.each_seat j e at_j in (h.0, h.1, others_plan p p' k.made k.made k.n k.writer k.stage k.owner j e.seen (λ z. other (z ∙ sym knew.1)) (λ _ _ _ _. refl) (λ _ _ _ _ whole. whole) e.role h.2));
         },
         omega (arith, fails),
       )
@@ -275,7 +275,8 @@ module _ {T X : Type 0} (state : T → X) (follows : X → X → Type 0) (start 
               starts_more k.made f.seen (x ∷ []) h.0,
               starts_more k.made f.told (x ∷ []) h.1,
               others_plan p p' k.made made' k.n k.writer k.stage k.owner j f.seen (λ z. other (z ∙ sym knew.1))
-                  (λ r i below z. set_else p.states c i x (λ same. count_none k.n k.stage (c + 2) r none_there below (z ∙ ap (λ (b : ℕ). b + 2) same))) f.role h.2,
+                  (λ r i below z. set_else p.states c i x (λ same. count_none k.n k.stage (c + 2) r none_there below (z ∙ ap (λ (b : ℕ). b + 2) same)))
+                  (λ r i below z _ same. absurd (count_none k.n k.stage (c + 2) r none_there below (z ∙ ap (λ (b : ℕ). b + 2) same))) f.role h.2,
             ));
       }
 

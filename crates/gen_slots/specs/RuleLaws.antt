@@ -24,10 +24,11 @@ pub record IsCounted {T X : Type 0} (state : T → X) (follows : X → X → Typ
   pub done : (c : ℕ) → c < k.n + 2 → slice_index s.words (1 + c) ≡ (256 * (start + k.leaves c)) % 2 ^ 64
   pub moved : sum_by moves_of s.views ≡ 2 * sum_below (k.n + 2) k.leaves + count_inside k.n k.stage
 
--- A slot that a reader holds is not free, its state ends the reader's list, which begins what was published, and the berths of the other readers keep that state
+-- A slot that a reader holds is not free, its state ends the reader's list, which begins what was published, and the berths of the other readers keep that state. A reader that holds the published slot has the writer's list: so has each reader right after its enter
 pub record IsHeldSafely {T X : Type 0} (state : T → X) (follows : X → X → Type 0) (start : ℕ) (s : State (Option T) (SeatView X)) (k : Kept state follows start s) : Type 0 where
   pub not_free : (j r c : ℕ) (d : SeatView X) → get_elem? s.views j ≡ some d → d.role ≡ Holds r c → 0 < slice_index k.plan.standing c
   pub same_state : (j r c : ℕ) (d : SeatView X) (x : X) → get_elem? s.views j ≡ some d → d.role ≡ Holds r c → get_elem? k.plan.states c ≡ some x → EndsWith d.seen x × StartsWith k.made d.seen
+  pub newest : (i j r : ℕ) (d e : SeatView X) (p : Plan X) → get_elem? s.views i ≡ some d → get_elem? s.views j ≡ some e → d.role ≡ Holds r k.plan.published → e.role ≡ Keeper p → d.seen ≡ e.seen
   pub at_home : (c q : ℕ) (x : X) → c < k.n + 2 → 0 < slice_index k.plan.standing c → q < k.n → k.stage q ≢ c + 2 → get_elem? k.plan.states c ≡ some x → AtHome state s.homes (32 * q + c) x
 
 -- the role of the reader r

@@ -2,7 +2,7 @@
 -- The seats: one is the writer's, each reader's number has at most one, and none before it was given. Notes hold no slot.
 -- The published word: modulo 256 it is the slot that the writer has as published.
 -- The counts: a slot's enters are its leaves and its holders, modulo 2 ^ 56; of a free slot the done word is the writer's number, and nobody holds it.
--- The lists: each begins the writer's, which is a chain. A slot that is not free has one state, of that list; the published slot's is its last, and the list of a reader that holds a slot ends with the slot's.
+-- The lists: each begins the writer's, which is a chain. A slot that is not free has one state, of that list; the published slot's is its last, and the list of a reader that holds a slot ends with the slot's. While that slot is the published one, the reader's list is the writer's.
 -- The berths: of a slot that is not free, a reader's is at home with the slot's state, or out with the reader that holds it; those of the slot in the writer's hand are the writer's alone; those of a slot never used are empty.
 -- The tries: the retired slots that were tried since the last publication, and the readers that hold a retired slot not tried since then, are at most the readers.
 -- The moves: what the views have counted is what the words had.
@@ -64,12 +64,12 @@ module _ {T X : Type 0} (state : T → X) where
     -- one of a slot that was never used is at home and empty
     pub unused : slice_index p.standing s ≡ 0 → p.hand ≢ s + 1 → (r : ℕ) → r < n → get_elem? homes (32 * r + s) ≡ some (some None)
 
-  -- what holds of the seat's view: a reader's number has one seat, and the list of a reader that holds a slot ends with the slot's state
+  -- what holds of the seat's view: a reader's number has one seat; the list of a reader that holds a slot ends with the slot's state, and is the writer's whole list while the slot is the published one
   module _ (p : Plan X) (made : List X) (n writer : ℕ) (stage owner : ℕ → ℕ) (seat : ℕ) (seen : List X) where
     abbrev pub Plays : Role X → Type 0
     Plays Idle = Unit {0}
     Plays (Out r) = (r < n) × (stage r ≡ 1) × (owner r ≡ seat)
-    Plays (Holds r s) = (r < n) × (stage r ≡ s + 2) × (owner r ≡ seat) × ((x : X) × (get_elem? p.states s ≡ some x) × EndsWith seen x)
+    Plays (Holds r s) = (r < n) × (stage r ≡ s + 2) × (owner r ≡ seat) × (s ≡ p.published → seen ≡ made) × ((x : X) × (get_elem? p.states s ≡ some x) × EndsWith seen x)
     Plays (Keeper q) = (q ≡ p) × (seat ≡ writer) × (seen ≡ made)
 
   pub record Kept (follows : X → X → Type 0) (start : ℕ) (s : State (Option T) (SeatView X)) : Type 0 where

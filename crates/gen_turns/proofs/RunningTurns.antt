@@ -51,6 +51,7 @@ module _ {T X : Type 0} (state : T → X) (follows : X → X → Type 0) where
   hands_on s k = let small = k.small in record {
     served = λ j d at is. let ag = agent_at s k j d at (omega (arith, is)) in let first = k.holder ag.0 ag.1.known (ag.1.staged.0 ∙ is) in let number = ag.1.numbered (omega (arith, is)) in omega (arith, first, number, small);
     taken = λ j d at is. (agent_at s k j d at (omega (arith, is))).1.taken is;
+    newest = λ i j q g d e at_d at_e is is_e. ((agent_at s k i d at_d (omega (arith, is))).1.taken is).0 ∙ sym (plays state follows s k j e (Keeper q g) at_e is_e).2;
     home = λ away. k.home (λ a l t. let seat = seat_of s k a l (omega (arith, t)) in away (k.owner a) seat.0 seat.1 (sym seat.2.staged.0 ∙ t));
     last = λ j r d at is. (plays state follows s k j d (Reader r) at is).1;
     before = λ r l b. (k.ungiven r l b).1;

@@ -20,10 +20,11 @@ pub record IsQueued {T X : Type 0} (state : T → X) (follows : X → X → Type
   pub one : (i j : ℕ) (d e : SeatView T X) → get_elem? s.views i ≡ some d → get_elem? s.views j ≡ some e → 1 < d.stage → 1 < e.stage → d.ticket ≡ e.ticket → i ≡ j
   pub turns : (j : ℕ) (d : SeatView T X) → get_elem? s.views j ≡ some d → 1 < d.stage → HasTurns d.role
 
--- Only the seat whose ticket is served may have the vector, which it found as it is at home: with a value of the last state for each reader, or nothing where that reader entered last with the whole list
+-- Only the seat whose ticket is served may have the vector, which it found as it is at home: with a value of the last state for each reader, or nothing where that reader entered last with the whole list. The list that it notes, and that an enter makes its own, is the writer's
 pub record IsHandedOn {T X : Type 0} (state : T → X) (follows : X → X → Type 0) (s : State (Entry T) (SeatView T X)) (k : Kept state follows s) : Type 0 where
   pub served : (j : ℕ) (d : SeatView T X) → get_elem? s.views j ≡ some d → d.stage ≡ 3 → d.ticket ≡ slice_index s.words 1
   pub taken : (j : ℕ) (d : SeatView T X) → get_elem? s.views j ≡ some d → d.stage ≡ 3 → (d.whole ≡ k.made) × IsStocked state k.n k.made k.last d.took
+  pub newest : (i j q g : ℕ) (d e : SeatView T X) → get_elem? s.views i ≡ some d → get_elem? s.views j ≡ some e → d.stage ≡ 3 → e.role ≡ Keeper q g → d.whole ≡ e.seen
   pub home : ((j : ℕ) (d : SeatView T X) → get_elem? s.views j ≡ some d → d.stage ≢ 3) → (v : Vec (Option T)) × (get_elem? s.homes 0 ≡ some (some (Some v))) × IsStocked state k.n k.made k.last v.items
   pub last : (j r : ℕ) (d : SeatView T X) → get_elem? s.views j ≡ some d → d.role ≡ Reader r → k.last r ≡ d.entered
   pub before : (r : ℕ) → k.given ≤ r → r < k.n → k.last r ≡ k.first
