@@ -4,3 +4,4 @@ pub mod Whole
 pub mod Schedule
 pub mod MemShelf
 pub mod MemSink
+pub mod Notes

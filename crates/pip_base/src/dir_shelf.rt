@@ -1,40 +1,73 @@
 ghost use Rattle.std.specs.Prelude.{◌≡◌, ◌<◌, ◌≤◌, ◌+◌, List, [], ℕ, length, map, Option, Some, None};
 ghost use Rattle.std.specs.String.{string_bytes};
 
-use crate::shelf::{Failed, PickError, Shelf};
+use crate::shelf::{Failed, FaultKind, PickError, Shelf};
 use std::alloc::Global;
 use std::fs;
 use std::io::{self, Read};
 use std::marker::Model;
 use std::rt::Files;
 
-/// The files of the system, by their paths. It tells nothing of what they hold. A directory in a
-/// file's place is a fault, as a file is that can't be opened or read.
+/// The name of the standard input.
+const STANDARD_INPUT: &str = "-";
+
+/// What a name stands for.
 #[derive(Drop)]
-pub struct DirShelf<'a, R: Files> {
+enum Opened<F: Read + Drop> {
+    File(F),
+    StandardInput,
+}
+
+/// The files of the system, by their paths, and the standard input by the name `-`. It tells nothing
+/// of what they hold. A directory in a file's place is a fault, as a file is that can't be opened or
+/// read.
+#[derive(Drop)]
+pub struct DirShelf<'a, R: Files, I: Read + Drop> {
     rt: &'a R,
-    files: Vec<R::File>,
+    input: I,
+    files: Vec<Opened<R::File>>,
     asked: Vec<String>,
     faults: u64,
+    fault_kind: FaultKind,
     ghost each_asked: { length files.items ≤ length asked.items },
 }
 
-impl<'a, R: Files> DirShelf<'a, R> {
-    /// A shelf that was asked for no name yet. It takes no memory.
-    pub fn new(alloc: Global, rt: &'a R) -> DirShelf<'a, R>
+impl<'a, R: Files, I: Read + Drop> DirShelf<'a, R, I> {
+    /// A shelf that was asked for no name yet, with `input` as the standard input. It takes no memory.
+    pub fn new(alloc: Global, rt: &'a R, input: I) -> DirShelf<'a, R, I>
         ensures asked { result.asked.items ≡ [] }
         ensures faults { result.faults ≡ 0 }
     {
         DirShelf {
             rt,
+            input,
             files: Vec::new(alloc),
             asked: Vec::new(alloc),
             faults: 0,
+            fault_kind: FaultKind::Other,
         }
     }
 }
 
-impl<R: Files> Shelf for DirShelf<'_, R> {
+/// What the system has under a name.
+fn open<R: Files>(rt: &R, name: &str) -> io::Result<Opened<R::File>> {
+    if name == STANDARD_INPUT {
+        return Ok(Opened::StandardInput);
+    }
+    Ok(Opened::File(fs::open(rt, name)?))
+}
+
+/// The kind of a failure of the system.
+fn kind_of(error: &io::Error) -> FaultKind {
+    match error.kind() {
+        io::ErrorKind::NotFound => FaultKind::NotFound,
+        io::ErrorKind::IsADirectory => FaultKind::IsDirectory,
+        io::ErrorKind::PermissionDenied => FaultKind::NotPermitted,
+        _ => FaultKind::Other,
+    }
+}
+
+impl<R: Files, I: Read + Drop> Shelf for DirShelf<'_, R, I> {
     ghost told = { λ _ _. None };
 
     ghost is_picked = { λ s n. n < length s.files.items };
@@ -52,7 +85,7 @@ impl<R: Files> Shelf for DirShelf<'_, R> {
         if self.asked.try_reserve(1).is_err() || self.files.try_reserve(1).is_err() {
             return Err(PickError::Memory);
         }
-        let opened = fs::open(self.rt, name);
+        let opened = open(self.rt, name);
         if let Err(error) = &opened {
             if error.kind() == io::ErrorKind::OutOfMemory {
                 return Err(PickError::Memory);
@@ -69,21 +102,30 @@ impl<R: Files> Shelf for DirShelf<'_, R> {
                     Err(_) => Err(PickError::Memory),
                 }
             }
-            Err(_) => {
+            Err(error) => {
                 self.faults = self.faults.saturating_add(1);
+                self.fault_kind = kind_of(&error);
                 Err(PickError::Failed)
             }
         }
     }
 
     fn read(&mut self, file: u32, into: &mut [u8]) -> Result<usize, Failed> {
-        let file = &mut self.files[file as usize];
-        match file.read(into) {
+        let read = match &mut self.files[file as usize] {
+            Opened::File(file) => file.read(into),
+            Opened::StandardInput => self.input.read(into),
+        };
+        match read {
             Ok(count) => Ok(count),
-            Err(_) => {
+            Err(error) => {
                 self.faults = self.faults.saturating_add(1);
+                self.fault_kind = kind_of(&error);
                 Err(Failed)
             }
         }
+    }
+
+    fn fault_kind(&self) -> FaultKind {
+        self.fault_kind
     }
 }

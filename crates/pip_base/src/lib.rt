@@ -1,12 +1,15 @@
-//! The outside: files that are read by their names, a sink that bytes go to, and the faults of both.
-//! A `Shelf` and a `Sink` may tell their content, as those in memory do. The real ones tell none.
+//! The outside: files that are read by their names, a sink that bytes go to, and the faults of both; and the notes for
+//! a person. A `Shelf`, a `Sink` and `Notes` may tell their content, as those in memory do. The real ones tell none.
 #![tactic(auto)]
 
 mod dir_shelf;
 #[cfg(test)]
 mod edge;
+mod err_notes;
+mod mem_notes;
 mod mem_shelf;
 mod mem_sink;
+mod notes;
 mod out_sink;
 mod schedule;
 mod shelf;
@@ -16,9 +19,12 @@ mod tests;
 mod whole;
 
 pub use dir_shelf::DirShelf;
+pub use err_notes::ErrNotes;
+pub use mem_notes::MemNotes;
 pub use mem_shelf::MemShelf;
 pub use mem_sink::MemSink;
+pub use notes::Notes;
 pub use out_sink::OutSink;
-pub use shelf::{Failed, PickError, Shelf};
+pub use shelf::{Failed, FaultKind, PickError, Shelf};
 pub use sink::Sink;
 pub use whole::{FILE_LIMIT, ReadError, WriteFault, read_whole, write_whole};

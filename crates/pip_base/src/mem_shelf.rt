@@ -3,7 +3,7 @@ ghost use Rattle.std.specs.String.{string_bytes};
 ghost use Rattle.std.specs.Cmp.Lexicographic.{pointwise};
 
 use crate::schedule::Schedule;
-use crate::shelf::{Failed, PickError, Shelf};
+use crate::shelf::{Failed, FaultKind, PickError, Shelf};
 use std::alloc::Global;
 use std::marker::Model;
 
@@ -23,13 +23,14 @@ pub struct OpenFile {
 
 /// Files in memory, for tests. It tells the bytes under each name, keeps the names that it was asked
 /// for, and fails at the calls that it is told to fail at. A pick of a name that isn't there fails
-/// too.
+/// too, as `NotFound`.
 #[derive(Drop)]
 pub struct MemShelf {
     files: Vec<StoredFile>,
     asked: Vec<String>,
     opened: Vec<OpenFile>,
     schedule: Schedule,
+    fault_kind: FaultKind,
 }
 
 impl Model for MemShelf {
@@ -79,6 +80,7 @@ impl MemShelf {
             asked: Vec::new(alloc),
             opened: Vec::new(alloc),
             schedule: Schedule::new(alloc),
+            fault_kind: FaultKind::Other,
         }
     }
 
@@ -147,10 +149,12 @@ impl Shelf for MemShelf {
         }
         if self.schedule.next() {
             self.schedule.fault();
+            self.fault_kind = FaultKind::Other;
             return Err(PickError::Failed);
         }
         let Some(place) = place_of(self.files.as_slice(), name) else {
             self.schedule.fault();
+            self.fault_kind = FaultKind::NotFound;
             return Err(PickError::Failed);
         };
         let number = self.opened.len() as u32;
@@ -163,6 +167,7 @@ impl Shelf for MemShelf {
     fn read(&mut self, file: u32, into: &mut [u8]) -> Result<usize, Failed> {
         if self.schedule.next() {
             self.schedule.fault();
+            self.fault_kind = FaultKind::Other;
             return Err(Failed);
         }
         let open = self.opened[file as usize];
@@ -174,5 +179,9 @@ impl Shelf for MemShelf {
             from: open.from + count,
         };
         Ok(count)
+    }
+
+    fn fault_kind(&self) -> FaultKind {
+        self.fault_kind
     }
 }

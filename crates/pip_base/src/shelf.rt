@@ -10,6 +10,19 @@ use std::alloc::Global;
 #[derive(Clone, Copy, Debug, PartialEq, Eq)]
 pub struct Failed;
 
+/// What the system says of a file that can't be opened or read.
+#[derive(Clone, Copy, Debug, PartialEq, Eq)]
+pub enum FaultKind {
+    /// There is no file of that name.
+    NotFound,
+    /// A directory has that name.
+    IsDirectory,
+    /// The permission to read it is missing.
+    NotPermitted,
+    /// Anything else, as an input that breaks off.
+    Other,
+}
+
 /// Why no file was picked.
 #[derive(Clone, Copy, Debug, PartialEq, Eq)]
 pub enum PickError {
@@ -68,4 +81,7 @@ pub trait Shelf {
         ensures kept { (m : ℕ) → is_picked self.old m → is_picked self.new m }
         ensures others { (m : ℕ) → m ≢ file → left self.new m ≡ left self.old m }
         ensures cause { HasCause (faults self.old) (faults self.new) result };
+
+    /// What the system said of the latest failure. Where nothing has failed yet it says nothing.
+    fn fault_kind(&self) -> FaultKind;
 }

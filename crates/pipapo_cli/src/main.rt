@@ -22,7 +22,7 @@ use std::process::ExitCode;
 
 fn main(rt: HostRuntime) -> ExitCode {
     let words = words_behind(rt.alloc(), env::args(&rt));
-    let mut shelf = DirShelf::new(rt.alloc(), &rt);
+    let mut shelf = DirShelf::new(rt.alloc(), &rt, rt.stdin());
     let mut sink = OutSink::new(&rt);
     ExitCode::from(call(&rt, rt.alloc(), words, &mut shelf, &mut sink))
 }

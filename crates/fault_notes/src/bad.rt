@@ -1,0 +1,71 @@
+//! The note on a text that isn't in its grammar.
+ghost use Rattle.std.specs.Prelude.{IfOk};
+ghost use Rattle.fault_notes.specs.Shown.{Begins, place_text};
+
+use crate::bad_token::BadToken;
+use crate::content::{foreign, swapped, without_blanks};
+use crate::help::{TextKind, help, what_is_wrong};
+use crate::note::Note;
+use crate::source::{Cut, cut_at};
+use set_model::Memory;
+use std::alloc::Global;
+use token_forms::Reason;
+
+/// What is wrong, the line with a caret under the token, and what to do.
+fn explained(alloc: Global, kind: TextKind, cut: Cut<'_>, reason: Reason) -> Result<Note, Memory> {
+    let mut note = Note::new(alloc);
+    if cut.token.is_empty() && !matches!(reason, Reason::End) {
+        note.say(b"the end of the line")?;
+    } else if !cut.token.is_empty() {
+        note.quoted(cut.token)?;
+    }
+    note.say(what_is_wrong(reason))?;
+    note.end_line()?;
+    note.source_line(cut)?;
+    note.say(b"help: ")?;
+    note.say(help(kind, reason, cut.token, cut.is_first()))?;
+    note.end_line()?;
+    Ok(note)
+}
+
+/// What a text is that is no script and no key file.
+fn told_as(alloc: Global, what: &[u8]) -> Result<Note, Memory> {
+    let mut note = Note::new(alloc);
+    note.say(what)?;
+    note.end_line()?;
+    Ok(note)
+}
+
+/// What is said behind the place of a bad token.
+fn said(alloc: Global, kind: TextKind, text: &[u8], bad: BadToken) -> Result<Note, Memory> {
+    if let Some(what) = foreign(text) {
+        return told_as(alloc, what);
+    }
+    let cut = cut_at(text, bad);
+    if let Some(what) = swapped(kind, cut.line) {
+        return told_as(alloc, what);
+    }
+    explained(alloc, kind, cut, bad.reason)
+}
+
+/// What a person is told of a text that isn't in its grammar: `NAME:LINE:COLUMN: what is wrong`, the line of the text
+/// with a caret under the bad token, and what could stand there or what to do.
+///
+/// # Errors
+///
+/// `Memory` where there is none left.
+pub fn bad_text_note(
+    alloc: Global,
+    kind: TextKind,
+    name: &str,
+    text: &[u8],
+    bad: BadToken,
+) -> Result<Note, Memory>
+    ensures place { IfOk result (λ note. Begins (place_text name.now bad.line bad.column) note.bytes.items) }
+{
+    let behind = said(alloc, kind, text, bad)?;
+    let mut note = Note::new(alloc);
+    note.place(name.as_bytes(), bad.line, bad.column)?;
+    note.join(&behind)?;
+    Ok(note)
+}

@@ -1,0 +1,80 @@
+//! What a text is in place of a script or a key file, by its first bytes and words.
+use crate::help::TextKind;
+use crate::source::first_line;
+
+/// A file that is no text of this program, by its first bytes.
+pub(crate) fn foreign(text: &[u8]) -> Option<&'static [u8]> {
+    if text.starts_with(b"\x1f\x8b") {
+        return Some(b"this is a file that gzip has packed: unpack it first");
+    }
+    if text.starts_with(b"\x0a\x0d\x0d\x0a") {
+        return Some(b"this is a capture of packets (pcapng), and no text");
+    }
+    if is_pcap(text) {
+        return Some(b"this is a capture of packets (pcap), and no text");
+    }
+    if text.starts_with(b"\xef\xbb\xbf") {
+        return Some(b"the text begins with a byte order mark of UTF-8: leave its three bytes out");
+    }
+    if text.starts_with(b"\xff\xfe") || text.starts_with(b"\xfe\xff") {
+        return Some(b"this is a text in UTF-16: write it in ASCII");
+    }
+    None
+}
+
+/// The first bytes of pcap files: of microseconds and of nanoseconds, in both orders of bytes.
+fn is_pcap(text: &[u8]) -> bool {
+    text.starts_with(b"\xd4\xc3\xb2\xa1")
+        || text.starts_with(b"\xa1\xb2\xc3\xd4")
+        || text.starts_with(b"\x4d\x3c\xb2\xa1")
+        || text.starts_with(b"\xa1\xb2\x3c\x4d")
+}
+
+fn is_blank(byte: u8) -> bool {
+    byte == b' ' || byte == b'\t' || byte == b'\r'
+}
+
+/// The bytes behind the blanks at the front.
+pub(crate) fn without_blanks(text: &[u8]) -> &[u8] {
+    match text.iter().position(|b| !is_blank(*b)) {
+        Some(i) => &text[i..],
+        None => &[],
+    }
+}
+
+/// The bytes before the first blank.
+fn first_word(line: &[u8]) -> &[u8] {
+    match line.iter().position(|b| is_blank(*b)) {
+        Some(i) => &line[..i],
+        None => line,
+    }
+}
+
+/// Whether a word begins a statement of a script that no line of a key file begins with.
+fn begins_a_statement(word: &[u8]) -> bool {
+    matches!(
+        word,
+        b"add" | b"create" | b"delete" | b"destroy" | b"flush" | b"table"
+    )
+}
+
+fn is_family(word: &[u8]) -> bool {
+    matches!(
+        word,
+        b"ip" | b"ip6" | b"inet" | b"arp" | b"bridge" | b"netdev"
+    )
+}
+
+/// A text of the other grammar, by the line of its bad token.
+pub(crate) fn swapped(kind: TextKind, line: &[u8]) -> Option<&'static [u8]> {
+    let word = first_word(without_blanks(line));
+    match kind {
+        TextKind::Script if is_family(word) => {
+            Some(b"this looks like a key file: the script is named first, and then the key file")
+        }
+        TextKind::Keys if begins_a_statement(word) => {
+            Some(b"this looks like a script: the script is named first, and then the key file")
+        }
+        _ => None,
+    }
+}

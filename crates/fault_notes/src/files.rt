@@ -1,0 +1,57 @@
+//! The notes on a file that isn't read.
+ghost use Rattle.std.specs.Prelude.{IfOk};
+ghost use Rattle.fault_notes.specs.Shown.{Begins, name_text};
+
+use crate::note::Note;
+use pip_base::FaultKind;
+use set_model::Memory;
+use std::alloc::Global;
+
+/// A note on a file: its name, and what is said of it.
+fn on_file(alloc: Global, name: &str, what: &[u8]) -> Result<Note, Memory>
+    ensures name { IfOk result (λ note. Begins (name_text name.now) note.bytes.items) }
+{
+    let mut said = Note::new(alloc);
+    said.say(what)?;
+    said.end_line()?;
+    let mut note = Note::new(alloc);
+    note.file(name.as_bytes())?;
+    note.join(&said)?;
+    Ok(note)
+}
+
+/// The system's reason for a fault, in a person's words.
+fn reason_of(kind: FaultKind) -> &'static [u8] {
+    match kind {
+        FaultKind::NotFound => b"there is no file of this name",
+        FaultKind::IsDirectory => b"this is a directory and no file",
+        FaultKind::NotPermitted => b"the permission to read it is missing",
+        FaultKind::Other => b"it can't be read",
+    }
+}
+
+/// What a person is told of a file that can't be opened or read: its name, and the system's reason.
+///
+/// # Errors
+///
+/// `Memory` where there is none left.
+pub fn read_fault_note(alloc: Global, name: &str, kind: FaultKind) -> Result<Note, Memory>
+    ensures name { IfOk result (λ note. Begins (name_text name.now) note.bytes.items) }
+{
+    on_file(alloc, name, reason_of(kind))
+}
+
+/// What a person is told of a file that has more bytes than an input file may have: its name, and the limit.
+///
+/// # Errors
+///
+/// `Memory` where there is none left.
+pub fn too_large_note(alloc: Global, name: &str) -> Result<Note, Memory>
+    ensures name { IfOk result (λ note. Begins (name_text name.now) note.bytes.items) }
+{
+    on_file(
+        alloc,
+        name,
+        b"a file may have 67108864 bytes (64 MiB) at most",
+    )
+}
