@@ -13,14 +13,10 @@ use Rattle.set_model.specs.SetState.{State, empty_set, add, add_by, add_new, add
 use Rattle.set_model.specs.Control.{Generation}
 use Rattle.set_model.specs.Runnable.{IsFitting}
 use Rattle.pipapo_image.specs.declared.answers.Added.{Added}
-use Rattle.pipapo_image.specs.declared.answers.InsertError.{InsertError}
-use Rattle.pipapo_image.specs.declared.answers.InsertError.TheVariants as inserts
-use Rattle.pipapo_image.specs.declared.answers.DeleteError.{DeleteError}
-use Rattle.pipapo_image.specs.declared.answers.DeleteError.TheVariants as deletes
+use Rattle.pipapo_image.specs.declared.answers.ChangeError.{ChangeError}
+use Rattle.pipapo_image.specs.declared.answers.ChangeError.TheVariants as errors
 use Rattle.pipapo_image.specs.Insert.{IsAnswer}
 use Rattle.pipapo_image.specs.Remove.{IsRemoval}
-use Rattle.set_space.specs.declared.answers.CreateError.{CreateError}
-use Rattle.set_space.specs.declared.answers.CreateError.TheVariants as creates
 use Rattle.set_space.specs.Answers.{IsCreation, IsDestruction, IsFlush}
 use Rattle.set_space.specs.Open.{Open, FitsSet, IsChange}
 use Rattle.history_laws.specs.Histories.{EndsWith}
@@ -52,20 +48,15 @@ module _ (s : State) (parts : List Interval) (now : ℕ) where
     added : (add s parts expiry comment now).1.kinds ≡ s.kinds
     added = by_twin (twin s parts now)
 
-    insertion : (r : Result Added InsertError) (t : State) → IsAnswer (add s parts expiry comment now) r s t → t.kinds ≡ s.kinds
+    insertion : (r : Result Added ChangeError) (t : State) → IsAnswer (add s parts expiry comment now) r s t → t.kinds ≡ s.kinds
     insertion (Ok came) t h = becomes s t _ added h.1
-    insertion (Err (inserts.Overlap id)) t h = becomes s t _ added h.1
-    insertion (Err inserts.Full) t h = becomes s t _ added h.1
-    insertion (Err (inserts.RulesFull f)) t h = becomes s t _ added h.1
-    insertion (Err inserts.Memory) t h = stays s t h
+    insertion (Err (errors.Refused why)) t h = becomes s t _ added h.1
+    insertion (Err errors.Memory) t h = stays s t h
 
-    creation : (r : Result ℕ CreateError) (t : State) → IsCreation (add s parts expiry comment now) r s t → t.kinds ≡ s.kinds
+    creation : (r : Result ℕ ChangeError) (t : State) → IsCreation (add s parts expiry comment now) r s t → t.kinds ≡ s.kinds
     creation (Ok id) t h = becomes s t _ added h.1
-    creation (Err (creates.Exists id)) t h = stays s t h.1
-    creation (Err (creates.Overlap id)) t h = stays s t h.1
-    creation (Err creates.Full) t h = stays s t h.1
-    creation (Err (creates.RulesFull f)) t h = stays s t h.1
-    creation (Err creates.Memory) t h = stays s t h
+    creation (Err (errors.Refused why)) t h = stays s t h.1
+    creation (Err errors.Memory) t h = stays s t h
 
   -- the set that is left
   abbrev left : Option (ℕ × State) → State
@@ -80,10 +71,10 @@ module _ (s : State) (parts : List Interval) (now : ℕ) where
   removal_of : (id : ℕ) (t : State) → removed s parts now ≡ Some (id, t) → t.kinds ≡ s.kinds
   removal_of id t e = ap (λ (x : Option (ℕ × State)). (left x).kinds) (sym e) ∙ by_element _ _
 
-  removal : (r : Result ℕ DeleteError) (t : State) → IsRemoval (removed s parts now) r s t → t.kinds ≡ s.kinds
+  removal : (r : Result ℕ ChangeError) (t : State) → IsRemoval (removed s parts now) r s t → t.kinds ≡ s.kinds
   removal (Ok id) t h = removal_of id t h
-  removal (Err deletes.Missing) t h = stays s t h.1
-  removal (Err deletes.Memory) t h = stays s t h
+  removal (Err (errors.Refused why)) t h = stays s t h.2
+  removal (Err errors.Memory) t h = stays s t h
 
   destruction : (r : Result (Option ℕ) NoMemory) (t : State) → IsDestruction (removed s parts now) r s t → t.kinds ≡ s.kinds
   destruction (Ok None) t h = stays s t h.1
@@ -105,13 +96,13 @@ module _ (schema : List SetDecl) (made : List Generation) (old new : Open) (i : 
       steered_by schema made old steered new (ap (λ (w : Open). w.base) h.others)
       (ap (λ (w : Open). kinds_of w.sets) h.others ∙ set_kinds old.sets i h.state h.left h.at (keeps h.state h.left h.changed))
 
-  pub insertion_on : (parts : List Interval) (expiry : Option ℕ) (comment : List ℕ) (now : ℕ) (r : Result Added InsertError) → IsChange (λ s t. IsAnswer (add s parts expiry comment now) r s t) old i new → IsSteered schema made new
+  pub insertion_on : (parts : List Interval) (expiry : Option ℕ) (comment : List ℕ) (now : ℕ) (r : Result Added ChangeError) → IsChange (λ s t. IsAnswer (add s parts expiry comment now) r s t) old i new → IsSteered schema made new
   insertion_on parts expiry comment now r h = changed_on _ (λ s t a. insertion s parts now expiry comment r t a) h
 
-  pub creation_on : (parts : List Interval) (expiry : Option ℕ) (comment : List ℕ) (now : ℕ) (r : Result ℕ CreateError) → IsChange (λ s t. IsCreation (add s parts expiry comment now) r s t) old i new → IsSteered schema made new
+  pub creation_on : (parts : List Interval) (expiry : Option ℕ) (comment : List ℕ) (now : ℕ) (r : Result ℕ ChangeError) → IsChange (λ s t. IsCreation (add s parts expiry comment now) r s t) old i new → IsSteered schema made new
   creation_on parts expiry comment now r h = changed_on _ (λ s t a. creation s parts now expiry comment r t a) h
 
-  pub removal_on : (parts : List Interval) (now : ℕ) (r : Result ℕ DeleteError) → IsChange (λ s t. IsRemoval (removed s parts now) r s t) old i new → IsSteered schema made new
+  pub removal_on : (parts : List Interval) (now : ℕ) (r : Result ℕ ChangeError) → IsChange (λ s t. IsRemoval (removed s parts now) r s t) old i new → IsSteered schema made new
   removal_on parts now r h = changed_on _ (λ s t a. removal s parts now r t a) h
 
   pub destruction_on : (parts : List Interval) (now : ℕ) (r : Result (Option ℕ) NoMemory) → IsChange (λ s t. IsDestruction (removed s parts now) r s t) old i new → IsSteered schema made new

@@ -13,9 +13,9 @@ use crate::berth::{Berth, next_berths};
 use crate::note::Note;
 use crate::receipt::Receipt;
 use gen_slots::{Steps, Writer};
-use pipapo_image::{Added, DeleteError, InsertError};
-use set_model::{Comment, Memory, Parts, Schema, parts_fit};
-use set_space::{CreateError, Generation, Work};
+use pipapo_image::{Added, ChangeError};
+use set_model::{Comment, Memory, Parts, Schema, Why, parts_fit};
+use set_space::{Generation, Work};
 use std::alloc::Global;
 use std::marker::{Brand, Model};
 use std::sync::Arc;
@@ -131,7 +131,7 @@ impl Control {
         expiry: Option<u64>,
         comment: &Comment,
         now: u64,
-    ) -> Result<Added, InsertError>
+    ) -> Result<Added, ChangeError>
         requires set { set < length self.old.work.sets }
         requires fits { FitsSet self.old.work set parts.now }
         ensures change { IsChange (λ s t. IsAnswer (add s parts.now expiry comment.now now) result s t) self.old.work set self.new.work }
@@ -154,7 +154,7 @@ impl Control {
         expiry: Option<u64>,
         comment: &Comment,
         now: u64,
-    ) -> Result<u64, CreateError>
+    ) -> Result<u64, ChangeError>
         requires set { set < length self.old.work.sets }
         requires fits { FitsSet self.old.work set parts.now }
         ensures change { IsChange (λ s t. IsCreation (add s parts.now expiry comment.now now) result s t) self.old.work set self.new.work }
@@ -170,10 +170,10 @@ impl Control {
     ///
     /// `Missing` exactly if there is none, also where no memory is left. `Memory` if there is none left to take it out. Each
     /// leaves the control as it was.
-    pub fn delete(&mut self, set: u32, parts: &Parts, now: u64) -> Result<u64, DeleteError>
+    pub fn delete(&mut self, set: u32, parts: &Parts, now: u64) -> Result<u64, ChangeError>
         requires { set < length self.old.work.sets }
         ensures change { IsChange (λ s t. IsRemoval (removed s parts.now now) result s t) self.old.work set self.new.work }
-        ensures missing { Lacks self.old.work set parts.now now → result ≡ Err DeleteError.Missing }
+        ensures missing { Lacks self.old.work set parts.now now → result ≡ Err (ChangeError.Refused Why.Missing) }
         ensures others { self.new ≡ record self.old { work = self.new.work } }
         ensures refused { OnErr result (self.new ≡ self.old) }
     {

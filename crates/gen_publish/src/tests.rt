@@ -2,11 +2,10 @@ ghost use Rattle.std.specs.Prelude.{◌≡◌, ◌<◌, ◌≤◌, length, IfOk}
 ghost use Rattle.set_space.specs.Open.{CanBeBuilt, FitsSet};
 
 use crate::{Control, Held, Reader, Receipt, start};
-use pipapo_image::{Added, DeleteError, InsertError};
+use pipapo_image::{Added, ChangeError};
 use set_model::{
-    Comment, Family, Interval, Key, Kind, Kinds, Memory, Name, Parts, Schema, SetDecl,
+    Comment, Family, Interval, Key, Kind, Kinds, Memory, Name, Parts, Schema, SetDecl, Why,
 };
-use set_space::CreateError;
 use std::alloc::Global;
 use std::process::Abort;
 use std::thread::{Threads, join};
@@ -74,7 +73,7 @@ fn add(
     alloc: Global,
     control: &mut Control,
     number: u128,
-) -> Result<Added, InsertError> {
+) -> Result<Added, ChangeError> {
     let parts = ports(rt, alloc, control, number, number);
     control.insert(0, &parts, None, &Comment::new(alloc), 0)
 }
@@ -221,13 +220,13 @@ fn create(
     alloc: Global,
     control: &mut Control,
     number: u128,
-) -> Result<u64, CreateError> {
+) -> Result<u64, ChangeError> {
     let parts = ports(rt, alloc, control, number, number);
     control.create(0, &parts, None, &Comment::new(alloc), 0)
 }
 
 /// Inserts the ports 80 and 81 as one interval.
-fn add_range(rt: &impl Abort, alloc: Global, control: &mut Control) -> Result<Added, InsertError> {
+fn add_range(rt: &impl Abort, alloc: Global, control: &mut Control) -> Result<Added, ChangeError> {
     let parts = ports(rt, alloc, control, 80, 81);
     control.insert(0, &parts, None, &Comment::new(alloc), 0)
 }
@@ -237,7 +236,7 @@ fn delete(
     alloc: Global,
     control: &mut Control,
     number: u128,
-) -> Result<u64, DeleteError> {
+) -> Result<u64, ChangeError> {
     let parts = ports(rt, alloc, control, number, number);
     control.delete(0, &parts, 0)
 }
@@ -266,15 +265,15 @@ fn changes_and_their_refusals_are_handed_on(rt: HostRuntime) {
     assert_eq!(rt; add(&rt, alloc, all, 80), Ok(Added::Already { id: 0 }));
     assert_eq!(rt;
         add_range(&rt, alloc, all),
-        Err(InsertError::Overlap { id: 0 })
+        Err(ChangeError::Refused(Why::Overlap { id: 0 }))
     );
     assert_eq!(rt;
         create(&rt, alloc, all, 80),
-        Err(CreateError::Exists { id: 0 })
+        Err(ChangeError::Refused(Why::Exists { id: 0 }))
     );
     assert_eq!(rt; create(&rt, alloc, all, 81), Ok(1));
-    assert_eq!(rt; add(&rt, alloc, all, 82), Err(InsertError::Full));
-    assert_eq!(rt; delete(&rt, alloc, all, 82), Err(DeleteError::Missing));
+    assert_eq!(rt; add(&rt, alloc, all, 82), Err(ChangeError::Refused(Why::Full)));
+    assert_eq!(rt; delete(&rt, alloc, all, 82), Err(ChangeError::Refused(Why::Missing)));
     assert_eq!(rt; delete(&rt, alloc, all, 81), Ok(1));
     assert_eq!(rt; destroy(&rt, alloc, all, 81), Ok(None));
     assert_eq!(rt; destroy(&rt, alloc, all, 80), Ok(Some(0)));

@@ -4,8 +4,8 @@ use crate::lookups::{expiry_behind, intervals, key_near};
 use crate::plain::{PlainElement, PlainSet};
 use crate::random::Random;
 use crate::sets::Trial;
-use pipapo_image::DeleteError;
-use set_model::{Interval, Kind, Memory};
+use pipapo_image::ChangeError;
+use set_model::{Interval, Kind, Memory, Why};
 use std::alloc::Global;
 use std::process::Abort;
 use std::test::Fail;
@@ -19,13 +19,13 @@ impl PlainElement {
 
 impl PlainSet {
     /// Takes the first live element of exactly these intervals out.
-    fn delete(&mut self, parts: &[Interval], now: u64) -> Result<u64, DeleteError> {
+    fn delete(&mut self, parts: &[Interval], now: u64) -> Result<u64, ChangeError> {
         for i in 0..self.elements.len() {
             if self.elements[i].is_exactly(parts, now) {
                 return Ok(self.elements.remove(i).id);
             }
         }
-        Err(DeleteError::Missing)
+        Err(ChangeError::Refused(Why::Missing))
     }
 
     /// Takes the expired elements out, and answers how many there were.

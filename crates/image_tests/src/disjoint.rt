@@ -4,8 +4,8 @@ use crate::examples::{adds, finds};
 use crate::plain::{PlainElement, PlainSet, lows};
 use crate::random::{Random, Shape};
 use crate::sets::Trial;
-use pipapo_image::{Added, InsertError};
-use set_model::{Found, Interval, Kind, Memory};
+use pipapo_image::{Added, ChangeError};
+use set_model::{Found, Interval, Kind, Memory, Why};
 use std::alloc::Global;
 use std::process::Abort;
 use std::test::Fail;
@@ -51,12 +51,12 @@ impl PlainSet {
         parts: &[Interval],
         expiry: Option<u64>,
         now: u64,
-    ) -> Result<Added, InsertError> {
+    ) -> Result<Added, ChangeError> {
         if let Some(place) = self.twin(parts, now)? {
             return self.add_again(place, parts, expiry);
         }
         match self.first_sharing(parts, now) {
-            Some(found) => Err(InsertError::Overlap { id: found.id }),
+            Some(found) => Err(ChangeError::Refused(Why::Overlap { id: found.id })),
             None => self.push(parts, expiry),
         }
     }
@@ -198,7 +198,7 @@ fn an_enclosing_interval_is_refused(rt: HostRuntime) -> Result<(), Fail> {
     let mut trial = Trial::of(&rt, rt.alloc(), &[Kind::Service], None, true)?;
     adds(&rt, &mut trial, 10, 20, None, Ok(Added::New { id: 0 }));
     adds(&rt, &mut trial, 5, 9, None, Ok(Added::New { id: 1 }));
-    let refused = Err(InsertError::Overlap { id: 0 });
+    let refused = Err(ChangeError::Refused(Why::Overlap { id: 0 }));
     adds(&rt, &mut trial, 5, 30, None, refused);
     finds(&rt, &mut trial, 7, 0, Some(1));
     finds(&rt, &mut trial, 30, 0, None);
@@ -227,7 +227,7 @@ fn adds_pair(
     network: Interval,
     low: u128,
     high: u128,
-    wanted: Result<Added, InsertError>,
+    wanted: Result<Added, ChangeError>,
 ) {
     let answer = trial.add(rt, &[network, Interval { low, high }], None, 0);
     assert!(rt; answer == wanted);
@@ -239,7 +239,7 @@ fn pairs_share_a_key_in_both_fields(rt: HostRuntime) -> Result<(), Fail> {
     let ten = network(10, None);
     adds_pair(&rt, &mut trial, ten, 10, 20, Ok(Added::New { id: 0 }));
     let inside = network(10, Some(1));
-    let refused = Err(InsertError::Overlap { id: 0 });
+    let refused = Err(ChangeError::Refused(Why::Overlap { id: 0 }));
     adds_pair(&rt, &mut trial, inside, 5, 30, refused);
     let eleven = network(11, None);
     adds_pair(&rt, &mut trial, eleven, 5, 30, Ok(Added::New { id: 1 }));

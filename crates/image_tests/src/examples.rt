@@ -1,7 +1,7 @@
 // Worked examples of a set: what an addition answers, and what is found behind it.
 use crate::sets::Trial;
-use pipapo_image::{Added, InsertError};
-use set_model::{Interval, Kind};
+use pipapo_image::{Added, ChangeError};
+use set_model::{Interval, Kind, Why};
 use std::process::Abort;
 use std::test::Fail;
 
@@ -14,7 +14,7 @@ pub(crate) fn adds(
     low: u128,
     high: u128,
     expiry: Option<u64>,
-    wanted: Result<Added, InsertError>,
+    wanted: Result<Added, ChangeError>,
 ) {
     let answer = trial.add(rt, &[Interval { low, high }], expiry, 0);
     assert!(rt; answer == wanted);
@@ -51,7 +51,7 @@ fn an_enclosing_interval_is_accepted(rt: HostRuntime) -> Result<(), Fail> {
 fn an_interval_inside_is_refused(rt: HostRuntime) -> Result<(), Fail> {
     let mut trial = Trial::new(&rt, rt.alloc(), &PORTS, None)?;
     adds(&rt, &mut trial, 5, 30, None, Ok(Added::New { id: 0 }));
-    let refused = Err(InsertError::Overlap { id: 0 });
+    let refused = Err(ChangeError::Refused(Why::Overlap { id: 0 }));
     adds(&rt, &mut trial, 10, 20, None, refused);
     adds(&rt, &mut trial, 1, 5, None, refused);
     finds(&rt, &mut trial, 15, 0, Some(0));
@@ -64,7 +64,7 @@ fn a_set_of_one_is_full(rt: HostRuntime) -> Result<(), Fail> {
     let mut trial = Trial::new(&rt, rt.alloc(), &PORTS, Some(1))?;
     adds(&rt, &mut trial, 80, 80, None, Ok(Added::New { id: 0 }));
     adds(&rt, &mut trial, 80, 80, None, Ok(Added::Already { id: 0 }));
-    adds(&rt, &mut trial, 81, 81, None, Err(InsertError::Full));
+    adds(&rt, &mut trial, 81, 81, None, Err(ChangeError::Refused(Why::Full)));
     Ok(())
 }
 

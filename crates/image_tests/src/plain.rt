@@ -1,5 +1,5 @@
-use pipapo_image::{Added, InsertError};
-use set_model::{Found, Interval, Memory};
+use pipapo_image::{Added, ChangeError};
+use set_model::{Found, Interval, Memory, Why};
 use std::alloc::Global;
 
 /// An element as its intervals.
@@ -77,14 +77,14 @@ impl PlainSet {
         parts: &[Interval],
         expiry: Option<u64>,
         now: u64,
-    ) -> Result<Added, InsertError> {
+    ) -> Result<Added, ChangeError> {
         let lows = lows(self.alloc, parts)?;
         if let Some(place) = self.place(lows.as_slice(), now) {
             return self.add_again(place, parts, expiry);
         }
         let highs = highs(self.alloc, parts)?;
         if let Some(found) = self.find(highs.as_slice(), now) {
-            return Err(InsertError::Overlap { id: found.id });
+            return Err(ChangeError::Refused(Why::Overlap { id: found.id }));
         }
         self.push(parts, expiry)
     }
@@ -94,13 +94,13 @@ impl PlainSet {
         place: usize,
         parts: &[Interval],
         expiry: Option<u64>,
-    ) -> Result<Added, InsertError> {
+    ) -> Result<Added, ChangeError> {
         let Some(element) = self.elements.get_mut(place) else {
-            return Err(InsertError::Full);
+            return Err(ChangeError::Refused(Why::Full));
         };
         let id = element.id;
         if element.parts.as_slice() != parts {
-            return Err(InsertError::Overlap { id });
+            return Err(ChangeError::Refused(Why::Overlap { id }));
         }
         if expiry.is_none() {
             return Ok(Added::Already { id });
@@ -113,10 +113,10 @@ impl PlainSet {
         &mut self,
         parts: &[Interval],
         expiry: Option<u64>,
-    ) -> Result<Added, InsertError> {
+    ) -> Result<Added, ChangeError> {
         let id = self.next;
         if id == u64::MAX {
-            return Err(InsertError::Full);
+            return Err(ChangeError::Refused(Why::Full));
         }
         let parts = copied(self.alloc, parts)?;
         append(&mut self.elements, PlainElement { id, parts, expiry })?;

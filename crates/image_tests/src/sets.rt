@@ -1,5 +1,5 @@
 // A set with what a lookup works in. Calls first see that their conditions hold.
-use pipapo_image::{Added, DeleteError, InsertError, Scratch, SetImage};
+use pipapo_image::{Added, ChangeError, Scratch, SetImage};
 use set_model::{Comment, Found, Interval, Key, Kind, Kinds, Memory, Parts, fits, parts_fit};
 use std::alloc::Global;
 use std::process::Abort;
@@ -59,7 +59,7 @@ impl Trial {
         parts: &[Interval],
         expiry: Option<u64>,
         now: u64,
-    ) -> Result<Added, InsertError> {
+    ) -> Result<Added, ChangeError> {
         let parts = parts_of(self.alloc, parts)?;
         add_to(
             rt,
@@ -73,7 +73,7 @@ impl Trial {
     }
 
     /// Takes an element out.
-    pub(crate) fn delete(&mut self, parts: &[Interval], now: u64) -> Result<u64, DeleteError> {
+    pub(crate) fn delete(&mut self, parts: &[Interval], now: u64) -> Result<u64, ChangeError> {
         let parts = parts_of(self.alloc, parts)?;
         self.set.delete(self.alloc, &parts, now)
     }
@@ -121,7 +121,7 @@ fn add_to(
     parts: &Parts,
     expiry: Option<u64>,
     now: u64,
-) -> Result<Added, InsertError> {
+) -> Result<Added, ChangeError> {
     assert!(rt; parts_fit(&set.kinds, parts));
     set.insert(alloc, parts, expiry, &Comment::new(alloc), now, scratch)
 }

@@ -6,9 +6,8 @@ ghost use Rattle.set_space.specs.Open.{FitsSet, IsChange};
 ghost use Rattle.packet_pool.specs.Running.{HasCome};
 
 use gen_publish::Control;
-use pipapo_image::{DeleteError, InsertError};
+use pipapo_image::ChangeError;
 use set_model::{Comment, Memory, Parts, Verb, Why};
-use set_space::CreateError;
 
 fn add(
     control: &mut Control,
@@ -25,10 +24,8 @@ fn add(
 {
     match control.insert(set, parts, expiry, comment, now) {
         Ok(_) => Ok(None),
-        Err(InsertError::Overlap { id }) => Ok(Some(Why::Overlap { id })),
-        Err(InsertError::Full) => Ok(Some(Why::Full)),
-        Err(InsertError::RulesFull { field }) => Ok(Some(Why::RulesFull { field })),
-        Err(InsertError::Memory) => Err(Memory),
+        Err(ChangeError::Refused(why)) => Ok(Some(why)),
+        Err(ChangeError::Memory) => Err(Memory),
     }
 }
 
@@ -47,11 +44,8 @@ fn create(
 {
     match control.create(set, parts, expiry, comment, now) {
         Ok(_) => Ok(None),
-        Err(CreateError::Exists { id }) => Ok(Some(Why::Exists { id })),
-        Err(CreateError::Overlap { id }) => Ok(Some(Why::Overlap { id })),
-        Err(CreateError::Full) => Ok(Some(Why::Full)),
-        Err(CreateError::RulesFull { field }) => Ok(Some(Why::RulesFull { field })),
-        Err(CreateError::Memory) => Err(Memory),
+        Err(ChangeError::Refused(why)) => Ok(Some(why)),
+        Err(ChangeError::Memory) => Err(Memory),
     }
 }
 
@@ -62,8 +56,8 @@ fn delete(control: &mut Control, set: u32, parts: &Parts, now: u64) -> Result<Op
 {
     match control.delete(set, parts, now) {
         Ok(_) => Ok(None),
-        Err(DeleteError::Missing) => Ok(Some(Why::Missing)),
-        Err(DeleteError::Memory) => Err(Memory),
+        Err(ChangeError::Refused(why)) => Ok(Some(why)),
+        Err(ChangeError::Memory) => Err(Memory),
     }
 }
 

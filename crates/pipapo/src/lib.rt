@@ -85,11 +85,11 @@
 #![tactic(auto)]
 
 pub use gen_publish::{Control, Held, Note, Reader, Receipt, start};
-pub use pipapo_image::{Added, DeleteError, InsertError};
+pub use pipapo_image::{Added, ChangeError};
 pub use set_model::{
-    Comment, Family, Found, Interval, Key, Kind, Kinds, Memory, Name, Parts, Schema, SetDecl,
+    Comment, Family, Found, Interval, Key, Kind, Kinds, Memory, Name, Parts, Schema, SetDecl, Why,
 };
-pub use set_space::{CreateError, Generation};
+pub use set_space::Generation;
 
 #[cfg(test)]
 mod tests;

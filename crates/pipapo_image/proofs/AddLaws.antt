@@ -20,11 +20,13 @@ use Rattle.set_tables.proofs.RowLaws.{find-at, find-none}
 use Rattle.set_tables.specs.Sharing.{is_sharing}
 use Rattle.pipapo_image.specs.Found.{element_at}
 use Rattle.pipapo_image.specs.declared.answers.Added.{Added as Came}
-use Rattle.pipapo_image.specs.declared.answers.InsertError.{InsertError}
-use Rattle.pipapo_image.specs.declared.answers.InsertError.TheVariants as errors
-use Rattle.pipapo_image.specs.declared.insert.Decision.{Decision}
-use Rattle.pipapo_image.specs.declared.insert.Decision.TheVariants.{Adds}
-use Rattle.pipapo_image.specs.Insert.{IsAnswer, IsForecast, IsTest, IsDecision, said, comes, left, by_start, by_way, by_twin, same_at, twin_place, at_start}
+use Rattle.pipapo_image.specs.declared.answers.ChangeError.{ChangeError}
+use Rattle.pipapo_image.specs.declared.answers.ChangeError.TheVariants as errors
+use Rattle.pipapo_image.specs.declared.decision.Decision.{Decision}
+use Rattle.pipapo_image.specs.declared.decision.Decision.TheVariants.{Adds}
+use Rattle.pipapo_image.specs.Insert.{IsAnswer, said}
+use Rattle.pipapo_image.specs.Decision.{IsDecision, comes, left}
+use Rattle.pipapo_image.specs.Deciding.{IsTest, by_start, by_way, by_twin, same_at, twin_place, at_start}
 use Rattle.pipapo_image.specs.Sharing.{sharing_place}
 
 -- the first element, by its place
@@ -110,22 +112,22 @@ add-apart s parts x c now d =
 
 -- ---- what is decided
 -- Where elements may share keys, the places decide.
-pub decision_by : (s : State) (parts : List Interval) (x : Option ℕ) (now : ℕ) (r : Result Decision InsertError) → s.disjoint ≡ false
+pub decision_by : (s : State) (parts : List Interval) (x : Option ℕ) (now : ℕ) (r : Result Decision ChangeError) → s.disjoint ≡ false
     → IsDecision s parts x (λ c. by_start s parts x c now (place s (start_key parts) now)) r → IsDecision s parts x (λ c. add s parts x c now) r
 decision_by s parts x now r d h = subst (λ z. IsDecision s parts x z r) (fun_ext (λ c. sym (add-by s parts x c now d))) h
 
 -- In a disjoint set the place of the element that is there already decides.
-pub decision_apart : (s : State) (parts : List Interval) (x : Option ℕ) (now : ℕ) (r : Result Decision InsertError) → s.disjoint ≡ true
+pub decision_apart : (s : State) (parts : List Interval) (x : Option ℕ) (now : ℕ) (r : Result Decision ChangeError) → s.disjoint ≡ true
     → IsDecision s parts x (λ c. by_twin s parts x c now (twin_place s parts now)) r → IsDecision s parts x (λ c. add s parts x c now) r
 decision_apart s parts x now r d h = subst (λ z. IsDecision s parts x z r) (fun_ext (λ c. sym (add-apart s parts x c now d))) h
 
 -- The element that is there already, or that none is, decides.
-pub decision_twin : (s : State) (parts : List Interval) (x : Option ℕ) (now : ℕ) (o : Option ℕ) (r : Result Decision InsertError) → o ≡ twin_place s parts now
+pub decision_twin : (s : State) (parts : List Interval) (x : Option ℕ) (now : ℕ) (o : Option ℕ) (r : Result Decision ChangeError) → o ≡ twin_place s parts now
     → IsDecision s parts x (λ c. by_twin s parts x c now o) r → IsDecision s parts x (λ c. by_twin s parts x c now (twin_place s parts now)) r
 decision_twin s parts x now o r at h = subst (λ z. IsDecision s parts x (λ c. by_twin s parts x c now z) r) at h
 
 -- The element that holds the start key decides.
-pub decision_at : (s : State) (parts : List Interval) (x : Option ℕ) (now i : ℕ) (r : Result Decision InsertError) → Some i ≡ place s (start_key parts) now
+pub decision_at : (s : State) (parts : List Interval) (x : Option ℕ) (now i : ℕ) (r : Result Decision ChangeError) → Some i ≡ place s (start_key parts) now
     → IsDecision s parts x (λ c. at_start s i x (same_parts (element_at s i).parts parts)) r → IsDecision s parts x (λ c. by_start s parts x c now (place s (start_key parts) now)) r
 decision_at s parts x now i r at h = subst (λ o. IsDecision s parts x (λ c. by_start s parts x c now o) r) at h
 
@@ -133,10 +135,8 @@ decision_at s parts x now i r at h = subst (λ o. IsDecision s parts x (λ c. by
 pub adds : (s : State) (parts : List Interval) (x : Option ℕ) (why : Option Why) (columns : Vec (List Block)) → IsTest s parts why (Ok columns) → IsDecision s parts x (λ c. add_new s parts x c why) (Ok (Adds columns))
 adds s parts x why columns h = (h.1, λ c. ap (add_new s parts x c) h.0)
 
-pub adds_none : (s : State) (parts : List Interval) (x : Option ℕ) (why : Option Why) (e : InsertError) → IsTest s parts why (Err e) → IsDecision s parts x (λ c. add_new s parts x c why) (Err e)
-adds_none s parts x why (errors.Overlap id) h = λ c. ap (add_new s parts x c) h
-adds_none s parts x why errors.Full h = λ c. ap (add_new s parts x c) h
-adds_none s parts x why (errors.RulesFull f) h = λ c. ap (add_new s parts x c) h
+pub adds_none : (s : State) (parts : List Interval) (x : Option ℕ) (why : Option Why) (e : ChangeError) → IsTest s parts why (Err e) → IsDecision s parts x (λ c. add_new s parts x c why) (Err e)
+adds_none s parts x why (errors.Refused cause) h = λ c. ap (add_new s parts x c) h
 adds_none s parts x why errors.Memory h = tt
 
 pub ruleset decides = (adds, adds_none)
@@ -148,43 +148,15 @@ pub done : (s t : State) (parts : List Interval) (x : Option ℕ) (c : List ℕ)
 done s t parts x c now decision came h a b = (a ∙ ap (λ z. z.0) (sym (h.1 c)), b ∙ ap (λ z. z.1) (sym (h.1 c)))
 
 -- What is refused leaves the set.
-refused_as : (s : State) (parts : List Interval) (x : Option ℕ) (c : List ℕ) (now : ℕ) (e : InsertError) → IsDecision s parts x (λ z. add s parts x z now) (Err e)
+refused_as : (s : State) (parts : List Interval) (x : Option ℕ) (c : List ℕ) (now : ℕ) (e : ChangeError) → IsDecision s parts x (λ z. add s parts x z now) (Err e)
     → IsAnswer (add s parts x c now) (Err e) s s
-refused_as s parts x c now (errors.Overlap id) h = (ap (λ z. z.0) (sym (h c)), ap (λ z. z.1) (sym (h c)))
-refused_as s parts x c now errors.Full h = (ap (λ z. z.0) (sym (h c)), ap (λ z. z.1) (sym (h c)))
-refused_as s parts x c now (errors.RulesFull f) h = (ap (λ z. z.0) (sym (h c)), ap (λ z. z.1) (sym (h c)))
+refused_as s parts x c now (errors.Refused why) h = (ap (λ z. z.0) (sym (h c)), ap (λ z. z.1) (sym (h c)))
 refused_as s parts x c now errors.Memory h = refl
 
-pub refused : (s : State) (parts : List Interval) (x : Option ℕ) (c : List ℕ) (now : ℕ) (r : Result Came InsertError) (e : InsertError) → IsErrAnd r (λ z. z ≡ e)
+pub refused : (s : State) (parts : List Interval) (x : Option ℕ) (c : List ℕ) (now : ℕ) (r : Result Came ChangeError) (e : ChangeError) → IsErrAnd r (λ z. z ≡ e)
     → IsDecision s parts x (λ z. add s parts x z now) (Err e) → IsAnswer (add s parts x c now) r s s
 refused s parts x c now (Ok came) e is h = absurd is
 refused s parts x c now (Err f) e is h = subst (λ z. IsAnswer (add s parts x c now) (Err z) s s) (sym is) (refused_as s parts x c now e h)
-
--- What would come of it is told.
-pub forecast : (s : State) (parts : List Interval) (x : Option ℕ) (now : ℕ) (decision : Decision) (came : Came) → IsDecision s parts x (λ c. add s parts x c now) (Ok decision)
-    → said came ≡ comes decision s.next → IsForecast s parts x now (Ok came)
-forecast s parts x now decision came h a = λ c. a ∙ ap (λ z. z.0) (sym (h.1 c))
-
-forecast_as : (s : State) (parts : List Interval) (x : Option ℕ) (now : ℕ) (e : InsertError) → IsDecision s parts x (λ c. add s parts x c now) (Err e) → IsForecast s parts x now (Err e)
-forecast_as s parts x now (errors.Overlap id) h = λ c. ap (λ z. z.0) (sym (h c))
-forecast_as s parts x now errors.Full h = λ c. ap (λ z. z.0) (sym (h c))
-forecast_as s parts x now (errors.RulesFull f) h = λ c. ap (λ z. z.0) (sym (h c))
-forecast_as s parts x now errors.Memory h = tt
-
-pub forecast_none : (s : State) (parts : List Interval) (x : Option ℕ) (now : ℕ) (r : Result Came InsertError) (e : InsertError) → IsErrAnd r (λ z. z ≡ e)
-    → IsDecision s parts x (λ c. add s parts x c now) (Err e) → IsForecast s parts x now r
-forecast_none s parts x now (Ok came) e is h = absurd is
-forecast_none s parts x now (Err f) e is h = subst (λ z. IsForecast s parts x now (Err z)) (sym is) (forecast_as s parts x now e h)
-
--- The element that is there already, by its place.
-pub twin-at : (s : State) (parts : List Interval) (now : ℕ) → twin s parts now ≡ option_map (element_at s) (twin_place s parts now)
-twin-at s parts now = ap (if_same parts) (first-at s (start_key parts) now (place s (start_key parts) now) refl) ∙ go (place s (start_key parts) now) where
-  go : (o : Option ℕ) → if_same parts (option_map (element_at s) o) ≡ option_map (element_at s) (same_at s parts o)
-  go None = refl
-  go (Some i) = when (same_parts (element_at s i).parts parts) where
-    when : (t : Bool) → (if t then Some (element_at s i) else None) ≡ option_map (element_at s) (if t then Some i else None)
-    when true = refl
-    when false = refl
 
 -- ---- the keys of intervals that fit
 lt-from : (m n k : ℕ) → nat_le m n ≡ true → nat_lt n k ≡ true → nat_lt m k ≡ true

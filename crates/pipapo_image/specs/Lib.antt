@@ -8,6 +8,8 @@ pub mod Sharing
 pub mod Built
 pub mod Grow
 pub mod Insert
+pub mod Decision
+pub mod Deciding
 pub mod Changes
 pub mod Copied
 pub mod Runs

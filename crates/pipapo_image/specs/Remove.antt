@@ -2,14 +2,15 @@
 use Rattle.std.specs.Prelude.{◌≡◌, ℕ, ◌<◌, List, length, Option, Some, None, Result, Ok, Err, position, remove, IfSome}
 use Rattle.set_model.specs.declared.kind.Interval.{Interval}
 use Rattle.set_model.specs.SetState.{State, is_exactly}
-use Rattle.pipapo_image.specs.declared.answers.DeleteError.{DeleteError}
-use Rattle.pipapo_image.specs.declared.answers.DeleteError.TheVariants.{Missing, Memory}
+use Rattle.set_model.specs.declared.report.Why.TheVariants.{Missing}
+use Rattle.pipapo_image.specs.declared.answers.ChangeError.{ChangeError}
+use Rattle.pipapo_image.specs.declared.answers.ChangeError.TheVariants.{Refused, Memory}
 
--- The call answers the id and leaves the set without the element; or there is no such element, or
--- there was no memory, and the set is as it was.
-abbrev pub IsRemoval : Option (ℕ × State) → Result ℕ DeleteError → State → State → Type 0
+-- The call answers the id and leaves the set without the element; or it is missing, or there was no
+-- memory, and the set is as it was.
+abbrev pub IsRemoval : Option (ℕ × State) → Result ℕ ChangeError → State → State → Type 0
 IsRemoval answer (Ok id) old new = answer ≡ Some (id, new)
-IsRemoval answer (Err Missing) old new = (answer ≡ None) × (new ≡ old)
+IsRemoval answer (Err (Refused why)) old new = (why ≡ Missing) × (answer ≡ None) × (new ≡ old)
 IsRemoval answer (Err Memory) old new = new ≡ old
 
 -- the place of the first live element of exactly these intervals, which is one of the list

@@ -1,4 +1,4 @@
-use set_model::Memory;
+use set_model::{Memory, Why};
 
 /// What came of an insertion.
 #[derive(Clone, Copy, Debug, PartialEq, Eq)]
@@ -11,46 +11,26 @@ pub enum Added {
     Renewed { id: u64 },
 }
 
-/// Why an insertion was refused.
+/// Why a change wasn't made: everything is as it was.
+///
+/// The causes come in this order; the first that applies is told. An insertion has `Overlap` (1), `Full` (2) and
+/// `RulesFull` (3); a creation `Exists` (1), `Overlap` (2), `Full` (3) and `RulesFull` (4); a deletion `Missing` (1).
+/// Each may want memory.
 #[derive(Clone, Copy, Debug, PartialEq, Eq)]
-pub enum InsertError {
-    /// A live element is in the way.
-    Overlap { id: u64 },
-    /// The set has as many elements as it may have, or no id is left.
-    Full,
-    /// A field would have too many rules.
-    RulesFull { field: u32 },
+pub enum ChangeError {
+    /// The set's elements and limits don't allow it.
+    Refused(Why),
     /// Want of memory.
     Memory,
 }
 
-impl From<Memory> for InsertError {
+impl From<Memory> for ChangeError {
     ghost use Rattle.std.specs.Prelude.{◌≡◌};
-    ghost use Rattle.pipapo_image.specs.declared.answers.InsertError.TheVariants.{Memory as no_memory};
+    ghost use Rattle.pipapo_image.specs.declared.answers.ChangeError.TheVariants.{Memory as no_memory};
 
     ghost from_gives = { λ _ e. e ≡ no_memory };
 
-    fn from(_: Memory) -> InsertError {
-        InsertError::Memory
-    }
-}
-
-/// Why a deletion took nothing out.
-#[derive(Clone, Copy, Debug, PartialEq, Eq)]
-pub enum DeleteError {
-    /// No live element has exactly these intervals.
-    Missing,
-    /// Want of memory.
-    Memory,
-}
-
-impl From<Memory> for DeleteError {
-    ghost use Rattle.std.specs.Prelude.{◌≡◌};
-    ghost use Rattle.pipapo_image.specs.declared.answers.DeleteError.TheVariants.{Memory as no_memory_left};
-
-    ghost from_gives = { λ _ e. e ≡ no_memory_left };
-
-    fn from(_: Memory) -> DeleteError {
-        DeleteError::Memory
+    fn from(_: Memory) -> ChangeError {
+        ChangeError::Memory
     }
 }

@@ -3,12 +3,12 @@ ghost use Rattle.set_model.specs.SetState.{is_exactly, removed};
 ghost use Rattle.pipapo_image.specs.Found.{element_at, exactly_found};
 ghost use Rattle.pipapo_image.specs.Remove.{IsRemoval, IsExactPlace, without_at};
 
-use crate::answers::DeleteError;
+use crate::answers::ChangeError;
+use crate::decision::is_same;
 use crate::drops::other_widths_without;
 use crate::image::SetImage;
-use crate::insert::is_same;
 use expiry_scan::expired;
-use set_model::{Element, Found, Interval, Memory, Parts};
+use set_model::{Element, Found, Interval, Memory, Parts, Why};
 use std::alloc::Global;
 
 /// The place of the first element that is live and has exactly these intervals.
@@ -35,12 +35,12 @@ impl SetImage {
     /// `Missing` exactly if there is no such element, also where an expired one has these intervals.
     /// `Memory` if there is none left. Each leaves the set as it was.
     #[tactic(auto, using(crate::proofs::Shrinking::never_missing))]
-    pub fn delete(&mut self, alloc: Global, parts: &Parts, now: u64) -> Result<u64, DeleteError>
+    pub fn delete(&mut self, alloc: Global, parts: &Parts, now: u64) -> Result<u64, ChangeError>
         ensures removal { IsRemoval (removed self.old parts.now now) result self.old self.new }
-        ensures missing { removed self.old parts.now now ≡ None → result ≡ Err DeleteError.Missing }
+        ensures missing { removed self.old parts.now now ≡ None → result ≡ Err (ChangeError.Refused Why.Missing) }
     {
         match self.exact_at(parts, now) {
-            None => Err(DeleteError::Missing),
+            None => Err(ChangeError::Refused(Why::Missing)),
             Some(i) => Ok(self.remove_at(alloc, i)?),
         }
     }
@@ -55,9 +55,11 @@ impl SetImage {
         }
     }
 
-    /// Takes the element at place `i` out, and answers its id. All memory is taken before the first
-    /// change.
-    fn remove_at(&mut self, alloc: Global, i: u64) -> Result<u64, Memory>
+    /// Takes the element at place `i` out, and answers its id. The rules of the later elements close up.
+    ///
+    /// # Errors
+    /// `Memory` if there is none left, all of which is taken before the first change. The set is as it was.
+    pub fn remove_at(&mut self, alloc: Global, i: u64) -> Result<u64, Memory>
         requires { i < length self.old.elements }
         ensures ok { IfOk result (λ id. (id ≡ (element_at self.old i).id) × (self.new ≡ without_at self.old i)) }
         ensures err { OnErr result (self.new ≡ self.old) }

@@ -10,6 +10,7 @@ mod append;
 mod changes;
 mod columns;
 mod copy;
+mod decision;
 mod delete;
 mod drops;
 mod fused;
@@ -25,7 +26,8 @@ mod runs;
 mod scratch;
 mod sharing;
 
-pub use answers::{Added, DeleteError, InsertError};
+pub use answers::{Added, ChangeError};
+pub use decision::Decision;
 pub use image::SetImage;
 pub use index::Index;
 pub use laws::apart_law;

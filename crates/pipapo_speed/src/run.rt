@@ -3,7 +3,7 @@ ghost use Rattle.set_model.specs.Key.{key_fits};
 
 use crate::numbers::word_at;
 use crate::workload::{keys_of, kinds_of, parts_at};
-use pipapo_image::{Added, InsertError, Scratch, SetImage};
+use pipapo_image::{Added, ChangeError, Scratch, SetImage};
 use set_model::{Comment, Key, Memory, Parts, parts_fit};
 use std::alloc::Global;
 
@@ -134,7 +134,7 @@ fn add(
     }
     match set.insert(alloc, parts, None, &Comment::new(alloc), 0, scratch) {
         Ok(Added::New { .. }) => Ok(true),
-        Err(InsertError::Memory) => Err(Memory),
+        Err(ChangeError::Memory) => Err(Memory),
         _ => Ok(false),
     }
 }

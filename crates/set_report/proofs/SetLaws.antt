@@ -6,8 +6,8 @@ use Rattle.set_model.specs.declared.report.Why.{Why}
 use Rattle.set_model.specs.Key.{start_key}
 use Rattle.set_model.specs.SetState.{State, add, add_again, add_new, add_by, twin, refusal, place}
 use Rattle.pipapo_image.specs.declared.answers.Added.{Added}
-use Rattle.pipapo_image.specs.declared.answers.InsertError.{InsertError}
-use Rattle.pipapo_image.specs.declared.answers.InsertError.TheVariants.{Overlap, Full, RulesFull, Memory}
+use Rattle.pipapo_image.specs.declared.answers.ChangeError.{ChangeError}
+use Rattle.pipapo_image.specs.declared.answers.ChangeError.TheVariants.{Refused, Memory}
 use Rattle.pipapo_image.specs.Insert.{IsAnswer}
 
 -- an addition
@@ -27,9 +27,7 @@ added-kinds s parts expiry comment now = go (twin s parts now) where
   go None = fresh (refusal s parts now)
 
 -- an insertion, whatever it answers
-pub inserted-kinds : (s t : State) (parts : List Interval) (expiry : Option ℕ) (comment : List ℕ) (now : ℕ) (r : Result Added InsertError) → IsAnswer (add s parts expiry comment now) r s t → t.kinds ≡ s.kinds
+pub inserted-kinds : (s t : State) (parts : List Interval) (expiry : Option ℕ) (comment : List ℕ) (now : ℕ) (r : Result Added ChangeError) → IsAnswer (add s parts expiry comment now) r s t → t.kinds ≡ s.kinds
 inserted-kinds s t parts expiry comment now (Ok came) h = ap (λ (u : State). u.kinds) h.1 ∙ added-kinds s parts expiry comment now
-inserted-kinds s t parts expiry comment now (Err (Overlap id)) h = ap (λ (u : State). u.kinds) h.1 ∙ added-kinds s parts expiry comment now
-inserted-kinds s t parts expiry comment now (Err Full) h = ap (λ (u : State). u.kinds) h.1 ∙ added-kinds s parts expiry comment now
-inserted-kinds s t parts expiry comment now (Err (RulesFull f)) h = ap (λ (u : State). u.kinds) h.1 ∙ added-kinds s parts expiry comment now
+inserted-kinds s t parts expiry comment now (Err (Refused why)) h = ap (λ (u : State). u.kinds) h.1 ∙ added-kinds s parts expiry comment now
 inserted-kinds s t parts expiry comment now (Err Memory) h = ap (λ (u : State). u.kinds) h

@@ -3,13 +3,11 @@
 //! refused insertion or the deletion of a missing element, is found out before a copy is made.
 #![tactic(auto)]
 
-mod answers;
 mod generation;
 mod open_set;
 mod sets;
 mod work;
 
-pub use answers::CreateError;
 pub use generation::Generation;
 pub use sets::Sets;
 pub use work::Work;

@@ -1,17 +1,18 @@
-ghost use Rattle.std.specs.Prelude.{◌≡◌, true, None, length, count_by, IfOk, OnErr};
+ghost use Rattle.std.specs.Prelude.{◌≡◌, ◌<◌, true, None, length, count_by, IfOk, OnErr};
 ghost use Rattle.std.specs.Arc.{arc_value};
 ghost use Rattle.set_model.specs.Key.{parts_fit};
 ghost use Rattle.set_model.specs.SetState.{State, add, removed, purged, cleared};
 ghost use Rattle.expiry_scan.specs.Expired.{is_expired};
-ghost use Rattle.pipapo_image.specs.Insert.{IsAnswer};
-ghost use Rattle.pipapo_image.specs.Remove.{IsRemoval};
+ghost use Rattle.pipapo_image.specs.Found.{element_at};
+ghost use Rattle.pipapo_image.specs.Insert.{IsAnswer, said};
+ghost use Rattle.pipapo_image.specs.Decision.{CanBeDone, comes, left};
+ghost use Rattle.pipapo_image.specs.Remove.{IsRemoval, without_at};
 ghost use Rattle.set_space.specs.OpenSets.{open_state};
 ghost use Rattle.set_space.specs.Answers.{IsCreation};
 
-use crate::answers::CreateError;
 use expiry_scan::count_expired;
-use pipapo_image::{Added, DeleteError, InsertError, Scratch, SetImage};
-use set_model::{Comment, Memory, Parts};
+use pipapo_image::{Added, ChangeError, Decision, Scratch, SetImage};
+use set_model::{Comment, Memory, Parts, Why};
 use std::alloc::Global;
 use std::mem;
 use std::sync::Arc;
@@ -48,8 +49,7 @@ impl OpenSet {
         }
     }
 
-    /// Inserts into the set; a set that isn't this work's alone is copied where something changes.
-    #[tactic(auto, using(crate::proofs::Refusals::insertion_refused))]
+    /// Inserts into the set.
     pub(crate) fn insert(
         &mut self,
         alloc: Global,
@@ -59,24 +59,14 @@ impl OpenSet {
         comment: &Comment,
         now: u64,
         scratch: &mut Scratch,
-    ) -> Result<Added, InsertError>
+    ) -> Result<Added, ChangeError>
         requires { parts_fit (open_state self.old base.now).kinds parts.now ≡ true }
         ensures { IsAnswer (add (open_state self.old base.now) parts.now expiry comment.now now) result (open_state self.old base.now) (open_state self.new base.now) }
     {
-        if let OpenSet::Changed(image) = self {
-            return image.insert(alloc, parts, expiry, comment, now, scratch);
-        }
         let set = self.image(base);
-        let foreseen = set.would_insert(alloc, parts, expiry, now, scratch)?;
-        match foreseen {
-            Added::Already { id } => Ok(Added::Already { id }),
-            Added::New { .. } | Added::Renewed { .. } => {
-                let mut image = set.copy(alloc)?;
-                let added = image.insert(alloc, parts, expiry, comment, now, scratch)?;
-                *self = OpenSet::Changed(image);
-                Ok(added)
-            }
-        }
+        let decision = set.decide(alloc, parts, expiry, now, scratch)?;
+        let came = self.carry_out(alloc, base, decision, parts, expiry, comment)?;
+        Ok(came)
     }
 
     /// Inserts into the set where no live element of the same intervals is there.
@@ -89,45 +79,82 @@ impl OpenSet {
         comment: &Comment,
         now: u64,
         scratch: &mut Scratch,
-    ) -> Result<u64, CreateError>
+    ) -> Result<u64, ChangeError>
         requires { parts_fit (open_state self.old base.now).kinds parts.now ≡ true }
         ensures { IsCreation (add (open_state self.old base.now) parts.now expiry comment.now now) result (open_state self.old base.now) (open_state self.new base.now) }
     {
-        if let Some(id) = self.image(base).find_twin(alloc, parts, now, scratch)? {
-            return Err(CreateError::Exists { id });
+        let set = self.image(base);
+        let decision = set.decide(alloc, parts, expiry, now, scratch)?;
+        if let Some(id) = decision.existing() {
+            return Err(ChangeError::Refused(Why::Exists { id }));
         }
-        match self.insert(alloc, base, parts, expiry, comment, now, scratch)? {
+        match self.carry_out(alloc, base, decision, parts, expiry, comment)? {
             Added::New { id } => Ok(id),
             Added::Already { .. } | Added::Renewed { .. } => unreachable!(),
         }
     }
 
-    /// Takes the first live element of exactly these intervals out; a set that isn't this work's
-    /// alone is copied where there is one.
-    #[tactic(auto, using(crate::proofs::Refusals::is_there))]
+    /// Does what was decided of the set; a set that isn't this work's alone is copied where something
+    /// changes.
+    fn carry_out(
+        &mut self,
+        alloc: Global,
+        base: &SetImage,
+        decision: Decision,
+        parts: &Parts,
+        expiry: Option<u64>,
+        comment: &Comment,
+    ) -> Result<Added, Memory>
+        requires fit { parts_fit (open_state self.old base.now).kinds parts.now ≡ true }
+        requires can { CanBeDone (open_state self.old base.now) parts.now decision }
+        ensures came { IfOk result (λ came. said came ≡ comes decision (open_state self.old base.now).next) }
+        ensures left { IfOk result (λ _. open_state self.new base.now ≡ left (open_state self.old base.now) parts.now expiry comment.now decision) }
+        ensures err { OnErr result (open_state self.new base.now ≡ open_state self.old base.now) }
+    {
+        if let OpenSet::Changed(image) = self {
+            return image.carry_out(alloc, decision, parts, expiry, comment);
+        }
+        if let Decision::Stays { id } = decision {
+            return Ok(Added::Already { id });
+        }
+        let mut image = self.image(base).copy(alloc)?;
+        let came = image.carry_out(alloc, decision, parts, expiry, comment)?;
+        *self = OpenSet::Changed(image);
+        Ok(came)
+    }
+
+    /// Takes the first live element of exactly these intervals out.
     pub(crate) fn delete(
         &mut self,
         alloc: Global,
         base: &SetImage,
         parts: &Parts,
         now: u64,
-    ) -> Result<u64, DeleteError>
+    ) -> Result<u64, ChangeError>
         ensures removal { IsRemoval (removed (open_state self.old base.now) parts.now now) result (open_state self.old base.now) (open_state self.new base.now) }
-        ensures missing { removed (open_state self.old base.now) parts.now now ≡ None → result ≡ Err DeleteError.Missing }
+        ensures missing { removed (open_state self.old base.now) parts.now now ≡ None → result ≡ Err (ChangeError.Refused Why.Missing) }
+    {
+        match self.image(base).find_exact(parts, now) {
+            None => Err(ChangeError::Refused(Why::Missing)),
+            Some(found) => Ok(self.remove_at(alloc, base, found.place)?),
+        }
+    }
+
+    /// Takes the element at place `i` out, and answers its id; a set that isn't this work's alone is
+    /// copied.
+    fn remove_at(&mut self, alloc: Global, base: &SetImage, i: u64) -> Result<u64, Memory>
+        requires { i < length (open_state self.old base.now).elements }
+        ensures id { IfOk result (λ id. id ≡ (element_at (open_state self.old base.now) i).id) }
+        ensures left { IfOk result (λ _. open_state self.new base.now ≡ without_at (open_state self.old base.now) i) }
+        ensures err { OnErr result (open_state self.new base.now ≡ open_state self.old base.now) }
     {
         if let OpenSet::Changed(image) = self {
-            return image.delete(alloc, parts, now);
+            return image.remove_at(alloc, i);
         }
-        let set = self.image(base);
-        match set.find_exact(parts, now) {
-            None => Err(DeleteError::Missing),
-            Some(_) => {
-                let mut image = set.copy(alloc)?;
-                let id = image.delete(alloc, parts, now)?;
-                *self = OpenSet::Changed(image);
-                Ok(id)
-            }
-        }
+        let mut image = self.image(base).copy(alloc)?;
+        let id = image.remove_at(alloc, i)?;
+        *self = OpenSet::Changed(image);
+        Ok(id)
     }
 
     /// Takes all elements out, and answers how many there were.

@@ -2,9 +2,9 @@ ghost use Rattle.std.specs.Prelude.{IfOk, All};
 ghost use Rattle.set_space.specs.Open.{CanBeBuilt};
 
 use crate::{Generation, Work};
-use pipapo_image::{Added, InsertError};
+use pipapo_image::{Added, ChangeError};
 use set_model::{
-    Comment, Family, Interval, Kind, Kinds, Memory, Name, Parts, Schema, SetDecl, parts_fit,
+    Comment, Family, Interval, Kind, Kinds, Memory, Name, Parts, Schema, SetDecl, Why, parts_fit,
 };
 use std::alloc::Global;
 use std::process::Abort;
@@ -79,7 +79,7 @@ fn is_range_refused(rt: &impl Abort, alloc: Global, work: &mut Work) -> Result<b
     assert!(rt; 0 < work.len());
     assert!(rt; parts_fit(&work.set(0).kinds, &parts));
     let answer = work.insert(0, &parts, None, &Comment::new(alloc), 0);
-    Ok(answer == Err(InsertError::Overlap { id: 0 }))
+    Ok(answer == Err(ChangeError::Refused(Why::Overlap { id: 0 })))
 }
 
 /// Creates the port in set 0 at a moment. Its id, if it is new.

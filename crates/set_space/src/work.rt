@@ -8,12 +8,11 @@ ghost use Rattle.set_space.specs.Open.{opened, sealed, FitsSet, Lacks, IsChange}
 ghost use Rattle.set_space.specs.Answers.{IsCreation, IsDestruction, IsFlush};
 ghost use Rattle.set_space.specs.OpenSets.{open_states, IsSealed};
 
-use crate::answers::CreateError;
 use crate::generation::Generation;
 use crate::open_set::OpenSet;
 use crate::sets::Sets;
-use pipapo_image::{Added, DeleteError, InsertError, Scratch, SetImage};
-use set_model::{Comment, Memory, Parts};
+use pipapo_image::{Added, ChangeError, Scratch, SetImage};
+use set_model::{Comment, Memory, Parts, Why};
 use std::alloc::Global;
 use std::marker::Model;
 use std::sync::Arc;
@@ -165,7 +164,7 @@ impl Work {
         expiry: Option<u64>,
         comment: &Comment,
         now: u64,
-    ) -> Result<Added, InsertError>
+    ) -> Result<Added, ChangeError>
         requires set { set < length self.old.sets }
         requires fits { FitsSet self.old set parts.now }
         ensures change { IsChange (λ s t. IsAnswer (add s parts.now expiry comment.now now) result s t) self.old set self.new }
@@ -196,7 +195,7 @@ impl Work {
         expiry: Option<u64>,
         comment: &Comment,
         now: u64,
-    ) -> Result<u64, CreateError>
+    ) -> Result<u64, ChangeError>
         requires set { set < length self.old.sets }
         requires fits { FitsSet self.old set parts.now }
         ensures change { IsChange (λ s t. IsCreation (add s parts.now expiry comment.now now) result s t) self.old set self.new }
@@ -220,10 +219,10 @@ impl Work {
     ///
     /// `Missing` exactly if there is none, also where no memory is left. `Memory` if there is none left
     /// to take it out. Each leaves the work as it was.
-    pub fn delete(&mut self, set: u32, parts: &Parts, now: u64) -> Result<u64, DeleteError>
+    pub fn delete(&mut self, set: u32, parts: &Parts, now: u64) -> Result<u64, ChangeError>
         requires { set < length self.old.sets }
         ensures change { IsChange (λ s t. IsRemoval (removed s parts.now now) result s t) self.old set self.new }
-        ensures missing { Lacks self.old set parts.now now → result ≡ Err DeleteError.Missing }
+        ensures missing { Lacks self.old set parts.now now → result ≡ Err (ChangeError.Refused Why.Missing) }
         ensures refused { OnErr result (self.new ≡ self.old) }
     {
         let base = self.base.set(set);
@@ -243,8 +242,8 @@ impl Work {
     {
         match self.delete(set, parts, now) {
             Ok(id) => Ok(Some(id)),
-            Err(DeleteError::Missing) => Ok(None),
-            Err(DeleteError::Memory) => Err(Memory),
+            Err(ChangeError::Refused(_)) => Ok(None),
+            Err(ChangeError::Memory) => Err(Memory),
         }
     }
 

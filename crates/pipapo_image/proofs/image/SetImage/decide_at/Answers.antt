@@ -1,5 +1,6 @@
 use Rattle.std.proofs.Common.{◌∙◌, sym, subst, Ok}
-use Rattle.pipapo_image.specs.Insert.{IsDecision, at_start}
+use Rattle.pipapo_image.specs.Decision.{IsDecision}
+use Rattle.pipapo_image.specs.Deciding.{at_start}
 use Rattle.pipapo_image.proofs.image.SetImage.decide_at.Goals as goal
 
 pub returns-then-has_parts : goal.returns-then-has_parts
