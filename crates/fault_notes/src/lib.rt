@@ -4,10 +4,13 @@
 
 mod bad;
 mod bad_token;
+mod changes;
 mod content;
 mod files;
 mod help;
 mod note;
+mod refusals;
+mod refused;
 mod source;
 #[cfg(test)]
 mod tests;
@@ -17,3 +20,4 @@ pub use bad_token::BadToken;
 pub use files::{read_fault_note, too_large_note};
 pub use help::TextKind;
 pub use note::Note;
+pub use refusals::refusals_note;

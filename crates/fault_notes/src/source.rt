@@ -37,7 +37,7 @@ fn first_of(text: &[u8], most: usize) -> &[u8] {
 }
 
 /// The bytes behind the last line feed.
-fn last_line(text: &[u8]) -> &[u8]
+pub(crate) fn last_line(text: &[u8]) -> &[u8]
     ensures { length result.now ≤ length text.now }
 {
     match text.iter().rposition(|b| *b == b'\n') {
