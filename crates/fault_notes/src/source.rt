@@ -1,10 +1,10 @@
 //! The line that a token stands in, and the token under it.
 ghost use Rattle.std.specs.Prelude.{◌≤◌, ◌+◌, length};
 
-use crate::bad_token::BadToken;
 use crate::content::without_blanks;
 use crate::note::Note;
 use set_model::Memory;
+use token_forms::BadToken;
 
 /// How many bytes of a line are shown before a token, of the token, and behind it.
 const BEFORE: usize = 100;

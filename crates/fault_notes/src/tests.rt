@@ -72,6 +72,12 @@ fn bad_tokens_are_told_in_their_lines(rt: HostRuntime) {
         },
         Case {
             kind: TextKind::Script,
+            text: b"add set ip t s { type ipv4_addr ; }\nadd element ip t q { 10.0.0.1 }\n",
+            bad: bad(53, 1, 2, 18, Reason::Set),
+            told: b"x:2:18: 'q' is no set that may be named here (set)\nadd element ip t q { 10.0.0.1 }\n                 ^\nhelp: a set is declared before it is used, once, and before the first commit, abort or round; there are 64 at most; those before it: s\n",
+        },
+        Case {
+            kind: TextKind::Script,
             text: b"ip t s 10.0.0.1\n",
             bad: bad(0, 2, 1, 1, Reason::Statement),
             told: b"x:1:1: this looks like a key file: the script is named first, and then the key file\n",

@@ -1,16 +1,20 @@
 -- Reading a key file gives what the table of its forms says.
-use Rattle.std.proofs.Common.{◌≡◌, sym, subst, ℕ, ◌<◌, List, [], ◌∷◌, ◌++◌, length, Bool, true, Option, Some, None, codes, slice_get, Result, OnOk}
+use Rattle.std.proofs.Common.{◌≡◌, sym, subst, ℕ, ◌<◌, List, [], ◌∷◌, ◌++◌, length, Bool, true, Option, Some, None, codes, slice_get, Result, Ok, Err, OnOk, IfOk}
 use Rattle.set_model.specs.declared.kind.Kind.{Kind}
 use Rattle.set_model.specs.declared.script.SetDecl.{SetDecl}
 use Rattle.set_model.specs.declared.packet.Packet.{Packet}
+use Rattle.token_forms.specs.declared.token.Reason.{Reason}
 use Rattle.token_forms.specs.declared.token.Reason.TheVariants as reasons
 use Rattle.token_forms.specs.declared.error.ReadError.{ReadError}
+use Rattle.token_forms.specs.declared.error.ReadError.TheVariants as errors
 use Rattle.token_forms.specs.Token.{Lexeme}
 use Rattle.token_forms.specs.Form.{Form}
 use Rattle.token_forms.specs.Reading.{Outcome}
 use Rattle.token_forms.specs.Words.{breaks_off}
 use Rattle.token_forms.specs.Gives.{Gives}
 use Rattle.token_forms.specs.TextTokens.{text_tokens}
+use Rattle.token_forms.specs.BadTokens.{IsBadTokenOf}
+use Rattle.token_forms.proofs.BadTokenLaws.{IsRefusedAt}
 use Rattle.token_forms.proofs.FormLaws.{Reads, Begins, never, weaken, bind_definite, bind_begins, done_reads, nowhere_reads}
 use Rattle.token_forms.proofs.EitherLaw.{maybe_reads}
 use Rattle.token_forms.proofs.ManyLaw.{many_reads}
@@ -118,15 +122,24 @@ body_reads schema = bind_done_same (λ s. (next_section s.0).sections) (key_line
 
 -- what reading a whole key file says of its text
 schema_gives : (schema : List SetDecl) (text : List ℕ) (ts : List Lexeme) (r : Result (List (List Packet)) ReadError) (new : List Lexeme) → ts ≡ text_tokens text → Gives (λ x. x) r new (reading.key_file schema ts)
-    → TextGives (form.body schema) (text_tokens text) (λ x. x) r
+    → TextGives (form.body schema) (text_tokens text) (λ x. x) r new
 unfolding reading.key_file
 schema_gives schema text ts r new e g =
-    subst (λ z. TextGives (form.body schema) z (λ x. x) r) e
+    subst (λ z. TextGives (form.body schema) z (λ x. x) r new) e
     (text_gives (form.body schema) ts (λ x. x) r new (reading.body schema ts) (text_answer (body_reads schema) (λ _. end_no_break_line) ts (subst Ends (sym e) (text_ends text))) g)
 
 pub keys_gives : (schema given : List SetDecl) (text : List ℕ) (ts : List Lexeme) (r : Result (List (List Packet)) ReadError) (new : List Lexeme) → given ≡ schema → ts ≡ text_tokens text → Gives (λ x. x) r new (reading.key_file given ts)
-    → TextGives (form.body schema) (text_tokens text) (λ x. x) r
+    → TextGives (form.body schema) (text_tokens text) (λ x. x) r new
 keys_gives schema given text ts r new same e g = schema_gives schema text ts r new e (subst (λ (z : List SetDecl). Gives (λ x. x) r new (reading.key_file z ts)) same g)
+
+-- a text that is read has no bad token
+pub keys_unrefused : (schema given : List SetDecl) (text : List ℕ) (ts : List Lexeme) (r : Result (List (List Packet)) ReadError) (new : List Lexeme) → given ≡ schema → ts ≡ text_tokens text → Gives (λ x. x) r new (reading.key_file given ts)
+    → (keys : List (List Packet)) → r ≡ Ok keys → IsBadTokenOf (form.key_file schema) text None
+keys_unrefused schema given text ts r new same e g keys k = (keys, subst (λ z. IfOk z ((form.key_file schema).whole (text_tokens text))) k (keys_gives schema given text ts r new same e g).found)
+
+pub keys_refused : (schema given : List SetDecl) (text : List ℕ) (ts : List Lexeme) (r : Result (List (List Packet)) ReadError) (new : List Lexeme) → given ≡ schema → ts ≡ text_tokens text → Gives (λ x. x) r new (reading.key_file given ts)
+    → (line : ℕ) (reason : Reason) → r ≡ Err (errors.Bad line reason) → IsRefusedAt (form.key_file schema) (text_tokens text) line reason new
+keys_refused schema given text ts r new same e g line reason k = (keys_gives schema given text ts r new same e g).bad line reason k
 
 pub keys_single : (schema : List SetDecl) (text : List ℕ) (keys other : List (List Packet)) → IsKeysText schema text keys → IsKeysText schema text other → keys ≡ other
 unfolding IsKeysText

@@ -3,6 +3,7 @@ ghost use Rattle.token_forms.specs.Gives.{Gives, IsReadAs};
 ghost use Rattle.token_forms.specs.TextTokens.{text_tokens};
 ghost use Rattle.token_forms.specs.Faults.{IsFault};
 ghost use Rattle.token_forms.specs.Fronts.{AreFrontsClosed, IsRefusedOnce};
+ghost use Rattle.token_forms.specs.BadTokens.{HasOneBadToken, IsBadTokenOf};
 ghost use Rattle.token_forms.specs.declared.token.Reason.{Reason};
 ghost use Rattle.token_forms.specs.declared.error.ReadError.TheVariants.{Bad};
 ghost use Rattle.set_model.specs.declared.packet.Packet.{Packet};
@@ -12,9 +13,9 @@ ghost use Rattle.key_file.specs.KeysText.{IsKeysText};
 ghost use Rattle.set_model.specs.Runnable.{IsFitting};
 
 use crate::lines::{begin_section, key_lines};
-use set_model::{Keys, Schema, SetDecl};
+use set_model::{Keys, Memory, Schema, SetDecl};
 use std::alloc::Global;
-use token_forms::{ReadError, Reader};
+use token_forms::{BadToken, ReadError, Reader, bad_token_before};
 
 /// Why a text isn't read as a key file.
 pub type KeyError = ReadError;
@@ -58,6 +59,25 @@ pub fn read_keys(alloc: Global, schema: &Schema, text: &[u8]) -> Result<Keys, Ke
     whole(&mut reader, alloc, schema.as_slice())
 }
 
+/// The bad token of a text, for the sets of a schema: where it stands, and the reason; `None` exactly where the text is in
+/// the grammar. It is the token of which `read_keys` tells the line and the reason.
+///
+/// # Errors
+///
+/// `Memory` where there is none left.
+pub fn bad_token(alloc: Global, schema: &Schema, text: &[u8]) -> Result<Option<BadToken>, Memory>
+    ensures { IfOk result (IsBadTokenOf (key_file schema.now) text.now) }
+{
+    let mut reader = Reader::new(text);
+    match whole(&mut reader, alloc, schema.as_slice()) {
+        Ok(_) => return Ok(None),
+        Err(ReadError::Memory) => return Err(Memory),
+        Err(ReadError::Bad { reason, .. }) => {
+            return Ok(bad_token_before(text, reader, reason));
+        }
+    }
+}
+
 /// A text stands for one key file at most.
 pub fn one_key_file_law(_schema: &Schema, _text: &[u8])
     ensures { (keys other : List (List Packet)) → IsKeysText _schema.now _text.now keys → IsKeysText _schema.now _text.now other → keys ≡ other }
@@ -68,7 +88,8 @@ pub fn key_file_fronts_law(_schema: &Schema)
     ensures { AreFrontsClosed (key_file _schema.now) }
 {}
 
-/// A text that is no key file is refused at one line and for one reason.
+/// A text that is no key file is refused at one line and for one reason, and by one token.
 pub fn one_key_file_fault_law(_schema: &Schema, _text: &[u8])
-    ensures { IsRefusedOnce (key_file _schema.now) (text_tokens _text.now) }
+    ensures refused { IsRefusedOnce (key_file _schema.now) (text_tokens _text.now) }
+    ensures token { HasOneBadToken (key_file _schema.now) _text.now }
 {}

@@ -9,6 +9,6 @@ mod packets;
 mod tests;
 
 pub use keys::{
-    KeyError, key_file_fronts_law, one_key_file_fault_law, one_key_file_law, read_keys,
+    KeyError, bad_token, key_file_fronts_law, one_key_file_fault_law, one_key_file_law, read_keys,
 };
-pub use token_forms::Reason;
+pub use token_forms::{BadToken, Reason};

@@ -1,4 +1,4 @@
-use crate::{KeyError, read_keys};
+use crate::{KeyError, bad_token, read_keys};
 use set_model::{Family, Keys, Kind, Kinds, Memory, Name, Schema, Script, SetDecl};
 use set_script::read_script;
 use std::alloc::Global;
@@ -232,5 +232,29 @@ fn faults_have_their_line_and_reason(rt: HostRuntime) -> Result<(), Fail> {
     }
     let none = Schema::new(alloc);
     assert!(rt; is_fault(alloc, &none, b"\nip t p 80", 2, Reason::Set));
+    Ok(())
+}
+
+/// The place, the length, the line and the column of the bad token of a text, and the reason.
+fn place(alloc: Global, schema: &Schema, text: &[u8]) -> Option<(u64, u64, u64, u64, Reason)> {
+    match bad_token(alloc, schema, text) {
+        Ok(Some(t)) => Some((t.at, t.length, t.line, t.column, t.reason)),
+        _ => None,
+    }
+}
+
+#[test]
+fn bad_tokens_have_places(rt: HostRuntime) -> Result<(), Fail> {
+    let alloc = rt.alloc();
+    let schema = port_sets(alloc)?;
+    for (text, expected) in [
+        (b"t p 80\nt q 80".as_slice(), (9, 1, 2, 3, Reason::Set)),
+        (b"t p 80\n\tt p 70000\n", (12, 5, 2, 6, Reason::Value)),
+        (b"t p 80 ;", (7, 1, 1, 8, Reason::Statement)),
+        (b"t p", (3, 0, 1, 4, Reason::End)),
+    ] {
+        assert_eq!(rt; place(alloc, &schema, text), Some(expected), "{text:?}");
+    }
+    assert_eq!(rt; bad_token(alloc, &schema, b"t p 80"), Ok(None));
     Ok(())
 }

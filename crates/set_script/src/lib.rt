@@ -18,8 +18,8 @@ mod words;
 
 pub use place::{place_of_set, used_set};
 pub use script::{
-    ScriptError, one_script_fault_law, one_script_law, read_script, script_fronts_law,
+    ScriptError, bad_token, one_script_fault_law, one_script_law, read_script, script_fronts_law,
 };
-pub use token_forms::{Reason, Token, TokenKind, Tokens};
+pub use token_forms::{BadToken, Reason, Token, TokenKind, Tokens};
 pub use values::read_moment;
 pub use words::read_family;

@@ -1,4 +1,4 @@
-use crate::{ScriptError, read_script};
+use crate::{ScriptError, bad_token, read_script};
 use std::alloc::Global;
 use std::test::Fail;
 use token_forms::Reason;
@@ -11,6 +11,41 @@ fn refusal(alloc: Global, text: &[u8]) -> Option<(u64, Reason)> {
         Err(ScriptError::Bad { line, reason }) => Some((line, reason)),
         _ => None,
     }
+}
+
+/// The place, the length, the line and the column of the bad token of a text, and the reason.
+fn place(alloc: Global, text: &[u8]) -> Option<(u64, u64, u64, u64, Reason)> {
+    match bad_token(alloc, text) {
+        Ok(Some(t)) => Some((t.at, t.length, t.line, t.column, t.reason)),
+        _ => None,
+    }
+}
+
+#[test]
+fn bad_tokens_have_places(rt: HostRuntime) -> Result<(), Fail> {
+    let alloc = rt.alloc();
+    for (text, expected) in [
+        (b"at 5\nat 4".as_slice(), (8, 1, 2, 4, Reason::Moment)),
+        (
+            b"table t {\nset s {\ntype mark\n\tauto-merge\n}\n}",
+            (29, 10, 4, 2, Reason::LeftOut),
+        ),
+        (b"at 5 \\\n$", (7, 1, 2, 1, Reason::Character)),
+        (b"commit\nadd", (10, 0, 2, 4, Reason::End)),
+        (
+            b"add set ip t p { type inet_service ; comment \"\xc3\xa4\" x }",
+            (50, 1, 1, 51, Reason::Statement),
+        ),
+    ] {
+        assert_eq!(rt; place(alloc, text), Some(expected), "{text:?}");
+    }
+    Ok(())
+}
+
+#[test]
+fn scripts_have_no_bad_token(rt: HostRuntime) -> Result<(), Fail> {
+    assert_eq!(rt; bad_token(rt.alloc(), b"at 5\ncommit"), Ok(None));
+    Ok(())
 }
 
 #[test]

@@ -3,6 +3,7 @@ ghost use Rattle.token_forms.specs.Gives.{Gives, IsReadAs};
 ghost use Rattle.token_forms.specs.TextTokens.{text_tokens};
 ghost use Rattle.token_forms.specs.Faults.{IsFault};
 ghost use Rattle.token_forms.specs.Fronts.{AreFrontsClosed, IsRefusedOnce};
+ghost use Rattle.token_forms.specs.BadTokens.{HasOneBadToken, IsBadTokenOf};
 ghost use Rattle.token_forms.specs.declared.token.Reason.{Reason};
 ghost use Rattle.token_forms.specs.declared.error.ReadError.TheVariants.{Bad};
 ghost use Rattle.set_model.specs.declared.script.Script.{Script};
@@ -17,9 +18,9 @@ use crate::place::{table_place, used_set};
 use crate::sets::{new_set, set_body, starts_a_line, table_block};
 use crate::values;
 use crate::words::{AddWord, FirstWord, FlushWord, add_word_of, first_word_of, flush_word_of};
-use set_model::{Script, SetDecl, Step, Steps, Verb};
+use set_model::{Memory, Script, SetDecl, Step, Steps, Verb};
 use std::alloc::Global;
-use token_forms::{ReadError, Reader, short};
+use token_forms::{BadToken, ReadError, Reader, bad_token_before, short};
 
 /// Why a text isn't read as a script.
 pub type ScriptError = ReadError;
@@ -297,6 +298,25 @@ pub fn read_script(alloc: Global, text: &[u8]) -> Result<Script, ScriptError>
     whole(&mut reader, alloc)
 }
 
+/// The bad token of a text: where it stands, and the reason; `None` exactly where the text is in the grammar. It is the
+/// token of which `read_script` tells the line and the reason.
+///
+/// # Errors
+///
+/// `Memory` where there is none left.
+pub fn bad_token(alloc: Global, text: &[u8]) -> Result<Option<BadToken>, Memory>
+    ensures { IfOk result (IsBadTokenOf script text.now) }
+{
+    let mut reader = Reader::new(text);
+    match whole(&mut reader, alloc) {
+        Ok(_) => return Ok(None),
+        Err(ReadError::Memory) => return Err(Memory),
+        Err(ReadError::Bad { reason, .. }) => {
+            return Ok(bad_token_before(text, reader, reason));
+        }
+    }
+}
+
 /// A text stands for one script at most.
 pub fn one_script_law(_text: &[u8])
     ensures { (s other : Script) → IsScriptText _text.now s → IsScriptText _text.now other → s ≡ other }
@@ -307,7 +327,8 @@ pub fn script_fronts_law()
     ensures { AreFrontsClosed script }
 {}
 
-/// A text that is no script is refused at one line and for one reason.
+/// A text that is no script is refused at one line and for one reason, and by one token.
 pub fn one_script_fault_law(_text: &[u8])
-    ensures { IsRefusedOnce script (text_tokens _text.now) }
+    ensures refused { IsRefusedOnce script (text_tokens _text.now) }
+    ensures token { HasOneBadToken script _text.now }
 {}

@@ -72,13 +72,13 @@ tokens_end zero line place (b ∷ bytes) =
     (tokens_end ((piece b bytes).size - 1) (line_behind b line) (place + 1) bytes)
 
 linked_end : (behind : Bool) (others : List Spelling) (last : Spelling) → is_end last.kind ≡ true → NoEndSpelled others → Ends (linked behind (others ++ last ∷ []))
-linked_end behind [] last h k = record { others = []; last = record { kind = last.kind; line = last.line; bytes = last.bytes; behind = behind }; split = refl; is_end = h; inner = tt }
+linked_end behind [] last h k = record { others = []; last = record { kind = last.kind; line = last.line; from = last.from; bytes = last.bytes; behind = behind }; split = refl; is_end = h; inner = tt }
 linked_end behind (t ∷ others) last h k =
     let e = linked_end (is_change_word t.kind t.bytes) others last h k.1 in
     record {
-      others = record { kind = t.kind; line = t.line; bytes = t.bytes; behind = behind } ∷ e.others;
+      others = record { kind = t.kind; line = t.line; from = t.from; bytes = t.bytes; behind = behind } ∷ e.others;
       last = e.last;
-      split = ap (λ z. record { kind = t.kind; line = t.line; bytes = t.bytes; behind = behind } ∷ z) e.split;
+      split = ap (λ z. record { kind = t.kind; line = t.line; from = t.from; bytes = t.bytes; behind = behind } ∷ z) e.split;
       is_end = e.is_end;
       inner = (k.0, e.inner);
     }

@@ -1,11 +1,13 @@
 -- What stands before any place of a front, or of what is whole, is a front; so a text has one bad token.
-use Rattle.std.proofs.Common.{◌≡◌, ◌⊎◌, inl, inr, refl, sym, ◌∙◌, ap, subst, ◌≤◌, List, [], ◌∷◌, ◌++◌, Bool, true, false, arith, append_assoc}
+use Rattle.std.proofs.Common.{◌≡◌, ◌⊎◌, inl, inr, refl, sym, ◌∙◌, ap, subst, ◌≤◌, ℕ, List, [], ◌∷◌, ◌++◌, Bool, true, false, arith, append_assoc}
 use Rattle.token_forms.specs.declared.token.Reason.{Reason}
 use Rattle.token_forms.specs.Token.{Lexeme}
 use Rattle.token_forms.specs.Form.{Form, one, done, nowhere, either, many, last, next, ◌>>=◌}
 use Rattle.token_forms.specs.Words.{skip, line, lines}
-use Rattle.token_forms.specs.Faults.{IsBad, IsReason, rank}
+use Rattle.token_forms.specs.Faults.{IsBad, IsReason, IsFault, rank}
 use Rattle.token_forms.specs.Fronts.{IsRefusedOnce}
+use Rattle.token_forms.specs.TextTokens.{text_tokens}
+use Rattle.token_forms.specs.BadTokens.{HasOneBadToken, bad_token_of}
 use Rattle.token_forms.proofs.ReasonLaws.{of_rank, rank_back}
 
 pub record Closed {A : Type 0} (f : Form A) : Type 0 where
@@ -134,6 +136,14 @@ one_reason a t p q i j =
     let same : rank p ≡ rank q = omega arith in
     sym (rank_back p) ∙ ap of_rank same ∙ rank_back q
 
+-- tokens outside a form have one bad token
+pub one_token : {A : Type 0} {f : Form A} → Closed f → (ts : List Lexeme) (line other : ℕ) (reason why : Reason) (i : IsFault f ts line reason) (j : IsFault f ts other why) → i.bad ≡ j.bad
+one_token {A} {f} k ts line other reason why i j = go (places i.before i.bad i.behind j.before j.bad j.behind (sym i.split ∙ j.split)) where
+  go : Places i.before i.bad j.before j.bad → i.bad ≡ j.bad
+  go (inl (h, e)) = e
+  go (inr (inl b)) = absurd (not_past k i.before j.before i.bad i.is_bad j.is_bad.front b)
+  go (inr (inr b)) = absurd (not_past k j.before i.before j.bad j.is_bad i.is_bad.front b)
+
 pub refused_once : {A : Type 0} {f : Form A} → Closed f → (ts : List Lexeme) → IsRefusedOnce f ts
 refused_once {A} {f} k ts line other reason why i j = go (places i.before i.bad i.behind j.before j.bad j.behind (sym i.split ∙ j.split)) where
   go : Places i.before i.bad j.before j.bad → (line ≡ other) × (reason ≡ why)
@@ -143,3 +153,9 @@ refused_once {A} {f} k ts line other reason why i j = go (places i.before i.bad 
   )
   go (inr (inl b)) = absurd (not_past k i.before j.before i.bad i.is_bad j.is_bad.front b)
   go (inr (inr b)) = absurd (not_past k j.before i.before j.bad j.is_bad i.is_bad.front b)
+
+pub bad_token_once : {A : Type 0} {f : Form A} → Closed f → (text : List ℕ) → HasOneBadToken f text
+bad_token_once {A} {f} k text b other i j =
+    let token : i.fault.bad ≡ j.fault.bad = one_token k (text_tokens text) b.line other.line b.reason other.reason i.fault j.fault in
+    let reason : b.reason ≡ other.reason = (refused_once k (text_tokens text) b.line other.line b.reason other.reason i.fault j.fault).1 in
+    i.placed ∙ ap (λ t. bad_token_of text t b.reason) token ∙ ap (bad_token_of text j.fault.bad) reason ∙ sym j.placed

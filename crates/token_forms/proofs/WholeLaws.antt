@@ -61,15 +61,19 @@ asks_cases body ts q (inl p) = p
 asks_cases body ts q (inr (a, x, y, h, w, inl i)) = absurd i.1
 asks_cases body ts q (inr (a, x, y, h, w, inr (u, y1, y2, e, v, i))) = absurd i
 
+-- the text is refused for its token t, behind which these stand
+abbrev pub IsFaultBy : {A : Type 0} → Form A → List Lexeme → Lexeme → Reason → List Lexeme → Type 0
+IsFaultBy f ts t reason rest = (k : IsFault f ts t.line reason) × (k.behind ≡ rest)
+
 -- what reading the body of a text says of the text
 abbrev pub TextAnswer : {A : Type 0} → Form A → List Lexeme → Outcome A → Type 0
 TextAnswer {A} body ts (Read a []) = ⊥
 TextAnswer {A} body ts (Read a (t ∷ rest)) = elim (is_end t.kind) [
   | true ↦ (text_of body).whole ts a × ((b : A) → (text_of body).whole ts b → a ≡ b)
-  | false ↦ IsFault (text_of body) ts t.line (reason_of t [])
+  | false ↦ IsFaultBy (text_of body) ts t (reason_of t []) rest
 ]
 TextAnswer {A} body ts Short = ⊥
-TextAnswer {A} body ts (Bad t sorts rest) = IsFault (text_of body) ts t.line (reason_of t sorts)
+TextAnswer {A} body ts (Bad t sorts rest) = IsFaultBy (text_of body) ts t (reason_of t sorts) rest
 
 pub text_answer : {A : Type 0} {body : Form A} {more : A → Lexeme → Bool} {r : List Lexeme → Outcome A} → Reads body more r → ((a : A) (t : Lexeme) → is_end t.kind ≡ true → more a t ≡ false)
     → (ts : List Lexeme) → Ends ts → TextAnswer body ts (r ts)
@@ -89,17 +93,8 @@ text_answer {A} {body} {more} {r} law apart ts ends = go (r ts) (law.meets ts) w
   stops_end a = apart a ends.last ends.is_end
 
   fault : (t : Lexeme) (sorts : List Reason) (rest x : List Lexeme) → ts ≡ x ++ t ∷ rest → body.front x → ((y others : List Lexeme) → ts ≡ y ++ others → body.front y → length rest < length others)
-      → ((a : A) → (text_of body).whole ts a → ⊥) → (is_word t.kind ≡ true → AsksFor body x sorts) → IsFault (text_of body) ts t.line (reason_of t sorts)
-  fault t sorts rest x e p fronts none asked = record {
-    outside = none;
-    before = x;
-    bad = t;
-    behind = rest;
-    split = e;
-    is_bad = record { front = inl p; no_front = λ q. no_front (front_cases body law.whole_front (x ++ t ∷ []) q) };
-    in_line = refl;
-    is_reason = reason_is (text_of body) x t sorts (λ w. record { found = λ q i. inl ((asked w).found q i); all = λ q i. (asked w).all q (asks_cases body x q i) });
-  } where
+      → ((a : A) → (text_of body).whole ts a → ⊥) → (is_word t.kind ≡ true → AsksFor body x sorts) → IsFaultBy (text_of body) ts t (reason_of t sorts) rest
+  fault t sorts rest x e p fronts none asked = (fault_of, refl) where
     whole_there : (a : A) → (text_of body).whole (x ++ t ∷ []) a → ⊥
     whole_there a w =
         let k = body_of body (x ++ t ∷ []) a w in
@@ -111,8 +106,20 @@ text_answer {A} {body} {more} {r} law apart ts ends = go (r ts) (law.meets ts) w
     no_front (inl q) = let l = fronts (x ++ t ∷ []) rest (e ∙ sym (append_assoc x (t ∷ []) rest)) q in omega arith
     no_front (inr (a, w)) = whole_there a w
 
+    fault_of : IsFault (text_of body) ts t.line (reason_of t sorts)
+    fault_of = record {
+      outside = none;
+      before = x;
+      bad = t;
+      behind = rest;
+      split = e;
+      is_bad = record { front = inl p; no_front = λ q. no_front (front_cases body law.whole_front (x ++ t ∷ []) q) };
+      in_line = refl;
+      is_reason = reason_is (text_of body) x t sorts (λ w. record { found = λ q i. inl ((asked w).found q i); all = λ q i. (asked w).all q (asks_cases body x q i) });
+    }
+
   read_to : (a : A) (t : Lexeme) (rest : List Lexeme) → ReadsTo body more ts a (t ∷ rest) → (b : Bool) → is_end t.kind ≡ b
-      → elim b as (λ _. Type 0) [ true ↦ (text_of body).whole ts a × ((b : A) → (text_of body).whole ts b → a ≡ b) | false ↦ IsFault (text_of body) ts t.line (reason_of t []) ]
+      → elim b as (λ _. Type 0) [ true ↦ (text_of body).whole ts a × ((b : A) → (text_of body).whole ts b → a ≡ b) | false ↦ IsFaultBy (text_of body) ts t (reason_of t []) rest ]
   read_to a t rest m true i =
       let same = same_cut ends.others m.x ends.last t rest ends.inner (law.inner m.x (law.whole_front m.x a m.whole)) ends.is_end i (sym ends.split ∙ m.split) in
       let e : ts ≡ m.x ++ t ∷ [] = m.split ∙ ap (λ z. m.x ++ t ∷ z) same.2 in (

@@ -12,3 +12,4 @@ pub mod Gives
 pub mod TokensLeft
 pub mod View
 pub mod Fronts
+pub mod BadTokens

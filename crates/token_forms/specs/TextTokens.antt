@@ -12,7 +12,7 @@ is_change_word kind bytes = is_word kind && (bytes_eq bytes (codes "delete") || 
 -- each token is told whether the one before it is such a word
 abbrev pub linked : Bool → List Spelling → List Lexeme
 linked behind [] = []
-linked behind (t ∷ ts) = record { kind = t.kind; line = t.line; bytes = t.bytes; behind = behind } ∷ linked (is_change_word t.kind t.bytes) ts
+linked behind (t ∷ ts) = record { kind = t.kind; line = t.line; from = t.from; bytes = t.bytes; behind = behind } ∷ linked (is_change_word t.kind t.bytes) ts
 
 abbrev pub text_tokens : List ℕ → List Lexeme
 text_tokens text = linked false (tokens text)

@@ -19,6 +19,7 @@ token_of s = record { kind = s.kind; line = s.line; from = s.from; to = s.from +
 pub record Lexeme : Type 0 where
   pub kind : TokenKind
   pub line : ℕ
+  pub from : ℕ
   pub bytes : List ℕ
   pub behind : Bool
 

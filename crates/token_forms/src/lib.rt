@@ -2,6 +2,7 @@
 //! stand for, and which token is the first that doesn't fit.
 #![tactic(auto)]
 
+mod bad_token;
 mod error;
 mod lexer;
 mod piece;
@@ -11,6 +12,7 @@ mod seen;
 mod token;
 mod tokens;
 
+pub use bad_token::{BadToken, bad_token_before};
 pub use error::{ReadError, short};
 pub use reader::{Reader, is_a_name};
 pub use seen::Seen;

@@ -70,6 +70,7 @@ impl<'a> Reader<'a> {
             Some(t) => Some(Seen {
                 kind: t.kind,
                 line: t.line,
+                from: t.from,
                 bytes: t.bytes,
                 behind: self.behind,
             }),
@@ -91,6 +92,7 @@ impl<'a> Reader<'a> {
                 Some(Seen {
                     kind: t.kind,
                     line: t.line,
+                    from: t.from,
                     bytes: t.bytes,
                     behind,
                 })

@@ -15,6 +15,8 @@ pub struct Seen<'a> {
     pub kind: TokenKind,
     /// 1 plus the number of line feeds before its first byte.
     pub line: u64,
+    /// The place of its first byte in the text.
+    pub from: u64,
     pub bytes: &'a [u8],
     /// Whether the token before it is the word `delete`, `destroy` or `create`, behind which the words `set` and
     /// `table` belong to a part of nft's language that is left out.

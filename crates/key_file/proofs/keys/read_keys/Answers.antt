@@ -12,7 +12,7 @@ unfolding IsKeysText
 returns-clause-only c = (keys_gives c.args.schema.now _ c.args.text.now _ c.whole.result _ c.as_slice.ensures c.new-reader.ensures c.whole.ensures).only
 
 pub returns-clause-bad : goal.returns-clause-bad
-returns-clause-bad c = (keys_gives c.args.schema.now _ c.args.text.now _ c.whole.result _ c.as_slice.ensures c.new-reader.ensures c.whole.ensures).bad
+returns-clause-bad c = λ line reason e. ((keys_gives c.args.schema.now _ c.args.text.now _ c.whole.result _ c.as_slice.ensures c.new-reader.ensures c.whole.ensures).bad line reason e).0
 
 pub returns-clause-fits : goal.returns-clause-fits
 unfolding IsKeysText

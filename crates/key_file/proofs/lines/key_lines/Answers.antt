@@ -20,4 +20,4 @@ lines-preserved c =
 pub returns-in-Err : goal.returns-in-Err
 returns-in-Err c =
     let yes : line_starts {S = KeyDraft} breaks_off any_word (c.lines.d, c.lines.next) (lexeme_of c.in-Some.t) ≡ true = let k = c.starts_a_line-starts.ensures c.lines.d in cc in
-    left_bad c.in-Err.e c.lines.invariant c.in-Some.ensures.1 yes c.in-Err.ensures.gives
+    left_bad c.in-Err.e _ c.lines.invariant c.in-Some.ensures.1 yes c.in-Err.ensures.gives

@@ -17,4 +17,4 @@ options-preserved c =
 pub returns-in-Err : goal.returns-in-Err
 returns-in-Err c =
     let yes : starts_option c.options.o (lexeme_of c.in-Some.t) ≡ true = let k = c.starts_an_option-starts.ensures c.options.o in cc in
-    left_bad c.in-Err.e c.options.invariant c.in-Some.ensures.1 yes c.in-Err.ensures.gives
+    left_bad c.in-Err.e _ c.options.invariant c.in-Some.ensures.1 yes c.in-Err.ensures.gives

@@ -17,4 +17,4 @@ items-preserved c =
 pub returns-in-Err : goal.returns-in-Err
 returns-in-Err c =
     let yes : starts_element (c.items.steps, c.items.next) (lexeme_of c.in-Some.t) ≡ true = let k = c.starts_a_list_item-starts.ensures c.items.steps in cc in
-    left_bad c.in-Err.e c.items.invariant c.in-Some.ensures.1 yes c.in-Err.ensures.gives
+    left_bad c.in-Err.e _ c.items.invariant c.in-Some.ensures.1 yes c.in-Err.ensures.gives

@@ -11,7 +11,7 @@ unfolding IsScriptText
 returns-clause-only c = (script_gives c.args.text.now _ c.whole.result _ c.new-reader.ensures c.whole.ensures).only
 
 pub returns-clause-bad : goal.returns-clause-bad
-returns-clause-bad c = (script_gives c.args.text.now _ c.whole.result _ c.new-reader.ensures c.whole.ensures).bad
+returns-clause-bad c = λ line reason e. ((script_gives c.args.text.now _ c.whole.result _ c.new-reader.ensures c.whole.ensures).bad line reason e).0
 
 pub returns-clause-runnable : goal.returns-clause-runnable
 unfolding IsScriptText

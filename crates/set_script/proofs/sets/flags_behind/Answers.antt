@@ -17,4 +17,4 @@ flags-preserved c =
 pub returns-in-Err : goal.returns-in-Err
 returns-in-Err c =
     let yes : starts_flag c.flags.b (lexeme_of c.in-Some.t) ≡ true = let k = c.starts_a_flag-starts.ensures c.flags.b in cc in
-    left_bad c.in-Err.e c.flags.invariant c.in-Some.ensures.1 yes c.in-Err.ensures.gives
+    left_bad c.in-Err.e _ c.flags.invariant c.in-Some.ensures.1 yes c.in-Err.ensures.gives

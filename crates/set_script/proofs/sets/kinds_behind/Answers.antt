@@ -17,4 +17,4 @@ kinds-preserved c =
 pub returns-in-Err : goal.returns-in-Err
 returns-in-Err c =
     let yes : starts_kind c.kinds.kinds (lexeme_of c.in-Some.t) ≡ true = let k = c.starts_a_kind-starts.ensures c.kinds.kinds in cc in
-    left_bad c.in-Err.e c.kinds.invariant c.in-Some.ensures.1 yes c.in-Err.ensures.gives
+    left_bad c.in-Err.e _ c.kinds.invariant c.in-Some.ensures.1 yes c.in-Err.ensures.gives

@@ -1,0 +1,90 @@
+ghost use Rattle.std.specs.Prelude.{◌≡◌, ◌∷◌, ◌++◌, ◌+◌, ◌<◌, ◌≤◌, ◌^◌, List, Some, length, take, reverse, not};
+ghost use Rattle.std.specs.List.{prefix_len};
+ghost use Rattle.token_forms.specs.Bytes.{is_line_feed};
+ghost use Rattle.token_forms.specs.Token.{Lexeme};
+ghost use Rattle.token_forms.specs.TextTokens.{text_tokens};
+ghost use Rattle.token_forms.specs.BadTokens.{IsSeen, column_at, bad_token_of};
+
+use crate::reader::Reader;
+use crate::seen::Seen;
+use crate::token::Reason;
+
+/// The token by which a text is refused: the first that doesn't fit.
+#[derive(Clone, Copy, Debug, PartialEq, Eq)]
+pub struct BadToken {
+    /// The place of its first byte in the text, from 0; the length of the text where the text ends too early.
+    pub at: u64,
+    /// How many bytes it has; none where the text ends too early.
+    pub length: u64,
+    /// 1 plus the number of line feeds before its first byte.
+    pub line: u64,
+    /// 1 plus the number of bytes between the start of its line and its first byte. Bytes are counted, not characters.
+    pub column: u64,
+    pub reason: Reason,
+}
+
+/// The bytes of a text before a place: all of them, where the place lies behind its end.
+fn bytes_before(text: &[u8], at: u64) -> &[u8]
+    ensures { result.now ≡ take at text.now }
+{
+    let length = text.len().min(at as usize);
+    &text[..length]
+}
+
+/// How many bytes stand behind the last line feed, or all where there is none.
+fn last_line(text: &[u8]) -> usize
+    ensures run { result ≡ prefix_len (λ b. not (is_line_feed b)) (reverse text.now) }
+    ensures within { result ≤ length text.now }
+{
+    text.iter().rev().take_while(|b| **b != b'\n').count()
+}
+
+/// What is left of a reader behind as many tokens as another one has.
+fn skipped<'a>(ahead: Reader<'a>, left: Reader) -> Reader<'a>
+    requires { length left ≤ length ahead }
+    ensures { length result + length left.entry ≡ length ahead.entry }
+{
+    let mut ahead = ahead;
+    let mut left = left;
+    'skip: while let Some(_) = left.take() {
+        ahead.take();
+    }
+    ahead
+}
+
+/// The last of the first tokens of a text, where these are as many as a reader has.
+fn last_of<'a>(text: &'a [u8], ahead: Reader) -> Option<Seen<'a>>
+    requires { length ahead ≤ length (text_tokens text.now) }
+    ensures { (before : List Lexeme) (t : Lexeme) (rest : List Lexeme) → text_tokens text.now ≡ before ++ t ∷ rest → length ahead.entry ≡ length before + 1 → IsSeen t result }
+{
+    let mut ahead = ahead;
+    let mut reader = Reader::new(text);
+    let mut last = None;
+    'tokens: while let Some(_) = ahead.take() {
+        last = reader.take();
+    }
+    last
+}
+
+/// The token of a text behind which these are left.
+fn token_before<'a>(text: &'a [u8], left: Reader) -> Option<Seen<'a>>
+    requires { length left ≤ length (text_tokens text.now) }
+    ensures { (before : List Lexeme) (t : Lexeme) → text_tokens text.now ≡ before ++ t ∷ left.entry → IsSeen t result }
+{
+    last_of(text, skipped(Reader::new(text), left))
+}
+
+/// The bad token of a text that is refused for this reason, behind which these tokens are left.
+pub fn bad_token_before(text: &[u8], left: Reader, reason: Reason) -> Option<BadToken>
+    requires { length left ≤ length (text_tokens text.now) }
+    ensures { (before : List Lexeme) (t : Lexeme) → text_tokens text.now ≡ before ++ t ∷ left.entry → result ≡ Some (bad_token_of text.now t reason) }
+{
+    let token = token_before(text, left)?;
+    Some(BadToken {
+        at: token.from,
+        length: token.bytes.len() as u64,
+        line: token.line,
+        column: 1 + last_line(bytes_before(text, token.from)) as u64,
+        reason,
+    })
+}
