@@ -2,17 +2,23 @@
 ghost use Rattle.std.specs.Prelude.{IfOk};
 ghost use Rattle.fault_notes.specs.Shown.{Begins, place_text};
 
-use crate::bad_token::BadToken;
 use crate::content::{foreign, swapped, without_blanks};
 use crate::help::{TextKind, help, what_is_wrong};
 use crate::note::Note;
 use crate::source::{Cut, cut_at};
 use set_model::Memory;
 use std::alloc::Global;
-use token_forms::Reason;
+use token_forms::{BadToken, Reason};
 
 /// What is wrong, the line with a caret under the token, and what to do.
-fn explained(alloc: Global, kind: TextKind, cut: Cut<'_>, reason: Reason) -> Result<Note, Memory> {
+fn explained(
+    alloc: Global,
+    kind: TextKind,
+    text: &[u8],
+    bad: BadToken,
+    cut: Cut<'_>,
+) -> Result<Note, Memory> {
+    let reason = bad.reason;
     let mut note = Note::new(alloc);
     if cut.token.is_empty() && !matches!(reason, Reason::End) {
         note.say(b"the end of the line")?;
@@ -24,6 +30,9 @@ fn explained(alloc: Global, kind: TextKind, cut: Cut<'_>, reason: Reason) -> Res
     note.source_line(cut)?;
     note.say(b"help: ")?;
     note.say(help(kind, reason, cut.token, cut.is_first()))?;
+    if matches!((kind, reason), (TextKind::Script, Reason::Set)) {
+        note.declared_names(text, bad.at)?;
+    }
     note.end_line()?;
     Ok(note)
 }
@@ -45,7 +54,7 @@ fn said(alloc: Global, kind: TextKind, text: &[u8], bad: BadToken) -> Result<Not
     if let Some(what) = swapped(kind, cut.line) {
         return told_as(alloc, what);
     }
-    explained(alloc, kind, cut, bad.reason)
+    explained(alloc, kind, text, bad, cut)
 }
 
 /// What a person is told of a text that isn't in its grammar: `NAME:LINE:COLUMN: what is wrong`, the line of the text

@@ -1,10 +1,10 @@
 //! The line that a token stands in, and the token under it.
 ghost use Rattle.std.specs.Prelude.{◌≤◌, ◌+◌, length};
 
-use crate::bad_token::BadToken;
 use crate::content::without_blanks;
 use crate::note::Note;
 use set_model::Memory;
+use token_forms::BadToken;
 
 /// How many bytes of a line are shown before a token, of the token, and behind it.
 const BEFORE: usize = 100;
@@ -37,7 +37,7 @@ fn first_of(text: &[u8], most: usize) -> &[u8] {
 }
 
 /// The bytes behind the last line feed.
-fn last_line(text: &[u8]) -> &[u8]
+pub(crate) fn last_line(text: &[u8]) -> &[u8]
     ensures { length result.now ≤ length text.now }
 {
     match text.iter().rposition(|b| *b == b'\n') {

@@ -1,5 +1,10 @@
-use crate::{BadToken, TextKind, bad_text_note, read_fault_note, too_large_note};
+use crate::{BadToken, TextKind, bad_text_note, read_fault_note, refusals_note, too_large_note};
 use pip_base::FaultKind;
+use set_model::{
+    Comment, Family, Interval, Kind, Kinds, Memory, Name, Parts, Schema, Script, Sections, SetDecl,
+    Step, Steps, Verb,
+};
+use std::alloc::Global;
 use std::test::Fail;
 use token_forms::Reason;
 
@@ -64,6 +69,12 @@ fn bad_tokens_are_told_in_their_lines(rt: HostRuntime) {
             text: b"t\x1b\xc3 s\n",
             bad: bad(2, 1, 1, 3, Reason::Character),
             told: b"x:1:3: '\\xc3' begins nothing that is read here (character)\nt\\x1b\\xc3 s\n     ^^^^\nhelp: only ASCII is read, but for strings and comments\n",
+        },
+        Case {
+            kind: TextKind::Script,
+            text: b"add set ip t s { type ipv4_addr ; }\nadd element ip t q { 10.0.0.1 }\n",
+            bad: bad(53, 1, 2, 18, Reason::Set),
+            told: b"x:2:18: 'q' is no set that may be named here (set)\nadd element ip t q { 10.0.0.1 }\n                 ^\nhelp: a set is declared before it is used, once, and before the first commit, abort or round; there are 64 at most; those before it: s\n",
         },
         Case {
             kind: TextKind::Script,
@@ -136,5 +147,116 @@ fn files_are_told_by_their_names(rt: HostRuntime) -> Result<(), Fail> {
         note.as_slice(),
         b"a.nft: a file may have 67108864 bytes (64 MiB) at most\n".as_slice()
     );
+    Ok(())
+}
+
+/// The set `ip t s` of addresses.
+fn address_set(alloc: Global) -> Result<SetDecl, Memory> {
+    let mut kinds = Kinds::new(alloc);
+    kinds.push(Kind::Ipv4)?;
+    Ok(SetDecl {
+        family: Family::Ip,
+        table: Name::from_vec(Vec::from_slice(alloc, b"t")?),
+        name: Name::from_vec(Vec::from_slice(alloc, b"s")?),
+        kinds,
+        interval: true,
+        timed: false,
+        disjoint: false,
+        timeout: None,
+        size: None,
+    })
+}
+
+/// The addition of an interval of addresses in a line.
+fn addition(alloc: Global, line: u64, low: u128, high: u128) -> Result<Step, Memory> {
+    let mut parts = Parts::new(alloc);
+    parts.push(Interval { low, high })?;
+    Ok(Step::Change {
+        line,
+        set: 0,
+        verb: Verb::Add,
+        parts,
+        expiry: None,
+        comment: Comment::new(alloc),
+        now: 0,
+    })
+}
+
+/// The steps of `OVERLAP`: 10.0.1.0/24 in line 5, and 10.0.1.128/25 in line 6.
+fn two_additions(alloc: Global) -> Result<Steps, Memory> {
+    let mut steps = Steps::new(alloc);
+    steps.push(addition(alloc, 5, 0x0a00_0100, 0x0a00_01ff)?)?;
+    steps.push(addition(alloc, 6, 0x0a00_0180, 0x0a00_01ff)?)?;
+    Ok(steps)
+}
+
+/// The script of `OVERLAP`.
+fn overlap_script(alloc: Global) -> Result<Script, Memory> {
+    let mut schema = Schema::new(alloc);
+    schema.push(address_set(alloc)?)?;
+    let mut sections = Sections::new(alloc);
+    sections.push(two_additions(alloc)?)?;
+    Ok(Script {
+        schema,
+        sections,
+        last: 0,
+    })
+}
+
+const OVERLAP: &[u8] =
+    b"table ip t {\n set s {\n type ipv4_addr; flags interval\n elements = {\n  10.0.1.0/24,\n  10.0.1.128/25 } } }\n";
+
+/// Whether so much is told of the refusals of an output of `OVERLAP`.
+fn is_told_of(rt: &HostRuntime, output: &[u8], told: &[u8]) -> bool {
+    let Ok(script) = overlap_script(rt.alloc()) else {
+        return false;
+    };
+    match refusals_note(rt.alloc(), "x.nft", OVERLAP, &script, output) {
+        Ok(note) => note.as_slice() == told,
+        Err(_) => false,
+    }
+}
+
+#[test]
+fn refusals_are_told_with_both_elements(rt: HostRuntime) {
+    let told = b"x.nft:6:3: 10.0.1.128/25 overlaps 10.0.1.0/24 (line 5)\n".as_slice();
+    assert!(rt;
+        is_told_of(
+            &rt,
+            b"line 6 refused overlap ip t s element 0\nfail generation 0\n",
+            told
+        )
+    );
+    assert!(rt;
+        is_told_of(
+            &rt,
+            b"commit generation 1 purged 0\npacket 0 thread 0 generation 1 none\n",
+            b""
+        )
+    );
+    assert!(rt;
+        is_told_of(
+            &rt,
+            b"# line 6 refused full ip t s\n# fail generation 0\n",
+            b"x.nft:6:3: 10.0.1.128/25 doesn't fit: the set has as many elements as it may have\nx.nft: the last transaction failed: what is written is the generation before it\n"
+        )
+    );
+}
+
+/// More than 20 refused changes are counted.
+#[test]
+fn many_refusals_are_counted(rt: HostRuntime) -> Result<(), Fail> {
+    let mut output = Vec::new(rt.alloc());
+    for _ in 0..23 {
+        output.extend_from_slice(b"line 5 refused full ip t s\n")?;
+    }
+    let mut told = Vec::new(rt.alloc());
+    for _ in 0..20 {
+        told.extend_from_slice(
+            b"x.nft:5:3: 10.0.1.0/24 doesn't fit: the set has as many elements as it may have\n",
+        )?;
+    }
+    told.extend_from_slice(b"x.nft: 3 more changes are refused\n")?;
+    assert!(rt; is_told_of(&rt, output.as_slice(), told.as_slice()));
     Ok(())
 }

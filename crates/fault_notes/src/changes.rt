@@ -1,0 +1,188 @@
+//! Which steps of a script a refusal speaks of.
+use crate::refused::{Cause, Refused, SetWords, family_word};
+use set_model::{Interval, Memory, Schema, Script, SetDecl, Step, Verb};
+use std::alloc::Global;
+
+/// How many changes of one line are looked at.
+const MOST_ON_LINE: usize = 16;
+
+/// A change of a script: its place among all steps, its line, and its intervals.
+#[derive(Clone, Copy)]
+pub(crate) struct Change<'a> {
+    place: u64,
+    verb: Verb,
+    pub(crate) line: u64,
+    pub(crate) parts: &'a [Interval],
+}
+
+/// What a refusal speaks of: the change, and the element in its way, each where no other can be meant.
+#[derive(Clone, Copy)]
+pub(crate) struct Spoken<'a> {
+    pub(crate) change: Option<Change<'a>>,
+    pub(crate) older: Option<Change<'a>>,
+}
+
+fn is_set(decl: &SetDecl, words: SetWords<'_>) -> bool {
+    family_word(decl.family) == words.family
+        && decl.table.as_slice() == words.table
+        && decl.name.as_slice() == words.name
+}
+
+/// The place of a set among those declared.
+pub(crate) fn set_place(schema: &Schema, words: SetWords<'_>) -> Option<usize> {
+    schema
+        .as_slice()
+        .iter()
+        .position(|decl| is_set(decl, words))
+}
+
+fn is_verb(cause: Cause, verb: Verb) -> bool {
+    match cause {
+        Cause::Missing => matches!(verb, Verb::Delete),
+        Cause::Exists => matches!(verb, Verb::Create),
+        Cause::Overlap | Cause::Full | Cause::Rules => matches!(verb, Verb::Add | Verb::Create),
+    }
+}
+
+fn adds(verb: Verb) -> bool {
+    matches!(verb, Verb::Add | Verb::Create)
+}
+
+/// Whether intervals hold the first key of others.
+fn holds_start(older: &[Interval], newer: &[Interval]) -> bool {
+    older.iter().zip(newer).all(|(part, other)| part.low <= other.low && other.low <= part.high)
+}
+
+/// Whether intervals hold the last key of others.
+fn holds_end(older: &[Interval], newer: &[Interval]) -> bool {
+    older.iter().zip(newer).all(|(part, other)| part.low <= other.high && other.high <= part.high)
+}
+
+/// Whether two lists of intervals share a key.
+fn shares(older: &[Interval], newer: &[Interval]) -> bool {
+    older.iter().zip(newer).all(|(part, other)| part.low <= other.high && other.low <= part.high)
+}
+
+/// Whether an element may be the one that refuses a change so.
+fn may_refuse(cause: Cause, is_disjoint: bool, older: &[Interval], newer: &[Interval]) -> bool {
+    match cause {
+        Cause::Exists => older == newer,
+        Cause::Overlap => {
+            older != newer
+                && (holds_start(older, newer)
+                    || holds_end(older, newer)
+                    || (is_disjoint && shares(older, newer)))
+        }
+        Cause::Full | Cause::Rules | Cause::Missing => false,
+    }
+}
+
+/// The changes of a line that may be the refused one, so many at most.
+fn changes_of<'a>(
+    alloc: Global,
+    script: &'a Script,
+    set: usize,
+    refused: Refused<'_>,
+) -> Result<Vec<Change<'a>>, Memory> {
+    let mut found = Vec::new(alloc);
+    let mut place = 0u64;
+    for steps in script.sections.as_slice() {
+        for step in steps.as_slice() {
+            if let Some(change) = change_of(step, place, set) {
+                if change.line == refused.line && is_verb(refused.cause, change.verb) {
+                    if found.len() > MOST_ON_LINE {
+                        return Ok(found);
+                    }
+                    found.push(change)?;
+                }
+            }
+            place = place.saturating_add(1);
+        }
+    }
+    Ok(found)
+}
+
+/// A step as a change of that set.
+fn change_of(step: &Step, place: u64, set: usize) -> Option<Change<'_>> {
+    match step {
+        Step::Change {
+            line,
+            set: other,
+            verb,
+            parts,
+            ..
+        } if *other as usize == set => Some(Change {
+            place,
+            line: *line,
+            verb: *verb,
+            parts: parts.as_slice(),
+        }),
+        _ => None,
+    }
+}
+
+/// The earlier additions that may be the element in a change's way: the first, and whether it is the only one.
+fn olders_of<'a>(
+    script: &'a Script,
+    set: usize,
+    is_disjoint: bool,
+    cause: Cause,
+    newer: Change<'_>,
+) -> (Option<Change<'a>>, bool) {
+    let mut first = None;
+    let mut is_only = true;
+    let mut place = 0u64;
+    for steps in script.sections.as_slice() {
+        for step in steps.as_slice() {
+            if let Some(change) = change_of(step, place, set) {
+                if change.place < newer.place
+                    && adds(change.verb)
+                    && may_refuse(cause, is_disjoint, change.parts, newer.parts)
+                {
+                    is_only = is_only && first.is_none();
+                    first = first.or(Some(change));
+                }
+            }
+            place = place.saturating_add(1);
+        }
+    }
+    (first, is_only)
+}
+
+/// What a refusal speaks of. A change whose line has more that may be meant isn't named, nor an element of which there are
+/// more that may be in its way.
+pub(crate) fn spoken_of<'a>(
+    alloc: Global,
+    script: &'a Script,
+    set: usize,
+    is_disjoint: bool,
+    refused: Refused<'_>,
+) -> Result<Spoken<'a>, Memory> {
+    let changes = changes_of(alloc, script, set, refused)?;
+    let mut spoken = Spoken {
+        change: None,
+        older: None,
+    };
+    let mut meant = 0u64;
+    if changes.len() > MOST_ON_LINE {
+        return Ok(spoken);
+    }
+    let wants_older = matches!(refused.cause, Cause::Overlap | Cause::Exists);
+    for change in &changes {
+        let (older, is_only) = olders_of(script, set, is_disjoint, refused.cause, *change);
+        if older.is_some() || !wants_older {
+            meant = meant.saturating_add(1);
+            spoken = Spoken {
+                change: Some(*change),
+                older: if is_only { older } else { None },
+            };
+        }
+    }
+    if meant > 1 {
+        spoken = Spoken {
+            change: None,
+            older: None,
+        };
+    }
+    Ok(spoken)
+}

@@ -1,0 +1,65 @@
+//! The sets that a script has declared before a place.
+use crate::note::Note;
+use set_model::Memory;
+use token_forms::{TokenKind, Tokens};
+
+/// How many names of sets are told.
+const MOST_NAMES: u64 = 8;
+
+/// The name of a set that is being declared: the last word between the word `set` and its `{`.
+#[derive(Clone, Copy)]
+enum Declared<'a> {
+    /// The word `set` hasn't stood in this statement.
+    NoSet,
+    /// It has, and this is the last word behind it.
+    Set(&'a [u8]),
+}
+
+impl<'a> Declared<'a> {
+    /// What a word makes of it.
+    fn behind(self, word: &'a [u8]) -> Declared<'a> {
+        match self {
+            Declared::NoSet if word == b"set".as_slice() => Declared::Set(b""),
+            Declared::NoSet => Declared::NoSet,
+            Declared::Set(_) => Declared::Set(word),
+        }
+    }
+}
+
+impl Note {
+    /// Adds a name of a set that was declared, as one of those told so far.
+    fn declared_name(&mut self, name: &[u8], told: u64) -> Result<(), Memory> {
+        self.say(if told == 0 {
+            b"; those before it: "
+        } else {
+            b", "
+        })?;
+        self.say(if told < MOST_NAMES { name } else { b".." })
+    }
+
+    /// Adds the names of the sets that are declared before a place in a text, the first of them.
+    pub(crate) fn declared_names(&mut self, text: &[u8], at: u64) -> Result<(), Memory> {
+        let mut declared = Declared::NoSet;
+        let mut told = 0u64;
+        for token in Tokens::new(text) {
+            if token.from >= at || told > MOST_NAMES {
+                return Ok(());
+            }
+            let bytes = text
+                .get(token.from as usize..token.to as usize)
+                .unwrap_or(b"");
+            if matches!(token.kind, TokenKind::Word) {
+                declared = declared.behind(bytes);
+                continue;
+            }
+            if let (Declared::Set(name), b"{") = (declared, bytes) {
+                if self.declared_name(name, told).is_err() {
+                    return Err(Memory);
+                }
+                told = told.saturating_add(1);
+            }
+            declared = Declared::NoSet;
+        }
+        Ok(())
+    }
+}

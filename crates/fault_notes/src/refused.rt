@@ -1,0 +1,95 @@
+//! The refused changes of a run, as the lines of its output tell them.
+use crate::source::first_line;
+use addr_text::read_number;
+use set_model::Family;
+
+/// The greatest number that a line tells of a line, a field or an element.
+const MOST: u64 = 1_000_000_000_000_000;
+
+/// Why a change was refused.
+#[derive(Clone, Copy, PartialEq, Eq)]
+pub(crate) enum Cause {
+    Overlap,
+    Exists,
+    Full,
+    Rules,
+    Missing,
+}
+
+/// A set by its three words.
+#[derive(Clone, Copy)]
+pub(crate) struct SetWords<'a> {
+    pub(crate) family: &'a [u8],
+    pub(crate) table: &'a [u8],
+    pub(crate) name: &'a [u8],
+}
+
+/// A refused change: the line of the script that it stands in, and its set.
+#[derive(Clone, Copy)]
+pub(crate) struct Refused<'a> {
+    pub(crate) line: u64,
+    pub(crate) cause: Cause,
+    pub(crate) set: SetWords<'a>,
+}
+
+/// The bytes before the first blank, and those behind it.
+fn next_word(line: &[u8]) -> (&[u8], &[u8]) {
+    match line.iter().position(|b| *b == b' ') {
+        Some(i) => (&line[..i], &line[i + 1..]),
+        None => (line, &[]),
+    }
+}
+
+fn cause_of(word: &[u8]) -> Option<Cause> {
+    match word {
+        b"overlap" => Some(Cause::Overlap),
+        b"exists" => Some(Cause::Exists),
+        b"full" => Some(Cause::Full),
+        b"rules" => Some(Cause::Rules),
+        b"missing" => Some(Cause::Missing),
+        _ => None,
+    }
+}
+
+/// A line of an output without the mark of a comment in front.
+pub(crate) fn without_mark(line: &[u8]) -> &[u8] {
+    line.strip_prefix(b"# ").unwrap_or(line)
+}
+
+/// The refused change that a line tells, as `line 4 refused overlap ip t s element 0`.
+pub(crate) fn refused_by(line: &[u8]) -> Option<Refused<'_>> {
+    let behind = without_mark(line).strip_prefix(b"line ")?;
+    let (number, behind) = next_word(behind);
+    let (_, behind) = next_word(behind);
+    let (cause, behind) = next_word(behind);
+    let (family, behind) = next_word(behind);
+    let (table, behind) = next_word(behind);
+    let (name, _) = next_word(behind);
+    Some(Refused {
+        line: read_number(number, MOST)?,
+        cause: cause_of(cause)?,
+        set: SetWords {
+            family,
+            table,
+            name,
+        },
+    })
+}
+
+/// A family by its name in nft(8).
+pub(crate) fn family_word(family: Family) -> &'static [u8] {
+    match family {
+        Family::Ip => b"ip",
+        Family::Ip6 => b"ip6",
+        Family::Inet => b"inet",
+        Family::Arp => b"arp",
+        Family::Bridge => b"bridge",
+        Family::Netdev => b"netdev",
+    }
+}
+
+/// The first line of a text, and the bytes behind its line feed.
+pub(crate) fn next_line(text: &[u8]) -> (&[u8], &[u8]) {
+    let line = first_line(text);
+    (line, &text[text.len().min(line.len().saturating_add(1))..])
+}
