@@ -272,8 +272,14 @@ fn changes_and_their_refusals_are_handed_on(rt: HostRuntime) {
         Err(ChangeError::Refused(Why::Exists { id: 0 }))
     );
     assert_eq!(rt; create(&rt, alloc, all, 81), Ok(1));
-    assert_eq!(rt; add(&rt, alloc, all, 82), Err(ChangeError::Refused(Why::Full)));
-    assert_eq!(rt; delete(&rt, alloc, all, 82), Err(ChangeError::Refused(Why::Missing)));
+    assert_eq!(rt;
+        add(&rt, alloc, all, 82),
+        Err(ChangeError::Refused(Why::Full))
+    );
+    assert_eq!(rt;
+        delete(&rt, alloc, all, 82),
+        Err(ChangeError::Refused(Why::Missing))
+    );
     assert_eq!(rt; delete(&rt, alloc, all, 81), Ok(1));
     assert_eq!(rt; destroy(&rt, alloc, all, 81), Ok(None));
     assert_eq!(rt; destroy(&rt, alloc, all, 80), Ok(Some(0)));

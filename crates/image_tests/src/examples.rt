@@ -64,7 +64,14 @@ fn a_set_of_one_is_full(rt: HostRuntime) -> Result<(), Fail> {
     let mut trial = Trial::new(&rt, rt.alloc(), &PORTS, Some(1))?;
     adds(&rt, &mut trial, 80, 80, None, Ok(Added::New { id: 0 }));
     adds(&rt, &mut trial, 80, 80, None, Ok(Added::Already { id: 0 }));
-    adds(&rt, &mut trial, 81, 81, None, Err(ChangeError::Refused(Why::Full)));
+    adds(
+        &rt,
+        &mut trial,
+        81,
+        81,
+        None,
+        Err(ChangeError::Refused(Why::Full)),
+    );
     Ok(())
 }
 

@@ -1,4 +1,4 @@
-use Rattle.std.proofs.Common.{◌≡◌, sym, ◌∙◌, ap, subst, rules, ℕ, Option, Some}
+use Rattle.std.proofs.Common.{sym, ◌∙◌, ap, ℕ, Option, Some}
 use Rattle.set_model.specs.SetState.{State}
 use Rattle.pipapo_image.specs.Found.{exactly_found}
 use Rattle.pipapo_image.specs.Remove.{without_at}
