@@ -7,3 +7,4 @@ pub mod Plans
 pub mod PlansReading
 pub mod PlansText
 pub mod Planned
+pub mod Fitting

@@ -1,8 +1,9 @@
-ghost use Rattle.std.specs.Prelude.{◌≡◌, ◌≤◌, ◌+◌, length, true, Some};
+ghost use Rattle.std.specs.Prelude.{◌≡◌, ◌≤◌, ◌+◌, length, true, Some, IfOk, All};
 ghost use Rattle.pcap_keys.specs.Packets as packets;
 ghost use Rattle.pcap_keys.specs.Savefile as savefile;
 ghost use Rattle.pcap_keys.specs.Captured as spec;
 ghost use Rattle.pcap_keys.specs.Captured.{IsUnlessMemory, captured};
+ghost use Rattle.pcap_keys.specs.Fitting.{HasValues};
 
 use crate::error::{CaptureError, CaptureReason};
 use crate::ethernet::ethernet;
@@ -131,17 +132,8 @@ fn of_format(alloc: Global, format: Format, text: &[u8]) -> Result<Frames, Captu
     }
 }
 
-/// The frames of a capture in libpcap's classic format, version 2.4, record by record. It goes over the bytes once, and takes
-/// memory for the frames alone.
-///
-/// # Errors
-///
-/// `Bad` exactly where the bytes aren't of that form, with the byte and the reason of the first fault: `Magic` at byte 0 (also
-/// of pcapng's files, and of compressed ones); `Cut` at byte 0 where the file's header isn't there; `Version` at byte 4;
-/// `LinkType` at byte 20; `Cut` at the first byte of a record that isn't there as a whole. `Memory` where there is none left.
 #[tactic(auto, unfolding(crate::specs::Captured::captured))]
-pub fn read_capture(alloc: Global, text: &[u8]) -> Result<Frames, CaptureError>
-    // What is answered is what the bytes stand for as a capture, unless memory runs out: its frames, or its first fault.
+fn whole(alloc: Global, text: &[u8]) -> Result<Frames, CaptureError>
     ensures { IsUnlessMemory result (captured text.now) }
 {
     if text.len() < 4 {
@@ -157,4 +149,21 @@ pub fn read_capture(alloc: Global, text: &[u8]) -> Result<Frames, CaptureError>
             reason: CaptureReason::Magic,
         }),
     }
+}
+
+/// The frames of a capture in libpcap's classic format, version 2.4, record by record. It goes over the bytes once, and takes
+/// memory for the frames alone.
+///
+/// # Errors
+///
+/// `Bad` exactly where the bytes aren't of that form, with the byte and the reason of the first fault: `Magic` at byte 0 (also
+/// of pcapng's files, and of compressed ones); `Cut` at byte 0 where the file's header isn't there; `Version` at byte 4;
+/// `LinkType` at byte 20; `Cut` at the first byte of a record that isn't there as a whole. `Memory` where there is none left.
+pub fn read_capture(alloc: Global, text: &[u8]) -> Result<Frames, CaptureError>
+    // What is answered is what the bytes stand for as a capture, unless memory runs out: its frames, or its first fault.
+    ensures read { IsUnlessMemory result (captured text.now) }
+    // Addresses, protocols and ports are values of their kinds.
+    ensures values { IfOk result (All HasValues) }
+{
+    whole(alloc, text)
 }

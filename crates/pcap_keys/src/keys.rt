@@ -1,7 +1,10 @@
-ghost use Rattle.std.specs.Prelude.{◌≡◌, ◌++◌, map, IfOk, OnOk};
+ghost use Rattle.std.specs.Prelude.{◌≡◌, ◌++◌, List, map, IfOk, OnOk, All};
 ghost use Rattle.std.specs.List.{list_all, flat_map};
 ghost use Rattle.pcap_keys.specs.Selectors.{is_in, value};
+ghost use Rattle.set_model.specs.Runnable.{IsFitting};
+ghost use Rattle.set_model.specs.declared.script.SetDecl.{SetDecl as Declared};
 ghost use Rattle.pcap_keys.specs.Planned as planned;
+ghost use Rattle.pcap_keys.specs.Fitting.{IsPlanned, HasValues};
 
 use crate::facts::{Facts, Frame, Frames};
 use crate::selector::{Plan, PlanLine, Selector};
@@ -75,13 +78,7 @@ fn add_frame(
     }
 }
 
-/// The packets of a capture's frames: frame by frame, and for each frame line by line of the plan, one packet of that line's
-/// set where the frame has facts and they have what each selector selects. Its moment is the frame's.
-///
-/// # Errors
-///
-/// Want of memory.
-pub fn keys_of(alloc: Global, plan: &Plan, frames: &Frames) -> Result<Packets, Memory>
+fn all_packets(alloc: Global, plan: &Plan, frames: &Frames) -> Result<Packets, Memory>
     ensures { IfOk result (λ packets. packets ≡ planned.packets plan.now frames.now) }
 {
     let mut packets = Packets::new(alloc);
@@ -89,4 +86,19 @@ pub fn keys_of(alloc: Global, plan: &Plan, frames: &Frames) -> Result<Packets, M
         add_frame(alloc, &mut packets, plan.as_slice(), frame)?;
     }
     Ok(packets)
+}
+
+/// The packets of a capture's frames: frame by frame, and for each frame line by line of the plan, one packet of that line's
+/// set where the frame has facts and they have what each selector selects. Its moment is the frame's.
+///
+/// # Errors
+///
+/// Want of memory.
+pub fn keys_of(alloc: Global, plan: &Plan, frames: &Frames) -> Result<Packets, Memory>
+    // These are the packets that the plan makes of the frames.
+    ensures packets { IfOk result (λ packets. packets ≡ planned.packets plan.now frames.now) }
+    // They fit the sets that the plan was read for.
+    ensures fit { (schema : List Declared) → All (IsPlanned schema) plan.now → All HasValues frames.now → IfOk result (All (IsFitting schema)) }
+{
+    all_packets(alloc, plan, frames)
 }

@@ -13,6 +13,7 @@ ghost use Rattle.pcap_keys.specs.declared.selector.PlanLine.{PlanLine as Lined};
 ghost use Rattle.pcap_keys.specs.PlansReading as reading;
 ghost use Rattle.pcap_keys.specs.Plans.{most_lines, plan};
 ghost use Rattle.pcap_keys.specs.PlansText.{IsPlanText};
+ghost use Rattle.pcap_keys.specs.Fitting.{IsPlanned};
 
 use crate::selector::{Plan, PlanLine, Selector, Selectors, read_selector};
 use set_model::{Kind, Listed, Schema, SetDecl};
@@ -276,6 +277,8 @@ pub fn read_plan(alloc: Global, schema: &Schema, text: &[u8]) -> Result<Plan, Pl
     ensures only { (lines : List Lined) → IsPlanText schema.now text.now lines → IsReadAs (λ x. x) result lines }
     // A text that is refused stands for no plan; the line is that of its bad token, with the first reason that applies.
     ensures bad { (line : ℕ) (reason : Reason) → result ≡ Err (Bad line reason) → IsFault (plan schema.now) (text_tokens text.now) line reason }
+    // Each line's set is declared, and its selectors are of the kinds of the set's fields.
+    ensures fits { IfOk result (All (IsPlanned schema.now)) }
 {
     let mut reader = Reader::new(text);
     whole(&mut reader, alloc, schema.as_slice())
