@@ -15,6 +15,8 @@ mod keys;
 mod packet;
 mod plan;
 mod selector;
+#[cfg(test)]
+mod tests;
 mod wire;
 
 pub use capture::read_capture;
