@@ -16,7 +16,7 @@ mod tests;
 mod values;
 mod words;
 
-pub use place::{place_of_set, used_set};
+pub use place::{place_of_set, table_place, used_set};
 pub use script::{
     ScriptError, bad_token, one_script_fault_law, one_script_law, read_script, script_fronts_law,
 };

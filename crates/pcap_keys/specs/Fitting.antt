@@ -1,0 +1,38 @@
+-- What plans and facts keep, so that the packets that they make fit the sets.
+use Rattle.std.specs.Prelude.{◌≡◌, List, map, Bool, true, Option, Some, IfSome, slice_get}
+use Rattle.set_model.specs.declared.kind.Kind.{Kind}
+use Rattle.set_model.specs.declared.kind.Kind.TheVariants as kinds
+use Rattle.set_model.specs.declared.script.SetDecl.{SetDecl}
+use Rattle.set_model.specs.Key.{is_value}
+use Rattle.pcap_keys.specs.declared.facts.Facts.{Facts}
+use Rattle.pcap_keys.specs.declared.facts.Frame.{Frame}
+use Rattle.pcap_keys.specs.declared.selector.Selector.{Selector}
+use Rattle.pcap_keys.specs.declared.selector.Selector.TheVariants.{IpSource, IpDest, Ip6Source, Ip6Dest, EtherSource, EtherDest, Proto, SourcePort, DestPort}
+use Rattle.pcap_keys.specs.declared.selector.PlanLine.{PlanLine}
+use Rattle.pcap_keys.specs.Selectors.{is_in, value}
+
+-- the kind of what is selected
+abbrev pub kind_of : Selector → Kind
+kind_of IpSource = kinds.Ipv4
+kind_of IpDest = kinds.Ipv4
+kind_of Ip6Source = kinds.Ipv6
+kind_of Ip6Dest = kinds.Ipv6
+kind_of EtherSource = kinds.Ether
+kind_of EtherDest = kinds.Ether
+kind_of Proto = kinds.Proto
+kind_of SourcePort = kinds.Service
+kind_of DestPort = kinds.Service
+
+-- A line's set is declared, and its selectors are of the kinds of the set's fields, one for each.
+pub record IsPlanned (schema : List SetDecl) (line : PlanLine) : Type 0 where
+  pub set : SetDecl
+  pub declared : slice_get schema line.set ≡ Some set
+  pub kinds : map kind_of line.selectors ≡ set.kinds
+
+-- What is selected of facts is a value of its kind.
+abbrev pub AreValues : Facts → Type 0
+AreValues facts = (s : Selector) → is_in facts s ≡ true → is_value (kind_of s) (value facts s) ≡ true
+
+-- The facts of a frame, where it has some, are values.
+abbrev pub HasValues : Frame → Type 0
+HasValues frame = IfSome frame.facts AreValues

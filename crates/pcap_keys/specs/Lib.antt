@@ -1,0 +1,10 @@
+pub mod Wire
+pub mod Packets
+pub mod Savefile
+pub mod Captured
+pub mod Selectors
+pub mod Plans
+pub mod PlansReading
+pub mod PlansText
+pub mod Planned
+pub mod Fitting

@@ -1,0 +1,169 @@
+ghost use Rattle.std.specs.Prelude.{◌≡◌, ◌≤◌, ◌+◌, length, true, Some, IfOk, All};
+ghost use Rattle.pcap_keys.specs.Packets as packets;
+ghost use Rattle.pcap_keys.specs.Savefile as savefile;
+ghost use Rattle.pcap_keys.specs.Captured as spec;
+ghost use Rattle.pcap_keys.specs.Captured.{IsUnlessMemory, captured};
+ghost use Rattle.pcap_keys.specs.Fitting.{HasValues};
+
+use crate::error::{CaptureError, CaptureReason};
+use crate::ethernet::ethernet;
+use crate::facts::{Facts, Frame, Frames};
+use crate::format::{Format, Link, format_of, link_of};
+use crate::packet::raw_ip;
+use crate::wire::from_place;
+use std::alloc::Global;
+
+/// The facts of a frame, or none where it is no packet with ports, or a byte of them isn't there.
+fn facts(link: Link, frame: &[u8]) -> Option<Facts>
+    ensures { result ≡ packets.facts link frame.now }
+{
+    match link {
+        Link::Ethernet => ethernet(frame),
+        Link::RawIp => raw_ip(frame),
+    }
+}
+
+/// The time of a record in milliseconds, rounded down.
+fn time(format: Format, header: &[u8]) -> u64
+    requires { 8 ≤ length header.now }
+    ensures { result ≡ savefile.time format header.now }
+{
+    let seconds = u64::from(format.order.read_u32(header));
+    let fraction = u64::from(format.order.read_u32(&header[4..]));
+    seconds * 1_000 + fraction / format.fraction.per_millisecond()
+}
+
+/// How many bytes of a record's frame were kept.
+fn kept(format: Format, header: &[u8]) -> usize
+    requires { 16 ≤ length header.now }
+    ensures { result ≡ savefile.kept format header.now }
+{
+    format.order.read_u32(&header[8..]) as usize
+}
+
+/// Whether the record at the start of these bytes, and the bytes that were kept of its frame, are there.
+#[tactic(auto, unfolding(crate::specs::Savefile::is_whole))]
+fn is_whole(format: Format, bytes: &[u8]) -> bool
+    ensures same { result ≡ savefile.is_whole format bytes.now }
+    ensures room { result ≡ true → 16 + savefile.kept format bytes.now ≤ length bytes.now }
+{
+    bytes.len() >= 16 && bytes.len() - 16 >= kept(format, bytes)
+}
+
+/// The frame of the record at the start of these bytes. Moments count from `start`.
+fn frame_of(format: Format, link: Link, start: u64, bytes: &[u8]) -> Frame
+    requires { 16 + savefile.kept format bytes.now ≤ length bytes.now }
+    ensures { result ≡ spec.frame_of format link start bytes.now }
+{
+    Frame {
+        moment: time(format, bytes).saturating_sub(start),
+        facts: facts(link, &bytes[16..16 + kept(format, bytes)]),
+    }
+}
+
+fn start_of(format: Format, text: &[u8]) -> u64
+    ensures { result ≡ spec.start_of format text.now }
+{
+    if text.len() >= 40 {
+        time(format, &text[24..])
+    } else {
+        0
+    }
+}
+
+/// The frames of the records behind a capture's header.
+fn all_records(
+    alloc: Global,
+    format: Format,
+    link: Link,
+    text: &[u8],
+) -> Result<Frames, CaptureError>
+    requires { 24 ≤ length text.now }
+    ensures { IsUnlessMemory result (spec.all_records format text.now link) }
+{
+    let start = start_of(format, text);
+    let mut frames = Frames::new(alloc);
+    let mut place = 24;
+    'records: while place < text.len() {
+        let bytes = from_place(text, place);
+        if !is_whole(format, bytes) {
+            return Err(CaptureError::Bad {
+                byte: place as u64,
+                reason: CaptureReason::Cut,
+            });
+        }
+        match frames.push(frame_of(format, link, start, bytes)) {
+            Ok(()) => place += 16 + kept(format, bytes),
+            Err(_) => return Err(CaptureError::Memory),
+        }
+    }
+    Ok(frames)
+}
+
+fn is_version(format: Format, text: &[u8]) -> bool
+    requires { 24 ≤ length text.now }
+    ensures { result ≡ savefile.is_version format text.now }
+{
+    format.order.read_u16(&text[4..]) == 2 && format.order.read_u16(&text[6..]) == 4
+}
+
+/// The frames of a capture whose magic says this.
+fn of_format(alloc: Global, format: Format, text: &[u8]) -> Result<Frames, CaptureError>
+    ensures { IsUnlessMemory result (spec.of_format text.now (Some format)) }
+{
+    if text.len() < 24 {
+        return Err(CaptureError::Bad {
+            byte: 0,
+            reason: CaptureReason::Cut,
+        });
+    }
+    if !is_version(format, text) {
+        return Err(CaptureError::Bad {
+            byte: 4,
+            reason: CaptureReason::Version,
+        });
+    }
+    match link_of(format.order.read_u32(from_place(text, 20)) % (1 << 16)) {
+        Some(link) => all_records(alloc, format, link, text),
+        None => Err(CaptureError::Bad {
+            byte: 20,
+            reason: CaptureReason::LinkType,
+        }),
+    }
+}
+
+#[tactic(auto, unfolding(crate::specs::Captured::captured))]
+fn whole(alloc: Global, text: &[u8]) -> Result<Frames, CaptureError>
+    ensures { IsUnlessMemory result (captured text.now) }
+{
+    if text.len() < 4 {
+        return Err(CaptureError::Bad {
+            byte: 0,
+            reason: CaptureReason::Magic,
+        });
+    }
+    match format_of(text) {
+        Some(format) => of_format(alloc, format, text),
+        None => Err(CaptureError::Bad {
+            byte: 0,
+            reason: CaptureReason::Magic,
+        }),
+    }
+}
+
+/// The frames of a capture in libpcap's classic format, version 2.4, record by record. It goes over the bytes once, and takes
+/// memory for the frames alone.
+///
+/// # Errors
+///
+/// `Bad` exactly where the bytes aren't of that form, with the byte and the reason of the first fault: `Magic` at byte 0 (also
+/// of pcapng's files, and of compressed ones); `Cut` at byte 0 where the file's header isn't there; `Version` at byte 4;
+/// `LinkType` at byte 20; `Cut` at the first byte of a record that isn't there as a whole. `Memory` where there is none left.
+pub fn read_capture(alloc: Global, text: &[u8]) -> Result<Frames, CaptureError>
+    // What is answered is what the bytes stand for as a capture, unless memory runs out: its frames, or its first fault.
+    ensures read { IsUnlessMemory result (captured text.now) }
+    // Addresses, protocols and ports are values of their kinds.
+    ensures values { IfOk result (All HasValues) }
+{
+    whole(alloc, text)
+}

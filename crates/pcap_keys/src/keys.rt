@@ -1,0 +1,104 @@
+ghost use Rattle.std.specs.Prelude.{◌≡◌, ◌++◌, List, map, IfOk, OnOk, All};
+ghost use Rattle.std.specs.List.{list_all, flat_map};
+ghost use Rattle.pcap_keys.specs.Selectors.{is_in, value};
+ghost use Rattle.set_model.specs.Runnable.{IsFitting};
+ghost use Rattle.set_model.specs.declared.script.SetDecl.{SetDecl as Declared};
+ghost use Rattle.pcap_keys.specs.Planned as planned;
+ghost use Rattle.pcap_keys.specs.Fitting.{IsPlanned, HasValues};
+
+use crate::facts::{Facts, Frame, Frames};
+use crate::selector::{Plan, PlanLine, Selector};
+use set_model::{Key, Memory, Packet, Packets};
+use std::alloc::Global;
+
+fn all_are_in(facts: &Facts, selectors: &[Selector]) -> bool
+    ensures { result ≡ list_all (is_in facts.now) selectors.now }
+{
+    selectors.iter().all(|selector| selector.is_in(facts))
+}
+
+fn key_of(alloc: Global, facts: &Facts, selectors: &[Selector]) -> Result<Key, Memory>
+    ensures { IfOk result (λ key. key ≡ map (value facts.now) selectors.now) }
+{
+    let mut key = Key::new(alloc);
+    'values: for selector in selectors {
+        key.push(selector.value(facts))?;
+    }
+    Ok(key)
+}
+
+/// Adds the packet that a line of the plan makes of these facts, where they have what its selectors select.
+fn add_line(
+    alloc: Global,
+    packets: &mut Packets,
+    facts: &Facts,
+    moment: u64,
+    line: &PlanLine,
+) -> Result<(), Memory>
+    ensures { OnOk result (packets.new ≡ packets.old ++ planned.line_packets facts.now moment line.now) }
+{
+    let selectors = line.selectors.as_slice();
+    if all_are_in(facts, selectors) {
+        packets.push(Packet {
+            set: line.set,
+            key: key_of(alloc, facts, selectors)?,
+            now: moment,
+        })
+    } else {
+        Ok(())
+    }
+}
+
+fn add_lines(
+    alloc: Global,
+    packets: &mut Packets,
+    facts: &Facts,
+    moment: u64,
+    plan: &[PlanLine],
+) -> Result<(), Memory>
+    ensures { OnOk result (packets.new ≡ packets.old ++ flat_map (planned.line_packets facts.now moment) plan.now) }
+{
+    'lines: for line in plan {
+        add_line(alloc, packets, facts, moment, line)?;
+    }
+    Ok(())
+}
+
+fn add_frame(
+    alloc: Global,
+    packets: &mut Packets,
+    plan: &[PlanLine],
+    frame: &Frame,
+) -> Result<(), Memory>
+    ensures { OnOk result (packets.new ≡ packets.old ++ planned.frame_packets plan.now frame.now) }
+{
+    match &frame.facts {
+        Some(facts) => add_lines(alloc, packets, facts, frame.moment, plan),
+        None => Ok(()),
+    }
+}
+
+fn all_packets(alloc: Global, plan: &Plan, frames: &Frames) -> Result<Packets, Memory>
+    ensures { IfOk result (λ packets. packets ≡ planned.packets plan.now frames.now) }
+{
+    let mut packets = Packets::new(alloc);
+    'captured: for frame in frames.as_slice() {
+        add_frame(alloc, &mut packets, plan.as_slice(), frame)?;
+    }
+    Ok(packets)
+}
+
+/// The packets of a capture's frames: frame by frame, and for each frame line by line of the plan, one packet of that line's
+/// set where the frame has facts and they have what each selector selects. Its moment is the frame's.
+///
+/// # Errors
+///
+/// Want of memory.
+pub fn keys_of(alloc: Global, plan: &Plan, frames: &Frames) -> Result<Packets, Memory>
+    // These are the packets that the plan makes of the frames.
+    ensures packets { IfOk result (λ packets. packets ≡ planned.packets plan.now frames.now) }
+    // They fit the sets that the plan was read for.
+    ensures fit { (schema : List Declared) → All (IsPlanned schema) plan.now → All HasValues frames.now → IfOk result (All (IsFitting schema)) }
+{
+    all_packets(alloc, plan, frames)
+}

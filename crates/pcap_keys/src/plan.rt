@@ -1,0 +1,300 @@
+ghost use Rattle.std.specs.Prelude.{◌≡◌, ◌<◌, List, length, nat_lt, ℕ, IfOk, OnOk, Err, All};
+ghost use Rattle.token_forms.specs.Gives.{Gives, IsReadAs};
+ghost use Rattle.token_forms.specs.TextTokens.{text_tokens};
+ghost use Rattle.token_forms.specs.Faults.{IsFault};
+ghost use Rattle.token_forms.specs.Fronts.{AreFrontsClosed, IsRefusedOnce};
+ghost use Rattle.token_forms.specs.View.{lexeme_of};
+ghost use Rattle.token_forms.specs.Words.{breaks_off};
+ghost use Rattle.token_forms.specs.WordReading.{line_starts};
+ghost use Rattle.token_forms.specs.declared.token.Reason.{Reason};
+ghost use Rattle.token_forms.specs.declared.error.ReadError.TheVariants.{Bad};
+ghost use Rattle.set_script.specs.ScriptReading.{any_word};
+ghost use Rattle.pcap_keys.specs.declared.selector.PlanLine.{PlanLine as Lined};
+ghost use Rattle.pcap_keys.specs.PlansReading as reading;
+ghost use Rattle.pcap_keys.specs.Plans.{most_lines, plan};
+ghost use Rattle.pcap_keys.specs.PlansText.{IsPlanText};
+ghost use Rattle.pcap_keys.specs.Fitting.{IsPlanned};
+
+use crate::selector::{Plan, PlanLine, Selector, Selectors, read_selector};
+use set_model::{Kind, Listed, Schema, SetDecl};
+use set_script::{table_place, used_set};
+use std::alloc::Global;
+use token_forms::{ReadError, Reader, Reason, Seen, short};
+
+/// Why a text isn't read as a plan.
+pub type PlanError = ReadError;
+
+/// How many lines a plan may have.
+const MOST_LINES: u64 = 4;
+
+#[tactic(auto, unfolding(token_forms::specs::Gives::Refuses))]
+fn selector(reader: &mut Reader, kind: Kind) -> Result<Selector, ReadError>
+    ensures { Gives (λ x. x) result reader.new (reading.selector kind reader.old) }
+{
+    match reader.take() {
+        Some(t) if t.is_word() => match read_selector(kind, t.bytes) {
+            Some(selector) => Ok(selector),
+            None => Err(t.refused(&[Reason::TypeWord])),
+        },
+        Some(t) => Err(t.refused(&[Reason::TypeWord])),
+        None => Err(short()),
+    }
+}
+
+/// `.` and the next selector, for each of these kinds.
+#[tactic(auto, using(token_forms::proofs::Refusals::refusals), unfolding(crate::specs::PlansReading::more_selectors))]
+fn more_selectors(
+    reader: &mut Reader,
+    kinds: &[Kind],
+    selectors: &mut Selectors,
+) -> Result<(), ReadError>
+    ensures { Gives (λ _. selectors.new) result reader.new (reading.more_selectors kinds.now selectors.old reader.old) }
+{
+    match kinds {
+        [] => Ok(()),
+        [kind, others @ ..] => {
+            reader.word(b".")?;
+            let next = selector(reader, *kind)?;
+            selectors.push(next)?;
+            more_selectors(reader, others, selectors)
+        }
+    }
+}
+
+#[tactic(auto, using(token_forms::proofs::Refusals::refusals))]
+fn some_selectors(
+    reader: &mut Reader,
+    alloc: Global,
+    kind: Kind,
+    others: &[Kind],
+) -> Result<Selectors, ReadError>
+    ensures { Gives (λ x. x) result reader.new (reading.some_selectors kind others.now reader.old) }
+{
+    let first = selector(reader, kind)?;
+    let mut selectors = Listed::new(alloc);
+    selectors.push(first)?;
+    more_selectors(reader, others, &mut selectors)?;
+    Ok(selectors)
+}
+
+/// One selector for each kind.
+#[tactic(auto, using(token_forms::proofs::Refusals::refusals), unfolding(crate::specs::PlansReading::all_selectors, token_forms::specs::Gives::Refuses))]
+fn all_selectors(reader: &mut Reader, alloc: Global, kinds: &[Kind]) -> Result<Selectors, ReadError>
+    ensures { Gives (λ x. x) result reader.new (reading.all_selectors kinds.now reader.old) }
+{
+    match kinds {
+        [] => match reader.take() {
+            Some(t) => Err(t.refused(&[])),
+            None => Err(short()),
+        },
+        [kind, others @ ..] => some_selectors(reader, alloc, *kind, others),
+    }
+}
+
+/// The line of the set at a place.
+#[tactic(auto, using(token_forms::proofs::Refusals::refusals), unfolding(crate::specs::PlansReading::line_of, token_forms::specs::Gives::Refuses))]
+fn line_at(
+    reader: &mut Reader,
+    alloc: Global,
+    schema: &[SetDecl],
+    lines: &mut Plan,
+    place: usize,
+) -> Result<(), ReadError>
+    ensures { Gives (λ _. lines.new) result reader.new (reading.line_at schema.now lines.old place reader.old) }
+{
+    match schema.get(place) {
+        None => match reader.take() {
+            Some(t) => Err(t.refused(&[])),
+            None => Err(short()),
+        },
+        Some(decl) => {
+            let selectors = all_selectors(reader, alloc, decl.kinds.as_slice())?;
+            // No memory holds a schema in which a set has a place above 32 bits.
+            if place > u32::MAX as usize {
+                return Err(ReadError::Memory);
+            }
+            lines.push(PlanLine {
+                set: place as u32,
+                selectors,
+            })?;
+            Ok(())
+        }
+    }
+}
+
+/// A declared set, and a selector for each of its fields.
+#[tactic(auto, using(token_forms::proofs::Refusals::refusals), unfolding(crate::specs::PlansReading::set_line))]
+fn set_line(
+    reader: &mut Reader,
+    alloc: Global,
+    schema: &[SetDecl],
+    lines: &mut Plan,
+) -> Result<(), ReadError>
+    ensures { Gives (λ _. lines.new) result reader.new (reading.set_line schema.now lines.old reader.old) }
+{
+    let (family, table) = table_place(reader)?;
+    let place = used_set(reader, schema, family, table)?;
+    line_at(reader, alloc, schema, lines, place)
+}
+
+/// A line, where one more may stand.
+#[tactic(auto, using(token_forms::proofs::Refusals::refusals), unfolding(crate::specs::PlansReading::line_if, token_forms::specs::Gives::Refuses))]
+fn line_if(
+    reader: &mut Reader,
+    alloc: Global,
+    schema: &[SetDecl],
+    lines: &mut Plan,
+    room: bool,
+) -> Result<(), ReadError>
+    ensures { Gives (λ _. lines.new) result reader.new (reading.line_if room schema.now lines.old reader.old) }
+{
+    if room {
+        set_line(reader, alloc, schema, lines)
+    } else {
+        match reader.take() {
+            Some(t) => Err(t.refused(&[])),
+            None => Err(short()),
+        }
+    }
+}
+
+fn has_room(lines: &Plan) -> bool
+    ensures { result ≡ nat_lt (length lines.now) most_lines }
+{
+    lines.len() < MOST_LINES
+}
+
+/// A line break, or a line where one may come next.
+#[tactic(auto, using(token_forms::proofs::Refusals::refusals))]
+fn line_or_break(
+    reader: &mut Reader,
+    alloc: Global,
+    schema: &[SetDecl],
+    lines: &mut Plan,
+    next: bool,
+) -> Result<bool, ReadError>
+    ensures { Gives (λ x. (lines.new, x)) result reader.new (reading.line_or_break schema.now (lines.old, next) reader.old) }
+{
+    if next && !reader.is_at_break() {
+        let room = has_room(lines);
+        line_if(reader, alloc, schema, lines, room)?;
+        Ok(false)
+    } else {
+        reader.line_break()?;
+        Ok(true)
+    }
+}
+
+fn next_line(
+    reader: &mut Reader,
+    alloc: Global,
+    schema: &[SetDecl],
+    lines: &mut Plan,
+    next: bool,
+) -> Result<bool, ReadError>
+    ensures gives { Gives (λ x. (lines.new, x)) result reader.new (reading.line_or_break schema.now (lines.old, next) reader.old) }
+    ensures shorter { OnOk result (length reader.new < length reader.old) }
+{
+    line_or_break(reader, alloc, schema, lines, next)
+}
+
+fn starts_a_line(t: &Seen, next: bool) -> bool
+    ensures { (s : List Lined) → result ≡ line_starts breaks_off any_word (s, next) (lexeme_of t.now) }
+{
+    if next {
+        t.is_break() || t.is_word()
+    } else {
+        t.is_break()
+    }
+}
+
+/// The lines, as far as they go, and whether one more may come next.
+fn plan_lines(
+    reader: &mut Reader,
+    alloc: Global,
+    schema: &[SetDecl],
+) -> Result<(Plan, bool), ReadError>
+    ensures { Gives (λ x. (x.0, x.1)) result reader.new (reading.plan_lines schema.now reader.old) }
+{
+    let mut lines = Plan::new(alloc);
+    let mut next = true;
+    'plan: while let Some(t) = reader.peek() {
+        let starts = starts_a_line(&t, next);
+        if !starts {
+            return Ok((lines, next));
+        }
+        match next_line(reader, alloc, schema, &mut lines, next) {
+            Ok(then) => next = then,
+            Err(e) => return Err(e),
+        }
+    }
+    Ok((lines, next))
+}
+
+/// The lines of a plan, which has one at least.
+#[tactic(auto, using(token_forms::proofs::Refusals::refusals), unfolding(crate::specs::PlansReading::some_lines, token_forms::specs::Gives::Refuses))]
+fn some_lines(reader: &mut Reader, lines: Plan) -> Result<Plan, ReadError>
+    ensures { Gives (λ x. x) result reader.new (reading.some_lines lines reader.old) }
+{
+    if lines.as_slice().is_empty() {
+        match reader.take() {
+            Some(t) => Err(t.refused(&[])),
+            None => Err(short()),
+        }
+    } else {
+        Ok(lines)
+    }
+}
+
+/// What stands before the end.
+#[tactic(auto, using(token_forms::proofs::Refusals::refusals), unfolding(crate::specs::PlansReading::body))]
+fn body(reader: &mut Reader, alloc: Global, schema: &[SetDecl]) -> Result<Plan, ReadError>
+    ensures { Gives (λ x. x) result reader.new (reading.body schema.now reader.old) }
+{
+    let (lines, _) = plan_lines(reader, alloc, schema)?;
+    some_lines(reader, lines)
+}
+
+#[tactic(auto, using(token_forms::proofs::Refusals::refusals), unfolding(crate::specs::PlansReading::plan))]
+fn whole(reader: &mut Reader, alloc: Global, schema: &[SetDecl]) -> Result<Plan, ReadError>
+    ensures { Gives (λ x. x) result reader.new (reading.plan schema.now reader.old) }
+{
+    let lines = body(reader, alloc, schema)?;
+    reader.the_end()?;
+    Ok(lines)
+}
+
+/// The plan that a text stands for, for the sets of a schema.
+///
+/// # Errors
+///
+/// `Bad` exactly where the text isn't in the grammar, with the line of its first token that doesn't fit and the reason.
+/// `Memory` where there is none left.
+pub fn read_plan(alloc: Global, schema: &Schema, text: &[u8]) -> Result<Plan, PlanError>
+    // What is read is the plan that the text stands for.
+    ensures found { IfOk result (IsPlanText schema.now text.now) }
+    // A text that stands for a plan is read as that one, unless memory runs out; so it stands for one at most.
+    ensures only { (lines : List Lined) → IsPlanText schema.now text.now lines → IsReadAs (λ x. x) result lines }
+    // A text that is refused stands for no plan; the line is that of its bad token, with the first reason that applies.
+    ensures bad { (line : ℕ) (reason : Reason) → result ≡ Err (Bad line reason) → IsFault (plan schema.now) (text_tokens text.now) line reason }
+    // Each line's set is declared, and its selectors are of the kinds of the set's fields.
+    ensures fits { IfOk result (All (IsPlanned schema.now)) }
+{
+    let mut reader = Reader::new(text);
+    whole(&mut reader, alloc, schema.as_slice())
+}
+
+/// A text stands for one plan at most.
+pub fn one_plan_law(_schema: &Schema, _text: &[u8])
+    ensures { (lines other : List Lined) → IsPlanText _schema.now _text.now lines → IsPlanText _schema.now _text.now other → lines ≡ other }
+{}
+
+/// The tokens before any place of a front of a plan are a front of a plan, too.
+pub fn plan_fronts_law(_schema: &Schema)
+    ensures { AreFrontsClosed (plan _schema.now) }
+{}
+
+/// A text that is no plan is refused at one line and for one reason.
+pub fn one_plan_fault_law(_schema: &Schema, _text: &[u8])
+    ensures { IsRefusedOnce (plan _schema.now) (text_tokens _text.now) }
+{}

@@ -1,0 +1,149 @@
+ghost use Rattle.std.specs.Prelude.{◌≡◌};
+ghost use Rattle.pcap_keys.specs.Selectors as selectors;
+
+use crate::facts::Facts;
+use set_model::{Kind, Listed};
+
+/// What a field of a key is taken from.
+#[derive(Clone, Copy, Debug, PartialEq, Eq)]
+pub enum Selector {
+    /// `ip_saddr`: the source address of IPv4.
+    IpSource,
+    /// `ip_daddr`: the destination address of IPv4.
+    IpDest,
+    /// `ip6_saddr`: the source address of IPv6.
+    Ip6Source,
+    /// `ip6_daddr`: the destination address of IPv6.
+    Ip6Dest,
+    /// `ether_saddr`: the source address of the Ethernet frame.
+    EtherSource,
+    /// `ether_daddr`: the destination address of the Ethernet frame.
+    EtherDest,
+    /// `proto`: the number of the protocol.
+    Proto,
+    /// `sport`: the source port.
+    SourcePort,
+    /// `dport`: the destination port.
+    DestPort,
+}
+
+/// One selector per field of a set.
+pub type Selectors = Listed<Selector>;
+
+/// A line of a plan: what the keys of a set are taken from.
+#[derive(Drop)]
+pub struct PlanLine {
+    /// The set, by its place among the declared sets.
+    pub set: u32,
+    pub selectors: Selectors,
+}
+
+/// The lines of a plan.
+pub type Plan = Listed<PlanLine>;
+
+fn ipv4_selector(text: &[u8]) -> Option<Selector>
+    ensures { result ≡ selectors.ipv4_selector text.now }
+{
+    if text == b"ip_saddr".as_slice() {
+        Some(Selector::IpSource)
+    } else if text == b"ip_daddr".as_slice() {
+        Some(Selector::IpDest)
+    } else {
+        None
+    }
+}
+
+fn ipv6_selector(text: &[u8]) -> Option<Selector>
+    ensures { result ≡ selectors.ipv6_selector text.now }
+{
+    if text == b"ip6_saddr".as_slice() {
+        Some(Selector::Ip6Source)
+    } else if text == b"ip6_daddr".as_slice() {
+        Some(Selector::Ip6Dest)
+    } else {
+        None
+    }
+}
+
+fn ether_selector(text: &[u8]) -> Option<Selector>
+    ensures { result ≡ selectors.ether_selector text.now }
+{
+    if text == b"ether_saddr".as_slice() {
+        Some(Selector::EtherSource)
+    } else if text == b"ether_daddr".as_slice() {
+        Some(Selector::EtherDest)
+    } else {
+        None
+    }
+}
+
+fn proto_selector(text: &[u8]) -> Option<Selector>
+    ensures { result ≡ selectors.proto_selector text.now }
+{
+    if text == b"proto".as_slice() {
+        Some(Selector::Proto)
+    } else {
+        None
+    }
+}
+
+fn port_selector(text: &[u8]) -> Option<Selector>
+    ensures { result ≡ selectors.port_selector text.now }
+{
+    if text == b"sport".as_slice() {
+        Some(Selector::SourcePort)
+    } else if text == b"dport".as_slice() {
+        Some(Selector::DestPort)
+    } else {
+        None
+    }
+}
+
+/// The selector of a word, where it is one of this kind.
+pub fn read_selector(kind: Kind, text: &[u8]) -> Option<Selector>
+    ensures { result ≡ selectors.selector_of kind text.now }
+{
+    match kind {
+        Kind::Ipv4 => ipv4_selector(text),
+        Kind::Ipv6 => ipv6_selector(text),
+        Kind::Ether => ether_selector(text),
+        Kind::Proto => proto_selector(text),
+        Kind::Service => port_selector(text),
+        Kind::Mark => None,
+    }
+}
+
+impl Selector {
+    /// Whether facts have what it selects.
+    pub fn is_in(self, facts: &Facts) -> bool
+        ensures { result ≡ selectors.is_in facts.now self }
+    {
+        match self {
+            Selector::IpSource | Selector::IpDest => !facts.six,
+            Selector::Ip6Source | Selector::Ip6Dest => facts.six,
+            Selector::EtherSource | Selector::EtherDest => facts.ether.is_some(),
+            Selector::Proto | Selector::SourcePort | Selector::DestPort => true,
+        }
+    }
+
+    /// What it selects of facts that have it.
+    pub fn value(self, facts: &Facts) -> u128
+        ensures { result ≡ selectors.value facts.now self }
+    {
+        match self {
+            Selector::IpSource | Selector::Ip6Source => facts.source,
+            Selector::IpDest | Selector::Ip6Dest => facts.dest,
+            Selector::EtherSource => match facts.ether {
+                Some(addresses) => addresses.0,
+                None => 0,
+            },
+            Selector::EtherDest => match facts.ether {
+                Some(addresses) => addresses.1,
+                None => 0,
+            },
+            Selector::Proto => u128::from(facts.proto),
+            Selector::SourcePort => u128::from(facts.source_port),
+            Selector::DestPort => u128::from(facts.dest_port),
+        }
+    }
+}
