@@ -1,5 +1,5 @@
 # The manual page and the completions: their syntax where their readers are installed, the page's example on the program,
-# and that both name each command and option of the program's usage line.
+# and that both, and the program's help, name each command and option of the program's usage line.
 program=$(pwd)/pipapo
 page=docs/pipapo.1
 bad=0
@@ -36,6 +36,24 @@ if [ ! -s "$folder/wanted" ] || ! cmp -s "$folder/wanted" "$folder/written"; the
     complain "the example of $page writes"
     cat "$folder/written"
 fi
+"$program" --help >"$folder/help" || complain "--help has the status $?"
+for word in help -h; do
+    "$program" "$word" | cmp -s "$folder/help" - || complain "$word writes something else than --help"
+done
+"$program" --version | grep -qx 'pipapo [0-9.]*' || complain "--version writes no version"
+for command in run list dump drill; do
+    "$program" help "$command" >"$folder/page" || complain "help $command has the status $?"
+    for option in --help -h; do
+        "$program" "$command" "$option" | cmp -s "$folder/page" - || complain "$command $option writes something else than help $command"
+    done
+    form=$(tr '|' '\n' <"$folder/usage" | sed 's/^pipapo: usage://; s/^ *//; s/ *$//' | grep "^$command ")
+    for text in page help; do
+        grep -qF -- "pipapo $form" "$folder/$text" || complain "the $text of $command hasn't the form of the usage line"
+    done
+done
+for word in help --help -h --version; do
+    sed 's/\\-/-/g' "$page" | grep -q -e "$word" || complain "$page doesn't name $word"
+done
 for word in $(tr -d '[]|' <"$folder/usage" | tr ' ' '\n' | grep -E '^(--)?[a-z-]+$' | sort -u); do
     sed 's/\\-/-/g' "$page" | grep -q -- "$word" || complain "$page doesn't name $word"
     for file in docs/completions/*; do

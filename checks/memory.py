@@ -30,6 +30,7 @@ RUNS = [
     ["drill", "7", "20", "--threads", "2"],
     ["list", "missing"],
     ["no", "command"],
+    ["help"],
 ]
 
 

@@ -1,4 +1,4 @@
-# The program on real files and the real standard output: what comes of files and writes that fail.
+# The program on real files and the real standard output and input: what comes of files and writes that fail.
 top=$(pwd)
 folder=$(mktemp -d) || exit 1
 trap 'rm -rf "$folder"' EXIT
@@ -26,6 +26,15 @@ expect 5 'pipapo: read fault: a-folder' run a-folder packets.keys
 expect 5 'pipapo: read fault: /proc/self/mem' run /proc/self/mem packets.keys
 expect 2 "$usage"
 expect 2 "$usage" run allow.nft "$(printf '\377')"
+# the standard input by the name -, as either file, also where a file has that name
+echo 'no script' >-
+"$top/pipapo" run allow.nft packets.keys >wanted
+"$top/pipapo" run - packets.keys <allow.nft | cmp - wanted || bad=1
+"$top/pipapo" run allow.nft - <packets.keys | cmp - wanted || bad=1
+expect 2 "$usage" run - -
+expect 5 'pipapo: read fault: -' list - <a-folder
+echo 'add nothing' >bad.nft
+expect 3 'pipapo: script line 1: statement' list - <bad.nft
 "$top/pipapo" run allow.nft packets.keys >&-
 closed=$?
 "$top/pipapo" run allow.nft packets.keys >/dev/full

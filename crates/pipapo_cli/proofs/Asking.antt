@@ -5,10 +5,11 @@ use Rattle.std.specs.Io.KnownBytes.{IsAtEnd}
 use Rattle.std.proofs.lemmas.List.Elements.{All-nil, All-cons}
 use Rattle.std.proofs.lemmas.List.Kept.{AllPairs-cons}
 use Rattle.pip_base.specs.Picks.{IsPickOf, AsksOnce, KeepsLeft, ReadsToEnd}
-use Rattle.pipapo_cli.specs.Words.{Command, IsCommand, IsRun, IsScriptOf, run, file_names}
+use Rattle.command_words.specs.Words.{Command, IsCommand, IsRun, IsScriptOf, run, file_names}
 use Rattle.pipapo_cli.specs.Causes.{IsReadable}
 use Rattle.pipapo_cli.specs.Names.{IsFront, AreReadWhole, AsksInOrder, AsksForAll}
-use Rattle.pipapo_cli.proofs.CommandWords.{one-command}
+use Rattle.command_words.proofs.CommandWords.{one-command}
+use Rattle.command_words.proofs.PageWords.{page-no-command}
 use Rattle.pipapo_cli.proofs.Endings.{one-run}
 
 -- what comes of files by the numbers under which they were picked
@@ -60,6 +61,7 @@ module _ (words : List (List ℕ)) (told : List ℕ → Option (List ℕ)) where
   pub asks-nothing : (asked : List (List ℕ)) (old new : Numbers) (left : ℕ → Option (List ℕ)) → asked ≡ [] → AsksInOrder words told asked old new left
   asks-nothing asked old new left nothing = record {
     no_command = λ _. nothing;
+    no_file = λ p asks. nothing;
     in_order = λ c is_c. record { rest = file_names c; joined = ap (λ (z : List (List ℕ)). z ++ file_names c) (sym nothing) };
     script_first = λ script keys n g is_run both. absurd (let e : [] ≡ script ∷ keys ∷ [] = sym nothing ∙ both in cc e);
   }
@@ -73,7 +75,8 @@ module _ (words : List (List ℕ)) (told : List ℕ → Option (List ℕ)) where
   -- The script alone was asked for, or nothing yet.
   pub asks-script : (asked : List (List ℕ)) (old new : Numbers) (left : ℕ → Option (List ℕ)) (c : Command) (script : List ℕ) → IsCommand words c → IsScriptOf c script → AsksOnce [] asked script → AsksInOrder words told asked old new left
   asks-script asked old new left c script is_c is_script once = record {
-    no_command = λ none. absurd (none c is_c);
+    no_command = λ none. absurd (none.no_work c is_c);
+    no_file = λ p asks. absurd (page-no-command words p c asks is_c);
     in_order = λ other is_other. subst (λ (x : Command). IsFront asked (file_names x)) (one-command words c other is_c is_other) (front once);
     script_first = λ a b n g is_run both. absurd (not-both a b once both);
   } where
@@ -89,7 +92,8 @@ module _ (words : List (List ℕ)) (told : List ℕ → Option (List ℕ)) where
   pub asks-keys : (asked_mid asked : List (List ℕ)) (old mid new : Numbers) (left_mid left : ℕ → Option (List ℕ)) (script keys : List ℕ) (n : ℕ) (g : Bool) → IsRun words script keys n g → asked_mid ≡ script ∷ []
       → AsksOnce asked_mid asked keys → IsReadable script told → ReadsToEnd old mid left_mid → KeepsLeft mid new left_mid left → AsksInOrder words told asked old new left
   asks-keys asked_mid asked old mid new left_mid left script keys n g is_run first once readable whole kept = record {
-    no_command = λ none. absurd (none (run script keys n g) is_run);
+    no_command = λ none. absurd (none.no_work (run script keys n g) is_run);
+    no_file = λ p asks. absurd (page-no-command words p (run script keys n g) asks is_run);
     in_order = λ other is_other. subst (λ (x : Command). IsFront asked (file_names x)) (one-command words (run script keys n g) other is_run is_other) (front once);
     script_first = λ a b m k is_other _. (subst (λ (x : List ℕ). IsReadable x told) (one-run words script keys a b n m g k is_run is_other).0 readable, one-whole old mid new left_mid left whole kept);
   } where

@@ -14,13 +14,15 @@ use Rattle.key_file.proofs.KeysLaws.{keys_single}
 use Rattle.script_run.specs.Listings.{listing_text, tables_text}
 use Rattle.pipapo_cli.specs.declared.fault.Fault.{Fault}
 use Rattle.pipapo_cli.specs.declared.fault.Fault.TheVariants.{Usage, BadScript, BadKeys, ReadFault, TooLarge, Memory}
-use Rattle.pipapo_cli.specs.Words.{run, list, dump}
+use Rattle.command_words.specs.declared.page.Page.{Page}
+use Rattle.command_words.specs.Words.{AsksFor, run, list, dump, drill}
+use Rattle.command_words.proofs.PageWords.{page-no-command}
 use Rattle.pipapo_cli.specs.Transcript.{IsTranscript, IsTextOf}
 use Rattle.pipapo_cli.specs.Causes.{IsCause, no_command, of_script, of_keys, of_drill, IsScriptCause, IsKeysCause}
 use Rattle.pipapo_cli.specs.Lines.{done_status, status_of}
-use Rattle.pipapo_cli.specs.Answers.{Ends, written, cut, memory, IsDue, output, refusal, IsExactly, IsDone, HasOutput, TellsReadFault, TellsBadScript, TellsBadKeys, DeliversDrill}
+use Rattle.pipapo_cli.specs.Answers.{Ends, written, cut, memory, IsDue, output, page, refusal, IsExactly, IsDone, HasOutput, TellsReadFault, TellsBadScript, TellsBadKeys, DeliversDrill, DeliversPage}
 use Rattle.pipapo_cli.specs.Exactly.{IsStatus, HasScript, HasKeys, Completes, Delivers, DeliversRun, RanOut}
-use Rattle.pipapo_cli.proofs.Endings.{done-small, does, drilled}
+use Rattle.pipapo_cli.proofs.Endings.{done-small, does, drilled, page-written, no-memory}
 use Rattle.pipapo_cli.proofs.Exact.{exact}
 
 -- a fault has another status than an output
@@ -48,6 +50,7 @@ module _ (words : List (List ℕ)) (told : List ℕ → Option (List ℕ)) (aske
   -- With status 5 a read fault was told.
   due-fault : (status : ℕ) (text : List ℕ) → IsDue words told asked before now status text → status ≡ 5 → Appends taken_before taken_now text → TellsReadFault asked before now taken_before taken_now
   due-fault status text (output refused t has) e line = absurd (let small = done-small refused in omega (arith, e, small))
+  due-fault status text (page p asks nothing same) e line = absurd (omega (arith, e))
   due-fault status text (refusal Usage cause) e line = absurd (omega (arith, e))
   due-fault status text (refusal (BadScript at reason) cause) e line = absurd (omega (arith, e))
   due-fault status text (refusal (BadKeys at reason) cause) e line = absurd (omega (arith, e))
@@ -66,6 +69,7 @@ module _ (words : List (List ℕ)) (told : List ℕ → Option (List ℕ)) (aske
   -- With status 3 and 4 the bad token of the script and of the key file was told.
   due-script : (status : ℕ) (text : List ℕ) → IsDue words told asked before now status text → status ≡ 3 → Appends taken_before taken_now text → TellsBadScript words told taken_before taken_now
   due-script status text (output refused t has) e line = absurd (let small = done-small refused in omega (arith, e, small))
+  due-script status text (page p asks nothing same) e line = absurd (omega (arith, e))
   due-script status text (refusal Usage cause) e line = absurd (omega (arith, e))
   due-script status text (refusal (BadScript at reason) (of_script f c script is_c is_s cause)) e line =
       record { command = c; script = script; line = at; reason = reason; is_command = is_c; is_script = is_s; is_bad = cause.2; written = line }
@@ -82,6 +86,7 @@ module _ (words : List (List ℕ)) (told : List ℕ → Option (List ℕ)) (aske
 
   due-keys : (status : ℕ) (text : List ℕ) → IsDue words told asked before now status text → status ≡ 4 → Appends taken_before taken_now text → TellsBadKeys words told taken_before taken_now
   due-keys status text (output refused t has) e line = absurd (let small = done-small refused in omega (arith, e, small))
+  due-keys status text (page p asks nothing same) e line = absurd (omega (arith, e))
   due-keys status text (refusal Usage cause) e line = absurd (omega (arith, e))
   due-keys status text (refusal (BadScript at reason) cause) e line = absurd (omega (arith, e))
   due-keys status text (refusal (BadKeys at reason) (of_script f c script is_c is_s cause)) e line = absurd cause
@@ -121,6 +126,7 @@ module _ (words : List (List ℕ)) (told : List ℕ → Option (List ℕ)) (aske
 
   due-moved : (status : ℕ) (text : List ℕ) → IsDue words told asked before now status text → now ≢ before → status ≡ 5
   due-moved status text (output refused t has) moved = absurd (moved has.quiet)
+  due-moved status text (page p asks nothing same) moved = absurd (moved same)
   due-moved status text (refusal fault cause) moved = fault-moved fault cause moved
 
   pub shelf-moved : (b n result : ℕ) → TheEnd b n result → now ≢ before → (result ≡ 5) ⊎ (result ≡ 6)
@@ -158,13 +164,14 @@ same-script text mode told script s hs refused out taken_before taken_now t appe
 
 -- Where an output's status or 7 came and no count rose, the output was written, or memory was wanting.
 module _ (words : List (List ℕ)) (told : List ℕ → Option (List ℕ)) (asked : List (List ℕ)) (before now : ℕ) (taken_before taken_now : Option (List ℕ)) (goes : Bool) (Done : ℕ → Type 0)
-    (done : (refused : Bool) (out : List ℕ) → HasOutput words told asked before now refused out → Appends taken_before taken_now out → Done (done_status refused)) where
+    (done : (refused : Bool) (out : List ℕ) → HasOutput words told asked before now refused out → Appends taken_before taken_now out → Done (done_status refused)) (no_page : (p : Page) → AsksFor words p → ⊥) where
   other-status : (status : ℕ) → IsStatus (done_status goes) status → 2 ≤ status → (status ≡ 7 → ⊥) → ⊥
   other-status status (inl e) f g = let small = done-small goes in omega (arith, e, f, small)
   other-status status (inr e) f g = g e
 
   due-done : (status : ℕ) (out : List ℕ) → IsDue words told asked before now status out → IsStatus (done_status goes) status → Appends taken_before taken_now out → Done status ⊎ RanOut taken_before taken_now status
   due-done status out (output refused t has) known appends = inl (done refused t has appends)
+  due-done status out (page p asks nothing same) known appends = absurd (no_page p asks)
   due-done status out (refusal Usage cause) known appends = absurd (other-status 2 known (omega arith) (λ e. omega (arith, e)))
   due-done status out (refusal (BadScript line reason) cause) known appends = absurd (other-status 3 known (omega arith) (λ e. omega (arith, e)))
   due-done status out (refusal (BadKeys line reason) cause) known appends = absurd (other-status 4 known (omega arith) (λ e. omega (arith, e)))
@@ -187,19 +194,24 @@ completes words told asked before now taken_before taken_now b n result ends qui
           ends-done words told asked before now taken_before taken_now (has_refusal (mode_of g) s) (λ (r : ℕ). DeliversRun m (mode_of g) s packets taken_before taken_now r)
           (λ refused out has appends. same-files m (mode_of g) told script keys s packets hs hk refused out taken_before taken_now
           (does words told asked before now (run script keys m g) refused out is_run has hs.text hk.text hs.is_told hk.is_told) appends)
-          b n result ends (statuses.done_run script keys m g s packets is_run hs hk) sink_quiet;
+          (λ p asks. page-no-command words p (run script keys m g) asks is_run) b n result ends (statuses.done_run script keys m g s packets is_run hs hk) sink_quiet;
       list = λ script g s is_list hs.
           ends-done words told asked before now taken_before taken_now (has_refusal (mode_of g) s) (λ (r : ℕ). Delivers (mode_of g) s (listing_text (mode_of g) s) taken_before taken_now r)
           (λ refused out has appends. same-script listing_text (mode_of g) told script s hs refused out taken_before taken_now
           (does words told asked before now (list script g) refused out is_list has hs.text hs.is_told) appends)
-          b n result ends (statuses.done_list script g s is_list hs) sink_quiet;
+          (λ p asks. page-no-command words p (list script g) asks is_list) b n result ends (statuses.done_list script g s is_list hs) sink_quiet;
       dump = λ script g s is_dump hs.
           ends-done words told asked before now taken_before taken_now (has_refusal (mode_of g) s) (λ (r : ℕ). Delivers (mode_of g) s (tables_text (mode_of g) s) taken_before taken_now r)
           (λ refused out has appends. same-script tables_text (mode_of g) told script s hs refused out taken_before taken_now
           (does words told asked before now (dump script g) refused out is_dump has hs.text hs.is_told) appends)
-          b n result ends (statuses.done_dump script g s is_dump hs) sink_quiet;
+          (λ p asks. page-no-command words p (dump script g) asks is_dump) b n result ends (statuses.done_dump script g s is_dump hs) sink_quiet;
       drill = λ seed count threads is_drill.
           ends-done words told asked before now taken_before taken_now false (λ (r : ℕ). DeliversDrill seed count taken_before taken_now r)
           (λ refused out has appends. drilled words told asked before now taken_before taken_now seed count threads refused out is_drill has appends)
-          b n result ends (statuses.done_drill seed count threads is_drill) sink_quiet;
-    }
+          (λ p asks. page-no-command words p (drill seed count threads) asks is_drill) b n result ends (statuses.done_drill seed count threads is_drill) sink_quiet;
+      page = λ p asks. paged p asks result ends;
+    } where
+      paged : (p : Page) → AsksFor words p → (r : ℕ) → Ends (IsDue words told asked before now) taken_before taken_now b n r → DeliversPage p taken_before taken_now r
+      paged p asks r (written status out due appends same) = page-written words told asked before now p asks taken_before taken_now status out due appends
+      paged p asks r (cut status out due front rose) = absurd (sink_quiet rose)
+      paged p asks r (memory due keeps same) = absurd (no-memory words told asked before now p asks due)

@@ -1,5 +1,5 @@
 -- How a call ends, and what follows of its status.
-use Rattle.std.proofs.Common.{Bool, true, false, refl, sym, ◌≤◌, ◌≡◌, ◌∙◌, ap, subst, ℕ, List, [], ◌∷◌, ◌++◌, length, slice_get, Option, Some, inl, inr, arith}
+use Rattle.std.proofs.Common.{Bool, true, false, refl, sym, ◌≤◌, ◌≡◌, ◌∙◌, ap, subst, ℕ, List, [], ◌∷◌, ◌++◌, slice_get, Option, Some, inl, inr, arith}
 use Rattle.std.specs.Io.KnownBytes.{Appends}
 use Rattle.token_forms.specs.declared.token.Reason.{Reason}
 use Rattle.token_forms.specs.TextTokens.{text_tokens}
@@ -14,12 +14,15 @@ use Rattle.key_file.specs.Keys.{key_file}
 use Rattle.key_file.specs.KeysText.{IsKeysText}
 use Rattle.pipapo_cli.specs.declared.fault.Fault.{Fault}
 use Rattle.pipapo_cli.specs.declared.fault.Fault.TheVariants.{Usage, BadScript, BadKeys, ReadFault, TooLarge, Memory}
-use Rattle.pipapo_cli.specs.Words.{Command, run, list, dump, drill, IsCommand, IsRun, IsDrill, IsScriptOf, file_names}
+use Rattle.command_words.specs.declared.page.Page.{Page}
+use Rattle.command_words.specs.WordForms.{page_text}
+use Rattle.command_words.specs.Words.{Command, run, list, dump, drill, IsCommand, AsksFor, IsRun, IsDrill, IsScriptOf, file_names}
 use Rattle.pipapo_cli.specs.Transcript.{IsOutput, IsTranscript, IsListing, IsTables}
-use Rattle.pipapo_cli.specs.Causes.{IsCause, IsKeysCause}
+use Rattle.pipapo_cli.specs.Causes.{IsCause, no_command, of_script, of_keys, of_drill, IsKeysCause}
 use Rattle.pipapo_cli.specs.Lines.{done_status, status_of, line_of}
-use Rattle.pipapo_cli.specs.Answers.{Ends, written, cut, memory, IsDue, output, refusal, IsExactly, HasOutput, IsDone, Writes, Transcribes, Lists, Dumps, Drills, DeliversDrill}
-use Rattle.pipapo_cli.proofs.CommandWords.{one-command}
+use Rattle.pipapo_cli.specs.Answers.{Ends, written, cut, memory, IsDue, output, page, refusal, IsExactly, HasOutput, IsDone, Writes, Transcribes, Lists, Dumps, Drills, DeliversDrill, DeliversPage, TellsPage}
+use Rattle.command_words.proofs.CommandWords.{one-command}
+use Rattle.command_words.proofs.PageWords.{page-no-command, one-page}
 
 -- the status of an output is 0 or 1
 pub done-small : (refused : Bool) → done_status refused ≤ 1
@@ -65,19 +68,20 @@ module _ (words : List (List ℕ)) (told : List ℕ → Option (List ℕ)) (aske
     pub has : HasOutput words told asked before now refused text
     pub appends : Appends taken_before taken_now text
 
-  due-wrote : (status : ℕ) (text : List ℕ) → IsDue words told asked before now status text → IsDone status → Appends taken_before taken_now text → Wrote status
-  due-wrote status text (output refused t has) e appends = record { refused = refused; text = t; status = refl; has = has; appends = appends }
-  due-wrote status text (refusal Usage cause) e appends = absurd (not-done 2 (omega arith) e)
-  due-wrote status text (refusal (BadScript line reason) cause) e appends = absurd (not-done 3 (omega arith) e)
-  due-wrote status text (refusal (BadKeys line reason) cause) e appends = absurd (not-done 4 (omega arith) e)
-  due-wrote status text (refusal (ReadFault name) cause) e appends = absurd (not-done 5 (omega arith) e)
-  due-wrote status text (refusal (TooLarge name) cause) e appends = absurd (not-done 8 (omega arith) e)
-  due-wrote status text (refusal Memory cause) e appends = absurd (not-done 7 (omega arith) e)
+  due-wrote : (status : ℕ) (text : List ℕ) → IsDue words told asked before now status text → IsDone status → Appends taken_before taken_now text → ((p : Page) → AsksFor words p → ⊥) → Wrote status
+  due-wrote status text (page p asks nothing quiet) e appends none = absurd (none p asks)
+  due-wrote status text (output refused t has) e appends none = record { refused = refused; text = t; status = refl; has = has; appends = appends }
+  due-wrote status text (refusal Usage cause) e appends none = absurd (not-done 2 (omega arith) e)
+  due-wrote status text (refusal (BadScript line reason) cause) e appends none = absurd (not-done 3 (omega arith) e)
+  due-wrote status text (refusal (BadKeys line reason) cause) e appends none = absurd (not-done 4 (omega arith) e)
+  due-wrote status text (refusal (ReadFault name) cause) e appends none = absurd (not-done 5 (omega arith) e)
+  due-wrote status text (refusal (TooLarge name) cause) e appends none = absurd (not-done 8 (omega arith) e)
+  due-wrote status text (refusal Memory cause) e appends none = absurd (not-done 7 (omega arith) e)
 
-  pub wrote : (b n result : ℕ) → Ends (IsDue words told asked before now) taken_before taken_now b n result → IsDone result → Wrote result
-  wrote b n result (written status text due appends quiet) e = due-wrote status text due e appends
-  wrote b n result (cut status text due front rose) e = absurd (not-done 6 (omega arith) e)
-  wrote b n result (memory due keeps quiet) e = absurd (not-done 7 (omega arith) e)
+  pub wrote : (b n result : ℕ) → Ends (IsDue words told asked before now) taken_before taken_now b n result → IsDone result → ((p : Page) → AsksFor words p → ⊥) → Wrote result
+  wrote b n result (written status text due appends quiet) e none = due-wrote status text due e appends none
+  wrote b n result (cut status text due front rose) e none = absurd (not-done 6 (omega arith) e)
+  wrote b n result (memory due keeps quiet) e none = absurd (not-done 7 (omega arith) e)
 
   writes : (result : ℕ) (IsText : Bool → List ℕ → Type 0) (w : Wrote result) → IsText w.refused w.text → Writes IsText taken_before taken_now result
   writes result IsText w is_text old new is_old is_new =
@@ -87,17 +91,17 @@ module _ (words : List (List ℕ)) (told : List ℕ → Option (List ℕ)) (aske
   -- The headline, and the same of a listing and of a dump.
   pub transcribes : (b n result : ℕ) → Ends (IsDue words told asked before now) taken_before taken_now b n result → IsDone result → Transcribes words told taken_before taken_now result
   transcribes b n result ends e script keys script_text keys_text threads keep_going is_run at at_keys =
-      let w = wrote b n result ends e in
+      let w = wrote b n result ends e (λ p asks. page-no-command words p (run script keys threads keep_going) asks is_run) in
       writes result (IsTranscript script_text keys_text threads (mode_of keep_going)) w (does words told asked before now (run script keys threads keep_going) w.refused w.text is_run w.has script_text keys_text at at_keys)
 
   pub lists : (b n result : ℕ) → Ends (IsDue words told asked before now) taken_before taken_now b n result → IsDone result → Lists words told taken_before taken_now result
   lists b n result ends e script script_text keep_going is_list at =
-      let w = wrote b n result ends e in
+      let w = wrote b n result ends e (λ p asks. page-no-command words p (list script keep_going) asks is_list) in
       writes result (IsListing script_text (mode_of keep_going)) w (does words told asked before now (list script keep_going) w.refused w.text is_list w.has script_text at)
 
   pub dumps : (b n result : ℕ) → Ends (IsDue words told asked before now) taken_before taken_now b n result → IsDone result → Dumps words told taken_before taken_now result
   dumps b n result ends e script script_text keep_going is_dump at =
-      let w = wrote b n result ends e in
+      let w = wrote b n result ends e (λ p asks. page-no-command words p (dump script keep_going) asks is_dump) in
       writes result (IsTables script_text (mode_of keep_going)) w (does words told asked before now (dump script keep_going) w.refused w.text is_dump w.has script_text at)
 
   -- A drill's line is written, with 0.
@@ -109,8 +113,40 @@ module _ (words : List (List ℕ)) (told : List ℕ → Option (List ℕ)) (aske
 
   pub drills : (b n result : ℕ) → Ends (IsDue words told asked before now) taken_before taken_now b n result → IsDone result → Drills words taken_before taken_now result
   drills b n result ends e seed count threads is_drill =
-      let w = wrote b n result ends e in
+      let w = wrote b n result ends e (λ p asks. page-no-command words p (drill seed count threads) asks is_drill) in
       subst (λ (r : ℕ). DeliversDrill seed count taken_before taken_now r) (sym w.status) (drilled seed count threads w.refused w.text is_drill w.has w.appends)
+
+-- Of words that ask for a page, the page is due and nothing else.
+module _ (words : List (List ℕ)) (told : List ℕ → Option (List ℕ)) (asked : List (List ℕ)) (before now : ℕ) (p : Page) (asks : AsksFor words p) where
+  no-cause : (fault : Fault) → IsCause words told asked before now fault → ⊥
+  no-cause fault (no_command none names same) = none.no_page p asks
+  no-cause fault (of_script f c script is_c is_s cause) = page-no-command words p c asks is_c
+  no-cause fault (of_keys f script keys n g is_run readable cause) = page-no-command words p (run script keys n g) asks is_run
+  no-cause fault (of_drill seed count n is_drill names same) = page-no-command words p (drill seed count n) asks is_drill
+
+  due-page : (status : ℕ) (text : List ℕ) → IsDue words told asked before now status text → (status ≡ 0) × (text ≡ page_text p)
+  due-page status text (output refused t has) = absurd (page-no-command words p has.command asks has.is_command)
+  due-page status text (page q asks_other nothing quiet) = (refl, ap page_text (one-page words q p asks_other asks))
+  due-page status text (refusal fault cause) = absurd (no-cause fault cause)
+
+  pub page-written : (taken_before taken_now : Option (List ℕ)) (status : ℕ) (text : List ℕ) → IsDue words told asked before now status text → Appends taken_before taken_now text → DeliversPage p taken_before taken_now status
+  page-written taken_before taken_now status text due appends = let d = due-page status text due in record { written = subst (λ (t : List ℕ). Appends taken_before taken_now t) d.1 appends; status = d.0 }
+
+  -- Memory isn't wanting for a page.
+  pub no-memory : IsDue words told asked before now 7 [] → ⊥
+  no-memory due = let d = (due-page 7 [] due).0 in omega (arith, d)
+
+-- A page is written, with 0.
+pub tells-page : (words : List (List ℕ)) (told : List ℕ → Option (List ℕ)) (asked : List (List ℕ)) (before now : ℕ) (taken_before taken_now : Option (List ℕ)) (b n result : ℕ)
+    → Ends (IsDue words told asked before now) taken_before taken_now b n result → IsDone result → TellsPage words taken_before taken_now result
+tells-page words told asked before now taken_before taken_now b n result (written status text due appends quiet) e p asks = page-written words told asked before now p asks taken_before taken_now status text due appends
+tells-page words told asked before now taken_before taken_now b n result (cut status text due front rose) e p asks = absurd (not-done 6 (omega arith) e)
+tells-page words told asked before now taken_before taken_now b n result (memory due keeps quiet) e p asks = absurd (not-done 7 (omega arith) e)
+
+-- what is due of a page
+pub due-of-page : (words : List (List ℕ)) (told : List ℕ → Option (List ℕ)) (asked : List (List ℕ)) (before now : ℕ) (p : Page) → AsksFor words p → asked ≡ [] → now ≡ before
+    → (status : ℕ) (text : List ℕ) → IsExactly 0 (page_text p) status text → IsDue words told asked before now status text
+due-of-page words told asked before now p asks nothing quiet status text e = rw (e.0, e.1) (page p asks nothing quiet)
 
 -- what is due of a fault with its cause
 pub due-refusal : (words : List (List ℕ)) (told : List ℕ → Option (List ℕ)) (asked : List (List ℕ)) (before now : ℕ) (fault : Fault) → IsCause words told asked before now fault

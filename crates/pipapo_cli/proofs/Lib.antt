@@ -1,6 +1,3 @@
-pub mod CommandWords
-pub mod ClapValues
-pub mod WordValues
 mod Deliveries
 pub mod Endings
 mod Exact

@@ -1,7 +1,7 @@
 -- What a command gives behind a script that was read.
 use Rattle.std.proofs.Common.{◌≤◌, Bool, false, ◌≡◌, refl, sym, ◌∙◌, ap, subst, ℕ, List, [], ◌∷◌, ◌++◌, length, slice_get, Option, Some, None, Result, Ok, Err, inl, inr, ◌<◌, arith}
 use Rattle.std.specs.Borrow.{Bor}
-use Rattle.std.specs.Prelude.{IfOk, IfErr, IsErrAnd, OnOk}
+use Rattle.std.specs.Prelude.{IfOk, IfErr, OnOk}
 use Rattle.pip_base.specs.Picks.{AsksOnce, KeepsLeft, ReadsToEnd}
 use Rattle.set_model.specs.declared.script.Script.{Script}
 use Rattle.set_model.specs.Control.{Mode, mode_of, has_refusal}
@@ -10,12 +10,12 @@ use Rattle.script_run.specs.Listings.{listing_text, tables_text}
 use Rattle.script_run.specs.Drill.{drill_text}
 use Rattle.pipapo_cli.specs.declared.fault.Fault.{Fault}
 use Rattle.pipapo_cli.specs.declared.fault.Fault.TheVariants as faults
-use Rattle.pipapo_cli.specs.declared.words.Task.{Task}
-use Rattle.pipapo_cli.specs.declared.words.Task.TheVariants as tasks
-use Rattle.pipapo_cli.specs.declared.words.Command.{Command as Asked}
-use Rattle.pipapo_cli.specs.declared.words.Command.TheVariants as asked
-use Rattle.pipapo_cli.specs.Words.{Command, run, list, dump, drill, IsCommand, IsRun, IsList, IsDump, IsDrill, IsScriptOf, AreThreads, file_names}
-use Rattle.pipapo_cli.specs.WordForms.{plain}
+use Rattle.command_words.specs.declared.words.Task.{Task}
+use Rattle.command_words.specs.declared.words.Task.TheVariants as tasks
+use Rattle.command_words.specs.declared.words.Command.{Command as Asked}
+use Rattle.command_words.specs.declared.words.Command.TheVariants as asked
+use Rattle.command_words.specs.Words.{Command, run, list, dump, drill, IsCommand, IsRun, IsList, IsDump, IsDrill, IsScriptOf, AreThreads, file_names}
+use Rattle.command_words.specs.WordForms.{plain}
 use Rattle.pipapo_cli.specs.Transcript.{IsTranscript, IsTextOf}
 use Rattle.pip_base.specs.Whole.{size_limit}
 use Rattle.pipapo_cli.specs.Causes.{IsCause, of_script, of_keys, of_drill, IsKeysCause, IsReadable, IsSized}
@@ -69,10 +69,6 @@ handed (Err f) m P e h = tt
 pub is-memory : {X : Type 0} (r : Result X Fault) (P : Fault → Type 0) → IfErr r (λ f. f ≡ faults.Memory) → P faults.Memory → IfErr r P
 is-memory (Ok x) P e p = tt
 is-memory (Err f) P e p = subst P (sym e) p
-
-pub is-memory-and : {X : Type 0} (r : Result X Fault) (P : Fault → Type 0) → IsErrAnd r (λ f. f ≡ faults.Memory) → P faults.Memory → IfErr r P
-is-memory-and (Ok x) P e p = tt
-is-memory-and (Err f) P e p = subst P (sym e) p
 
 on-ok : {X E P : Type 0} (r : Result X E) → P → OnOk r P
 on-ok (Ok x) p = p

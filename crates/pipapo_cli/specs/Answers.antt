@@ -7,7 +7,9 @@ use Rattle.pip_base.specs.Whole.{AppendsFront}
 use Rattle.set_model.specs.Control.{mode_of}
 use Rattle.script_run.specs.Drill.{drill_text}
 use Rattle.pipapo_cli.specs.declared.fault.Fault.{Fault}
-use Rattle.pipapo_cli.specs.Words.{Command, IsCommand, IsRun, IsList, IsDump, IsDrill, IsScriptOf, file_names}
+use Rattle.command_words.specs.declared.page.Page.{Page}
+use Rattle.command_words.specs.WordForms.{page_text}
+use Rattle.command_words.specs.Words.{Command, IsCommand, AsksFor, IsRun, IsList, IsDump, IsDrill, IsScriptOf, file_names}
 use Rattle.pipapo_cli.specs.Transcript.{IsOutput, IsTranscript, IsListing, IsTables}
 use Rattle.pipapo_cli.specs.Causes.{IsCause, IsReadable, IsSized, IsBadScript, IsBadKeys}
 use Rattle.pipapo_cli.specs.Lines.{done_status, status_of, line_of, read_fault_line, script_line, keys_line}
@@ -27,10 +29,11 @@ pub record HasOutput (words : List (List ℕ)) (told : List ℕ → Option (List
   pub readable : AreReadable command told
   pub is_output : IsOutput command told refused text
 
--- The status and text that are due: the output of a command with 0 or 1, or a fault's status and line where the fault has its
--- cause.
+-- The status and text that are due: the output of a command with 0 or 1; a page with 0, where the words ask for it and no file was
+-- asked for; or a fault's status and line where the fault has its cause.
 pub data IsDue (words : List (List ℕ)) (told : List ℕ → Option (List ℕ)) (asked : List (List ℕ)) (before now : ℕ) : ℕ → List ℕ → Type 0 where
   output : (refused : Bool) (text : List ℕ) → HasOutput words told asked before now refused text → IsDue words told asked before now (done_status refused) text
+  page : (p : Page) → AsksFor words p → asked ≡ [] → now ≡ before → IsDue words told asked before now 0 (page_text p)
   refusal : (fault : Fault) → IsCause words told asked before now fault → IsDue words told asked before now (status_of fault) (line_of fault)
 
 -- this status and this text, and no other
@@ -81,6 +84,15 @@ pub record DeliversDrill (seed count : ℕ) (taken_before taken_now : Option (Li
 -- The same of a drill, with any number of packet threads: what the sink took is the drill's line, and the status is 0.
 abbrev pub Drills : List (List ℕ) → Option (List ℕ) → Option (List ℕ) → ℕ → Type 0
 Drills words before after result = (seed count threads : ℕ) → IsDrill words seed count threads → DeliversDrill seed count before after result
+
+-- A page was written whole, and its status is 0.
+pub record DeliversPage (p : Page) (taken_before taken_now : Option (List ℕ)) (result : ℕ) : Type 0 where
+  pub written : Appends taken_before taken_now (page_text p)
+  pub status : result ≡ 0
+
+-- The same of a page: what the sink took is the page that the words ask for, and the status is 0.
+abbrev pub TellsPage : List (List ℕ) → Option (List ℕ) → Option (List ℕ) → ℕ → Type 0
+TellsPage words before after result = (p : Page) → AsksFor words p → DeliversPage p before after result
 
 -- A read fault was told: the line names the last name that was asked for, and the shelf's count rose.
 pub record TellsReadFault (asked : List (List ℕ)) (before now : ℕ) (taken_before taken_now : Option (List ℕ)) : Type 0 where

@@ -13,7 +13,7 @@ use Rattle.pip_base.specs.Picks.{AsksOnce}
 use Rattle.pip_base.specs.Whole.{size_limit}
 use Rattle.pipapo_cli.specs.declared.fault.Fault.{Fault}
 use Rattle.pipapo_cli.specs.declared.fault.Fault.TheVariants.{Usage, BadScript, BadKeys, ReadFault, TooLarge, Memory}
-use Rattle.pipapo_cli.specs.Words.{Command, IsCommand, IsNoCommand, IsRun, IsDrill, IsScriptOf}
+use Rattle.command_words.specs.Words.{Command, IsCommand, IsNoCommand, IsRun, IsDrill, IsScriptOf}
 
 -- The script of this name is within its size and in the grammar.
 abbrev pub IsReadable : List ℕ → (List ℕ → Option (List ℕ)) → Type 0

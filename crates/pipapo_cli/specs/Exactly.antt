@@ -1,5 +1,5 @@
 -- The status of a call in which nothing failed outside, and what it wrote, by the words and by the bytes that the shelf tells.
-use Rattle.std.specs.Prelude.{Bool, ◌≡◌, ◌≤◌, ◌<◌, ◌⊎◌, ℕ, List, [], ◌∷◌, length, Option, Some}
+use Rattle.std.specs.Prelude.{Bool, ◌≡◌, ◌≤◌, ◌<◌, ◌⊎◌, ℕ, List, length, Option, Some}
 use Rattle.std.specs.Io.KnownBytes.{Appends, Keeps}
 use Rattle.set_model.specs.declared.script.Script.{Script}
 use Rattle.set_model.specs.declared.packet.Packet.{Packet}
@@ -11,9 +11,10 @@ use Rattle.set_script.specs.ScriptText.{IsScriptText}
 use Rattle.key_file.specs.KeysText.{IsKeysText}
 use Rattle.script_run.specs.Listings.{listing_text, tables_text}
 use Rattle.pip_base.specs.Whole.{size_limit}
-use Rattle.pipapo_cli.specs.Words.{Command, IsCommand, IsNoCommand, IsRun, IsList, IsDump, IsDrill, IsScriptOf, file_names}
+use Rattle.command_words.specs.declared.page.Page.{Page}
+use Rattle.command_words.specs.Words.{Command, IsCommand, AsksFor, IsNoCommand, IsRun, IsList, IsDump, IsDrill, IsScriptOf}
 use Rattle.pipapo_cli.specs.Lines.{done_status}
-use Rattle.pipapo_cli.specs.Answers.{DeliversDrill}
+use Rattle.pipapo_cli.specs.Answers.{DeliversDrill, TellsPage}
 
 -- A file's bytes, within their size, stand for this script.
 pub record HasScript (told : List ℕ → Option (List ℕ)) (name : List ℕ) (s : Script) : Type 0 where
@@ -46,6 +47,7 @@ pub record IsExact (words : List (List ℕ)) (told : List ℕ → Option (List �
   pub done_list : (script : List ℕ) (keep_going : Bool) (s : Script) → IsList words script keep_going → HasScript told script s → IsStatus (done_status (has_refusal (mode_of keep_going) s)) result
   pub done_dump : (script : List ℕ) (keep_going : Bool) (s : Script) → IsDump words script keep_going → HasScript told script s → IsStatus (done_status (has_refusal (mode_of keep_going) s)) result
   pub done_drill : (seed count threads : ℕ) → IsDrill words seed count threads → IsStatus 0 result
+  pub done_page : (p : Page) → AsksFor words p → result ≡ 0
 
 -- This text of a script was written whole; the status is 1 where a change is refused, and else 0.
 pub record Delivers (mode : Mode) (s : Script) (text : List ℕ) (taken_before taken_now : Option (List ℕ)) (result : ℕ) : Type 0 where
@@ -63,7 +65,7 @@ pub record DeliversRun (threads : ℕ) (mode : Mode) (s : Script) (keys : List (
   pub delivers : Delivers mode s (transcript_text mode s keys lines) taken_before taken_now result
 
 -- Where the words are a command, and its files are within their size and stand for a script and a key file, the output of exactly
--- these was written; or memory was wanting, and nothing was written. A drill has no files.
+-- these was written; or memory was wanting, and nothing was written. A drill has no files. A page is written in any case.
 pub record Completes (words : List (List ℕ)) (told : List ℕ → Option (List ℕ)) (taken_before taken_now : Option (List ℕ)) (result : ℕ) : Type 0 where
   pub run : (script keys : List ℕ) (threads : ℕ) (keep_going : Bool) (s : Script) (packets : List (List Packet)) → IsRun words script keys threads keep_going → HasScript told script s → HasKeys told keys s packets
       → DeliversRun threads (mode_of keep_going) s packets taken_before taken_now result ⊎ RanOut taken_before taken_now result
@@ -72,3 +74,4 @@ pub record Completes (words : List (List ℕ)) (told : List ℕ → Option (List
   pub dump : (script : List ℕ) (keep_going : Bool) (s : Script) → IsDump words script keep_going → HasScript told script s
       → Delivers (mode_of keep_going) s (tables_text (mode_of keep_going) s) taken_before taken_now result ⊎ RanOut taken_before taken_now result
   pub drill : (seed count threads : ℕ) → IsDrill words seed count threads → DeliversDrill seed count taken_before taken_now result ⊎ RanOut taken_before taken_now result
+  pub page : TellsPage words taken_before taken_now result

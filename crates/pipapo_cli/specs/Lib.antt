@@ -1,5 +1,3 @@
-pub mod Words
-pub mod WordForms
 pub mod Transcript
 pub mod Causes
 pub mod Names

@@ -3,7 +3,8 @@ use Rattle.std.specs.Prelude.{◌≡◌, ◌≢◌, ℕ, Bool, List, [], ◌∷�
 use Rattle.std.specs.List.{AllPairs}
 use Rattle.std.specs.Io.KnownBytes.{IsAtEnd}
 use Rattle.pip_base.specs.Picks.{IsPickOf}
-use Rattle.pipapo_cli.specs.Words.{Command, IsCommand, IsNoCommand, IsRun, file_names}
+use Rattle.command_words.specs.declared.page.Page.{Page}
+use Rattle.command_words.specs.Words.{Command, IsCommand, AsksFor, IsNoCommand, IsRun, file_names}
 use Rattle.pipapo_cli.specs.Causes.{IsReadable}
 
 -- One list is the front of another.
@@ -20,10 +21,11 @@ pub record AreReadWhole (old new : ℕ → Type 0) (left : ℕ → Option (List 
   pub picked : All (IsPickOf old new) files
   pub at_end : All (λ file. IsAtEnd (left file)) files
 
--- The names asked for are a front of the command's file names, and none where the words are no command. A run's key file is
+-- The names asked for are a front of the command's file names, and none where the words are no command or ask for a page. A run's key file is
 -- among them only where the script was read whole, within its size and in its grammar.
 pub record AsksInOrder (words : List (List ℕ)) (told : List ℕ → Option (List ℕ)) (asked : List (List ℕ)) (old new : ℕ → Type 0) (left : ℕ → Option (List ℕ)) : Type 0 where
   pub no_command : IsNoCommand words → asked ≡ []
+  pub no_file : (p : Page) → AsksFor words p → asked ≡ []
   pub in_order : (c : Command) → IsCommand words c → IsFront asked (file_names c)
   pub script_first : (script keys : List ℕ) (threads : ℕ) (keep_going : Bool) → IsRun words script keys threads keep_going → asked ≡ script ∷ keys ∷ [] → IsReadable script told × AreReadWhole old new left 1
 

@@ -10,7 +10,7 @@ use Rattle.set_script.specs.ScriptText.{IsScriptText}
 use Rattle.key_file.specs.KeysText.{IsKeysText}
 use Rattle.script_run.specs.Listings.{listing_text, tables_text}
 use Rattle.script_run.specs.Drill.{drill_text}
-use Rattle.pipapo_cli.specs.Words.{Command, run, list, dump, drill}
+use Rattle.command_words.specs.Words.{Command, run, list, dump, drill}
 
 -- The output is the text of a legal transcript, with so many threads, of the script and the key file that the texts stand for. It
 -- tells a refusal exactly where a change of the script is refused.

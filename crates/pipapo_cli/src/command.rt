@@ -6,20 +6,19 @@ ghost use Rattle.set_script.specs.ScriptText.{IsScriptText};
 ghost use Rattle.pip_base.specs.Causes.{Rose};
 ghost use Rattle.pip_base.specs.Picks.{AsksOnce, KeepsLeft, ReadsToEnd};
 ghost use Rattle.pipapo_cli.specs.declared.fault.Fault.TheVariants as faults;
-ghost use Rattle.pipapo_cli.specs.Words.{IsCommand};
-ghost use Rattle.pipapo_cli.specs.WordForms.{plain};
+ghost use Rattle.command_words.specs.Words.{IsCommand, AsksFor};
+ghost use Rattle.command_words.specs.WordForms.{plain};
 ghost use Rattle.pipapo_cli.specs.Transcript.{IsTranscript};
 ghost use Rattle.pipapo_cli.specs.Causes.{IsCause, IsKeysCause, IsSized, ReadsAs};
 ghost use Rattle.pipapo_cli.specs.Names.{AsksInOrder, AsksForAll};
 ghost use Rattle.pipapo_cli.specs.Lines.{done_status as status_of_done};
-ghost use Rattle.pipapo_cli.specs.Answers.{HasOutput, Ends, IsDue, IsDone, Transcribes, Lists, Dumps, Drills, TellsReadFault, TellsBadScript, TellsBadKeys};
+ghost use Rattle.pipapo_cli.specs.Answers.{HasOutput, Ends, IsDue, IsDone, Transcribes, Lists, Dumps, Drills, TellsPage, TellsReadFault, TellsBadScript, TellsBadKeys};
 ghost use Rattle.pipapo_cli.specs.Exactly.{IsExact, Completes};
 
-use crate::delivery::{deliver, tell};
+use crate::delivery::{deliver, deliver_page, tell};
 use crate::fault::Fault;
 use crate::inputs::{keys_of, script_of};
-use crate::shape::verb_of;
-use crate::words::{Command, Task, command_of};
+use command_words::{Command, Task, WordsError, command_of, page_of};
 use packet_pool::Gate;
 use pip_base::{Shelf, Sink};
 use script_run::{Output, drill, dump, listing, transcript};
@@ -27,14 +26,16 @@ use set_model::{Memory, Script};
 use std::alloc::Global;
 use std::thread::Threads;
 
-/// The command of these words.
+/// The command of these words, which ask for no page.
 fn asked_for<'a>(alloc: Global, words: &'a [String]) -> Result<Command<'a>, Fault<'a>>
+    requires { (p : _) → AsksFor (map string_bytes words.now) p → ⊥ }
     ensures found { IfOk result (λ command. IsCommand (map string_bytes words.now) (plain command)) }
     ensures cause { (told : List ℕ → Option (List ℕ)) (faults : ℕ) → IfErr result (IsCause (map string_bytes words.now) told [] faults faults) }
 {
-    match verb_of(words) {
-        Some(verb) => Ok(command_of(alloc, verb, words)?),
-        None => Err(Fault::Usage),
+    match command_of(alloc, words) {
+        Ok(command) => Ok(command),
+        Err(WordsError::NoCommand) => Err(Fault::Usage),
+        Err(WordsError::Memory) => Err(Fault::Memory),
     }
 }
 
@@ -75,7 +76,7 @@ fn or_memory<'a>(made: Result<Output, Memory>) -> Result<Output, Fault<'a>>
     }
 }
 
-/// The output that the command's words ask for.
+/// The output that a command's words ask for.
 fn output_of<'a, R: Threads + Sync, F: Shelf, G: Gate>(
     rt: &R,
     alloc: Global,
@@ -83,7 +84,8 @@ fn output_of<'a, R: Threads + Sync, F: Shelf, G: Gate>(
     shelf: &mut F,
     gate: &G,
 ) -> Result<Output, Fault<'a>>
-    requires { F.asked shelf.old ≡ [] }
+    requires nothing { F.asked shelf.old ≡ [] }
+    requires no_page { (p : _) → AsksFor (map string_bytes words.now) p → ⊥ }
     ensures output { IfOk result (λ out. HasOutput (map string_bytes words.now) (F.told shelf.old) (F.asked shelf.new) (F.faults shelf.old) (F.faults shelf.new) out.refused out.text.items) }
     ensures names { AsksInOrder (map string_bytes words.now) (F.told shelf.old) (F.asked shelf.new) (F.is_picked shelf.old) (F.is_picked shelf.new) (F.left shelf.new) }
     ensures whole { OnOk result (AsksForAll (map string_bytes words.now) (F.asked shelf.new) (F.is_picked shelf.old) (F.is_picked shelf.new) (F.left shelf.new)) }
@@ -126,6 +128,27 @@ fn done_status(refused: bool) -> u8
     if refused { 1 } else { 0 }
 }
 
+/// Does what words ask for that ask for no page, writes what comes of it, and answers the status.
+fn carry_out_command<R: Threads + Sync, F: Shelf, K: Sink, G: Gate>(
+    rt: &R,
+    alloc: Global,
+    words: &[String],
+    shelf: &mut F,
+    sink: &mut K,
+    gate: &G,
+) -> u8
+    requires nothing { F.asked shelf.old ≡ [] }
+    requires no_page { (p : _) → AsksFor (map string_bytes words.now) p → ⊥ }
+    ensures names { AsksInOrder (map string_bytes words.now) (F.told shelf.old) (F.asked shelf.new) (F.is_picked shelf.old) (F.is_picked shelf.new) (F.left shelf.new) }
+    ensures all_read { IsDone result → AsksForAll (map string_bytes words.now) (F.asked shelf.new) (F.is_picked shelf.old) (F.is_picked shelf.new) (F.left shelf.new) }
+    ensures ends { Ends (IsDue (map string_bytes words.now) (F.told shelf.old) (F.asked shelf.new) (F.faults shelf.old) (F.faults shelf.new)) (K.taken sink.old) (K.taken sink.new) (K.faults sink.old) (K.faults sink.new) result }
+{
+    match output_of(rt, alloc, words, shelf, gate) {
+        Ok(output) => deliver(sink, done_status(output.refused), output.text.as_slice()),
+        Err(fault) => tell(sink, fault),
+    }
+}
+
 /// Does what the words ask for, writes what comes of it, and answers the status.
 fn carry_out<R: Threads + Sync, F: Shelf, K: Sink, G: Gate>(
     rt: &R,
@@ -140,9 +163,9 @@ fn carry_out<R: Threads + Sync, F: Shelf, K: Sink, G: Gate>(
     ensures all_read { IsDone result → AsksForAll (map string_bytes words.now) (F.asked shelf.new) (F.is_picked shelf.old) (F.is_picked shelf.new) (F.left shelf.new) }
     ensures ends { Ends (IsDue (map string_bytes words.now) (F.told shelf.old) (F.asked shelf.new) (F.faults shelf.old) (F.faults shelf.new)) (K.taken sink.old) (K.taken sink.new) (K.faults sink.old) (K.faults sink.new) result }
 {
-    match output_of(rt, alloc, words, shelf, gate) {
-        Ok(output) => deliver(sink, done_status(output.refused), output.text.as_slice()),
-        Err(fault) => tell(sink, fault),
+    match page_of(words) {
+        Some(page) => deliver_page(sink, page),
+        None => carry_out_command(rt, alloc, words, shelf, sink, gate),
     }
 }
 
@@ -154,6 +177,9 @@ fn carry_out<R: Threads + Sync, F: Shelf, K: Sink, G: Gate>(
 /// - `dump SCRIPT [--keep-going]` runs a script, and writes the tables of its last generation;
 /// - `drill SEED COUNT [--threads N]` runs a script of COUNT elements beside as many packets, all drawn from
 ///   SEED, and writes one line of what came of them.
+///
+/// `help`, `--help` and `-h` alone, `help` before the word of a command and the other two behind it ask for help, and
+/// `--version` alone for the version: the page is written, with 0, and no file is asked for.
 ///
 /// With `--keep-going` a refused change is skipped, and doesn't fail its transaction. Where the words,
 /// a file or its reading is at fault, one line is written in place of the output. The `gate` is called
@@ -186,6 +212,9 @@ pub fn pipapo<R: Threads + Sync, F: Shelf, K: Sink, G: Gate>(
 
     // Of a drill it took the one line, and the status is 0.
     ensures drill { IsDone result → Drills (map string_bytes words.now) (K.taken sink.old) (K.taken sink.new) result }
+
+    // Of words that ask for a page it took the page, and the status is 0.
+    ensures page { IsDone result → TellsPage (map string_bytes words.now) (K.taken sink.old) (K.taken sink.new) result }
 
     // Where no count of faults rose, each status comes exactly where the words and the files are such,
     // but for want of memory.

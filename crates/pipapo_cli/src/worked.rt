@@ -397,18 +397,6 @@ fn cut_element(rt: HostRuntime) -> Result<(), Fail> {
 }
 
 #[test]
-fn extra_value(rt: HostRuntime) -> Result<(), Fail> {
-    expect_run(
-        &rt,
-        rt.alloc(),
-        "add set ip t p { type inet_service ; flags interval ; }\n",
-        "ip t p 80 . 81\n",
-        "pipapo: keys line 1: statement\n",
-        4,
-    )
-}
-
-#[test]
 fn list_round_trip(rt: HostRuntime) -> Result<(), Fail> {
     expect_list(
         &rt,
@@ -460,29 +448,102 @@ fn list_with_a_timeout(rt: HostRuntime) -> Result<(), Fail> {
 }
 
 #[test]
-fn refusal_reasons(rt: HostRuntime) -> Result<(), Fail> {
+fn reasons_of_a_script(rt: HostRuntime) -> Result<(), Fail> {
+    let scripts = [
+        (
+            "add set ip t p { type inet_service ; }\nadd $",
+            "pipapo: script line 2: character\n",
+        ),
+        (
+            "add set ip t p { type inet_service ; }\nadd",
+            "pipapo: script line 2: end\n",
+        ),
+        (
+            "add set ip t p { type inet_service ; }\nadd rule ip t c drop\n",
+            "pipapo: script line 2: left out\n",
+        ),
+        (
+            "add set ip t p { type ifname ; }\n",
+            "pipapo: script line 1: type\n",
+        ),
+        (
+            "add set ip t p { type inet_service ; }\nadd element ip t p { 70000 }\n",
+            "pipapo: script line 2: value\n",
+        ),
+        (
+            "add set ip t p { type inet_service ; timeout 1w ; }\n",
+            "pipapo: script line 1: time\n",
+        ),
+        ("at 5\nat 4\n", "pipapo: script line 2: moment\n"),
+        (
+            "add set ip t p { type inet_service ; }\nadd element ip t q { 80 }\n",
+            "pipapo: script line 2: set\n",
+        ),
+        (
+            "add set ip t p { type inet_service ; size 0 ; }\n",
+            "pipapo: script line 1: number\n",
+        ),
+        ("\n\nlist ruleset\n", "pipapo: script line 3: statement\n"),
+    ];
+    for (script, line) in scripts {
+        expect_run(&rt, rt.alloc(), script, "", line, 3)?;
+    }
+    Ok(())
+}
+
+#[test]
+fn reasons_of_a_key_file(rt: HostRuntime) -> Result<(), Fail> {
+    let files = [
+        ("ip t p $\n", "pipapo: keys line 1: character\n"),
+        ("ip t p", "pipapo: keys line 1: end\n"),
+        ("ip t p *\n", "pipapo: keys line 1: left out\n"),
+        ("\nip t p 70000\n", "pipapo: keys line 2: value\n"),
+        ("at x\n", "pipapo: keys line 1: moment\n"),
+        ("ip t q 80\n", "pipapo: keys line 1: set\n"),
+        ("ip t p 80 . 81\n", "pipapo: keys line 1: statement\n"),
+    ];
+    for (keys, line) in files {
+        expect_run(
+            &rt,
+            rt.alloc(),
+            "add set ip t p { type inet_service ; }\n",
+            keys,
+            line,
+            4,
+        )?;
+    }
+    Ok(())
+}
+
+const REFUSED: &str =
+    "add set ip t p { type inet_service ; flags interval ; }\nadd element ip t p { 80 }\nabort\nadd element ip t p { 5-30 }\ncommit\nadd element ip t p { 10-20 }\n";
+
+#[test]
+fn refusals_in_each_command(rt: HostRuntime) -> Result<(), Fail> {
     expect_run(
         &rt,
         rt.alloc(),
-        "add set ip t p { type inet_service ; }\nadd rule ip t c drop\n",
+        REFUSED,
         "",
-        "pipapo: script line 2: left out\n",
-        3,
+        "abort generation 0\ncommit generation 1 purged 0\nline 6 refused overlap ip t p element 0\nfail generation 1\n",
+        1,
     )?;
-    expect_run(
+    expect(
         &rt,
         rt.alloc(),
-        "at 5\nat 4\n",
+        &["list", "a.nft"],
+        REFUSED,
         "",
-        "pipapo: script line 2: moment\n",
-        3,
+        "# abort generation 0\n# commit generation 1 purged 0\n# line 6 refused overlap ip t p element 0\n# fail generation 1\ntable ip t {\n\tset p {\n\t\ttype inet_service\n\t\tflags interval\n\t\telements = { 5-30 }\n\t}\n}\n",
+        1,
     )?;
-    expect_run(
+    expect(
         &rt,
         rt.alloc(),
-        "add set ip t p { type inet_service ; flags interval ; }\nadd element ip t q { 80 }\n",
+        &["dump", "a.nft", "--keep-going"],
+        "add set ip t p { type inet_service ; }\ndelete element ip t p { 80 }\n",
         "",
-        "pipapo: script line 2: set\n",
-        3,
+        "# line 2 refused missing ip t p\n# commit generation 1 purged 0\nset ip t p\nfield 0 inet_service width 8 rules 0\n",
+        1,
     )
 }

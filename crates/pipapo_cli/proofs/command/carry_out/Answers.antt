@@ -1,16 +1,16 @@
+use Rattle.std.proofs.Common.{refl, map}
+use Rattle.std.specs.String.{string_bytes}
+use Rattle.command_words.proofs.PageWords.{page-no-command}
+use Rattle.pipapo_cli.proofs.Asking.{asks-nothing}
 use Rattle.pipapo_cli.proofs.Deliveries.{ends-map}
-use Rattle.pipapo_cli.proofs.Endings.{due-refusal, due-of-output}
-use Rattle.pipapo_cli.proofs.Completed.{fault-not-done}
+use Rattle.pipapo_cli.proofs.Endings.{due-of-page}
 use Rattle.pipapo_cli.proofs.command.carry_out.Goals as goal
 
-pub returns-in-Ok-clause-ends : goal.returns-in-Ok-clause-ends
-returns-in-Ok-clause-ends g c = ends-map _ _ _ _ _ _ _ (due-of-output _ _ _ _ _ _ _ c.in-Ok.ensures.output) (rw (c.done_status.ensures, c.as_slice.ensures.value) at c.deliver.ensures)
+pub returns-in-Some-clause-names : goal.returns-in-Some-clause-names
+returns-in-Some-clause-names g c = asks-nothing (map string_bytes c.args.words.now) (g.F.Shelf.told c.args.shelf.now) _ _ _ _ c.requires
 
-pub returns-in-Err-clause-ends : goal.returns-in-Err-clause-ends
-returns-in-Err-clause-ends g c = ends-map _ _ _ _ _ _ _ (due-refusal _ _ _ _ _ c.in-Err.fault c.in-Err.ensures.cause) c.tell.ensures
+pub returns-in-Some-clause-all_read : goal.returns-in-Some-clause-all_read
+returns-in-Some-clause-all_read g c done command is_command = absurd (page-no-command (map string_bytes c.args.words.now) c.in-Some.page command c.in-Some.ensures.found is_command)
 
-pub returns-in-Ok-clause-all_read : goal.returns-in-Ok-clause-all_read
-returns-in-Ok-clause-all_read g c done = c.in-Ok.ensures.whole
-
-pub returns-in-Err-clause-all_read : goal.returns-in-Err-clause-all_read
-returns-in-Err-clause-all_read g c done = absurd (fault-not-done c.in-Err.fault _ _ _ _ _ _ c.tell.ensures done)
+pub returns-in-Some-clause-ends : goal.returns-in-Some-clause-ends
+returns-in-Some-clause-ends g c = ends-map _ _ _ _ _ _ _ (due-of-page (map string_bytes c.args.words.now) (g.F.Shelf.told c.args.shelf.now) _ _ _ c.in-Some.page c.in-Some.ensures.found c.requires refl) c.deliver_page.ensures

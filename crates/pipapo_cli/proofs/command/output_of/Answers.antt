@@ -3,21 +3,20 @@ use Rattle.std.specs.String.{string_bytes}
 use Rattle.set_model.specs.Control.{mode_of, has_refusal}
 use Rattle.script_run.specs.Drill.{drill_text}
 use Rattle.script_run.specs.Listings.{listing_text, tables_text}
-use Rattle.pipapo_cli.specs.declared.words.Task.TheVariants as tasks
-use Rattle.pipapo_cli.specs.Words.{list, dump}
-use Rattle.pipapo_cli.specs.WordForms.{plain}
+use Rattle.command_words.specs.declared.words.Task.TheVariants as tasks
+use Rattle.command_words.specs.Words.{list, dump}
 use Rattle.pipapo_cli.specs.Causes.{of_script, ReadsAs}
 use Rattle.pipapo_cli.proofs.Asking.{asks-nothing, asks-script}
-use Rattle.pipapo_cli.proofs.Outputs.{of-script, of-drill, is-script-of, run-within, drill-within, drill-elements, handed, listed, dumped, alone-cause, alone-whole, run-output, run-cause, run-whole, run-names, drill-output, drill-cause, drill-whole}
+use Rattle.pipapo_cli.proofs.Outputs.{of-script, of-drill, is-script-of, run-within, drill-within, handed, listed, dumped, alone-cause, alone-whole, run-output, run-cause, run-whole, run-names, drill-output, drill-cause, drill-whole}
 use Rattle.pipapo_cli.proofs.command.output_of.Goals as goal
 
 pub returns-in-Err-clause-names : goal.returns-in-Err-clause-names
 returns-in-Err-clause-names g c =
-    asks-nothing (map string_bytes c.args.words.now) (g.F.Shelf.told c.args.shelf.now) _ _ _ _ c.requires
+    asks-nothing (map string_bytes c.args.words.now) (g.F.Shelf.told c.args.shelf.now) _ _ _ _ c.requires.nothing
 
 pub returns-in-Err-script_of-clause-names : goal.returns-in-Err-script_of-clause-names
 returns-in-Err-script_of-clause-names g c =
-    asks-script (map string_bytes c.args.words.now) (g.F.Shelf.told c.args.shelf.now) _ _ _ _ _ c.in-Script.script.now (of-script (map string_bytes c.args.words.now) c.in-Ok.command c.in-Script.script c.in-Script.task c.in-Script.task c.in-Script.keep_going c.in-Script.is refl c.in-Ok.ensures.found) (is-script-of c.in-Script.script c.in-Script.task c.in-Script.keep_going) (rw c.requires at c.in-Err-script_of.ensures.once)
+    asks-script (map string_bytes c.args.words.now) (g.F.Shelf.told c.args.shelf.now) _ _ _ _ _ c.in-Script.script.now (of-script (map string_bytes c.args.words.now) c.in-Ok.command c.in-Script.script c.in-Script.task c.in-Script.task c.in-Script.keep_going c.in-Script.is refl c.in-Ok.ensures.found) (is-script-of c.in-Script.script c.in-Script.task c.in-Script.keep_going) (rw c.requires.nothing at c.in-Err-script_of.ensures.once)
 
 pub returns-in-Err-script_of-clause-cause : goal.returns-in-Err-script_of-clause-cause
 returns-in-Err-script_of-clause-cause g c =
@@ -57,7 +56,7 @@ returns-in-List-clause-output g c =
 
 pub returns-in-List-clause-names : goal.returns-in-List-clause-names
 returns-in-List-clause-names g c =
-    asks-script (map string_bytes c.args.words.now) (g.F.Shelf.told c.args.shelf.now) _ _ _ _ (list c.in-Script.script.now c.in-Script.keep_going) c.in-Script.script.now (of-script (map string_bytes c.args.words.now) c.in-Ok.command c.in-Script.script c.in-Script.task tasks.List c.in-Script.keep_going c.in-Script.is c.in-List.is c.in-Ok.ensures.found) refl (rw c.requires at c.in-Ok-script_of.ensures.once)
+    asks-script (map string_bytes c.args.words.now) (g.F.Shelf.told c.args.shelf.now) _ _ _ _ (list c.in-Script.script.now c.in-Script.keep_going) c.in-Script.script.now (of-script (map string_bytes c.args.words.now) c.in-Ok.command c.in-Script.script c.in-Script.task tasks.List c.in-Script.keep_going c.in-Script.is c.in-List.is c.in-Ok.ensures.found) refl (rw c.requires.nothing at c.in-Ok-script_of.ensures.once)
 
 pub returns-in-List-clause-whole : goal.returns-in-List-clause-whole
 returns-in-List-clause-whole g c =
@@ -75,7 +74,7 @@ returns-in-Dump-clause-output g c =
 
 pub returns-in-Dump-clause-names : goal.returns-in-Dump-clause-names
 returns-in-Dump-clause-names g c =
-    asks-script (map string_bytes c.args.words.now) (g.F.Shelf.told c.args.shelf.now) _ _ _ _ (dump c.in-Script.script.now c.in-Script.keep_going) c.in-Script.script.now (of-script (map string_bytes c.args.words.now) c.in-Ok.command c.in-Script.script c.in-Script.task tasks.Dump c.in-Script.keep_going c.in-Script.is c.in-Dump.is c.in-Ok.ensures.found) refl (rw c.requires at c.in-Ok-script_of.ensures.once)
+    asks-script (map string_bytes c.args.words.now) (g.F.Shelf.told c.args.shelf.now) _ _ _ _ (dump c.in-Script.script.now c.in-Script.keep_going) c.in-Script.script.now (of-script (map string_bytes c.args.words.now) c.in-Ok.command c.in-Script.script c.in-Script.task tasks.Dump c.in-Script.keep_going c.in-Script.is c.in-Dump.is c.in-Ok.ensures.found) refl (rw c.requires.nothing at c.in-Ok-script_of.ensures.once)
 
 pub returns-in-Dump-clause-whole : goal.returns-in-Dump-clause-whole
 returns-in-Dump-clause-whole g c =
@@ -91,18 +90,18 @@ drill-requires-clause-threads g c κs within =
 
 pub returns-in-Drill-clause-output : goal.returns-in-Drill-clause-output
 returns-in-Drill-clause-output g c =
-    drill-output (map string_bytes c.args.words.now) (g.F.Shelf.told c.args.shelf.now) _ _ _ c.requires refl c.in-Drill.seed c.in-Drill.count c.in-Drill.threads (of-drill (map string_bytes c.args.words.now) c.in-Ok.command c.in-Drill.seed c.in-Drill.count c.in-Drill.threads c.in-Drill.is c.in-Ok.ensures.found) c.or_memory-in-Drill.result (λ out. out.text.items) (λ out. out.refused)
+    drill-output (map string_bytes c.args.words.now) (g.F.Shelf.told c.args.shelf.now) _ _ _ c.requires.nothing refl c.in-Drill.seed c.in-Drill.count c.in-Drill.threads (of-drill (map string_bytes c.args.words.now) c.in-Ok.command c.in-Drill.seed c.in-Drill.count c.in-Drill.threads c.in-Drill.is c.in-Ok.ensures.found) c.or_memory-in-Drill.result (λ out. out.text.items) (λ out. out.refused)
     (handed c.or_memory-in-Drill.result c.drill.result (λ out. out.text.items ≡ drill_text c.in-Drill.seed c.in-Drill.count) c.or_memory-in-Drill.ensures.ok c.drill.ensures.text)
     (handed c.or_memory-in-Drill.result c.drill.result (λ out. out.refused ≡ false) c.or_memory-in-Drill.ensures.ok c.drill.ensures.refused)
 
 pub returns-in-Drill-clause-names : goal.returns-in-Drill-clause-names
 returns-in-Drill-clause-names g c =
-    asks-nothing (map string_bytes c.args.words.now) (g.F.Shelf.told c.args.shelf.now) _ _ _ _ c.requires
+    asks-nothing (map string_bytes c.args.words.now) (g.F.Shelf.told c.args.shelf.now) _ _ _ _ c.requires.nothing
 
 pub returns-in-Drill-clause-whole : goal.returns-in-Drill-clause-whole
 returns-in-Drill-clause-whole g c =
-    drill-whole (map string_bytes c.args.words.now) (g.F.Shelf.told c.args.shelf.now) (g.F.Shelf.asked c.args.shelf.now) (g.F.Shelf.faults c.args.shelf.now) (g.F.Shelf.faults c.args.shelf.now) c.requires refl c.in-Drill.seed c.in-Drill.count c.in-Drill.threads (of-drill (map string_bytes c.args.words.now) c.in-Ok.command c.in-Drill.seed c.in-Drill.count c.in-Drill.threads c.in-Drill.is c.in-Ok.ensures.found) c.or_memory-in-Drill.result _ _ _
+    drill-whole (map string_bytes c.args.words.now) (g.F.Shelf.told c.args.shelf.now) (g.F.Shelf.asked c.args.shelf.now) (g.F.Shelf.faults c.args.shelf.now) (g.F.Shelf.faults c.args.shelf.now) c.requires.nothing refl c.in-Drill.seed c.in-Drill.count c.in-Drill.threads (of-drill (map string_bytes c.args.words.now) c.in-Ok.command c.in-Drill.seed c.in-Drill.count c.in-Drill.threads c.in-Drill.is c.in-Ok.ensures.found) c.or_memory-in-Drill.result _ _ _
 
 pub returns-in-Drill-clause-cause : goal.returns-in-Drill-clause-cause
 returns-in-Drill-clause-cause g c =
-    drill-cause (map string_bytes c.args.words.now) (g.F.Shelf.told c.args.shelf.now) _ _ _ c.requires refl c.in-Drill.seed c.in-Drill.count c.in-Drill.threads (of-drill (map string_bytes c.args.words.now) c.in-Ok.command c.in-Drill.seed c.in-Drill.count c.in-Drill.threads c.in-Drill.is c.in-Ok.ensures.found) c.or_memory-in-Drill.result c.or_memory-in-Drill.ensures.err
+    drill-cause (map string_bytes c.args.words.now) (g.F.Shelf.told c.args.shelf.now) _ _ _ c.requires.nothing refl c.in-Drill.seed c.in-Drill.count c.in-Drill.threads (of-drill (map string_bytes c.args.words.now) c.in-Ok.command c.in-Drill.seed c.in-Drill.count c.in-Drill.threads c.in-Drill.is c.in-Ok.ensures.found) c.or_memory-in-Drill.result c.or_memory-in-Drill.ensures.err

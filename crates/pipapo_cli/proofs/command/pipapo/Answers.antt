@@ -1,6 +1,6 @@
 use Rattle.std.proofs.Common.{map}
 use Rattle.std.specs.String.{string_bytes}
-use Rattle.pipapo_cli.proofs.Endings.{transcribes, lists, dumps, drills}
+use Rattle.pipapo_cli.proofs.Endings.{transcribes, lists, dumps, drills, tells-page}
 use Rattle.pipapo_cli.proofs.Exact.{exact}
 use Rattle.pipapo_cli.proofs.Completed.{completes, tells-read-fault, tells-bad-script, tells-bad-keys, shelf-moved, sink-moved}
 use Rattle.pipapo_cli.proofs.command.pipapo.Goals as goal
@@ -48,3 +48,7 @@ returns-clause-shelf_count g c moved =
 pub returns-clause-sink_count : goal.returns-clause-sink_count
 returns-clause-sink_count g c moved =
     sink-moved (map string_bytes c.args.words.now) (g.F.Shelf.told c.args.shelf.now) (g.F.Shelf.asked c.carry_out.new.shelf) (g.F.Shelf.faults c.args.shelf.now) (g.F.Shelf.faults c.carry_out.new.shelf) _ _ _ _ _ c.carry_out.ensures.ends moved
+
+pub returns-clause-page : goal.returns-clause-page
+returns-clause-page g c done =
+    tells-page (map string_bytes c.args.words.now) (g.F.Shelf.told c.args.shelf.now) (g.F.Shelf.asked c.carry_out.new.shelf) (g.F.Shelf.faults c.args.shelf.now) (g.F.Shelf.faults c.carry_out.new.shelf) _ _ _ _ _ c.carry_out.ensures.ends done

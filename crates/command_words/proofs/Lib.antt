@@ -1,0 +1,4 @@
+pub mod CommandWords
+mod ClapValues
+mod WordValues
+pub mod PageWords

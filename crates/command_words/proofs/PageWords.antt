@@ -1,0 +1,101 @@
+-- Which words ask for a page, and that they are no command.
+use Rattle.std.proofs.Common.{◌≡◌, refl, sym, ◌∙◌, ap, subst, ℕ, Bool, true, false, cond, List, [], ◌∷◌, codes, Option, Some, None, true≢false, inl, inr}
+use Rattle.std.specs.Prelude.{bytes_eq, option_map, if◌then◌else◌}
+use Rattle.command_words.specs.declared.shape.Verb.{Verb}
+use Rattle.command_words.specs.declared.shape.Verb.TheVariants.{Run, List as Lists, Dump, Drill}
+use Rattle.command_words.specs.declared.page.Page.{Page}
+use Rattle.command_words.specs.declared.page.Page.TheVariants.{Program, Command as On, Version}
+use Rattle.command_words.specs.Words.{AreWords, AreArguments, AsksFor, Command, run, list, dump, drill, IsCommand, verb_word, is_name, threads_word, keep_going_word}
+use Rattle.command_words.specs.WordForms.{verb_of}
+use Rattle.command_words.proofs.CommandWords.{leads, Leads, by_name, by_threads, by_mark}
+
+-- the verb that a word names
+named : List ℕ → Option Verb
+named word = cond (bytes_eq word (codes "run")) (Some Run) (cond (bytes_eq word (codes "list")) (Some Lists) (cond (bytes_eq word (codes "dump")) (Some Dump) (cond (bytes_eq word (codes "drill")) (Some Drill) None)))
+
+named-verb : (verb : Verb) → named (verb_word verb) ≡ Some verb
+unfolding named
+named-verb Run = refl
+named-verb Lists = refl
+named-verb Dump = refl
+named-verb Drill = refl
+
+no-verb : (verb : Verb) (word : List ℕ) → named word ≡ None → verb_word verb ≡ word → ⊥
+no-verb verb word none same = let there = sym (named-verb verb) ∙ ap named same ∙ none in cc there
+
+no-help : (verb : Verb) → bytes_eq (verb_word verb) (codes "help") ≡ false
+no-help Run = refl
+no-help Lists = refl
+no-help Dump = refl
+no-help Drill = refl
+
+-- the page that words ask for, where they do
+page_named : List (List ℕ) → Option Page
+page_named [] = None
+page_named (word ∷ []) = if bytes_eq word (codes "--version") then Some Version else Some Program
+page_named (first ∷ second ∷ rest) = option_map On (if bytes_eq first (codes "help") then named second else named first)
+
+asked-page : (words : List (List ℕ)) (page : Page) → AsksFor words page → page_named words ≡ Some page
+unfolding page_named
+asked-page words Program (inl e) = rw e refl
+asked-page words Program (inr (inl e)) = rw e refl
+asked-page words Program (inr (inr e)) = rw e refl
+asked-page words (On verb) (inl e) = rw (e, named-verb verb) refl
+asked-page words (On verb) (inr (inl e)) = rw (e, no-help verb, named-verb verb) refl
+asked-page words (On verb) (inr (inr e)) = rw (e, no-help verb, named-verb verb) refl
+asked-page words Version e = rw e refl
+
+-- The words of a page ask for no other.
+pub one-page : (words : List (List ℕ)) (p q : Page) → AsksFor words p → AsksFor words q → p ≡ q
+one-page words p q a b = let both : Some p ≡ Some q = sym (asked-page words p a) ∙ asked-page words q b in cc both
+
+-- what stands behind a command's word
+record Behind (words : List (List ℕ)) (verb : Verb) : Type 0 where
+  rest : List (List ℕ)
+  names : List (List ℕ)
+  threads : Option (List ℕ)
+  keep_going : Bool
+  words_are : words ≡ verb_word verb ∷ rest
+  arguments : AreArguments rest names threads keep_going
+
+behind : (words names : List (List ℕ)) (verb : Verb) (threads : Option (List ℕ)) (keep_going : Bool) → AreWords words (verb_word verb) names threads keep_going → Behind words verb
+behind words names verb threads keep_going a = record { rest = a.rest; names = names; threads = threads; keep_going = keep_going; words_are = a.words_are; arguments = a.arguments }
+
+of-command : (words : List (List ℕ)) (c : Command) → IsCommand words c → Behind words (verb_of c)
+of-command words (run script keys n g) h = behind words (script ∷ keys ∷ []) Run h.0 g h.1
+of-command words (list script g) h = behind words (script ∷ []) Lists None g h
+of-command words (dump script g) h = behind words (script ∷ []) Dump None g h
+of-command words (drill seed count n) h = behind words (h.1 ∷ h.2 ∷ []) Drill h.0 false h.3
+
+-- Another word with a dash is no argument.
+no-argument : (word : List ℕ) (ws names : List (List ℕ)) (threads : Option (List ℕ)) (keep_going : Bool) → is_name word ≡ false → bytes_eq word threads_word ≡ false → bytes_eq word keep_going_word ≡ false
+    → AreArguments (word ∷ ws) names threads keep_going → ⊥
+no-argument word ws names threads keep_going dash other another a = go (leads word ws names threads keep_going a) where
+  go : Leads word ws names threads keep_going → ⊥
+  go (by_name more e is b) = true≢false (sym e ∙ dash)
+  go (by_threads count rest is f h b) = true≢false (sym (ap (λ w. bytes_eq w threads_word) is) ∙ other)
+  go (by_mark is f b) = true≢false (sym (ap (λ w. bytes_eq w keep_going_word) is) ∙ another)
+
+module _ (words : List (List ℕ)) (c : Command) (b : Behind words (verb_of c)) where
+  other-first : (word : List ℕ) (ws : List (List ℕ)) → named word ≡ None → words ≡ word ∷ ws → ⊥
+  other-first word ws none e = let both : verb_word (verb_of c) ∷ b.rest ≡ word ∷ ws = sym b.words_are ∙ e in no-verb (verb_of c) word none (cc both)
+
+  other-second : (first word : List ℕ) → is_name word ≡ false → bytes_eq word threads_word ≡ false → bytes_eq word keep_going_word ≡ false → words ≡ first ∷ word ∷ [] → ⊥
+  other-second first word dash other another e =
+      let both : verb_word (verb_of c) ∷ b.rest ≡ first ∷ word ∷ [] = sym b.words_are ∙ e in
+      let rest : b.rest ≡ word ∷ [] = cc both in
+      no-argument word [] b.names b.threads b.keep_going dash other another (subst (λ (ws : List (List ℕ)). AreArguments ws b.names b.threads b.keep_going) rest b.arguments)
+
+  no-page : (page : Page) → AsksFor words page → ⊥
+  unfolding named
+  no-page Program (inl e) = other-first (codes "help") [] refl e
+  no-page Program (inr (inl e)) = other-first (codes "--help") [] refl e
+  no-page Program (inr (inr e)) = other-first (codes "-h") [] refl e
+  no-page (On verb) (inl e) = other-first (codes "help") (verb_word verb ∷ []) refl e
+  no-page (On verb) (inr (inl e)) = other-second (verb_word verb) (codes "--help") refl refl refl e
+  no-page (On verb) (inr (inr e)) = other-second (verb_word verb) (codes "-h") refl refl refl e
+  no-page Version e = other-first (codes "--version") [] refl e
+
+-- Words that ask for a page are no command.
+pub page-no-command : (words : List (List ℕ)) (page : Page) (c : Command) → AsksFor words page → IsCommand words c → ⊥
+page-no-command words page c asks h = no-page words c (of-command words c h) page asks

@@ -1,0 +1,51 @@
+use Rattle.std.proofs.Common.{refl, map, codes}
+use Rattle.std.specs.String.{string_bytes}
+use Rattle.command_words.specs.declared.shape.Verb.TheVariants as verbs
+use Rattle.command_words.proofs.WordValues.{of-verb, has-first, run-second, drill-second, is-alone, is-run, is-seed, is-count, is-drill}
+use Rattle.command_words.proofs.words.command_with.Goals as goal
+
+pub unwrap-first-requires : goal.unwrap-first-requires
+unwrap-first-requires c = has-first (map string_bytes c.args.words.now) c.in_ok-first.field-0 c.args.verb (of-verb (map string_bytes c.args.words.now) c.in_ok-first.field-0 c.in_ok-first.ensures c.args.verb c.args.verb refl c.requires)
+
+pub unwrap-requires : goal.unwrap-requires
+unwrap-requires c = run-second (map string_bytes c.args.words.now) c.in_ok-first.field-0 (of-verb (map string_bytes c.args.words.now) c.in_ok-first.field-0 c.in_ok-first.ensures c.args.verb verbs.Run c.in-Run.is c.requires)
+
+pub thread_count-requires : goal.thread_count-requires
+thread_count-requires c = let of = of-verb (map string_bytes c.args.words.now) c.in_ok-first.field-0 c.in_ok-first.ensures c.args.verb verbs.Run c.in-Run.is c.requires in (of.count, of.threads_are)
+
+pub returns-in-Run : goal.returns-in-Run
+returns-in-Run c =
+    is-run (map string_bytes c.args.words.now) c.in_ok-first.field-0 c.unwrap-first.result c.unwrap-first.ensures c.unwrap.result c.unwrap.ensures c.thread_count.result c.thread_count.ensures
+    (of-verb (map string_bytes c.args.words.now) c.in_ok-first.field-0 c.in_ok-first.ensures c.args.verb verbs.Run c.in-Run.is c.requires)
+
+pub unwrap-requires-in-Drill : goal.unwrap-requires-in-Drill
+unwrap-requires-in-Drill c = drill-second (map string_bytes c.args.words.now) c.in_ok-first.field-0 (of-verb (map string_bytes c.args.words.now) c.in_ok-first.field-0 c.in_ok-first.ensures c.args.verb verbs.Drill c.in-Drill.is c.requires)
+
+pub thread_count-requires-in-Drill : goal.thread_count-requires-in-Drill
+thread_count-requires-in-Drill c = let of = of-verb (map string_bytes c.args.words.now) c.in_ok-first.field-0 c.in_ok-first.ensures c.args.verb verbs.Drill c.in-Drill.is c.requires in (of.count, of.threads_are)
+
+pub written_number-requires : goal.written_number-requires
+written_number-requires c =
+    is-seed (map string_bytes c.args.words.now) c.in_ok-first.field-0 c.unwrap-first.result c.unwrap-first.ensures
+    (of-verb (map string_bytes c.args.words.now) c.in_ok-first.field-0 c.in_ok-first.ensures c.args.verb verbs.Drill c.in-Drill.is c.requires)
+
+pub written_number-requires-in-Drill : goal.written_number-requires-in-Drill
+written_number-requires-in-Drill c =
+    is-count (map string_bytes c.args.words.now) c.in_ok-first.field-0 c.unwrap-first.result c.unwrap-first.ensures c.unwrap-in-Drill.result c.unwrap-in-Drill.ensures
+    (of-verb (map string_bytes c.args.words.now) c.in_ok-first.field-0 c.in_ok-first.ensures c.args.verb verbs.Drill c.in-Drill.is c.requires)
+
+pub returns-in-Drill : goal.returns-in-Drill
+returns-in-Drill c =
+    is-drill (map string_bytes c.args.words.now) c.in_ok-first.field-0 c.unwrap-first.result c.unwrap-first.ensures c.unwrap-in-Drill.result c.unwrap-in-Drill.ensures c.written_number.result c.written_number-in-Drill.result c.thread_count-in-Drill.result
+    c.written_number.ensures c.written_number-in-Drill.ensures c.thread_count-in-Drill.ensures
+    (of-verb (map string_bytes c.args.words.now) c.in_ok-first.field-0 c.in_ok-first.ensures c.args.verb verbs.Drill c.in-Drill.is c.requires)
+
+pub returns-in-List : goal.returns-in-List
+returns-in-List c =
+    is-alone (map string_bytes c.args.words.now) c.in_ok-first.field-0 c.unwrap-first.result c.unwrap-first.ensures (codes "list")
+    (of-verb (map string_bytes c.args.words.now) c.in_ok-first.field-0 c.in_ok-first.ensures c.args.verb verbs.List c.in-List.is c.requires)
+
+pub returns-in-Dump : goal.returns-in-Dump
+returns-in-Dump c =
+    is-alone (map string_bytes c.args.words.now) c.in_ok-first.field-0 c.unwrap-first.result c.unwrap-first.ensures (codes "dump")
+    (of-verb (map string_bytes c.args.words.now) c.in_ok-first.field-0 c.in_ok-first.ensures c.args.verb verbs.Dump c.in-Dump.is c.requires)

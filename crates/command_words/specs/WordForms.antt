@@ -1,0 +1,148 @@
+-- How the words of a command are read: word by word by their shape, and then by the ids of their values.
+use Rattle.std.specs.Prelude.{◌≡◌, ℕ, ◌+◌, Bool, true, false, ◌==◌, ◌&&◌, not, List, [], ◌∷◌, fold, nat_le, nat_lt, if◌then◌else◌, codes, bytes_eq, decimal, is_some, Option, Some, None, slice_get, length, ◌≤◌, IfSome, IsTrue, option_map}
+use Rattle.std.specs.Bool.{then_some}
+use Rattle.std.specs.List.{count_by}
+use Rattle.std.specs.Str.Parse.{digits_value}
+use Rattle.clap.specs.Matches.{first_value, one_text}
+use Rattle.clap.specs.declared.parser.matches.Found.{Found}
+use Rattle.command_words.specs.declared.shape.Verb.{Verb}
+use Rattle.command_words.specs.declared.shape.Verb.TheVariants as verbs
+use Rattle.command_words.specs.declared.shape.Shape.{Shape}
+use Rattle.command_words.specs.declared.words.Arguments.{Arguments}
+use Rattle.command_words.specs.declared.words.Task.{Task}
+use Rattle.command_words.specs.declared.words.Task.TheVariants as tasks
+use Rattle.command_words.specs.declared.words.Command.{Command as Asked}
+use Rattle.command_words.specs.declared.words.Command.TheVariants as asked
+use Rattle.command_words.specs.declared.page.Page.{Page}
+use Rattle.command_words.specs.declared.page.Page.TheVariants as pages
+use Rattle.command_words.specs.declared.help.TheConstants.{PROGRAM, RUN, LIST, DUMP, DRILL, VERSION}
+use Rattle.command_words.specs.Words.{Command, run, list, dump, drill, IsCommand, is_name, stdin_name, threads_word, keep_going_word, last_seed, most_elements}
+
+-- how many names a command has
+abbrev pub name_count : Verb → ℕ
+name_count verbs.Run = 2
+name_count verbs.List = 1
+name_count verbs.Dump = 1
+name_count verbs.Drill = 2
+
+-- A command may have packet threads.
+abbrev pub takes_threads : Verb → Bool
+takes_threads verbs.Run = true
+takes_threads verbs.List = false
+takes_threads verbs.Dump = false
+takes_threads verbs.Drill = true
+
+-- A command may keep going behind a refused change.
+abbrev pub takes_mark : Verb → Bool
+takes_mark verbs.Run = true
+takes_mark verbs.List = true
+takes_mark verbs.Dump = true
+takes_mark verbs.Drill = false
+
+-- the number that a word writes, where it lies within bounds
+unfoldable pub number_in : ℕ → ℕ → List ℕ → Option ℕ
+number_in low high word =
+    let n = digits_value 10 word in
+    then_some (bytes_eq word (decimal n) && (nat_le low n && nat_le n high)) n
+
+-- the number of a drill at a place: the seed, and how many elements
+abbrev pub drill_number : ℕ → List ℕ → Option ℕ
+drill_number place word = if place == 0 then number_in 0 last_seed word else number_in 1 most_elements word
+
+-- A word may be the name at a place.
+abbrev pub is_name_of : Verb → ℕ → List ℕ → Bool
+is_name_of verbs.Run place word = is_name word
+is_name_of verbs.List place word = is_name word
+is_name_of verbs.Dump place word = is_name word
+is_name_of verbs.Drill place word = is_some (drill_number place word)
+
+abbrev pub takes_name : Verb → ℕ → List ℕ → Bool
+takes_name verb place word = nat_lt place (name_count verb) && is_name_of verb place word
+
+-- the shape with the number of packet threads
+abbrev pub with_threads : Shape → List ℕ → Option Shape
+with_threads s word = then_some (is_some (number_in 1 16 word)) (record s { waiting = false })
+
+-- the shape with a word that is no such number
+abbrev pub with_argument : Verb → Shape → List ℕ → Option Shape
+with_argument verb s word =
+    if bytes_eq word threads_word then then_some (takes_threads verb && not s.threads) (record s { threads = true; waiting = true })
+    else (if bytes_eq word keep_going_word then then_some (takes_mark verb && not s.keep_going) (record s { keep_going = true })
+    else then_some (takes_name verb s.names word) (record s { names = s.names + 1 }))
+
+abbrev pub with_word : Verb → Shape → List ℕ → Option Shape
+with_word verb s word = if s.waiting then with_threads s word else with_argument verb s word
+
+abbrev pub after : Verb → Option Shape → List ℕ → Option Shape
+after verb None word = None
+after verb (Some s) word = with_word verb s word
+
+abbrev pub begun : Shape
+begun = record { names = 0; threads = false; keep_going = false; waiting = false }
+
+abbrev pub is_whole : Verb → Option Shape → Bool
+is_whole verb None = false
+is_whole verb (Some s) = not s.waiting && (s.names == name_count verb)
+
+-- The words behind a command's word have its shape.
+abbrev pub has_shape : Verb → List (List ℕ) → Bool
+has_shape verb rest = is_whole verb (fold (after verb) (Some begun) rest)
+
+abbrev pub is_stdin : List ℕ → Bool
+is_stdin word = bytes_eq word stdin_name
+
+-- The standard input is named once at most.
+abbrev pub stdin_once : List (List ℕ) → Bool
+stdin_once rest = nat_le (count_by is_stdin rest) 1
+
+-- The words behind a command's word are its own.
+abbrev pub fits : Verb → List (List ℕ) → Bool
+fits verb rest = has_shape verb rest && stdin_once rest
+
+abbrev pub verb_of : Command → Verb
+verb_of (run script keys threads keep_going) = verbs.Run
+verb_of (list script keep_going) = verbs.List
+verb_of (dump script keep_going) = verbs.Dump
+verb_of (drill seed count threads) = verbs.Drill
+
+-- The words are a command that does this.
+abbrev pub HasVerb : List (List ℕ) → Verb → Type 0
+HasVerb words verb = (c : Command) × IsCommand words c × (verb_of c ≡ verb)
+
+-- the text of a page
+abbrev pub page_text : Page → List ℕ
+page_text pages.Program = PROGRAM.now
+page_text (pages.Command verbs.Run) = RUN.now
+page_text (pages.Command verbs.List) = LIST.now
+page_text (pages.Command verbs.Dump) = DUMP.now
+page_text (pages.Command verbs.Drill) = DRILL.now
+page_text pages.Version = VERSION.now
+
+-- what the code's command is
+abbrev pub plain_task : List ℕ → Task → Bool → Command
+plain_task script (tasks.Run keys threads) keep_going = run script keys.now threads keep_going
+plain_task script tasks.List keep_going = list script keep_going
+plain_task script tasks.Dump keep_going = dump script keep_going
+
+abbrev pub plain : Asked → Command
+plain (asked.Script script task keep_going) = plain_task script.now task keep_going
+plain (asked.Drill seed count threads) = drill seed count threads
+
+-- At most two names, and a word behind `--threads` that begins with no dash.
+pub record ArePlain (names : List (List ℕ)) (threads : Option (List ℕ)) : Type 0 where
+  pub few : length names ≤ 2
+  pub no_dash : IfSome threads (λ word. IsTrue (is_name word))
+
+-- What was found by the ids are these arguments.
+pub record HasValues (found : Found) (names : List (List ℕ)) (threads : Option (List ℕ)) (keep_going : Bool) : Type 0 where
+  pub first : first_value found (codes "first") ≡ slice_get names 0
+  pub second : first_value found (codes "second") ≡ slice_get names 1
+  pub threads_are : first_value found (codes "threads") ≡ threads
+  pub mark : one_text found (codes "keep-going") ≡ Some (if keep_going then codes "true" else codes "false")
+
+-- The code's arguments are these.
+pub record HasArguments (a : Arguments) (names : List (List ℕ)) (threads : Option (List ℕ)) (keep_going : Bool) : Type 0 where
+  pub first : option_map (λ w. w.now) a.first ≡ slice_get names 0
+  pub second : option_map (λ w. w.now) a.second ≡ slice_get names 1
+  pub threads_are : option_map (λ w. w.now) a.threads ≡ threads
+  pub mark : a.keep_going ≡ keep_going

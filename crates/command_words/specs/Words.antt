@@ -1,0 +1,115 @@
+-- The words of a command, and of help.
+use Rattle.std.specs.Prelude.{◌≡◌, ◌<◌, ◌≤◌, ◌^◌, ◌⊎◌, ℕ, Bool, true, false, ◌==◌, not, List, [], ◌∷◌, codes, decimal, Option, Some, None, slice_get, IsTrue}
+use Rattle.command_words.specs.declared.shape.Verb.{Verb}
+use Rattle.command_words.specs.declared.shape.Verb.TheVariants as verbs
+use Rattle.command_words.specs.declared.page.Page.{Page}
+use Rattle.command_words.specs.declared.page.Page.TheVariants as pages
+
+-- the name of the standard input
+abbrev pub stdin_name : List ℕ
+stdin_name = codes "-"
+
+-- A name isn't empty and doesn't begin with a dash, but for `-` itself, the standard input.
+abbrev pub is_name : List ℕ → Bool
+is_name [] = false
+is_name (b ∷ []) = true
+is_name (b ∷ c ∷ bytes) = not (b == 45)
+
+-- the word of a command
+abbrev pub verb_word : Verb → List ℕ
+verb_word verbs.Run = codes "run"
+verb_word verbs.List = codes "list"
+verb_word verbs.Dump = codes "dump"
+verb_word verbs.Drill = codes "drill"
+
+abbrev pub threads_word : List ℕ
+threads_word = codes "--threads"
+
+abbrev pub keep_going_word : List ℕ
+keep_going_word = codes "--keep-going"
+
+-- What may stand behind a command's word, in any order: names; once at most `--threads` and the word behind it, whatever that is;
+-- once at most `--keep-going`.
+pub data AreArguments : List (List ℕ) → List (List ℕ) → Option (List ℕ) → Bool → Type 0 where
+  no_words : AreArguments [] [] None false
+  name_and : {word : List ℕ} {rest names : List (List ℕ)} {threads : Option (List ℕ)} {keep_going : Bool} → IsTrue (is_name word) → AreArguments rest names threads keep_going
+      → AreArguments (word ∷ rest) (word ∷ names) threads keep_going
+  threads_and : {count : List ℕ} {rest names : List (List ℕ)} {keep_going : Bool} → AreArguments rest names None keep_going → AreArguments (threads_word ∷ count ∷ rest) names (Some count) keep_going
+  mark_and : {rest names : List (List ℕ)} {threads : Option (List ℕ)} → AreArguments rest names threads false → AreArguments (keep_going_word ∷ rest) names threads true
+
+-- The words are this one and these arguments.
+pub record AreWords (words : List (List ℕ)) (first : List ℕ) (names : List (List ℕ)) (threads : Option (List ℕ)) (keep_going : Bool) : Type 0 where
+  pub rest : List (List ℕ)
+  pub words_are : words ≡ first ∷ rest
+  pub arguments : AreArguments rest names threads keep_going
+
+-- A word writes a number within bounds, in plain digits without a sign or a leading zero.
+abbrev pub IsNumber : ℕ → ℕ → List ℕ → ℕ → Type 0
+IsNumber low high word n = (word ≡ decimal n) × (low ≤ n) × (n ≤ high)
+
+abbrev pub last_seed : ℕ
+last_seed = 18446744073709551615
+
+-- the most elements of a drill
+abbrev pub most_elements : ℕ
+most_elements = 20000
+
+-- how many packet threads there are, 1 to 16; 1 where nothing is said
+abbrev pub AreThreads : Option (List ℕ) → ℕ → Type 0
+AreThreads None n = n ≡ 1
+AreThreads (Some word) n = IsNumber 1 16 word n
+
+-- A command: its files' names, or the numbers of a drill; how many packet threads it has; and whether it keeps going behind a
+-- refused change.
+pub data Command : Type 0 where
+  run : (script keys : List ℕ) (threads : ℕ) (keep_going : Bool) → Command
+  list : (script : List ℕ) (keep_going : Bool) → Command
+  dump : (script : List ℕ) (keep_going : Bool) → Command
+  drill : (seed count threads : ℕ) → Command
+
+-- At most one of two names is the standard input.
+abbrev pub NameStdinOnce : List ℕ → List ℕ → Type 0
+NameStdinOnce script keys = script ≡ stdin_name → keys ≡ stdin_name → ⊥
+
+-- The words are this command.
+abbrev pub IsCommand : List (List ℕ) → Command → Type 0
+IsCommand words (run script keys n keep_going) = (threads : Option (List ℕ)) × AreWords words (codes "run") (script ∷ keys ∷ []) threads keep_going × AreThreads threads n × NameStdinOnce script keys
+IsCommand words (list script keep_going) = AreWords words (codes "list") (script ∷ []) None keep_going
+IsCommand words (dump script keep_going) = AreWords words (codes "dump") (script ∷ []) None keep_going
+IsCommand words (drill seed count n) = (threads : Option (List ℕ)) × (seed_word : List ℕ) × (count_word : List ℕ)
+    × AreWords words (codes "drill") (seed_word ∷ count_word ∷ []) threads false × IsNumber 0 last_seed seed_word seed × IsNumber 1 most_elements count_word count × AreThreads threads n
+
+-- The words ask for a text of the program's own: help on it or on one of its commands, or its version.
+abbrev pub AsksFor : List (List ℕ) → Page → Type 0
+AsksFor words pages.Program = (words ≡ codes "help" ∷ []) ⊎ (words ≡ codes "--help" ∷ []) ⊎ (words ≡ codes "-h" ∷ [])
+AsksFor words (pages.Command verb) = (words ≡ codes "help" ∷ verb_word verb ∷ []) ⊎ (words ≡ verb_word verb ∷ codes "--help" ∷ []) ⊎ (words ≡ verb_word verb ∷ codes "-h" ∷ [])
+AsksFor words pages.Version = words ≡ codes "--version" ∷ []
+
+-- The words are no command, and ask for no such text.
+pub record IsNoCommand (words : List (List ℕ)) : Type 0 where
+  pub no_work : (c : Command) → IsCommand words c → ⊥
+  pub no_page : (page : Page) → AsksFor words page → ⊥
+
+-- The words are a run of a script beside a key file, a listing of a script, or a dump of its tables, by the files' names; or a drill.
+abbrev pub IsRun : List (List ℕ) → List ℕ → List ℕ → ℕ → Bool → Type 0
+IsRun words script keys threads keep_going = IsCommand words (run script keys threads keep_going)
+
+abbrev pub IsList : List (List ℕ) → List ℕ → Bool → Type 0
+IsList words script keep_going = IsCommand words (list script keep_going)
+
+abbrev pub IsDump : List (List ℕ) → List ℕ → Bool → Type 0
+IsDump words script keep_going = IsCommand words (dump script keep_going)
+
+abbrev pub IsDrill : List (List ℕ) → ℕ → ℕ → ℕ → Type 0
+IsDrill words seed count threads = IsCommand words (drill seed count threads)
+
+-- the files that a command reads, by their names, in their order
+abbrev pub file_names : Command → List (List ℕ)
+file_names (run script keys threads keep_going) = script ∷ keys ∷ []
+file_names (list script keep_going) = script ∷ []
+file_names (dump script keep_going) = script ∷ []
+file_names (drill seed count threads) = []
+
+-- The first file of a command is its script.
+abbrev pub IsScriptOf : Command → List ℕ → Type 0
+IsScriptOf c name = slice_get (file_names c) 0 ≡ Some name

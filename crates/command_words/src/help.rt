@@ -1,0 +1,91 @@
+//! The texts that the program tells of itself.
+
+pub const VERSION: &str = "pipapo 0.1.0\n";
+
+pub const PROGRAM: &str = "\
+pipapo runs nftables set scripts and looks packets up in the sets.
+
+usage: pipapo run SCRIPT KEYS [--threads N] [--keep-going]
+       pipapo list SCRIPT [--keep-going]
+       pipapo dump SCRIPT [--keep-going]
+       pipapo drill SEED COUNT [--threads N]
+       pipapo help [COMMAND], pipapo [COMMAND] --help, pipapo [COMMAND] -h
+       pipapo --version
+
+commands:
+  run    runs SCRIPT beside the packets of KEYS, and writes the transcript
+  list   runs SCRIPT, and lists its last generation as a script
+  dump   runs SCRIPT, and writes the tables of its last generation
+  drill  runs a workload drawn from SEED, and writes one line on it
+
+SCRIPT is in the language of nft(8), KEYS has a packet's key in each line. One of them
+may be -, the standard input.
+
+options, in any order among the names:
+  --threads N    packet threads beside the control: 1 to 16, and else 1
+  --keep-going   a refused change is skipped, and doesn't fail its transaction
+
+statuses:
+  0  the whole output was written, and no change was refused
+  1  the whole output was written, and a change was refused
+  2  the words are no command
+  3  the script isn't in its grammar
+  4  the key file isn't in its grammar
+  5  a file can't be opened or read
+  6  the standard output failed
+  7  want of memory
+  8  a file has more than 67,108,864 bytes
+";
+
+pub const RUN: &str = "\
+usage: pipapo run SCRIPT KEYS [--threads N] [--keep-going]
+
+Runs SCRIPT beside the packets of the key file KEYS, and writes the transcript: what became
+of every transaction, each refused change with its line, and a verdict for each packet. One
+of both names may be -, the standard input.
+
+options, in any order among the names:
+  --threads N    packet threads beside the control: 1 to 16, and else 1
+  --keep-going   a refused change is skipped, and doesn't fail its transaction
+
+statuses: 0 done, 1 done with a refused change, 3 SCRIPT isn't in its grammar, 4 KEYS isn't,
+5 a file can't be read, 6 the standard output failed, 7 want of memory, 8 a file is too large
+";
+
+pub const LIST: &str = "\
+usage: pipapo list SCRIPT [--keep-going]
+
+Runs SCRIPT, and writes what became of its transactions as comments, and then the sets of the
+last generation as a script. SCRIPT may be -, the standard input.
+
+options, before or behind the name:
+  --keep-going   a refused change is skipped, and doesn't fail its transaction
+
+statuses: 0 done, 1 done with a refused change, 3 SCRIPT isn't in its grammar, 5 it can't be
+read, 6 the standard output failed, 7 want of memory, 8 SCRIPT is too large
+";
+
+pub const DUMP: &str = "\
+usage: pipapo dump SCRIPT [--keep-going]
+
+Runs SCRIPT, and writes what became of its transactions as comments, and then the tables of
+the last generation: rows of bits, mappings and ends. SCRIPT may be -, the standard input.
+
+options, before or behind the name:
+  --keep-going   a refused change is skipped, and doesn't fail its transaction
+
+statuses: 0 done, 1 done with a refused change, 3 SCRIPT isn't in its grammar, 5 it can't be
+read, 6 the standard output failed, 7 want of memory, 8 SCRIPT is too large
+";
+
+pub const DRILL: &str = "\
+usage: pipapo drill SEED COUNT [--threads N]
+
+Makes COUNT elements (1 to 20000) and as many packets from SEED (0 to 18446744073709551615),
+looks the packets up, and writes one line on it: the same for every number of threads.
+
+options, in any order among the numbers:
+  --threads N    packet threads: 1 to 16, and else 1
+
+statuses: 0 done, 6 the standard output failed, 7 want of memory
+";

@@ -1,0 +1,72 @@
+ghost use Rattle.std.specs.Prelude.{◌≡◌, ◌∷◌, [], List, map, None, IfSome};
+ghost use Rattle.std.specs.String.{string_bytes};
+ghost use Rattle.command_words.specs.Words.{AsksFor};
+ghost use Rattle.command_words.specs.WordForms.{page_text};
+
+use crate::help::{DRILL, DUMP, LIST, PROGRAM, RUN, VERSION};
+use crate::shape::Verb;
+
+/// A text that the program tells of itself.
+#[derive(Clone, Copy, Debug, PartialEq, Eq)]
+pub enum Page {
+    /// Help on the program.
+    Program,
+    /// Help on a command.
+    Command(Verb),
+    /// The program's name and version.
+    Version,
+}
+
+impl Page {
+    /// The text, whole lines of ASCII.
+    pub fn text(self) -> &'static str
+        ensures { result.now ≡ page_text self }
+    {
+        match self {
+            Page::Program => PROGRAM,
+            Page::Command(Verb::Run) => RUN,
+            Page::Command(Verb::List) => LIST,
+            Page::Command(Verb::Dump) => DUMP,
+            Page::Command(Verb::Drill) => DRILL,
+            Page::Version => VERSION,
+        }
+    }
+}
+
+/// The page that one word asks for.
+fn page_alone(word: &str) -> Option<Page>
+    ensures found { IfSome result (AsksFor (word.now ∷ [])) }
+    ensures none { result ≡ None → (page : _) → AsksFor (word.now ∷ []) page → ⊥ }
+{
+    match word {
+        "help" | "--help" | "-h" => Some(Page::Program),
+        "--version" => Some(Page::Version),
+        _ => None,
+    }
+}
+
+/// The page on a command that two words ask for.
+fn page_on(first: &str, second: &str) -> Option<Page>
+    ensures found { IfSome result (AsksFor (first.now ∷ second.now ∷ [])) }
+    ensures none { result ≡ None → (page : _) → AsksFor (first.now ∷ second.now ∷ []) page → ⊥ }
+{
+    if first == "help" {
+        Verb::of_word(second).map(Page::Command)
+    } else if second == "--help" || second == "-h" {
+        Verb::of_word(first).map(Page::Command)
+    } else {
+        None
+    }
+}
+
+/// The page that words ask for, or `None` where they ask for none.
+pub fn page_of(words: &[String]) -> Option<Page>
+    ensures found { IfSome result (AsksFor (map string_bytes words.now)) }
+    ensures none { result ≡ None → (page : _) → AsksFor (map string_bytes words.now) page → ⊥ }
+{
+    match words {
+        [word] => page_alone(word.as_str()),
+        [first, second] => page_on(first.as_str(), second.as_str()),
+        _ => None,
+    }
+}

@@ -1,0 +1,249 @@
+ghost use Rattle.std.specs.Prelude.{◌≡◌, ◌∷◌, map, None, Some, IfSome};
+ghost use Rattle.std.specs.String.{string_bytes};
+ghost use Rattle.command_words.specs.Words.{IsCommand, verb_word, is_name as name_test};
+ghost use Rattle.command_words.specs.WordForms.{HasVerb, fits, has_shape as shape_test, number_in, drill_number as number_at, takes_threads as threads_test, takes_mark as mark_test, takes_name as name_fits, name_count as count_of_names, with_word as next_shape, with_threads as counted_shape, with_argument as argument_shape, begun as begun_shape, stdin_once as names_once};
+
+use itoa::Buffer;
+
+const THREADS: &str = "--threads";
+
+const KEEP_GOING: &str = "--keep-going";
+
+/// The name of the standard input.
+const STDIN: &str = "-";
+
+/// The most packet threads.
+pub const MOST_THREADS: u64 = 16;
+
+/// The most elements of a drill.
+pub const MOST_ELEMENTS: u64 = 20_000;
+
+/// What a command does.
+#[derive(Clone, Copy, Debug, PartialEq, Eq)]
+pub enum Verb {
+    /// It runs a script beside a key file.
+    Run,
+    /// It lists the last generation of a script.
+    List,
+    /// It shows the tables of a script's last generation.
+    Dump,
+    /// It runs a generated script beside generated packets.
+    Drill,
+}
+
+/// The shape of the words behind a command's word, so far.
+#[derive(Clone, Copy)]
+struct Shape {
+    names: usize,
+    threads: bool,
+    keep_going: bool,
+    /// Whether the next word is the number of packet threads.
+    waiting: bool,
+}
+
+/// Whether a word is a name: it isn't empty and doesn't begin with a dash, but for `-` itself, the standard input.
+fn is_name(word: &str) -> bool
+    ensures { result ≡ name_test word.now }
+{
+    match word.as_bytes() {
+        [] => false,
+        [_] => true,
+        [first, ..] => *first != b'-',
+    }
+}
+
+/// The number that a word writes in plain digits without a sign or a leading zero, where it lies within bounds.
+pub fn number_of(word: &str, low: u64, high: u64) -> Option<u64>
+    ensures { result ≡ number_in low high word.now }
+{
+    let n = match word.parse::<u64>() {
+        Ok(n) => n,
+        Err(_) => return None,
+    };
+    let mut buffer = Buffer::new();
+    if low <= n && n <= high && buffer.format(n) == word {
+        Some(n)
+    } else {
+        None
+    }
+}
+
+/// The number of a drill at a place: the seed, and then how many elements.
+fn drill_number(place: usize, word: &str) -> Option<u64>
+    ensures { result ≡ number_at place word.now }
+{
+    if place == 0 {
+        number_of(word, 0, u64::MAX)
+    } else {
+        number_of(word, 1, MOST_ELEMENTS)
+    }
+}
+
+impl Verb {
+    /// The verb of a command's first word.
+    pub fn of_word(word: &str) -> Option<Verb>
+        ensures found { IfSome result (λ verb. word.now ≡ verb_word verb) }
+        ensures none { (verb : _) → word.now ≡ verb_word verb → result ≡ Some verb }
+    {
+        match word {
+            "run" => Some(Verb::Run),
+            "list" => Some(Verb::List),
+            "dump" => Some(Verb::Dump),
+            "drill" => Some(Verb::Drill),
+            _ => None,
+        }
+    }
+
+    /// How many names stand behind the command's word.
+    fn name_count(self) -> usize
+        ensures { result ≡ count_of_names self }
+    {
+        match self {
+            Verb::Run | Verb::Drill => 2,
+            Verb::List | Verb::Dump => 1,
+        }
+    }
+
+    fn takes_threads(self) -> bool
+        ensures { result ≡ threads_test self }
+    {
+        match self {
+            Verb::Run | Verb::Drill => true,
+            Verb::List | Verb::Dump => false,
+        }
+    }
+
+    fn takes_mark(self) -> bool
+        ensures { result ≡ mark_test self }
+    {
+        match self {
+            Verb::Run | Verb::List | Verb::Dump => true,
+            Verb::Drill => false,
+        }
+    }
+
+    /// Whether a word may be the name at a place.
+    fn takes_name(self, place: usize, word: &str) -> bool
+        ensures { result ≡ name_fits self place word.now }
+    {
+        place < self.name_count()
+            && match self {
+                Verb::Run | Verb::List | Verb::Dump => is_name(word),
+                Verb::Drill => drill_number(place, word).is_some(),
+            }
+    }
+}
+
+impl Shape {
+    fn begun() -> Shape
+        ensures { result ≡ begun_shape }
+    {
+        Shape {
+            names: 0,
+            threads: false,
+            keep_going: false,
+            waiting: false,
+        }
+    }
+
+    /// With the word behind `--threads`.
+    fn with_threads(self, word: &str) -> Option<Shape>
+        ensures { result ≡ counted_shape self word.now }
+    {
+        let counted = Shape {
+            waiting: false,
+            ..self
+        };
+        number_of(word, 1, MOST_THREADS)
+            .is_some()
+            .then_some(counted)
+    }
+
+    /// With a word that is a name or an option.
+    fn with_argument(self, verb: Verb, word: &str) -> Option<Shape>
+        ensures { result ≡ argument_shape verb self word.now }
+    {
+        if word == THREADS {
+            let with_threads = Shape {
+                threads: true,
+                waiting: true,
+                ..self
+            };
+            (verb.takes_threads() && !self.threads).then_some(with_threads)
+        } else if word == KEEP_GOING {
+            let with_mark = Shape {
+                keep_going: true,
+                ..self
+            };
+            (verb.takes_mark() && !self.keep_going).then_some(with_mark)
+        } else if verb.takes_name(self.names, word) {
+            Some(Shape {
+                names: self.names + 1,
+                ..self
+            })
+        } else {
+            None
+        }
+    }
+
+    /// With one more word, or `None` where the words then aren't a command's.
+    fn with_word(self, verb: Verb, word: &str) -> Option<Shape>
+        ensures { result ≡ next_shape verb self word.now }
+    {
+        if self.waiting {
+            self.with_threads(word)
+        } else {
+            self.with_argument(verb, word)
+        }
+    }
+}
+
+/// Whether words have the shape of what stands behind the word of a command.
+fn has_shape(verb: Verb, words: &[String]) -> bool
+    ensures { result ≡ shape_test verb (map string_bytes words.now) }
+{
+    let mut shape = Shape::begun();
+    'words: for word in words {
+        match shape.with_word(verb, word.as_str()) {
+            Some(next) => shape = next,
+            None => return false,
+        }
+    }
+    !shape.waiting && shape.names == verb.name_count()
+}
+
+/// Whether words name the standard input once at most.
+fn names_stdin_once(words: &[String]) -> bool
+    ensures { result ≡ names_once (map string_bytes words.now) }
+{
+    words.iter().filter(|word| word.as_str() == STDIN).count() <= 1
+}
+
+/// Whether words are what stands behind the word of a command.
+fn fit_behind(verb: Verb, words: &[String]) -> bool
+    ensures { result ≡ fits verb (map string_bytes words.now) }
+{
+    has_shape(verb, words) && names_stdin_once(words)
+}
+
+/// What the command of a first word and the words behind it does, or `None` where they are no command.
+fn verb_before(first: &str, rest: &[String]) -> Option<Verb>
+    ensures found { IfSome result (HasVerb (first.now ∷ map string_bytes rest.now)) }
+    ensures none { result ≡ None → (c : _) → IsCommand (first.now ∷ map string_bytes rest.now) c → ⊥ }
+{
+    match Verb::of_word(first) {
+        Some(verb) if fit_behind(verb, rest) => Some(verb),
+        _ => None,
+    }
+}
+
+/// What the command of these words does, or `None` where they are no command. It takes no memory.
+pub fn verb_of(words: &[String]) -> Option<Verb>
+    ensures found { IfSome result (HasVerb (map string_bytes words.now)) }
+    ensures none { result ≡ None → (c : _) → IsCommand (map string_bytes words.now) c → ⊥ }
+{
+    match words.split_first() {
+        None => None,
+        Some((first, rest)) => verb_before(first.as_str(), rest),
+    }
+}

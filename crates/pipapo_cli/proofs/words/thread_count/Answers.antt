@@ -1,6 +1,0 @@
-use Rattle.std.proofs.Common.{◌≡◌, ℕ, List, Option, Some, option_map, subst}
-use Rattle.pipapo_cli.specs.Words.{AreThreads}
-use Rattle.pipapo_cli.proofs.words.thread_count.Goals as goal
-
-pub written_number-requires : goal.written_number-requires
-written_number-requires c = rw c.in-Some.is at c.requires
