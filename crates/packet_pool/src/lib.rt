@@ -1,6 +1,7 @@
 //! Packets of a section, answered by many workers beside the control's steps.
 #![tactic(auto)]
 
+mod chain_judge;
 mod changes;
 mod counter;
 mod filing;
@@ -16,6 +17,7 @@ mod tests;
 mod traffic;
 mod worker;
 
+pub use chain_judge::ChainJudge;
 pub use gate::{Gate, OpenGate};
 pub use judge::Judge;
 pub use lookup_judge::LookupJudge;

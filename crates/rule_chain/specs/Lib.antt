@@ -1,0 +1,7 @@
+pub mod Chains
+pub mod RuleNames
+pub mod Rules
+pub mod RulesReading
+pub mod RulesText
+pub mod PlainGives
+pub mod Judged

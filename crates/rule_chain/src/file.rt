@@ -1,0 +1,139 @@
+//! The whole of a rules file.
+ghost use Rattle.std.specs.Prelude.{◌≡◌, ℕ, List, Bool, IfOk, Err};
+ghost use Rattle.token_forms.specs.Gives.{IsReadAs};
+ghost use Rattle.token_forms.specs.TextTokens.{text_tokens};
+ghost use Rattle.token_forms.specs.Fronts.{AreFrontsClosed};
+ghost use Rattle.token_forms.specs.declared.token.Reason.{Reason};
+ghost use Rattle.token_forms.specs.declared.error.ReadError.TheVariants.{Bad};
+ghost use Rattle.rule_chain.specs.Chains.{AreChains};
+ghost use Rattle.rule_chain.specs.PlainGives.{Gives, IsPlainFault};
+ghost use Rattle.rule_chain.specs.Rules.{rules_file};
+ghost use Rattle.rule_chain.specs.RulesReading as reading;
+ghost use Rattle.rule_chain.specs.RulesText.{IsRulesText};
+ghost use Rattle.rule_chain.specs.declared.chains.Chain.{Chain as OneChain};
+
+use crate::blocks::statements;
+use crate::chains::{ChainList, Chains};
+use crate::draft::RulesDraft;
+use crate::plain::{refused, the_end};
+use set_model::{Duplicate, Listed, Memory, Schema, SetDecl};
+use std::alloc::Global;
+use token_forms::{ReadError, Reader, short};
+
+/// Why a text isn't read as a rules file.
+pub type RulesError = ReadError;
+
+/// The chains and the policy, which has to stand.
+#[tactic(auto, unfolding(crate::specs::RulesReading::finished, crate::specs::PlainGives::Refuses))]
+fn finished(reader: &mut Reader, d: RulesDraft) -> Result<(ChainList, bool), ReadError>
+    ensures { Gives (λ x. (x.0, x.1)) result reader.new (reading.finished d.chains d.policy reader.old) }
+{
+    match d.policy {
+        Some(accept) => Ok((d.chains, accept)),
+        None => match reader.take() {
+            Some(t) => Err(refused(&t, &[])),
+            None => Err(short()),
+        },
+    }
+}
+
+/// What stands before the end.
+#[tactic(auto, using(crate::proofs::PlainLaws::refusals), unfolding(crate::specs::RulesReading::body))]
+fn body(
+    reader: &mut Reader,
+    alloc: Global,
+    schema: &[SetDecl],
+) -> Result<(ChainList, bool), ReadError>
+    ensures { Gives (λ x. (x.0, x.1)) result reader.new (reading.body schema.now reader.old) }
+{
+    let (d, _) = statements(reader, alloc, schema)?;
+    finished(reader, d)
+}
+
+#[tactic(auto, using(crate::proofs::PlainLaws::refusals), unfolding(crate::specs::RulesReading::rules_file))]
+fn whole(
+    reader: &mut Reader,
+    alloc: Global,
+    schema: &[SetDecl],
+) -> Result<(ChainList, bool), ReadError>
+    ensures { Gives (λ x. (x.0, x.1)) result reader.new (reading.rules_file schema.now reader.old) }
+{
+    let (chains, accept) = body(reader, alloc, schema)?;
+    the_end(reader)?;
+    Ok((chains, accept))
+}
+
+/// The same declaration once more.
+fn same_set(alloc: Global, d: &SetDecl) -> Result<SetDecl, Memory>
+    ensures { IfOk result (λ other. other ≡ d.now) }
+{
+    Ok(SetDecl {
+        family: d.family,
+        table: d.table.copy(alloc)?,
+        name: d.name.copy(alloc)?,
+        kinds: d.kinds.copy(alloc)?,
+        interval: d.interval,
+        timed: d.timed,
+        disjoint: d.disjoint,
+        timeout: d.timeout,
+        size: d.size,
+    })
+}
+
+/// The same schema once more.
+fn same_schema(alloc: Global, schema: &[SetDecl]) -> Result<Schema, Memory>
+    ensures { IfOk result (λ other. other ≡ schema.now) }
+{
+    let mut other = Listed::new(alloc);
+    for d in schema {
+        other.push(same_set(alloc, d)?)?;
+    }
+    Ok(other)
+}
+
+/// The chains and the policy that a text stands for.
+fn chains_of(alloc: Global, schema: &[SetDecl], text: &[u8]) -> Result<(ChainList, bool), ReadError>
+    ensures found { IfOk result (λ x. IsRulesText schema.now text.now (x.0, x.1)) }
+    ensures only { (rules : List OneChain × Bool) → IsRulesText schema.now text.now rules → IsReadAs (λ x. (x.0, x.1)) result rules }
+    ensures bad { (line : ℕ) (reason : Reason) → result ≡ Err (Bad line reason) → IsPlainFault (rules_file schema.now) (text_tokens text.now) line reason }
+    ensures sound { IfOk result (λ x. AreChains schema.now x.0) }
+{
+    let mut reader = Reader::new(text);
+    whole(&mut reader, alloc, schema)
+}
+
+/// The chains that a rules file stands for, over the sets of a schema.
+///
+/// # Errors
+///
+/// `Bad` exactly where the text isn't a rules file, with the line of its first token that doesn't fit and the reason:
+/// `Character`, `End`, `Set` where the name of a set may stand, else `Statement`. `Memory` where there is none left.
+pub fn read_rules(alloc: Global, schema: &Schema, text: &[u8]) -> Result<Chains, RulesError>
+    // What is read are the chains and the policy that the text stands for.
+    ensures found { IfOk result (λ c. IsRulesText schema.now text.now (c.chains, c.accept)) }
+    // A text that stands for chains is read as these, unless memory runs out; so it stands for one list of them at most.
+    ensures only { (rules : List OneChain × Bool) → IsRulesText schema.now text.now rules → IsReadAs (λ c. (c.chains, c.accept)) result rules }
+    // A text that is refused is no rules file; the line is that of its bad token, with the first reason that applies.
+    ensures bad { (line : ℕ) (reason : Reason) → result ≡ Err (Bad line reason) → IsPlainFault (rules_file schema.now) (text_tokens text.now) line reason }
+    // They are over the sets of this schema.
+    ensures schema { IfOk result (λ c. c.schema ≡ schema.now) }
+{
+    match chains_of(alloc, schema.as_slice(), text) {
+        Ok((chains, accept)) => Ok(Chains {
+            schema: same_schema(alloc, schema.as_slice())?,
+            chains,
+            accept,
+        }),
+        Err(e) => Err(e),
+    }
+}
+
+/// A text stands for one list of chains and one policy at most.
+pub fn one_rules_law(_schema: &Schema, _text: &[u8])
+    ensures { (rules other : List OneChain × Bool) → IsRulesText _schema.now _text.now rules → IsRulesText _schema.now _text.now other → rules ≡ other }
+{}
+
+/// The tokens before any place of a front of a rules file are a front of a rules file, too.
+pub fn rules_fronts_law(_schema: &Schema)
+    ensures { AreFrontsClosed (rules_file _schema.now) }
+{}

@@ -1,0 +1,154 @@
+//! Rules: their tests, and their acts.
+ghost use Rattle.std.specs.Prelude.{◌≡◌, ◌<◌, length, OnOk, IfOk};
+ghost use Rattle.token_forms.specs.View.{lexeme_of};
+ghost use Rattle.rule_chain.specs.PlainGives.{Gives};
+ghost use Rattle.rule_chain.specs.RulesReading as reading;
+ghost use Rattle.rule_chain.specs.RulesReading.{starts_test};
+
+use crate::chains::{Act, Chain, Rule, RuleList, Test, Tests};
+use crate::draft::ActWord;
+use crate::plain::{refused, table_place, used_set};
+use crate::words::{act_word, place_of_chain, test_word};
+use set_model::{Listed, Memory, SetDecl};
+use std::alloc::Global;
+use token_forms::{ReadError, Reader, Seen, short};
+
+/// A place in a list as the types of rules have it. No memory holds a list with a place above 32 bits.
+fn as_place(place: usize) -> Result<u32, Memory>
+    ensures { IfOk result (λ i. i ≡ place) }
+{
+    if place > u32::MAX as usize {
+        return Err(Memory);
+    }
+    Ok(place as u32)
+}
+
+/// The word that begins a test behind so many tests.
+#[tactic(auto, unfolding(crate::specs::PlainGives::Refuses))]
+fn inside(reader: &mut Reader, tests: u64) -> Result<bool, ReadError>
+    ensures { Gives (λ x. x) result reader.new (reading.inside tests reader.old) }
+{
+    match reader.take() {
+        Some(t) if t.is_word() => match test_word(tests, t.bytes) {
+            Some(inside) => Ok(inside),
+            None => Err(refused(&t, &[])),
+        },
+        Some(t) => Err(refused(&t, &[])),
+        None => Err(short()),
+    }
+}
+
+/// One test more.
+#[tactic(auto, using(crate::proofs::PlainLaws::refusals), unfolding(crate::specs::RulesReading::test))]
+fn test(reader: &mut Reader, schema: &[SetDecl], tests: &mut Tests) -> Result<(), ReadError>
+    ensures { Gives (λ _. tests.new) result reader.new (reading.test schema.now tests.old reader.old) }
+{
+    let inside = inside(reader, tests.len())?;
+    let (family, table) = table_place(reader)?;
+    let place = used_set(reader, schema, family, table)?;
+    let set = as_place(place)?;
+    tests.push(Test { set, inside })?;
+    Ok(())
+}
+
+fn next_test(reader: &mut Reader, schema: &[SetDecl], tests: &mut Tests) -> Result<(), ReadError>
+    ensures gives { Gives (λ _. tests.new) result reader.new (reading.test schema.now tests.old reader.old) }
+    ensures shorter { OnOk result (length reader.new < length reader.old) }
+{
+    test(reader, schema, tests)
+}
+
+fn starts_a_test(t: &Seen, tests: &Tests) -> bool
+    ensures { result ≡ starts_test tests.now (lexeme_of t.now) }
+{
+    t.is_word() && test_word(tests.len(), t.bytes).is_some()
+}
+
+/// The tests of a rule, as far as they go.
+fn all_tests(reader: &mut Reader, alloc: Global, schema: &[SetDecl]) -> Result<Tests, ReadError>
+    ensures { Gives (λ x. x) result reader.new (reading.all_tests schema.now reader.old) }
+{
+    let mut tests = Listed::new(alloc);
+    'tests: while let Some(t) = reader.peek() {
+        let starts = starts_a_test(&t, &tests);
+        if !starts {
+            return Ok(tests);
+        }
+        match next_test(reader, schema, &mut tests) {
+            Ok(()) => {}
+            Err(e) => return Err(e),
+        }
+    }
+    Ok(tests)
+}
+
+/// The name of an earlier chain: its place.
+#[tactic(auto, unfolding(crate::specs::PlainGives::Refuses))]
+fn earlier_chain(reader: &mut Reader, chains: &[Chain]) -> Result<usize, ReadError>
+    ensures { Gives (λ x. x) result reader.new (reading.earlier_chain chains.now reader.old) }
+{
+    match reader.take() {
+        Some(t) if t.is_word() => match place_of_chain(chains, t.bytes) {
+            Some(place) => Ok(place),
+            None => Err(refused(&t, &[])),
+        },
+        Some(t) => Err(refused(&t, &[])),
+        None => Err(short()),
+    }
+}
+
+#[tactic(auto, using(crate::proofs::PlainLaws::refusals), unfolding(crate::specs::RulesReading::act_behind))]
+fn act_behind(reader: &mut Reader, chains: &[Chain], word: ActWord) -> Result<Act, ReadError>
+    ensures { Gives (λ x. x) result reader.new (reading.act_behind chains.now word reader.old) }
+{
+    match word {
+        ActWord::Accept => Ok(Act::Accept),
+        ActWord::Drop => Ok(Act::Drop),
+        ActWord::Return => Ok(Act::Return),
+        ActWord::Jump => {
+            let place = earlier_chain(reader, chains)?;
+            let chain = as_place(place)?;
+            Ok(Act::Jump { chain })
+        }
+    }
+}
+
+/// The word of an act.
+#[tactic(auto, unfolding(crate::specs::PlainGives::Refuses))]
+fn word_of_act(reader: &mut Reader) -> Result<ActWord, ReadError>
+    ensures { Gives (λ x. x) result reader.new (reading.word_of_act reader.old) }
+{
+    match reader.take() {
+        Some(t) if t.is_word() => match act_word(t.bytes) {
+            Some(word) => Ok(word),
+            None => Err(refused(&t, &[])),
+        },
+        Some(t) => Err(refused(&t, &[])),
+        None => Err(short()),
+    }
+}
+
+#[tactic(auto, using(crate::proofs::PlainLaws::refusals), unfolding(crate::specs::RulesReading::act))]
+fn act(reader: &mut Reader, chains: &[Chain]) -> Result<Act, ReadError>
+    ensures { Gives (λ x. x) result reader.new (reading.act chains.now reader.old) }
+{
+    let word = word_of_act(reader)?;
+    act_behind(reader, chains, word)
+}
+
+/// One rule more: its tests, and its act.
+#[tactic(auto, using(crate::proofs::PlainLaws::refusals), unfolding(crate::specs::RulesReading::rule))]
+pub fn rule(
+    reader: &mut Reader,
+    alloc: Global,
+    schema: &[SetDecl],
+    chains: &[Chain],
+    rules: &mut RuleList,
+) -> Result<(), ReadError>
+    ensures { Gives (λ _. rules.new) result reader.new (reading.rule schema.now chains.now rules.old reader.old) }
+{
+    let tests = all_tests(reader, alloc, schema)?;
+    let act = act(reader, chains)?;
+    rules.push(Rule { tests, act })?;
+    Ok(())
+}
