@@ -25,7 +25,7 @@ module _ {B E G : Type 0} (log : B → List E) (base : B → List G) (number : B
   Rule = Kept log base number clerk each bound
 
   abbrev PlaysAs : ℕ → ℕ → B → SeatView B E G → Role → Type 0
-  PlaysAs = Plays log base number clerk
+  PlaysAs = Plays log base number clerk each
 
   -- a number more was given, and the seat gives none
   more_given : (n given : ℕ) (value : B) (d : SeatView B E G) (role : Role) → ¬ (IsOpener role) → PlaysAs n given value d role → PlaysAs n (given + 1) value d role
@@ -36,17 +36,17 @@ module _ {B E G : Type 0} (log : B → List E) (base : B → List G) (number : B
   one_less : (n given : ℕ) → given < n → each * (n - given) ≡ each + each * (n - (given + 1))
   one_less n given below = let m : n - given ≡ suc (n - (given + 1)) = omega (arith, below) in ap (λ z. each * z) m ∙ grind arith
 
-  pub deals : (id : ℕ) (v : SeatView B E G) (q g : ℕ) → v.role ≡ Opener q g → g < q → Splits Rule id v (given_one v) (next_clerk each v)
+  pub deals : (id : ℕ) (v : SeatView B E G) (q g : ℕ) → v.role ≡ Opener q g → g < q → Splits Rule id v (given_one v) (next_clerk v)
   deals id v q g is room s k at =
       let mine = k.each_seat id v at in let plays : PlaysAs k.n k.given k.value v (Opener q g) = subst (PlaysAs k.n k.given k.value v) is mine.2 in
       let low = plays.0 in let size = plays.1 in let number_is = plays.2 in let few = k.few in let some_left : k.given < k.n = omega (arith, room, size, number_is) in
-      let left : SeatView B E G = given_one v in let right : SeatView B E G = next_clerk each v in
+      let left : SeatView B E G = given_one v in let right : SeatView B E G = next_clerk v in
       let left_role : left.role ≡ Opener q (g + 1) = ap one_more is in let right_role : right.role ≡ Clerk (g + 1) = ap next_role is in
       let there = (entry_read s.views id v at).0 in
       let clerks = sum_by-view_set seats_of s.views id v left at in let lefts = sum_by-view_set left_of s.views id v left at in
       let more_clerks = sum_by-append seats_of (set s.views id left) (right ∷ []) in let more_left = sum_by-append left_of (set s.views id left) (right ∷ []) in
       let none_v : seats_of v ≡ 0 = ap clerks_at is in let none_left : seats_of left ≡ 0 = ap clerks_at left_role in let one_right : seats_of right ≡ 1 = ap clerks_at right_role in
-      let zero_v : left_of v ≡ 0 = ap (λ (r : Role). left_at r v.left) is in let zero_left : left_of left ≡ 0 = ap (λ (r : Role). left_at r v.left) left_role in let all_right : left_of right ≡ each = ap (λ (r : Role). left_at r each) right_role in
+      let zero_v : left_of v ≡ 0 = ap (λ (r : Role). left_at r v.left) is in let zero_left : left_of left ≡ 0 = ap (λ (r : Role). left_at r v.left) left_role in let all_right : left_of right ≡ each = ap (λ (r : Role). left_at r v.left) right_role ∙ plays.5 in
       let count = k.clerks in let numbers = k.numbers in let product = one_less k.n k.given some_left in
       let was_opener : IsOpener v.role = subst IsOpener (sym is) tt in record {
         line = k.line;
@@ -70,11 +70,11 @@ module _ {B E G : Type 0} (log : B → List E) (base : B → List G) (number : B
         named = All-weaker (IsNamed log base number clerk k.given) (IsNamed log base number clerk (k.given + 1)) (λ e h. let most = h.1 in (h.0, omega (arith, most))) (log k.value) k.named;
         numbers = (let one = sum_by-cons left_of right [] in omega (arith, lefts, more_left, zero_v, zero_left, all_right, numbers, product, one));
         each_seat = λ j d h. ⊎_elim
-            (λ (t : (j < length (set s.views id left)) × (get_elem? (set s.views id left) j ≡ some d)). views_stay (λ _ e. Sits log base number clerk k.n (k.given + 1) k.value e) s.views id left
-            (mine.0, mine.1, subst (PlaysAs k.n (k.given + 1) k.value left) (sym left_role) (plays.0, plays.1, omega (arith, number_is), plays.3, plays.4))
+            (λ (t : (j < length (set s.views id left)) × (get_elem? (set s.views id left) j ≡ some d)). views_stay (λ _ e. Sits log base number clerk each k.n (k.given + 1) k.value e) s.views id left
+            (mine.0, mine.1, subst (PlaysAs k.n (k.given + 1) k.value left) (sym left_role) (plays.0, plays.1, omega (arith, number_is), plays.3, plays.4, plays.5))
             (λ i e other at_i. let old = k.each_seat i e at_i in (old.0, old.1, more_given k.n k.given k.value e e.role (λ opens. other (k.one_opener i id e v at_i at opens was_opener)) old.2))
             j d t.1)
-            (λ (t : (j ≡ length (set s.views id left)) × (right ≡ d)). subst (Sits log base number clerk k.n (k.given + 1) k.value) t.1 (
+            (λ (t : (j ≡ length (set s.views id left)) × (right ≡ d)). subst (Sits log base number clerk each k.n (k.given + 1) k.value) t.1 (
               (log k.value, refl),
               (λ z. absurd (omega arith)),
               subst (PlaysAs k.n (k.given + 1) k.value right) (sym right_role)
@@ -83,8 +83,8 @@ module _ {B E G : Type 0} (log : B → List E) (base : B → List G) (number : B
             (at_end (set s.views id left) right d j h);
       }
 
-  pub opens : (n : ℕ) (v : B) → n ≤ 16 → log v ≡ [] → number v + each * n ≤ bound → Rule (opening (0 ∷ 0 ∷ []) (Some v ∷ []) (opening_view n (base v)))
-  opens n v few none room = let view : SeatView B E G = opening_view n (base v) in let clerks = sum_by-cons seats_of view [] in let lefts = sum_by-cons left_of view [] in record {
+  pub opens : (n : ℕ) (v : B) → n ≤ 16 → log v ≡ [] → number v + each * n ≤ bound → Rule (opening (0 ∷ 0 ∷ []) (Some v ∷ []) (opening_view each n (base v)))
+  opens n v few none room = let view : SeatView B E G = opening_view each n (base v) in let clerks = sum_by-cons seats_of view [] in let lefts = sum_by-cons left_of view [] in record {
     line = [];
     n = n;
     given = 0;
@@ -98,7 +98,7 @@ module _ {B E G : Type 0} (log : B → List E) (base : B → List G) (number : B
     clerks = omega (arith, clerks);
     named = subst (All (IsNamed log base number clerk 0)) (sym none) (All-nil (IsNamed log base number clerk 0));
     numbers = (let none_given : n - 0 ≡ n = omega arith in let product = ap (λ z. each * z) none_given in omega (arith, lefts, room, product));
-    each_seat = λ j d at. subst (Sits log base number clerk n 0 v) (first_only view j d at) ((log v, refl), (λ z. absurd (omega arith)), (omega arith, refl, refl, refl, refl));
+    each_seat = λ j d at. subst (Sits log base number clerk each n 0 v) (first_only view j d at) ((log v, refl), (λ z. absurd (omega arith)), (omega arith, refl, refl, refl, refl, refl));
   }
     where
       first_only : (w : SeatView B E G) (j : ℕ) (d : SeatView B E G) → get_elem? (w ∷ []) j ≡ some d → w ≡ d

@@ -1,5 +1,5 @@
 -- A draw, a look and the end of a turn: each keeps the rule of the table.
-use Rattle.std.proofs.Common.{◌≡◌, ◌≢◌, ℕ, zero, suc, ◌+◌, ◌-◌, ◌%◌, ◌^◌, ◌<◌, ◌≤◌, List, [], ◌∷◌, ◌++◌, All, length, get_or, set, sym, refl, ap, ◌∙◌, subst, arith, Option, Some, length-set}
+use Rattle.std.proofs.Common.{◌≡◌, ◌≢◌, ℕ, zero, suc, ◌+◌, ◌-◌, ◌%◌, ◌^◌, ◌<◌, ◌≤◌, List, [], ◌∷◌, ◌++◌, All, length, get_or, set, sym, refl, ap, ◌∙◌, subst, arith, Option, Some, None, length-set, length-append}
 use Rattle.std.proofs.lemmas.List.Elements.{All-append, All-weaker}
 use mathlib.Core.Logic.{dite}
 use mathlib.Core.Option.{none, some, some-injective}
@@ -30,6 +30,11 @@ at_most_one zero = omega arith
 at_most_one (suc zero) = omega arith
 at_most_one (suc (suc n)) = omega arith
 
+abbrev value_or : {B : Type 0} → B → List (ℕ × Option B) → B
+value_or b [] = b
+value_or b ((j, Some x) ∷ carried) = x
+value_or b ((j, None) ∷ carried) = b
+
 module _ {B E G : Type 0} (log : B → List E) (base : B → List G) (number : B → ℕ) (clerk : E → ℕ) (each bound : ℕ) where
   abbrev St : Type 0
   St = State (Option B) (SeatView B E G)
@@ -41,7 +46,7 @@ module _ {B E G : Type 0} (log : B → List E) (base : B → List G) (number : B
   Rule = Kept log base number clerk each bound
 
   abbrev PlaysAs : ℕ → ℕ → B → SeatView B E G → Role → Type 0
-  PlaysAs = Plays log base number clerk
+  PlaysAs = Plays log base number clerk each
 
   -- only control threads have tickets
   one_ticket : (n given : ℕ) (value : B) (d : SeatView B E G) (role : Role) → PlaysAs n given value d role → tickets_at d.stage ≤ clerks_at role
@@ -105,7 +110,7 @@ module _ {B E G : Type 0} (log : B → List E) (base : B → List G) (number : B
           clerks = omega (arith, clerks, count);
           named = k.named;
           numbers = omega (arith, lefts, numbers);
-          each_seat = views_stay (λ _ d. Sits log base number clerk k.n k.given k.value d) s.views id w
+          each_seat = views_stay (λ _ d. Sits log base number clerk each k.n k.given k.value d) s.views id w
               (mine.0, (λ z. absurd (omega arith)), subst (PlaysAs k.n k.given k.value w) (sym is) (subst (PlaysAs k.n k.given k.value me.0) is mine.2))
               (λ j d _ at_j. k.each_seat j d at_j);
         },
@@ -138,7 +143,7 @@ module _ {B E G : Type 0} (log : B → List E) (base : B → List G) (number : B
           clerks = omega (arith, clerks, count);
           named = k.named;
           numbers = omega (arith, lefts, numbers);
-          each_seat = views_stay (λ _ d. Sits log base number clerk k.n k.given k.value d) s.views id w
+          each_seat = views_stay (λ _ d. Sits log base number clerk each k.n k.given k.value d) s.views id w
               (mine.0, (λ z. refl), subst (PlaysAs k.n k.given k.value w) (sym is) plays)
               (λ j d _ at_j. k.each_seat j d at_j);
         },
@@ -155,22 +160,22 @@ module _ {B E G : Type 0} (log : B → List E) (base : B → List G) (number : B
   -- where entries of one control thread are added, and no state before the log changes
   other_plays : (n given : ℕ) (value v : B) (c : ℕ) (added : List E) (d : SeatView B E G) (role : Role) → (d.role ≡ role) → ((o : ℕ) → role ≡ Clerk o → o ≢ c) → log v ≡ log value ++ added → All (λ e. clerk e ≡ c) added → base v ≡ base value → PlaysAs n given value d role → PlaysAs n given v d role
   other_plays n given value v c added d Idle is apart logged own based k = k
-  other_plays n given value v c added d (Opener q g) is apart logged own based k = (k.0, k.1, k.2, k.3 ∙ sym based, k.4)
+  other_plays n given value v c added d (Opener q g) is apart logged own based k = (k.0, k.1, k.2, k.3 ∙ sym based, k.4, k.5)
   other_plays n given value v c added d (Clerk o) is apart logged own based k =
       (k.0, k.1, k.2 ∙ sym based, ap (of_clerk log base number clerk o) logged ∙ others_entries clerk c o (log value) added (apart o refl) own ∙ k.3)
 
-  pub ends : (slots id : ℕ) (me : M) (c spent new : ℕ) (v : B) → me.0.role ≡ Clerk c → me.0.stage ≡ 3 → me.1 ≡ (0, Some v) ∷ [] → MayGive log base number clerk c me.0 v spent → new ≡ (me.0.ticket + 1) % 18446744073709551616
-      → Allows Rule slots id me 1 (λ _. new) (λ _. done log base number clerk v spent (step slots 1 new 0 none) me new)
-  ends slots id me c spent new v is at_three carried may new_of s k deep at fits =
+  pub ends : (slots id : ℕ) (me : M) (c new : ℕ) (v : B) → me.0.role ≡ Clerk c → me.0.stage ≡ 3 → me.1 ≡ (0, Some v) ∷ [] → MayGive log base number clerk c me.0 v → new ≡ (me.0.ticket + 1) % 18446744073709551616
+      → Allows Rule slots id me 1 (λ _. new) (λ _. done log base number clerk (step slots 1 new 0 none) me new)
+  ends slots id me c new v is at_three carried may new_of s k deep at fits =
       let mine = k.each_seat id me.0 at in let plays : PlaysAs k.n k.given k.value me.0 (Clerk c) = subst (PlaysAs k.n k.given k.value me.0) is mine.2 in
       let took : may.took ≡ k.value = (let both = sym may.was ∙ mine.1 at_three in cc both) in
       let logged : log v ≡ log k.value ++ may.added = may.log_is ∙ ap (λ b. log b ++ may.added) took in let based : base v ≡ base k.value = may.base_is ∙ ap base took in
       let more : StartsWith (log v) (log k.value) = (may.added, logged) in
-      let w : SeatView B E G = record me.0 { stage = 1; seen = log v; left = me.0.left - spent } in
+      let w : SeatView B E G = record me.0 { stage = 1; seen = log v; left = me.0.left - (length (log v) - length (log may.took)) } in
       let ticket = served_ticket s k id me.0 at at_three in
       let clerks = sum_by-view_set seats_of s.views id me.0 w at in let lefts = sum_by-view_set left_of s.views id me.0 w at in let count = k.clerks in let numbers = k.numbers in
-      let left_is : left_of me.0 ≡ me.0.left = ap (λ (r : Role). left_at r me.0.left) is in let left_then : left_of w ≡ me.0.left - spent = ap (λ (r : Role). left_at r (me.0.left - spent)) is in
-      let enough = may.enough in let grown = may.number_is in let same_number = ap number took in let few = k.few.0 in (
+      let left_is : left_of me.0 ≡ me.0.left = ap (λ (r : Role). left_at r me.0.left) is in let left_then : left_of w ≡ me.0.left - (length (log v) - length (log may.took)) = ap (λ (r : Role). left_at r (me.0.left - (length (log v) - length (log may.took)))) is in
+      let enough = may.enough in let grown = may.number_is in let same_number = ap number took in let sum = ap length may.log_is in let parts = length-append (log may.took) may.added in (
         w,
         gives,
         tt,
@@ -189,8 +194,8 @@ module _ {B E G : Type 0} (log : B → List E) (base : B → List G) (number : B
           named = subst (All (IsNamed log base number clerk k.given)) (sym logged)
               (All-append (IsNamed log base number clerk k.given) (log k.value) may.added k.named
               (All-weaker (λ e. clerk e ≡ c) (IsNamed log base number clerk k.given) (λ e own. (let low = plays.0 in omega (arith, own, low), let high = plays.1 in omega (arith, own, high))) may.added may.own));
-          numbers = omega (arith, lefts, numbers, left_is, left_then, enough, grown, same_number);
-          each_seat = views_stay (λ _ d. Sits log base number clerk k.n k.given v d) s.views id w
+          numbers = omega (arith, lefts, numbers, left_is, left_then, enough, grown, same_number, sum, parts);
+          each_seat = views_stay (λ _ d. Sits log base number clerk each k.n k.given v d) s.views id w
               (starts_itself (log v), (λ z. absurd (omega arith)), subst (PlaysAs k.n k.given v w) (sym is) (plays.0, plays.1, plays.2 ∙ sym based, refl))
               (λ j d other at_j. let old = k.each_seat j d at_j in (
                 starts_through (log v) (log k.value) d.seen more old.0,
@@ -198,5 +203,6 @@ module _ {B E G : Type 0} (log : B → List E) (base : B → List G) (number : B
                 other_plays k.n k.given k.value v c may.added d d.role refl (λ o as_o same. other (k.one_each j id c d me.0 at_j at (as_o ∙ ap Clerk same) is)) logged may.own based old.2,
               ));
         },
-        (λ i. (w, rest (carried i))),
+        λ v' took' has was. let same : v ≡ v' = ap (value_or v) (sym carried ∙ has) in let one : may.took ≡ took' = (let both = sym may.was ∙ was in cc both) in
+            (λ i. (record me.0 { stage = 1; seen = log (same i); left = me.0.left - (length (log (same i)) - length (log (one i))) }, rest (carried i))),
       )

@@ -23,7 +23,7 @@ module _ (B E G : Type 0) where
 
   -- A table at the start meets the rule, with a value that has logged nothing.
   abbrev pub Opens : Type 0
-  Opens = (log : B → List E) (base : B → List G) (number : B → ℕ) (clerk : E → ℕ) (each bound n : ℕ) (v : B) → n ≤ 16 → log v ≡ [] → number v + each * n ≤ bound → Kept log base number clerk each bound (opening (0 ∷ 0 ∷ []) (Some v ∷ []) (opening_view n (base v)))
+  Opens = (log : B → List E) (base : B → List G) (number : B → ℕ) (clerk : E → ℕ) (each bound n : ℕ) (v : B) → n ≤ 16 → log v ≡ [] → number v + each * n ≤ bound → Kept log base number clerk each bound (opening (0 ∷ 0 ∷ []) (Some v ∷ []) (opening_view each n (base v)))
 
   -- A control thread with no ticket adds 1 to word 0.
   abbrev pub DrawKeeps : Type 0
@@ -37,9 +37,9 @@ module _ (B E G : Type 0) where
 
   -- Who is served gives back a value that has entries of its own behind the log, and stores the next ticket in word 1.
   abbrev pub DoneKeeps : Type 0
-  DoneKeeps = (log : B → List E) (base : B → List G) (number : B → ℕ) (clerk : E → ℕ) (each bound slots id : ℕ) (me : Me (Option B) (SeatView B E G)) (c spent new : ℕ) (v : B) → me.0.role ≡ Clerk c → me.0.stage ≡ 3 → me.1 ≡ (0, Some v) ∷ [] → MayGive log base number clerk c me.0 v spent → new ≡ (me.0.ticket + 1) % 18446744073709551616
-      → Allows (Kept log base number clerk each bound) slots id me 1 (λ _. new) (λ _. done log base number clerk v spent (step slots 1 new 0 none) me new)
+  DoneKeeps = (log : B → List E) (base : B → List G) (number : B → ℕ) (clerk : E → ℕ) (each bound slots id : ℕ) (me : Me (Option B) (SeatView B E G)) (c new : ℕ) (v : B) → me.0.role ≡ Clerk c → me.0.stage ≡ 3 → me.1 ≡ (0, Some v) ∷ [] → MayGive log base number clerk c me.0 v → new ≡ (me.0.ticket + 1) % 18446744073709551616
+      → Allows (Kept log base number clerk each bound) slots id me 1 (λ _. new) (λ _. done log base number clerk (step slots 1 new 0 none) me new)
 
   -- The opener's view is cut, for a control thread that was not made yet.
   abbrev pub SplitKeeps : Type 0
-  SplitKeeps = (log : B → List E) (base : B → List G) (number : B → ℕ) (clerk : E → ℕ) (each bound id : ℕ) (v : SeatView B E G) (q g : ℕ) → v.role ≡ Opener q g → g < q → Splits (Kept log base number clerk each bound) id v (given_one v) (next_clerk each v)
+  SplitKeeps = (log : B → List E) (base : B → List G) (number : B → ℕ) (clerk : E → ℕ) (each bound id : ℕ) (v : SeatView B E G) (q g : ℕ) → v.role ≡ Opener q g → g < q → Splits (Kept log base number clerk each bound) id v (given_one v) (next_clerk v)

@@ -53,13 +53,13 @@ module _ {B E G : Type 0} (log : B → List E) (base : B → List G) (number : B
   of_clerk c entries = filter (λ e. clerk e == c) entries
 
   -- what holds of a seat's view by its role
-  abbrev pub Plays : ℕ → ℕ → B → SeatView B E G → Role → Type 0
-  Plays n given value d Idle = d.stage < 2
-  Plays n given value d (Opener q g) = (d.stage < 2) × (q ≡ n) × (g ≡ given) × (d.base ≡ base value) × (d.seen ≡ [])
-  Plays n given value d (Clerk c) = (0 < c) × (c ≤ given) × (d.base ≡ base value) × (of_clerk c (log value) ≡ of_clerk c d.seen)
+  abbrev pub Plays : ℕ → ℕ → ℕ → B → SeatView B E G → Role → Type 0
+  Plays each n given value d Idle = d.stage < 2
+  Plays each n given value d (Opener q g) = (d.stage < 2) × (q ≡ n) × (g ≡ given) × (d.base ≡ base value) × (d.seen ≡ []) × (d.left ≡ each)
+  Plays each n given value d (Clerk c) = (0 < c) × (c ≤ given) × (d.base ≡ base value) × (of_clerk c (log value) ≡ of_clerk c d.seen)
 
-  abbrev pub Sits : ℕ → ℕ → B → SeatView B E G → Type 0
-  Sits n given value d = StartsWith (log value) d.seen × (d.stage ≡ 3 → d.took ≡ Some value) × Plays n given value d d.role
+  abbrev pub Sits : ℕ → ℕ → ℕ → B → SeatView B E G → Type 0
+  Sits each n given value d = StartsWith (log value) d.seen × (d.stage ≡ 3 → d.took ≡ Some value) × Plays each n given value d d.role
 
   abbrev pub IsNamed : ℕ → E → Type 0
   IsNamed given e = (0 < clerk e) × (clerk e ≤ given)
@@ -78,9 +78,9 @@ module _ {B E G : Type 0} (log : B → List E) (base : B → List G) (number : B
     pub clerks : sum_by seats_of s.views ≡ given
     pub named : All (IsNamed given) (log value)
     pub numbers : number value + sum_by left_of s.views + each * (n - given) ≤ bound
-    pub each_seat : (j : ℕ) (d : SeatView B E G) → get_elem? s.views j ≡ some d → Sits n given value d
+    pub each_seat : (j : ℕ) (d : SeatView B E G) → get_elem? s.views j ≡ some d → Sits each n given value d
 
 module _ {B E G : Type 0} where
-  -- the opener's view at the start
-  abbrev pub opening_view : ℕ → List G → SeatView B E G
-  opening_view n base = record { role = Opener n 0; stage = 1; ticket = 0; seen = []; base = base; left = 0; took = None }
+  -- the opener's view at the start, where each control thread is to have so many left
+  abbrev pub opening_view : ℕ → ℕ → List G → SeatView B E G
+  opening_view each n base = record { role = Opener n 0; stage = 1; ticket = 0; seen = []; base = base; left = each; took = None }
