@@ -10,6 +10,7 @@ use Rattle.std.specs.List.{sum_by}
 use mathlib.Core.Option.{some}
 use lib.ListN.{get_elem?}
 use Rattle.atomic_table.specs.Table.{State}
+use Rattle.atomic_table.specs.Seated.{TableId}
 use Rattle.history_laws.specs.Histories.{StartsWith}
 use Rattle.ticket_line.specs.Tickets.{InLine}
 use Rattle.log_turns.specs.declared.SeatView.{SeatView}
@@ -26,6 +27,18 @@ abbrev pub IsOpener : Role → Type 0
 IsOpener Idle = ⊥
 IsOpener (Opener n given) = Unit {0}
 IsOpener (Clerk c) = ⊥
+
+-- it is a control thread's
+abbrev pub IsClerk : Role → Type 0
+IsClerk role = (c : ℕ) × (role ≡ Clerk c)
+
+-- two words, and one entry
+abbrev pub IsSized : TableId → Type 0
+IsSized z = (z.words ≡ 2) × (z.slots ≡ 1)
+
+-- the greatest number that a value may come to
+abbrev pub most : ℕ
+most = 9223372036854775807
 
 -- what a seat's control thread may still add
 abbrev pub left_at : Role → ℕ → ℕ

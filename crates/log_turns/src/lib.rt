@@ -4,9 +4,31 @@
 //! The value stands in the one entry of a table, word 0 is the next ticket, and word 1 the one that is served.
 #![tactic(auto)]
 
+ghost use Rattle.std.specs.Prelude.{ℕ, List};
 ghost use Rattle.log_turns.specs.LogLaws.{Queues, Logs, Opens, DrawKeeps, LookKeeps, DoneKeeps, SplitKeeps};
 
+pub mod board;
+pub mod turn;
+
 use std::collections::LinkedList;
+
+/// A value with a log. No value of its ghost parts is made.
+pub trait Logged {
+    /// An entry of the log.
+    type Entry;
+    /// A state before the log's first entry.
+    type State;
+
+    ghost log: { Self → List Self.Entry };
+
+    ghost base: { Self → List Self.State };
+
+    // What each entry raises by one at most.
+    ghost number: { Self → ℕ };
+
+    // Which control thread an entry is of.
+    ghost clerk: { Self.Entry → ℕ };
+}
 
 /// Whose seat it is. No value of it is made.
 pub enum Role {
