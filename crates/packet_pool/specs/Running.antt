@@ -49,6 +49,10 @@ control_of s = record { committed = s.committed; last = s.work.base; sets = s.wo
 abbrev pub HasNumbers : Steering → List Step → Type 0
 HasNumbers s steps = s.work.base.number + length steps < 2 ^ 63
 
+-- The control is of the same start, with the same declared sets and as many readers.
+abbrev pub IsSameStart : Steering → Steering → Type 0
+IsSameStart old new = (new.of ≡ old.of) × (new.schema ≡ old.schema) × (new.readers ≡ old.readers)
+
 -- Where a step found no memory, it had committed nothing, or what the definition's control commits.
 abbrev pub Breaks : (Control → Control) → Run → Steering → Type 0
 Breaks next old new = (new.committed ≡ old.control.committed) ⊎ ((before : List Event) (c : Control) → Stands before c old → (next c).committed ≡ new.committed)

@@ -6,7 +6,7 @@ ghost use Rattle.set_model.specs.Control.{mode_of, step as control_step, refused
 ghost use Rattle.set_model.specs.Runnable.{IsRunnableStep};
 ghost use Rattle.set_space.specs.Open.{FitsSet};
 ghost use Rattle.gen_publish.specs.Publish.{Steering};
-ghost use Rattle.packet_pool.specs.Running.{run, GoesOn, Ran, HasNumbers, Breaks, HasBroken};
+ghost use Rattle.packet_pool.specs.Running.{run, GoesOn, Ran, HasNumbers, Breaks, HasBroken, IsSameStart};
 
 use crate::changes::change;
 use crate::gate::{Gate, OpenGate};
@@ -50,6 +50,7 @@ fn try_change(
     requires fits { FitsSet control.old.work set parts.now }
     ensures ok { OnOk result (GoesOn (λ c. changed (mode_of keep_going) c line set verb parts.now expiry comment.now now (slice_get c.sets set)) (run control.old failed.old events.old) (run control.new failed.new events.new)) }
     ensures err { OnErr result (control.new.committed ≡ control.old.committed) }
+    ensures kept { OnErr result (IsSameStart control.old control.new) }
 {
     match change(control, set, verb, parts, expiry, comment, now)? {
         None => Ok(()),
@@ -62,6 +63,7 @@ fn try_flush(control: &mut Control, set: u32) -> Result<(), Memory>
     requires { set < length control.old.work.sets }
     ensures ok { OnOk result ((told : List Told) (failed : _) → GoesOn (λ c. flushed c set (slice_get c.sets set)) (run control.old failed told) (run control.new failed told)) }
     ensures err { OnErr result (control.new.committed ≡ control.old.committed) }
+    ensures kept { OnErr result (IsSameStart control.old control.new) }
 {
     control.flush(set)?;
     Ok(())
@@ -76,6 +78,7 @@ fn rewind(
 ) -> Result<(), Memory>
     ensures ok { OnOk result (GoesOn (λ c. rewound c event) (run control.old failed.old events.old) (run control.new failed.new events.new)) }
     ensures err { OnErr result (control.new.committed ≡ control.old.committed) }
+    ensures kept { OnErr result (IsSameStart control.old control.new) }
 {
     events.push(event)?;
     control.abort();
@@ -95,6 +98,7 @@ fn commit<G: Gate>(
     requires { control.old.work.base.number < 2 ^ 63 }
     ensures ok { OnOk result (GoesOn (λ c. control_step (mode_of keep_going) c (Commit now)) (run control.old failed.old events.old) (run control.new failed.new events.new)) }
     ensures err { OnErr result (Breaks (λ c. control_step (mode_of keep_going) c (Commit now)) (run control.old failed.old events.old) control.new) }
+    ensures kept { OnErr result (IsSameStart control.old control.new) }
 {
     let generation = control.number();
     if *failed {
@@ -111,7 +115,11 @@ fn commit<G: Gate>(
 }
 
 /// Does the next step. A transaction that has failed tries nothing more until its end.
-fn do_step<G: Gate>(
+///
+/// # Errors
+///
+/// `Memory` if there is none left. A commit may have been made; the other steps commit nothing.
+pub fn do_step<G: Gate>(
     control: &mut Control,
     failed: &mut bool,
     keep_going: bool,
@@ -123,6 +131,7 @@ fn do_step<G: Gate>(
     requires number { control.old.work.base.number < 2 ^ 63 }
     ensures ok { OnOk result (GoesOn (λ c. control_step (mode_of keep_going) c step.now) (run control.old failed.old events.old) (run control.new failed.new events.new)) }
     ensures err { OnErr result (Breaks (λ c. control_step (mode_of keep_going) c step.now) (run control.old failed.old events.old) control.new) }
+    ensures kept { OnErr result (IsSameStart control.old control.new) }
 {
     match step {
         Step::Change {

@@ -1,0 +1,4 @@
+mod Transactions
+mod Replaying
+mod Doing
+mod Booking

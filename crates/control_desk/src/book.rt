@@ -1,0 +1,85 @@
+//! A control and the log of what was submitted to it.
+ghost use Rattle.std.specs.Prelude.{◌≡◌, ◌<◌, ◌≤◌, ◌^◌, [], take, length, All, IfOk, OnErr};
+ghost use Rattle.set_model.specs.Runnable.{IsRunnableStep};
+ghost use Rattle.control_desk.specs.Woven.{IsTransaction, Replays};
+ghost use Rattle.control_desk.specs.Books.{IsClosed, IsApplied};
+
+use crate::entry::Log;
+use crate::transaction::transact;
+use gen_publish::Control;
+use set_model::{Event, Memory, Steps};
+use std::alloc::Global;
+use std::marker::Model;
+
+/// A control without open changes, and the log of the transactions that were submitted to it. The log replays from the
+/// generations before its first entry to the committed ones.
+#[derive(Drop)]
+pub struct Book {
+    pub control: Control,
+    pub log: Log,
+    /// How many generations were committed before the log's first entry.
+    pub from: u64,
+}
+
+impl Model for Book {
+    ghost use Rattle.control_desk.specs.Books.{Booked, IsKept};
+
+    ghost Value = { Booked };
+
+    ghost view = { λ b. record { control = b.control; log = b.log; from = b.from } };
+
+    ghost invariant = { λ b. IsKept b.control b.log b.from };
+}
+
+impl Book {
+    /// A book of a control, with an empty log behind all generations so far. It takes no memory.
+    pub fn new(alloc: Global, control: Control) -> Book
+        requires closed { IsClosed control }
+        requires number { control.work.base.number < 2 ^ 63 }
+        ensures control { result.control ≡ control }
+        ensures log { (result.log ≡ []) × (result.from ≡ length control.committed) }
+    {
+        control.known();
+        let from = control.number() + 1;
+        Book {
+            control,
+            log: Log::new(alloc),
+            from,
+        }
+    }
+
+    /// No change is open, and the log replays from the first `from` generations to the committed ones. It does nothing.
+    pub fn known(&self)
+        ensures closed { IsClosed self.now.control }
+        ensures from { (0 < self.now.from) × (self.now.from ≤ length self.now.control.committed) }
+        ensures replays { Replays (take self.now.from self.now.control.committed) self.now.control.committed self.now.log }
+    {
+        let _ = &self.control;
+    }
+
+    /// Does one transaction of the control thread `clerk` and logs it, and tells how it ended. With `keep_going` a refused
+    /// change is skipped and doesn't fail it.
+    ///
+    /// # Errors
+    ///
+    /// `Memory` if there is none left. The book is as it was: nothing is logged or committed, and no change is open.
+    pub fn apply(&mut self, clerk: u32, steps: &Steps, keep_going: bool) -> Result<Event, Memory>
+        requires transaction { IsTransaction steps.now }
+        requires fits { All (IsRunnableStep self.old.control.schema) steps.now }
+        requires number { self.old.control.work.base.number < 2 ^ 63 }
+        ensures ok { IfOk result (λ end. IsApplied clerk steps.now keep_going self.old self.new end) }
+        ensures err { OnErr result (self.new ≡ self.old) }
+        ensures closed { IsClosed self.new.control }
+        ensures replays { Replays (take self.new.from self.new.control.committed) self.new.control.committed self.new.log }
+    {
+        self.control.known();
+        match transact(&mut self.control, &mut self.log, clerk, steps, keep_going) {
+            Ok(end) => Ok(end),
+            Err(memory) => {
+                self.control.known();
+                self.control.abort();
+                Err(memory)
+            }
+        }
+    }
+}

@@ -1,0 +1,72 @@
+//! The log of transactions.
+ghost use Rattle.std.specs.Prelude.{◌≡◌, ◌<◌, ◌++◌, [], ◌∷◌, Some, length, slice_get};
+
+use set_model::{Event, Events, Memory, Steps};
+use std::alloc::Global;
+use std::marker::Model;
+
+/// One transaction that was submitted, and what came of it.
+#[derive(Drop)]
+pub struct Entry {
+    /// The control thread that submitted it. They count from 1.
+    pub clerk: u32,
+    /// Its changes, and the commit or abort that ends it.
+    pub steps: Steps,
+    /// Whether a refused change was skipped and didn't fail it.
+    pub keep_going: bool,
+    /// Its refused changes, in their order.
+    pub refused: Events,
+    /// How it ended.
+    pub end: Event,
+}
+
+/// The transactions that were submitted, in the order in which they were done. Contracts see it as the list of its
+/// entries.
+#[derive(Drop)]
+pub struct Log {
+    pub(crate) alloc: Global,
+    pub(crate) entries: Vec<Entry>,
+}
+
+impl Model for Log {
+    ghost use Rattle.std.specs.Prelude.{List};
+    ghost use Rattle.control_desk.specs.declared.entry.Entry.{Entry};
+
+    ghost Value = { List Entry };
+
+    ghost view = { λ a. a.entries.items };
+}
+
+impl Log {
+    /// The empty log. It takes no memory.
+    pub fn new(alloc: Global) -> Log
+        ensures { result ≡ [] }
+    {
+        Log {
+            alloc,
+            entries: Vec::new(alloc),
+        }
+    }
+
+    /// How many entries there are.
+    pub fn len(&self) -> u64
+        ensures { result ≡ length self.now }
+    {
+        self.entries.len() as u64
+    }
+
+    /// The entry at place `i`.
+    pub fn at(&self, i: u64) -> &Entry
+        requires { i < length self.now }
+        ensures { slice_get self.now i ≡ Some result.now }
+    {
+        &self.entries[i as usize]
+    }
+
+    /// The entries in a row.
+    pub fn as_slice(&self) -> &[Entry]
+        ensures { result.now ≡ self.now }
+    {
+        self.entries.as_slice()
+    }
+}

@@ -1,0 +1,3 @@
+pub mod LogRule
+pub mod LogSteps
+pub mod LogLaws

@@ -1,0 +1,45 @@
+-- The laws of the rule: what holds between any two steps, and that each kind of step keeps it.
+use Rattle.std.specs.Prelude.{◌≡◌, ℕ, ◌+◌, ◌*◌, ◌%◌, ◌^◌, ◌<◌, ◌≤◌, List, [], ◌∷◌, length, Option, Some}
+use mathlib.Core.Option.{none, some}
+use lib.ListN.{get_elem?}
+use Rattle.atomic_table.specs.Table.{State, Me, step, opening, Allows, Splits}
+use Rattle.history_laws.specs.Histories.{StartsWith}
+use Rattle.ticket_line.specs.Tickets.{InLine}
+use Rattle.log_turns.specs.declared.SeatView.{SeatView}
+use Rattle.log_turns.specs.declared.Role.TheVariants.{Opener, Clerk}
+use Rattle.log_turns.specs.LogRule.{stage_of, ticket_of, of_clerk, Kept, opening_view}
+use Rattle.log_turns.specs.LogSteps.{given_one, next_clerk, drew, looked, done, MayGive}
+
+-- Of any value with a log, the states before it, a number, and entries with a control thread's number each.
+module _ (B E G : Type 0) where
+  -- The tickets that are out are those from the served one to the next, at most as many as there are control threads.
+  abbrev pub Queues : Type 0
+  Queues = (log : B → List E) (base : B → List G) (number : B → ℕ) (clerk : E → ℕ) (each bound : ℕ) (s : State (Option B) (SeatView B E G)) (k : Kept log base number clerk each bound s) → InLine stage_of ticket_of s.words s.views k.line × (length k.line ≤ 16)
+
+  -- Each seat's log begins the value's, and a control thread's own entries are the same in both.
+  abbrev pub Logs : Type 0
+  Logs = (log : B → List E) (base : B → List G) (number : B → ℕ) (clerk : E → ℕ) (each bound : ℕ) (s : State (Option B) (SeatView B E G)) (k : Kept log base number clerk each bound s) (j : ℕ) (d : SeatView B E G) → get_elem? s.views j ≡ some d
+      → StartsWith (log k.value) d.seen × ((c : ℕ) → d.role ≡ Clerk c → of_clerk log base number clerk c (log k.value) ≡ of_clerk log base number clerk c d.seen)
+
+  -- A table at the start meets the rule, with a value that has logged nothing.
+  abbrev pub Opens : Type 0
+  Opens = (log : B → List E) (base : B → List G) (number : B → ℕ) (clerk : E → ℕ) (each bound n : ℕ) (v : B) → n ≤ 16 → log v ≡ [] → number v + each * n ≤ bound → Kept log base number clerk each bound (opening (0 ∷ 0 ∷ []) (Some v ∷ []) (opening_view each n (base v)))
+
+  -- A control thread with no ticket adds 1 to word 0.
+  abbrev pub DrawKeeps : Type 0
+  DrawKeeps = (log : B → List E) (base : B → List G) (number : B → ℕ) (clerk : E → ℕ) (each bound slots id : ℕ) (me : Me (Option B) (SeatView B E G)) (c : ℕ) → me.0.role ≡ Clerk c → me.0.stage ≡ 1
+      → Allows (Kept log base number clerk each bound) slots id me 0 (λ x. (x + 1) % 2 ^ 64) (drew (step slots 0 1 0 none) me)
+
+  -- One that has a ticket loads word 1.
+  abbrev pub LookKeeps : Type 0
+  LookKeeps = (log : B → List E) (base : B → List G) (number : B → ℕ) (clerk : E → ℕ) (each bound slots id : ℕ) (me : Me (Option B) (SeatView B E G)) (c : ℕ) → me.0.role ≡ Clerk c → me.0.stage ≡ 2
+      → Allows (Kept log base number clerk each bound) slots id me 1 (λ x. x) (looked log base number clerk bound (step slots 1 0 0 none) me)
+
+  -- Who is served gives back a value that has entries of its own behind the log, and stores the next ticket in word 1.
+  abbrev pub DoneKeeps : Type 0
+  DoneKeeps = (log : B → List E) (base : B → List G) (number : B → ℕ) (clerk : E → ℕ) (each bound slots id : ℕ) (me : Me (Option B) (SeatView B E G)) (c new : ℕ) (v : B) → me.0.role ≡ Clerk c → me.0.stage ≡ 3 → me.1 ≡ (0, Some v) ∷ [] → MayGive log base number clerk c me.0 v → new ≡ (me.0.ticket + 1) % 18446744073709551616
+      → Allows (Kept log base number clerk each bound) slots id me 1 (λ _. new) (λ _. done log base number clerk (step slots 1 new 0 none) me new)
+
+  -- The opener's view is cut, for a control thread that was not made yet.
+  abbrev pub SplitKeeps : Type 0
+  SplitKeeps = (log : B → List E) (base : B → List G) (number : B → ℕ) (clerk : E → ℕ) (each bound id : ℕ) (v : SeatView B E G) (q g : ℕ) → v.role ≡ Opener q g → g < q → Splits (Kept log base number clerk each bound) id v (given_one v) (next_clerk v)

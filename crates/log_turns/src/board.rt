@@ -1,0 +1,77 @@
+//! The table that the control threads share.
+//!
+//! Word 0 is the next ticket, and word 1 the ticket that is served. The table's one entry is the value, which is out with
+//! the seat whose ticket is served.
+use crate::{Logged, SeatView};
+use atomic_table::{Play, Seat, Shared, Table, TableRule};
+use std::alloc::Global;
+use std::marker::PhantomData;
+use std::snapshot::Snapshot;
+
+/// What the table is told when it is made.
+#[derive(Drop)]
+pub struct Start<T> {
+    pub first: Snapshot<T>,
+    /// How many control threads there are.
+    pub clerks: u64,
+    /// How many entries each may add.
+    pub each: u64,
+}
+
+/// The rule of the table.
+pub struct Turned<T> {
+    of: PhantomData<T>,
+}
+
+impl<T: Logged> TableRule<Option<T>, SeatView<T, T::Entry, T::State>, Start<T>> for Turned<T> {
+    ghost use Rattle.log_turns.specs.LogRule.{Kept, opening_view, most};
+
+    ghost holds = { λ key. Kept T.log T.base T.number T.clerk key.each most };
+
+    ghost first = { λ key. opening_view key.each key.clerks (T.base key.first.value) };
+}
+
+pub type Board<T> = Table<
+    Option<T>,
+    SeatView<T, <T as Logged>::Entry, <T as Logged>::State>,
+    Start<T>,
+    Turned<T>,
+    Global,
+>;
+
+pub type Place<T> = Seat<Option<T>, SeatView<T, <T as Logged>::Entry, <T as Logged>::State>>;
+
+pub type Top<T> = Shared<
+    Option<T>,
+    SeatView<T, <T as Logged>::Entry, <T as Logged>::State>,
+    Start<T>,
+    Turned<T>,
+>;
+
+// 1 is added to word 0, which gave the ticket.
+pub(crate) struct Draw;
+
+impl<T: Logged> Play<Option<T>, SeatView<T, T::Entry, T::State>> for Draw {
+    ghost use Rattle.log_turns.specs.LogSteps.{drew};
+
+    ghost then = { drew };
+}
+
+// Word 1 is loaded by a seat that has a ticket. It takes the value where its ticket is served.
+pub(crate) struct Look;
+
+impl<T: Logged> Play<Option<T>, SeatView<T, T::Entry, T::State>> for Look {
+    ghost use Rattle.log_turns.specs.LogRule.{most};
+    ghost use Rattle.log_turns.specs.LogSteps.{looked};
+
+    ghost then = { looked T.log T.base T.number T.clerk most };
+}
+
+// The next ticket is stored in word 1, and the value is given back.
+pub(crate) struct Done;
+
+impl<T: Logged> Play<Option<T>, SeatView<T, T::Entry, T::State>> for Done {
+    ghost use Rattle.log_turns.specs.LogSteps.{done};
+
+    ghost then = { done T.log T.base T.number T.clerk };
+}

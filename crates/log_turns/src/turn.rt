@@ -1,0 +1,44 @@
+//! A turn: a seat draws a ticket and waits for the value, and gives it back with what it logged.
+ghost use Rattle.std.specs.Prelude.{◌≡◌, ℕ, ◌-◌, ◌+◌, ◌≤◌, [], ◌∷◌, length, None, Some};
+ghost use Rattle.history_laws.specs.Histories.{StartsWith};
+ghost use Rattle.log_turns.specs.declared.Role.TheVariants.{Clerk};
+ghost use Rattle.log_turns.specs.LogRule.{IsClerk, IsSized, most};
+ghost use Rattle.log_turns.specs.LogSteps.{MayGive};
+
+use crate::Logged;
+use crate::board::{Done, Draw, Look, Place, Top};
+use std::sync::Wait;
+use std::thread;
+
+/// Draws a ticket, and waits until it is served. Then the seat has the value.
+pub fn take_turn<T: Logged + Drop, R: Wait>(rt: &R, top: &Top<T>, place: &mut Place<T>) -> (u64, T)
+    requires table { (place.old.table_id ≡ top.now.table_id) × IsSized place.old.table_id }
+    requires seat { IsClerk place.old.me.0.role × (place.old.me.0.stage ≡ 1) × (place.old.me.1 ≡ []) }
+    ensures table { place.new.table_id ≡ place.old.table_id }
+    ensures seat { place.new.me ≡ (record place.old.me.0 { stage = 3; ticket = result.0; took = Some result.1 }, (0, None) ∷ []) }
+    ensures log { StartsWith (T.log result.1) place.old.me.0.seen }
+    ensures base { T.base result.1 ≡ place.old.me.0.base }
+    ensures number { T.number result.1 + place.old.me.0.left ≤ most }
+{
+    let ticket = top.fetch_add::<Draw>(place, 0, 1);
+    for _ in rt.forever() {
+        if top.load::<Look>(place, 1) == ticket {
+            let value = top.exchange(place, 0, None).unwrap();
+            return (ticket, value);
+        }
+        thread::yield_now();
+    }
+    unreachable!()
+}
+
+/// Gives the value back with what was logged, and lets the next ticket be served.
+pub fn end_turn<T: Logged + Drop>(top: &Top<T>, place: &mut Place<T>, ticket: u64, value: T)
+    requires table { (place.old.table_id ≡ top.now.table_id) × IsSized place.old.table_id }
+    requires seat { IsClerk place.old.me.0.role × (place.old.me.0.stage ≡ 3) × (place.old.me.0.ticket ≡ ticket) × (place.old.me.1 ≡ (0, None) ∷ []) }
+    requires value { (c : ℕ) → place.old.me.0.role ≡ Clerk c → MayGive T.log T.base T.number T.clerk c place.old.me.0 value }
+    ensures table { place.new.table_id ≡ place.old.table_id }
+    ensures seat { (took : T) → place.old.me.0.took ≡ Some took → place.new.me ≡ (record place.old.me.0 { stage = 1; seen = T.log value; left = place.old.me.0.left - (length (T.log value) - length (T.log took)) }, []) }
+{
+    top.exchange(place, 0, Some(value));
+    top.store::<Done>(place, 1, ticket.wrapping_add(1));
+}
