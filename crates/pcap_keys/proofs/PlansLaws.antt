@@ -102,14 +102,14 @@ body_reads schema = bind_reads (form.plan_lines schema) more (reading.plan_lines
 
 -- what reading a whole plan says of its text
 schema_gives : (schema : List SetDecl) (text : List ℕ) (ts : List Lexeme) (r : Result (List PlanLine) ReadError) (new : List Lexeme) → ts ≡ text_tokens text → Gives (λ x. x) r new (reading.plan schema ts)
-    → TextGives (form.body schema) (text_tokens text) (λ x. x) r
+    → TextGives (form.body schema) (text_tokens text) (λ x. x) r new
 unfolding reading.plan
 schema_gives schema text ts r new e g =
-    subst (λ z. TextGives (form.body schema) z (λ x. x) r) e
+    subst (λ z. TextGives (form.body schema) z (λ x. x) r new) e
     (text_gives (form.body schema) ts (λ x. x) r new (reading.body schema ts) (text_answer (body_reads schema) (λ _. end_no_break_line) ts (subst Ends (sym e) (text_ends text))) g)
 
 pub plan_gives : (schema given : List SetDecl) (text : List ℕ) (ts : List Lexeme) (r : Result (List PlanLine) ReadError) (new : List Lexeme) → given ≡ schema → ts ≡ text_tokens text → Gives (λ x. x) r new (reading.plan given ts)
-    → TextGives (form.body schema) (text_tokens text) (λ x. x) r
+    → TextGives (form.body schema) (text_tokens text) (λ x. x) r new
 plan_gives schema given text ts r new same e g = schema_gives schema text ts r new e (subst (λ (z : List SetDecl). Gives (λ x. x) r new (reading.plan z ts)) same g)
 
 pub plan_single : (schema : List SetDecl) (text : List ℕ) (lines other : List PlanLine) → IsPlanText schema text lines → IsPlanText schema text other → lines ≡ other

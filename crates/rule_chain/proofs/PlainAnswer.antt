@@ -12,26 +12,25 @@ use Rattle.token_forms.specs.Words.{if_true}
 use Rattle.token_forms.specs.Reading.{Outcome, Read, Short, Bad, then_read, done_read, ◌>>=◌}
 use Rattle.token_forms.specs.WordReading.{the_end}
 use Rattle.token_forms.specs.Reasons.{word_reason, reason_of}
-use Rattle.token_forms.specs.Faults as Faults
 use Rattle.token_forms.specs.Faults.{Applies, IsReason, is_left_out, rank}
 use Rattle.token_forms.specs.Gives.{IsReadAs}
 use Rattle.token_forms.proofs.FormLaws.{Reads, Meets, AsksFor}
 use Rattle.token_forms.proofs.ReasonLaws.{reason_is}
-use Rattle.token_forms.proofs.WholeLaws.{TextAnswer, Ends, text_of, text_answer, body_of}
+use Rattle.token_forms.proofs.WholeLaws.{TextAnswer, IsFaultBy, Ends, text_of, text_answer, body_of}
 use Rattle.rule_chain.specs.PlainGives.{AppliesPlain, IsPlainReason, IsPlainFault, Refuses, Gives}
 use Rattle.rule_chain.proofs.PlainLaws.{no_text_reason}
 
 -- the token without its text
 abbrev bare : Lexeme → Lexeme
-bare t = record { kind = t.kind; line = t.line; bytes = []; behind = false }
+bare t = record { kind = t.kind; line = t.line; from = t.from; bytes = []; behind = false }
 
-not_left_out : (kind : TokenKind) (line : ℕ) → is_left_out (record { kind = kind; line = line; bytes = []; behind = false }) ≡ false
-not_left_out kinds.Break line = refl
-not_left_out kinds.Mark line = refl
-not_left_out kinds.Text line = refl
-not_left_out kinds.Word line = refl
-not_left_out kinds.Faulty line = refl
-not_left_out kinds.End line = refl
+not_left_out : (kind : TokenKind) (line from : ℕ) → is_left_out (record { kind = kind; line = line; from = from; bytes = []; behind = false }) ≡ false
+not_left_out kinds.Break line from = refl
+not_left_out kinds.Mark line from = refl
+not_left_out kinds.Text line from = refl
+not_left_out kinds.Word line from = refl
+not_left_out kinds.Faulty line from = refl
+not_left_out kinds.End line from = refl
 
 module _ {A : Type 0} (f : Form A) (before : List Lexeme) (t : Lexeme) where
   to_bare : (q : Reason) → AppliesPlain f before t q → Applies f before (bare t) q
@@ -49,7 +48,7 @@ module _ {A : Type 0} (f : Form A) (before : List Lexeme) (t : Lexeme) where
   from_bare : (q : Reason) → Applies f before (bare t) q → AppliesPlain f before t q
   from_bare reasons.Character k = (λ e. cc e, k)
   from_bare reasons.End k = (λ e. cc e, k)
-  from_bare reasons.LeftOut k = let no = not_left_out t.kind t.line in absurd (cc (no, k))
+  from_bare reasons.LeftOut k = let no = not_left_out t.kind t.line t.from in absurd (cc (no, k))
   from_bare reasons.TypeWord k = (λ e. cc e, k)
   from_bare reasons.Value k = (λ e. cc e, k)
   from_bare reasons.Time k = (λ e. cc e, k)
@@ -62,7 +61,7 @@ module _ {A : Type 0} (f : Form A) (before : List Lexeme) (t : Lexeme) where
   plain_reason q k = record { applies = from_bare q k.applies; first = λ other w. k.first other (to_bare other w) }
 
   reason_here : (sorts : List Reason) → (is_word t.kind ≡ true → AsksFor f before sorts) → IsPlainReason f before t (word_reason t.kind sorts)
-  reason_here sorts asked = plain_reason (word_reason t.kind sorts) (subst (λ z. IsReason f before (bare t) z) (no_text_reason t.kind t.line sorts) (reason_is f before (bare t) sorts asked))
+  reason_here sorts asked = plain_reason (word_reason t.kind sorts) (subst (λ z. IsReason f before (bare t) z) (no_text_reason t.kind t.line t.from sorts) (reason_is f before (bare t) sorts asked))
 
 -- found, only, bad
 pub record TextGives {A X : Type 0} (body : Form A) (ts : List Lexeme) (view : X → A) (r : Result X ReadError) : Type 0 where
@@ -141,14 +140,14 @@ plain_gives {A} {X} {body} {more} {read} law apart ts ends view r new given = go
             let kinds : is_end t.kind ≡ is_end u.kind = let one : t ≡ u = cc same in ap (λ z. is_end z.kind) one in
             cc (kinds, i, end)
 
-  ending : (a : A) (t : Lexeme) → (b : Bool) → elim b as (λ _. Type 0) [ true ↦ (text_of body).whole ts a × ((b : A) → (text_of body).whole ts b → a ≡ b) | false ↦ Faults.IsFault (text_of body) ts t.line (reason_of t []) ]
+  ending : (a : A) (t : Lexeme) (rest : List Lexeme) → (b : Bool) → elim b as (λ _. Type 0) [ true ↦ (text_of body).whole ts a × ((b : A) → (text_of body).whole ts b → a ≡ b) | false ↦ IsFaultBy (text_of body) ts t (reason_of t []) rest ]
       → elim b as (λ _. Type 0) [ true ↦ (text_of body).whole ts a × ((b : A) → (text_of body).whole ts b → a ≡ b) | false ↦ Unit {0} ]
-  ending a t true k = k
-  ending a t false k = tt
+  ending a t rest true k = k
+  ending a t rest false k = tt
 
   go : (o : Outcome A) → Meets body more ts o → TextAnswer body ts o → Gives view r new (then_read o (λ a. the_end >>= λ _. done_read a)) → TextGives body ts view r
   go (Read a []) m k g = absurd k
-  go (Read a (t ∷ rest)) m k g = behind a t rest m (is_end t.kind) refl (ending a t (is_end t.kind) k) g
+  go (Read a (t ∷ rest)) m k g = behind a t rest m (is_end t.kind) refl (ending a t rest (is_end t.kind) k) g
   go Short m k g = absurd k
   go (Bad t sorts rest) m k g = fault_gives body ts view r new t sorts rest
       (fault body law.whole_front ts m.x t rest m.split m.fronts (λ a y u others e end w. m.none a y (u ∷ others) e w (apart a u end)) m.front sorts m.asked) g

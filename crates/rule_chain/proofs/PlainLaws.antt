@@ -14,13 +14,13 @@ use Rattle.token_forms.proofs.LoopLaws.{Left, left_item}
 use Rattle.rule_chain.specs.PlainGives.{Refuses, Gives}
 
 -- a token without a text is none of those that are left out
-pub no_text_reason : (kind : TokenKind) (line : ℕ) (sorts : List Reason) → reason_of (record { kind = kind; line = line; bytes = []; behind = false }) sorts ≡ word_reason kind sorts
-no_text_reason kinds.Break line sorts = refl
-no_text_reason kinds.Mark line sorts = refl
-no_text_reason kinds.Text line sorts = refl
-no_text_reason kinds.Word line sorts = refl
-no_text_reason kinds.Faulty line sorts = refl
-no_text_reason kinds.End line sorts = refl
+pub no_text_reason : (kind : TokenKind) (line from : ℕ) (sorts : List Reason) → reason_of (record { kind = kind; line = line; from = from; bytes = []; behind = false }) sorts ≡ word_reason kind sorts
+no_text_reason kinds.Break line from sorts = refl
+no_text_reason kinds.Mark line from sorts = refl
+no_text_reason kinds.Text line from sorts = refl
+no_text_reason kinds.Word line from sorts = refl
+no_text_reason kinds.Faulty line from sorts = refl
+no_text_reason kinds.End line from sorts = refl
 
 pub refuses_then : {A B : Type 0} (e : ReadError) (o : Outcome A) (g : A → List Lexeme → Outcome B) → Refuses e o → Refuses e (then_read o g)
 unfolding Refuses

@@ -20,6 +20,7 @@ pub fn refused(t: &Seen, sorts: &[Reason]) -> ReadError
     let blank = Seen {
         kind: t.kind,
         line: t.line,
+        from: t.from,
         bytes: &[],
         behind: false,
     };

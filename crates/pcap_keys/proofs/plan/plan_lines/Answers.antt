@@ -20,4 +20,4 @@ plan-preserved c =
 pub returns-in-Err : goal.returns-in-Err
 returns-in-Err c =
     let yes : line_starts {S = List PlanLine} breaks_off any_word (c.plan.lines, c.plan.next) (lexeme_of c.in-Some.t) ≡ true = let k = c.starts_a_line-starts.ensures c.plan.lines in cc in
-    left_bad c.in-Err.e c.plan.invariant c.in-Some.ensures.1 yes c.in-Err.ensures.gives
+    left_bad c.in-Err.e _ c.plan.invariant c.in-Some.ensures.1 yes c.in-Err.ensures.gives

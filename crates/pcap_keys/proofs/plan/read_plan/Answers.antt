@@ -12,7 +12,7 @@ unfolding IsPlanText
 returns-clause-only c = (plan_gives c.args.schema.now _ c.args.text.now _ c.whole.result _ c.as_slice.ensures c.new-reader.ensures c.whole.ensures).only
 
 pub returns-clause-bad : goal.returns-clause-bad
-returns-clause-bad c = (plan_gives c.args.schema.now _ c.args.text.now _ c.whole.result _ c.as_slice.ensures c.new-reader.ensures c.whole.ensures).bad
+returns-clause-bad c = λ line reason e. ((plan_gives c.args.schema.now _ c.args.text.now _ c.whole.result _ c.as_slice.ensures c.new-reader.ensures c.whole.ensures).bad line reason e).0
 
 pub returns-clause-fits : goal.returns-clause-fits
 unfolding IsPlanText
