@@ -10,8 +10,10 @@ import tempfile
 
 BASE = "add table ip t\nadd set ip t s { type ipv4_addr . inet_service ; flags interval ; }\n"
 
-# a script behind BASE, whether nft 1.0.6 takes it, and the program's reason where it refuses it
+# a script behind BASE (alone where it begins with a flush), whether nft 1.0.6 takes it, and the program's reason where it
+# refuses it
 ROWS = [
+    ("flush ruleset\nadd table ip t", True, None),
     ("add element ip t s { 10.0.0.1 . 80 }", True, None),
     ("add element ip t s { 10.0.0.1 . 80 }\ndelete element ip t s { 10.0.0.1 . 80 }", True, None),
     ("destroy element ip t s { 10.0.0.1 . 80 }", False, None),
@@ -25,11 +27,29 @@ ROWS = [
     ("add set ip t p { type inet_service ; flags interval ; auto-merge ; }", True, "left out"),
     ("add set ip t p { type inet_service ; flags constant ; }", True, "left out"),
     ("add set ip t p { type ifname ; }", True, "type"),
-    ("add set ip t _p { type inet_service ; }", True, "set"),
+    ("add set ip t _p { type inet_service ; }", True, None),
+    ("add table ip _u\nadd set ip _u p { type inet_service ; }", True, None),
+    (f"add set ip t {'p' * 127} {{ type inet_service ; }}", True, None),
+    (f"add set ip t {'p' * 128} {{ type inet_service ; }}", True, "set"),
+    ("add set ip t p { type inet_proto ; }\nadd element ip t p { ip, hopopt, ospf, ax.25, xns-idp }", True, None),
+    ("add set ip t p { type inet_proto ; }\nadd element ip t p { TCP }", True, "value"),
+    ("add set ip t p { type inet_proto ; flags interval ; }\nadd element ip t p { 6-17 }", True, None),
     ("add chain ip t c", True, "left out"),
+    ("add map ip t m { type inet_service : inet_service ; }", True, "left out"),
+    ("add counter ip t c", True, "left out"),
+    ("define port = 80", True, "left out"),
+    ("add set ip t p { typeof tcp dport ; }", True, "left out"),
+    ("add set ip t p { type inet_service ; flags dynamic ; }", True, "left out"),
+    ("add set ip t p { type inet_service ; }\nadd element ip t p { * }", True, "left out"),
     ("delete set ip t s", True, "left out"),
+    ("delete table ip t", True, "left out"),
+    ("create set ip t p { type inet_service ; }", True, "left out"),
+    ("create table ip u", True, "left out"),
+    ("create element ip t s { 10.0.0.1 . 80 }", True, None),
+    ("add element ip t s { 10.0.0.1 . 80 }\nflush set ip t s", True, None),
     ("add set ip t p { type inet_service ; timeout 1w ; }", False, "time"),
     # what the program reads and nft doesn't
+    ("add set ip t p { type inet_proto ; flags interval ; }\nadd element ip t p { tcp-udp }", False, None),
     ("add set ip t counter { type inet_service ; }", False, None),
     ("add set ip t p { type inet_service ; flags interval,disjoint ; }", False, None),
     ("add set ip t p { type inet_service ; flags timeout ; }\nadd element ip t p { 80 expires 30s }", False, None),
@@ -58,6 +78,42 @@ def here(program, text):
     return None if run.returncode == 0 else f"status {run.returncode}"
 
 
+def sorted_and_whole():
+    """Whether nft keeps the elements of a single field by their values, and takes nothing of a file with a fault."""
+    base = "add table ip t\nadd set ip t p { type inet_service ; flags interval ; }\n"
+    kept = by_nft(f"{base}add element ip t p {{ 30, 10, 20 }}\n")
+    subprocess.run(["nft", "-f", "-"], input="add element ip t p { 40 }\nadd element ip t q { 40 }\n", text=True,
+                   capture_output=True)
+    printed = subprocess.run(["nft", "list", "set", "ip", "t", "p"], capture_output=True, text=True, check=True).stdout
+    if not kept or "elements = { 10, 20, 30 }" not in printed:
+        print(f"nft keeps the elements 30, 10, 20, and a fault behind 40, as {printed}")
+        return False
+    return True
+
+
+def protocols(program):
+    """Whether each protocol is read as the number that nft prints it of."""
+    numbers = range(256)
+    base = "add table ip t\nadd set ip t p { type inet_proto ; }\n"
+    subprocess.run(["nft", "flush", "ruleset"], check=True)
+    every = ", ".join(map(str, numbers))
+    subprocess.run(["nft", "-f", "-"], input=f"{base}add element ip t p {{ {every} }}\n", text=True, check=True)
+    printed = subprocess.run(["nft", "list", "set", "ip", "t", "p"], capture_output=True, text=True, check=True).stdout
+    if "ospf" not in printed:
+        print("nft_words.py: the names of protocols are skipped, since nft finds no /etc/protocols with them")
+        return True
+    with tempfile.TemporaryDirectory() as folder:
+        with open(f"{folder}/script", "w") as file:
+            file.write(printed)
+        with open(f"{folder}/keys", "w") as file:
+            file.writelines(f"ip t p {number}\n" for number in numbers)
+        run = subprocess.run([program, "run", f"{folder}/script", f"{folder}/keys"], capture_output=True, text=True)
+    found = [line for line in run.stdout.splitlines() if line.startswith("packet") and "element" in line]
+    if len(found) != len(numbers):
+        print(f"of the 256 protocols that nft prints, {len(found)} are read as the same: {run.stdout.splitlines()[:1]}")
+    return len(found) == len(numbers)
+
+
 def main():
     version = subprocess.run(["nft", "--version"], capture_output=True, text=True).stdout
     if "v1.0.6" not in version:
@@ -65,11 +121,14 @@ def main():
         return 0
     bad = 0
     for text, taken, reason in ROWS:
-        got = by_nft(f"{BASE}{text}\n"), here(sys.argv[1], f"{BASE}{text}\n")
+        script = f"{text}\n" if text.startswith("flush ruleset") else f"{BASE}{text}\n"
+        got = by_nft(script), here(sys.argv[1], script)
         if got != (taken, reason):
             bad += 1
             print(f"{text!r}: nft {'takes' if got[0] else 'refuses'} it, and here: {got[1] or 'read'}")
-    print(f"{len(ROWS)} claims on what nft takes and what is read here, {bad} of them wrong")
+    bad += not sorted_and_whole()
+    bad += not protocols(sys.argv[1])
+    print(f"{len(ROWS) + 2} claims on what nft takes and what is read here, {bad} of them wrong")
     return 1 if bad else 0
 
 

@@ -1,10 +1,10 @@
 -- A value of a kind has no more than the kind's bits.
-use Rattle.std.proofs.Common.{◌≡◌, ℕ, zero, suc, ◌+◌, ◌*◌, ◌-◌, ◌^◌, ◌<◌, ◌≤◌, Bool, true, List, [], ◌∷◌, ◌++◌, length, map, replicate, get_or, Option, Some, None, All, Result, ok_or, IfOk, refl, sym, ◌∙◌, subst, arith, inl, inr, lit<, lit≤, lt-ltb, length-append}
+use Rattle.std.proofs.Common.{◌≡◌, ℕ, zero, suc, ◌+◌, ◌*◌, ◌-◌, ◌^◌, ◌<◌, ◌≤◌, Bool, true, List, [], ◌∷◌, ◌++◌, length, map, replicate, get_or, Option, Some, None, All, Result, ok_or, IfOk, refl, sym, ◌∙◌, subst, arith, inl, inr, lit<, lit≤, lt-ltb, nat_lt, length-append}
 use Rattle.std.proofs.lemmas.List.{length-replicate, length-map}
 use Rattle.std.proofs.Math.Nat.{pow-le-pow_right}
-use Rattle.std.proofs.lemmas.List.Elements.{All-head, All-tail, All-contains, All-from_recursion}
+use Rattle.std.proofs.lemmas.Bool.{ltb-true}
+use Rattle.std.proofs.lemmas.List.Elements.{All-head, All-tail}
 use Rattle.std.proofs.lemmas.Int.Digits.{digits_value-lt}
-use Rattle.std.specs.List.{AllByRecursion as ByRecursion}
 use Rattle.std.specs.Str.Parse.{digits_value}
 use Rattle.std.specs.Net.Addr.{segments_of}
 use Rattle.std.specs.Net.Grammar.{IsDotted, IsGroup, IsGroupsAfter, IsColonHex}
@@ -14,9 +14,10 @@ use Rattle.set_model.specs.Kind.{bits_of}
 use Rattle.set_model.specs.declared.kind.Kind.{Kind}
 use Rattle.set_model.specs.declared.kind.Kind.TheVariants.{Ipv4, Ipv6, Ether, Proto, Service, Mark}
 use Rattle.addr_text.specs.Numbers.{IsHexUpTo}
-use Rattle.addr_text.specs.Protocols.{protocols, IsProtocolName}
+use Rattle.addr_text.specs.Protocols.{written_protocols, other_protocols, IsProtocolName}
 use Rattle.addr_text.specs.Values.{IsIpv4, IsIpv6, IsEther, IsOctet, IsValue}
 use Rattle.addr_text.specs.ValuesRead.{value_of}
+use Rattle.addr_text.proofs.Tables.{passes}
 use Rattle.addr_text.proofs.NumberLaws.{big_endian-lt}
 use Rattle.addr_text.proofs.ValueLaws.{value_of_sound}
 
@@ -82,16 +83,14 @@ ether_fits text n h =
     let six : length (map (digits_value 16) h.groups) ≡ 6 = length-map h.groups (digits_value 16) ∙ h.six in
     rw (h.value) (rw six at (big_endian-lt 256 (map (digits_value 16) h.groups) (lit< tt) (octets_fit h.groups h.each)))
 
-IsSmall : List ℕ × ℕ → Type 0
-IsSmall p = p.1 < 256
-
-each_small : ByRecursion IsSmall protocols
-unfolding IsSmall
-each_small = (lit< tt, (lit< tt, (lit< tt, (lit< tt, (lit< tt, (lit< tt, (lit< tt, (lit< tt, (lit< tt, (lit< tt, (lit< tt, (lit< tt, tt))))))))))))
+-- the entry's number has 8 bits
+is_small : List ℕ × ℕ → Bool
+is_small p = nat_lt p.1 256
 
 name_fits : (text : List ℕ) (n : ℕ) → IsProtocolName text n → n < 2 ^ 8
-unfolding IsSmall
-name_fits text n h = All-contains IsSmall protocols (text, n) (All-from_recursion IsSmall protocols each_small) h
+unfolding is_small other_protocols
+name_fits text n (inl at) = ltb-true n 256 (passes is_small written_protocols (text, n) refl at)
+name_fits text n (inr at) = ltb-true n 256 (passes is_small other_protocols (text, n) refl at)
 
 hex_fits : (text : List ℕ) (n : ℕ) → IsHexUpTo 8 text n → n < 2 ^ 32
 hex_fits text n h =

@@ -18,7 +18,7 @@ use Rattle.addr_text.specs.ValuesRead.{number_of, value_of}
 use Rattle.addr_text.proofs.NumberLaws.{number_of_sound, number_of_complete}
 use Rattle.addr_text.proofs.ValueLaws.{value_of_sound, value_of_complete}
 use Rattle.addr_text.proofs.FitLaws.{IsValue-fits}
-use Rattle.addr_text.proofs.PlainLaws.{EndsValue, ends-nil, ends-slash, ends-dash, first_end-append}
+use Rattle.addr_text.proofs.DashLaws.{end-nil, end-slash, end-dash}
 
 pub bits_of-le : (kind : Kind) → bits_of kind ≤ 128
 bits_of-le Ipv4 = lit≤ tt
@@ -72,26 +72,26 @@ behind_sound kind front (mark ∷ behind) value part is e = go (mark == 47) refl
 pub interval_of_sound : (kind : Kind) (text : List ℕ) (part : Interval) → interval_of kind text ≡ Some part → IsInterval kind text part
 unfolding interval_of
 interval_of_sound kind text part e =
-    and_then_some _ (value_of kind (take (first_end text) text)) _ e λ value read kept.
-    let found = behind_sound kind (take (first_end text) text) (drop (first_end text) text) value part (value_of_sound kind _ value read) kept in
-    subst (λ (t : List ℕ). IsInterval kind t part) (take-append-drop (first_end text) text) found
+    and_then_some _ (value_of kind (take (first_end kind text) text)) _ e λ value read kept.
+    let found = behind_sound kind (take (first_end kind text) text) (drop (first_end kind text) text) value part (value_of_sound kind _ value read) kept in
+    subst (λ (t : List ℕ). IsInterval kind t part) (take-append-drop (first_end kind text) text) found
 
-at_value : (kind : Kind) (front rest : List ℕ) (value : ℕ) → IsValue kind front value → EndsValue rest → interval_of kind (front ++ rest) ≡ interval_behind kind value rest
+at_value : (kind : Kind) (front rest : List ℕ) (value : ℕ) → IsValue kind front value → first_end kind (front ++ rest) ≡ length front → interval_of kind (front ++ rest) ≡ interval_behind kind value rest
 unfolding interval_of
-at_value kind front rest value is stop =
-    rw (first_end-append kind front rest value is stop, take_at front rest (length front) refl, drop_at front rest (length front) refl, value_of_complete kind front value is) refl
+at_value kind front rest value is ends =
+    rw (ends, take_at front rest (length front) refl, drop_at front rest (length front) refl, value_of_complete kind front value is) refl
 
 pub interval_of_complete : (kind : Kind) (text : List ℕ) (part : Interval) → IsInterval kind text part → interval_of kind text ≡ Some part
 unfolding interval_behind prefix_of range_of
 interval_of_complete kind text part (inl h) =
-    let found = rw append-nil at (at_value kind text [] part.low h.value ends-nil) in
+    let found = rw append-nil at (at_value kind text [] part.low h.value (end-nil kind text part.low h.value)) in
     found ∙ (λ i. Some (record { low = part.low; high = h.same i }))
 interval_of_complete kind text part (inr (inl h)) =
-    let found = at_value kind h.front (47 ∷ h.digits) h.value h.front_value (ends-slash h.digits) in
+    let found = at_value kind h.front (47 ∷ h.digits) h.value h.front_value (end-slash kind h.front h.digits h.value h.front_value) in
     let fixed = number_of_complete (bits_of kind) h.digits h.fixed (omega (arith, bits_of-le kind)) h.length in
     rw h.spelled (found ∙ rw fixed (ap Some (sym h.block)))
 interval_of_complete kind text part (inr (inr h)) =
-    let found = at_value kind h.front (45 ∷ h.behind) part.low h.low (ends-dash h.behind) in
+    let found = at_value kind h.front (45 ∷ h.behind) part.low h.low (end-dash kind h.front h.behind part.low part.high h.low h.high h.rises) in
     rw h.spelled (found ∙ rw (value_of_complete kind h.behind part.high h.high, le-leb part.low part.high h.rises) refl)
 
 pub IsInterval_unique : (kind : Kind) (text : List ℕ) (x y : Interval) → IsInterval kind text x → IsInterval kind text y → x ≡ y

@@ -1,3 +1,4 @@
+pub mod Tables
 pub mod NumberLaws
 pub mod ProtocolLaws
 pub mod EtherLaws
@@ -5,6 +6,7 @@ pub mod ValueLaws
 pub mod AddressLaws
 pub mod FitLaws
 pub mod PlainLaws
+pub mod DashLaws
 pub mod IntervalLaws
 pub mod TimeLaws
 pub mod InlineLaws

@@ -1,25 +1,54 @@
--- The table of protocol names: no name or number stands in it twice, and a search finds what it holds.
-use Rattle.std.proofs.Common.{sym, ◌∙◌, ap, inl, inr, codes, subst, lit<, length, ◌==◌, ◌⊎◌, ◌≡◌, ℕ, suc, Bool, true, false, cond, List, [], ◌∷◌, Some, option_map, map, bytes_eq, find, Contains, refl, arith}
+-- The tables of protocol names: each name stands once in them, each number once among those that are written, and
+-- a search finds what they hold.
+use Rattle.std.proofs.Common.{sym, ◌∙◌, ap, inl, inr, ◌==◌, ◌≡◌, ℕ, suc, Bool, true, false, not, cond, List, [], ◌∷◌, Option, Some, None, is_some, option_map, map, bytes_eq, find, Contains, refl, arith, true≢false}
 use Rattle.std.proofs.lemmas.Bool.{eqb-true}
 use Rattle.std.proofs.lemmas.Option.{none-some, same_Some}
-use Rattle.std.proofs.lemmas.List.Elements.{All-from_recursion, All-contains}
-use Rattle.std.specs.List.{AllByRecursion as ByRecursion}
 use Rattle.std.proofs.lemmas.Slice.Eq.{bytes_eq-Decides}
+use Rattle.std.specs.Option.{option_or}
 use Rattle.addr_text.specs.declared.protocol.Protocol.{Protocol}
-use Rattle.addr_text.specs.Protocols.{protocol_name, name_in, number_in, protocols, IsProtocolName, protocol_number}
+use Rattle.addr_text.specs.Protocols.{written_protocols, other_protocols, protocol_name, name_in, number_in, IsProtocolName, protocol_number}
+use Rattle.addr_text.proofs.Tables.{passes}
 
-abbrev IsFoundByName : List ℕ × ℕ → Type 0
-IsFoundByName p = protocol_number p.0 ≡ Some p.1
+-- some value, and this number
+is_some_number : Option ℕ → ℕ → Bool
+is_some_number None n = false
+is_some_number (Some m) n = m == n
 
-each_by_name : ByRecursion IsFoundByName protocols
-each_by_name = (refl, (refl, (refl, (refl, (refl, (refl, (refl, (refl, (refl, (refl, (refl, (refl, tt))))))))))))
+some_number : (o : Option ℕ) (n : ℕ) → is_some_number o n ≡ true → o ≡ Some n
+unfolding is_some_number
+some_number None n is = absurd (true≢false (sym is))
+some_number (Some m) n is = ap Some (eqb-true m n is)
 
--- each name of the table is found with its own number
+-- some text, and this one
+is_some_text : Option (List ℕ) → List ℕ → Bool
+is_some_text None text = false
+is_some_text (Some other) text = bytes_eq other text
+
+some_text : (o : Option (List ℕ)) (text : List ℕ) → is_some_text o text ≡ true → o ≡ Some text
+unfolding is_some_text
+some_text None text is = absurd (true≢false (sym is))
+some_text (Some other) text is = ap Some ((bytes_eq-Decides other text).0 is)
+
+-- the entry is found by its name
+is_found : List ℕ × ℕ → Bool
+is_found p = is_some_number (protocol_number p.0) p.1
+
+-- the entry's name is found by its number
+is_written : List ℕ × ℕ → Bool
+is_written p = is_some_text (protocol_name p.1) p.0
+
+-- no written protocol has the entry's name
+is_only_read : List ℕ × ℕ → Bool
+is_only_read p = not (is_some (number_in written_protocols p.0))
+
+-- each name of the tables is found with its own number
 pub protocol_number_complete : (text : List ℕ) (n : ℕ) → IsProtocolName text n → protocol_number text ≡ Some n
-protocol_number_complete text n h = All-contains IsFoundByName protocols (text, n) (All-from_recursion IsFoundByName protocols each_by_name) h
+unfolding is_found is_some_number other_protocols
+protocol_number_complete text n (inl at) = some_number _ n (passes is_found written_protocols (text, n) refl at)
+protocol_number_complete text n (inr at) = some_number _ n (passes is_found other_protocols (text, n) refl at)
 
 -- a search by name gives an entry
-found_in : (table : List (List ℕ × ℕ)) (text : List ℕ) (n : ℕ) → option_map (λ p. p.1) (find (λ p. bytes_eq p.0 text) table) ≡ Some n → Contains table (text, n)
+found_in : (table : List (List ℕ × ℕ)) (text : List ℕ) (n : ℕ) → number_in table text ≡ Some n → Contains table (text, n)
 found_in [] text n e = absurd (none-some n e)
 found_in (p ∷ table) text n e = go (bytes_eq p.0 text) refl e (found_in table text n) where
   go : (b : Bool) → bytes_eq p.0 text ≡ b → option_map (λ q. q.1) (cond b (Some p) (find (λ q. bytes_eq q.0 text) table)) ≡ Some n → (option_map (λ q. q.1) (find (λ q. bytes_eq q.0 text) table) ≡ Some n → Contains table (text, n)) → Contains (p ∷ table) (text, n)
@@ -27,7 +56,10 @@ found_in (p ∷ table) text n e = go (bytes_eq p.0 text) refl e (found_in table 
   go false test found later = let (k, below, at) = later found in (suc k, omega arith, at)
 
 pub protocol_number_sound : (text : List ℕ) (n : ℕ) → protocol_number text ≡ Some n → IsProtocolName text n
-protocol_number_sound text n e = found_in protocols text n e
+protocol_number_sound text n e = go (number_in written_protocols text) refl e where
+  go : (o : Option ℕ) → number_in written_protocols text ≡ o → option_or o (number_in other_protocols text) ≡ Some n → IsProtocolName text n
+  go None is found = inr (found_in other_protocols text n found)
+  go (Some m) is found = inl (found_in written_protocols text n (is ∙ found))
 
 -- an entry of the program's table, as a name and a number
 abbrev entry : Protocol → List ℕ × ℕ
@@ -43,24 +75,6 @@ number_in-map (p ∷ table) name = go (bytes_eq p.name.now name) (number_in-map 
 pub name_unique : (name : List ℕ) → (m n : ℕ) → IsProtocolName name m → IsProtocolName name n → m ≡ n
 name_unique name m n h k = same_Some m n (sym (protocol_number_complete name m h) ∙ protocol_number_complete name n k)
 
--- the second name of one protocol, or the name that is written
-IsWrittenOrAlias : List ℕ × ℕ → Type 0
-IsWrittenOrAlias p = (p.0 ≡ codes "icmpv6") ⊎ (protocol_name p.1 ≡ Some p.0)
-
-each_written : ByRecursion IsWrittenOrAlias protocols
-unfolding IsWrittenOrAlias
-each_written = (inr refl, (inr refl, (inr refl, (inr refl, (inr refl, (inr refl, (inr refl, (inr refl, (inr refl, (inr refl, (inr refl, (inl refl, tt))))))))))))
-
-written_or_alias : (name : List ℕ) (n : ℕ) → IsProtocolName name n → (name ≡ codes "icmpv6") ⊎ (protocol_name n ≡ Some name)
-unfolding IsWrittenOrAlias
-written_or_alias name n h = All-contains IsWrittenOrAlias protocols (name, n) (All-from_recursion IsWrittenOrAlias protocols each_written) h
-
-pub number_unique : (name other : List ℕ) → (n : ℕ) → IsProtocolName name n → IsProtocolName other n → (name ≡ other) ⊎ ((name ≡ codes "icmpv6") ⊎ (other ≡ codes "icmpv6"))
-number_unique name other n h k = elim (written_or_alias name n h) [
-  | inl alias ↦ inr (inl alias)
-  | inr first ↦ (elim (written_or_alias other n k) [ inl alias ↦ inr (inr alias) | inr second ↦ inl (same_Some name other (sym first ∙ second)) ])
-]
-
 -- a search by number gives an entry
 pub name_found : (table : List (List ℕ × ℕ)) (text : List ℕ) (n : ℕ) → name_in table n ≡ Some text → Contains table (text, n)
 name_found [] text n e = absurd (none-some text e)
@@ -69,9 +83,15 @@ name_found (p ∷ table) text n e = go (p.1 == n) refl e (name_found table text 
   go true test found later = (0, omega arith, λ i. (same_Some p.0 text found i, eqb-true p.1 n test i))
   go false test found later = let (k, below, at) = later found in (suc k, omega arith, at)
 
-pub alias_unwritten : (n : ℕ) → protocol_name n ≡ Some (codes "icmpv6") → ⊥
-alias_unwritten n e =
-    let number : 58 ≡ n = name_unique (codes "icmpv6") 58 n (11, lit< tt, refl) (name_found protocols (codes "icmpv6") n e) in
-    let first : Some (codes "ipv6-icmp") ≡ Some (codes "icmpv6") = subst (λ (m : ℕ). protocol_name m ≡ Some (codes "icmpv6")) (sym number) e in
-    let lengths : 9 ≡ 6 = ap length (same_Some (codes "ipv6-icmp") (codes "icmpv6") first) in
-    omega (arith, lengths)
+-- a name is written of a number exactly where they stand in the table of those that are written
+pub name_written : (name : List ℕ) (n : ℕ) → (protocol_name n ≡ Some name → Contains written_protocols (name, n)) × (Contains written_protocols (name, n) → protocol_name n ≡ Some name)
+unfolding is_written is_some_text
+name_written name n = (name_found written_protocols name n, λ at. some_text _ name (passes is_written written_protocols (name, n) refl at))
+
+-- a name that is only read is never written
+pub only_read : (name : List ℕ) (m n : ℕ) → Contains other_protocols (name, m) → protocol_name n ≡ Some name → ⊥
+unfolding is_only_read is_found is_some_number other_protocols
+only_read name m n at written =
+    let absent : not (is_some (number_in written_protocols name)) ≡ true = passes is_only_read other_protocols (name, m) refl at in
+    let present : number_in written_protocols name ≡ Some n = some_number _ n (passes (λ p. is_some_number (number_in written_protocols p.0) p.1) written_protocols (name, n) refl (name_found written_protocols name n written)) in
+    true≢false (sym absent ∙ ap (λ o. not (is_some o)) present)

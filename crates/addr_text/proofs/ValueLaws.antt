@@ -1,12 +1,10 @@
 -- `value_of` decides the relation between texts and values.
-use Rattle.std.proofs.Common.{◌≡◌, ℕ, ◌⊎◌, Bool, true, false, cond, List, [], ◌∷◌, ◌++◌, take, drop, Option, Some, None, option_map, Result, ok_or, bytes_eq, refl, sym, ap, ◌∙◌, arith, inl, inr, take-append-drop, append-nil, lit≤, lit<, subst}
+use Rattle.std.proofs.Common.{◌≡◌, ℕ, ◌⊎◌, Bool, true, false, not, cond, List, [], ◌∷◌, ◌++◌, take, drop, Option, Some, None, is_some, option_map, Result, ok_or, bytes_eq, refl, sym, ap, ◌∙◌, arith, inl, inr, take-append-drop, append-nil, lit≤, lit<, subst, true≢false}
 use Rattle.std.proofs.lemmas.Bool.{eqb-true}
 use Rattle.std.proofs.lemmas.Option.{none-some, same_Some}
 use Rattle.std.proofs.lemmas.List.{nil_from_length}
 use Rattle.std.proofs.lemmas.Slice.Eq.{bytes_eq-Decides}
-use Rattle.std.proofs.lemmas.List.Elements.{All-from_recursion, All-contains}
 use Rattle.std.proofs.lemmas.Fmt.{decimal_is_IsNumeral}
-use Rattle.std.specs.List.{AllByRecursion as ByRecursion}
 use Rattle.std.specs.Option.{option_or}
 use Rattle.std.specs.Str.Parse.{IsNumeral, AllDigits}
 use Rattle.std.specs.Net.Grammar.{Parses}
@@ -17,10 +15,11 @@ use Rattle.std.proofs.NetLemmas.Ipv6.{read_ipv6_complete, read_ipv6_sound, EndsG
 use Rattle.set_model.specs.declared.kind.Kind.{Kind}
 use Rattle.set_model.specs.declared.kind.Kind.TheVariants.{Ipv4, Ipv6, Ether, Proto, Service, Mark}
 use Rattle.addr_text.specs.Numbers.{big_endian, IsNumberUpTo}
-use Rattle.addr_text.specs.Protocols.{protocols, IsProtocolName, protocol_number}
+use Rattle.addr_text.specs.Protocols.{written_protocols, other_protocols, IsProtocolName, protocol_number}
 use Rattle.addr_text.specs.Values.{IsIpv4, IsIpv6, IsHexMark, IsValue}
 use Rattle.addr_text.specs.ValuesRead.{whole_number, number_of, hex_of, mark_of, value_of}
 use Rattle.addr_text.proofs.NumberLaws.{number_of_sound, number_of_complete, hex_of_sound, hex_of_complete}
+use Rattle.addr_text.proofs.Tables.{passes}
 use Rattle.addr_text.proofs.ProtocolLaws.{protocol_number_sound, protocol_number_complete}
 use Rattle.addr_text.proofs.EtherLaws.{ether_of_sound, ether_of_complete}
 
@@ -56,33 +55,31 @@ ipv6_complete text n h =
     let read = rw append-nil at (read_ipv6_complete text h.segments [] h.colon_hex EndsGroups-nil) in
     rw read (ap Some (sym h.value))
 
-IsNoNumber : List ℕ × ℕ → Type 0
-IsNoNumber p = number_of 255 p.0 ≡ None
-
-each_no_number : ByRecursion IsNoNumber protocols
-unfolding IsNoNumber number_of whole_number read_number
-each_no_number = (refl, (refl, (refl, (refl, (refl, (refl, (refl, (refl, (refl, (refl, (refl, (refl, tt))))))))))))
-
-no_name_is_a_number : (text : List ℕ) (n : ℕ) → IsProtocolName text n → number_of 255 text ≡ None
-unfolding IsNoNumber
-no_name_is_a_number text n h = All-contains IsNoNumber protocols (text, n) (All-from_recursion IsNoNumber protocols each_no_number) h
+-- the entry's name is no number
+is_no_number : List ℕ × ℕ → Bool
+is_no_number p = not (is_some (number_of 255 p.0))
 
 -- No name of a protocol is a number.
-names_apart : (text : List ℕ) (n : ℕ) → IsNumberUpTo 255 text n → protocol_number text ≡ None
-names_apart text n h = go (protocol_number text) refl where
-  go : (o : Option ℕ) → protocol_number text ≡ o → o ≡ None
-  go None is = refl
-  go (Some m) is = absurd (none-some n (sym (no_name_is_a_number text m (protocol_number_sound text m is)) ∙ number_of_complete 255 text n (lit< tt) h))
+names_apart : (text : List ℕ) (n : ℕ) → IsProtocolName text n → number_of 255 text ≡ None
+unfolding is_no_number number_of whole_number read_number other_protocols
+names_apart text n h = go (number_of 255 text) refl (tested h) where
+  tested : IsProtocolName text n → is_no_number (text, n) ≡ true
+  tested (inl at) = passes is_no_number written_protocols (text, n) refl at
+  tested (inr at) = passes is_no_number other_protocols (text, n) refl at
 
-proto_sound : (text : List ℕ) (n : ℕ) → option_or (protocol_number text) (number_of 255 text) ≡ Some n → IsNumberUpTo 255 text n ⊎ IsProtocolName text n
-proto_sound text n e = go (protocol_number text) refl e where
-  go : (o : Option ℕ) → protocol_number text ≡ o → option_or o (number_of 255 text) ≡ Some n → IsNumberUpTo 255 text n ⊎ IsProtocolName text n
-  go None is found = inl (number_of_sound 255 text n (lit< tt) found)
-  go (Some m) is found = inr (protocol_number_sound text n (is ∙ found))
+  go : (o : Option ℕ) → number_of 255 text ≡ o → is_no_number (text, n) ≡ true → o ≡ None
+  go None is absent = refl
+  go (Some m) is absent = absurd (true≢false (sym absent ∙ ap (λ o. not (is_some o)) is))
 
-proto_complete : (text : List ℕ) (n : ℕ) → IsNumberUpTo 255 text n ⊎ IsProtocolName text n → option_or (protocol_number text) (number_of 255 text) ≡ Some n
-proto_complete text n (inl number) = rw (names_apart text n number) (number_of_complete 255 text n (lit< tt) number)
-proto_complete text n (inr name) = rw (protocol_number_complete text n name) refl
+proto_sound : (text : List ℕ) (n : ℕ) → option_or (number_of 255 text) (protocol_number text) ≡ Some n → IsNumberUpTo 255 text n ⊎ IsProtocolName text n
+proto_sound text n e = go (number_of 255 text) refl e where
+  go : (o : Option ℕ) → number_of 255 text ≡ o → option_or o (protocol_number text) ≡ Some n → IsNumberUpTo 255 text n ⊎ IsProtocolName text n
+  go None is found = inr (protocol_number_sound text n found)
+  go (Some m) is found = inl (number_of_sound 255 text n (lit< tt) (is ∙ found))
+
+proto_complete : (text : List ℕ) (n : ℕ) → IsNumberUpTo 255 text n ⊎ IsProtocolName text n → option_or (number_of 255 text) (protocol_number text) ≡ Some n
+proto_complete text n (inl number) = rw (number_of_complete 255 text n (lit< tt) number) refl
+proto_complete text n (inr name) = rw (names_apart text n name) (protocol_number_complete text n name)
 
 mark_of_sound : (text : List ℕ) (n : ℕ) → mark_of text ≡ Some n → IsNumberUpTo 4294967295 text n ⊎ IsHexMark text n
 unfolding mark_of

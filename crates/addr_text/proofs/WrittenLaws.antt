@@ -17,7 +17,7 @@ use Rattle.set_model.specs.declared.kind.Kind.{Kind}
 use Rattle.set_model.specs.declared.kind.Kind.TheVariants.{Ipv4, Ipv6, Ether, Proto, Service, Mark}
 use Rattle.set_model.specs.declared.kind.Interval.{Interval}
 use Rattle.addr_text.specs.Numbers.{big_endian}
-use Rattle.addr_text.specs.Protocols.{protocols, protocol_name}
+use Rattle.addr_text.specs.Protocols.{written_protocols, protocol_name}
 use Rattle.addr_text.proofs.ProtocolLaws.{name_found}
 use Rattle.addr_text.specs.Values.{IsOctet, IsValue}
 use Rattle.addr_text.specs.Intervals.{block_of, IsPrefix, IsRange, IsInterval}
@@ -102,7 +102,7 @@ IsValue-value_text Ether n h =
 IsValue-value_text Proto n h = go (protocol_name n) refl where
   go : (o : Option (List ℕ)) → protocol_name n ≡ o → IsValue Proto (unwrap_or o (decimal n)) n
   go None none = inl (let below = value_below Proto n h in omega arith, refl)
-  go (Some text) found = inr (name_found protocols text n found)
+  go (Some text) found = inr (inl (name_found written_protocols text n found))
 IsValue-value_text Service n h = (let below = value_below Service n h in omega arith, refl)
 IsValue-value_text Mark n h = inr (record { digits = hex_text 8 n; spelled = refl; hex = (hex_text_is 8 n (lit< tt) (value_below Mark n h), lit≤ tt) })
 

@@ -1,8 +1,9 @@
 -- The interval of a text, computed.
-use Rattle.std.specs.Prelude.{ℕ, ◌+◌, Bool, not, ◌&&◌, List, [], ◌∷◌, take, drop, Option, Some, None, codes, nat_eq, ◌==◌, nat_le, if◌then◌else◌}
+use Rattle.std.specs.Prelude.{ℕ, Bool, not, ◌&&◌, List, [], ◌∷◌, length, take, drop, Option, Some, None, option_map, unwrap_or, find, codes, nat_eq, ◌==◌, nat_le, if◌then◌else◌}
 use Rattle.std.specs.List.{prefix_len, starts_with}
 use Rattle.set_model.specs.Kind.{bits_of}
 use Rattle.set_model.specs.declared.kind.Kind.{Kind}
+use Rattle.set_model.specs.declared.kind.Kind.TheVariants.{Ipv4, Ipv6, Ether, Proto, Service, Mark}
 use Rattle.set_model.specs.declared.kind.Interval.{Interval}
 use Rattle.addr_text.specs.Intervals.{block_of}
 use Rattle.addr_text.specs.ValuesRead.{◌>>=◌, number_of, value_of}
@@ -15,13 +16,37 @@ is_plain byte = not (byte == 45) && not (byte == 47)
 abbrev pub plain_len : List ℕ → ℕ
 plain_len text = prefix_len is_plain text
 
--- how many bytes of the front are the one value that has a `-` in it
-abbrev pub name_len : List ℕ → ℕ
-name_len text = if starts_with nat_eq text (codes "ipv6-icmp") then 9 else 0
+-- the names of protocols that have a `-` in them
+unfoldable pub dashed_names : List (List ℕ)
+dashed_names =
+    codes "xns-idp"
+    ∷ codes "iso-tp4"
+    ∷ codes "idpr-cmtp"
+    ∷ codes "ipv6-route"
+    ∷ codes "ipv6-frag"
+    ∷ codes "ipv6-icmp"
+    ∷ codes "ipv6-nonxt"
+    ∷ codes "ipv6-opts"
+    ∷ codes "mobility-header"
+    ∷ codes "mpls-in-ip"
+    ∷ []
 
--- where the first value of the text ends
-unfoldable pub first_end : List ℕ → ℕ
-first_end text = name_len text + plain_len (drop (name_len text) text)
+-- the name stands first in the text, with nothing, a `-` or a `/` behind it
+abbrev pub stands_first : List ℕ → List ℕ → Bool
+stands_first text name = starts_with nat_eq text name && (plain_len (drop (length name) text) == 0)
+
+-- where a name of a protocol ends that has a `-` in it and stands first
+unfoldable pub dashed_end : List ℕ → Option ℕ
+dashed_end text = option_map length (find (stands_first text) dashed_names)
+
+-- where the first value of the text ends: behind such a name, or before the first `-` or `/`
+unfoldable pub first_end : Kind → List ℕ → ℕ
+first_end Proto text = unwrap_or (dashed_end text) (plain_len text)
+first_end Ipv4 text = plain_len text
+first_end Ipv6 text = plain_len text
+first_end Ether text = plain_len text
+first_end Service text = plain_len text
+first_end Mark text = plain_len text
 
 -- a block, by what stands behind the `/`
 unfoldable pub prefix_of : Kind → ℕ → List ℕ → Option Interval
@@ -45,5 +70,5 @@ interval_behind kind value (mark ∷ behind) =
 -- the interval that the text stands for
 unfoldable pub interval_of : Kind → List ℕ → Option Interval
 interval_of kind text =
-    let end = first_end text in
+    let end = first_end kind text in
     value_of kind (take end text) >>= λ value. interval_behind kind value (drop end text)

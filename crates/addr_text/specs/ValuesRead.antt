@@ -59,7 +59,7 @@ unfoldable pub value_of : Kind → List ℕ → Option ℕ
 value_of Ipv4 text = option_map (big_endian 256) (whole_value (read_ipv4 text))
 value_of Ipv6 text = option_map (big_endian 65536) (whole_value (read_ipv6 text))
 value_of Ether text = ether_of text
-value_of Proto text = option_or (protocol_number text) (number_of 255 text)
+value_of Proto text = option_or (number_of 255 text) (protocol_number text)
 value_of Service text = number_of 65535 text
 value_of Mark text = mark_of text
 

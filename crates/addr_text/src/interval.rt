@@ -1,29 +1,28 @@
-ghost use Rattle.std.specs.Prelude.{ℕ, ◌≡◌, ◌↔◌, Some, ◌<◌, ◌≤◌, ◌^◌, ◌-◌, IfOk, IsTrue, length};
+ghost use Rattle.std.specs.Prelude.{ℕ, ◌≡◌, ◌↔◌, Some, ◌<◌, ◌≤◌, ◌^◌, ◌-◌, IfOk, IfSome, IsTrue, length, map, find, option_map};
 ghost use Rattle.std.specs.Option.{ok_or};
 ghost use Rattle.std.specs.Net.Grammar.{Parses};
 ghost use Rattle.set_model.specs.Key.{is_good};
 ghost use Rattle.set_model.specs.Kind.{bits_of};
 ghost use Rattle.addr_text.specs.Intervals.{block_of, IsInterval};
-ghost use Rattle.addr_text.specs.IntervalsRead.{plain_len, name_len, first_end, prefix_of, range_of, interval_behind, interval_of};
+ghost use Rattle.addr_text.specs.IntervalsRead.{plain_len, stands_first, dashed_end, first_end, prefix_of, range_of, interval_behind, interval_of};
 ghost use Rattle.addr_text.specs.ValuesRead.{value_of, bad_value};
 
 use crate::value::{BadValue, parse_value, read_number};
 use set_model::{Interval, Kind};
 
-/// The one value that has a `-` in its text.
-const DASHED: &[u8] = b"ipv6-icmp";
-
-/// How many bytes of the front are the one value that has a `-` in it.
-fn name_len(text: &[u8]) -> usize
-    ensures value { result ≡ name_len text.now }
-    ensures within { result ≤ length text.now }
-{
-    if text.starts_with(DASHED) {
-        DASHED.len()
-    } else {
-        0
-    }
-}
+/// The names of protocols that have a `-` in them.
+const DASHED: [&[u8]; 10] = [
+    b"xns-idp",
+    b"iso-tp4",
+    b"idpr-cmtp",
+    b"ipv6-route",
+    b"ipv6-frag",
+    b"ipv6-icmp",
+    b"ipv6-nonxt",
+    b"ipv6-opts",
+    b"mobility-header",
+    b"mpls-in-ip",
+];
 
 /// How many bytes there are before the first `-` or `/`.
 fn plain_len(text: &[u8]) -> usize
@@ -35,14 +34,52 @@ fn plain_len(text: &[u8]) -> usize
         .count()
 }
 
-/// Where the first value of a text ends: at the first `-` or `/` that isn't part of it.
+/// Whether a name stands first in a text, with nothing, a `-` or a `/` behind it.
+fn stands_first(text: &[u8], name: &[u8]) -> bool
+    ensures value { result ≡ stands_first text.now name.now }
+    ensures within { IsTrue result → length name.now ≤ length text.now }
+{
+    match text.strip_prefix(name) {
+        Some(behind) => plain_len(behind) == 0,
+        None => false,
+    }
+}
+
+/// How long the name is that stands first in a text, among these.
+fn first_name(names: &[&[u8]], text: &[u8]) -> Option<usize>
+    ensures value { result ≡ option_map length (find (stands_first text.now) (map (λ name. name.now) names.now)) }
+    ensures within { IfSome result (λ len. len ≤ length text.now) }
+{
+    for name in names {
+        if stands_first(text, name) {
+            return Some(name.len());
+        }
+    }
+    None
+}
+
+/// Where a name of a protocol ends that has a `-` in it and stands first in a text.
+#[tactic(auto, unfolding(crate::specs::IntervalsRead::dashed_end, crate::specs::IntervalsRead::dashed_names))]
+fn dashed_end(text: &[u8]) -> Option<usize>
+    ensures value { result ≡ dashed_end text.now }
+    ensures within { IfSome result (λ end. end ≤ length text.now) }
+{
+    first_name(&DASHED, text)
+}
+
+/// Where the first value of a text ends: behind a protocol's name that has a `-` in it, or before the first
+/// `-` or `/`.
 #[tactic(auto, unfolding(crate::specs::IntervalsRead::first_end))]
-fn first_end(text: &[u8]) -> usize
-    ensures value { result ≡ first_end text.now }
+fn first_end(kind: Kind, text: &[u8]) -> usize
+    ensures value { result ≡ first_end kind text.now }
     ensures within { result ≤ length text.now }
 {
-    let name = name_len(text);
-    name + plain_len(&text[name..])
+    if kind == Kind::Proto {
+        if let Some(end) = dashed_end(text) {
+            return end;
+        }
+    }
+    plain_len(text)
 }
 
 /// The block of the values that share the first bits with a value.
@@ -108,7 +145,7 @@ fn interval_behind(kind: Kind, value: u128, behind: &[u8]) -> Option<Interval>
 fn parse_interval(kind: Kind, text: &[u8]) -> Option<Interval>
     ensures { result ≡ interval_of kind text.now }
 {
-    let end = first_end(text);
+    let end = first_end(kind, text);
     let value = parse_value(kind, &text[..end])?;
     interval_behind(kind, value, &text[end..])
 }

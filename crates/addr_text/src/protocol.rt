@@ -1,6 +1,6 @@
-ghost use Rattle.std.specs.Prelude.{ℕ, List, Some, codes, ◌⊎◌, ◌≢◌, ◌≡◌, ◌==◌, option_map, map, find, bytes_eq};
+ghost use Rattle.std.specs.Prelude.{ℕ, List, Some, Contains, ◌↔◌, ◌≢◌, ◌≡◌, ◌==◌, option_map, map, find, bytes_eq};
 ghost use Rattle.std.specs.Option.{option_copied};
-ghost use Rattle.addr_text.specs.Protocols.{IsProtocolName, number_in, protocol_number, protocol_name};
+ghost use Rattle.addr_text.specs.Protocols.{written_protocols, other_protocols, IsProtocolName, number_in, protocol_number, protocol_name};
 
 /// A protocol over IP that has a name.
 #[derive(Clone, Copy)]
@@ -9,9 +9,8 @@ struct Protocol {
     number: u8,
 }
 
-/// The protocols that have a name (nft(8), the type `inet_proto`). `icmpv6` is a second name of
-/// `ipv6-icmp`: it stands last, so that it is read and never written.
-const PROTOCOLS: [Protocol; 12] = [
+/// The protocols that are written by name (nft(8), the type `inet_proto`).
+const WRITTEN: [Protocol; 11] = [
     Protocol {
         name: b"icmp",
         number: 1,
@@ -56,9 +55,194 @@ const PROTOCOLS: [Protocol; 12] = [
         name: b"udplite",
         number: 136,
     },
+];
+
+/// The names that are read and not written: `icmpv6`, as nft has it, and all others of `/etc/protocols` as
+/// Debian's netbase has it.
+const OTHER: [Protocol; 46] = [
+    Protocol {
+        name: b"ip",
+        number: 0,
+    },
+    Protocol {
+        name: b"hopopt",
+        number: 0,
+    },
+    Protocol {
+        name: b"ggp",
+        number: 3,
+    },
+    Protocol {
+        name: b"ipencap",
+        number: 4,
+    },
+    Protocol {
+        name: b"st",
+        number: 5,
+    },
+    Protocol {
+        name: b"egp",
+        number: 8,
+    },
+    Protocol {
+        name: b"igp",
+        number: 9,
+    },
+    Protocol {
+        name: b"pup",
+        number: 12,
+    },
+    Protocol {
+        name: b"hmp",
+        number: 20,
+    },
+    Protocol {
+        name: b"xns-idp",
+        number: 22,
+    },
+    Protocol {
+        name: b"rdp",
+        number: 27,
+    },
+    Protocol {
+        name: b"iso-tp4",
+        number: 29,
+    },
+    Protocol {
+        name: b"xtp",
+        number: 36,
+    },
+    Protocol {
+        name: b"ddp",
+        number: 37,
+    },
+    Protocol {
+        name: b"idpr-cmtp",
+        number: 38,
+    },
+    Protocol {
+        name: b"ipv6",
+        number: 41,
+    },
+    Protocol {
+        name: b"ipv6-route",
+        number: 43,
+    },
+    Protocol {
+        name: b"ipv6-frag",
+        number: 44,
+    },
+    Protocol {
+        name: b"idrp",
+        number: 45,
+    },
+    Protocol {
+        name: b"rsvp",
+        number: 46,
+    },
+    Protocol {
+        name: b"skip",
+        number: 57,
+    },
     Protocol {
         name: b"icmpv6",
         number: 58,
+    },
+    Protocol {
+        name: b"ipv6-nonxt",
+        number: 59,
+    },
+    Protocol {
+        name: b"ipv6-opts",
+        number: 60,
+    },
+    Protocol {
+        name: b"rspf",
+        number: 73,
+    },
+    Protocol {
+        name: b"vmtp",
+        number: 81,
+    },
+    Protocol {
+        name: b"eigrp",
+        number: 88,
+    },
+    Protocol {
+        name: b"ospf",
+        number: 89,
+    },
+    Protocol {
+        name: b"ax.25",
+        number: 93,
+    },
+    Protocol {
+        name: b"ipip",
+        number: 94,
+    },
+    Protocol {
+        name: b"etherip",
+        number: 97,
+    },
+    Protocol {
+        name: b"encap",
+        number: 98,
+    },
+    Protocol {
+        name: b"pim",
+        number: 103,
+    },
+    Protocol {
+        name: b"ipcomp",
+        number: 108,
+    },
+    Protocol {
+        name: b"vrrp",
+        number: 112,
+    },
+    Protocol {
+        name: b"l2tp",
+        number: 115,
+    },
+    Protocol {
+        name: b"isis",
+        number: 124,
+    },
+    Protocol {
+        name: b"fc",
+        number: 133,
+    },
+    Protocol {
+        name: b"mobility-header",
+        number: 135,
+    },
+    Protocol {
+        name: b"mpls-in-ip",
+        number: 137,
+    },
+    Protocol {
+        name: b"manet",
+        number: 138,
+    },
+    Protocol {
+        name: b"hip",
+        number: 139,
+    },
+    Protocol {
+        name: b"shim6",
+        number: 140,
+    },
+    Protocol {
+        name: b"wesp",
+        number: 141,
+    },
+    Protocol {
+        name: b"rohc",
+        number: 142,
+    },
+    Protocol {
+        name: b"ethernet",
+        number: 143,
     },
 ];
 
@@ -82,25 +266,40 @@ fn name_in(table: &[Protocol], number: u8) -> Option<&'static [u8]>
         .map(|protocol| protocol.name)
 }
 
+fn written_number(name: &[u8]) -> Option<u8>
+    ensures { result ≡ number_in written_protocols name.now }
+{
+    number_in(&WRITTEN, name)
+}
+
+#[tactic(auto, unfolding(crate::specs::Protocols::other_protocols))]
+fn other_number(name: &[u8]) -> Option<u8>
+    ensures { result ≡ number_in other_protocols name.now }
+{
+    number_in(&OTHER, name)
+}
+
 /// The number of the protocol with this name.
 pub(crate) fn protocol_number(name: &[u8]) -> Option<u8>
     ensures { result ≡ protocol_number name.now }
 {
-    number_in(&PROTOCOLS, name)
+    match written_number(name) {
+        Some(number) => Some(number),
+        None => other_number(name),
+    }
 }
 
-/// The name of the protocol with this number, where it has one.
+/// The name that is written of the protocol with this number, where one is.
 pub(crate) fn protocol_name(number: u8) -> Option<&'static [u8]>
     ensures { option_copied result ≡ protocol_name number }
 {
-    name_in(&PROTOCOLS, number)
+    name_in(&WRITTEN, number)
 }
 
-/// No name stands for two protocols, and no protocol has two names but `ipv6-icmp`, whose second name
-/// `icmpv6` is never written.
+/// No name stands for two protocols. Of a protocol one name is written, and a name that is only read
+/// never is.
 pub fn protocol_names_law()
     ensures names { (name : List ℕ) → (m n : ℕ) → IsProtocolName name m → IsProtocolName name n → m ≡ n }
-    ensures numbers { (name other : List ℕ) → (n : ℕ) → IsProtocolName name n → IsProtocolName other n
-        → (name ≡ other) ⊎ ((name ≡ codes "icmpv6") ⊎ (other ≡ codes "icmpv6")) }
-    ensures written { (n : ℕ) → protocol_name n ≢ Some (codes "icmpv6") }
+    ensures written { (name : List ℕ) → (n : ℕ) → (protocol_name n ≡ Some name) ↔ Contains written_protocols (name, n) }
+    ensures only_read { (name : List ℕ) → (m n : ℕ) → Contains other_protocols (name, m) → protocol_name n ≢ Some name }
 {}

@@ -134,11 +134,11 @@ fn read_ipv6(text: &[u8]) -> Option<u128>
 }
 
 fn read_protocol(text: &[u8]) -> Option<u64>
-    ensures { result ≡ option_or (protocol_number text.now) (number_of 255 text.now) }
+    ensures { result ≡ option_or (number_of 255 text.now) (protocol_number text.now) }
 {
-    match protocol_number(text) {
-        Some(number) => Some(u64::from(number)),
-        None => read_number(text, 255),
+    match read_number(text, 255) {
+        Some(number) => Some(number),
+        None => protocol_number(text).map(u64::from),
     }
 }
 

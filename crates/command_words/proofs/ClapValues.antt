@@ -1,12 +1,11 @@
 -- What the words of a command are to `clap`.
-use Rattle.std.proofs.Common.{◌≡◌, refl, sym, ◌∙◌, ap, subst, ℕ, zero, suc, ◌+◌, ◌≤◌, ◌==◌, Bool, true, false, not, cond, ◌||◌, ◌&&◌, List, [], ◌∷◌, ◌++◌, fold, find, slice_get, length, codes, Option, Some, None, is_some, true≢false, arith, append-nil}
+use Rattle.std.proofs.Common.{◌≡◌, refl, sym, ◌∙◌, ap, subst, ℕ, ◌+◌, ◌≤◌, ◌==◌, Bool, true, false, not, cond, ◌||◌, ◌&&◌, List, [], ◌∷◌, ◌++◌, fold, find, slice_get, length, codes, Option, Some, None, is_some, true≢false, arith, append-nil}
 use Rattle.std.specs.Prelude.{IfSome, bytes_eq, option_map, option_and_then}
 use Rattle.std.specs.List.{list_any}
-use Rattle.std.specs.Option.{option_or}
 use Rattle.clap.specs.declared.builder.value_parser.Reading.{Reading}
 use Rattle.clap.specs.declared.parser.matches.ValueSource.{ValueSource}
 use Rattle.clap.specs.declared.parser.matches.ValueSource.TheVariants.{DefaultValue, CommandLine}
-use Rattle.clap.specs.Walk.{reading_by, Row, Rule, Text, Held, Walk, idle, option, walked, to_positional, arg_by_index, first_of, one_of, nothing_held, finished, reacted, settled, rows_of, used, at_row, more_values, positional_held, is_pending, takes_several, pushed, with_values, without, has_row, row_text}
+use Rattle.clap.specs.Walk.{reading_by, Row, Rule, Text, Held, Walk, idle, option, walked, to_positional, arg_by_index, first_of, one_of, nothing_held, finished, reacted, settled, rows_of, at_row, more_values, is_pending, pushed, with_values, without, has_row, row_text}
 use Rattle.clap.specs.Simple.{App, HasMatchesOf, built, filled, with_index, is_simple, matches_of, new_app, new_rule, on_top, with_rule}
 use Rattle.clap.specs.declared.builder.action.ArgAction.TheVariants.{SetTrue}
 use Rattle.clap.proofs.OnLiterals.{clap_on_literals}
@@ -22,6 +21,9 @@ first = new_rule (codes "first")
 abbrev second : Rule
 second = new_rule (codes "second")
 
+abbrev third : Rule
+third = new_rule (codes "third")
+
 abbrev pub threads_rule : Rule
 threads_rule = record (new_rule (codes "threads")) { long = Some (codes "threads") }
 
@@ -29,7 +31,7 @@ abbrev pub keep_going_rule : Rule
 keep_going_rule = record (new_rule (codes "keep-going")) { long = Some (codes "keep-going"); action = Some SetTrue }
 
 abbrev pub program : App
-program = with_rule (with_rule (with_rule (with_rule (on_top (λ s. record s { disable_help_flag = true }) (new_app (codes "pipapo"))) first) second) threads_rule) keep_going_rule
+program = with_rule (with_rule (with_rule (with_rule (with_rule (on_top (λ s. record s { disable_help_flag = true }) (new_app (codes "pipapo"))) first) second) third) threads_rule) keep_going_rule
 
 abbrev rules : List Rule
 rules = (built program).top.rules
@@ -80,7 +82,7 @@ count-step (b ∷ c ∷ bs) h position e = go (b == 45) refl e where
   go false eq f = rw (eq, eq) refl
 
 abbrev marked : Held → Held
-marked h = reacted rules (with_index 3 (filled keep_going_rule)) [] h
+marked h = reacted rules (with_index 4 (filled keep_going_rule)) [] h
 
 mark-step : (h : Held) (position : ℕ) → walked rules [] (between h position) keep_going_word ≡ between (marked h) position
 unfolding clap_on_literals
@@ -139,6 +141,7 @@ mark_found false = None
 record Finds (rows : List Row) (names : List Text) (threads : Option Text) (keep_going : Bool) : Type 0 where
   first_is : find (is_of (codes "first")) rows ≡ option_map (name_row first) (slice_get names 0)
   second_is : find (is_of (codes "second")) rows ≡ option_map (name_row second) (slice_get names 1)
+  third_is : find (is_of (codes "third")) rows ≡ option_map (name_row third) (slice_get names 2)
   threads_are : find (is_of (codes "threads")) rows ≡ option_map (name_row threads_rule) threads
   mark_is : find (is_of (codes "keep-going")) rows ≡ mark_found keep_going
 
@@ -161,12 +164,19 @@ second-taken h w = go (is_pending (with_index 2 (filled second)) h.pending) wher
   go true = refl
   go false = refl
 
+third-taken : (h : Held) (w : Text) → to_positional rules (arg_by_index rules 3) w (between h 3) h ≡ between (taken (codes "third") h w) 4
+third-taken h w = go (is_pending (with_index 3 (filled third)) h.pending) where
+  go : (b : Bool) → between (pushed (codes "third") w (cond (b && false) h (settled rules h))) 4 ≡ between (taken (codes "third") h w) 4
+  go true = refl
+  go false = refl
+
 -- The rows with one argument more.
 module _ (rows : List Row) where
   finds-first : (w : Text) (threads : Option Text) (goes : Bool) → Finds rows [] threads goes → Finds (rows ++ name_row first w ∷ []) (w ∷ []) threads goes
   finds-first w threads goes f = record {
     first_is = found-new _ rows _ f.first_is refl;
     second_is = found-old _ rows _ refl ∙ f.second_is;
+    third_is = found-old _ rows _ refl ∙ f.third_is;
     threads_are = found-old _ rows _ refl ∙ f.threads_are;
     mark_is = found-old _ rows _ refl ∙ f.mark_is;
   }
@@ -175,6 +185,16 @@ module _ (rows : List Row) where
   finds-second v w threads goes f = record {
     first_is = found-old _ rows _ refl ∙ f.first_is;
     second_is = found-new _ rows _ f.second_is refl;
+    third_is = found-old _ rows _ refl ∙ f.third_is;
+    threads_are = found-old _ rows _ refl ∙ f.threads_are;
+    mark_is = found-old _ rows _ refl ∙ f.mark_is;
+  }
+
+  finds-third : (u v w : Text) (threads : Option Text) (goes : Bool) → Finds rows (u ∷ v ∷ []) threads goes → Finds (rows ++ name_row third w ∷ []) (u ∷ v ∷ w ∷ []) threads goes
+  finds-third u v w threads goes f = record {
+    first_is = found-old _ rows _ refl ∙ f.first_is;
+    second_is = found-old _ rows _ refl ∙ f.second_is;
+    third_is = found-new _ rows _ f.third_is refl;
     threads_are = found-old _ rows _ refl ∙ f.threads_are;
     mark_is = found-old _ rows _ refl ∙ f.mark_is;
   }
@@ -183,6 +203,7 @@ module _ (rows : List Row) where
   finds-threads names w goes f = record {
     first_is = found-old _ rows _ refl ∙ f.first_is;
     second_is = found-old _ rows _ refl ∙ f.second_is;
+    third_is = found-old _ rows _ refl ∙ f.third_is;
     threads_are = found-new _ rows _ f.threads_are refl;
     mark_is = found-old _ rows _ refl ∙ f.mark_is;
   }
@@ -191,6 +212,7 @@ module _ (rows : List Row) where
   finds-mark names threads f = record {
     first_is = found-old _ rows _ refl ∙ f.first_is;
     second_is = found-old _ rows _ refl ∙ f.second_is;
+    third_is = found-old _ rows _ refl ∙ f.third_is;
     threads_are = found-old _ rows _ refl ∙ f.threads_are;
     mark_is = found-new _ rows _ f.mark_is refl;
   }
@@ -226,7 +248,7 @@ finds-of rows now names threads goes same f = subst (λ (r : List Row). Finds r 
 
 -- The walk over arguments holds them, behind those that it held before.
 through : (ws names : List Text) (threads : Option Text) (goes : Bool) → AreArguments ws names threads goes → (before : List Text) (t : Option Text) (g : Bool) (h : Held)
-    → length before + length names ≤ 2 → Plain threads → (is_some threads ≡ true → t ≡ None) → (goes ≡ true → g ≡ false) → Finds (held_rows h) before t g
+    → length before + length names ≤ 3 → Plain threads → (is_some threads ≡ true → t ≡ None) → (goes ≡ true → g ≡ false) → Finds (held_rows h) before t g
     → Holds (fold (walked rules []) (between h (1 + length before)) ws) (before ++ names) (either t threads) (g || goes)
 through ws names threads goes no_words before t g h few plain once mark f = record {
   held = h;
@@ -242,7 +264,11 @@ through ws names threads goes (name_and {word = word} {rest = rest} {names = mor
     onward rest (v ∷ word ∷ more) (either t threads) (g || goes) _ (between (taken (codes "second") h word) 3) (name-step word h 2 e ∙ second-taken h word)
     (through rest more threads goes a (v ∷ word ∷ []) t g (taken (codes "second") h word) (omega (arith, few)) plain once mark
     (finds-of _ _ (v ∷ word ∷ []) t g (first-use (codes "second") (reading_by (filled second)) CommandLine (word ∷ []) (held_rows h) f.second_is) (finds-second (held_rows h) v word t g f)))
-through ws names threads goes (name_and e a) (v ∷ w ∷ before) t g h few plain once mark f = absurd (omega (arith, few))
+through ws names threads goes (name_and {word = word} {rest = rest} {names = more} e a) (u ∷ v ∷ []) t g h few plain once mark f =
+    onward rest (u ∷ v ∷ word ∷ more) (either t threads) (g || goes) _ (between (taken (codes "third") h word) 4) (name-step word h 3 e ∙ third-taken h word)
+    (through rest more threads goes a (u ∷ v ∷ word ∷ []) t g (taken (codes "third") h word) (omega (arith, few)) plain once mark
+    (finds-of _ _ (u ∷ v ∷ word ∷ []) t g (first-use (codes "third") (reading_by (filled third)) CommandLine (word ∷ []) (held_rows h) f.third_is) (finds-third (held_rows h) u v word t g f)))
+through ws names threads goes (name_and e a) (u ∷ v ∷ w ∷ before) t g h few plain once mark f = absurd (omega (arith, few))
 through ws names threads goes (threads_and {count = count} {rest = rest} a) before None g h few plain once mark f =
     onward rest (before ++ names) (Some count) (g || goes) _ (between (counted h count) (1 + length before)) (ap (λ (at : Walk). walked rules [] at count) (threads-step h (1 + length before)) ∙ count-step count h (1 + length before) plain)
     (through rest names None goes a before (Some count) g (counted h count) few tt (λ e. absurd (true≢false (sym e))) mark
@@ -258,6 +284,7 @@ through ws names threads goes (mark_and a) before t true h few plain once mark f
 record GivesRows (rows : List Row) (names : List Text) (threads : Option Text) (goes : Bool) : Type 0 where
   first_is : first_of (codes "first") rows ≡ slice_get names 0
   second_is : first_of (codes "second") rows ≡ slice_get names 1
+  third_is : first_of (codes "third") rows ≡ slice_get names 2
   threads_are : first_of (codes "threads") rows ≡ threads
   mark_is : one_of (codes "keep-going") rows ≡ Some (cond goes (codes "true") (codes "false"))
 
@@ -283,6 +310,7 @@ with-default rows names threads goes f = go goes f (any-found (is_of (codes "kee
       rw there (record {
         first_is = ap (option_and_then (λ (r : Row). slice_get r.values 0)) f.first_is ∙ value-of first (slice_get names 0);
         second_is = ap (option_and_then (λ (r : Row). slice_get r.values 0)) f.second_is ∙ value-of second (slice_get names 1);
+        third_is = ap (option_and_then (λ (r : Row). slice_get r.values 0)) f.third_is ∙ value-of third (slice_get names 2);
         threads_are = ap (option_and_then (λ (r : Row). slice_get r.values 0)) f.threads_are ∙ value-of threads_rule threads;
         mark_is = ap (option_and_then row_text) f.mark_is;
       })
@@ -292,6 +320,7 @@ with-default rows names threads goes f = go goes f (any-found (is_of (codes "kee
       rw (missing, more) (record {
         first_is = ap (option_and_then (λ (r : Row). slice_get r.values 0)) (found-old _ rows default_row refl ∙ f.first_is) ∙ value-of first (slice_get names 0);
         second_is = ap (option_and_then (λ (r : Row). slice_get r.values 0)) (found-old _ rows default_row refl ∙ f.second_is) ∙ value-of second (slice_get names 1);
+        third_is = ap (option_and_then (λ (r : Row). slice_get r.values 0)) (found-old _ rows default_row refl ∙ f.third_is) ∙ value-of third (slice_get names 2);
         threads_are = ap (option_and_then (λ (r : Row). slice_get r.values 0)) (found-old _ rows default_row refl ∙ f.threads_are) ∙ value-of threads_rule threads;
         mark_is = ap (option_and_then row_text) (found-new _ rows default_row f.mark_is refl);
       })
@@ -300,11 +329,12 @@ ends : (h : Held) (names : List Text) (threads : Option Text) (goes : Bool) → 
 ends h names threads goes f =
     let one = no-default (has_row (codes "first") (held_rows h)) (held_rows h) in
     let two = no-default (has_row (codes "second") (held_rows h)) (held_rows h) in
-    let three = no-default (has_row (codes "threads") (held_rows h)) (held_rows h) in
-    rw (one, two, three) (with-default (held_rows h) names threads goes f)
+    let three = no-default (has_row (codes "third") (held_rows h)) (held_rows h) in
+    let four = no-default (has_row (codes "threads") (held_rows h)) (held_rows h) in
+    rw (one, two, three, four) (with-default (held_rows h) names threads goes f)
 
 nothing-found : Finds [] [] None false
-nothing-found = record { first_is = refl; second_is = refl; threads_are = refl; mark_is = refl }
+nothing-found = record { first_is = refl; second_is = refl; third_is = refl; threads_are = refl; mark_is = refl }
 
 -- Of the words of a command `clap` gives its values.
 pub gives-values : (words : List Text) (word : Text) (names : List Text) (threads : Option Text) (goes : Bool) (m : ArgMatches) → HasMatchesOf program words m → AreWords words word names threads goes → ArePlain names threads → HasValues (found_of m) names threads goes
@@ -316,6 +346,7 @@ gives-values words word names threads goes m matches said plain =
     let given = subst (λ (r : List Row). GivesRows r names threads goes) (sym found) (ends held.held names threads goes held.finds) in record {
       first = first_value-rows (found_of m) (codes "first") ∙ given.first_is;
       second = first_value-rows (found_of m) (codes "second") ∙ given.second_is;
+      third = first_value-rows (found_of m) (codes "third") ∙ given.third_is;
       threads_are = first_value-rows (found_of m) (codes "threads") ∙ given.threads_are;
       mark = one_text-rows (found_of m) (codes "keep-going") ∙ given.mark_is;
     }

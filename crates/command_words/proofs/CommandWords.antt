@@ -1,6 +1,6 @@
 -- The shape of a command's words, and that the words are one command at most.
-use Rattle.std.proofs.Common.{◌≡◌, refl, sym, ◌∙◌, ap, subst, ℕ, zero, suc, ◌+◌, ◌<◌, ◌≤◌, ◌^◌, Bool, true, false, not, cond, ◌&&◌, List, [], ◌∷◌, length, fold, map, drop, codes, decimal, Option, Some, None, Result, Ok, is_some, arith, true≢false, ◌⊎◌, inl, inr, lit≤, ne_eqb, get_or, le-leb, leb-true, eqb-true, eq-eqb}
-use Rattle.std.specs.Prelude.{nat_le, nat_lt, bytes_eq, ◌==◌, IfSome}
+use Rattle.std.proofs.Common.{◌≡◌, refl, sym, ◌∙◌, ap, subst, ℕ, suc, ◌+◌, ◌<◌, ◌≤◌, ◌^◌, Bool, true, false, not, cond, ◌&&◌, List, [], ◌∷◌, length, fold, map, drop, codes, decimal, Option, Some, None, Result, Ok, is_some, arith, true≢false, ne_eqb, get_or, le-leb, leb-true, eqb-true, eq-eqb}
+use Rattle.std.specs.Prelude.{nat_le, bytes_eq, ◌==◌, IfSome}
 use Rattle.std.specs.Bool.{then_some}
 use Rattle.std.specs.List.{count_by}
 use Rattle.std.specs.Str.Parse.{digits_value, ParsesUnsigned}
@@ -10,10 +10,10 @@ use Rattle.std.proofs.lemmas.List.Sums.{sum_by-cons}
 use Rattle.std.proofs.lemmas.Slice.Eq.{bytes_eq-Decides}
 use Rattle.std.proofs.lemmas.Str.Parse.{digit_at}
 use Rattle.command_words.specs.declared.shape.Verb.{Verb}
-use Rattle.command_words.specs.declared.shape.Verb.TheVariants.{Run, List as Lists, Dump, Drill}
+use Rattle.command_words.specs.declared.shape.Verb.TheVariants.{Run, List as Lists, Dump, Drill, Judge, Capture}
 use Rattle.command_words.specs.declared.shape.Shape.{Shape}
-use Rattle.command_words.specs.Words.{stdin_name, verb_word, NameStdinOnce, IsNumber, AreThreads, AreWords, Command, run, list, dump, drill, IsCommand, AreArguments, no_words, name_and, threads_and, mark_and, is_name, threads_word, keep_going_word, last_seed, most_elements}
-use Rattle.command_words.specs.WordForms.{verb_of, name_count, is_whole, begun, has_shape, is_stdin, stdin_once, fits, HasVerb, number_in, drill_number, is_name_of, takes_name, takes_threads, takes_mark, with_threads, with_argument, with_word, after}
+use Rattle.command_words.specs.Words.{stdin_name, is_stdin, verb_word, IsNumber, AreThreads, AreWords, ArePacketWords, Command, run, list, dump, drill, judge, capture, IsCommand, AreArguments, no_words, name_and, threads_and, mark_and, is_name, threads_word, keep_going_word, last_seed, most_elements}
+use Rattle.command_words.specs.WordForms.{verb_of, name_count, is_whole, begun, stdin_once, fits, HasVerb, number_in, takes_name, takes_threads, takes_mark, with_threads, with_argument, with_word, after}
 
 both : (a b : Bool) → (a && b) ≡ true → (a ≡ true) × (b ≡ true)
 both true b e = (refl, e)
@@ -132,6 +132,8 @@ name-of-command : (verb : Verb) (place : ℕ) (word : List ℕ) → takes_name v
 name-of-command Run place word e = (both _ _ e).1
 name-of-command Lists place word e = (both _ _ e).1
 name-of-command Dump place word e = (both _ _ e).1
+name-of-command Judge place word e = (both _ _ e).1
+name-of-command Capture place word e = (both _ _ e).1
 name-of-command Drill place word e = go (place == 0) (both _ _ e).1 where
   go : (b : Bool) → is_some (cond b (number_in 0 last_seed word) (number_in 1 most_elements word)) ≡ true → is_name word ≡ true
   go true f = number-name 0 last_seed word (omega arith) f
@@ -301,17 +303,6 @@ one-once a = go (is_stdin a) refl where
   go true e = rw e refl
   go false e = rw e refl
 
-two-once : (a b : List ℕ) → NameStdinOnce a b → stdin_once (a ∷ b ∷ []) ≡ true
-two-once a b once = go (is_stdin a) (is_stdin b) refl refl where
-  go : (x y : Bool) → is_stdin a ≡ x → is_stdin b ≡ y → stdin_once (a ∷ b ∷ []) ≡ true
-  go true true e f = absurd (once (same-bytes a stdin_name e) (same-bytes b stdin_name f))
-  go true false e f = rw (e, f) refl
-  go false true e f = rw (e, f) refl
-  go false false e f = rw (e, f) refl
-
-once-of-two : (a b : List ℕ) → stdin_once (a ∷ b ∷ []) ≡ true → NameStdinOnce a b
-once-of-two a b h e f = let twice : stdin_once (stdin_name ∷ stdin_name ∷ []) ≡ true = rw (e, f) at h in true≢false (sym twice)
-
 numbers-once : (low high k m : ℕ) (a b : List ℕ) (x y : ℕ) → high < 2 ^ 64 → m < 2 ^ 64 → IsNumber low high a x → IsNumber k m b y → stdin_once (a ∷ b ∷ []) ≡ true
 numbers-once low high k m a b x y small little h j = rw (number-no-stdin low high a x small h, number-no-stdin k m b y little j) refl
 
@@ -328,31 +319,30 @@ module _ (rest : List (List ℕ)) (threads : Option (List ℕ)) (keep_going : Bo
   said : (first : List ℕ) (names : List (List ℕ)) → AreArguments rest names threads keep_going → AreWords (first ∷ rest) first names threads keep_going
   said first names a = record { rest = rest; words_are = refl; arguments = a }
 
+  -- arguments with packet threads
+  packet-words : (verb : Verb) (names : List (List ℕ)) → AreArguments rest names threads keep_going → ThreadsFit verb false threads → stdin_once rest ≡ true → (n : ℕ) × ArePacketWords (verb_word verb ∷ rest) (verb_word verb) names n keep_going
+  packet-words verb names a ts once =
+      let n = count-of threads verb false ts in
+      let same = stdin-of-arguments rest names threads keep_going a (threads-no-stdin threads n.0 n.1) in
+      (n.0, (threads, said (verb_word verb) names a, n.1, leb-true _ _ (ap (λ k. nat_le k 1) (sym same) ∙ once)))
+
+  -- arguments without
+  lone-words : (verb : Verb) (names : List (List ℕ)) → takes_threads verb ≡ false → AreArguments rest names threads keep_going → ThreadsFit verb false threads → AreWords (verb_word verb ∷ rest) (verb_word verb) names None keep_going
+  lone-words verb names none a ts = subst (λ (o : Option (List ℕ)). AreWords (verb_word verb ∷ rest) (verb_word verb) names o keep_going) (no-threads verb threads none ts) (said (verb_word verb) names a)
+
   -- the command of arguments that fit a verb
   by-verb : (verb : Verb) (names : List (List ℕ)) → AreArguments rest names threads keep_going → NamesFit verb 0 names → ThreadsFit verb false threads → MarkFits verb false keep_going → length names ≡ name_count verb → stdin_once rest ≡ true → HasVerb (verb_word verb ∷ rest) verb
-  by-verb Run (script ∷ keys ∷ []) a ns ts gs count once =
-      let n = count-of threads Run false ts in
-      let same = stdin-of-arguments rest (script ∷ keys ∷ []) threads keep_going a (threads-no-stdin threads n.0 n.1) in
-      (run script keys n.0 keep_going, (threads, said (codes "run") (script ∷ keys ∷ []) a, n.1, once-of-two script keys (ap (λ k. nat_le k 1) (sym same) ∙ once)), refl)
-  by-verb Lists (script ∷ []) a ns ts gs count once =
-      (list script keep_going, subst (λ (o : Option (List ℕ)). AreWords (codes "list" ∷ rest) (codes "list") (script ∷ []) o keep_going) (no-threads Lists threads refl ts) (said (codes "list") (script ∷ []) a), refl)
-  by-verb Dump (script ∷ []) a ns ts gs count once =
-      (dump script keep_going, subst (λ (o : Option (List ℕ)). AreWords (codes "dump" ∷ rest) (codes "dump") (script ∷ []) o keep_going) (no-threads Dump threads refl ts) (said (codes "dump") (script ∷ []) a), refl)
+  by-verb Run (script ∷ keys ∷ []) a ns ts gs count once = let k = packet-words Run (script ∷ keys ∷ []) a ts once in (run script keys k.0 keep_going, k.1, refl)
+  by-verb Lists (script ∷ []) a ns ts gs count once = (list script keep_going, lone-words Lists (script ∷ []) refl a ts, refl)
+  by-verb Dump (script ∷ []) a ns ts gs count once = (dump script keep_going, lone-words Dump (script ∷ []) refl a ts, refl)
   by-verb Drill (seed ∷ count ∷ []) a ns ts gs _ once =
       let s = number-of 0 last_seed seed ns.0 in
       let c = number-of 1 most_elements count ns.1.0 in
       let n = count-of threads Drill false ts in
       (drill s.0 c.0 n.0, (threads, seed, count, subst (λ (b : Bool). AreWords (codes "drill" ∷ rest) (codes "drill") (seed ∷ count ∷ []) threads b) (no-mark Drill keep_going refl gs) (said (codes "drill") (seed ∷ count ∷ []) a), s.1, c.1, n.1), refl)
-  by-verb Run [] a ns ts gs count once = absurd (omega (arith, count))
-  by-verb Run (x ∷ []) a ns ts gs count once = absurd (omega (arith, count))
-  by-verb Run (x ∷ y ∷ z ∷ names) a ns ts gs count once = absurd (omega (arith, count))
-  by-verb Lists [] a ns ts gs count once = absurd (omega (arith, count))
-  by-verb Lists (x ∷ y ∷ names) a ns ts gs count once = absurd (omega (arith, count))
-  by-verb Dump [] a ns ts gs count once = absurd (omega (arith, count))
-  by-verb Dump (x ∷ y ∷ names) a ns ts gs count once = absurd (omega (arith, count))
-  by-verb Drill [] a ns ts gs count once = absurd (omega (arith, count))
-  by-verb Drill (x ∷ []) a ns ts gs count once = absurd (omega (arith, count))
-  by-verb Drill (x ∷ y ∷ z ∷ names) a ns ts gs count once = absurd (omega (arith, count))
+  by-verb Judge (script ∷ rules ∷ keys ∷ []) a ns ts gs count once = let k = packet-words Judge (script ∷ rules ∷ keys ∷ []) a ts once in (judge script rules keys k.0 keep_going, k.1, refl)
+  by-verb Capture (script ∷ plan ∷ packets ∷ []) a ns ts gs count once = let k = packet-words Capture (script ∷ plan ∷ packets ∷ []) a ts once in (capture script plan packets k.0 keep_going, k.1, refl)
+  by-verb verb names a ns ts gs count once = absurd (omega (arith, count))
 
 -- Words of a command's shape are a command.
 pub command-of-shape : (verb : Verb) (rest : List (List ℕ)) → fits verb rest ≡ true → HasVerb (verb_word verb ∷ rest) verb
@@ -397,12 +387,24 @@ all-names rest names threads keep_going (mark_and {rest = ws} more) = all-names 
 names-of : {words names : List (List ℕ)} {first : List ℕ} {threads : Option (List ℕ)} {keep_going : Bool} → AreWords words first names threads keep_going → AllNames names
 names-of {names = names} {threads = threads} {keep_going = keep_going} a = all-names a.rest names threads keep_going a.arguments
 
+-- The words of a command have its shape, with packet threads and without.
+packet-shape : (word : List ℕ) (ws names : List (List ℕ)) (n : ℕ) (keep_going : Bool) (verb : Verb) → takes_threads verb ≡ true → takes_mark verb ≡ true → (AllNames names → NamesFit verb 0 names) → length names ≡ name_count verb
+    → ArePacketWords (word ∷ ws) (verb_word verb) names n keep_going → (word ≡ verb_word verb) × (fits verb ws ≡ true)
+packet-shape word ws names n keep_going verb threads mark fit count h =
+    shaped word ws names h.0 keep_going verb h.1 (fit (names-of h.1)) (threads-fit verb h.0 n threads h.2) (λ _. (mark, refl)) count (threads-no-stdin h.0 n h.2) (le-leb _ _ h.3)
+
+lone-shape : (word : List ℕ) (ws : List (List ℕ)) (script : List ℕ) (keep_going : Bool) (verb : Verb) → takes_mark verb ≡ true → (AllNames (script ∷ []) → NamesFit verb 0 (script ∷ [])) → 1 ≡ name_count verb
+    → AreWords (word ∷ ws) (verb_word verb) (script ∷ []) None keep_going → (word ≡ verb_word verb) × (fits verb ws ≡ true)
+lone-shape word ws script keep_going verb mark fit count h = shaped word ws (script ∷ []) None keep_going verb h (fit (names-of h)) tt (λ _. (mark, refl)) count tt (one-once script)
+
 -- A command's words have its shape.
 pub shape-of-command : (word : List ℕ) (ws : List (List ℕ)) (c : Command) → IsCommand (word ∷ ws) c → (word ≡ verb_word (verb_of c)) × (fits (verb_of c) ws ≡ true)
-shape-of-command word ws (run script keys n keep_going) h = shaped word ws _ h.0 keep_going Run h.1 (names-of h.1) (threads-fit Run h.0 n refl h.2) (λ _. (refl, refl)) refl (threads-no-stdin h.0 n h.2) (two-once script keys h.3)
-shape-of-command word ws (list script keep_going) h = shaped word ws _ None keep_going Lists h (names-of h) tt (λ _. (refl, refl)) refl tt (one-once script)
-shape-of-command word ws (dump script keep_going) h = shaped word ws _ None keep_going Dump h (names-of h) tt (λ _. (refl, refl)) refl tt (one-once script)
+shape-of-command word ws (run script keys n keep_going) h = packet-shape word ws (script ∷ keys ∷ []) n keep_going Run refl refl (λ all. all) refl h
+shape-of-command word ws (list script keep_going) h = lone-shape word ws script keep_going Lists refl (λ all. all) refl h
+shape-of-command word ws (dump script keep_going) h = lone-shape word ws script keep_going Dump refl (λ all. all) refl h
 shape-of-command word ws (drill seed count n) h = shaped word ws _ h.0 false Drill h.3 (writes 0 last_seed h.1 seed (omega arith) h.4, (writes 1 most_elements h.2 count (omega arith) h.5, tt)) (threads-fit Drill h.0 n refl h.6) (λ e. absurd (true≢false (sym e))) refl (threads-no-stdin h.0 n h.6) (numbers-once 0 last_seed 1 most_elements h.1 h.2 seed count (omega arith) (omega arith) h.4 h.5)
+shape-of-command word ws (judge script rules keys n keep_going) h = packet-shape word ws (script ∷ rules ∷ keys ∷ []) n keep_going Judge refl refl (λ all. all) refl h
+shape-of-command word ws (capture script plan packets n keep_going) h = packet-shape word ws (script ∷ plan ∷ packets ∷ []) n keep_going Capture refl refl (λ all. all) refl h
 
 -- what the first of a command's arguments is
 pub data Leads (word : List ℕ) (ws names : List (List ℕ)) (threads : Option (List ℕ)) (keep_going : Bool) : Type 0 where
@@ -458,7 +460,8 @@ same-threads (Some v) (Some w) m n e h k = same-number 1 16 v w m n (omega arith
 
 -- the verb of a word
 verb_named : List ℕ → Verb
-verb_named word = cond (bytes_eq word (codes "run")) Run (cond (bytes_eq word (codes "list")) Lists (cond (bytes_eq word (codes "dump")) Dump Drill))
+verb_named word = cond (bytes_eq word (codes "run")) Run (cond (bytes_eq word (codes "list")) Lists (cond (bytes_eq word (codes "dump")) Dump (cond (bytes_eq word (codes "drill")) Drill
+    (cond (bytes_eq word (codes "judge")) Judge Capture))))
 
 named-verb : (verb : Verb) → verb_named (verb_word verb) ≡ verb
 unfolding verb_named
@@ -466,12 +469,21 @@ named-verb Run = refl
 named-verb Lists = refl
 named-verb Dump = refl
 named-verb Drill = refl
+named-verb Judge = refl
+named-verb Capture = refl
 
 pub first-word : (words : List (List ℕ)) (c : Command) → IsCommand words c → (rest : List (List ℕ)) × (words ≡ verb_word (verb_of c) ∷ rest)
 first-word words (run script keys n g) h = (h.1.rest, h.1.words_are)
 first-word words (list script g) h = (h.rest, h.words_are)
 first-word words (dump script g) h = (h.rest, h.words_are)
 first-word words (drill seed count n) h = (h.3.rest, h.3.words_are)
+first-word words (judge script rules keys n g) h = (h.1.rest, h.1.words_are)
+first-word words (capture script plan packets n g) h = (h.1.rest, h.1.words_are)
+
+same-packet-words : (words : List (List ℕ)) (first other : List ℕ) (names ms : List (List ℕ)) (n m : ℕ) (keep_going g : Bool) → ArePacketWords words first names n keep_going → ArePacketWords words other ms m g → (names ≡ ms) × (n ≡ m) × (keep_going ≡ g)
+same-packet-words words first other names ms n m keep_going g h j =
+    let r = same-words words first other names ms h.0 j.0 keep_going g h.1 j.1 in
+    (r.1, same-threads h.0 j.0 n m r.2 h.2 j.2, r.3)
 
 -- The words are one command at most.
 pub one-command : (words : List (List ℕ)) (c d : Command) → IsCommand words c → IsCommand words d → c ≡ d
@@ -481,11 +493,22 @@ one-command words c d h j = one c d verb h j where
 
   one : (c d : Command) → verb_of c ≡ verb_of d → IsCommand words c → IsCommand words d → c ≡ d
   one (run s k n g) (run s' k' n' g') e h j =
-      let r = same-words words _ _ _ _ _ _ _ _ h.1 j.1 in
-      let script : s ≡ s' = cc r.1 in
-      let keys : k ≡ k' = cc r.1 in
-      let threads : n ≡ n' = same-threads h.0 j.0 n n' r.2 h.2 j.2 in
-      cc (script, keys, threads, r.3)
+      let r = same-packet-words words _ _ _ _ n n' g g' h j in
+      let script : s ≡ s' = cc r.0 in
+      let keys : k ≡ k' = cc r.0 in
+      cc (script, keys, r.1, r.2)
+  one (judge s f k n g) (judge s' f' k' n' g') e h j =
+      let r = same-packet-words words _ _ _ _ n n' g g' h j in
+      let script : s ≡ s' = cc r.0 in
+      let rules : f ≡ f' = cc r.0 in
+      let keys : k ≡ k' = cc r.0 in
+      cc (script, rules, keys, r.1, r.2)
+  one (capture s l p n g) (capture s' l' p' n' g') e h j =
+      let r = same-packet-words words _ _ _ _ n n' g g' h j in
+      let script : s ≡ s' = cc r.0 in
+      let plan : l ≡ l' = cc r.0 in
+      let packets : p ≡ p' = cc r.0 in
+      cc (script, plan, packets, r.1, r.2)
   one (list s g) (list s' g') e h j = let r = same-words words _ _ _ _ _ _ _ _ h j in let script : s ≡ s' = cc r.1 in cc (script, r.3)
   one (dump s g) (dump s' g') e h j = let r = same-words words _ _ _ _ _ _ _ _ h j in let script : s ≡ s' = cc r.1 in cc (script, r.3)
   one (drill s k n) (drill s' k' n') e h j =

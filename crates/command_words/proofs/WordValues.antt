@@ -1,11 +1,11 @@
 -- The command of the arguments that were found.
-use Rattle.std.proofs.Common.{◌≡◌, refl, sym, ◌∙◌, ap, subst, ℕ, Bool, false, true, cond, List, [], ◌∷◌, codes, slice_get, Option, Some, None, option_map, arith, rules}
+use Rattle.std.proofs.Common.{◌≡◌, ◌≤◌, sym, ◌∙◌, ap, subst, ℕ, Bool, false, true, cond, List, [], ◌∷◌, length, codes, slice_get, Option, Some, None, option_map, arith, rules}
 use Rattle.std.specs.Prelude.{IfSome, IsSome}
 use Rattle.std.specs.Borrow.{Bor}
 use Rattle.command_words.specs.declared.words.Arguments.{Arguments}
 use Rattle.command_words.specs.declared.shape.Verb.{Verb}
-use Rattle.command_words.specs.declared.shape.Verb.TheVariants.{Run, List as Lists, Dump, Drill}
-use Rattle.command_words.specs.Words.{NameStdinOnce, Command, run, list, dump, drill, IsCommand, AreWords, AreThreads, IsNumber, is_name, last_seed, most_elements}
+use Rattle.command_words.specs.declared.shape.Verb.TheVariants.{Run, List as Lists, Dump, Drill, Judge, Capture}
+use Rattle.command_words.specs.Words.{NameStdinOnce, Command, run, list, dump, drill, judge, capture, IsCommand, AreWords, ArePacketWords, AreThreads, IsNumber, is_name, last_seed, most_elements}
 use Rattle.command_words.specs.WordForms.{HasVerb, HasArguments, ArePlain, verb_of}
 use Rattle.command_words.proofs.CommandWords.{number-is-name}
 
@@ -20,16 +20,15 @@ Found = Option (Bor (List ℕ))
 abbrev text_of : Found → Option (List ℕ)
 text_of = option_map (λ w. w.now)
 
--- What a run's arguments are, a listing's or a dump's, and a drill's.
-pub record IsRunOf (words : List (List ℕ)) (a : Arguments) : Type 0 where
-  pub script : List ℕ
-  pub keys : List ℕ
+-- What the arguments of words with packet threads are, of words with a script alone, and of a drill.
+pub record IsPacketOf (words : List (List ℕ)) (a : Arguments) (word : List ℕ) (names : List (List ℕ)) : Type 0 where
   pub count : ℕ
-  pub first : text_of a.first ≡ Some script
-  pub second : text_of a.second ≡ Some keys
+  pub first : text_of a.first ≡ slice_get names 0
+  pub second : text_of a.second ≡ slice_get names 1
+  pub third : text_of a.third ≡ slice_get names 2
   pub threads_are : AreThreads (text_of a.threads) count
-  pub said : AreWords words (codes "run") (script ∷ keys ∷ []) (text_of a.threads) a.keep_going
-  pub once : NameStdinOnce script keys
+  pub said : AreWords words word names (text_of a.threads) a.keep_going
+  pub once : NameStdinOnce names
 
 pub record IsAloneOf (words : List (List ℕ)) (a : Arguments) (word : List ℕ) : Type 0 where
   pub script : List ℕ
@@ -49,11 +48,20 @@ pub record IsDrillOf (words : List (List ℕ)) (a : Arguments) : Type 0 where
   pub threads_are : AreThreads (text_of a.threads) count
   pub said : AreWords words (codes "drill") (seed_word ∷ count_word ∷ []) (text_of a.threads) false
 
+-- with two names, and with three
+abbrev pub IsPairOf : List (List ℕ) → Arguments → List ℕ → Type 0
+IsPairOf words a word = (script : List ℕ) × (other : List ℕ) × IsPacketOf words a word (script ∷ other ∷ [])
+
+abbrev pub IsTripleOf : List (List ℕ) → Arguments → List ℕ → Type 0
+IsTripleOf words a word = (script : List ℕ) × (other : List ℕ) × (last : List ℕ) × IsPacketOf words a word (script ∷ other ∷ last ∷ [])
+
 abbrev Of : List (List ℕ) → Arguments → Verb → Type 0
-Of words a Run = IsRunOf words a
+Of words a Run = IsPairOf words a (codes "run")
 Of words a Lists = IsAloneOf words a (codes "list")
 Of words a Dump = IsAloneOf words a (codes "dump")
 Of words a Drill = IsDrillOf words a
+Of words a Judge = IsTripleOf words a (codes "judge")
+Of words a Capture = IsTripleOf words a (codes "capture")
 
 module _ (words : List (List ℕ)) (a : Arguments) (given : (word : List ℕ) (names : List (List ℕ)) (threads : Option (List ℕ)) (keep_going : Bool) → AreWords words word names threads keep_going → ArePlain names threads → HasArguments a names threads keep_going) where
   with-mark : (word : List ℕ) (names : List (List ℕ)) (threads : Option (List ℕ)) (goes : Bool) → a.keep_going ≡ goes → AreWords words word names threads goes → AreWords words word names threads a.keep_going
@@ -67,18 +75,22 @@ module _ (words : List (List ℕ)) (a : Arguments) (given : (word : List ℕ) (n
       let k = given word (script ∷ []) None goes h (record { few = omega arith; no_dash = tt }) in
       record { script = script; first = k.first; said = with-mark word (script ∷ []) None goes k.mark h }
 
-  of-command : (c : Command) → IsCommand words c → Of words a (verb_of c)
-  of-command (run script keys n goes) h =
-      let k = given (codes "run") (script ∷ keys ∷ []) h.0 goes h.1 (record { few = omega arith; no_dash = plain-threads h.0 n h.2 }) in record {
-        script = script;
-        keys = keys;
+  packets : (word : List ℕ) (names : List (List ℕ)) (n : ℕ) (goes : Bool) → length names ≤ 3 → ArePacketWords words word names n goes → IsPacketOf words a word names
+  packets word names n goes few h =
+      let k = given word names h.0 goes h.1 (record { few = few; no_dash = plain-threads h.0 n h.2 }) in record {
         count = n;
         first = k.first;
         second = k.second;
+        third = k.third;
         threads_are = subst (λ (o : Option (List ℕ)). AreThreads o n) (sym k.threads_are) h.2;
-        said = with-threads (codes "run") (script ∷ keys ∷ []) h.0 a.keep_going k.threads_are (with-mark (codes "run") (script ∷ keys ∷ []) h.0 goes k.mark h.1);
+        said = with-threads word names h.0 a.keep_going k.threads_are (with-mark word names h.0 goes k.mark h.1);
         once = h.3;
       }
+
+  of-command : (c : Command) → IsCommand words c → Of words a (verb_of c)
+  of-command (run script keys n goes) h = (script, keys, packets (codes "run") (script ∷ keys ∷ []) n goes (omega arith) h)
+  of-command (judge script rules keys n goes) h = (script, rules, keys, packets (codes "judge") (script ∷ rules ∷ keys ∷ []) n goes (omega arith) h)
+  of-command (capture script plan file n goes) h = (script, plan, file, packets (codes "capture") (script ∷ plan ∷ file ∷ []) n goes (omega arith) h)
   of-command (list script goes) h = alone (codes "list") script goes h
   of-command (dump script goes) h = alone (codes "dump") script goes h
   of-command (drill seed elements n) h =
@@ -109,18 +121,31 @@ found-is : (o : Found) (w : Bor (List ℕ)) (word : List ℕ) → o ≡ Some w �
 found-is o w word e h = cc (ap text_of e, h)
 
 module _ (words : List (List ℕ)) (a : Arguments) where
-  -- Each command has a first name, and a run and a drill have a second.
+  -- Each command has a first name, and those with more have a second and a third.
   pub has-first : (verb : Verb) → Of words a verb → IsSome a.first
-  has-first Run of = there a.first of.script of.first
+  has-first Run of = there a.first of.0 of.2.first
   has-first Lists of = there a.first of.script of.first
   has-first Dump of = there a.first of.script of.first
   has-first Drill of = there a.first of.seed_word of.first
+  has-first Judge of = there a.first of.0 of.3.first
+  has-first Capture of = there a.first of.0 of.3.first
 
-  pub run-second : IsRunOf words a → IsSome a.second
-  run-second of = there a.second of.keys of.second
+  pub pair-second : (word : List ℕ) → IsPairOf words a word → IsSome a.second
+  pair-second word of = there a.second of.1 of.2.second
+
+  pub triple-second : (word : List ℕ) → IsTripleOf words a word → IsSome a.second
+  triple-second word of = there a.second of.1 of.3.second
+
+  pub triple-third : (word : List ℕ) → IsTripleOf words a word → IsSome a.third
+  triple-third word of = there a.third of.2 of.3.third
 
   pub drill-second : IsDrillOf words a → IsSome a.second
   drill-second of = there a.second of.count_word of.second
+
+  -- The words name what was found.
+  is-packet : (word : List ℕ) (n : ℕ) (names found : List (List ℕ)) → names ≡ found → AreThreads (text_of a.threads) n → IsPacketOf words a word names → ArePacketWords words word found n a.keep_going
+  is-packet word n names found same threads_are of =
+      (text_of a.threads, subst (λ (ws : List (List ℕ)). AreWords words word ws (text_of a.threads) a.keep_going) same of.said, threads_are, subst (λ (ws : List (List ℕ)). NameStdinOnce ws) same of.once)
 
   module _ (first : Bor (List ℕ)) (first_is : a.first ≡ Some first) where
     pub is-alone : (word : List ℕ) → IsAloneOf words a word → AreWords words word (first.now ∷ []) None a.keep_going
@@ -130,14 +155,18 @@ module _ (words : List (List ℕ)) (a : Arguments) where
     is-seed of = (of.seed, subst (λ (w : List ℕ). IsNumber 0 last_seed w of.seed) (found-is a.first first of.seed_word first_is of.first) of.seed_is)
 
     module _ (second : Bor (List ℕ)) (second_is : a.second ≡ Some second) where
-      pub is-run : (n : ℕ) → AreThreads (text_of a.threads) n → IsRunOf words a → IsCommand words (run first.now second.now n a.keep_going)
-      is-run n threads_are of = (
-        text_of a.threads,
-        subst (λ (s : List ℕ). AreWords words (codes "run") (first.now ∷ s ∷ []) (text_of a.threads) a.keep_going) (found-is a.second second of.keys second_is of.second)
-            (subst (λ (s : List ℕ). AreWords words (codes "run") (s ∷ of.keys ∷ []) (text_of a.threads) a.keep_going) (found-is a.first first of.script first_is of.first) of.said),
-        threads_are,
-        λ e f. of.once (found-is a.first first of.script first_is of.first ∙ e) (found-is a.second second of.keys second_is of.second ∙ f),
-      )
+      pub is-pair : (word : List ℕ) (n : ℕ) → AreThreads (text_of a.threads) n → IsPairOf words a word → ArePacketWords words word (first.now ∷ second.now ∷ []) n a.keep_going
+      is-pair word n threads_are of =
+          let script = found-is a.first first of.0 first_is of.2.first in
+          let other = found-is a.second second of.1 second_is of.2.second in
+          is-packet word n (of.0 ∷ of.1 ∷ []) (first.now ∷ second.now ∷ []) (cc (script, other)) threads_are of.2
+
+      pub is-triple : (word : List ℕ) (n : ℕ) (third : Bor (List ℕ)) → a.third ≡ Some third → AreThreads (text_of a.threads) n → IsTripleOf words a word → ArePacketWords words word (first.now ∷ second.now ∷ third.now ∷ []) n a.keep_going
+      is-triple word n third third_is threads_are of =
+          let script = found-is a.first first of.0 first_is of.3.first in
+          let other = found-is a.second second of.1 second_is of.3.second in
+          let last = found-is a.third third of.2 third_is of.3.third in
+          is-packet word n (of.0 ∷ of.1 ∷ of.2 ∷ []) (first.now ∷ second.now ∷ third.now ∷ []) (cc (script, other, last)) threads_are of.3
 
       pub is-count : (of : IsDrillOf words a) → (n : ℕ) × IsNumber 1 most_elements second.now n
       is-count of = (of.elements, subst (λ (w : List ℕ). IsNumber 1 most_elements w of.elements) (found-is a.second second of.count_word second_is of.second) of.elements_are)

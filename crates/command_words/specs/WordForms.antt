@@ -1,5 +1,5 @@
 -- How the words of a command are read: word by word by their shape, and then by the ids of their values.
-use Rattle.std.specs.Prelude.{◌≡◌, ℕ, ◌+◌, Bool, true, false, ◌==◌, ◌&&◌, not, List, [], ◌∷◌, fold, nat_le, nat_lt, if◌then◌else◌, codes, bytes_eq, decimal, is_some, Option, Some, None, slice_get, length, ◌≤◌, IfSome, IsTrue, option_map}
+use Rattle.std.specs.Prelude.{◌≡◌, ℕ, ◌+◌, Bool, true, false, ◌==◌, ◌&&◌, not, List, fold, nat_le, nat_lt, if◌then◌else◌, codes, bytes_eq, decimal, is_some, Option, Some, None, slice_get, length, ◌≤◌, IfSome, IsTrue, option_map}
 use Rattle.std.specs.Bool.{then_some}
 use Rattle.std.specs.List.{count_by}
 use Rattle.std.specs.Str.Parse.{digits_value}
@@ -15,8 +15,8 @@ use Rattle.command_words.specs.declared.words.Command.{Command as Asked}
 use Rattle.command_words.specs.declared.words.Command.TheVariants as asked
 use Rattle.command_words.specs.declared.page.Page.{Page}
 use Rattle.command_words.specs.declared.page.Page.TheVariants as pages
-use Rattle.command_words.specs.declared.help.TheConstants.{PROGRAM, RUN, LIST, DUMP, DRILL, VERSION}
-use Rattle.command_words.specs.Words.{Command, run, list, dump, drill, IsCommand, is_name, stdin_name, threads_word, keep_going_word, last_seed, most_elements}
+use Rattle.command_words.specs.declared.help.TheConstants.{PROGRAM, RUN, LIST, DUMP, DRILL, JUDGE, CAPTURE, VERSION}
+use Rattle.command_words.specs.Words.{Command, run, list, dump, drill, judge, capture, IsCommand, is_name, is_stdin, threads_word, keep_going_word, last_seed, most_elements}
 
 -- how many names a command has
 abbrev pub name_count : Verb → ℕ
@@ -24,6 +24,8 @@ name_count verbs.Run = 2
 name_count verbs.List = 1
 name_count verbs.Dump = 1
 name_count verbs.Drill = 2
+name_count verbs.Judge = 3
+name_count verbs.Capture = 3
 
 -- A command may have packet threads.
 abbrev pub takes_threads : Verb → Bool
@@ -31,6 +33,8 @@ takes_threads verbs.Run = true
 takes_threads verbs.List = false
 takes_threads verbs.Dump = false
 takes_threads verbs.Drill = true
+takes_threads verbs.Judge = true
+takes_threads verbs.Capture = true
 
 -- A command may keep going behind a refused change.
 abbrev pub takes_mark : Verb → Bool
@@ -38,6 +42,8 @@ takes_mark verbs.Run = true
 takes_mark verbs.List = true
 takes_mark verbs.Dump = true
 takes_mark verbs.Drill = false
+takes_mark verbs.Judge = true
+takes_mark verbs.Capture = true
 
 -- the number that a word writes, where it lies within bounds
 unfoldable pub number_in : ℕ → ℕ → List ℕ → Option ℕ
@@ -55,6 +61,8 @@ is_name_of verbs.Run place word = is_name word
 is_name_of verbs.List place word = is_name word
 is_name_of verbs.Dump place word = is_name word
 is_name_of verbs.Drill place word = is_some (drill_number place word)
+is_name_of verbs.Judge place word = is_name word
+is_name_of verbs.Capture place word = is_name word
 
 abbrev pub takes_name : Verb → ℕ → List ℕ → Bool
 takes_name verb place word = nat_lt place (name_count verb) && is_name_of verb place word
@@ -88,9 +96,6 @@ is_whole verb (Some s) = not s.waiting && (s.names == name_count verb)
 abbrev pub has_shape : Verb → List (List ℕ) → Bool
 has_shape verb rest = is_whole verb (fold (after verb) (Some begun) rest)
 
-abbrev pub is_stdin : List ℕ → Bool
-is_stdin word = bytes_eq word stdin_name
-
 -- The standard input is named once at most.
 abbrev pub stdin_once : List (List ℕ) → Bool
 stdin_once rest = nat_le (count_by is_stdin rest) 1
@@ -104,6 +109,8 @@ verb_of (run script keys threads keep_going) = verbs.Run
 verb_of (list script keep_going) = verbs.List
 verb_of (dump script keep_going) = verbs.Dump
 verb_of (drill seed count threads) = verbs.Drill
+verb_of (judge script rules keys threads keep_going) = verbs.Judge
+verb_of (capture script plan packets threads keep_going) = verbs.Capture
 
 -- The words are a command that does this.
 abbrev pub HasVerb : List (List ℕ) → Verb → Type 0
@@ -116,6 +123,8 @@ page_text (pages.Command verbs.Run) = RUN.now
 page_text (pages.Command verbs.List) = LIST.now
 page_text (pages.Command verbs.Dump) = DUMP.now
 page_text (pages.Command verbs.Drill) = DRILL.now
+page_text (pages.Command verbs.Judge) = JUDGE.now
+page_text (pages.Command verbs.Capture) = CAPTURE.now
 page_text pages.Version = VERSION.now
 
 -- what the code's command is
@@ -123,20 +132,23 @@ abbrev pub plain_task : List ℕ → Task → Bool → Command
 plain_task script (tasks.Run keys threads) keep_going = run script keys.now threads keep_going
 plain_task script tasks.List keep_going = list script keep_going
 plain_task script tasks.Dump keep_going = dump script keep_going
+plain_task script (tasks.Judge rules keys threads) keep_going = judge script rules.now keys.now threads keep_going
+plain_task script (tasks.Capture plan packets threads) keep_going = capture script plan.now packets.now threads keep_going
 
 abbrev pub plain : Asked → Command
 plain (asked.Script script task keep_going) = plain_task script.now task keep_going
 plain (asked.Drill seed count threads) = drill seed count threads
 
--- At most two names, and a word behind `--threads` that begins with no dash.
+-- At most three names, and a word behind `--threads` that begins with no dash.
 pub record ArePlain (names : List (List ℕ)) (threads : Option (List ℕ)) : Type 0 where
-  pub few : length names ≤ 2
+  pub few : length names ≤ 3
   pub no_dash : IfSome threads (λ word. IsTrue (is_name word))
 
 -- What was found by the ids are these arguments.
 pub record HasValues (found : Found) (names : List (List ℕ)) (threads : Option (List ℕ)) (keep_going : Bool) : Type 0 where
   pub first : first_value found (codes "first") ≡ slice_get names 0
   pub second : first_value found (codes "second") ≡ slice_get names 1
+  pub third : first_value found (codes "third") ≡ slice_get names 2
   pub threads_are : first_value found (codes "threads") ≡ threads
   pub mark : one_text found (codes "keep-going") ≡ Some (if keep_going then codes "true" else codes "false")
 
@@ -144,5 +156,6 @@ pub record HasValues (found : Found) (names : List (List ℕ)) (threads : Option
 pub record HasArguments (a : Arguments) (names : List (List ℕ)) (threads : Option (List ℕ)) (keep_going : Bool) : Type 0 where
   pub first : option_map (λ w. w.now) a.first ≡ slice_get names 0
   pub second : option_map (λ w. w.now) a.second ≡ slice_get names 1
+  pub third : option_map (λ w. w.now) a.third ≡ slice_get names 2
   pub threads_are : option_map (λ w. w.now) a.threads ≡ threads
   pub mark : a.keep_going ≡ keep_going

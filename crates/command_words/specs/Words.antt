@@ -1,5 +1,6 @@
 -- The words of a command, and of help.
-use Rattle.std.specs.Prelude.{◌≡◌, ◌<◌, ◌≤◌, ◌^◌, ◌⊎◌, ℕ, Bool, true, false, ◌==◌, not, List, [], ◌∷◌, codes, decimal, Option, Some, None, slice_get, IsTrue}
+use Rattle.std.specs.Prelude.{◌≡◌, ◌≤◌, ◌⊎◌, ℕ, Bool, true, false, ◌==◌, not, List, [], ◌∷◌, codes, bytes_eq, decimal, Option, Some, None, slice_get, IsTrue}
+use Rattle.std.specs.List.{count_by}
 use Rattle.command_words.specs.declared.shape.Verb.{Verb}
 use Rattle.command_words.specs.declared.shape.Verb.TheVariants as verbs
 use Rattle.command_words.specs.declared.page.Page.{Page}
@@ -8,6 +9,9 @@ use Rattle.command_words.specs.declared.page.Page.TheVariants as pages
 -- the name of the standard input
 abbrev pub stdin_name : List ℕ
 stdin_name = codes "-"
+
+abbrev pub is_stdin : List ℕ → Bool
+is_stdin word = bytes_eq word stdin_name
 
 -- A name isn't empty and doesn't begin with a dash, but for `-` itself, the standard input.
 abbrev pub is_name : List ℕ → Bool
@@ -21,6 +25,8 @@ verb_word verbs.Run = codes "run"
 verb_word verbs.List = codes "list"
 verb_word verbs.Dump = codes "dump"
 verb_word verbs.Drill = codes "drill"
+verb_word verbs.Judge = codes "judge"
+verb_word verbs.Capture = codes "capture"
 
 abbrev pub threads_word : List ℕ
 threads_word = codes "--threads"
@@ -66,18 +72,26 @@ pub data Command : Type 0 where
   list : (script : List ℕ) (keep_going : Bool) → Command
   dump : (script : List ℕ) (keep_going : Bool) → Command
   drill : (seed count threads : ℕ) → Command
+  judge : (script rules keys : List ℕ) (threads : ℕ) (keep_going : Bool) → Command
+  capture : (script plan packets : List ℕ) (threads : ℕ) (keep_going : Bool) → Command
 
--- At most one of two names is the standard input.
-abbrev pub NameStdinOnce : List ℕ → List ℕ → Type 0
-NameStdinOnce script keys = script ≡ stdin_name → keys ≡ stdin_name → ⊥
+-- At most one of the names is the standard input.
+abbrev pub NameStdinOnce : List (List ℕ) → Type 0
+NameStdinOnce names = count_by is_stdin names ≤ 1
+
+-- The words are this one, the names of a script and of what it stands beside, and options; packets are looked up by so many threads.
+abbrev pub ArePacketWords : List (List ℕ) → List ℕ → List (List ℕ) → ℕ → Bool → Type 0
+ArePacketWords words first names n keep_going = (threads : Option (List ℕ)) × AreWords words first names threads keep_going × AreThreads threads n × NameStdinOnce names
 
 -- The words are this command.
 abbrev pub IsCommand : List (List ℕ) → Command → Type 0
-IsCommand words (run script keys n keep_going) = (threads : Option (List ℕ)) × AreWords words (codes "run") (script ∷ keys ∷ []) threads keep_going × AreThreads threads n × NameStdinOnce script keys
+IsCommand words (run script keys n keep_going) = ArePacketWords words (codes "run") (script ∷ keys ∷ []) n keep_going
 IsCommand words (list script keep_going) = AreWords words (codes "list") (script ∷ []) None keep_going
 IsCommand words (dump script keep_going) = AreWords words (codes "dump") (script ∷ []) None keep_going
 IsCommand words (drill seed count n) = (threads : Option (List ℕ)) × (seed_word : List ℕ) × (count_word : List ℕ)
     × AreWords words (codes "drill") (seed_word ∷ count_word ∷ []) threads false × IsNumber 0 last_seed seed_word seed × IsNumber 1 most_elements count_word count × AreThreads threads n
+IsCommand words (judge script rules keys n keep_going) = ArePacketWords words (codes "judge") (script ∷ rules ∷ keys ∷ []) n keep_going
+IsCommand words (capture script plan packets n keep_going) = ArePacketWords words (codes "capture") (script ∷ plan ∷ packets ∷ []) n keep_going
 
 -- The words ask for a text of the program's own: help on it or on one of its commands, or its version.
 abbrev pub AsksFor : List (List ℕ) → Page → Type 0
@@ -90,7 +104,8 @@ pub record IsNoCommand (words : List (List ℕ)) : Type 0 where
   pub no_work : (c : Command) → IsCommand words c → ⊥
   pub no_page : (page : Page) → AsksFor words page → ⊥
 
--- The words are a run of a script beside a key file, a listing of a script, or a dump of its tables, by the files' names; or a drill.
+-- The words are a run of a script beside a key file, a listing of a script, or a dump of its tables, by the files' names; or a drill;
+-- or a run whose packets a rules file judges, or whose packets a plan takes from a capture; or a script by several control threads.
 abbrev pub IsRun : List (List ℕ) → List ℕ → List ℕ → ℕ → Bool → Type 0
 IsRun words script keys threads keep_going = IsCommand words (run script keys threads keep_going)
 
@@ -103,12 +118,20 @@ IsDump words script keep_going = IsCommand words (dump script keep_going)
 abbrev pub IsDrill : List (List ℕ) → ℕ → ℕ → ℕ → Type 0
 IsDrill words seed count threads = IsCommand words (drill seed count threads)
 
+abbrev pub IsJudge : List (List ℕ) → List ℕ → List ℕ → List ℕ → ℕ → Bool → Type 0
+IsJudge words script rules keys threads keep_going = IsCommand words (judge script rules keys threads keep_going)
+
+abbrev pub IsCapture : List (List ℕ) → List ℕ → List ℕ → List ℕ → ℕ → Bool → Type 0
+IsCapture words script plan packets threads keep_going = IsCommand words (capture script plan packets threads keep_going)
+
 -- the files that a command reads, by their names, in their order
 abbrev pub file_names : Command → List (List ℕ)
 file_names (run script keys threads keep_going) = script ∷ keys ∷ []
 file_names (list script keep_going) = script ∷ []
 file_names (dump script keep_going) = script ∷ []
 file_names (drill seed count threads) = []
+file_names (judge script rules keys threads keep_going) = script ∷ rules ∷ keys ∷ []
+file_names (capture script plan packets threads keep_going) = script ∷ plan ∷ packets ∷ []
 
 -- The first file of a command is its script.
 abbrev pub IsScriptOf : Command → List ℕ → Type 0

@@ -9,32 +9,40 @@ usage: pipapo run SCRIPT KEYS [--threads N] [--keep-going]
        pipapo list SCRIPT [--keep-going]
        pipapo dump SCRIPT [--keep-going]
        pipapo drill SEED COUNT [--threads N]
+       pipapo judge SCRIPT RULES KEYS [--threads N] [--keep-going]
+       pipapo capture SCRIPT PLAN PCAP [--threads N] [--keep-going]
        pipapo help [COMMAND], pipapo [COMMAND] --help, pipapo [COMMAND] -h
        pipapo --version
 
 commands:
-  run    runs SCRIPT beside the packets of KEYS, and writes the transcript
-  list   runs SCRIPT, and lists its last generation as a script
-  dump   runs SCRIPT, and writes the tables of its last generation
-  drill  runs a workload drawn from SEED, and writes one line on it
+  run      runs SCRIPT beside the packets of KEYS, and writes the transcript
+  list     runs SCRIPT, and lists its last generation as a script
+  dump     runs SCRIPT, and writes the tables of its last generation
+  drill    runs a workload drawn from SEED, and writes one line on it
+  judge    as run, but each packet is judged by the chains of RULES
+  capture  as run, but the packets are those that PLAN takes from the capture PCAP
 
-SCRIPT is in the language of nft(8), KEYS has a packet's key in each line. One of them
-may be -, the standard input.
+SCRIPT is in the language of nft(8), and KEYS has a packet's key in each line. RULES has
+chains of rules over the sets, PLAN says which fields of a frame are the keys of a set, and
+PCAP is a capture file of libpcap. One of them may be -, the standard input.
 
 options, in any order among the names:
   --threads N    packet threads beside the control: 1 to 16, and else 1
   --keep-going   a refused change is skipped, and doesn't fail its transaction
 
 statuses:
-  0  the whole output was written, and no change was refused
-  1  the whole output was written, and a change was refused
-  2  the words are no command
-  3  the script isn't in its grammar
-  4  the key file isn't in its grammar
-  5  a file can't be opened or read
-  6  the standard output failed
-  7  want of memory
-  8  a file has more than 67,108,864 bytes
+  0   the whole output was written, and no change was refused
+  1   the whole output was written, and a change was refused
+  2   the words are no command
+  3   the script isn't in its grammar
+  4   the key file isn't in its grammar
+  5   a file can't be opened or read
+  6   the standard output failed
+  7   want of memory
+  8   a file has more than 67,108,864 bytes
+  9   the rules file isn't in its grammar
+  10  the capture isn't in its form
+  11  the plan isn't in its grammar
 ";
 
 pub const RUN: &str = "\
@@ -88,4 +96,36 @@ options, in any order among the numbers:
   --threads N    packet threads: 1 to 16, and else 1
 
 statuses: 0 done, 6 the standard output failed, 7 want of memory
+";
+
+pub const JUDGE: &str = "\
+usage: pipapo judge SCRIPT RULES KEYS [--threads N] [--keep-going]
+
+Runs SCRIPT beside the packets of the key file KEYS, and writes the transcript, in which each
+packet has the rule of the rules file RULES that decides on it, or RULES' policy. One of the
+three names may be -, the standard input.
+
+options, in any order among the names:
+  --threads N    packet threads beside the control: 1 to 16, and else 1
+  --keep-going   a refused change is skipped, and doesn't fail its transaction
+
+statuses: 0 done, 1 done with a refused change, 3 SCRIPT isn't in its grammar, 4 KEYS isn't,
+9 RULES isn't, 5 a file can't be read, 6 the standard output failed, 7 want of memory, 8 a file
+is too large
+";
+
+pub const CAPTURE: &str = "\
+usage: pipapo capture SCRIPT PLAN PCAP [--threads N] [--keep-going]
+
+Runs SCRIPT beside packets of the capture PCAP, and writes the transcript. PCAP is a file of
+libpcap 2.4 with Ethernet frames or raw IP; each line of PLAN names a set and the fields of a
+frame that are its key. One of the three names may be -, the standard input.
+
+options, in any order among the names:
+  --threads N    packet threads beside the control: 1 to 16, and else 1
+  --keep-going   a refused change is skipped, and doesn't fail its transaction
+
+statuses: 0 done, 1 done with a refused change, 3 SCRIPT isn't in its grammar, 11 PLAN isn't,
+10 PCAP isn't in its form, 5 a file can't be read, 6 the standard output failed, 7 want of
+memory, 8 a file is too large
 ";

@@ -29,6 +29,10 @@ pub enum Verb {
     Dump,
     /// It runs a generated script beside generated packets.
     Drill,
+    /// It runs a script beside a key file, whose packets a rules file judges.
+    Judge,
+    /// It runs a script beside the packets that a plan takes from a capture.
+    Capture,
 }
 
 /// The shape of the words behind a command's word, so far.
@@ -90,6 +94,8 @@ impl Verb {
             "list" => Some(Verb::List),
             "dump" => Some(Verb::Dump),
             "drill" => Some(Verb::Drill),
+            "judge" => Some(Verb::Judge),
+            "capture" => Some(Verb::Capture),
             _ => None,
         }
     }
@@ -99,8 +105,9 @@ impl Verb {
         ensures { result ≡ count_of_names self }
     {
         match self {
-            Verb::Run | Verb::Drill => 2,
             Verb::List | Verb::Dump => 1,
+            Verb::Run | Verb::Drill => 2,
+            Verb::Judge | Verb::Capture => 3,
         }
     }
 
@@ -108,7 +115,7 @@ impl Verb {
         ensures { result ≡ threads_test self }
     {
         match self {
-            Verb::Run | Verb::Drill => true,
+            Verb::Run | Verb::Drill | Verb::Judge | Verb::Capture => true,
             Verb::List | Verb::Dump => false,
         }
     }
@@ -117,8 +124,8 @@ impl Verb {
         ensures { result ≡ mark_test self }
     {
         match self {
-            Verb::Run | Verb::List | Verb::Dump => true,
             Verb::Drill => false,
+            _ => true,
         }
     }
 
@@ -128,8 +135,8 @@ impl Verb {
     {
         place < self.name_count()
             && match self {
-                Verb::Run | Verb::List | Verb::Dump => is_name(word),
                 Verb::Drill => drill_number(place, word).is_some(),
+                _ => is_name(word),
             }
     }
 }

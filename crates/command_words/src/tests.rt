@@ -15,6 +15,16 @@ fn plain(alloc: Global, command: Command<'_>) -> Result<String, AllocError> {
             }
             Task::List => format!(in alloc; "list {script} {keep_going}"),
             Task::Dump => format!(in alloc; "dump {script} {keep_going}"),
+            Task::Judge {
+                rules,
+                keys,
+                threads,
+            } => format!(in alloc; "judge {script} {rules} {keys} {threads} {keep_going}"),
+            Task::Capture {
+                plan,
+                packets,
+                threads,
+            } => format!(in alloc; "capture {script} {plan} {packets} {threads} {keep_going}"),
         },
         Command::Drill {
             seed,
@@ -42,7 +52,7 @@ fn asked(alloc: Global, words: &[&str]) -> Result<String, AllocError> {
 
 #[test]
 fn words_that_are_no_command(rt: HostRuntime) -> Result<(), Fail> {
-    let commands: [&[&str]; 49] = [
+    let commands: [&[&str]; 58] = [
         &[],
         &["run", "a"],
         &["run", "a", "b", "c"],
@@ -80,6 +90,15 @@ fn words_that_are_no_command(rt: HostRuntime) -> Result<(), Fail> {
         &["drill", "01", "1"],
         &["drill", "a", "1"],
         &["drill", "1", "2", "--keep-going"],
+        &["judge", "a", "b"],
+        &["judge", "a", "b", "c", "d"],
+        &["judge", "a", "-", "-"],
+        &["judge", "-", "b", "-"],
+        &["judge", "a", "b", "--threads", "c"],
+        &["capture", "a", "b"],
+        &["capture", "-", "-", "c"],
+        &["capture", "a", "b", "c", "--threads", "17"],
+        &["desk", "a"],
         &["lists", "a"],
         &["help", "lists"],
         &["help", "help"],
@@ -101,7 +120,7 @@ fn words_that_are_no_command(rt: HostRuntime) -> Result<(), Fail> {
 
 #[test]
 fn words_in_any_order(rt: HostRuntime) -> Result<(), Fail> {
-    let commands: [(&[&str], &str); 13] = [
+    let commands: [(&[&str], &str); 17] = [
         (&["run", "help", "b"], "run help b 1 false"),
         (&["run", "--threads", "16", "16", "b"], "run 16 b 16 false"),
         (
@@ -124,6 +143,16 @@ fn words_in_any_order(rt: HostRuntime) -> Result<(), Fail> {
             "drill 18446744073709551615 20000 1",
         ),
         (&["drill", "0", "--threads", "4", "1"], "drill 0 1 4"),
+        (&["judge", "a", "b", "c"], "judge a b c 1 false"),
+        (
+            &["judge", "a", "--threads", "3", "-", "--keep-going", "c"],
+            "judge a - c 3 true",
+        ),
+        (&["capture", "a", "b", "-"], "capture a b - 1 false"),
+        (
+            &["capture", "--keep-going", "a", "b", "c", "--threads", "16"],
+            "capture a b c 16 true",
+        ),
     ];
     for (words, line) in commands {
         assert_eq!(rt; asked(rt.alloc(), words)?.as_str(), line);
@@ -133,7 +162,7 @@ fn words_in_any_order(rt: HostRuntime) -> Result<(), Fail> {
 
 #[test]
 fn words_that_ask_for_a_page(rt: HostRuntime) -> Result<(), Fail> {
-    let pages: [(&[&str], Page); 16] = [
+    let pages: [(&[&str], Page); 22] = [
         (&["help"], Page::Program),
         (&["--help"], Page::Program),
         (&["-h"], Page::Program),
@@ -150,6 +179,12 @@ fn words_that_ask_for_a_page(rt: HostRuntime) -> Result<(), Fail> {
         (&["help", "drill"], Page::Command(Verb::Drill)),
         (&["drill", "--help"], Page::Command(Verb::Drill)),
         (&["drill", "-h"], Page::Command(Verb::Drill)),
+        (&["help", "judge"], Page::Command(Verb::Judge)),
+        (&["judge", "--help"], Page::Command(Verb::Judge)),
+        (&["judge", "-h"], Page::Command(Verb::Judge)),
+        (&["help", "capture"], Page::Command(Verb::Capture)),
+        (&["capture", "--help"], Page::Command(Verb::Capture)),
+        (&["capture", "-h"], Page::Command(Verb::Capture)),
     ];
     for (words, page) in pages {
         assert_eq!(rt; asked(rt.alloc(), words)?.as_str(), page.text());
@@ -159,7 +194,7 @@ fn words_that_ask_for_a_page(rt: HostRuntime) -> Result<(), Fail> {
 
 #[test]
 fn each_page_begins_with_its_own_line(rt: HostRuntime) -> Result<(), Fail> {
-    let pages: [(Page, &str); 6] = [
+    let pages: [(Page, &str); 8] = [
         (
             Page::Program,
             "pipapo runs nftables set scripts and looks packets up in the sets.\n",
@@ -180,6 +215,14 @@ fn each_page_begins_with_its_own_line(rt: HostRuntime) -> Result<(), Fail> {
         (
             Page::Command(Verb::Drill),
             "usage: pipapo drill SEED COUNT [--threads N]\n",
+        ),
+        (
+            Page::Command(Verb::Judge),
+            "usage: pipapo judge SCRIPT RULES KEYS [--threads N] [--keep-going]\n",
+        ),
+        (
+            Page::Command(Verb::Capture),
+            "usage: pipapo capture SCRIPT PLAN PCAP [--threads N] [--keep-going]\n",
         ),
     ];
     for (page, line) in pages {

@@ -13,11 +13,26 @@ use std::alloc::{AllocError, Global};
 #[derive(Clone, Copy)]
 pub enum Task<'a> {
     /// A run beside the packets of a key file, by its name, which so many packet threads look up.
-    Run { keys: &'a str, threads: u32 },
+    Run {
+        keys: &'a str,
+        threads: u32,
+    },
     /// A listing of the last generation.
     List,
     /// The tables of the last generation.
     Dump,
+    /// A run beside the packets of a key file, which a rules file judges, both by their names; so many packet threads look up.
+    Judge {
+        rules: &'a str,
+        keys: &'a str,
+        threads: u32,
+    },
+    /// A run beside the packets that a plan takes from a capture, both by their names, which so many packet threads look up.
+    Capture {
+        plan: &'a str,
+        packets: &'a str,
+        threads: u32,
+    },
 }
 
 /// A command.
@@ -64,6 +79,7 @@ fn values_of<'a>(alloc: Global, words: &'a [String]) -> Result<ArgMatches<'a>, E
 {
     let first = Arg::new(alloc, "first");
     let second = Arg::new(alloc, "second");
+    let third = Arg::new(alloc, "third");
     let threads = Arg::new(alloc, "threads").long("threads");
     let keep_going = Arg::new(alloc, "keep-going")
         .long("keep-going")
@@ -72,6 +88,7 @@ fn values_of<'a>(alloc: Global, words: &'a [String]) -> Result<ArgMatches<'a>, E
         .disable_help_flag(true)
         .arg(first)?
         .arg(second)?
+        .arg(third)?
         .arg(threads)?
         .arg(keep_going)?
         .try_get_matches_from(words)
@@ -103,6 +120,7 @@ fn thread_count(word: Option<&str>) -> u32
 struct Arguments<'a> {
     first: Option<&'a str>,
     second: Option<&'a str>,
+    third: Option<&'a str>,
     threads: Option<&'a str>,
     keep_going: bool,
 }
@@ -115,6 +133,7 @@ fn arguments_of<'a>(alloc: Global, words: &'a [String]) -> Result<Arguments<'a>,
         Ok(values) => Ok(Arguments {
             first: values.get_str("first"),
             second: values.get_str("second"),
+            third: values.get_str("third"),
             threads: values.get_str("threads"),
             keep_going: values.get_flag("keep-going"),
         }),
@@ -134,6 +153,7 @@ fn command_with<'a>(
     let Arguments {
         first,
         second,
+        third,
         threads,
         keep_going,
     } = arguments_of(alloc, words)?;
@@ -155,6 +175,24 @@ fn command_with<'a>(
         Verb::Dump => Ok(Command::Script {
             script: first,
             task: Task::Dump,
+            keep_going,
+        }),
+        Verb::Judge => Ok(Command::Script {
+            script: first,
+            task: Task::Judge {
+                rules: second.unwrap(),
+                keys: third.unwrap(),
+                threads: thread_count(threads),
+            },
+            keep_going,
+        }),
+        Verb::Capture => Ok(Command::Script {
+            script: first,
+            task: Task::Capture {
+                plan: second.unwrap(),
+                packets: third.unwrap(),
+                threads: thread_count(threads),
+            },
             keep_going,
         }),
         Verb::Drill => Ok(Command::Drill {

@@ -12,7 +12,7 @@ use Rattle.gen_publish.proofs.Growing.{grown_last}
 use Rattle.packet_pool.specs.Running.{run, Stands, IsSameStart}
 use Rattle.packet_pool.proofs.RunLaws.{advances}
 use Rattle.control_desk.specs.declared.entry.Entry.{Entry}
-use Rattle.control_desk.specs.Woven.{at_rest, after, entered, tellings, said, Replays}
+use Rattle.control_desk.specs.Woven.{at_rest, after, entered, tellings, said, HasSeen, Replays}
 use Rattle.control_desk.specs.Books.{IsClosed, IsKept, IsDone, IsApplied, Booked}
 use Rattle.control_desk.proofs.Replaying.{after_more, tells_more}
 
@@ -62,13 +62,14 @@ module _ (clerk : ℕ) (steps : List Step) (keep_going : Bool) (old new : Steeri
       }
 
 -- A book is applied to by a transaction that is done and logged.
-pub applied : (clerk : ℕ) (steps : List Step) (keep_going : Bool) (old : Booked) (new : Steering) (behind : List Entry) (end : Event) → IsClosed old.control → IsDone clerk steps keep_going old.control new old.log behind end
+pub applied : (clerk : ℕ) (steps : List Step) (keep_going : Bool) (old : Booked) (new : Steering) (behind : List Entry) (end : Event) → IsClosed old.control → old.from ≤ length old.control.committed → IsDone clerk steps keep_going old.control new old.log behind end
     → IsApplied clerk steps keep_going old (record { control = new; log = behind; from = old.from }) end
-applied clerk steps keep_going old new behind end closed done = record {
+applied clerk steps keep_going old new behind end closed within done = record {
   refused = done.refused;
   logged = done.logged;
   committed = commits clerk steps keep_going old.control new old.log behind end closed done;
   from_is = refl;
+  base_is = base_stays clerk steps keep_going old.control new old.log behind end closed done old.from within;
   of_is = done.goes_on.of_is;
   schema_is = done.goes_on.schema_is;
   readers_is = done.goes_on.readers_is;
@@ -103,3 +104,6 @@ kept_first s from ends all closed =
 
 pub replays_then : (s : Steering) (log : List Entry) (from : ℕ) → IsKept s log from → Replays (take from s.committed) s.committed log
 replays_then s log from kept = record { last = kept.first; begins = kept.begins; gives = ap (λ (c : Control). c.committed) kept.stands; tells = kept.tells }
+
+pub last_then : (s : Steering) (log : List Entry) (from : ℕ) → IsKept s log from → HasSeen (take from s.committed) log s.work.base.number
+last_then s log from kept = record { last = kept.first; begins = kept.begins; reaches = ap (λ (c : Control). c.last.number) kept.stands }

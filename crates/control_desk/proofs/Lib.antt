@@ -2,3 +2,8 @@ mod Transactions
 mod Replaying
 mod Doing
 mod Booking
+mod Fitting
+mod Submitting
+mod Opened
+mod Working
+mod Weaving

@@ -44,6 +44,7 @@ pub record IsApplied (clerk : ℕ) (steps : List Step) (keep_going : Bool) (old 
   pub logged : new.log ≡ old.log ++ record { clerk = clerk; steps = steps; keep_going = keep_going; refused = refused; end = end } ∷ []
   pub committed : new.control.committed ≡ (section (mode_of keep_going) (at_rest old.control.committed old.control.work.base) steps).committed
   pub from_is : new.from ≡ old.from
+  pub base_is : take new.from new.control.committed ≡ take old.from old.control.committed
   pub of_is : new.control.of ≡ old.control.of
   pub schema_is : new.control.schema ≡ old.control.schema
   pub readers_is : new.control.readers ≡ old.control.readers

@@ -1,2 +1,4 @@
 pub mod Woven
 pub mod Books
+pub mod Turns
+pub mod Work

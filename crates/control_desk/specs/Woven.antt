@@ -45,9 +45,19 @@ pub record Replays (base committed : List Generation) (log : List Entry) : Type 
   pub gives : (fold after (at_rest base last) log).committed ≡ committed
   pub tells : tellings (at_rest base last) log ≡ map said log
 
+-- The last generation behind a log, from the generations before it, has this number.
+pub record HasSeen (base : List Generation) (log : List Entry) (number : ℕ) : Type 0 where
+  pub last : Generation
+  pub begins : EndsWith base last
+  pub reaches : (fold after (at_rest base last) log).last.number ≡ number
+
+-- one control thread's entries, in the order of the log
+abbrev pub entries_of : ℕ → List Entry → List Entry
+entries_of clerk log = filter (λ e. e.clerk == clerk) log
+
 -- the steps of one control thread's entries, in the order of the log
 abbrev pub steps_of : ℕ → List Entry → List Step
-steps_of clerk log = flat_map (λ e. e.steps) (filter (λ e. e.clerk == clerk) log)
+steps_of clerk log = flat_map (λ e. e.steps) (entries_of clerk log)
 
 -- An entry is a transaction of one of so many control threads, which count from 1.
 pub record IsOfOne (clerks : ℕ) (e : Entry) : Type 0 where

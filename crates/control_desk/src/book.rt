@@ -1,13 +1,16 @@
 //! A control and the log of what was submitted to it.
-ghost use Rattle.std.specs.Prelude.{◌≡◌, ◌<◌, ◌≤◌, ◌^◌, [], take, length, All, IfOk, OnErr};
+ghost use Rattle.std.specs.Prelude.{◌≡◌, ◌+◌, ◌<◌, ◌≤◌, ◌^◌, [], take, length, All, IfOk, OnOk, OnErr};
 ghost use Rattle.set_model.specs.Runnable.{IsRunnableStep};
-ghost use Rattle.control_desk.specs.Woven.{IsTransaction, Replays};
+ghost use Rattle.gen_publish.specs.Publish.{Grown};
+ghost use Rattle.control_desk.specs.Woven.{IsTransaction, HasSeen, Replays};
 ghost use Rattle.control_desk.specs.Books.{IsClosed, IsApplied};
 
-use crate::entry::Log;
+use crate::entry::{Entry, Log};
 use crate::transaction::transact;
 use gen_publish::Control;
+use log_turns::Logged;
 use set_model::{Event, Memory, Steps};
+use set_space::Generation;
 use std::alloc::Global;
 use std::marker::Model;
 
@@ -29,6 +32,22 @@ impl Model for Book {
     ghost view = { λ b. record { control = b.control; log = b.log; from = b.from } };
 
     ghost invariant = { λ b. IsKept b.control b.log b.from };
+}
+
+impl Logged for Book {
+    ghost use Rattle.std.specs.Prelude.{take};
+
+    type Entry = Entry;
+
+    type State = Generation;
+
+    ghost log = { λ b. b.log };
+
+    ghost base = { λ b. take b.from b.control.committed };
+
+    ghost number = { λ b. b.control.work.base.number };
+
+    ghost clerk = { λ e. e.clerk };
 }
 
 impl Book {
@@ -53,8 +72,10 @@ impl Book {
         ensures closed { IsClosed self.now.control }
         ensures from { (0 < self.now.from) × (self.now.from ≤ length self.now.control.committed) }
         ensures replays { Replays (take self.now.from self.now.control.committed) self.now.control.committed self.now.log }
+        ensures last { HasSeen (take self.now.from self.now.control.committed) self.now.log self.now.control.work.base.number }
+        ensures grown { Grown self.now.control.schema 0 self.now.control.committed }
     {
-        let _ = &self.control;
+        self.control.known();
     }
 
     /// Does one transaction of the control thread `clerk` and logs it, and tells how it ended. With `keep_going` a refused
@@ -68,6 +89,7 @@ impl Book {
         requires fits { All (IsRunnableStep self.old.control.schema) steps.now }
         requires number { self.old.control.work.base.number < 2 ^ 63 }
         ensures ok { IfOk result (λ end. IsApplied clerk steps.now keep_going self.old self.new end) }
+        ensures number { OnOk result (self.new.control.work.base.number ≤ self.old.control.work.base.number + 1) }
         ensures err { OnErr result (self.new ≡ self.old) }
         ensures closed { IsClosed self.new.control }
         ensures replays { Replays (take self.new.from self.new.control.committed) self.new.control.committed self.new.log }

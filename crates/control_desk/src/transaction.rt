@@ -1,5 +1,5 @@
 //! One transaction on a control, and its entry in the log.
-ghost use Rattle.std.specs.Prelude.{◌≡◌, ◌<◌, ◌^◌, ◌++◌, List, [], ◌∷◌, true, false, All, Some, IfOk, OnOk, OnErr};
+ghost use Rattle.std.specs.Prelude.{◌≡◌, ◌+◌, ◌<◌, ◌≤◌, ◌^◌, ◌++◌, List, [], ◌∷◌, true, false, All, Some, IfOk, OnOk, OnErr};
 ghost use Rattle.set_model.specs.declared.report.Event.{Event as Told};
 ghost use Rattle.set_model.specs.Control.{Mode, mode_of, section, step as control_step};
 ghost use Rattle.set_model.specs.Runnable.{IsRunnableStep, opens};
@@ -7,11 +7,10 @@ ghost use Rattle.packet_pool.specs.Running.{run, GoesOn, IsSameStart};
 ghost use Rattle.control_desk.specs.Woven.{IsTransaction};
 ghost use Rattle.control_desk.specs.Books.{IsClosed, IsDone};
 
-use crate::copies::copy_steps;
 use crate::entry::{Entry, Log};
 use gen_publish::Control;
 use packet_pool::{OpenGate, do_step};
-use set_model::{Event, Events, Memory, Step, Steps};
+use set_model::{Duplicate, Event, Events, Memory, Step, Steps};
 use std::alloc::Global;
 
 /// Does the changes of a transaction, and tells which were refused and whether it has failed.
@@ -50,6 +49,7 @@ fn end_transaction(control: &mut Control, failed: bool, end: &Step) -> Result<Ev
     requires number { control.old.work.base.number < 2 ^ 63 }
     ensures ok { IfOk result (λ event. (mode : Mode) (told : List Told) → GoesOn (λ c. control_step mode c end.now) (run control.old failed told) (run control.new false (told ++ event ∷ []))) }
     ensures closed { OnOk result (IsClosed control.new) }
+    ensures number { OnOk result (control.new.work.base.number ≤ control.old.work.base.number + 1) }
     ensures err { OnErr result (control.new ≡ control.old) }
 {
     let generation = control.number();
@@ -89,10 +89,11 @@ pub(crate) fn transact(
     requires fits { All (IsRunnableStep control.old.schema) steps.now }
     requires number { control.old.work.base.number < 2 ^ 63 }
     ensures ok { IfOk result (λ end. IsDone clerk steps.now keep_going control.old control.new log.old log.new end) }
+    ensures number { OnOk result (control.new.work.base.number ≤ control.old.work.base.number + 1) }
     ensures err { OnErr result ((log.new ≡ log.old) × (control.new.committed ≡ control.old.committed)) }
     ensures kept { OnErr result (IsSameStart control.old control.new) }
 {
-    let copy = copy_steps(log.alloc, steps)?;
+    let copy = steps.copy(log.alloc)?;
     log.entries.reserve(1)?;
     let all = steps.as_slice();
     let count = all.len() - 1;

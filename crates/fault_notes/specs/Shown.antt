@@ -24,6 +24,10 @@ shown bytes = flat_map shown_byte bytes
 abbrev pub place_text : List ℕ → ℕ → ℕ → List ℕ
 place_text name line column = shown (name ++ codes ":" ++ decimal line ++ codes ":" ++ decimal column ++ codes ": ")
 
+-- NAME, a colon, the byte, and a colon, with a space behind it
+abbrev pub byte_text : List ℕ → ℕ → List ℕ
+byte_text name byte = shown (name ++ codes ": byte " ++ decimal byte ++ codes ": ")
+
 -- NAME and a colon, with a space behind it
 abbrev pub name_text : List ℕ → List ℕ
 name_text name = shown (name ++ codes ": ")

@@ -25,7 +25,7 @@ fn explained(
     } else if !cut.token.is_empty() {
         note.quoted(cut.token)?;
     }
-    note.say(what_is_wrong(reason))?;
+    note.say(what_is_wrong(kind, reason))?;
     note.end_line()?;
     note.source_line(cut)?;
     note.say(b"help: ")?;
@@ -37,7 +37,7 @@ fn explained(
     Ok(note)
 }
 
-/// What a text is that is no script and no key file.
+/// What a text is that isn't of this grammar.
 fn told_as(alloc: Global, what: &[u8]) -> Result<Note, Memory> {
     let mut note = Note::new(alloc);
     note.say(what)?;

@@ -1,4 +1,4 @@
-//! What a text is in place of a script or a key file, by its first bytes and words.
+//! What a file is in place of the one that was asked for, by its first bytes and words.
 use crate::help::TextKind;
 use crate::source::first_line;
 
@@ -65,7 +65,12 @@ fn is_family(word: &[u8]) -> bool {
     )
 }
 
-/// A text of the other grammar, by the line of its bad token.
+/// Whether a word begins a statement of a rules file.
+fn begins_a_rules_file(word: &[u8]) -> bool {
+    matches!(word, b"chain" | b"policy")
+}
+
+/// A text of another grammar, by the line of its bad token.
 pub(crate) fn swapped(kind: TextKind, line: &[u8]) -> Option<&'static [u8]> {
     let word = first_word(without_blanks(line));
     match kind {
@@ -74,6 +79,26 @@ pub(crate) fn swapped(kind: TextKind, line: &[u8]) -> Option<&'static [u8]> {
         }
         TextKind::Keys if begins_a_statement(word) => {
             Some(b"this looks like a script: the script is named first, and then the key file")
+        }
+        TextKind::Keys if begins_a_rules_file(word) => {
+            Some(
+                b"this looks like a rules file: it is named behind the script, and then the key file",
+            )
+        }
+        TextKind::Rules if is_family(word) => {
+            Some(
+                b"this looks like a key file: the script is named first, then the rules file, and then the key file",
+            )
+        }
+        TextKind::Rules if begins_a_statement(word) => {
+            Some(
+                b"this looks like a script: the script is named first, then the rules file, and then the key file",
+            )
+        }
+        TextKind::Plan if begins_a_statement(word) => {
+            Some(
+                b"this looks like a script: the script is named first, then the plan, and then the capture",
+            )
         }
         _ => None,
     }

@@ -8,16 +8,23 @@ use set_model::Memory;
 use std::alloc::Global;
 
 /// A note on a file: its name, and what is said of it.
+fn told_of(alloc: Global, name: &str, said: &Note) -> Result<Note, Memory>
+    ensures name { IfOk result (λ note. Begins (name_text name.now) note.bytes.items) }
+{
+    let mut note = Note::new(alloc);
+    note.file(name.as_bytes())?;
+    note.join(said)?;
+    Ok(note)
+}
+
+/// The same of one line.
 fn on_file(alloc: Global, name: &str, what: &[u8]) -> Result<Note, Memory>
     ensures name { IfOk result (λ note. Begins (name_text name.now) note.bytes.items) }
 {
     let mut said = Note::new(alloc);
     said.say(what)?;
     said.end_line()?;
-    let mut note = Note::new(alloc);
-    note.file(name.as_bytes())?;
-    note.join(&said)?;
-    Ok(note)
+    told_of(alloc, name, &said)
 }
 
 /// The system's reason for a fault, in a person's words.
@@ -39,6 +46,24 @@ pub fn read_fault_note(alloc: Global, name: &str, kind: FaultKind) -> Result<Not
     ensures name { IfOk result (λ note. Begins (name_text name.now) note.bytes.items) }
 {
     on_file(alloc, name, reason_of(kind))
+}
+
+/// What a person is told of a script that has more sections than `desk` runs: its name, how many it has, and the limit.
+///
+/// # Errors
+///
+/// `Memory` where there is none left.
+pub fn too_many_clerks_note(alloc: Global, name: &str, sections: u64) -> Result<Note, Memory>
+    ensures name { IfOk result (λ note. Begins (name_text name.now) note.bytes.items) }
+{
+    let mut said = Note::new(alloc);
+    said.say(b"the script has ")?;
+    said.number(sections)?;
+    said.say(
+        b" sections, and desk runs 17 at most: the first, and one for each of 16 control threads; join some, by leaving lines 'round' out",
+    )?;
+    said.end_line()?;
+    told_of(alloc, name, &said)
 }
 
 /// What a person is told of a file that has more bytes than an input file may have: its name, and the limit.

@@ -6,15 +6,20 @@ use token_forms::Reason;
 pub enum TextKind {
     Script,
     Keys,
+    Rules,
+    Plan,
 }
 
 /// What is said of a bad token, behind its bytes.
-pub(crate) fn what_is_wrong(reason: Reason) -> &'static [u8] {
+pub(crate) fn what_is_wrong(kind: TextKind, reason: Reason) -> &'static [u8] {
     match reason {
         Reason::Character => b" begins nothing that is read here (character)",
         Reason::End => b"the text ends too early (end)",
         Reason::LeftOut => b" isn't read here (left out)",
-        Reason::TypeWord => b" is no type that may stand here (type)",
+        Reason::TypeWord => match kind {
+            TextKind::Plan => b" is no selector of this field (type)",
+            _ => b" is no type that may stand here (type)",
+        },
         Reason::Value => b" is no value or interval of this field (value)",
         Reason::Time => b" is no time (time)",
         Reason::Moment => b" is no moment that may stand here (moment)",
@@ -44,6 +49,64 @@ fn for_left_out(word: &[u8]) -> &'static [u8] {
     }
 }
 
+/// What begins words and strings, by the first byte of a token that is neither.
+fn for_character(first: Option<&u8>) -> &'static [u8] {
+    match first {
+        Some(b'"') => b"a string has up to 128 bytes, and ends with '\"' in its line",
+        Some(b'$' | b'@') =>
+            b"there are no variables and no named references: write the values themselves",
+        Some(b'\'') => b"strings stand between '\"'",
+        Some(128..=255) => b"only ASCII is read, but for strings and comments",
+        _ => b"words have letters, digits and '_', '.', '/', ':', '-'; a comment begins with '#'",
+    }
+}
+
+/// What is missing where a text ends too early.
+fn for_end(kind: TextKind) -> &'static [u8] {
+    match kind {
+        TextKind::Rules =>
+            b"a '{' that is open wants its '}', and behind the chains stands 'policy accept' or 'policy drop'",
+        TextKind::Plan => b"a plan has one line at least, and that one selector for each field",
+        _ => b"a '{' that is open wants its '}', and a statement that was begun wants the rest",
+    }
+}
+
+/// The words of a field's place: the types of a script's sets, or the selectors of a plan.
+fn for_type(kind: TextKind) -> &'static [u8] {
+    match kind {
+        TextKind::Plan =>
+            b"ip_saddr and ip_daddr are ipv4_addr, ip6_saddr and ip6_daddr ipv6_addr, ether_saddr and ether_daddr ether_addr, proto inet_proto, sport and dport inet_service",
+        _ =>
+            b"the types are ipv4_addr, ipv6_addr, ether_addr, inet_proto, inet_service and mark: up to 16 of them, of 64 bytes together",
+    }
+}
+
+fn for_value(kind: TextKind) -> &'static [u8] {
+    match kind {
+        TextKind::Script =>
+            b"a value of the field's type, and with the flag interval also VALUE-VALUE and ADDRESS/BITS",
+        _ => b"one value of the field's type, and no interval",
+    }
+}
+
+fn for_moment(kind: TextKind) -> &'static [u8] {
+    match kind {
+        TextKind::Script =>
+            b"a moment is a number of milliseconds, 1000000000000000 at most, and not before the last one",
+        _ => b"a moment is a number of milliseconds, 1000000000000000 at most",
+    }
+}
+
+fn for_set(kind: TextKind) -> &'static [u8] {
+    match kind {
+        TextKind::Script =>
+            b"a set is declared before it is used, once, and before the first commit, abort or round; there are 64 at most",
+        TextKind::Keys => b"a packet's set is one that the script declares",
+        TextKind::Rules => b"a test's set is one that the script declares",
+        TextKind::Plan => b"a line's set is one that the script declares",
+    }
+}
+
 /// What could stand where a word fits nothing.
 fn for_statement(kind: TextKind, is_first: bool) -> &'static [u8] {
     match kind {
@@ -53,42 +116,24 @@ fn for_statement(kind: TextKind, is_first: bool) -> &'static [u8] {
             b"a statement ends with its line or with ';', and each item of a set stands once, type first and elements last",
         TextKind::Keys =>
             b"a line is [FAMILY] TABLE SET VALUE . VALUE .., with one value for each field, or 'at' MOMENT, or 'round'",
+        TextKind::Rules =>
+            b"one to four 'chain NAME { RULES }', and then 'policy accept' or 'policy drop'; a rule is up to four tests 'in [FAMILY] TABLE SET' or 'out [FAMILY] TABLE SET', and then accept, drop, return, or jump and the name of a chain above it; there are 64 rules at most",
+        TextKind::Plan =>
+            b"a line is [FAMILY] TABLE SET SELECTOR . SELECTOR .., with one selector for each field; there are 4 lines at most",
     }
 }
 
 /// What could stand in a bad token's place, or what to do. `is_first` says that it is the first of its line.
 pub(crate) fn help(kind: TextKind, reason: Reason, token: &[u8], is_first: bool) -> &'static [u8] {
     match reason {
-        Reason::Character => match token.first() {
-            Some(b'"') => b"a string has up to 128 bytes, and ends with '\"' in its line",
-            Some(b'$' | b'@') =>
-                b"there are no variables and no named references: write the values themselves",
-            Some(b'\'') => b"strings stand between '\"'",
-            Some(128..=255) => b"only ASCII is read, but for strings and comments",
-            _ =>
-                b"words have letters, digits and '_', '.', '/', ':', '-'; a comment begins with '#'",
-        },
-        Reason::End =>
-            b"a '{' that is open wants its '}', and a statement that was begun wants the rest",
+        Reason::Character => for_character(token.first()),
+        Reason::End => for_end(kind),
         Reason::LeftOut => for_left_out(token),
-        Reason::TypeWord =>
-            b"the types are ipv4_addr, ipv6_addr, ether_addr, inet_proto, inet_service and mark: up to 16 of them, of 64 bytes together",
-        Reason::Value => match kind {
-            TextKind::Script =>
-                b"a value of the field's type, and with the flag interval also VALUE-VALUE and ADDRESS/BITS",
-            TextKind::Keys => b"one value of the field's type, and no interval",
-        },
+        Reason::TypeWord => for_type(kind),
+        Reason::Value => for_value(kind),
         Reason::Time => b"a time is a number of seconds, or parts as 1d2h3m4s500ms",
-        Reason::Moment => match kind {
-            TextKind::Script =>
-                b"a moment is a number of milliseconds, 1000000000000000 at most, and not before the last one",
-            TextKind::Keys => b"a moment is a number of milliseconds, 1000000000000000 at most",
-        },
-        Reason::Set => match kind {
-            TextKind::Script =>
-                b"a set is declared before it is used, once, and before the first commit, abort or round; there are 64 at most",
-            TextKind::Keys => b"a packet's set is one that the script declares",
-        },
+        Reason::Moment => for_moment(kind),
+        Reason::Set => for_set(kind),
         Reason::Number => b"a size is a number from 1 to 4294967295",
         Reason::Statement => for_statement(kind, is_first),
     }

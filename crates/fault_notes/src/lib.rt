@@ -1,8 +1,9 @@
 //! What a person is told beside the output, on the standard error: where a text isn't in its grammar and what could stand
-//! there, why a file isn't read, and which elements refused changes speak of.
+//! there, why a file isn't read or is no capture, and which elements refused changes speak of.
 #![tactic(auto)]
 
 mod bad;
+mod captures;
 mod changes;
 mod content;
 mod declared;
@@ -16,8 +17,10 @@ mod source;
 mod tests;
 
 pub use bad::bad_text_note;
-pub use files::{read_fault_note, too_large_note};
+pub use captures::capture_note;
+pub use files::{read_fault_note, too_large_note, too_many_clerks_note};
 pub use help::TextKind;
 pub use note::Note;
+pub use pcap_keys::CaptureReason;
 pub use refusals::refusals_note;
 pub use token_forms::BadToken;

@@ -1,5 +1,5 @@
 ghost use Rattle.std.specs.Prelude.{◌≡◌, ◌+◌, ◌<◌, ◌++◌, ◌∷◌, [], List, ℕ, All, OnOk, IfOk, IsTrue, decimal};
-ghost use Rattle.fault_notes.specs.Shown.{IsQuiet, hex_digit, is_printable as is_printable_byte, shown, shown_byte, place_text, name_text};
+ghost use Rattle.fault_notes.specs.Shown.{IsQuiet, hex_digit, is_printable as is_printable_byte, shown, shown_byte, place_text, byte_text, name_text};
 
 use itoa::Buffer;
 use set_model::Memory;
@@ -96,6 +96,17 @@ impl Note {
         self.number(line)?;
         self.say(b":")?;
         self.number(column)?;
+        self.say(b": ")
+    }
+
+    /// Adds the name of a file, and the byte in it that is spoken of.
+    #[tactic(auto, using(crate::proofs::ShownLaws::shown_both))]
+    pub(crate) fn byte_place(&mut self, name: &[u8], byte: u64) -> Result<(), Memory>
+        ensures { OnOk result (self.new.bytes.items ≡ self.old.bytes.items ++ byte_text name.now byte) }
+    {
+        self.say(name)?;
+        self.say(b": byte ")?;
+        self.number(byte)?;
         self.say(b": ")
     }
 

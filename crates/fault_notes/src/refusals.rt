@@ -139,8 +139,14 @@ fn add_refusal(
         }
     }
     match spoken.older {
-        Some(older) => add_older(note, alloc, kinds, refused.cause, older)?,
-        None => note.say(alone(refused.cause))?,
+        Some(older) if !refused.is_by_thread => add_older(
+            note,
+            alloc,
+            kinds,
+            refused.cause,
+            older,
+        )?,
+        _ => note.say(alone(refused.cause))?,
     }
     note.end_line()
 }

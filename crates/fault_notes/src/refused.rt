@@ -27,6 +27,8 @@ pub(crate) struct SetWords<'a> {
 /// A refused change: the line of the script that it stands in, and its set.
 #[derive(Clone, Copy)]
 pub(crate) struct Refused<'a> {
+    /// Whether it is told of one of several control threads, whose sections don't follow the script's order.
+    pub(crate) is_by_thread: bool,
     pub(crate) line: u64,
     pub(crate) cause: Cause,
     pub(crate) set: SetWords<'a>,
@@ -52,11 +54,20 @@ fn cause_of(word: &[u8]) -> Option<Cause> {
 }
 
 /// A line of an output without the mark of a comment in front.
-pub(crate) fn without_mark(line: &[u8]) -> &[u8] {
+fn without_comment(line: &[u8]) -> &[u8] {
     line.strip_prefix(b"# ").unwrap_or(line)
 }
 
-/// The refused change that a line tells, as `line 4 refused overlap ip t s element 0`.
+/// A line of an output without what stands in front of an event: the mark of a comment, and the control thread of a `desk`.
+pub(crate) fn without_mark(line: &[u8]) -> &[u8] {
+    let told = without_comment(line);
+    match told.strip_prefix(b"clerk ") {
+        Some(behind) => next_word(behind).1,
+        None => told,
+    }
+}
+
+/// The refused change that a line tells, as `line 4 refused overlap ip t s element 0`, behind `# ` or `# clerk 1 ` too.
 pub(crate) fn refused_by(line: &[u8]) -> Option<Refused<'_>> {
     let behind = without_mark(line).strip_prefix(b"line ")?;
     let (number, behind) = next_word(behind);
@@ -66,6 +77,7 @@ pub(crate) fn refused_by(line: &[u8]) -> Option<Refused<'_>> {
     let (table, behind) = next_word(behind);
     let (name, _) = next_word(behind);
     Some(Refused {
+        is_by_thread: without_comment(line).starts_with(b"clerk "),
         line: read_number(number, MOST)?,
         cause: cause_of(cause)?,
         set: SetWords {

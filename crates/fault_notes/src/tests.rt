@@ -1,4 +1,7 @@
-use crate::{BadToken, TextKind, bad_text_note, read_fault_note, refusals_note, too_large_note};
+use crate::{
+    BadToken, CaptureReason, TextKind, bad_text_note, capture_note, read_fault_note, refusals_note,
+    too_large_note, too_many_clerks_note,
+};
 use pip_base::FaultKind;
 use set_model::{
     Comment, Family, Interval, Kind, Kinds, Memory, Name, Parts, Schema, Script, Sections, SetDecl,
@@ -124,6 +127,134 @@ fn bad_tokens_are_told_in_their_lines(rt: HostRuntime) {
     }
 }
 
+#[test]
+fn bad_tokens_of_rules_and_plans_are_told(rt: HostRuntime) {
+    let cases = [
+        Case {
+            kind: TextKind::Rules,
+            text: b"chain a { in ip t q drop }\npolicy drop\n",
+            bad: bad(18, 1, 1, 19, Reason::Set),
+            told: b"x:1:19: 'q' is no set that may be named here (set)\nchain a { in ip t q drop }\n                  ^\nhelp: a test's set is one that the script declares\n",
+        },
+        Case {
+            kind: TextKind::Rules,
+            text: b"chain a { drop }\n",
+            bad: bad(17, 0, 2, 1, Reason::End),
+            told: b"x:2:1: the text ends too early (end)\n\n^\nhelp: a '{' that is open wants its '}', and behind the chains stands 'policy accept' or 'policy drop'\n",
+        },
+        Case {
+            kind: TextKind::Rules,
+            text: b"add set ip t s { }\n",
+            bad: bad(0, 3, 1, 1, Reason::Statement),
+            told: b"x:1:1: this looks like a script: the script is named first, then the rules file, and then the key file\n",
+        },
+        Case {
+            kind: TextKind::Keys,
+            text: b"policy drop\n",
+            bad: bad(7, 4, 1, 8, Reason::Set),
+            told: b"x:1:8: this looks like a rules file: it is named behind the script, and then the key file\n",
+        },
+        Case {
+            kind: TextKind::Plan,
+            text: b"ip t s dport\n",
+            bad: bad(7, 5, 1, 8, Reason::TypeWord),
+            told: b"x:1:8: 'dport' is no selector of this field (type)\nip t s dport\n       ^^^^^\nhelp: ip_saddr and ip_daddr are ipv4_addr, ip6_saddr and ip6_daddr ipv6_addr, ether_saddr and ether_daddr ether_addr, proto inet_proto, sport and dport inet_service\n",
+        },
+        Case {
+            kind: TextKind::Plan,
+            text: b"ip t s ip_saddr ;\n",
+            bad: bad(16, 1, 1, 17, Reason::Statement),
+            told: b"x:1:17: ';' can't stand here (statement)\nip t s ip_saddr ;\n                ^\nhelp: a line is [FAMILY] TABLE SET SELECTOR . SELECTOR .., with one selector for each field; there are 4 lines at most\n",
+        },
+        Case {
+            kind: TextKind::Plan,
+            text: b"\xd4\xc3\xb2\xa1\x02\x00",
+            bad: bad(0, 1, 1, 1, Reason::Character),
+            told: b"x:1:1: this is a capture of packets (pcap), and no text\n",
+        },
+    ];
+    for case in &cases {
+        assert!(rt; is_told(&rt, "x", case), "at {}", case.bad.column);
+    }
+}
+
+/// Whether a file that is no capture is told of so.
+fn is_told_as(
+    rt: &HostRuntime,
+    file: &[u8],
+    byte: u64,
+    reason: CaptureReason,
+    told: &[u8],
+) -> bool {
+    match capture_note(rt.alloc(), "c", file, byte, reason) {
+        Ok(note) => note.as_slice() == told,
+        Err(_) => false,
+    }
+}
+
+#[test]
+fn captures_are_told_by_their_bytes(rt: HostRuntime) {
+    for (file, byte, reason, told) in [
+        (
+            b"\x0a\x0d\x0d\x0a\x1c\x00".as_slice(),
+            0,
+            CaptureReason::Magic,
+            b"c: byte 0: this is a pcapng file: write it as pcap, as editcap -F pcap does\n".as_slice(),
+        ),
+        (
+            b"\x1f\x8b\x08\x00",
+            0,
+            CaptureReason::Magic,
+            b"c: byte 0: this is a file that gzip has packed: unpack it first\n",
+        ),
+        (
+            b"ip t s ip_saddr\n",
+            0,
+            CaptureReason::Magic,
+            b"c: byte 0: this looks like a text: the script is named first, then the plan, and then the capture\n",
+        ),
+        (
+            b"",
+            0,
+            CaptureReason::Magic,
+            b"c: byte 0: the file is empty\n",
+        ),
+        (
+            b"\xd4\xc3\xb2\xa1\x02\0",
+            0,
+            CaptureReason::Cut,
+            b"c: byte 0: the file has fewer bytes than the 24 of a capture's header\n",
+        ),
+        (
+            b"\xd4\xc3\xb2\xa1\x02\0\x03\0\0\0\0\0\0\0\0\0\0\0\x04\0\x01\0\0\0",
+            4,
+            CaptureReason::Version,
+            b"c: byte 4: its version isn't 2.4\n",
+        ),
+        // what `tcpdump -i any` writes: Linux's cooked captures, type 113, in both orders of bytes
+        (
+            b"\xd4\xc3\xb2\xa1\x02\0\x04\0\0\0\0\0\0\0\0\0\0\0\x04\0\x71\0\0\0",
+            20,
+            CaptureReason::LinkType,
+            b"c: byte 20: its link type is 113: Ethernet (1) and raw IP (101) are read; capture on one interface, and not on 'any'\n",
+        ),
+        (
+            b"\xa1\xb2\xc3\xd4\0\x02\0\x04\0\0\0\0\0\0\0\0\0\x04\0\0\0\0\x01\x14",
+            20,
+            CaptureReason::LinkType,
+            b"c: byte 20: its link type is 276: Ethernet (1) and raw IP (101) are read; capture on one interface, and not on 'any'\n",
+        ),
+        (
+            b"\xd4\xc3\xb2\xa1",
+            24,
+            CaptureReason::Cut,
+            b"c: byte 24: the record that begins here isn't there as a whole: the first 24 bytes are a capture\n",
+        ),
+    ] {
+        assert!(rt; is_told_as(&rt, file, byte, reason, told), "{told:?}");
+    }
+}
+
 /// A name with a line feed and an escape forges no line and moves no terminal.
 #[test]
 fn a_name_stays_in_its_line(rt: HostRuntime) -> Result<(), Fail> {
@@ -146,6 +277,11 @@ fn files_are_told_by_their_names(rt: HostRuntime) -> Result<(), Fail> {
     assert_eq!(rt;
         note.as_slice(),
         b"a.nft: a file may have 67108864 bytes (64 MiB) at most\n".as_slice()
+    );
+    let note = too_many_clerks_note(rt.alloc(), "a.nft", 18)?;
+    assert_eq!(rt;
+        note.as_slice(),
+        b"a.nft: the script has 18 sections, and desk runs 17 at most: the first, and one for each of 16 control threads; join some, by leaving lines 'round' out\n".as_slice()
     );
     Ok(())
 }
@@ -239,6 +375,18 @@ fn refusals_are_told_with_both_elements(rt: HostRuntime) {
             &rt,
             b"# line 6 refused full ip t s\n# fail generation 0\n",
             b"x.nft:6:3: 10.0.1.128/25 doesn't fit: the set has as many elements as it may have\nx.nft: the last transaction failed: what is written is the generation before it\n"
+        )
+    );
+}
+
+/// Of several control threads, whose sections come in any order, no older element is told.
+#[test]
+fn refusals_of_control_threads_are_told_alone(rt: HostRuntime) {
+    assert!(rt;
+        is_told_of(
+            &rt,
+            b"# commit generation 1 purged 0\n# clerk 1 line 6 refused overlap ip t s element 0\n# clerk 1 fail generation 1\n# clerk 2 commit generation 2 purged 0\n",
+            b"x.nft:6:3: 10.0.1.128/25 overlaps an element that is there\n"
         )
     );
 }

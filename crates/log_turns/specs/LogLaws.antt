@@ -1,14 +1,15 @@
 -- The laws of the rule: what holds between any two steps, and that each kind of step keeps it.
-use Rattle.std.specs.Prelude.{◌≡◌, ℕ, ◌+◌, ◌*◌, ◌%◌, ◌^◌, ◌<◌, ◌≤◌, List, [], ◌∷◌, length, Option, Some}
+use Rattle.std.specs.Prelude.{◌≡◌, ℕ, ◌+◌, ◌*◌, ◌%◌, ◌^◌, ◌<◌, ◌≤◌, List, [], ◌∷◌, All, length, Option, Some}
+use Rattle.std.specs.List.{sum_by}
 use mathlib.Core.Option.{none, some}
 use lib.ListN.{get_elem?}
-use Rattle.atomic_table.specs.Table.{State, Me, step, opening, Allows, Splits}
+use Rattle.atomic_table.specs.Table.{State, Me, step, opening, Allows, Splits, Joins}
 use Rattle.history_laws.specs.Histories.{StartsWith}
 use Rattle.ticket_line.specs.Tickets.{InLine}
 use Rattle.log_turns.specs.declared.SeatView.{SeatView}
 use Rattle.log_turns.specs.declared.Role.TheVariants.{Opener, Clerk}
-use Rattle.log_turns.specs.LogRule.{stage_of, ticket_of, of_clerk, Kept, opening_view}
-use Rattle.log_turns.specs.LogSteps.{given_one, next_clerk, drew, looked, done, MayGive}
+use Rattle.log_turns.specs.LogRule.{stage_of, ticket_of, seats_of, times_of, kept_of, HasTurns, Keeps, IsNamed, Kept, opening_view}
+use Rattle.log_turns.specs.LogSteps.{given_one, next_clerk, gathered, spent_view, drew, looked, done, MayGive}
 
 -- Of any value with a log, the states before it, a number, and entries with a control thread's number each.
 module _ (B E G : Type 0) where
@@ -16,23 +17,24 @@ module _ (B E G : Type 0) where
   abbrev pub Queues : Type 0
   Queues = (log : B → List E) (base : B → List G) (number : B → ℕ) (clerk : E → ℕ) (each bound : ℕ) (s : State (Option B) (SeatView B E G)) (k : Kept log base number clerk each bound s) → InLine stage_of ticket_of s.words s.views k.line × (length k.line ≤ 16)
 
-  -- Each seat's log begins the value's, and a control thread's own entries are the same in both.
+  -- Each seat's log begins the value's, and so does each that it keeps. A control thread's entries are the same in the value's log and in the one that is kept for it; each entry is some control thread's to which a number was given, and as many numbers as were given are in the seats, none of them twice.
   abbrev pub Logs : Type 0
-  Logs = (log : B → List E) (base : B → List G) (number : B → ℕ) (clerk : E → ℕ) (each bound : ℕ) (s : State (Option B) (SeatView B E G)) (k : Kept log base number clerk each bound s) (j : ℕ) (d : SeatView B E G) → get_elem? s.views j ≡ some d
-      → StartsWith (log k.value) d.seen × ((c : ℕ) → d.role ≡ Clerk c → of_clerk log base number clerk c (log k.value) ≡ of_clerk log base number clerk c d.seen)
+  Logs = (log : B → List E) (base : B → List G) (number : B → ℕ) (clerk : E → ℕ) (each bound : ℕ) (s : State (Option B) (SeatView B E G)) (k : Kept log base number clerk each bound s)
+      → ((j : ℕ) (d : SeatView B E G) → get_elem? s.views j ≡ some d → StartsWith (log k.value) d.seen × All (Keeps log base number clerk k.given k.value) (kept_of d))
+      × All (IsNamed log base number clerk k.given) (log k.value) × (sum_by seats_of s.views ≡ k.given) × ((c : ℕ) → sum_by (times_of c) s.views ≤ 1)
 
   -- A table at the start meets the rule, with a value that has logged nothing.
   abbrev pub Opens : Type 0
   Opens = (log : B → List E) (base : B → List G) (number : B → ℕ) (clerk : E → ℕ) (each bound n : ℕ) (v : B) → n ≤ 16 → log v ≡ [] → number v + each * n ≤ bound → Kept log base number clerk each bound (opening (0 ∷ 0 ∷ []) (Some v ∷ []) (opening_view each n (base v)))
 
-  -- A control thread with no ticket adds 1 to word 0.
+  -- A seat with a number and no ticket adds 1 to word 0.
   abbrev pub DrawKeeps : Type 0
-  DrawKeeps = (log : B → List E) (base : B → List G) (number : B → ℕ) (clerk : E → ℕ) (each bound slots id : ℕ) (me : Me (Option B) (SeatView B E G)) (c : ℕ) → me.0.role ≡ Clerk c → me.0.stage ≡ 1
+  DrawKeeps = (log : B → List E) (base : B → List G) (number : B → ℕ) (clerk : E → ℕ) (each bound slots id : ℕ) (me : Me (Option B) (SeatView B E G)) → HasTurns me.0.role → me.0.stage ≡ 1
       → Allows (Kept log base number clerk each bound) slots id me 0 (λ x. (x + 1) % 2 ^ 64) (drew (step slots 0 1 0 none) me)
 
   -- One that has a ticket loads word 1.
   abbrev pub LookKeeps : Type 0
-  LookKeeps = (log : B → List E) (base : B → List G) (number : B → ℕ) (clerk : E → ℕ) (each bound slots id : ℕ) (me : Me (Option B) (SeatView B E G)) (c : ℕ) → me.0.role ≡ Clerk c → me.0.stage ≡ 2
+  LookKeeps = (log : B → List E) (base : B → List G) (number : B → ℕ) (clerk : E → ℕ) (each bound slots id : ℕ) (me : Me (Option B) (SeatView B E G)) → HasTurns me.0.role → me.0.stage ≡ 2
       → Allows (Kept log base number clerk each bound) slots id me 1 (λ x. x) (looked log base number clerk bound (step slots 1 0 0 none) me)
 
   -- Who is served gives back a value that has entries of its own behind the log, and stores the next ticket in word 1.
@@ -42,4 +44,8 @@ module _ (B E G : Type 0) where
 
   -- The opener's view is cut, for a control thread that was not made yet.
   abbrev pub SplitKeeps : Type 0
-  SplitKeeps = (log : B → List E) (base : B → List G) (number : B → ℕ) (clerk : E → ℕ) (each bound id : ℕ) (v : SeatView B E G) (q g : ℕ) → v.role ≡ Opener q g → g < q → Splits (Kept log base number clerk each bound) id v (given_one v) (next_clerk v)
+  SplitKeeps = (log : B → List E) (base : B → List G) (number : B → ℕ) (clerk : E → ℕ) (each bound id : ℕ) (v : SeatView B E G) (g : ℕ) → v.role ≡ Opener g → g < v.threads → Splits (Kept log base number clerk each bound) id v (given_one v) (next_clerk v)
+
+  -- A seat with a number takes in another's view, where neither has a ticket.
+  abbrev pub JoinKeeps : Type 0
+  JoinKeeps = (log : B → List E) (base : B → List G) (number : B → ℕ) (clerk : E → ℕ) (each bound id : ℕ) (v : SeatView B E G) (other : ℕ) (w : SeatView B E G) → HasTurns v.role → v.stage ≡ 1 → HasTurns w.role → w.stage ≡ 1 → Joins (Kept log base number clerk each bound) id v other w (gathered v w) spent_view

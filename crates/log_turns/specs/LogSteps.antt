@@ -1,18 +1,19 @@
 -- What each kind of step on the table tells.
 use Rattle.std.specs.Prelude.{◌≡◌, ◌≢◌, ℕ, ◌+◌, ◌-◌, ◌≤◌, List, [], ◌∷◌, ◌++◌, All, length, Option, Some, None}
 use Rattle.atomic_table.specs.Table.{Me, Step}
-use Rattle.history_laws.specs.Histories.{StartsWith}
+use Rattle.history_laws.specs.Histories.{StartsWith, longer}
 use Rattle.log_turns.specs.declared.SeatView.{SeatView}
 use Rattle.log_turns.specs.declared.Role.{Role}
-use Rattle.log_turns.specs.declared.Role.TheVariants.{Idle, Opener, Clerk}
+use Rattle.log_turns.specs.declared.Role.TheVariants.{Idle, Opener, Clerk, Gatherer}
+use Rattle.log_turns.specs.LogRule.{kept_of, Keeps, IsNamed}
 
 -- a control thread more was given
 abbrev pub one_more : Role → Role
-one_more (Opener n given) = Opener n (given + 1)
+one_more (Opener given) = Opener (given + 1)
 one_more role = role
 
 abbrev pub next_role : Role → Role
-next_role (Opener n given) = Clerk (given + 1)
+next_role (Opener given) = Clerk (given + 1)
 next_role _ = Idle
 
 module _ {B E G : Type 0} where
@@ -21,17 +22,33 @@ module _ {B E G : Type 0} where
   given_one d = record d { role = one_more d.role }
 
   abbrev pub next_clerk : SeatView B E G → SeatView B E G
-  next_clerk d = record { role = next_role d.role; stage = 1; ticket = 0; seen = []; base = d.base; left = d.left; took = None }
+  next_clerk d = record { role = next_role d.role; threads = d.threads; stage = 1; ticket = 0; seen = []; base = d.base; left = d.left; took = None; kept = [] }
+
+  -- a seat after it has taken in another: it has the longer of both logs, keeps those of both, and may add nothing
+  abbrev pub gathered : SeatView B E G → SeatView B E G → SeatView B E G
+  gathered d e = record { role = Gatherer; threads = d.threads; stage = 1; ticket = d.ticket; seen = longer d.seen e.seen; base = d.base; left = 0; took = None; kept = kept_of d ++ kept_of e }
+
+  -- and the other's
+  abbrev pub spent_view : SeatView B E G
+  spent_view = record { role = Idle; threads = 0; stage = 1; ticket = 0; seen = []; base = []; left = 0; took = None; kept = [] }
 
   -- the seat has the ticket that was found
   abbrev pub drew : Step (Option B) → Me (Option B) (SeatView B E G) → ℕ → Me (Option B) (SeatView B E G) → Type 0
   drew st m e m' = m' ≡ (record m.0 { stage = 2; ticket = e }, m.1)
 
 module _ {B E G : Type 0} (log : B → List E) (base : B → List G) (number : B → ℕ) (clerk : E → ℕ) where
-  -- At its own ticket the seat has the value, whose log begins with what it had seen, and else nothing changes.
+  -- what a seat finds of the value when its turn comes: its log begins with what the seat had seen, has each control thread's entries as they were kept, and names no control thread that there isn't
+  pub record Finds (bound : ℕ) (d : SeatView B E G) (v : B) : Type 0 where
+    pub begins : StartsWith (log v) d.seen
+    pub based : base v ≡ d.base
+    pub room : number v + d.left ≤ bound
+    pub keeps : All (Keeps log base number clerk d.threads v) (kept_of d)
+    pub named : All (IsNamed log base number clerk d.threads) (log v)
+
+  -- At its own ticket the seat has the value, and else nothing changes.
   abbrev pub looked : ℕ → Step (Option B) → Me (Option B) (SeatView B E G) → ℕ → Me (Option B) (SeatView B E G) → Type 0
   looked bound st m e m' =
-      (e ≡ m.0.ticket → (v : B) × (m' ≡ (record m.0 { stage = 3; took = Some v }, (0, Some v) ∷ m.1)) × StartsWith (log v) m.0.seen × (base v ≡ m.0.base) × (number v + m.0.left ≤ bound))
+      (e ≡ m.0.ticket → (v : B) × (m' ≡ (record m.0 { stage = 3; took = Some v }, (0, Some v) ∷ m.1)) × Finds bound m.0 v)
       × (e ≢ m.0.ticket → m' ≡ m)
 
   -- A turn may be ended with this value: it has entries of the control thread behind the log, as many as it had left at most, and at most one state more for each.

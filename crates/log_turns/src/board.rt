@@ -3,7 +3,7 @@
 //! Word 0 is the next ticket, and word 1 the ticket that is served. The table's one entry is the value, which is out with
 //! the seat whose ticket is served.
 use crate::{Logged, SeatView};
-use atomic_table::{Play, Seat, Shared, Table, TableRule};
+use atomic_table::{Join, Play, Seat, Shared, Split, Table, TableRule};
 use std::alloc::Global;
 use std::marker::PhantomData;
 use std::snapshot::Snapshot;
@@ -74,4 +74,26 @@ impl<T: Logged> Play<Option<T>, SeatView<T, T::Entry, T::State>> for Done {
     ghost use Rattle.log_turns.specs.LogSteps.{done};
 
     ghost then = { done T.log T.base T.number T.clerk };
+}
+
+// A control thread's seat is made.
+pub(crate) struct Deal;
+
+impl<B, E, G> Split<SeatView<B, E, G>> for Deal {
+    ghost use Rattle.log_turns.specs.LogSteps.{given_one, next_clerk};
+
+    ghost left = { given_one };
+
+    ghost right = { next_clerk };
+}
+
+// A seat that is done is taken in by another.
+pub(crate) struct Gather;
+
+impl<B, E, G> Join<SeatView<B, E, G>> for Gather {
+    ghost use Rattle.log_turns.specs.LogSteps.{gathered, spent_view};
+
+    ghost both = { gathered };
+
+    ghost spent = { spent_view };
 }

@@ -5,9 +5,10 @@
 #![tactic(auto)]
 
 ghost use Rattle.std.specs.Prelude.{ℕ, List};
-ghost use Rattle.log_turns.specs.LogLaws.{Queues, Logs, Opens, DrawKeeps, LookKeeps, DoneKeeps, SplitKeeps};
+ghost use Rattle.log_turns.specs.LogLaws.{Queues, Logs, Opens, DrawKeeps, LookKeeps, DoneKeeps, SplitKeeps, JoinKeeps};
 
 pub mod board;
+pub mod dealing;
 pub mod turn;
 
 use std::collections::LinkedList;
@@ -34,15 +35,19 @@ pub trait Logged {
 pub enum Role {
     /// Nobody's.
     Idle,
-    /// The seat that the control threads' seats come from: how many there are, and how many were given.
-    Opener(u64, u64),
+    /// The seat that the control threads' seats come from, and how many were given.
+    Opener(u64),
     /// The control thread's, by its number. They count from 1.
     Clerk(u64),
+    /// That of control threads that are done. It adds no entry any more.
+    Gatherer,
 }
 
 /// What a seat at the table knows. No value of it is made.
 pub struct SeatView<B, E, G> {
     pub role: Role,
+    /// How many control threads there are.
+    pub threads: u64,
     /// 1 with no ticket, 2 with one that is not served yet, and 3 with the value.
     pub stage: u64,
     /// The ticket that it drew last.
@@ -55,6 +60,8 @@ pub struct SeatView<B, E, G> {
     pub left: u64,
     /// The value as it was when its last turn came.
     pub took: Option<B>,
+    /// Of a gatherer the log that each control thread had seen, by its number.
+    pub kept: LinkedList<(u64, LinkedList<E>)>,
 }
 
 /// What holds of the tickets and the logs between any two steps, in every interleaving.
@@ -64,11 +71,12 @@ pub fn between_steps<B, E, G>()
 {}
 
 /// The table at the start meets the rule, and each kind of step keeps it: a draw, a look at a ticket of one's own, the end
-/// of a turn, and a split for a control thread's seat. There is no other step on a word.
+/// of a turn, a split for a control thread's seat, and a join of seats that are done. There is no other step on a word.
 pub fn every_step<B, E, G>()
     ensures opening { Opens B E G }
     ensures draw { DrawKeeps B E G }
     ensures look { LookKeeps B E G }
     ensures done { DoneKeeps B E G }
     ensures split { SplitKeeps B E G }
+    ensures join { JoinKeeps B E G }
 {}

@@ -1,9 +1,8 @@
 //! A turn: a seat draws a ticket and waits for the value, and gives it back with what it logged.
 ghost use Rattle.std.specs.Prelude.{◌≡◌, ℕ, ◌-◌, ◌+◌, ◌≤◌, [], ◌∷◌, length, None, Some};
-ghost use Rattle.history_laws.specs.Histories.{StartsWith};
 ghost use Rattle.log_turns.specs.declared.Role.TheVariants.{Clerk};
-ghost use Rattle.log_turns.specs.LogRule.{IsClerk, IsSized, most};
-ghost use Rattle.log_turns.specs.LogSteps.{MayGive};
+ghost use Rattle.log_turns.specs.LogRule.{HasTurns, IsClerk, IsSized, most};
+ghost use Rattle.log_turns.specs.LogSteps.{Finds, MayGive};
 
 use crate::Logged;
 use crate::board::{Done, Draw, Look, Place, Top};
@@ -13,12 +12,10 @@ use std::thread;
 /// Draws a ticket, and waits until it is served. Then the seat has the value.
 pub fn take_turn<T: Logged + Drop, R: Wait>(rt: &R, top: &Top<T>, place: &mut Place<T>) -> (u64, T)
     requires table { (place.old.table_id ≡ top.now.table_id) × IsSized place.old.table_id }
-    requires seat { IsClerk place.old.me.0.role × (place.old.me.0.stage ≡ 1) × (place.old.me.1 ≡ []) }
+    requires seat { HasTurns place.old.me.0.role × (place.old.me.0.stage ≡ 1) × (place.old.me.1 ≡ []) }
     ensures table { place.new.table_id ≡ place.old.table_id }
     ensures seat { place.new.me ≡ (record place.old.me.0 { stage = 3; ticket = result.0; took = Some result.1 }, (0, None) ∷ []) }
-    ensures log { StartsWith (T.log result.1) place.old.me.0.seen }
-    ensures base { T.base result.1 ≡ place.old.me.0.base }
-    ensures number { T.number result.1 + place.old.me.0.left ≤ most }
+    ensures finds { Finds T.log T.base T.number T.clerk most place.old.me.0 result.1 }
 {
     let ticket = top.fetch_add::<Draw>(place, 0, 1);
     for _ in rt.forever() {

@@ -1,6 +1,6 @@
 -- The facts of frames are values of their kinds: a number of n bytes is below 256 to the power of n.
-use Rattle.std.proofs.Common.{◌≡◌, inl, inr, refl, sym, ◌∙◌, ap, subst, ℕ, zero, suc, ◌+◌, ◌<◌, ◌≤◌, ◌%◌, ◌^◌, List, [], ◌∷◌, ◌++◌, length, take, drop, get_or, slice_index, nat_lt, nat_le, ◌==◌, not, Bool, true, false, ◌⊎◌, Option, Some, None, Result, Ok, Err, arith}
-use Rattle.std.specs.Prelude.{IfOk, IfSome, if◌then◌else◌, is_some}
+use Rattle.std.proofs.Common.{◌≡◌, inl, inr, sym, subst, ℕ, zero, suc, ◌+◌, ◌<◌, ◌≤◌, ◌%◌, ◌^◌, List, [], ◌∷◌, length, drop, slice_index, nat_lt, nat_le, ◌==◌, not, Bool, true, false, ◌⊎◌, Option, Some, None, Result, Ok, Err, arith}
+use Rattle.std.specs.Prelude.{IfOk, IfSome, if◌then◌else◌}
 use Rattle.std.specs.List.{All}
 use Rattle.std.proofs.lemmas.Bool.{lt-ltb, cases_lt}
 use Rattle.std.proofs.lemmas.List.{get_or_past}
@@ -18,14 +18,13 @@ use Rattle.pcap_keys.specs.declared.format.Link.TheVariants as links
 use Rattle.pcap_keys.specs.declared.error.CaptureError.{CaptureError}
 use Rattle.pcap_keys.specs.declared.error.CaptureError.TheVariants.{Bad, Memory}
 use Rattle.pcap_keys.specs.declared.error.CaptureReason.TheVariants as reasons
-use Rattle.pcap_keys.specs.declared.selector.Selector.{Selector}
 use Rattle.pcap_keys.specs.declared.selector.Selector.TheVariants.{IpSource, IpDest, Ip6Source, Ip6Dest, EtherSource, EtherDest, Proto, SourcePort, DestPort}
 use Rattle.pcap_keys.specs.Wire.{number_at}
-use Rattle.pcap_keys.specs.Packets.{is_ipv4, is_ipv6, ipv4_header, ipv4_facts, ipv6_facts, ipv4, ipv6, has_version, raw_ip, type_place, addresses, by_type, ethernet, facts}
+use Rattle.pcap_keys.specs.Packets.{is_ipv4, is_ipv6, ipv4_header, ipv4_facts, ipv6_facts, ipv4, ipv6, has_version, type_place, addresses, by_type, facts}
 use Rattle.pcap_keys.specs.Savefile.{number, format_of, link_of, is_version, kept, is_whole, frame_bytes}
-use Rattle.pcap_keys.specs.Captured.{fault, frame_of, start_of, behind, where_left, where_whole, records, all_records, of_link, of_format, captured, IsUnlessMemory}
-use Rattle.pcap_keys.specs.Selectors.{is_in, value, source_of, dest_of}
-use Rattle.pcap_keys.specs.Fitting.{kind_of, AreValues, HasValues}
+use Rattle.pcap_keys.specs.Captured.{fault, frame_of, start_of, behind, where_left, where_whole, records, of_link, of_format, captured, IsUnlessMemory}
+use Rattle.pcap_keys.specs.Selectors.{source_of, dest_of}
+use Rattle.pcap_keys.specs.Fitting.{AreValues, HasValues}
 
 abbrev pub IsByte : ℕ → Type 0
 IsByte b = b < 256

@@ -1,5 +1,5 @@
 -- The lines of a plan fit the declared sets.
-use Rattle.std.proofs.Common.{◌≡◌, inl, inr, refl, sym, ◌∙◌, ap, subst, ℕ, List, [], ◌∷◌, ◌++◌, map, length, nat_lt, Bool, true, false, Option, Some, None, slice_get, Result, Ok, Err, append_assoc, append-nil, bytes_eq, codes}
+use Rattle.std.proofs.Common.{◌≡◌, refl, sym, ◌∙◌, ap, subst, ℕ, List, [], ◌∷◌, ◌++◌, map, length, nat_lt, Bool, true, false, Option, Some, None, slice_get, Result, Ok, Err, append_assoc, append-nil, bytes_eq, codes}
 use Rattle.std.specs.Prelude.{IfOk, if◌then◌else◌}
 use Rattle.std.specs.List.{All}
 use Rattle.std.proofs.lemmas.List.Elements.{All-nil, All-push}

@@ -1,22 +1,24 @@
 -- Reading a plan gives what the table of its forms says.
-use Rattle.std.proofs.Common.{◌≡◌, refl, sym, subst, ℕ, ◌<◌, List, [], ◌∷◌, ◌++◌, length, Bool, true, false, nat_lt, Option, Some, None, codes, slice_get, Result, OnOk}
+use Rattle.std.proofs.Common.{◌≡◌, refl, sym, subst, ℕ, ◌<◌, List, [], ◌∷◌, ◌++◌, length, Bool, true, false, nat_lt, Option, Some, None, codes, slice_get, Result, Ok, Err, IfOk, OnOk}
 use Rattle.set_model.specs.declared.kind.Kind.{Kind}
 use Rattle.set_model.specs.declared.script.SetDecl.{SetDecl}
 use Rattle.token_forms.specs.declared.token.Reason.{Reason}
 use Rattle.token_forms.specs.declared.token.Reason.TheVariants as reasons
 use Rattle.token_forms.specs.declared.error.ReadError.{ReadError}
+use Rattle.token_forms.specs.declared.error.ReadError.TheVariants as errors
 use Rattle.token_forms.specs.Token.{Lexeme}
-use Rattle.token_forms.specs.Reading.{Outcome}
 use Rattle.token_forms.specs.Words.{breaks_off}
 use Rattle.token_forms.specs.Gives.{Gives}
-use Rattle.token_forms.specs.TextTokens.{text_tokens}
+use Rattle.token_forms.specs.BadTokens.{IsPlainBadTokenOf}
+use Rattle.token_forms.specs.TextTokens.{plain_tokens}
+use Rattle.token_forms.proofs.BadTokenLaws.{IsRefusedAt}
 use Rattle.token_forms.proofs.FormLaws.{Reads, Begins, never, weaken, bind_reads, bind_definite, bind_begins, done_reads, nowhere_reads, nowhere_begins}
 use Rattle.token_forms.proofs.ManyLaw.{many_reads}
 use Rattle.token_forms.proofs.ShorterLaws.{gives_shorter}
 use Rattle.token_forms.proofs.WordLaws.{any_word, word_reads, word_by_reads, breaks_no_end, AreStatements, are_lines, line_more}
 use Rattle.token_forms.proofs.KindLaws.{word_no_break, end_no_break_line}
 use Rattle.token_forms.proofs.WholeLaws.{Ends, text_answer}
-use Rattle.token_forms.proofs.EndsLaw.{text_ends}
+use Rattle.token_forms.proofs.EndsLaw.{plain_ends}
 use Rattle.token_forms.proofs.AnswerLaws.{TextGives, text_gives, text_single}
 use Rattle.set_script.proofs.ScriptLaws.{table_place_reads, table_place_begins, used_set_reads}
 use Rattle.pcap_keys.specs.declared.selector.Selector.{Selector}
@@ -101,20 +103,28 @@ body_reads schema = bind_reads (form.plan_lines schema) more (reading.plan_lines
 })
 
 -- what reading a whole plan says of its text
-schema_gives : (schema : List SetDecl) (text : List ℕ) (ts : List Lexeme) (r : Result (List PlanLine) ReadError) (new : List Lexeme) → ts ≡ text_tokens text → Gives (λ x. x) r new (reading.plan schema ts)
-    → TextGives (form.body schema) (text_tokens text) (λ x. x) r new
+schema_gives : (schema : List SetDecl) (text : List ℕ) (ts : List Lexeme) (r : Result (List PlanLine) ReadError) (new : List Lexeme) → ts ≡ plain_tokens text → Gives (λ x. x) r new (reading.plan schema ts)
+    → TextGives (form.body schema) (plain_tokens text) (λ x. x) r new
 unfolding reading.plan
 schema_gives schema text ts r new e g =
     subst (λ z. TextGives (form.body schema) z (λ x. x) r new) e
-    (text_gives (form.body schema) ts (λ x. x) r new (reading.body schema ts) (text_answer (body_reads schema) (λ _. end_no_break_line) ts (subst Ends (sym e) (text_ends text))) g)
+    (text_gives (form.body schema) ts (λ x. x) r new (reading.body schema ts) (text_answer (body_reads schema) (λ _. end_no_break_line) ts (subst Ends (sym e) (plain_ends text))) g)
 
-pub plan_gives : (schema given : List SetDecl) (text : List ℕ) (ts : List Lexeme) (r : Result (List PlanLine) ReadError) (new : List Lexeme) → given ≡ schema → ts ≡ text_tokens text → Gives (λ x. x) r new (reading.plan given ts)
-    → TextGives (form.body schema) (text_tokens text) (λ x. x) r new
+pub plan_gives : (schema given : List SetDecl) (text : List ℕ) (ts : List Lexeme) (r : Result (List PlanLine) ReadError) (new : List Lexeme) → given ≡ schema → ts ≡ plain_tokens text → Gives (λ x. x) r new (reading.plan given ts)
+    → TextGives (form.body schema) (plain_tokens text) (λ x. x) r new
 plan_gives schema given text ts r new same e g = schema_gives schema text ts r new e (subst (λ (z : List SetDecl). Gives (λ x. x) r new (reading.plan z ts)) same g)
+
+pub plan_unrefused : (schema given : List SetDecl) (text : List ℕ) (ts : List Lexeme) (r : Result (List PlanLine) ReadError) (new : List Lexeme) → given ≡ schema → ts ≡ plain_tokens text → Gives (λ x. x) r new (reading.plan given ts)
+    → (lines : List PlanLine) → r ≡ Ok lines → IsPlainBadTokenOf (form.plan schema) text None
+plan_unrefused schema given text ts r new same e g lines k = (lines, subst (λ z. IfOk z ((form.plan schema).whole (plain_tokens text))) k (plan_gives schema given text ts r new same e g).found)
+
+pub plan_refused : (schema given : List SetDecl) (text : List ℕ) (ts : List Lexeme) (r : Result (List PlanLine) ReadError) (new : List Lexeme) → given ≡ schema → ts ≡ plain_tokens text → Gives (λ x. x) r new (reading.plan given ts)
+    → (line : ℕ) (reason : Reason) → r ≡ Err (errors.Bad line reason) → IsRefusedAt (form.plan schema) (plain_tokens text) line reason new
+plan_refused schema given text ts r new same e g line reason k = (plan_gives schema given text ts r new same e g).bad line reason k
 
 pub plan_single : (schema : List SetDecl) (text : List ℕ) (lines other : List PlanLine) → IsPlanText schema text lines → IsPlanText schema text other → lines ≡ other
 unfolding IsPlanText
-plan_single schema text lines other w v = text_single (body_reads schema) (λ _. end_no_break_line) (text_tokens text) (text_ends text) lines other w v
+plan_single schema text lines other w v = text_single (body_reads schema) (λ _. end_no_break_line) (plain_tokens text) (plain_ends text) lines other w v
 
 -- a line takes a token
 pub line_shorter : {X : Type 0} (schema : List SetDecl) (s : List PlanLine × Bool) (view : X → List PlanLine × Bool) (result : Result X ReadError) (old new : List Lexeme)

@@ -1,5 +1,5 @@
 -- Records one after the other: what the frames so far are.
-use Rattle.std.proofs.Common.{◌≡◌, refl, sym, ◌∙◌, ap, subst, ℕ, zero, suc, ◌+◌, ◌<◌, ◌≤◌, ◌%◌, ◌^◌, Bool, true, false, nat_lt, List, [], ◌∷◌, ◌++◌, length, drop, Option, Some, Result, Ok, Err, append_assoc, append-nil, arith}
+use Rattle.std.proofs.Common.{◌≡◌, refl, sym, ◌∙◌, ap, subst, ℕ, zero, suc, ◌+◌, ◌<◌, ◌≤◌, ◌%◌, ◌^◌, true, false, nat_lt, List, [], ◌∷◌, ◌++◌, length, drop, Some, Result, Ok, Err, append_assoc, append-nil, arith}
 use Rattle.pcap_keys.specs.declared.facts.Frame.{Frame}
 use Rattle.pcap_keys.specs.declared.format.Format.{Format}
 use Rattle.pcap_keys.specs.declared.format.Link.{Link}

@@ -1,5 +1,5 @@
 -- Worked examples of the definitions. They compute: a wrong number here is refused.
-use Rattle.std.specs.Prelude.{◌≡◌, refl, ℕ, List, [], ◌∷◌, take, false, Option, Some, None, Result, Ok, Err}
+use Rattle.std.specs.Prelude.{◌≡◌, refl, ℕ, List, [], ◌∷◌, take, false, Some, None, Result, Ok, Err}
 use Rattle.pcap_keys.specs.declared.facts.Facts.{Facts}
 use Rattle.pcap_keys.specs.declared.facts.Frame.{Frame}
 use Rattle.pcap_keys.specs.declared.error.CaptureError.{CaptureError}

@@ -1,6 +1,5 @@
 -- What a file stands for as a capture: its frames, or its first fault.
 use Rattle.std.specs.Prelude.{◌≡◌, ℕ, zero, suc, ◌+◌, ◌-◌, ◌%◌, ◌^◌, Bool, true, false, not, nat_lt, nat_le, if◌then◌else◌, List, [], ◌∷◌, ◌++◌, length, drop, Option, Some, None, Result, Ok, Err}
-use Rattle.pcap_keys.specs.declared.facts.Facts.{Facts}
 use Rattle.pcap_keys.specs.declared.facts.Frame.{Frame}
 use Rattle.pcap_keys.specs.declared.format.Format.{Format}
 use Rattle.pcap_keys.specs.declared.format.Link.{Link}

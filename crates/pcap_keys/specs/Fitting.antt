@@ -1,5 +1,5 @@
 -- What plans and facts keep, so that the packets that they make fit the sets.
-use Rattle.std.specs.Prelude.{◌≡◌, List, map, Bool, true, Option, Some, IfSome, slice_get}
+use Rattle.std.specs.Prelude.{◌≡◌, List, map, true, Some, IfSome, slice_get}
 use Rattle.set_model.specs.declared.kind.Kind.{Kind}
 use Rattle.set_model.specs.declared.kind.Kind.TheVariants as kinds
 use Rattle.set_model.specs.declared.script.SetDecl.{SetDecl}

@@ -7,4 +7,5 @@ pub mod Plans
 pub mod PlansReading
 pub mod PlansText
 pub mod Planned
+pub mod CapturedPackets
 pub mod Fitting

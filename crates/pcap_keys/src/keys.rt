@@ -1,14 +1,17 @@
-ghost use Rattle.std.specs.Prelude.{◌≡◌, ◌++◌, List, map, IfOk, OnOk, All};
+ghost use Rattle.std.specs.Prelude.{◌≡◌, ◌++◌, ℕ, List, map, IfOk, OnOk, All};
 ghost use Rattle.std.specs.List.{list_all, flat_map};
 ghost use Rattle.pcap_keys.specs.Selectors.{is_in, value};
 ghost use Rattle.set_model.specs.Runnable.{IsFitting};
+ghost use Rattle.set_model.specs.declared.packet.Packet.{Packet as Looked};
 ghost use Rattle.set_model.specs.declared.script.SetDecl.{SetDecl as Declared};
 ghost use Rattle.pcap_keys.specs.Planned as planned;
+ghost use Rattle.pcap_keys.specs.PlansText.{IsPlanText};
+ghost use Rattle.pcap_keys.specs.CapturedPackets.{IsCapture, AreCaptured};
 ghost use Rattle.pcap_keys.specs.Fitting.{IsPlanned, HasValues};
 
 use crate::facts::{Facts, Frame, Frames};
 use crate::selector::{Plan, PlanLine, Selector};
-use set_model::{Key, Memory, Packet, Packets};
+use set_model::{Key, Memory, Packet, Packets, Schema};
 use std::alloc::Global;
 
 fn all_are_in(facts: &Facts, selectors: &[Selector]) -> bool
@@ -97,8 +100,15 @@ fn all_packets(alloc: Global, plan: &Plan, frames: &Frames) -> Result<Packets, M
 pub fn keys_of(alloc: Global, plan: &Plan, frames: &Frames) -> Result<Packets, Memory>
     // These are the packets that the plan makes of the frames.
     ensures packets { IfOk result (λ packets. packets ≡ planned.packets plan.now frames.now) }
+    // So they are the packets of a capture by a text that is a plan, where this is its plan and these are its frames.
+    ensures captured { (schema : List Declared) (plan_text capture_text : List ℕ) → IsPlanText schema plan_text plan.now → IsCapture capture_text frames.now → IfOk result (AreCaptured schema plan_text capture_text) }
     // They fit the sets that the plan was read for.
     ensures fit { (schema : List Declared) → All (IsPlanned schema) plan.now → All HasValues frames.now → IfOk result (All (IsFitting schema)) }
 {
     all_packets(alloc, plan, frames)
 }
+
+/// A plan and a capture have one list of packets at most.
+pub fn one_capture_law(_schema: &Schema, _plan: &[u8], _capture: &[u8])
+    ensures { (packets other : List Looked) → AreCaptured _schema.now _plan.now _capture.now packets → AreCaptured _schema.now _plan.now _capture.now other → packets ≡ other }
+{}

@@ -22,7 +22,9 @@ mod wire;
 pub use capture::read_capture;
 pub use error::{CaptureError, CaptureReason};
 pub use facts::{Facts, Frame, Frames};
-pub use keys::keys_of;
-pub use plan::{PlanError, one_plan_fault_law, one_plan_law, plan_fronts_law, read_plan};
+pub use keys::{keys_of, one_capture_law};
+pub use plan::{
+    PlanError, bad_token, one_plan_fault_law, one_plan_law, plan_fronts_law, read_plan,
+};
 pub use selector::{Plan, PlanLine, Selector, Selectors};
-pub use token_forms::Reason;
+pub use token_forms::{BadToken, Reason};

@@ -1,8 +1,8 @@
 ghost use Rattle.std.specs.Prelude.{◌≡◌, ◌<◌, List, length, nat_lt, ℕ, IfOk, OnOk, Err, All};
 ghost use Rattle.token_forms.specs.Gives.{Gives, IsReadAs};
-ghost use Rattle.token_forms.specs.TextTokens.{text_tokens};
-ghost use Rattle.token_forms.specs.Faults.{IsFault};
+ghost use Rattle.token_forms.specs.TextTokens.{plain_tokens};
 ghost use Rattle.token_forms.specs.Fronts.{AreFrontsClosed, IsRefusedOnce};
+ghost use Rattle.token_forms.specs.BadTokens.{IsPlainBadTokenOf, HasOneBadTokenAmong};
 ghost use Rattle.token_forms.specs.View.{lexeme_of};
 ghost use Rattle.token_forms.specs.Words.{breaks_off};
 ghost use Rattle.token_forms.specs.WordReading.{line_starts};
@@ -12,14 +12,14 @@ ghost use Rattle.set_script.specs.ScriptReading.{any_word};
 ghost use Rattle.pcap_keys.specs.declared.selector.PlanLine.{PlanLine as Lined};
 ghost use Rattle.pcap_keys.specs.PlansReading as reading;
 ghost use Rattle.pcap_keys.specs.Plans.{most_lines, plan};
-ghost use Rattle.pcap_keys.specs.PlansText.{IsPlanText};
+ghost use Rattle.pcap_keys.specs.PlansText.{IsPlanText, IsBadPlan};
 ghost use Rattle.pcap_keys.specs.Fitting.{IsPlanned};
 
 use crate::selector::{Plan, PlanLine, Selector, Selectors, read_selector};
-use set_model::{Kind, Listed, Schema, SetDecl};
+use set_model::{Kind, Listed, Memory, Schema, SetDecl};
 use set_script::{table_place, used_set};
 use std::alloc::Global;
-use token_forms::{ReadError, Reader, Reason, Seen, short};
+use token_forms::{BadToken, ReadError, Reader, Reason, Seen, plain_bad_token_before, short};
 
 /// Why a text isn't read as a plan.
 pub type PlanError = ReadError;
@@ -276,12 +276,31 @@ pub fn read_plan(alloc: Global, schema: &Schema, text: &[u8]) -> Result<Plan, Pl
     // A text that stands for a plan is read as that one, unless memory runs out; so it stands for one at most.
     ensures only { (lines : List Lined) → IsPlanText schema.now text.now lines → IsReadAs (λ x. x) result lines }
     // A text that is refused stands for no plan; the line is that of its bad token, with the first reason that applies.
-    ensures bad { (line : ℕ) (reason : Reason) → result ≡ Err (Bad line reason) → IsFault (plan schema.now) (text_tokens text.now) line reason }
+    ensures bad { (line : ℕ) (reason : Reason) → result ≡ Err (Bad line reason) → IsBadPlan schema.now text.now line reason }
     // Each line's set is declared, and its selectors are of the kinds of the set's fields.
     ensures fits { IfOk result (All (IsPlanned schema.now)) }
 {
-    let mut reader = Reader::new(text);
+    let mut reader = Reader::plain(text);
     whole(&mut reader, alloc, schema.as_slice())
+}
+
+/// The bad token of a text, for the sets of a schema: where it stands, and the reason; `None` exactly where the text is in
+/// the grammar. It is the token of which `read_plan` tells the line and the reason.
+///
+/// # Errors
+///
+/// `Memory` where there is none left.
+pub fn bad_token(alloc: Global, schema: &Schema, text: &[u8]) -> Result<Option<BadToken>, Memory>
+    ensures { IfOk result (IsPlainBadTokenOf (plan schema.now) text.now) }
+{
+    let mut reader = Reader::plain(text);
+    match whole(&mut reader, alloc, schema.as_slice()) {
+        Ok(_) => return Ok(None),
+        Err(ReadError::Memory) => return Err(Memory),
+        Err(ReadError::Bad { reason, .. }) => {
+            return Ok(plain_bad_token_before(text, reader, reason));
+        }
+    }
 }
 
 /// A text stands for one plan at most.
@@ -294,7 +313,8 @@ pub fn plan_fronts_law(_schema: &Schema)
     ensures { AreFrontsClosed (plan _schema.now) }
 {}
 
-/// A text that is no plan is refused at one line and for one reason.
+/// A text that is no plan is refused at one line and for one reason, and by one token.
 pub fn one_plan_fault_law(_schema: &Schema, _text: &[u8])
-    ensures { IsRefusedOnce (plan _schema.now) (text_tokens _text.now) }
+    ensures refused { IsRefusedOnce (plan _schema.now) (plain_tokens _text.now) }
+    ensures token { HasOneBadTokenAmong (plan _schema.now) (plain_tokens _text.now) _text.now }
 {}

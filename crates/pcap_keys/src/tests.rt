@@ -1,5 +1,6 @@
 use crate::{
-    CaptureError, CaptureReason, Facts, PlanError, Reason, keys_of, read_capture, read_plan,
+    CaptureError, CaptureReason, Facts, PlanError, Reason, bad_token, keys_of, read_capture,
+    read_plan,
 };
 use set_model::{Memory, Packets, Schema};
 use set_script::read_script;
@@ -495,7 +496,9 @@ fn faults_of_plans(rt: HostRuntime) -> Result<(), Fail> {
         (b"ip filter t ip_saddr . dport", 1, Reason::Set),
         (b"ip6 filter s ip_saddr . dport", 1, Reason::Set),
         (b"5", 1, Reason::Statement),
-        (b"filter s counter", 1, Reason::LeftOut),
+        (b"filter s counter", 1, Reason::TypeWord),
+        (b"delete set ip_saddr . dport", 1, Reason::Set),
+        (b"filter s ip_saddr . dport *", 1, Reason::Statement),
         (b"filter s @", 1, Reason::Character),
         (
             b"filter s ip_saddr . dport\nfilter s ip_saddr . dport\nfilter s ip_saddr . dport\nfilter s ip_saddr . dport\n\nfilter s ip_saddr . dport\n",
@@ -508,5 +511,34 @@ fn faults_of_plans(rt: HostRuntime) -> Result<(), Fail> {
             "{text:?}"
         );
     }
+    Ok(())
+}
+
+/// The place, the length, the line and the column of the bad token of a text, and the reason.
+fn place(alloc: Global, schema: &Schema, text: &[u8]) -> Option<(u64, u64, u64, u64, Reason)> {
+    match bad_token(alloc, schema, text) {
+        Ok(Some(t)) => Some((t.at, t.length, t.line, t.column, t.reason)),
+        _ => None,
+    }
+}
+
+#[test]
+fn bad_tokens_have_places(rt: HostRuntime) -> Result<(), Fail> {
+    let alloc = rt.alloc();
+    let schema = sets(alloc)?;
+    for (text, expected) in [
+        (
+            b"\nfilter s ip_saddr . proto".as_slice(),
+            (21, 5, 2, 21, Reason::TypeWord),
+        ),
+        (b"filter s ip_saddr", (17, 0, 1, 18, Reason::End)),
+        (b"filter counter", (7, 7, 1, 8, Reason::Set)),
+    ] {
+        assert_eq!(rt; place(alloc, &schema, text), Some(expected), "{text:?}");
+    }
+    assert_eq!(rt;
+        bad_token(alloc, &schema, b"filter s ip_saddr . dport"),
+        Ok(None)
+    );
     Ok(())
 }

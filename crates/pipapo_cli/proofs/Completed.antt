@@ -1,217 +1,314 @@
--- What a call wrote, by its status.
-use Rattle.std.proofs.Common.{◌≤◌, Bool, false, ◌≡◌, ◌≢◌, refl, sym, ◌∙◌, ap, subst, ℕ, List, [], ◌∷◌, Option, Some, None, inl, inr, arith, append-nil}
+-- What a call wrote, by its status, and where nothing failed outside.
+use Rattle.std.proofs.Common.{◌<◌, Bool, true, false, ◌≡◌, ◌≢◌, refl, sym, ◌∙◌, ap, subst, ℕ, ◌==◌, ◌||◌, if◌then◌else◌, List, [], ◌∷◌, ◌++◌, length, Option, Some, None, inl, inr, arith, append-nil}
 use Rattle.std.specs.Prelude.{◌⊎◌}
 use Rattle.std.specs.Io.KnownBytes.{Appends, Keeps}
 use Rattle.pip_base.specs.Causes.{Rose}
 use Rattle.set_model.specs.declared.script.Script.{Script}
+use Rattle.set_model.specs.declared.script.SetDecl.{SetDecl}
 use Rattle.set_model.specs.declared.packet.Packet.{Packet}
 use Rattle.set_model.specs.Control.{Mode, mode_of, has_refusal}
-use Rattle.set_model.specs.Legal.{Legal}
-use Rattle.set_model.specs.Text.{transcript_text}
+use Rattle.set_model.specs.Legal.{AreLegal, Legal}
+use Rattle.set_model.specs.Text.{run_text, transcript_text}
+use Rattle.rule_chain.specs.declared.chains.Chain.{Chain}
+use Rattle.rule_chain.specs.Chains.{Rules}
+use Rattle.rule_chain.specs.Judged.{IsJudged}
+use Rattle.rule_chain.specs.JudgedText.{judged_text}
+use Rattle.rule_chain.proofs.FileLaws.{rules_single}
 use Rattle.set_script.proofs.ScriptWhole.{script_single}
 use Rattle.key_file.specs.KeysText.{IsKeysText}
 use Rattle.key_file.proofs.KeysLaws.{keys_single}
+use Rattle.pcap_keys.specs.CapturedPackets.{AreCaptured}
+use Rattle.pcap_keys.proofs.OneCapture.{one_capture}
 use Rattle.script_run.specs.Listings.{listing_text, tables_text}
-use Rattle.pipapo_cli.specs.declared.fault.Fault.{Fault}
-use Rattle.pipapo_cli.specs.declared.fault.Fault.TheVariants.{Usage, BadScript, BadKeys, ReadFault, TooLarge, Memory}
-use Rattle.command_words.specs.declared.page.Page.{Page}
-use Rattle.command_words.specs.Words.{AsksFor, run, list, dump, drill}
+use Rattle.command_words.specs.Words.{Command, IsCommand, run, list, dump, drill, judge, capture}
+use Rattle.command_words.proofs.CommandWords.{one-command}
 use Rattle.command_words.proofs.PageWords.{page-no-command}
-use Rattle.pipapo_cli.specs.Transcript.{IsTranscript, IsTextOf}
-use Rattle.pipapo_cli.specs.Causes.{IsCause, no_command, of_script, of_keys, of_drill, IsScriptCause, IsKeysCause}
-use Rattle.pipapo_cli.specs.Lines.{done_status, status_of}
-use Rattle.pipapo_cli.specs.Answers.{Ends, written, cut, memory, IsDue, output, page, refusal, IsExactly, IsDone, HasOutput, TellsReadFault, TellsBadScript, TellsBadKeys, DeliversDrill, DeliversPage}
-use Rattle.pipapo_cli.specs.Exactly.{IsStatus, HasScript, HasKeys, Completes, Delivers, DeliversRun, RanOut}
-use Rattle.pipapo_cli.proofs.Endings.{done-small, does, drilled, page-written, no-memory}
-use Rattle.pipapo_cli.proofs.Exact.{exact}
+use Rattle.input_files.specs.declared.fault.FileFault.{FileFault}
+use Rattle.input_files.specs.declared.fault.FileFault.TheVariants as files
+use Rattle.input_files.specs.Inputs as forms
+use Rattle.input_files.specs.Inputs.{Input, Form, inputs, form_of, names_of, IsOf, IsFileCause}
+use Rattle.input_files.specs.Reads.{Shelved, StopsAt}
+use Rattle.input_files.specs.Given.{Has, AreGiven}
+use Rattle.input_files.proofs.Turns.{given-one, given-front, given-refuses}
+use Rattle.pipapo_cli.specs.declared.fault.Fault.{Fault}
+use Rattle.pipapo_cli.specs.declared.fault.Fault.TheVariants.{Usage, File, Memory}
+use Rattle.pipapo_cli.specs.Transcript.{IsTranscript, IsJudgement, AreRulesOf, IsCaptured, IsTextOf}
+use Rattle.pipapo_cli.specs.Calls.{Call, IsQuiet}
+use Rattle.pipapo_cli.specs.Causes.{IsCause, no_command, of_file, no_memory}
+use Rattle.pipapo_cli.specs.Lines.{done_status, form_status, file_status, file_line, status_of, line_of}
+use Rattle.pipapo_cli.specs.Answers.{Ends, written, cut, memory, IsDue, output, page, refusal, TellsReadFault, TellsFlaw}
+use Rattle.pipapo_cli.specs.Exactly.{HasScript, HasKeys, HasRules, HasCaptured, Completes, DeliversText, DeliversRun, DeliversJudgement, RanOut}
+use Rattle.pipapo_cli.proofs.Endings.{done-small, does, Wrote, TheEnd, HasWritten, drilled, page-told}
 
--- a fault has another status than an output
-small-done : (n : ℕ) → IsDone n → n ≤ 1
-small-done n (inl e) = omega (arith, e)
-small-done n (inr e) = omega (arith, e)
+-- The numbers that are a form's status, told apart from the others.
+is_form : ℕ → Bool
+is_form n = (n == 3) || (n == 4) || (n == 9) || (n == 10) || (n == 11)
 
-fault-above : (f : Fault) → 2 ≤ status_of f
-fault-above Usage = omega arith
-fault-above (BadScript line reason) = omega arith
-fault-above (BadKeys line reason) = omega arith
-fault-above (ReadFault name) = omega arith
-fault-above (TooLarge name) = omega arith
-fault-above Memory = omega arith
+form-is : (form : Form) → is_form (form_status form) ≡ true
+unfolding is_form
+form-is forms.script = refl
+form-is forms.keys = refl
+form-is forms.rules = refl
+form-is forms.plan = refl
+form-is forms.capture = refl
 
-pub fault-not-done : (fault : Fault) (line : List ℕ) (taken_before taken_now : Option (List ℕ)) (b n result : ℕ) → Ends (IsExactly (status_of fault) line) taken_before taken_now b n result → IsDone result → ⊥
-fault-not-done fault line taken_before taken_now b n result (written status text due appends quiet) e = let d = due.0 in let f = fault-above fault in let k = small-done status e in omega (arith, d, f, k)
-fault-not-done fault line taken_before taken_now b n result (cut status text due front rose) e = let k = small-done 6 e in omega (arith, k)
-fault-not-done fault line taken_before taken_now b n result (memory due keeps quiet) e = let k = small-done 7 e in omega (arith, k)
+form-apart : (form : Form) (n : ℕ) → n ≡ form_status form → is_form n ≡ false → ⊥
+form-apart form n e f = let t = form-is form in let u : is_form n ≡ is_form (form_status form) = ap is_form e in cc (t, u, f)
 
-module _ (words : List (List ℕ)) (told : List ℕ → Option (List ℕ)) (asked : List (List ℕ)) (before now : ℕ) (taken_before taken_now : Option (List ℕ)) where
-  abbrev TheEnd : ℕ → ℕ → ℕ → Type 0
-  TheEnd b n result = Ends (IsDue words told asked before now) taken_before taken_now b n result
+-- the form of a status
+form_at : ℕ → Form
+form_at n = if n == 3 then forms.script else (if n == 4 then forms.keys else (if n == 9 then forms.rules else (if n == 10 then forms.capture else forms.plan)))
 
+at-form : (form : Form) → form_at (form_status form) ≡ form
+unfolding form_at
+at-form forms.script = refl
+at-form forms.keys = refl
+at-form forms.rules = refl
+at-form forms.plan = refl
+at-form forms.capture = refl
+
+same-form : (a b : Form) → form_status a ≡ form_status b → a ≡ b
+same-form a b e = sym (at-form a) ∙ ap form_at e ∙ at-form b
+
+done-no-form : (refused : Bool) → is_form (done_status refused) ≡ false
+unfolding is_form
+done-no-form true = refl
+done-no-form false = refl
+
+module _ (c : Call) where
   -- With status 5 a read fault was told.
-  due-fault : (status : ℕ) (text : List ℕ) → IsDue words told asked before now status text → status ≡ 5 → Appends taken_before taken_now text → TellsReadFault asked before now taken_before taken_now
+  file-fault : (d : Command) (fault : FileFault) → StopsAt c.shelf d fault → file_status fault ≡ 5 → Appends c.taken_before c.taken_now (file_line fault) → TellsReadFault c
+  unfolding is_form
+  file-fault d (files.Bad flaw) s e line = absurd (form-apart (form_of flaw) 5 (sym e) refl)
+  file-fault d (files.ReadFault name) s e line =
+      record { front = names_of s.earlier; name = name.now; last = s.cause.0 ∙ ap (λ (n : List ℕ). names_of s.earlier ++ n ∷ []) (sym s.cause.1); rose = s.cause.2; line = line }
+  file-fault d (files.TooLarge name) s e line = absurd (omega (arith, e))
+  file-fault d files.Memory s e line = absurd (omega (arith, e))
+
+  cause-fault : (fault : Fault) → IsCause c.words c.shelf fault → status_of fault ≡ 5 → Appends c.taken_before c.taken_now (line_of fault) → TellsReadFault c
+  cause-fault Usage (no_command none nothing same) e line = absurd (omega (arith, e))
+  cause-fault (File f) (of_file d g is_d s) e line = file-fault d f s e line
+  cause-fault Memory (no_memory d is_d asked same) e line = absurd (omega (arith, e))
+
+  due-fault : (status : ℕ) (text : List ℕ) → IsDue c.words c.shelf status text → status ≡ 5 → Appends c.taken_before c.taken_now text → TellsReadFault c
   due-fault status text (output refused t has) e line = absurd (let small = done-small refused in omega (arith, e, small))
   due-fault status text (page p asks nothing same) e line = absurd (omega (arith, e))
-  due-fault status text (refusal Usage cause) e line = absurd (omega (arith, e))
-  due-fault status text (refusal (BadScript at reason) cause) e line = absurd (omega (arith, e))
-  due-fault status text (refusal (BadKeys at reason) cause) e line = absurd (omega (arith, e))
-  due-fault status text (refusal (ReadFault name) (of_script f c script is_c is_s cause)) e line =
-      record { front = []; name = name.now; last = cause.0 ∙ ap (λ (n : List ℕ). n ∷ []) (sym cause.1); rose = cause.2; line = line }
-  due-fault status text (refusal (ReadFault name) (of_keys f script keys n g is_run readable cause)) e line =
-      record { front = script ∷ []; name = name.now; last = cause.0 ∙ ap (λ (n : List ℕ). script ∷ n ∷ []) (sym cause.1); rose = cause.2; line = line }
-  due-fault status text (refusal (TooLarge name) cause) e line = absurd (omega (arith, e))
-  due-fault status text (refusal Memory cause) e line = absurd (omega (arith, e))
+  due-fault status text (refusal fault cause) e line = cause-fault fault cause e line
 
-  pub tells-read-fault : (b n result : ℕ) → TheEnd b n result → result ≡ 5 → TellsReadFault asked before now taken_before taken_now
-  tells-read-fault b n result (written status text due appends quiet) e = due-fault status text due e appends
-  tells-read-fault b n result (cut status text due front rose) e = absurd (omega (arith, e))
-  tells-read-fault b n result (memory due keeps quiet) e = absurd (omega (arith, e))
+  ends-fault : (result : ℕ) → Ends (IsDue c.words c.shelf) c.taken_before c.taken_now c.faults_before c.faults_now result → result ≡ 5 → TellsReadFault c
+  ends-fault result (written status text due appends quiet) e = due-fault status text due e appends
+  ends-fault result (cut status text due front rose) e = absurd (omega (arith, e))
+  ends-fault result (memory due keeps quiet) e = absurd (omega (arith, e))
 
-  -- With status 3 and 4 the bad token of the script and of the key file was told.
-  due-script : (status : ℕ) (text : List ℕ) → IsDue words told asked before now status text → status ≡ 3 → Appends taken_before taken_now text → TellsBadScript words told taken_before taken_now
-  due-script status text (output refused t has) e line = absurd (let small = done-small refused in omega (arith, e, small))
-  due-script status text (page p asks nothing same) e line = absurd (omega (arith, e))
-  due-script status text (refusal Usage cause) e line = absurd (omega (arith, e))
-  due-script status text (refusal (BadScript at reason) (of_script f c script is_c is_s cause)) e line =
-      record { command = c; script = script; line = at; reason = reason; is_command = is_c; is_script = is_s; is_bad = cause.2; written = line }
-  due-script status text (refusal (BadScript at reason) (of_keys f script keys n g is_run readable cause)) e line = absurd cause
-  due-script status text (refusal (BadKeys at reason) cause) e line = absurd (omega (arith, e))
-  due-script status text (refusal (ReadFault name) cause) e line = absurd (omega (arith, e))
-  due-script status text (refusal (TooLarge name) cause) e line = absurd (omega (arith, e))
-  due-script status text (refusal Memory cause) e line = absurd (omega (arith, e))
+  pub tells-read-fault : TheEnd c → c.status ≡ 5 → TellsReadFault c
+  tells-read-fault ends e = ends-fault c.status ends e
 
-  pub tells-bad-script : (b n result : ℕ) → TheEnd b n result → result ≡ 3 → TellsBadScript words told taken_before taken_now
-  tells-bad-script b n result (written status text due appends quiet) e = due-script status text due e appends
-  tells-bad-script b n result (cut status text due front rose) e = absurd (omega (arith, e))
-  tells-bad-script b n result (memory due keeps quiet) e = absurd (omega (arith, e))
+  -- With the status of a form the line of what is wrong with a file of that form was told.
+  module _ (form : Form) where
+    file-flaw : (d : Command) (fault : FileFault) → IsCommand c.words d → StopsAt c.shelf d fault → file_status fault ≡ form_status form → Appends c.taken_before c.taken_now (file_line fault) → TellsFlaw form c
+    unfolding is_form
+    file-flaw d (files.Bad flaw) is_d s e line = record { command = d; flaw = flaw; is_command = is_d; stops = s; of_form = same-form (form_of flaw) form e; written = line }
+    file-flaw d (files.ReadFault name) is_d s e line = absurd (form-apart form 5 e refl)
+    file-flaw d (files.TooLarge name) is_d s e line = absurd (form-apart form 8 e refl)
+    file-flaw d files.Memory is_d s e line = absurd (form-apart form 7 e refl)
 
-  due-keys : (status : ℕ) (text : List ℕ) → IsDue words told asked before now status text → status ≡ 4 → Appends taken_before taken_now text → TellsBadKeys words told taken_before taken_now
-  due-keys status text (output refused t has) e line = absurd (let small = done-small refused in omega (arith, e, small))
-  due-keys status text (page p asks nothing same) e line = absurd (omega (arith, e))
-  due-keys status text (refusal Usage cause) e line = absurd (omega (arith, e))
-  due-keys status text (refusal (BadScript at reason) cause) e line = absurd (omega (arith, e))
-  due-keys status text (refusal (BadKeys at reason) (of_script f c script is_c is_s cause)) e line = absurd cause
-  due-keys status text (refusal (BadKeys at reason) (of_keys f script keys n g is_run readable cause)) e line =
-      record { script = script; keys = keys; threads = n; keep_going = g; line = at; reason = reason; is_run = is_run; is_bad = cause.2; written = line }
-  due-keys status text (refusal (ReadFault name) cause) e line = absurd (omega (arith, e))
-  due-keys status text (refusal (TooLarge name) cause) e line = absurd (omega (arith, e))
-  due-keys status text (refusal Memory cause) e line = absurd (omega (arith, e))
+    cause-flaw : (fault : Fault) → IsCause c.words c.shelf fault → status_of fault ≡ form_status form → Appends c.taken_before c.taken_now (line_of fault) → TellsFlaw form c
+    unfolding is_form
+    cause-flaw Usage (no_command none nothing same) e line = absurd (form-apart form 2 e refl)
+    cause-flaw (File f) (of_file d g is_d s) e line = file-flaw d f is_d s e line
+    cause-flaw Memory (no_memory d is_d asked same) e line = absurd (form-apart form 7 e refl)
 
-  pub tells-bad-keys : (b n result : ℕ) → TheEnd b n result → result ≡ 4 → TellsBadKeys words told taken_before taken_now
-  tells-bad-keys b n result (written status text due appends quiet) e = due-keys status text due e appends
-  tells-bad-keys b n result (cut status text due front rose) e = absurd (omega (arith, e))
-  tells-bad-keys b n result (memory due keeps quiet) e = absurd (omega (arith, e))
+    due-flaw : (status : ℕ) (text : List ℕ) → IsDue c.words c.shelf status text → status ≡ form_status form → Appends c.taken_before c.taken_now text → TellsFlaw form c
+    unfolding is_form
+    due-flaw status text (output refused t has) e line = absurd (form-apart form (done_status refused) e (done-no-form refused))
+    due-flaw status text (page p asks nothing same) e line = absurd (form-apart form 0 e refl)
+    due-flaw status text (refusal fault cause) e line = cause-flaw fault cause e line
 
-  -- The shelf's count rises only with a read fault, and the sink's only with a write fault.
-  script-moved : (fault : Fault) (script : List ℕ) → IsScriptCause script told asked before now fault → now ≢ before → status_of fault ≡ 5
-  script-moved Usage script cause moved = absurd cause
-  script-moved (BadScript line reason) script cause moved = absurd (moved cause.1)
-  script-moved (BadKeys line reason) script cause moved = absurd cause
-  script-moved (ReadFault name) script cause moved = refl
-  script-moved (TooLarge name) script cause moved = absurd (moved cause.2)
-  script-moved Memory script cause moved = absurd (moved cause.1)
+    ends-flaw : (result : ℕ) → Ends (IsDue c.words c.shelf) c.taken_before c.taken_now c.faults_before c.faults_now result → result ≡ form_status form → TellsFlaw form c
+    unfolding is_form
+    ends-flaw result (written status text due appends quiet) e = due-flaw status text due e appends
+    ends-flaw result (cut status text due front rose) e = absurd (form-apart form 6 e refl)
+    ends-flaw result (memory due keeps quiet) e = absurd (form-apart form 7 e refl)
 
-  keys-moved : (fault : Fault) (script keys : List ℕ) → IsKeysCause script keys told asked before now fault → now ≢ before → status_of fault ≡ 5
-  keys-moved Usage script keys cause moved = absurd cause
-  keys-moved (BadScript line reason) script keys cause moved = absurd cause
-  keys-moved (BadKeys line reason) script keys cause moved = absurd (moved cause.1)
-  keys-moved (ReadFault name) script keys cause moved = refl
-  keys-moved (TooLarge name) script keys cause moved = absurd (moved cause.2)
-  keys-moved Memory script keys cause moved = absurd (moved cause.1)
+  pub tells-flaw : TheEnd c → (form : Form) → c.status ≡ form_status form → TellsFlaw form c
+  tells-flaw ends form e = ends-flaw form c.status ends e
 
-  fault-moved : (fault : Fault) → IsCause words told asked before now fault → now ≢ before → status_of fault ≡ 5
-  fault-moved fault (no_command none names same) moved = absurd (moved same)
-  fault-moved fault (of_script f c script is_c is_s cause) moved = script-moved f script cause moved
-  fault-moved fault (of_keys f script keys n g is_run readable cause) moved = keys-moved f script keys cause moved
-  fault-moved fault (of_drill seed count n is_drill names same) moved = absurd (moved same)
+-- The shelf's count rises only with a read fault, and the sink's only with a write fault.
+module _ (words : List (List ℕ)) (shelf : Shelved) where
+  file-moved : (sets : List SetDecl) (names : List (List ℕ)) (i : Input) (fault : FileFault) → IsFileCause shelf.told sets names i shelf.asked shelf.faults_before shelf.faults_now fault → shelf.faults_now ≢ shelf.faults_before → file_status fault ≡ 5
+  file-moved sets names i (files.Bad flaw) cause moved = absurd (moved cause.1)
+  file-moved sets names i (files.ReadFault name) cause moved = refl
+  file-moved sets names i (files.TooLarge name) cause moved = absurd (moved cause.2)
+  file-moved sets names i files.Memory cause moved = absurd (moved cause.1)
 
-  due-moved : (status : ℕ) (text : List ℕ) → IsDue words told asked before now status text → now ≢ before → status ≡ 5
-  due-moved status text (output refused t has) moved = absurd (moved has.quiet)
+  cause-moved : (fault : Fault) → IsCause words shelf fault → shelf.faults_now ≢ shelf.faults_before → status_of fault ≡ 5
+  cause-moved Usage (no_command none nothing same) moved = absurd (moved same)
+  cause-moved (File f) (of_file d g is_d s) moved = file-moved s.sets (names_of s.earlier) s.input f s.cause moved
+  cause-moved Memory (no_memory d is_d asked same) moved = absurd (moved same)
+
+  due-moved : (status : ℕ) (text : List ℕ) → IsDue words shelf status text → shelf.faults_now ≢ shelf.faults_before → status ≡ 5
+  due-moved status text (output refused t has) moved = absurd (moved has.has_read.quiet)
   due-moved status text (page p asks nothing same) moved = absurd (moved same)
-  due-moved status text (refusal fault cause) moved = fault-moved fault cause moved
+  due-moved status text (refusal fault cause) moved = cause-moved fault cause moved
 
-  pub shelf-moved : (b n result : ℕ) → TheEnd b n result → now ≢ before → (result ≡ 5) ⊎ (result ≡ 6)
-  shelf-moved b n result (written status text due appends same) moved = inl (due-moved status text due moved)
-  shelf-moved b n result (cut status text due front rose) moved = inr refl
-  shelf-moved b n result (memory due keeps same) moved = absurd (let e = due-moved 7 [] due moved in omega (arith, e))
+  pub shelf-moved : (taken_before taken_now : Option (List ℕ)) (b n result : ℕ) → Ends (IsDue words shelf) taken_before taken_now b n result → shelf.faults_now ≢ shelf.faults_before → (result ≡ 5) ⊎ (result ≡ 6)
+  shelf-moved taken_before taken_now b n result (written status text due appends same) moved = inl (due-moved status text due moved)
+  shelf-moved taken_before taken_now b n result (cut status text due front rose) moved = inr refl
+  shelf-moved taken_before taken_now b n result (memory due keeps same) moved = absurd (let e = due-moved 7 [] due moved in omega (arith, e))
 
-  pub sink-moved : (b n result : ℕ) → TheEnd b n result → n ≢ b → result ≡ 6
-  sink-moved b n result (written status text due appends same) moved = absurd (moved same)
-  sink-moved b n result (cut status text due front rose) moved = refl
-  sink-moved b n result (memory due keeps same) moved = absurd (moved same)
+  pub sink-moved : (taken_before taken_now : Option (List ℕ)) (b n result : ℕ) → Ends (IsDue words shelf) taken_before taken_now b n result → n ≢ b → result ≡ 6
+  sink-moved taken_before taken_now b n result (written status text due appends same) moved = absurd (moved same)
+  sink-moved taken_before taken_now b n result (cut status text due front rose) moved = refl
+  sink-moved taken_before taken_now b n result (memory due keeps same) moved = absurd (moved same)
 
 kept-by-nothing : (a b : Option (List ℕ)) → Appends a b [] → Keeps a b
 kept-by-nothing None b h = tt
 kept-by-nothing (Some xs) None h = absurd h
 kept-by-nothing (Some xs) (Some ys) h = h ∙ append-nil xs
 
--- the transcript of the script and the key file that the texts stand for
-same-files : (n : ℕ) (mode : Mode) (told : List ℕ → Option (List ℕ)) (script keys_name : List ℕ) (s : Script) (keys : List (List Packet)) (hs : HasScript told script s) (hk : HasKeys told keys_name s keys) (refused : Bool) (out : List ℕ) (taken_before taken_now : Option (List ℕ))
-    → IsTranscript hs.text hk.text n mode refused out → Appends taken_before taken_now out → DeliversRun n mode s keys taken_before taken_now (done_status refused)
-same-files n mode told script keys_name s keys hs hk refused out taken_before taken_now t appends =
-    let one : t.script ≡ s = script_single hs.text t.script s t.script_is hs.is_script in
-    let their_keys : IsKeysText s.schema hk.text t.keys = subst (λ (x : Script). IsKeysText x.schema hk.text t.keys) one t.keys_are in
-    let other : t.keys ≡ keys = keys_single s.schema hk.text t.keys keys their_keys hk.are_keys in
-    let is_legal : Legal s keys n mode t.lines = subst (λ (k : List (List Packet)). Legal s k n mode t.lines) other (subst (λ (x : Script). Legal x t.keys n mode t.lines) one t.legal) in
-    let is_text : out ≡ transcript_text mode s keys t.lines = t.text ∙ ap (λ (x : Script). transcript_text mode x t.keys t.lines) one ∙ ap (λ (k : List (List Packet)). transcript_text mode s k t.lines) other in
-    record { lines = t.lines; legal = is_legal; delivers = record { written = subst (λ (o : List ℕ). Appends taken_before taken_now o) is_text appends; status = ap done_status (t.refusal ∙ ap (has_refusal mode) one) } }
+-- Where a command's files are all told and of their forms, and nothing failed outside, its output was written, or memory was wanting.
+module _ (words : List (List ℕ)) (shelf : Shelved) (quiet : Rose shelf.faults_before shelf.faults_now → ⊥) (c : Command) (is_c : IsCommand words c) (sets : List SetDecl) (given : AreGiven shelf.told sets (inputs c)) where
+  file-given : (fault : FileFault) → StopsAt shelf c fault → fault ≡ files.Memory
+  file-given (files.Bad flaw) s = absurd (given-refuses shelf.told c s.earlier s.input s.later s.sets sets flaw s.in_order s.read_before.are_of s.cause.2 s.cause.3 (given-front shelf.told sets s.earlier (s.input ∷ s.later) here) (given-one shelf.told sets s.earlier s.input s.later here)) where
+    here : AreGiven shelf.told sets (s.earlier ++ s.input ∷ s.later)
+    here = subst (λ (z : List Input). AreGiven shelf.told sets z) s.in_order given
+  file-given (files.ReadFault name) s = absurd (quiet s.cause.2)
+  file-given (files.TooLarge name) s = absurd (omega (arith, big, has.fits)) where
+    here : AreGiven shelf.told sets (s.earlier ++ s.input ∷ s.later)
+    here = subst (λ (z : List Input). AreGiven shelf.told sets z) s.in_order given
 
--- a text of the script that a text stands for
-same-script : (text : Mode → Script → List ℕ) (mode : Mode) (told : List ℕ → Option (List ℕ)) (script : List ℕ) (s : Script) (hs : HasScript told script s) (refused : Bool) (out : List ℕ) (taken_before taken_now : Option (List ℕ))
-    → IsTextOf text hs.text mode refused out → Appends taken_before taken_now out → Delivers mode s (text mode s) taken_before taken_now (done_status refused)
-same-script text mode told script s hs refused out taken_before taken_now t appends =
-    let one : t.script ≡ s = script_single hs.text t.script s t.script_is hs.is_script in
-    record { written = subst (λ (o : List ℕ). Appends taken_before taken_now o) (t.text_is ∙ ap (text mode) one) appends; status = ap done_status (t.refusal ∙ ap (has_refusal mode) one) }
+    has : Has shelf.told s.input.name (IsOf s.input.form sets)
+    has = given-one shelf.told sets s.earlier s.input s.later here
 
--- Where an output's status or 7 came and no count rose, the output was written, or memory was wanting.
-module _ (words : List (List ℕ)) (told : List ℕ → Option (List ℕ)) (asked : List (List ℕ)) (before now : ℕ) (taken_before taken_now : Option (List ℕ)) (goes : Bool) (Done : ℕ → Type 0)
-    (done : (refused : Bool) (out : List ℕ) → HasOutput words told asked before now refused out → Appends taken_before taken_now out → Done (done_status refused)) (no_page : (p : Page) → AsksFor words p → ⊥) where
-  other-status : (status : ℕ) → IsStatus (done_status goes) status → 2 ≤ status → (status ≡ 7 → ⊥) → ⊥
-  other-status status (inl e) f g = let small = done-small goes in omega (arith, e, f, small)
-  other-status status (inr e) f g = g e
+    big : 67108864 < length has.text
+    big = s.cause.3 has.text has.is_told
+  file-given files.Memory s = refl
 
-  due-done : (status : ℕ) (out : List ℕ) → IsDue words told asked before now status out → IsStatus (done_status goes) status → Appends taken_before taken_now out → Done status ⊎ RanOut taken_before taken_now status
-  due-done status out (output refused t has) known appends = inl (done refused t has appends)
-  due-done status out (page p asks nothing same) known appends = absurd (no_page p asks)
-  due-done status out (refusal Usage cause) known appends = absurd (other-status 2 known (omega arith) (λ e. omega (arith, e)))
-  due-done status out (refusal (BadScript line reason) cause) known appends = absurd (other-status 3 known (omega arith) (λ e. omega (arith, e)))
-  due-done status out (refusal (BadKeys line reason) cause) known appends = absurd (other-status 4 known (omega arith) (λ e. omega (arith, e)))
-  due-done status out (refusal (ReadFault name) cause) known appends = absurd (other-status 5 known (omega arith) (λ e. omega (arith, e)))
-  due-done status out (refusal (TooLarge name) cause) known appends = absurd (other-status 8 known (omega arith) (λ e. omega (arith, e)))
-  due-done status out (refusal Memory cause) known appends = inr (refl, kept-by-nothing taken_before taken_now appends)
+  cause-given : (fault : Fault) → IsCause words shelf fault → (status_of fault ≡ 7) × (line_of fault ≡ [])
+  cause-given Usage (no_command none nothing same) = absurd (none.no_work c is_c)
+  cause-given (File f) (of_file d g is_d s) =
+      let e = file-given f (subst (λ (x : Command). StopsAt shelf x f) (one-command words d c is_d is_c) s) in
+      (ap file_status e, ap file_line e)
+  cause-given Memory (no_memory d is_d asked same) = (refl, refl)
 
-  ends-done : (b n result : ℕ) → Ends (IsDue words told asked before now) taken_before taken_now b n result → IsStatus (done_status goes) result → (Rose b n → ⊥) → Done result ⊎ RanOut taken_before taken_now result
-  ends-done b n result (written status out due appends same) known quiet = due-done status out due known appends
-  ends-done b n result (cut status out due front rose) known quiet = absurd (quiet rose)
-  ends-done b n result (memory due keeps same) known quiet = inr (refl, keeps)
+  module _ (taken_before taken_now : Option (List ℕ)) where
+    due-given : (status : ℕ) (text : List ℕ) → IsDue words shelf status text → Appends taken_before taken_now text → Wrote words shelf taken_before taken_now status ⊎ ((status ≡ 7) × Keeps taken_before taken_now)
+    due-given status text (output refused t has) appends = inl (record { refused = refused; text = t; status = refl; has = has; appends = appends })
+    due-given status text (page p asks nothing same) appends = absurd (page-no-command words p c asks is_c)
+    due-given status text (refusal fault cause) appends =
+        let g = cause-given fault cause in
+        inr (g.0, kept-by-nothing taken_before taken_now (subst (λ (t : List ℕ). Appends taken_before taken_now t) g.1 appends))
 
--- Where no count rose and the files are in their grammar, the output of the command was written.
-pub completes : (words : List (List ℕ)) (told : List ℕ → Option (List ℕ)) (asked : List (List ℕ)) (before now : ℕ) (taken_before taken_now : Option (List ℕ)) (b n result : ℕ)
-    → Ends (IsDue words told asked before now) taken_before taken_now b n result → (Rose before now → ⊥) → (Rose b n → ⊥) → Completes words told taken_before taken_now result
-completes words told asked before now taken_before taken_now b n result ends quiet sink_quiet =
-    let statuses = exact words told asked before now taken_before taken_now b n result ends quiet sink_quiet in
-    record {
-      run = λ script keys m g s packets is_run hs hk.
-          ends-done words told asked before now taken_before taken_now (has_refusal (mode_of g) s) (λ (r : ℕ). DeliversRun m (mode_of g) s packets taken_before taken_now r)
-          (λ refused out has appends. same-files m (mode_of g) told script keys s packets hs hk refused out taken_before taken_now
-          (does words told asked before now (run script keys m g) refused out is_run has hs.text hk.text hs.is_told hk.is_told) appends)
-          (λ p asks. page-no-command words p (run script keys m g) asks is_run) b n result ends (statuses.done_run script keys m g s packets is_run hs hk) sink_quiet;
-      list = λ script g s is_list hs.
-          ends-done words told asked before now taken_before taken_now (has_refusal (mode_of g) s) (λ (r : ℕ). Delivers (mode_of g) s (listing_text (mode_of g) s) taken_before taken_now r)
-          (λ refused out has appends. same-script listing_text (mode_of g) told script s hs refused out taken_before taken_now
-          (does words told asked before now (list script g) refused out is_list has hs.text hs.is_told) appends)
-          (λ p asks. page-no-command words p (list script g) asks is_list) b n result ends (statuses.done_list script g s is_list hs) sink_quiet;
-      dump = λ script g s is_dump hs.
-          ends-done words told asked before now taken_before taken_now (has_refusal (mode_of g) s) (λ (r : ℕ). Delivers (mode_of g) s (tables_text (mode_of g) s) taken_before taken_now r)
-          (λ refused out has appends. same-script tables_text (mode_of g) told script s hs refused out taken_before taken_now
-          (does words told asked before now (dump script g) refused out is_dump has hs.text hs.is_told) appends)
-          (λ p asks. page-no-command words p (dump script g) asks is_dump) b n result ends (statuses.done_dump script g s is_dump hs) sink_quiet;
-      drill = λ seed count threads is_drill.
-          ends-done words told asked before now taken_before taken_now false (λ (r : ℕ). DeliversDrill seed count taken_before taken_now r)
-          (λ refused out has appends. drilled words told asked before now taken_before taken_now seed count threads refused out is_drill has appends)
-          (λ p asks. page-no-command words p (drill seed count threads) asks is_drill) b n result ends (statuses.done_drill seed count threads is_drill) sink_quiet;
-      page = λ p asks. paged p asks result ends;
-    } where
-      paged : (p : Page) → AsksFor words p → (r : ℕ) → Ends (IsDue words told asked before now) taken_before taken_now b n r → DeliversPage p taken_before taken_now r
-      paged p asks r (written status out due appends same) = page-written words told asked before now p asks taken_before taken_now status out due appends
-      paged p asks r (cut status out due front rose) = absurd (sink_quiet rose)
-      paged p asks r (memory due keeps same) = absurd (no-memory words told asked before now p asks due)
+    pub given-done : (b n result : ℕ) → Ends (IsDue words shelf) taken_before taken_now b n result → (Rose b n → ⊥) → Wrote words shelf taken_before taken_now result ⊎ ((result ≡ 7) × Keeps taken_before taken_now)
+    given-done b n result (written status text due appends same) sink = due-given status text due appends
+    given-done b n result (cut status text due front rose) sink = absurd (sink rose)
+    given-done b n result (memory due keeps same) sink = inr (refl, keeps)
+
+-- The files of a command with a script alone, and of a run, are told and of their forms.
+pub given-script : (told : List ℕ → Option (List ℕ)) (name : List ℕ) (s : Script) → HasScript told name s → Has told name (IsOf forms.script s.schema)
+given-script told name s h = record { text = h.text; is_told = h.is_told; fits = h.fits; holds = (s, h.holds, refl) }
+
+given-keys : (told : List ℕ → Option (List ℕ)) (name : List ℕ) (s : Script) (packets : List (List Packet)) → HasKeys told name s packets → Has told name (IsOf forms.keys s.schema)
+given-keys told name s packets h = record { text = h.text; is_told = h.is_told; fits = h.fits; holds = (packets, h.holds) }
+
+given-rules : (told : List ℕ → Option (List ℕ)) (name : List ℕ) (s : Script) (r : Rules) → HasRules told name s r → Has told name (IsOf forms.rules s.schema)
+given-rules told name s r h = record { text = h.text; is_told = h.is_told; fits = h.fits; holds = ((r.chains, r.accept), h.holds.is_text) }
+
+abbrev rules-of : List SetDecl → List Chain → Bool → Rules
+rules-of sets chains accept = record { schema = sets; chains = chains; accept = accept }
+
+-- A text stands for the same rules over the same sets.
+one-rules : (s : Script) (text : List ℕ) (a b : Rules) → AreRulesOf s text a → AreRulesOf s text b → a ≡ b
+one-rules s text a b h k =
+    let same : (a.chains, a.accept) ≡ (b.chains, b.accept) = rules_single s.schema text (a.chains, a.accept) (b.chains, b.accept) h.is_text k.is_text in
+    let chains : a.chains ≡ b.chains = ap (λ (x : List Chain × Bool). x.0) same in
+    let accept : a.accept ≡ b.accept = ap (λ (x : List Chain × Bool). x.1) same in
+    let sets : a.schema ≡ b.schema = h.over ∙ sym k.over in
+    ap (λ (z : List SetDecl). rules-of z a.chains a.accept) sets ∙ ap (λ (z : List Chain). rules-of b.schema z a.accept) chains ∙ ap (λ (z : Bool). rules-of b.schema b.chains z) accept
+
+given-plan : (told : List ℕ → Option (List ℕ)) (p f : List ℕ) (s : Script) (packets : List Packet) → HasCaptured told p f s packets → Has told p (IsOf forms.plan s.schema)
+given-plan told p f s packets h = record { text = h.plan.text; is_told = h.plan.is_told; fits = h.plan.fits; holds = (h.lines, h.plan.holds) }
+
+given-capture : (told : List ℕ → Option (List ℕ)) (p f : List ℕ) (s : Script) (packets : List Packet) → HasCaptured told p f s packets → Has told f (IsOf forms.capture s.schema)
+given-capture told p f s packets h = record { text = h.capture.text; is_told = h.capture.is_told; fits = h.capture.fits; holds = (h.frames, h.capture.holds) }
+
+module _ (c : Call) (ends : TheEnd c) (quiet : IsQuiet c) where
+  -- a command whose files are given
+  pub ended : (d : Command) (sets : List SetDecl) → IsCommand c.words d → AreGiven c.shelf.told sets (inputs d) → HasWritten c ⊎ RanOut c
+  ended d sets is_d given = given-done c.words c.shelf quiet.shelf d is_d sets given c.taken_before c.taken_now c.faults_before c.faults_now c.status ends quiet.sink
+
+  -- the transcript of the script and the key file that the texts stand for
+  same-files : (n : ℕ) (mode : Mode) (script keys_name : List ℕ) (s : Script) (packets : List (List Packet)) (hs : HasScript c.shelf.told script s) (hk : HasKeys c.shelf.told keys_name s packets) (w : HasWritten c)
+      → IsTranscript hs.text hk.text n mode w.refused w.text → DeliversRun n mode s packets c
+  same-files n mode script keys_name s packets hs hk w t =
+      let one : t.script ≡ s = script_single hs.text t.script s t.script_is hs.holds in
+      let their_keys : IsKeysText s.schema hk.text t.keys = subst (λ (x : Script). IsKeysText x.schema hk.text t.keys) one t.keys_are in
+      let other : t.keys ≡ packets = keys_single s.schema hk.text t.keys packets their_keys hk.holds in
+      let is_legal : Legal s packets n mode t.lines = subst (λ (k : List (List Packet)). Legal s k n mode t.lines) other (subst (λ (x : Script). Legal x t.keys n mode t.lines) one t.legal) in
+      let is_text : w.text ≡ transcript_text mode s packets t.lines = t.text ∙ ap (λ (x : Script). transcript_text mode x t.keys t.lines) one ∙ ap (λ (k : List (List Packet)). transcript_text mode s k t.lines) other in
+      record { lines = t.lines; legal = is_legal; delivers = record { written = subst (λ (o : List ℕ). Appends c.taken_before c.taken_now o) is_text w.appends; status = w.status ∙ ap done_status (t.refusal ∙ ap (has_refusal mode) one) } }
+
+  -- what the chains decide on the packets of the key file
+  same-judgement : (n : ℕ) (mode : Mode) (script rules_name keys_name : List ℕ) (s : Script) (r : Rules) (packets : List (List Packet)) (hs : HasScript c.shelf.told script s) (hr : HasRules c.shelf.told rules_name s r) (hk : HasKeys c.shelf.told keys_name s packets) (w : HasWritten c)
+      → IsJudgement hs.text hr.text hk.text n mode w.refused w.text → DeliversJudgement n mode s r packets c
+  same-judgement n mode script rules_name keys_name s r packets hs hr hk w t =
+      let one : t.script ≡ s = script_single hs.text t.script s t.script_is hs.holds in
+      let their_rules : AreRulesOf s hr.text t.rules = subst (λ (x : Script). AreRulesOf x hr.text t.rules) one t.rules_are in
+      let by : t.rules ≡ r = one-rules s hr.text t.rules r their_rules hr.holds in
+      let their_keys : IsKeysText s.schema hk.text t.keys = subst (λ (x : Script). IsKeysText x.schema hk.text t.keys) one t.keys_are in
+      let other : t.keys ≡ packets = keys_single s.schema hk.text t.keys packets their_keys hk.holds in
+      let of_script : AreLegal (IsJudged t.rules) s t.keys n mode t.lines = subst (λ (x : Script). AreLegal (IsJudged t.rules) x t.keys n mode t.lines) one t.legal in
+      let of_keys : AreLegal (IsJudged t.rules) s packets n mode t.lines = subst (λ (k : List (List Packet)). AreLegal (IsJudged t.rules) s k n mode t.lines) other of_script in
+      let is_legal : AreLegal (IsJudged r) s packets n mode t.lines = subst (λ (x : Rules). AreLegal (IsJudged x) s packets n mode t.lines) by of_keys in
+      let is_text : w.text ≡ run_text (judged_text r) mode s packets t.lines =
+      t.text ∙ ap (λ (x : Script). run_text (judged_text t.rules) mode x t.keys t.lines) one ∙ ap (λ (k : List (List Packet)). run_text (judged_text t.rules) mode s k t.lines) other ∙ ap (λ (x : Rules). run_text (judged_text x) mode s packets t.lines) by in
+      record { lines = t.lines; legal = is_legal; delivers = record { written = subst (λ (o : List ℕ). Appends c.taken_before c.taken_now o) is_text w.appends; status = w.status ∙ ap done_status (t.refusal ∙ ap (has_refusal mode) one) } }
+
+  -- the transcript of the script, and of the packets that the plan takes from the capture
+  same-capture : (n : ℕ) (mode : Mode) (script plan_name capture_name : List ℕ) (s : Script) (taken : List Packet) (hs : HasScript c.shelf.told script s) (hc : HasCaptured c.shelf.told plan_name capture_name s taken) (w : HasWritten c)
+      → IsCaptured hs.text hc.plan.text hc.capture.text n mode w.refused w.text → DeliversRun n mode s (taken ∷ []) c
+  same-capture n mode script plan_name capture_name s taken hs hc w t =
+      let one : t.script ≡ s = script_single hs.text t.script s t.script_is hs.holds in
+      let theirs : AreCaptured s.schema hc.plan.text hc.capture.text t.packets = subst (λ (x : Script). AreCaptured x.schema hc.plan.text hc.capture.text t.packets) one t.captured in
+      let mine : AreCaptured s.schema hc.plan.text hc.capture.text taken = record { plan = hc.lines; frames = hc.frames; is_plan = hc.plan.holds; is_capture = hc.capture.holds; made = hc.made } in
+      let other : t.packets ≡ taken = one_capture s.schema hc.plan.text hc.capture.text t.packets taken theirs mine in
+      let is_legal : Legal s (taken ∷ []) n mode t.lines = subst (λ (k : List Packet). Legal s (k ∷ []) n mode t.lines) other (subst (λ (x : Script). Legal x (t.packets ∷ []) n mode t.lines) one t.legal) in
+      let is_text : w.text ≡ transcript_text mode s (taken ∷ []) t.lines = t.text ∙ ap (λ (x : Script). transcript_text mode x (t.packets ∷ []) t.lines) one ∙ ap (λ (k : List Packet). transcript_text mode s (k ∷ []) t.lines) other in
+      record { lines = t.lines; legal = is_legal; delivers = record { written = subst (λ (o : List ℕ). Appends c.taken_before c.taken_now o) is_text w.appends; status = w.status ∙ ap done_status (t.refusal ∙ ap (has_refusal mode) one) } }
+
+  -- a text of the script that a text stands for
+  same-script : (text : Mode → Script → List ℕ) (mode : Mode) (script : List ℕ) (s : Script) (hs : HasScript c.shelf.told script s) (w : HasWritten c) → IsTextOf text hs.text mode w.refused w.text → DeliversText mode s (text mode s) c
+  same-script text mode script s hs w t =
+      let one : t.script ≡ s = script_single hs.text t.script s t.script_is hs.holds in
+      record { written = subst (λ (o : List ℕ). Appends c.taken_before c.taken_now o) (t.text_is ∙ ap (text mode) one) w.appends; status = w.status ∙ ap done_status (t.refusal ∙ ap (has_refusal mode) one) }
+
+  or-ran-out : (P : Type 0) → (HasWritten c → P) → HasWritten c ⊎ RanOut c → P ⊎ RanOut c
+  or-ran-out P f (inl w) = inl (f w)
+  or-ran-out P f (inr r) = inr r
+
+  -- The output of the command was written.
+  pub completes : Completes c
+  completes = record {
+    run = λ script keys n g s packets is_run hs hk.
+        or-ran-out (DeliversRun n (mode_of g) s packets c)
+        (λ w. same-files n (mode_of g) script keys s packets hs hk w (does c.words c.shelf (run script keys n g) w.refused w.text is_run w.has hs.text hk.text hs.is_told hk.is_told))
+        (ended (run script keys n g) s.schema is_run (given-script c.shelf.told script s hs, (given-keys c.shelf.told keys s packets hk, tt)));
+    judge = λ script rules keys n g s r packets is_judge hs hr hk.
+        or-ran-out (DeliversJudgement n (mode_of g) s r packets c)
+        (λ w. same-judgement n (mode_of g) script rules keys s r packets hs hr hk w (does c.words c.shelf (judge script rules keys n g) w.refused w.text is_judge w.has hs.text hr.text hk.text hs.is_told hr.is_told hk.is_told))
+        (ended (judge script rules keys n g) s.schema is_judge (given-script c.shelf.told script s hs, (given-rules c.shelf.told rules s r hr, (given-keys c.shelf.told keys s packets hk, tt))));
+    capture = λ script plan packets n g s taken is_capture hs hc.
+        or-ran-out (DeliversRun n (mode_of g) s (taken ∷ []) c)
+        (λ w. same-capture n (mode_of g) script plan packets s taken hs hc w (does c.words c.shelf (capture script plan packets n g) w.refused w.text is_capture w.has hs.text hc.plan.text hc.capture.text hs.is_told hc.plan.is_told hc.capture.is_told))
+        (ended (capture script plan packets n g) s.schema is_capture (given-script c.shelf.told script s hs, (given-plan c.shelf.told plan packets s taken hc, (given-capture c.shelf.told plan packets s taken hc, tt))));
+    list = λ script g s is_list hs.
+        or-ran-out (DeliversText (mode_of g) s (listing_text (mode_of g) s) c)
+        (λ w. same-script listing_text (mode_of g) script s hs w (does c.words c.shelf (list script g) w.refused w.text is_list w.has hs.text hs.is_told))
+        (ended (list script g) s.schema is_list (given-script c.shelf.told script s hs, tt));
+    dump = λ script g s is_dump hs.
+        or-ran-out (DeliversText (mode_of g) s (tables_text (mode_of g) s) c)
+        (λ w. same-script tables_text (mode_of g) script s hs w (does c.words c.shelf (dump script g) w.refused w.text is_dump w.has hs.text hs.is_told))
+        (ended (dump script g) s.schema is_dump (given-script c.shelf.told script s hs, tt));
+    drill = λ seed count threads is_drill. or-ran-out _ (drilled c seed count threads is_drill) (ended (drill seed count threads) [] is_drill tt);
+    page = page-told c ends quiet.sink;
+  }

@@ -1,30 +1,28 @@
 -- How a call ends, and what follows of its status.
-use Rattle.std.proofs.Common.{Bool, true, false, refl, sym, ◌≤◌, ◌≡◌, ◌∙◌, ap, subst, ℕ, List, [], ◌∷◌, ◌++◌, slice_get, Option, Some, inl, inr, arith}
+use Rattle.std.proofs.Common.{Bool, true, false, refl, ◌≤◌, ◌≡◌, ◌∙◌, ap, subst, ℕ, List, [], ◌++◌, Option, Some, inl, inr, arith}
 use Rattle.std.specs.Io.KnownBytes.{Appends}
-use Rattle.token_forms.specs.declared.token.Reason.{Reason}
-use Rattle.token_forms.specs.TextTokens.{text_tokens}
-use Rattle.token_forms.specs.Faults.{IsFault}
-use Rattle.set_model.specs.declared.script.Script.{Script}
-use Rattle.set_model.specs.declared.script.SetDecl.{SetDecl}
-use Rattle.set_model.specs.declared.packet.Packet.{Packet}
+use Rattle.pip_base.specs.Causes.{Rose}
 use Rattle.set_model.specs.Control.{mode_of}
-use Rattle.set_script.specs.Script.{script as script_form}
-use Rattle.set_script.specs.ScriptText.{IsScriptText}
-use Rattle.key_file.specs.Keys.{key_file}
-use Rattle.key_file.specs.KeysText.{IsKeysText}
-use Rattle.pipapo_cli.specs.declared.fault.Fault.{Fault}
-use Rattle.pipapo_cli.specs.declared.fault.Fault.TheVariants.{Usage, BadScript, BadKeys, ReadFault, TooLarge, Memory}
+use Rattle.script_run.specs.Drill.{drill_text}
 use Rattle.command_words.specs.declared.page.Page.{Page}
 use Rattle.command_words.specs.WordForms.{page_text}
-use Rattle.command_words.specs.Words.{Command, run, list, dump, drill, IsCommand, AsksFor, IsRun, IsDrill, IsScriptOf, file_names}
-use Rattle.pipapo_cli.specs.Transcript.{IsOutput, IsTranscript, IsListing, IsTables}
-use Rattle.pipapo_cli.specs.Causes.{IsCause, no_command, of_script, of_keys, of_drill, IsKeysCause}
-use Rattle.pipapo_cli.specs.Lines.{done_status, status_of, line_of}
-use Rattle.pipapo_cli.specs.Answers.{Ends, written, cut, memory, IsDue, output, page, refusal, IsExactly, HasOutput, IsDone, Writes, Transcribes, Lists, Dumps, Drills, DeliversDrill, DeliversPage, TellsPage}
+use Rattle.command_words.specs.Words.{Command, run, list, dump, drill, judge, capture, IsCommand, AsksFor, IsDrill}
 use Rattle.command_words.proofs.CommandWords.{one-command}
 use Rattle.command_words.proofs.PageWords.{page-no-command, one-page}
+use Rattle.input_files.specs.declared.fault.FileFault.{FileFault}
+use Rattle.input_files.specs.declared.fault.FileFault.TheVariants as files
+use Rattle.input_files.specs.Inputs as forms
+use Rattle.input_files.specs.Inputs.{Form, form_of}
+use Rattle.input_files.specs.Reads.{Shelved}
+use Rattle.pipapo_cli.specs.declared.fault.Fault.{Fault}
+use Rattle.pipapo_cli.specs.declared.fault.Fault.TheVariants.{Usage, File, Memory}
+use Rattle.pipapo_cli.specs.Transcript.{IsOutput, IsTranscript, IsJudgement, IsCaptured, IsListing, IsTables}
+use Rattle.pipapo_cli.specs.Calls.{Call}
+use Rattle.pipapo_cli.specs.Causes.{IsCause, no_command, of_file, no_memory}
+use Rattle.pipapo_cli.specs.Lines.{done_status, form_status, file_status, status_of, line_of}
+use Rattle.pipapo_cli.specs.Answers.{Ends, written, cut, memory, IsDue, output, page, refusal, IsExactly, HasOutput, IsDone, Writes, Transcribes, Judges, Captures, Lists, Dumps, Drills, Delivers, TellsPage}
 
--- the status of an output is 0 or 1
+-- the status of an output is 0 or 1, and that of a fault greater
 pub done-small : (refused : Bool) → done_status refused ≤ 1
 done-small true = omega arith
 done-small false = omega arith
@@ -33,137 +31,162 @@ pub not-done : (n : ℕ) → 2 ≤ n → IsDone n → ⊥
 not-done n h (inl e) = omega (arith, h, e)
 not-done n h (inr e) = omega (arith, h, e)
 
--- A text with a bad token isn't in its grammar.
-pub no-script : (text : List ℕ) (line : ℕ) (reason : Reason) → IsFault script_form (text_tokens text) line reason → (s : Script) → IsScriptText text s → ⊥
-unfolding IsScriptText
-no-script text line reason h s w = h.outside s w
+form-above : (form : Form) → 2 ≤ form_status form
+form-above forms.script = omega arith
+form-above forms.keys = omega arith
+form-above forms.rules = omega arith
+form-above forms.plan = omega arith
+form-above forms.capture = omega arith
 
-pub no-keys : (schema : List SetDecl) (text : List ℕ) (line : ℕ) (reason : Reason) → IsFault (key_file schema) (text_tokens text) line reason → (keys : List (List Packet)) → IsKeysText schema text keys → ⊥
-unfolding IsKeysText
-no-keys schema text line reason h keys w = h.outside keys w
+file-above : (f : FileFault) → 2 ≤ file_status f
+file-above (files.Bad flaw) = form-above (form_of flaw)
+file-above (files.ReadFault name) = omega arith
+file-above (files.TooLarge name) = omega arith
+file-above files.Memory = omega arith
 
-module _ (words : List (List ℕ)) where
-  -- The words are of one script, and of one run.
-  pub one-script : (c d : Command) (a b : List ℕ) → IsCommand words c → IsScriptOf c a → IsCommand words d → IsScriptOf d b → a ≡ b
-  one-script c d a b h is_a k is_b =
-      let same : slice_get (file_names c) 0 ≡ slice_get (file_names d) 0 = ap (λ (x : Command). slice_get (file_names x) 0) (one-command words c d h k) in
-      cc (is_a, is_b, same)
+fault-above : (f : Fault) → 2 ≤ status_of f
+fault-above Usage = omega arith
+fault-above (File f) = file-above f
+fault-above Memory = omega arith
 
-  pub one-run : (a b s t : List ℕ) (m n : ℕ) (g k : Bool) → IsRun words a b m g → IsRun words s t n k → (a ≡ s) × (b ≡ t)
-  one-run a b s t m n g k h j =
-      let same : a ∷ b ∷ [] ≡ s ∷ t ∷ [] = ap file_names (one-command words (run a b m g) (run s t n k) h j) in
-      (cc same, cc same)
+pub fault-not-done : (fault : Fault) (line : List ℕ) (taken_before taken_now : Option (List ℕ)) (b n result : ℕ) → Ends (IsExactly (status_of fault) line) taken_before taken_now b n result → IsDone result → ⊥
+fault-not-done fault line taken_before taken_now b n result (written status text due appends quiet) e = not-done status (let d = due.0 in let f = fault-above fault in omega (arith, d, f)) e
+fault-not-done fault line taken_before taken_now b n result (cut status text due front rose) e = not-done 6 (omega arith) e
+fault-not-done fault line taken_before taken_now b n result (memory due keeps quiet) e = not-done 7 (omega arith) e
 
 -- what a command of these words does
-pub does : (words : List (List ℕ)) (told : List ℕ → Option (List ℕ)) (asked : List (List ℕ)) (before now : ℕ) (c : Command) (refused : Bool) (text : List ℕ) → IsCommand words c
-    → HasOutput words told asked before now refused text → IsOutput c told refused text
-does words told asked before now c refused text is_c has = subst (λ (x : Command). IsOutput x told refused text) (one-command words has.command c has.is_command is_c) has.is_output
+pub does : (words : List (List ℕ)) (shelf : Shelved) (c : Command) (refused : Bool) (text : List ℕ) → IsCommand words c → HasOutput words shelf refused text → IsOutput c shelf.told refused text
+does words shelf c refused text is_c has = subst (λ (x : Command). IsOutput x shelf.told refused text) (one-command words has.command c has.is_command is_c) has.is_output
 
 -- The whole output was written.
-module _ (words : List (List ℕ)) (told : List ℕ → Option (List ℕ)) (asked : List (List ℕ)) (before now : ℕ) (taken_before taken_now : Option (List ℕ)) where
-  pub record Wrote (result : ℕ) : Type 0 where
-    pub refused : Bool
-    pub text : List ℕ
-    pub status : result ≡ done_status refused
-    pub has : HasOutput words told asked before now refused text
-    pub appends : Appends taken_before taken_now text
+pub record Wrote (words : List (List ℕ)) (shelf : Shelved) (taken_before taken_now : Option (List ℕ)) (result : ℕ) : Type 0 where
+  pub refused : Bool
+  pub text : List ℕ
+  pub status : result ≡ done_status refused
+  pub has : HasOutput words shelf refused text
+  pub appends : Appends taken_before taken_now text
 
-  due-wrote : (status : ℕ) (text : List ℕ) → IsDue words told asked before now status text → IsDone status → Appends taken_before taken_now text → ((p : Page) → AsksFor words p → ⊥) → Wrote status
+module _ (words : List (List ℕ)) (shelf : Shelved) (taken_before taken_now : Option (List ℕ)) where
+  due-wrote : (status : ℕ) (text : List ℕ) → IsDue words shelf status text → IsDone status → Appends taken_before taken_now text → ((p : Page) → AsksFor words p → ⊥) → Wrote words shelf taken_before taken_now status
   due-wrote status text (page p asks nothing quiet) e appends none = absurd (none p asks)
   due-wrote status text (output refused t has) e appends none = record { refused = refused; text = t; status = refl; has = has; appends = appends }
-  due-wrote status text (refusal Usage cause) e appends none = absurd (not-done 2 (omega arith) e)
-  due-wrote status text (refusal (BadScript line reason) cause) e appends none = absurd (not-done 3 (omega arith) e)
-  due-wrote status text (refusal (BadKeys line reason) cause) e appends none = absurd (not-done 4 (omega arith) e)
-  due-wrote status text (refusal (ReadFault name) cause) e appends none = absurd (not-done 5 (omega arith) e)
-  due-wrote status text (refusal (TooLarge name) cause) e appends none = absurd (not-done 8 (omega arith) e)
-  due-wrote status text (refusal Memory cause) e appends none = absurd (not-done 7 (omega arith) e)
+  due-wrote status text (refusal fault cause) e appends none = absurd (not-done (status_of fault) (fault-above fault) e)
 
-  pub wrote : (b n result : ℕ) → Ends (IsDue words told asked before now) taken_before taken_now b n result → IsDone result → ((p : Page) → AsksFor words p → ⊥) → Wrote result
+  wrote : (b n result : ℕ) → Ends (IsDue words shelf) taken_before taken_now b n result → IsDone result → ((p : Page) → AsksFor words p → ⊥) → Wrote words shelf taken_before taken_now result
   wrote b n result (written status text due appends quiet) e none = due-wrote status text due e appends none
   wrote b n result (cut status text due front rose) e none = absurd (not-done 6 (omega arith) e)
   wrote b n result (memory due keeps quiet) e none = absurd (not-done 7 (omega arith) e)
 
-  writes : (result : ℕ) (IsText : Bool → List ℕ → Type 0) (w : Wrote result) → IsText w.refused w.text → Writes IsText taken_before taken_now result
-  writes result IsText w is_text old new is_old is_new =
-      let grown : new ≡ old ++ w.text = subst (λ (o : Option (List ℕ)). Appends (Some old) o w.text) is_new (subst (λ (o : Option (List ℕ)). Appends o taken_now w.text) is_old w.appends) in
-      (w.refused, w.text, w.status, grown, is_text)
-
-  -- The headline, and the same of a listing and of a dump.
-  pub transcribes : (b n result : ℕ) → Ends (IsDue words told asked before now) taken_before taken_now b n result → IsDone result → Transcribes words told taken_before taken_now result
-  transcribes b n result ends e script keys script_text keys_text threads keep_going is_run at at_keys =
-      let w = wrote b n result ends e (λ p asks. page-no-command words p (run script keys threads keep_going) asks is_run) in
-      writes result (IsTranscript script_text keys_text threads (mode_of keep_going)) w (does words told asked before now (run script keys threads keep_going) w.refused w.text is_run w.has script_text keys_text at at_keys)
-
-  pub lists : (b n result : ℕ) → Ends (IsDue words told asked before now) taken_before taken_now b n result → IsDone result → Lists words told taken_before taken_now result
-  lists b n result ends e script script_text keep_going is_list at =
-      let w = wrote b n result ends e (λ p asks. page-no-command words p (list script keep_going) asks is_list) in
-      writes result (IsListing script_text (mode_of keep_going)) w (does words told asked before now (list script keep_going) w.refused w.text is_list w.has script_text at)
-
-  pub dumps : (b n result : ℕ) → Ends (IsDue words told asked before now) taken_before taken_now b n result → IsDone result → Dumps words told taken_before taken_now result
-  dumps b n result ends e script script_text keep_going is_dump at =
-      let w = wrote b n result ends e (λ p asks. page-no-command words p (dump script keep_going) asks is_dump) in
-      writes result (IsTables script_text (mode_of keep_going)) w (does words told asked before now (dump script keep_going) w.refused w.text is_dump w.has script_text at)
-
-  -- A drill's line is written, with 0.
-  pub drilled : (seed count threads : ℕ) (refused : Bool) (out : List ℕ) → IsDrill words seed count threads → HasOutput words told asked before now refused out → Appends taken_before taken_now out
-      → DeliversDrill seed count taken_before taken_now (done_status refused)
-  drilled seed count threads refused out is_drill has appends =
-      let d = does words told asked before now (drill seed count threads) refused out is_drill has in
-      record { written = subst (λ (o : List ℕ). Appends taken_before taken_now o) d.1 appends; status = ap done_status d.0 }
-
-  pub drills : (b n result : ℕ) → Ends (IsDue words told asked before now) taken_before taken_now b n result → IsDone result → Drills words taken_before taken_now result
-  drills b n result ends e seed count threads is_drill =
-      let w = wrote b n result ends e (λ p asks. page-no-command words p (drill seed count threads) asks is_drill) in
-      subst (λ (r : ℕ). DeliversDrill seed count taken_before taken_now r) (sym w.status) (drilled seed count threads w.refused w.text is_drill w.has w.appends)
-
 -- Of words that ask for a page, the page is due and nothing else.
-module _ (words : List (List ℕ)) (told : List ℕ → Option (List ℕ)) (asked : List (List ℕ)) (before now : ℕ) (p : Page) (asks : AsksFor words p) where
-  no-cause : (fault : Fault) → IsCause words told asked before now fault → ⊥
-  no-cause fault (no_command none names same) = none.no_page p asks
-  no-cause fault (of_script f c script is_c is_s cause) = page-no-command words p c asks is_c
-  no-cause fault (of_keys f script keys n g is_run readable cause) = page-no-command words p (run script keys n g) asks is_run
-  no-cause fault (of_drill seed count n is_drill names same) = page-no-command words p (drill seed count n) asks is_drill
+module _ (words : List (List ℕ)) (shelf : Shelved) (p : Page) (asks : AsksFor words p) where
+  no-cause : (fault : Fault) → IsCause words shelf fault → ⊥
+  no-cause fault (no_command none nothing same) = none.no_page p asks
+  no-cause fault (of_file c f is_c stops) = page-no-command words p c asks is_c
+  no-cause fault (no_memory c is_c asked same) = page-no-command words p c asks is_c
 
-  due-page : (status : ℕ) (text : List ℕ) → IsDue words told asked before now status text → (status ≡ 0) × (text ≡ page_text p)
+  due-page : (status : ℕ) (text : List ℕ) → IsDue words shelf status text → (status ≡ 0) × (text ≡ page_text p)
   due-page status text (output refused t has) = absurd (page-no-command words p has.command asks has.is_command)
   due-page status text (page q asks_other nothing quiet) = (refl, ap page_text (one-page words q p asks_other asks))
   due-page status text (refusal fault cause) = absurd (no-cause fault cause)
 
-  pub page-written : (taken_before taken_now : Option (List ℕ)) (status : ℕ) (text : List ℕ) → IsDue words told asked before now status text → Appends taken_before taken_now text → DeliversPage p taken_before taken_now status
-  page-written taken_before taken_now status text due appends = let d = due-page status text due in record { written = subst (λ (t : List ℕ). Appends taken_before taken_now t) d.1 appends; status = d.0 }
+  -- Where nothing failed outside the page is written: memory isn't wanting for it.
+  pub page-ends : (taken_before taken_now : Option (List ℕ)) (b n result : ℕ) → Ends (IsDue words shelf) taken_before taken_now b n result → (result ≡ 6 → ⊥) → (result ≡ 0) × Appends taken_before taken_now (page_text p)
+  page-ends taken_before taken_now b n result (written status text due appends quiet) not_six = let d = due-page status text due in (d.0, subst (λ (t : List ℕ). Appends taken_before taken_now t) d.1 appends)
+  page-ends taken_before taken_now b n result (cut status text due front rose) not_six = absurd (not_six refl)
+  page-ends taken_before taken_now b n result (memory due keeps quiet) not_six = absurd (let d = (due-page 7 [] due).0 in omega (arith, d))
 
-  -- Memory isn't wanting for a page.
-  pub no-memory : IsDue words told asked before now 7 [] → ⊥
-  no-memory due = let d = (due-page 7 [] due).0 in omega (arith, d)
+module _ (c : Call) where
+  abbrev pub TheEnd : Type 0
+  TheEnd = Ends (IsDue c.words c.shelf) c.taken_before c.taken_now c.faults_before c.faults_now c.status
 
--- A page is written, with 0.
-pub tells-page : (words : List (List ℕ)) (told : List ℕ → Option (List ℕ)) (asked : List (List ℕ)) (before now : ℕ) (taken_before taken_now : Option (List ℕ)) (b n result : ℕ)
-    → Ends (IsDue words told asked before now) taken_before taken_now b n result → IsDone result → TellsPage words taken_before taken_now result
-tells-page words told asked before now taken_before taken_now b n result (written status text due appends quiet) e p asks = page-written words told asked before now p asks taken_before taken_now status text due appends
-tells-page words told asked before now taken_before taken_now b n result (cut status text due front rose) e p asks = absurd (not-done 6 (omega arith) e)
-tells-page words told asked before now taken_before taken_now b n result (memory due keeps quiet) e p asks = absurd (not-done 7 (omega arith) e)
+  abbrev pub HasWritten : Type 0
+  HasWritten = Wrote c.words c.shelf c.taken_before c.taken_now c.status
+
+  writes : (IsText : Bool → List ℕ → Type 0) (w : HasWritten) → IsText w.refused w.text → Writes IsText c
+  writes IsText w is_text old new is_old is_new =
+      let grown : new ≡ old ++ w.text = subst (λ (o : Option (List ℕ)). Appends (Some old) o w.text) is_new (subst (λ (o : Option (List ℕ)). Appends o c.taken_now w.text) is_old w.appends) in
+      (w.refused, w.text, w.status, grown, is_text)
+
+  of-command : TheEnd → IsDone c.status → (d : Command) → IsCommand c.words d → HasWritten
+  of-command ends e d is_d = wrote c.words c.shelf c.taken_before c.taken_now c.faults_before c.faults_now c.status ends e (λ p asks. page-no-command c.words p d asks is_d)
+
+  -- The headline, and the same of the other commands.
+  pub transcribes : TheEnd → IsDone c.status → Transcribes c
+  transcribes ends e script keys script_text keys_text threads keep_going is_run at at_keys =
+      let w = of-command ends e (run script keys threads keep_going) is_run in
+      writes (IsTranscript script_text keys_text threads (mode_of keep_going)) w (does c.words c.shelf (run script keys threads keep_going) w.refused w.text is_run w.has script_text keys_text at at_keys)
+
+  pub judges : TheEnd → IsDone c.status → Judges c
+  judges ends e script rules keys script_text rules_text keys_text threads keep_going is_judge at at_rules at_keys =
+      let d = judge script rules keys threads keep_going in
+      let w = of-command ends e d is_judge in
+      writes (IsJudgement script_text rules_text keys_text threads (mode_of keep_going)) w (does c.words c.shelf d w.refused w.text is_judge w.has script_text rules_text keys_text at at_rules at_keys)
+
+  pub captures : TheEnd → IsDone c.status → Captures c
+  captures ends e script plan packets script_text plan_text capture_text threads keep_going is_capture at at_plan at_capture =
+      let d = capture script plan packets threads keep_going in
+      let w = of-command ends e d is_capture in
+      writes (IsCaptured script_text plan_text capture_text threads (mode_of keep_going)) w (does c.words c.shelf d w.refused w.text is_capture w.has script_text plan_text capture_text at at_plan at_capture)
+
+  pub lists : TheEnd → IsDone c.status → Lists c
+  lists ends e script script_text keep_going is_list at =
+      let w = of-command ends e (list script keep_going) is_list in
+      writes (IsListing script_text (mode_of keep_going)) w (does c.words c.shelf (list script keep_going) w.refused w.text is_list w.has script_text at)
+
+  pub dumps : TheEnd → IsDone c.status → Dumps c
+  dumps ends e script script_text keep_going is_dump at =
+      let w = of-command ends e (dump script keep_going) is_dump in
+      writes (IsTables script_text (mode_of keep_going)) w (does c.words c.shelf (dump script keep_going) w.refused w.text is_dump w.has script_text at)
+
+  pub drilled : (seed count threads : ℕ) → IsDrill c.words seed count threads → HasWritten → Delivers (drill_text seed count) c
+  drilled seed count threads is_drill w =
+      let d = does c.words c.shelf (drill seed count threads) w.refused w.text is_drill w.has in
+      record { written = subst (λ (o : List ℕ). Appends c.taken_before c.taken_now o) d.1 w.appends; status = w.status ∙ ap done_status d.0 }
+
+  pub drills : TheEnd → IsDone c.status → Drills c
+  drills ends e seed count threads is_drill = drilled seed count threads is_drill (of-command ends e (drill seed count threads) is_drill)
+
+  paged : TheEnd → (c.status ≡ 6 → ⊥) → TellsPage c
+  paged ends not_six p asks = let d = page-ends c.words c.shelf p asks c.taken_before c.taken_now c.faults_before c.faults_now c.status ends not_six in record { written = d.1; status = d.0 }
+
+  pub tells-page : TheEnd → IsDone c.status → TellsPage c
+  tells-page ends e = paged ends (λ k. not-done c.status (rw k (omega arith)) e)
+
+  -- Where the sink's count didn't rise, the page was written in any case.
+  pub page-told : TheEnd → (Rose c.faults_before c.faults_now → ⊥) → TellsPage c
+  page-told ends quiet = paged ends (not-cut c.status ends) where
+    not-cut : (result : ℕ) → Ends (IsDue c.words c.shelf) c.taken_before c.taken_now c.faults_before c.faults_now result → result ≡ 6 → ⊥
+    not-cut result (cut status text due front rose) e = quiet rose
+    not-cut result (memory due keeps same) e = omega (arith, e)
+    not-cut result (written status text due appends same) e = no-six status text due e where
+      no-six : (status : ℕ) (text : List ℕ) → IsDue c.words c.shelf status text → status ≡ 6 → ⊥
+      no-six status text (output refused t has) e = let small = done-small refused in omega (arith, e, small)
+      no-six status text (page p asks nothing same) e = omega (arith, e)
+      no-six status text (refusal fault cause) e = status-not-six fault e where
+        form-not-six : (form : Form) → form_status form ≡ 6 → ⊥
+        form-not-six forms.script e = omega (arith, e)
+        form-not-six forms.keys e = omega (arith, e)
+        form-not-six forms.rules e = omega (arith, e)
+        form-not-six forms.plan e = omega (arith, e)
+        form-not-six forms.capture e = omega (arith, e)
+
+        status-not-six : (fault : Fault) → status_of fault ≡ 6 → ⊥
+        status-not-six Usage e = omega (arith, e)
+        status-not-six (File (files.Bad flaw)) e = form-not-six (form_of flaw) e
+        status-not-six (File (files.ReadFault name)) e = omega (arith, e)
+        status-not-six (File (files.TooLarge name)) e = omega (arith, e)
+        status-not-six (File files.Memory) e = omega (arith, e)
+        status-not-six Memory e = omega (arith, e)
 
 -- what is due of a page
-pub due-of-page : (words : List (List ℕ)) (told : List ℕ → Option (List ℕ)) (asked : List (List ℕ)) (before now : ℕ) (p : Page) → AsksFor words p → asked ≡ [] → now ≡ before
-    → (status : ℕ) (text : List ℕ) → IsExactly 0 (page_text p) status text → IsDue words told asked before now status text
-due-of-page words told asked before now p asks nothing quiet status text e = rw (e.0, e.1) (page p asks nothing quiet)
+pub due-of-page : (words : List (List ℕ)) (shelf : Shelved) (p : Page) → AsksFor words p → shelf.asked ≡ [] → shelf.faults_now ≡ shelf.faults_before
+    → (status : ℕ) (text : List ℕ) → IsExactly 0 (page_text p) status text → IsDue words shelf status text
+due-of-page words shelf p asks nothing quiet status text e = rw (e.0, e.1) (page p asks nothing quiet)
 
 -- what is due of a fault with its cause
-pub due-refusal : (words : List (List ℕ)) (told : List ℕ → Option (List ℕ)) (asked : List (List ℕ)) (before now : ℕ) (fault : Fault) → IsCause words told asked before now fault
-    → (status : ℕ) (text : List ℕ) → IsExactly (status_of fault) (line_of fault) status text → IsDue words told asked before now status text
-due-refusal words told asked before now fault cause status text e = rw (e.0, e.1) (refusal fault cause)
+pub due-refusal : (words : List (List ℕ)) (shelf : Shelved) (fault : Fault) → IsCause words shelf fault → (status : ℕ) (text : List ℕ) → IsExactly (status_of fault) (line_of fault) status text → IsDue words shelf status text
+due-refusal words shelf fault cause status text e = rw (e.0, e.1) (refusal fault cause)
 
 -- what is due of an output
-pub due-of-output : (words : List (List ℕ)) (told : List ℕ → Option (List ℕ)) (asked : List (List ℕ)) (before now : ℕ) (refused : Bool) (out : List ℕ)
-    → HasOutput words told asked before now refused out → (status : ℕ) (text : List ℕ) → IsExactly (done_status refused) out status text → IsDue words told asked before now status text
-due-of-output words told asked before now refused out h status text e = rw (e.0, e.1) (output refused out h)
-
--- A cause in the key file is said of what the shelf tells, however that is named.
-pub keys-cause : (script keys : List ℕ) (told other : List ℕ → Option (List ℕ)) (asked : List (List ℕ)) (before now : ℕ) (fault : Fault) → ((name : List ℕ) → told name ≡ other name)
-    → IsKeysCause script keys told asked before now fault → IsKeysCause script keys other asked before now fault
-keys-cause script keys told other asked before now Usage same h = absurd h
-keys-cause script keys told other asked before now (BadScript line reason) same h = absurd h
-keys-cause script keys told other asked before now (BadKeys line reason) same h = (h.0, h.1, λ text keys_text a b. h.2 text keys_text (same script ∙ a) (same keys ∙ b))
-keys-cause script keys told other asked before now (ReadFault name) same h = h
-keys-cause script keys told other asked before now (TooLarge name) same h = (h.0, h.1, h.2, λ text a. h.3 text (same keys ∙ a))
-keys-cause script keys told other asked before now Memory same h = h
+pub due-of-output : (words : List (List ℕ)) (shelf : Shelved) (refused : Bool) (out : List ℕ) → HasOutput words shelf refused out → (status : ℕ) (text : List ℕ) → IsExactly (done_status refused) out status text → IsDue words shelf status text
+due-of-output words shelf refused out h status text e = rw (e.0, e.1) (output refused out h)

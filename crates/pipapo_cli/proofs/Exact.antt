@@ -1,219 +1,193 @@
 -- Each status comes exactly where its cause is there.
-use Rattle.std.proofs.Common.{Bool, ap, ◌≡◌, ◌∙◌, refl, subst, ℕ, List, [], ◌∷◌, length, slice_get, Option, None, inl, inr, arith}
-use Rattle.token_forms.specs.declared.token.Reason.{Reason}
+use Rattle.std.specs.Borrow.{Bor}
+use Rattle.std.proofs.Common.{ap, sym, ◌≡◌, ◌≤◌, ◌<◌, ◌∙◌, refl, subst, ℕ, List, [], ◌∷◌, ◌++◌, length, Option, Some, inl, inr, arith}
+use Rattle.std.specs.Prelude.{◌⊎◌}
 use Rattle.pip_base.specs.Causes.{Rose}
 use Rattle.set_model.specs.declared.script.Script.{Script}
+use Rattle.set_model.specs.declared.script.SetDecl.{SetDecl}
+use Rattle.set_model.specs.declared.packet.Packet.{Packet}
 use Rattle.set_model.specs.Control.{Mode, mode_of, has_refusal}
-use Rattle.set_script.specs.ScriptText.{IsScriptText}
-use Rattle.set_script.proofs.ScriptWhole.{script_single}
-use Rattle.key_file.specs.KeysText.{IsKeysText}
-use Rattle.script_run.specs.Listings.{listing_text, tables_text}
-use Rattle.pipapo_cli.specs.declared.fault.Fault.{Fault}
-use Rattle.pipapo_cli.specs.declared.fault.Fault.TheVariants.{Usage, BadScript, BadKeys, ReadFault, TooLarge, Memory}
-use Rattle.command_words.specs.declared.page.Page.{Page}
-use Rattle.command_words.specs.Words.{Command, IsCommand, AsksFor, IsNoCommand, IsRun, IsDrill, IsScriptOf, run, list, dump, drill, file_names}
-use Rattle.pipapo_cli.specs.Transcript.{IsTranscript, IsTextOf}
-use Rattle.pipapo_cli.specs.Causes.{IsCause, no_command, of_script, of_keys, of_drill, IsScriptCause, IsKeysCause, IsReadable, IsSized, IsBadScript, IsBadKeys, IsTooLarge}
-use Rattle.pipapo_cli.specs.Lines.{done_status, status_of}
-use Rattle.pipapo_cli.specs.Answers.{Ends, written, cut, memory, IsDue, output, page, refusal, HasOutput}
-use Rattle.pipapo_cli.specs.Exactly.{IsExact, HasScript}
+use Rattle.command_words.specs.Words.{Command, IsCommand, IsNoCommand}
 use Rattle.command_words.proofs.CommandWords.{one-command}
 use Rattle.command_words.proofs.PageWords.{page-no-command}
-use Rattle.pipapo_cli.proofs.Endings.{one-script, one-run, does, no-script, no-keys}
+use Rattle.input_files.specs.declared.fault.Flaw.{Flaw}
+use Rattle.input_files.specs.declared.fault.FileFault.{FileFault}
+use Rattle.input_files.specs.declared.fault.FileFault.TheVariants as files
+use Rattle.input_files.specs.Inputs.{Input, inputs, form_of, IsOf}
+use Rattle.input_files.specs.Reads.{Shelved, AreOf, HasRead, StopsAt}
+use Rattle.input_files.specs.Given.{AreGiven}
+use Rattle.input_files.proofs.Turns.{Turns, before, behind, same, two-turns, of-one, of-front, given-one, given-front, given-as-read, given-refuses}
+use Rattle.rule_chain.specs.Chains.{Rules}
+use Rattle.pip_base.specs.Whole.{size_limit}
+use Rattle.pipapo_cli.specs.declared.fault.Fault.{Fault}
+use Rattle.pipapo_cli.specs.declared.fault.Fault.TheVariants.{Usage, File, Memory}
+use Rattle.pipapo_cli.specs.Calls.{Call, IsQuiet}
+use Rattle.pipapo_cli.specs.Causes.{IsCause, no_command, of_file, no_memory}
+use Rattle.pipapo_cli.specs.Lines.{done_status, form_status, file_status, status_of}
+use Rattle.pipapo_cli.specs.Answers.{Ends, written, cut, memory, IsDue, output, page, refusal, Delivers}
+use Rattle.pipapo_cli.specs.Exactly.{HasTurn, IsExact, IsStatus, Completes, DeliversText, DeliversRun, DeliversJudgement, RanOut}
+use Rattle.pipapo_cli.specs.Promises.{Promises, Goes}
+use Rattle.pipapo_cli.proofs.Endings.{TheEnd, page-told, transcribes, judges, captures, lists, dumps, drills, tells-page}
+use Rattle.pipapo_cli.proofs.Completed.{completes, tells-read-fault, tells-flaw, shelf-moved, sink-moved}
 
--- What holds of the script that the words name holds of each, and of the files of a run the same.
-abbrev OfScript : List (List ℕ) → (List ℕ → Type 0) → Type 0
-OfScript words P = (c : Command) (script : List ℕ) → IsCommand words c → IsScriptOf c script → P script
+-- A file that came to its turn, and is told.
+module _ (shelf : Shelved) (quiet : Rose shelf.faults_before shelf.faults_now → ⊥) (c : Command) (earlier later : List Input) (i : Input) (sets : List SetDecl) (text : List ℕ)
+    (in_order : inputs c ≡ earlier ++ i ∷ later) (given : AreGiven shelf.told sets earlier) (is_told : shelf.told i.name ≡ Some text) where
+  -- where another file, in its turn, can't be had
+  turns-of : (fault : FileFault) (s : StopsAt shelf c fault) → Turns s.earlier s.input earlier i
+  turns-of fault s = two-turns s.earlier s.input s.later earlier i later (sym s.in_order ∙ in_order)
 
-abbrev OfRun : List (List ℕ) → (List ℕ → List ℕ → Type 0) → Type 0
-OfRun words P = (script keys : List ℕ) (threads : ℕ) (keep_going : Bool) → IsRun words script keys threads keep_going → P script keys
+  -- too large a file
+  large-flaw : (flaw : Flaw) (s : StopsAt shelf c (files.Bad flaw)) → size_limit < length text → Turns s.earlier s.input earlier i → ⊥
+  large-flaw flaw s big (before rest e) =
+      let g = subst (λ (z : List Input). AreGiven shelf.told sets z) e given in
+      given-refuses shelf.told c s.earlier s.input s.later s.sets sets flaw s.in_order s.read_before.are_of s.cause.2 s.cause.3 (given-front shelf.told sets s.earlier (s.input ∷ rest) g) (given-one shelf.told sets s.earlier s.input rest g)
+  large-flaw flaw s big (behind rest e) =
+      let r = of-one shelf.told s.sets earlier i rest (subst (λ (z : List Input). AreOf shelf.told s.sets z) e s.read_before.are_of) text is_told in
+      let fits : length text ≤ size_limit = r.0 in
+      omega (arith, fits, big)
+  large-flaw flaw s big (same e k) =
+      let r = s.cause.3 text (ap (λ (x : Input). shelf.told x.name) k ∙ is_told) in
+      let fits : length text ≤ size_limit = r.0 in
+      omega (arith, fits, big)
 
-of-the-script : (words : List (List ℕ)) (P : List ℕ → Type 0) (c : Command) (script : List ℕ) → IsCommand words c → IsScriptOf c script → P script → OfScript words P
-of-the-script words P c script h is_script p other name is_other is_name = subst P (one-script words c other script name h is_script is_other is_name) p
+  file-large : (fault : FileFault) → StopsAt shelf c fault → size_limit < length text → (file_status fault ≡ 8) ⊎ (file_status fault ≡ 7)
+  file-large (files.Bad flaw) s big = absurd (large-flaw flaw s big (turns-of (files.Bad flaw) s))
+  file-large (files.ReadFault name) s big = absurd (quiet s.cause.2)
+  file-large (files.TooLarge name) s big = inl refl
+  file-large files.Memory s big = inr refl
 
-of-the-run : (words : List (List ℕ)) (P : List ℕ → List ℕ → Type 0) (script keys : List ℕ) (threads : ℕ) (keep_going : Bool) → IsRun words script keys threads keep_going → P script keys → OfRun words P
-of-the-run words P script keys threads keep_going h p s k n g other = let same = one-run words script keys s k threads n keep_going g h other in subst (P s) same.1 (subst (λ (x : List ℕ). P x keys) same.0 p)
+  read-large : HasRead shelf c → size_limit < length text → ⊥
+  read-large r big =
+      let t = of-one shelf.told r.sets earlier i later (subst (λ (z : List Input). AreOf shelf.told r.sets z) in_order r.all.are_of) text is_told in
+      let fits : length text ≤ size_limit = t.0 in
+      omega (arith, fits, big)
 
-module _ (words : List (List ℕ)) (told : List ℕ → Option (List ℕ)) where
-  -- A run's words aren't those of a command with one name, and a command's with a script aren't a drill's.
-  no-alone : (script keys : List ℕ) (n : ℕ) (g : Bool) (c : Command) (name : List ℕ) → IsRun words script keys n g → IsCommand words c → file_names c ≡ name ∷ [] → ⊥
-  no-alone script keys n g c name is_run is_c names =
-      let same : script ∷ keys ∷ [] ≡ name ∷ [] = ap file_names (one-command words (run script keys n g) c is_run is_c) ∙ names in
-      let count : 2 ≡ 1 = ap length same in
-      omega (arith, count)
+  -- a file that isn't of its form
+  module _ (fits : length text ≤ size_limit) (outside : (others : List SetDecl) → AreGiven shelf.told others earlier → IsOf i.form others text → ⊥) where
+    read-outside : (others : List SetDecl) (rest : List Input) → AreOf shelf.told others (earlier ++ i ∷ rest) → ⊥
+    read-outside others rest are =
+        outside others (given-as-read shelf.told sets others earlier given (of-front shelf.told others earlier (i ∷ rest) are)) (of-one shelf.told others earlier i rest are text is_told).1
 
-  no-drill : (c : Command) (script : List ℕ) (seed count n : ℕ) → IsScriptOf c script → IsCommand words c → IsDrill words seed count n → ⊥
-  no-drill c script seed count n is_s is_c is_drill =
-      let none : slice_get (file_names c) 0 ≡ None = ap (λ (x : Command). slice_get (file_names x) 0) (one-command words c (drill seed count n) is_c is_drill) in
-      cc (is_s, none)
+    bad-flaw : (flaw : Flaw) (s : StopsAt shelf c (files.Bad flaw)) → Turns s.earlier s.input earlier i → form_status (form_of flaw) ≡ form_status i.form
+    bad-flaw flaw s (before rest e) =
+        absurd (let g = subst (λ (z : List Input). AreGiven shelf.told sets z) e given in
+        given-refuses shelf.told c s.earlier s.input s.later s.sets sets flaw s.in_order s.read_before.are_of s.cause.2 s.cause.3 (given-front shelf.told sets s.earlier (s.input ∷ rest) g) (given-one shelf.told sets s.earlier s.input rest g))
+    bad-flaw flaw s (behind rest e) = absurd (read-outside s.sets rest (subst (λ (z : List Input). AreOf shelf.told s.sets z) e s.read_before.are_of))
+    bad-flaw flaw s (same e k) = ap form_status (s.cause.2 ∙ ap (λ (x : Input). x.form) k)
 
-  -- One row for each end: what it says decides every other.
-  exact-usage : IsNoCommand words → IsExact words told 2
-  exact-usage none = record {
-    usage = λ _. refl;
-    large_script = λ c script text is_c is_s at big. absurd (none.no_work c is_c);
-    bad_script = λ c script text is_c is_s at fits outside. absurd (none.no_work c is_c);
-    large_keys = λ script keys text n g s is_run hs at big. absurd (none.no_work (run script keys n g) is_run);
-    bad_keys = λ script keys text n g s is_run hs at fits outside. absurd (none.no_work (run script keys n g) is_run);
-    done_run = λ script keys n g s packets is_run hs hk. absurd (none.no_work (run script keys n g) is_run);
-    done_list = λ script g s is_list hs. absurd (none.no_work (list script g) is_list);
-    done_dump = λ script g s is_dump hs. absurd (none.no_work (dump script g) is_dump);
-    done_drill = λ seed count n is_drill. absurd (none.no_work (drill seed count n) is_drill);
-    done_page = λ p asks. absurd (none.no_page p asks);
+    bad-large : (name : Bor (List ℕ)) (s : StopsAt shelf c (files.TooLarge name)) → Turns s.earlier s.input earlier i → ⊥
+    bad-large name s (before rest e) =
+        let has = given-one shelf.told sets s.earlier s.input rest (subst (λ (z : List Input). AreGiven shelf.told sets z) e given) in
+        let big : size_limit < length has.text = s.cause.3 has.text has.is_told in
+        let within : length has.text ≤ size_limit = has.fits in
+        omega (arith, big, within)
+    bad-large name s (behind rest e) = read-outside s.sets rest (subst (λ (z : List Input). AreOf shelf.told s.sets z) e s.read_before.are_of)
+    bad-large name s (same e k) =
+        let big : size_limit < length text = s.cause.3 text (ap (λ (x : Input). shelf.told x.name) k ∙ is_told) in
+        omega (arith, big, fits)
+
+    file-bad : (fault : FileFault) → StopsAt shelf c fault → (file_status fault ≡ form_status i.form) ⊎ (file_status fault ≡ 7)
+    file-bad (files.Bad flaw) s = inl (bad-flaw flaw s (turns-of (files.Bad flaw) s))
+    file-bad (files.ReadFault name) s = absurd (quiet s.cause.2)
+    file-bad (files.TooLarge name) s = absurd (bad-large name s (turns-of (files.TooLarge name) s))
+    file-bad files.Memory s = inr refl
+
+    read-bad : HasRead shelf c → ⊥
+    read-bad r = read-outside r.sets later (subst (λ (z : List Input). AreOf shelf.told r.sets z) in_order r.all.are_of)
+
+-- What a command of these words comes to, by what its files come to.
+module _ (words : List (List ℕ)) (shelf : Shelved) (c : Command) (is_c : IsCommand words c) (status : ℕ) (no_read : HasRead shelf c → ⊥) (of_stop : (fault : FileFault) → StopsAt shelf c fault → (file_status fault ≡ status) ⊎ (file_status fault ≡ 7)) where
+  cause-status : (fault : Fault) → IsCause words shelf fault → (status_of fault ≡ status) ⊎ (status_of fault ≡ 7)
+  cause-status Usage (no_command none nothing quiet) = absurd (none.no_work c is_c)
+  cause-status (File f) (of_file d g is_d s) = of_stop f (subst (λ (x : Command). StopsAt shelf x f) (one-command words d c is_d is_c) s)
+  cause-status Memory (no_memory d is_d asked quiet) = inr refl
+
+  due-status : (result : ℕ) (text : List ℕ) → IsDue words shelf result text → (result ≡ status) ⊎ (result ≡ 7)
+  due-status result text (output refused t has) = absurd (no_read (subst (λ (x : Command). HasRead shelf x) (one-command words has.command c has.is_command is_c) has.has_read))
+  due-status result text (page p asks nothing quiet) = absurd (page-no-command words p c asks is_c)
+  due-status result text (refusal fault cause) = cause-status fault cause
+
+  ends-status : (taken_before taken_now : Option (List ℕ)) (b n result : ℕ) → Ends (IsDue words shelf) taken_before taken_now b n result → (Rose b n → ⊥) → (result ≡ status) ⊎ (result ≡ 7)
+  ends-status taken_before taken_now b n result (written r text due appends quiet) sink = due-status r text due
+  ends-status taken_before taken_now b n result (cut r text due front rose) sink = absurd (sink rose)
+  ends-status taken_before taken_now b n result (memory due keeps quiet) sink = inr refl
+
+-- Words that are no command have the usage line.
+module _ (words : List (List ℕ)) (shelf : Shelved) (none : IsNoCommand words) where
+  cause-usage : (fault : Fault) → IsCause words shelf fault → status_of fault ≡ 2
+  cause-usage Usage (no_command other nothing quiet) = refl
+  cause-usage (File f) (of_file d g is_d s) = absurd (none.no_work d is_d)
+  cause-usage Memory (no_memory d is_d asked quiet) = absurd (none.no_work d is_d)
+
+  due-usage : (result : ℕ) (text : List ℕ) → IsDue words shelf result text → result ≡ 2
+  due-usage result text (output refused t has) = absurd (none.no_work has.command has.is_command)
+  due-usage result text (page p asks nothing quiet) = absurd (none.no_page p asks)
+  due-usage result text (refusal fault cause) = cause-usage fault cause
+
+  ends-usage : (taken_before taken_now : Option (List ℕ)) (b n result : ℕ) → Ends (IsDue words shelf) taken_before taken_now b n result → (Rose b n → ⊥) → result ≡ 2
+  ends-usage taken_before taken_now b n result (written r text due appends quiet) sink = due-usage r text due
+  ends-usage taken_before taken_now b n result (cut r text due front rose) sink = absurd (sink rose)
+  ends-usage taken_before taken_now b n result (memory due keeps quiet) sink = absurd (let e = due-usage 7 [] due in omega (arith, e))
+
+module _ (c : Call) (ends : TheEnd c) (quiet : IsQuiet c) where
+  in-turn : (status : ℕ) (earlier : List Input) (i : Input) (text : List ℕ) (t : HasTurn c earlier i text) → (HasRead c.shelf t.command → ⊥) → ((fault : FileFault) → StopsAt c.shelf t.command fault → (file_status fault ≡ status) ⊎ (file_status fault ≡ 7)) → IsStatus status c
+  in-turn status earlier i text t no_read of_stop = ends-status c.words c.shelf t.command t.is_command status no_read of_stop c.taken_before c.taken_now c.faults_before c.faults_now c.status ends quiet.sink
+
+  of-text : (mode : Mode) (s : Script) (text : List ℕ) → DeliversText mode s text c ⊎ RanOut c → IsStatus (done_status (has_refusal mode s)) c
+  of-text mode s text (inl d) = inl d.status
+  of-text mode s text (inr r) = inr r.0
+
+  of-run : (n : ℕ) (mode : Mode) (s : Script) (packets : List (List Packet)) → DeliversRun n mode s packets c ⊎ RanOut c → IsStatus (done_status (has_refusal mode s)) c
+  of-run n mode s packets (inl d) = inl d.delivers.status
+  of-run n mode s packets (inr r) = inr r.0
+
+  of-judgement : (n : ℕ) (mode : Mode) (s : Script) (r : Rules) (packets : List (List Packet)) → DeliversJudgement n mode s r packets c ⊎ RanOut c → IsStatus (done_status (has_refusal mode s)) c
+  of-judgement n mode s r packets (inl d) = inl d.delivers.status
+  of-judgement n mode s r packets (inr o) = inr o.0
+
+  of-drill : (text : List ℕ) → Delivers text c ⊎ RanOut c → IsStatus 0 c
+  of-drill text (inl d) = inl d.status
+  of-drill text (inr r) = inr r.0
+
+  done : Completes c
+  done = completes c ends quiet
+
+  exact : IsExact c
+  exact = record {
+    usage = λ none. ends-usage c.words c.shelf none c.taken_before c.taken_now c.faults_before c.faults_now c.status ends quiet.sink;
+    large = λ earlier i text t big.
+        in-turn 8 earlier i text t (λ r. read-large c.shelf quiet.shelf t.command earlier t.later i t.sets text t.in_order t.given t.is_told r big)
+        (λ fault s. file-large c.shelf quiet.shelf t.command earlier t.later i t.sets text t.in_order t.given t.is_told fault s big);
+    bad = λ earlier i text t fits outside.
+        in-turn (form_status i.form) earlier i text t (λ r. read-bad c.shelf quiet.shelf t.command earlier t.later i t.sets text t.in_order t.given t.is_told fits outside r)
+        (λ fault s. file-bad c.shelf quiet.shelf t.command earlier t.later i t.sets text t.in_order t.given t.is_told fits outside fault s);
+    done_run = λ script keys n g s packets is_run hs hk. of-run n (mode_of g) s packets (done.run script keys n g s packets is_run hs hk);
+    done_judge = λ script rules keys n g s r packets is_judge hs hr hk. of-judgement n (mode_of g) s r packets (done.judge script rules keys n g s r packets is_judge hs hr hk);
+    done_capture = λ script plan packets n g s taken is_capture hs hc. of-run n (mode_of g) s (taken ∷ []) (done.capture script plan packets n g s taken is_capture hs hc);
+    done_list = λ script g s is_list hs. of-text (mode_of g) s _ (done.list script g s is_list hs);
+    done_dump = λ script g s is_dump hs. of-text (mode_of g) s _ (done.dump script g s is_dump hs);
+    done_drill = λ seed count n is_drill. of-drill _ (done.drill seed count n is_drill);
+    done_page = λ p asks. (page-told c ends quiet.sink p asks).status;
   }
 
-  exact-memory : (some : Command) → IsCommand words some → IsExact words told 7
-  exact-memory some is_some = record {
-    usage = λ none. absurd (none.no_work some is_some);
-    large_script = λ c script text is_c is_s at big. inr refl;
-    bad_script = λ c script text is_c is_s at fits outside. inr refl;
-    large_keys = λ script keys text n g s is_run hs at big. inr refl;
-    bad_keys = λ script keys text n g s is_run hs at fits outside. inr refl;
-    done_run = λ script keys n g s packets is_run hs hk. inr refl;
-    done_list = λ script g s is_list hs. inr refl;
-    done_dump = λ script g s is_dump hs. inr refl;
-    done_drill = λ seed count n is_drill. inr refl;
-    done_page = λ p asks. absurd (page-no-command words p some asks is_some);
-  }
-
-  exact-bad_script : (some : Command) (name : List ℕ) (line : ℕ) (reason : Reason) → IsCommand words some → IsScriptOf some name → OfScript words (λ script. IsBadScript script told line reason) → IsExact words told 3
-  exact-bad_script some name line reason is_some has bad = record {
-    usage = λ none. absurd (none.no_work some is_some);
-    large_script = λ c script text is_c is_s at big. absurd (let r = (bad c script is_c is_s text at).0 in omega (arith, r, big));
-    bad_script = λ c script text is_c is_s at fits outside. inl refl;
-    large_keys = λ script keys text n g s is_run hs at big. absurd (refused (run script keys n g) script is_run refl s hs);
-    bad_keys = λ script keys text n g s is_run hs at fits outside. absurd (refused (run script keys n g) script is_run refl s hs);
-    done_run = λ script keys n g s packets is_run hs hk. absurd (refused (run script keys n g) script is_run refl s hs);
-    done_list = λ script g s is_list hs. absurd (refused (list script g) script is_list refl s hs);
-    done_dump = λ script g s is_dump hs. absurd (refused (dump script g) script is_dump refl s hs);
-    done_drill = λ seed count n is_drill. absurd (no-drill some name seed count n has is_some is_drill);
-    done_page = λ p asks. absurd (page-no-command words p some asks is_some);
-  } where
-    refused : (c : Command) (script : List ℕ) → IsCommand words c → IsScriptOf c script → (s : Script) → HasScript told script s → ⊥
-    refused c script is_c is_s s hs = no-script hs.text line reason (bad c script is_c is_s hs.text hs.is_told).1 s hs.is_script
-
-  exact-large_script : (some : Command) (name : List ℕ) → IsCommand words some → IsScriptOf some name → OfScript words (λ script. IsTooLarge script told) → IsExact words told 8
-  exact-large_script some name is_some has large = record {
-    usage = λ none. absurd (none.no_work some is_some);
-    large_script = λ c script text is_c is_s at big. inl refl;
-    bad_script = λ c script text is_c is_s at fits outside. absurd (let r = large c script is_c is_s text at in omega (arith, r, fits));
-    large_keys = λ script keys text n g s is_run hs at big. inl refl;
-    bad_keys = λ script keys text n g s is_run hs at fits outside. absurd (over (run script keys n g) script is_run refl s hs);
-    done_run = λ script keys n g s packets is_run hs hk. absurd (over (run script keys n g) script is_run refl s hs);
-    done_list = λ script g s is_list hs. absurd (over (list script g) script is_list refl s hs);
-    done_dump = λ script g s is_dump hs. absurd (over (dump script g) script is_dump refl s hs);
-    done_drill = λ seed count n is_drill. absurd (no-drill some name seed count n has is_some is_drill);
-    done_page = λ p asks. absurd (page-no-command words p some asks is_some);
-  } where
-    over : (c : Command) (script : List ℕ) → IsCommand words c → IsScriptOf c script → (s : Script) → HasScript told script s → ⊥
-    over c script is_c is_s s hs = let r = large c script is_c is_s hs.text hs.is_told in let f = hs.fits in omega (arith, r, f)
-
-  exact-bad_keys : (a b : List ℕ) (m : ℕ) (k : Bool) (line : ℕ) (reason : Reason) → IsRun words a b m k → OfScript words (λ script. IsReadable script told) → OfRun words (λ script keys. IsBadKeys script keys told line reason) → IsExact words told 4
-  exact-bad_keys a b m k line reason is_some readable bad = record {
-    usage = λ none. absurd (none.no_work (run a b m k) is_some);
-    large_script = λ c script text is_c is_s at big. absurd (let r = (readable c script is_c is_s text at).0 in omega (arith, r, big));
-    bad_script = λ c script text is_c is_s at fits outside. absurd (let r = (readable c script is_c is_s text at).1 in outside r.0 r.1);
-    large_keys = λ script keys text n g s is_run hs at big. absurd (let r = (bad script keys n g is_run hs.text text hs.is_told at).0 in omega (arith, r, big));
-    bad_keys = λ script keys text n g s is_run hs at fits outside. inl refl;
-    done_run = λ script keys n g s packets is_run hs hk.
-        absurd (let r = (bad script keys n g is_run hs.text hk.text hs.is_told hk.is_told).1 in
-        no-keys r.0.schema hk.text line reason r.2 packets (subst (λ (x : Script). IsKeysText x.schema hk.text packets) (script_single hs.text s r.0 hs.is_script r.1) hk.are_keys));
-    done_list = λ script g s is_list hs. absurd (no-alone a b m k (list script g) script is_some is_list refl);
-    done_dump = λ script g s is_dump hs. absurd (no-alone a b m k (dump script g) script is_some is_dump refl);
-    done_drill = λ seed count n is_drill. absurd (no-drill (run a b m k) a seed count n refl is_some is_drill);
-    done_page = λ p asks. absurd (page-no-command words p (run a b m k) asks is_some);
-  }
-
-  exact-large_keys : (a b : List ℕ) (m : ℕ) (k : Bool) → IsRun words a b m k → OfScript words (λ script. IsReadable script told) → OfRun words (λ script keys. IsTooLarge keys told) → IsExact words told 8
-  exact-large_keys a b m k is_some readable large = record {
-    usage = λ none. absurd (none.no_work (run a b m k) is_some);
-    large_script = λ c script text is_c is_s at big. inl refl;
-    bad_script = λ c script text is_c is_s at fits outside. absurd (let r = (readable c script is_c is_s text at).1 in outside r.0 r.1);
-    large_keys = λ script keys text n g s is_run hs at big. inl refl;
-    bad_keys = λ script keys text n g s is_run hs at fits outside. absurd (let r = large script keys n g is_run text at in omega (arith, r, fits));
-    done_run = λ script keys n g s packets is_run hs hk. absurd (let r = large script keys n g is_run hk.text hk.is_told in let f = hk.fits in omega (arith, r, f));
-    done_list = λ script g s is_list hs. absurd (no-alone a b m k (list script g) script is_some is_list refl);
-    done_dump = λ script g s is_dump hs. absurd (no-alone a b m k (dump script g) script is_some is_dump refl);
-    done_drill = λ seed count n is_drill. absurd (no-drill (run a b m k) a seed count n refl is_some is_drill);
-    done_page = λ p asks. absurd (page-no-command words p (run a b m k) asks is_some);
-  }
-
-  -- what an output says of a refused change
-  run-refusal : (n : ℕ) (g : Bool) (s : Script) (refused : Bool) (text keys_text out : List ℕ) → IsTranscript text keys_text n (mode_of g) refused out → IsScriptText text s → refused ≡ has_refusal (mode_of g) s
-  run-refusal n g s refused text keys_text out t is_script = t.refusal ∙ ap (has_refusal (mode_of g)) (script_single text t.script s t.script_is is_script)
-
-  alone-refusal : (made : Mode → Script → List ℕ) (g : Bool) (s : Script) (refused : Bool) (text out : List ℕ) → IsTextOf made text (mode_of g) refused out → IsScriptText text s → refused ≡ has_refusal (mode_of g) s
-  alone-refusal made g s refused text out t is_script = t.refusal ∙ ap (has_refusal (mode_of g)) (script_single text t.script s t.script_is is_script)
-
-  exact-output : (asked : List (List ℕ)) (before now : ℕ) (refused : Bool) (out : List ℕ) → HasOutput words told asked before now refused out → IsExact words told (done_status refused)
-  exact-output asked before now refused out h = record {
-    usage = λ none. absurd (none.no_work h.command h.is_command);
-    large_script = λ c script text is_c is_s at big. absurd (let r = (readable c script is_c is_s text at).0 in omega (arith, r, big));
-    bad_script = λ c script text is_c is_s at fits outside. absurd (let r = (readable c script is_c is_s text at).1 in outside r.0 r.1);
-    large_keys = λ script keys text n g s is_run hs at big. absurd (let r = sized script keys n g is_run text at in omega (arith, r, big));
-    bad_keys = λ script keys text n g s is_run hs at fits outside.
-        absurd (let t = does words told asked before now (run script keys n g) refused out is_run h hs.text text hs.is_told at in
-        outside t.keys (subst (λ (x : Script). IsKeysText x.schema text t.keys) (script_single hs.text t.script s t.script_is hs.is_script) t.keys_are));
-    done_run = λ script keys n g s packets is_run hs hk.
-        inl (ap done_status (run-refusal n g s refused hs.text hk.text out (does words told asked before now (run script keys n g) refused out is_run h hs.text hk.text hs.is_told hk.is_told) hs.is_script));
-    done_list = λ script g s is_list hs. inl (ap done_status (alone-refusal listing_text g s refused hs.text out (does words told asked before now (list script g) refused out is_list h hs.text hs.is_told) hs.is_script));
-    done_dump = λ script g s is_dump hs. inl (ap done_status (alone-refusal tables_text g s refused hs.text out (does words told asked before now (dump script g) refused out is_dump h hs.text hs.is_told) hs.is_script));
-    done_drill = λ seed count n is_drill. inl (ap done_status (does words told asked before now (drill seed count n) refused out is_drill h).0);
-    done_page = λ p asks. absurd (page-no-command words p h.command asks h.is_command);
-  } where
-    readable : OfScript words (λ script. IsReadable script told)
-    readable c script is_c is_s = h.readable.script script (subst (λ (x : Command). IsScriptOf x script) (one-command words c h.command is_c h.is_command) is_s)
-
-    sized : (script keys : List ℕ) (n : ℕ) (g : Bool) → IsRun words script keys n g → IsSized keys told
-    sized script keys n g is_run = h.readable.keys script keys (ap file_names (one-command words h.command (run script keys n g) h.is_command is_run))
-
-  exact-page : (p : Page) → AsksFor words p → IsExact words told 0
-  exact-page p asks = record {
-    usage = λ none. absurd (none.no_page p asks);
-    large_script = λ c script text is_c is_s at big. absurd (page-no-command words p c asks is_c);
-    bad_script = λ c script text is_c is_s at fits outside. absurd (page-no-command words p c asks is_c);
-    large_keys = λ script keys text n g s is_run hs at big. absurd (page-no-command words p (run script keys n g) asks is_run);
-    bad_keys = λ script keys text n g s is_run hs at fits outside. absurd (page-no-command words p (run script keys n g) asks is_run);
-    done_run = λ script keys n g s packets is_run hs hk. absurd (page-no-command words p (run script keys n g) asks is_run);
-    done_list = λ script g s is_list hs. absurd (page-no-command words p (list script g) asks is_list);
-    done_dump = λ script g s is_dump hs. absurd (page-no-command words p (dump script g) asks is_dump);
-    done_drill = λ seed count n is_drill. absurd (page-no-command words p (drill seed count n) asks is_drill);
-    done_page = λ q asks_other. refl;
-  }
-
-  -- the rows of a fault, by the file that it comes of
-  exact-script : (asked : List (List ℕ)) (before now : ℕ) (fault : Fault) (c : Command) (script : List ℕ) → (Rose before now → ⊥) → IsCommand words c → IsScriptOf c script → IsScriptCause script told asked before now fault → IsExact words told (status_of fault)
-  exact-script asked before now Usage c script quiet is_c is_s cause = absurd cause
-  exact-script asked before now (BadScript line reason) c script quiet is_c is_s cause = exact-bad_script c script line reason is_c is_s (of-the-script words (λ (x : List ℕ). IsBadScript x told line reason) c script is_c is_s cause.2)
-  exact-script asked before now (BadKeys line reason) c script quiet is_c is_s cause = absurd cause
-  exact-script asked before now (ReadFault name) c script quiet is_c is_s cause = absurd (quiet cause.2)
-  exact-script asked before now (TooLarge name) c script quiet is_c is_s cause = exact-large_script c script is_c is_s (of-the-script words (λ (x : List ℕ). IsTooLarge x told) c script is_c is_s cause.3)
-  exact-script asked before now Memory c script quiet is_c is_s cause = exact-memory c is_c
-
-  exact-keys : (asked : List (List ℕ)) (before now : ℕ) (fault : Fault) (script keys : List ℕ) (n : ℕ) (g : Bool) → (Rose before now → ⊥) → IsRun words script keys n g → IsReadable script told → IsKeysCause script keys told asked before now fault → IsExact words told (status_of fault)
-  exact-keys asked before now Usage script keys n g quiet is_run readable cause = absurd cause
-  exact-keys asked before now (BadScript line reason) script keys n g quiet is_run readable cause = absurd cause
-  exact-keys asked before now (BadKeys line reason) script keys n g quiet is_run readable cause =
-      exact-bad_keys script keys n g line reason is_run (of-the-script words (λ (x : List ℕ). IsReadable x told) (run script keys n g) script is_run refl readable) (of-the-run words (λ (x y : List ℕ). IsBadKeys x y told line reason) script keys n g is_run cause.2)
-  exact-keys asked before now (ReadFault name) script keys n g quiet is_run readable cause = absurd (quiet cause.2)
-  exact-keys asked before now (TooLarge name) script keys n g quiet is_run readable cause =
-      exact-large_keys script keys n g is_run (of-the-script words (λ (x : List ℕ). IsReadable x told) (run script keys n g) script is_run refl readable) (of-the-run words (λ (x y : List ℕ). IsTooLarge y told) script keys n g is_run cause.3)
-  exact-keys asked before now Memory script keys n g quiet is_run readable cause = exact-memory (run script keys n g) is_run
-
-  exact-fault : (asked : List (List ℕ)) (before now : ℕ) (fault : Fault) → (Rose before now → ⊥) → IsCause words told asked before now fault → IsExact words told (status_of fault)
-  exact-fault asked before now fault quiet (no_command none names same) = exact-usage none
-  exact-fault asked before now fault quiet (of_script f c script is_c is_s cause) = exact-script asked before now f c script quiet is_c is_s cause
-  exact-fault asked before now fault quiet (of_keys f script keys n g is_run readable cause) = exact-keys asked before now f script keys n g quiet is_run readable cause
-  exact-fault asked before now fault quiet (of_drill seed count n is_drill names same) = exact-memory (drill seed count n) is_drill
-
-  exact-rows : (asked : List (List ℕ)) (before now status : ℕ) (text : List ℕ) → (Rose before now → ⊥) → IsDue words told asked before now status text → IsExact words told status
-  exact-rows asked before now status text quiet (output refused t h) = exact-output asked before now refused t h
-  exact-rows asked before now status text quiet (page p asks nothing same) = exact-page p asks
-  exact-rows asked before now status text quiet (refusal fault cause) = exact-fault asked before now fault quiet cause
-
-  -- Where no count rose, the status is the one that the words and the bytes call for.
-  pub exact : (asked : List (List ℕ)) (before now : ℕ) (taken_before taken_now : Option (List ℕ)) (b n result : ℕ) → Ends (IsDue words told asked before now) taken_before taken_now b n result
-      → (Rose before now → ⊥) → (Rose b n → ⊥) → IsExact words told result
-  exact asked before now taken_before taken_now b n result (written status text due appends same) quiet sink_quiet = exact-rows asked before now status text quiet due
-  exact asked before now taken_before taken_now b n result (cut status text due front rose) quiet sink_quiet = absurd (sink_quiet rose)
-  exact asked before now taken_before taken_now b n result (memory due keeps same) quiet sink_quiet = exact-rows asked before now 7 [] quiet due
+-- What a call promises follows of how it ends, and of the files that were read.
+pub promises : (c : Call) → Goes c → Promises c
+promises c g = record {
+  ends = g.ends;
+  exact = λ q. exact c g.ends q;
+  complete = λ q. completes c g.ends q;
+  run = λ e. transcribes c g.ends e;
+  judge = λ e. judges c g.ends e;
+  capture = λ e. captures c g.ends e;
+  list = λ e. lists c g.ends e;
+  dump = λ e. dumps c g.ends e;
+  drill = λ e. drills c g.ends e;
+  page = λ e. tells-page c g.ends e;
+  names = g.names;
+  all_read = g.all_read;
+  bad = λ form e. tells-flaw c g.ends form e;
+  read_fault = λ e. tells-read-fault c g.ends e;
+  shelf_count = λ moved. shelf-moved c.words c.shelf c.taken_before c.taken_now c.faults_before c.faults_now c.status g.ends moved;
+  sink_count = λ moved. sink-moved c.words c.shelf c.taken_before c.taken_now c.faults_before c.faults_now c.status g.ends moved;
+}

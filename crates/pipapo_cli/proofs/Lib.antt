@@ -1,6 +1,7 @@
 mod Deliveries
-pub mod Endings
-mod Exact
 mod Asking
+pub mod Endings
 mod Completed
+mod Exact
 pub mod Outputs
+mod Goings

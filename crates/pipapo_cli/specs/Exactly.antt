@@ -1,77 +1,117 @@
 -- The status of a call in which nothing failed outside, and what it wrote, by the words and by the bytes that the shelf tells.
-use Rattle.std.specs.Prelude.{Bool, ◌≡◌, ◌≤◌, ◌<◌, ◌⊎◌, ℕ, List, length, Option, Some}
+use Rattle.std.specs.Prelude.{Bool, ◌≡◌, ◌≤◌, ◌<◌, ◌⊎◌, ℕ, List, [], ◌∷◌, ◌++◌, length, Option, Some}
 use Rattle.std.specs.Io.KnownBytes.{Appends, Keeps}
 use Rattle.set_model.specs.declared.script.Script.{Script}
+use Rattle.set_model.specs.declared.script.SetDecl.{SetDecl}
 use Rattle.set_model.specs.declared.packet.Packet.{Packet}
 use Rattle.set_model.specs.declared.report.Line.{Line}
 use Rattle.set_model.specs.Control.{Mode, mode_of, has_refusal}
-use Rattle.set_model.specs.Legal.{Legal}
-use Rattle.set_model.specs.Text.{transcript_text}
+use Rattle.set_model.specs.Legal.{AreLegal, Legal}
+use Rattle.set_model.specs.Text.{run_text, transcript_text}
+use Rattle.rule_chain.specs.Chains.{Rules}
+use Rattle.rule_chain.specs.Judged.{IsJudged}
+use Rattle.rule_chain.specs.JudgedText.{judged_text}
 use Rattle.set_script.specs.ScriptText.{IsScriptText}
 use Rattle.key_file.specs.KeysText.{IsKeysText}
+use Rattle.pcap_keys.specs.declared.facts.Frame.{Frame}
+use Rattle.pcap_keys.specs.declared.selector.PlanLine.{PlanLine}
+use Rattle.pcap_keys.specs.CapturedPackets.{IsCapture as IsCaptureText}
+use Rattle.pcap_keys.specs.Planned.{packets as planned_packets}
+use Rattle.pcap_keys.specs.PlansText.{IsPlanText}
 use Rattle.script_run.specs.Listings.{listing_text, tables_text}
+use Rattle.script_run.specs.Drill.{drill_text}
 use Rattle.pip_base.specs.Whole.{size_limit}
 use Rattle.command_words.specs.declared.page.Page.{Page}
-use Rattle.command_words.specs.Words.{Command, IsCommand, AsksFor, IsNoCommand, IsRun, IsList, IsDump, IsDrill, IsScriptOf}
-use Rattle.pipapo_cli.specs.Lines.{done_status}
-use Rattle.pipapo_cli.specs.Answers.{DeliversDrill, TellsPage}
+use Rattle.command_words.specs.Words.{Command, IsCommand, AsksFor, IsNoCommand, IsRun, IsList, IsDump, IsDrill, IsJudge, IsCapture}
+use Rattle.input_files.specs.Inputs.{Input, inputs, IsOf}
+use Rattle.input_files.specs.Given.{Has, AreGiven}
+use Rattle.pipapo_cli.specs.Transcript.{AreRulesOf}
+use Rattle.pipapo_cli.specs.Calls.{Call}
+use Rattle.pipapo_cli.specs.Lines.{done_status, form_status}
+use Rattle.pipapo_cli.specs.Answers.{Delivers, TellsPage}
 
 -- A file's bytes, within their size, stand for this script.
-pub record HasScript (told : List ℕ → Option (List ℕ)) (name : List ℕ) (s : Script) : Type 0 where
-  pub text : List ℕ
-  pub is_told : told name ≡ Some text
-  pub fits : length text ≤ size_limit
-  pub is_script : IsScriptText text s
+abbrev pub HasScript : (List ℕ → Option (List ℕ)) → List ℕ → Script → Type 0
+HasScript told name s = Has told name (λ text. IsScriptText text s)
 
 -- A file's bytes, within their size, stand for these packets under the sets of a script.
-pub record HasKeys (told : List ℕ → Option (List ℕ)) (name : List ℕ) (s : Script) (keys : List (List Packet)) : Type 0 where
-  pub text : List ℕ
-  pub is_told : told name ≡ Some text
-  pub fits : length text ≤ size_limit
-  pub are_keys : IsKeysText s.schema text keys
+abbrev pub HasKeys : (List ℕ → Option (List ℕ)) → List ℕ → Script → List (List Packet) → Type 0
+HasKeys told name s keys = Has told name (λ text. IsKeysText s.schema text keys)
+
+-- A file's bytes, within their size, stand for these rules over the sets of a script.
+abbrev pub HasRules : (List ℕ → Option (List ℕ)) → List ℕ → Script → Rules → Type 0
+HasRules told name s rules = Has told name (λ text. AreRulesOf s text rules)
+
+-- The bytes of two files, within their size, are a plan under the sets of a script, and a capture of which the plan makes these packets.
+pub record HasCaptured (told : List ℕ → Option (List ℕ)) (plan_name capture_name : List ℕ) (s : Script) (packets : List Packet) : Type 0 where
+  pub lines : List PlanLine
+  pub frames : List Frame
+  pub plan : Has told plan_name (λ text. IsPlanText s.schema text lines)
+  pub capture : Has told capture_name (λ text. IsCaptureText text frames)
+  pub made : packets ≡ planned_packets lines frames
 
 -- A call has this status, or memory was wanting.
-abbrev pub IsStatus : ℕ → ℕ → Type 0
-IsStatus status result = (result ≡ status) ⊎ (result ≡ 7)
+abbrev pub IsStatus : ℕ → Call → Type 0
+IsStatus status c = (c.status ≡ status) ⊎ (c.status ≡ 7)
 
--- Each status comes exactly where its cause is there, in the order of the tests.
-pub record IsExact (words : List (List ℕ)) (told : List ℕ → Option (List ℕ)) (result : ℕ) : Type 0 where
-  pub usage : IsNoCommand words → result ≡ 2
-  pub large_script : (c : Command) (script text : List ℕ) → IsCommand words c → IsScriptOf c script → told script ≡ Some text → size_limit < length text → IsStatus 8 result
-  pub bad_script : (c : Command) (script text : List ℕ) → IsCommand words c → IsScriptOf c script → told script ≡ Some text → length text ≤ size_limit → ((s : Script) → IsScriptText text s → ⊥) → IsStatus 3 result
-  pub large_keys : (script keys text : List ℕ) (threads : ℕ) (keep_going : Bool) (s : Script) → IsRun words script keys threads keep_going → HasScript told script s → told keys ≡ Some text → size_limit < length text → IsStatus 8 result
-  pub bad_keys : (script keys text : List ℕ) (threads : ℕ) (keep_going : Bool) (s : Script) → IsRun words script keys threads keep_going → HasScript told script s → told keys ≡ Some text → length text ≤ size_limit
-      → ((packets : List (List Packet)) → IsKeysText s.schema text packets → ⊥) → IsStatus 4 result
-  pub done_run : (script keys : List ℕ) (threads : ℕ) (keep_going : Bool) (s : Script) (packets : List (List Packet)) → IsRun words script keys threads keep_going → HasScript told script s → HasKeys told keys s packets
-      → IsStatus (done_status (has_refusal (mode_of keep_going) s)) result
-  pub done_list : (script : List ℕ) (keep_going : Bool) (s : Script) → IsList words script keep_going → HasScript told script s → IsStatus (done_status (has_refusal (mode_of keep_going) s)) result
-  pub done_dump : (script : List ℕ) (keep_going : Bool) (s : Script) → IsDump words script keep_going → HasScript told script s → IsStatus (done_status (has_refusal (mode_of keep_going) s)) result
-  pub done_drill : (seed count threads : ℕ) → IsDrill words seed count threads → IsStatus 0 result
-  pub done_page : (p : Page) → AsksFor words p → result ≡ 0
+-- A file came to its turn, and the shelf tells its text: the command's files before it are told and of their forms.
+pub record HasTurn (c : Call) (earlier : List Input) (i : Input) (text : List ℕ) : Type 0 where
+  pub command : Command
+  pub later : List Input
+  pub sets : List SetDecl
+  pub is_command : IsCommand c.words command
+  pub in_order : inputs command ≡ earlier ++ i ∷ later
+  pub given : AreGiven c.shelf.told sets earlier
+  pub is_told : c.shelf.told i.name ≡ Some text
+
+-- Each status comes exactly where its cause is there, in the order of the tests: the words, the files in their turns, the work.
+pub record IsExact (c : Call) : Type 0 where
+  pub usage : IsNoCommand c.words → c.status ≡ 2
+  pub large : (earlier : List Input) (i : Input) (text : List ℕ) → HasTurn c earlier i text → size_limit < length text → IsStatus 8 c
+  pub bad : (earlier : List Input) (i : Input) (text : List ℕ) → HasTurn c earlier i text → length text ≤ size_limit
+      → ((sets : List SetDecl) → AreGiven c.shelf.told sets earlier → IsOf i.form sets text → ⊥) → IsStatus (form_status i.form) c
+  pub done_run : (script keys : List ℕ) (threads : ℕ) (keep_going : Bool) (s : Script) (packets : List (List Packet)) → IsRun c.words script keys threads keep_going → HasScript c.shelf.told script s → HasKeys c.shelf.told keys s packets
+      → IsStatus (done_status (has_refusal (mode_of keep_going) s)) c
+  pub done_judge : (script rules keys : List ℕ) (threads : ℕ) (keep_going : Bool) (s : Script) (r : Rules) (packets : List (List Packet)) → IsJudge c.words script rules keys threads keep_going → HasScript c.shelf.told script s
+      → HasRules c.shelf.told rules s r → HasKeys c.shelf.told keys s packets → IsStatus (done_status (has_refusal (mode_of keep_going) s)) c
+  pub done_capture : (script plan packets : List ℕ) (threads : ℕ) (keep_going : Bool) (s : Script) (taken : List Packet) → IsCapture c.words script plan packets threads keep_going → HasScript c.shelf.told script s
+      → HasCaptured c.shelf.told plan packets s taken → IsStatus (done_status (has_refusal (mode_of keep_going) s)) c
+  pub done_list : (script : List ℕ) (keep_going : Bool) (s : Script) → IsList c.words script keep_going → HasScript c.shelf.told script s → IsStatus (done_status (has_refusal (mode_of keep_going) s)) c
+  pub done_dump : (script : List ℕ) (keep_going : Bool) (s : Script) → IsDump c.words script keep_going → HasScript c.shelf.told script s → IsStatus (done_status (has_refusal (mode_of keep_going) s)) c
+  pub done_drill : (seed count threads : ℕ) → IsDrill c.words seed count threads → IsStatus 0 c
+  pub done_page : (p : Page) → AsksFor c.words p → c.status ≡ 0
 
 -- This text of a script was written whole; the status is 1 where a change is refused, and else 0.
-pub record Delivers (mode : Mode) (s : Script) (text : List ℕ) (taken_before taken_now : Option (List ℕ)) (result : ℕ) : Type 0 where
-  pub written : Appends taken_before taken_now text
-  pub status : result ≡ done_status (has_refusal mode s)
+pub record DeliversText (mode : Mode) (s : Script) (text : List ℕ) (c : Call) : Type 0 where
+  pub written : Appends c.taken_before c.taken_now text
+  pub status : c.status ≡ done_status (has_refusal mode s)
 
 -- Memory was wanting, and nothing was written.
-abbrev pub RanOut : Option (List ℕ) → Option (List ℕ) → ℕ → Type 0
-RanOut taken_before taken_now result = (result ≡ 7) × Keeps taken_before taken_now
+abbrev pub RanOut : Call → Type 0
+RanOut c = (c.status ≡ 7) × Keeps c.taken_before c.taken_now
 
 -- The transcript of a script and a key file, with so many threads, was written.
-pub record DeliversRun (threads : ℕ) (mode : Mode) (s : Script) (keys : List (List Packet)) (taken_before taken_now : Option (List ℕ)) (result : ℕ) : Type 0 where
+pub record DeliversRun (threads : ℕ) (mode : Mode) (s : Script) (keys : List (List Packet)) (c : Call) : Type 0 where
   pub lines : List Line
   pub legal : Legal s keys threads mode lines
-  pub delivers : Delivers mode s (transcript_text mode s keys lines) taken_before taken_now result
+  pub delivers : DeliversText mode s (transcript_text mode s keys lines) c
 
--- Where the words are a command, and its files are within their size and stand for a script and a key file, the output of exactly
--- these was written; or memory was wanting, and nothing was written. A drill has no files. A page is written in any case.
-pub record Completes (words : List (List ℕ)) (told : List ℕ → Option (List ℕ)) (taken_before taken_now : Option (List ℕ)) (result : ℕ) : Type 0 where
-  pub run : (script keys : List ℕ) (threads : ℕ) (keep_going : Bool) (s : Script) (packets : List (List Packet)) → IsRun words script keys threads keep_going → HasScript told script s → HasKeys told keys s packets
-      → DeliversRun threads (mode_of keep_going) s packets taken_before taken_now result ⊎ RanOut taken_before taken_now result
-  pub list : (script : List ℕ) (keep_going : Bool) (s : Script) → IsList words script keep_going → HasScript told script s
-      → Delivers (mode_of keep_going) s (listing_text (mode_of keep_going) s) taken_before taken_now result ⊎ RanOut taken_before taken_now result
-  pub dump : (script : List ℕ) (keep_going : Bool) (s : Script) → IsDump words script keep_going → HasScript told script s
-      → Delivers (mode_of keep_going) s (tables_text (mode_of keep_going) s) taken_before taken_now result ⊎ RanOut taken_before taken_now result
-  pub drill : (seed count threads : ℕ) → IsDrill words seed count threads → DeliversDrill seed count taken_before taken_now result ⊎ RanOut taken_before taken_now result
-  pub page : TellsPage words taken_before taken_now result
+-- What chains decide on the packets of a key file, beside a script, with so many threads, was written.
+pub record DeliversJudgement (threads : ℕ) (mode : Mode) (s : Script) (rules : Rules) (keys : List (List Packet)) (c : Call) : Type 0 where
+  pub lines : List Line
+  pub legal : AreLegal (IsJudged rules) s keys threads mode lines
+  pub delivers : DeliversText mode s (run_text (judged_text rules) mode s keys lines) c
+
+-- Where the words are a command, and its files are within their size and of their forms, the output of exactly these was written; or
+-- memory was wanting, and nothing was written. A drill has no files. A page is written in any case.
+pub record Completes (c : Call) : Type 0 where
+  pub run : (script keys : List ℕ) (threads : ℕ) (keep_going : Bool) (s : Script) (packets : List (List Packet)) → IsRun c.words script keys threads keep_going → HasScript c.shelf.told script s → HasKeys c.shelf.told keys s packets
+      → DeliversRun threads (mode_of keep_going) s packets c ⊎ RanOut c
+  pub judge : (script rules keys : List ℕ) (threads : ℕ) (keep_going : Bool) (s : Script) (r : Rules) (packets : List (List Packet)) → IsJudge c.words script rules keys threads keep_going → HasScript c.shelf.told script s
+      → HasRules c.shelf.told rules s r → HasKeys c.shelf.told keys s packets → DeliversJudgement threads (mode_of keep_going) s r packets c ⊎ RanOut c
+  pub capture : (script plan packets : List ℕ) (threads : ℕ) (keep_going : Bool) (s : Script) (taken : List Packet) → IsCapture c.words script plan packets threads keep_going → HasScript c.shelf.told script s
+      → HasCaptured c.shelf.told plan packets s taken → DeliversRun threads (mode_of keep_going) s (taken ∷ []) c ⊎ RanOut c
+  pub list : (script : List ℕ) (keep_going : Bool) (s : Script) → IsList c.words script keep_going → HasScript c.shelf.told script s → DeliversText (mode_of keep_going) s (listing_text (mode_of keep_going) s) c ⊎ RanOut c
+  pub dump : (script : List ℕ) (keep_going : Bool) (s : Script) → IsDump c.words script keep_going → HasScript c.shelf.told script s → DeliversText (mode_of keep_going) s (tables_text (mode_of keep_going) s) c ⊎ RanOut c
+  pub drill : (seed count threads : ℕ) → IsDrill c.words seed count threads → Delivers (drill_text seed count) c ⊎ RanOut c
+  pub page : TellsPage c

@@ -1,16 +1,29 @@
 -- What a command writes: the transcript of a run, the listing of a script, the tables of a script, a drill's summary.
-use Rattle.std.specs.Prelude.{◌≡◌, ℕ, Bool, false, List, Option, Some}
+use Rattle.std.specs.Prelude.{◌≡◌, ℕ, Bool, false, List, [], ◌∷◌, Option, Some}
 use Rattle.set_model.specs.declared.script.Script.{Script}
 use Rattle.set_model.specs.declared.packet.Packet.{Packet}
 use Rattle.set_model.specs.declared.report.Line.{Line}
 use Rattle.set_model.specs.Control.{Mode, mode_of, has_refusal}
-use Rattle.set_model.specs.Legal.{Legal}
-use Rattle.set_model.specs.Text.{transcript_text}
+use Rattle.set_model.specs.Legal.{AreLegal, Legal}
+use Rattle.set_model.specs.Text.{run_text, transcript_text}
+use Rattle.rule_chain.specs.Chains.{Rules}
+use Rattle.rule_chain.specs.Judged.{IsJudged}
+use Rattle.rule_chain.specs.JudgedText.{judged_text}
+use Rattle.rule_chain.specs.RulesText.{IsRulesText}
 use Rattle.set_script.specs.ScriptText.{IsScriptText}
 use Rattle.key_file.specs.KeysText.{IsKeysText}
+use Rattle.pcap_keys.specs.Planned.{packets as planned_packets}
+use Rattle.pcap_keys.specs.CapturedPackets.{AreCaptured}
 use Rattle.script_run.specs.Listings.{listing_text, tables_text}
 use Rattle.script_run.specs.Drill.{drill_text}
-use Rattle.command_words.specs.Words.{Command, run, list, dump, drill}
+use Rattle.command_words.specs.Words.{Command, run, list, dump, drill, judge, capture}
+use Rattle.input_files.specs.declared.work.Work.{Work}
+use Rattle.input_files.specs.declared.work.Work.TheVariants as works
+
+-- A text stands for these rules over the sets of a script.
+pub record AreRulesOf (script : Script) (text : List ℕ) (rules : Rules) : Type 0 where
+  pub over : rules.schema ≡ script.schema
+  pub is_text : IsRulesText script.schema text (rules.chains, rules.accept)
 
 -- The output is the text of a legal transcript, with so many threads, of the script and the key file that the texts stand for. It
 -- tells a refusal exactly where a change of the script is refused.
@@ -22,6 +35,30 @@ pub record IsTranscript (script_text keys_text : List ℕ) (threads : ℕ) (mode
   pub keys_are : IsKeysText script.schema keys_text keys
   pub legal : Legal script keys threads mode lines
   pub text : output ≡ transcript_text mode script keys lines
+  pub refusal : refused ≡ has_refusal mode script
+
+-- The same of a capture: the packets that a plan makes of its frames are those of one key section.
+pub record IsCaptured (script_text plan_text capture_text : List ℕ) (threads : ℕ) (mode : Mode) (refused : Bool) (output : List ℕ) : Type 0 where
+  pub script : Script
+  pub packets : List Packet
+  pub lines : List Line
+  pub script_is : IsScriptText script_text script
+  pub captured : AreCaptured script.schema plan_text capture_text packets
+  pub legal : Legal script (packets ∷ []) threads mode lines
+  pub text : output ≡ transcript_text mode script (packets ∷ []) lines
+  pub refusal : refused ≡ has_refusal mode script
+
+-- The same of a rules file: what becomes of a packet is what its chains decide by the sets of one generation, in place of a lookup.
+pub record IsJudgement (script_text rules_text keys_text : List ℕ) (threads : ℕ) (mode : Mode) (refused : Bool) (output : List ℕ) : Type 0 where
+  pub script : Script
+  pub rules : Rules
+  pub keys : List (List Packet)
+  pub lines : List Line
+  pub script_is : IsScriptText script_text script
+  pub rules_are : AreRulesOf script rules_text rules
+  pub keys_are : IsKeysText script.schema keys_text keys
+  pub legal : AreLegal (IsJudged rules) script keys threads mode lines
+  pub text : output ≡ run_text (judged_text rules) mode script keys lines
   pub refusal : refused ≡ has_refusal mode script
 
 -- The output is this text of the script that a text stands for. It tells a refusal exactly where a change of the script is
@@ -45,3 +82,32 @@ IsOutput (run script keys threads keep_going) told refused output = (script_text
 IsOutput (list script keep_going) told refused output = (script_text : List ℕ) → told script ≡ Some script_text → IsListing script_text (mode_of keep_going) refused output
 IsOutput (dump script keep_going) told refused output = (script_text : List ℕ) → told script ≡ Some script_text → IsTables script_text (mode_of keep_going) refused output
 IsOutput (drill seed count threads) told refused output = (refused ≡ false) × (output ≡ drill_text seed count)
+IsOutput (judge script rules keys threads keep_going) told refused output =
+    (script_text rules_text keys_text : List ℕ) → told script ≡ Some script_text → told rules ≡ Some rules_text → told keys ≡ Some keys_text
+    → IsJudgement script_text rules_text keys_text threads (mode_of keep_going) refused output
+IsOutput (capture script plan packets threads keep_going) told refused output =
+    (script_text plan_text capture_text : List ℕ) → told script ≡ Some script_text → told plan ≡ Some plan_text → told packets ≡ Some capture_text
+    → IsCaptured script_text plan_text capture_text threads (mode_of keep_going) refused output
+
+-- The lines are legal ones of a script and its packets, and the text is that of their transcript.
+pub record HasTranscript (s : Script) (packets : List (List Packet)) (threads : ℕ) (mode : Mode) (text : List ℕ) : Type 0 where
+  pub lines : List Line
+  pub legal : Legal s packets threads mode lines
+  pub text_is : text ≡ transcript_text mode s packets lines
+
+-- The same where chains judge the packets.
+pub record HasJudgement (s : Script) (rules : Rules) (packets : List (List Packet)) (threads : ℕ) (mode : Mode) (text : List ℕ) : Type 0 where
+  pub lines : List Line
+  pub over : rules.schema ≡ s.schema
+  pub legal : AreLegal (IsJudged rules) s packets threads mode lines
+  pub text_is : text ≡ run_text (judged_text rules) mode s packets lines
+
+-- What a command's work gives: its text, and whether that tells a refusal.
+abbrev pub Gives : Work → Bool → List ℕ → Type 0
+Gives (works.Run s packets threads keep_going) refused text = HasTranscript s packets threads (mode_of keep_going) text × (refused ≡ has_refusal (mode_of keep_going) s)
+Gives (works.List s keep_going) refused text = (text ≡ listing_text (mode_of keep_going) s) × (refused ≡ has_refusal (mode_of keep_going) s)
+Gives (works.Dump s keep_going) refused text = (text ≡ tables_text (mode_of keep_going) s) × (refused ≡ has_refusal (mode_of keep_going) s)
+Gives (works.Drill seed count threads) refused text = (text ≡ drill_text seed count) × (refused ≡ false)
+Gives (works.Capture s plan frames threads keep_going) refused text =
+    HasTranscript s (planned_packets plan frames ∷ []) threads (mode_of keep_going) text × (refused ≡ has_refusal (mode_of keep_going) s)
+Gives (works.Judge s chains packets threads keep_going) refused text = HasJudgement s chains packets threads (mode_of keep_going) text × (refused ≡ has_refusal (mode_of keep_going) s)

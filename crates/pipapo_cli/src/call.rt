@@ -4,7 +4,7 @@ ghost use Rattle.std.specs.String.{string_bytes};
 ghost use Rattle.std.specs.IoError.{error_kind};
 ghost use Rattle.std.specs.Vec.Iter.{into_iter_items};
 ghost use Rattle.std.specs.declared.io.ErrorKind.TheVariants.{OutOfMemory};
-ghost use Rattle.pipapo_cli.specs.Answers.{Ends, IsDue};
+ghost use Rattle.pipapo_cli.specs.Promises.{Promises};
 
 use crate::command::pipapo;
 use packet_pool::OpenGate;
@@ -50,7 +50,7 @@ pub fn call<R: Threads + Sync, F: Shelf, K: Sink>(
     sink: &mut K,
 ) -> u8
     requires { F.asked shelf.old ≡ [] }
-    ensures ends { IfOk words (λ told. Ends (IsDue (map string_bytes told.items) (F.told shelf.old) (F.asked shelf.new) (F.faults shelf.old) (F.faults shelf.new)) (K.taken sink.old) (K.taken sink.new) (K.faults sink.old) (K.faults sink.new) result) }
+    ensures promises { IfOk words (λ told. Promises (record { words = map string_bytes told.items; shelf = record { told = F.told shelf.old; asked = F.asked shelf.new; faults_before = F.faults shelf.old; faults_now = F.faults shelf.new; picked_before = F.is_picked shelf.old; picked_now = F.is_picked shelf.new; left = F.left shelf.new }; taken_before = K.taken sink.old; taken_now = K.taken sink.new; faults_before = K.faults sink.old; faults_now = K.faults sink.new; status = result })) }
     ensures memory { OnErr words ((result ≡ 7) × (shelf.new ≡ shelf.old) × (sink.new ≡ sink.old)) }
 {
     match words {

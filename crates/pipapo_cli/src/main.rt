@@ -7,7 +7,9 @@ mod call;
 mod command;
 mod delivery;
 mod fault;
-mod inputs;
+#[cfg(test)]
+mod other_files;
+mod output;
 #[cfg(test)]
 mod tests;
 #[cfg(test)]

@@ -19,7 +19,7 @@ const TRANSCRIPT: &str =
 const RUN: [&str; 3] = ["run", "a.nft", "keys"];
 
 const USAGE: &str =
-    "pipapo: usage: run SCRIPT KEYS [--threads N] [--keep-going] | list SCRIPT [--keep-going] | dump SCRIPT [--keep-going] | drill SEED COUNT [--threads N]\n";
+    "pipapo: usage: run SCRIPT KEYS [--threads N] [--keep-going] | list SCRIPT [--keep-going] | dump SCRIPT [--keep-going] | drill SEED COUNT [--threads N] | judge SCRIPT RULES KEYS [--threads N] [--keep-going] | capture SCRIPT PLAN PCAP [--threads N] [--keep-going]\n";
 
 /// A shelf with a script under `a.nft` and a key file under `keys`, where they are given, whose call of
 /// this number fails.
@@ -47,7 +47,7 @@ fn shelf_with(
 }
 
 /// Runs words over a shelf, and a sink that takes 7 bytes at once and so many in all.
-fn run_words<R: Threads + Sync, G: Gate>(
+pub fn run_words<R: Threads + Sync, G: Gate>(
     rt: &R,
     alloc: Global,
     words: &[&str],

@@ -26,8 +26,8 @@ use Rattle.rule_chain.specs.Rules.{no_rules, with_chain}
 use Rattle.rule_chain.specs.Rules as form
 use Rattle.rule_chain.specs.RulesReading as reading
 use Rattle.rule_chain.specs.RulesReading.{starts_test}
-use Rattle.rule_chain.specs.PlainGives.{Gives}
-use Rattle.rule_chain.proofs.PlainLaws.{gives_shorter}
+use Rattle.token_forms.specs.Gives.{Gives}
+use Rattle.token_forms.proofs.ShorterLaws.{gives_shorter}
 
 -- tests
 test_reads : (schema : List SetDecl) (tests : List Test) → Reads (form.test schema tests) never (reading.test schema tests)

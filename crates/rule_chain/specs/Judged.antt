@@ -100,3 +100,7 @@ DecideNothing rules g p marks = (chain : ℕ) → slice_get marks chain ≡ Some
 -- The verdict on a packet: what the last chain decides, which is the base chain.
 abbrev pub judged : Rules → Generation → Packet → Verdict
 judged rules g p = as_verdict (decision_of rules g p (length rules.chains - 1))
+
+-- what chains say of a packet in a generation
+abbrev pub IsJudged : Rules → Generation → Packet → Verdict → Type 0
+IsJudged rules g p verdict = verdict ≡ judged rules g p

@@ -3,5 +3,5 @@ pub mod RuleNames
 pub mod Rules
 pub mod RulesReading
 pub mod RulesText
-pub mod PlainGives
 pub mod Judged
+pub mod JudgedText

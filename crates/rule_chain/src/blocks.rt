@@ -4,7 +4,7 @@ ghost use Rattle.token_forms.specs.View.{lexeme_of};
 ghost use Rattle.token_forms.specs.Words.{separates};
 ghost use Rattle.token_forms.specs.WordReading.{line_starts};
 ghost use Rattle.set_script.specs.ScriptReading.{any_word};
-ghost use Rattle.rule_chain.specs.PlainGives.{Gives};
+ghost use Rattle.token_forms.specs.Gives.{Gives};
 ghost use Rattle.rule_chain.specs.Rules.{with_chain};
 ghost use Rattle.rule_chain.specs.RulesReading as reading;
 ghost use Rattle.rule_chain.specs.declared.chains.Rule.{Rule as OneRule};
@@ -12,7 +12,6 @@ ghost use Rattle.rule_chain.specs.declared.draft.RulesDraft.{RulesDraft as Draft
 
 use crate::chains::{Chain, RuleList};
 use crate::draft::{RulesDraft, RulesWord, nothing_read};
-use crate::plain::{mark, refused, separator};
 use crate::rules::rule;
 use crate::words::{is_a_new_chain, policy_word, rules_word};
 use set_model::{Listed, Memory, SetDecl};
@@ -20,7 +19,7 @@ use std::alloc::Global;
 use token_forms::{ReadError, Reader, Seen, short};
 
 /// A rule, where there may be one more.
-#[tactic(auto, using(crate::proofs::PlainLaws::refusals), unfolding(crate::specs::RulesReading::rule_if, crate::specs::PlainGives::Refuses))]
+#[tactic(auto, using(token_forms::proofs::Refusals::refusals), unfolding(crate::specs::RulesReading::rule_if, token_forms::specs::Gives::Refuses))]
 fn rule_if(
     reader: &mut Reader,
     alloc: Global,
@@ -35,14 +34,14 @@ fn rule_if(
         rule(reader, alloc, schema, chains, rules)
     } else {
         match reader.take() {
-            Some(t) => Err(refused(&t, &[])),
+            Some(t) => Err(t.refused(&[])),
             None => Err(short()),
         }
     }
 }
 
 /// A separator, or a rule where one may come next.
-#[tactic(auto, using(crate::proofs::PlainLaws::refusals))]
+#[tactic(auto, using(token_forms::proofs::Refusals::refusals))]
 fn rule_line(
     reader: &mut Reader,
     alloc: Global,
@@ -58,7 +57,7 @@ fn rule_line(
         rule_if(reader, alloc, schema, d.chains.as_slice(), room, rules)?;
         Ok(false)
     } else {
-        separator(reader)?;
+        reader.separator()?;
         Ok(true)
     }
 }
@@ -112,7 +111,7 @@ fn rule_lines(
 }
 
 /// The rules of a chain.
-#[tactic(auto, using(crate::proofs::PlainLaws::refusals))]
+#[tactic(auto, using(token_forms::proofs::Refusals::refusals))]
 fn all_rules(
     reader: &mut Reader,
     alloc: Global,
@@ -126,13 +125,13 @@ fn all_rules(
 }
 
 /// A name that no chain has yet.
-#[tactic(auto, unfolding(crate::specs::PlainGives::Refuses))]
+#[tactic(auto, unfolding(token_forms::specs::Gives::Refuses))]
 fn new_chain<'a>(reader: &mut Reader<'a>, chains: &[Chain]) -> Result<&'a [u8], ReadError>
     ensures { Gives (λ x. x.now) result reader.new (reading.new_chain chains.now reader.old) }
 {
     match reader.take() {
         Some(t) if t.is_word() && is_a_new_chain(chains, t.bytes) => Ok(t.bytes),
-        Some(t) => Err(refused(&t, &[])),
+        Some(t) => Err(t.refused(&[])),
         None => Err(short()),
     }
 }
@@ -154,7 +153,7 @@ fn close_chain(
 }
 
 /// The name of a chain, and its rules in braces.
-#[tactic(auto, using(crate::proofs::PlainLaws::refusals), unfolding(crate::specs::RulesReading::chain_block))]
+#[tactic(auto, using(token_forms::proofs::Refusals::refusals), unfolding(crate::specs::RulesReading::chain_block))]
 fn chain_block(
     reader: &mut Reader,
     alloc: Global,
@@ -164,30 +163,30 @@ fn chain_block(
     ensures { Gives (λ _. d.new) result reader.new (reading.chain_block schema.now d.old reader.old) }
 {
     let name = new_chain(reader, d.chains.as_slice())?;
-    mark(reader, b'{')?;
+    reader.mark(b'{')?;
     let rules = all_rules(reader, alloc, schema, d)?;
-    mark(reader, b'}')?;
+    reader.mark(b'}')?;
     close_chain(alloc, d, name, rules)?;
     Ok(())
 }
 
 /// `accept` or `drop`.
-#[tactic(auto, unfolding(crate::specs::PlainGives::Refuses))]
+#[tactic(auto, unfolding(token_forms::specs::Gives::Refuses))]
 fn policy(reader: &mut Reader) -> Result<bool, ReadError>
     ensures { Gives (λ x. x) result reader.new (reading.policy reader.old) }
 {
     match reader.take() {
         Some(t) if t.is_word() => match policy_word(t.bytes) {
             Some(accept) => Ok(accept),
-            None => Err(refused(&t, &[])),
+            None => Err(t.refused(&[])),
         },
-        Some(t) => Err(refused(&t, &[])),
+        Some(t) => Err(t.refused(&[])),
         None => Err(short()),
     }
 }
 
 /// What stands behind the first word of a statement.
-#[tactic(auto, using(crate::proofs::PlainLaws::refusals), unfolding(crate::specs::RulesReading::statement_behind))]
+#[tactic(auto, using(token_forms::proofs::Refusals::refusals), unfolding(crate::specs::RulesReading::statement_behind))]
 fn statement_behind(
     reader: &mut Reader,
     alloc: Global,
@@ -208,21 +207,21 @@ fn statement_behind(
 }
 
 /// `chain` or `policy`, where they may stand.
-#[tactic(auto, unfolding(crate::specs::PlainGives::Refuses))]
+#[tactic(auto, unfolding(token_forms::specs::Gives::Refuses))]
 fn first_word(reader: &mut Reader, d: &RulesDraft) -> Result<RulesWord, ReadError>
     ensures { Gives (λ x. x) result reader.new (reading.first_word d.now reader.old) }
 {
     match reader.take() {
         Some(t) if t.is_word() => match rules_word(d, t.bytes) {
             Some(word) => Ok(word),
-            None => Err(refused(&t, &[])),
+            None => Err(t.refused(&[])),
         },
-        Some(t) => Err(refused(&t, &[])),
+        Some(t) => Err(t.refused(&[])),
         None => Err(short()),
     }
 }
 
-#[tactic(auto, using(crate::proofs::PlainLaws::refusals), unfolding(crate::specs::RulesReading::statement))]
+#[tactic(auto, using(token_forms::proofs::Refusals::refusals), unfolding(crate::specs::RulesReading::statement))]
 fn statement(
     reader: &mut Reader,
     alloc: Global,
@@ -236,7 +235,7 @@ fn statement(
 }
 
 /// A separator, or a statement where one may come next.
-#[tactic(auto, using(crate::proofs::PlainLaws::refusals))]
+#[tactic(auto, using(token_forms::proofs::Refusals::refusals))]
 fn statement_line(
     reader: &mut Reader,
     alloc: Global,
@@ -250,7 +249,7 @@ fn statement_line(
         statement(reader, alloc, schema, d)?;
         Ok(false)
     } else {
-        separator(reader)?;
+        reader.separator()?;
         Ok(true)
     }
 }

@@ -1,44 +1,43 @@
 //! The whole of a rules file.
 ghost use Rattle.std.specs.Prelude.{◌≡◌, ℕ, List, Bool, IfOk, Err};
-ghost use Rattle.token_forms.specs.Gives.{IsReadAs};
-ghost use Rattle.token_forms.specs.TextTokens.{text_tokens};
-ghost use Rattle.token_forms.specs.Fronts.{AreFrontsClosed};
+ghost use Rattle.token_forms.specs.Gives.{Gives, IsReadAs};
+ghost use Rattle.token_forms.specs.BadTokens.{IsPlainBadTokenOf, HasOneBadTokenAmong};
+ghost use Rattle.token_forms.specs.Fronts.{AreFrontsClosed, IsRefusedOnce};
+ghost use Rattle.token_forms.specs.TextTokens.{plain_tokens};
 ghost use Rattle.token_forms.specs.declared.token.Reason.{Reason};
 ghost use Rattle.token_forms.specs.declared.error.ReadError.TheVariants.{Bad};
 ghost use Rattle.rule_chain.specs.Chains.{AreChains};
-ghost use Rattle.rule_chain.specs.PlainGives.{Gives, IsPlainFault};
 ghost use Rattle.rule_chain.specs.Rules.{rules_file};
 ghost use Rattle.rule_chain.specs.RulesReading as reading;
-ghost use Rattle.rule_chain.specs.RulesText.{IsRulesText};
+ghost use Rattle.rule_chain.specs.RulesText.{IsRulesText, IsBadRules};
 ghost use Rattle.rule_chain.specs.declared.chains.Chain.{Chain as OneChain};
 
 use crate::blocks::statements;
 use crate::chains::{ChainList, Chains};
 use crate::draft::RulesDraft;
-use crate::plain::{refused, the_end};
-use set_model::{Duplicate, Listed, Memory, Schema, SetDecl};
+use set_model::{Duplicate, Memory, Schema, SetDecl};
 use std::alloc::Global;
-use token_forms::{ReadError, Reader, short};
+use token_forms::{BadToken, ReadError, Reader, plain_bad_token_before, short};
 
 /// Why a text isn't read as a rules file.
 pub type RulesError = ReadError;
 
 /// The chains and the policy, which has to stand.
-#[tactic(auto, unfolding(crate::specs::RulesReading::finished, crate::specs::PlainGives::Refuses))]
+#[tactic(auto, unfolding(crate::specs::RulesReading::finished, token_forms::specs::Gives::Refuses))]
 fn finished(reader: &mut Reader, d: RulesDraft) -> Result<(ChainList, bool), ReadError>
     ensures { Gives (λ x. (x.0, x.1)) result reader.new (reading.finished d.chains d.policy reader.old) }
 {
     match d.policy {
         Some(accept) => Ok((d.chains, accept)),
         None => match reader.take() {
-            Some(t) => Err(refused(&t, &[])),
+            Some(t) => Err(t.refused(&[])),
             None => Err(short()),
         },
     }
 }
 
 /// What stands before the end.
-#[tactic(auto, using(crate::proofs::PlainLaws::refusals), unfolding(crate::specs::RulesReading::body))]
+#[tactic(auto, using(token_forms::proofs::Refusals::refusals), unfolding(crate::specs::RulesReading::body))]
 fn body(
     reader: &mut Reader,
     alloc: Global,
@@ -50,7 +49,7 @@ fn body(
     finished(reader, d)
 }
 
-#[tactic(auto, using(crate::proofs::PlainLaws::refusals), unfolding(crate::specs::RulesReading::rules_file))]
+#[tactic(auto, using(token_forms::proofs::Refusals::refusals), unfolding(crate::specs::RulesReading::rules_file))]
 fn whole(
     reader: &mut Reader,
     alloc: Global,
@@ -59,46 +58,18 @@ fn whole(
     ensures { Gives (λ x. (x.0, x.1)) result reader.new (reading.rules_file schema.now reader.old) }
 {
     let (chains, accept) = body(reader, alloc, schema)?;
-    the_end(reader)?;
+    reader.the_end()?;
     Ok((chains, accept))
-}
-
-/// The same declaration once more.
-fn same_set(alloc: Global, d: &SetDecl) -> Result<SetDecl, Memory>
-    ensures { IfOk result (λ other. other ≡ d.now) }
-{
-    Ok(SetDecl {
-        family: d.family,
-        table: d.table.copy(alloc)?,
-        name: d.name.copy(alloc)?,
-        kinds: d.kinds.copy(alloc)?,
-        interval: d.interval,
-        timed: d.timed,
-        disjoint: d.disjoint,
-        timeout: d.timeout,
-        size: d.size,
-    })
-}
-
-/// The same schema once more.
-fn same_schema(alloc: Global, schema: &[SetDecl]) -> Result<Schema, Memory>
-    ensures { IfOk result (λ other. other ≡ schema.now) }
-{
-    let mut other = Listed::new(alloc);
-    for d in schema {
-        other.push(same_set(alloc, d)?)?;
-    }
-    Ok(other)
 }
 
 /// The chains and the policy that a text stands for.
 fn chains_of(alloc: Global, schema: &[SetDecl], text: &[u8]) -> Result<(ChainList, bool), ReadError>
     ensures found { IfOk result (λ x. IsRulesText schema.now text.now (x.0, x.1)) }
     ensures only { (rules : List OneChain × Bool) → IsRulesText schema.now text.now rules → IsReadAs (λ x. (x.0, x.1)) result rules }
-    ensures bad { (line : ℕ) (reason : Reason) → result ≡ Err (Bad line reason) → IsPlainFault (rules_file schema.now) (text_tokens text.now) line reason }
+    ensures bad { (line : ℕ) (reason : Reason) → result ≡ Err (Bad line reason) → IsBadRules schema.now text.now line reason }
     ensures sound { IfOk result (λ x. AreChains schema.now x.0) }
 {
-    let mut reader = Reader::new(text);
+    let mut reader = Reader::plain(text);
     whole(&mut reader, alloc, schema)
 }
 
@@ -114,17 +85,36 @@ pub fn read_rules(alloc: Global, schema: &Schema, text: &[u8]) -> Result<Chains,
     // A text that stands for chains is read as these, unless memory runs out; so it stands for one list of them at most.
     ensures only { (rules : List OneChain × Bool) → IsRulesText schema.now text.now rules → IsReadAs (λ c. (c.chains, c.accept)) result rules }
     // A text that is refused is no rules file; the line is that of its bad token, with the first reason that applies.
-    ensures bad { (line : ℕ) (reason : Reason) → result ≡ Err (Bad line reason) → IsPlainFault (rules_file schema.now) (text_tokens text.now) line reason }
+    ensures bad { (line : ℕ) (reason : Reason) → result ≡ Err (Bad line reason) → IsBadRules schema.now text.now line reason }
     // They are over the sets of this schema.
     ensures schema { IfOk result (λ c. c.schema ≡ schema.now) }
 {
     match chains_of(alloc, schema.as_slice(), text) {
         Ok((chains, accept)) => Ok(Chains {
-            schema: same_schema(alloc, schema.as_slice())?,
+            schema: schema.copy(alloc)?,
             chains,
             accept,
         }),
         Err(e) => Err(e),
+    }
+}
+
+/// The bad token of a text, for the sets of a schema: where it stands, and the reason; `None` exactly where the text is in
+/// the grammar. It is the token of which `read_rules` tells the line and the reason.
+///
+/// # Errors
+///
+/// `Memory` where there is none left.
+pub fn bad_token(alloc: Global, schema: &Schema, text: &[u8]) -> Result<Option<BadToken>, Memory>
+    ensures { IfOk result (IsPlainBadTokenOf (rules_file schema.now) text.now) }
+{
+    let mut reader = Reader::plain(text);
+    match whole(&mut reader, alloc, schema.as_slice()) {
+        Ok(_) => return Ok(None),
+        Err(ReadError::Memory) => return Err(Memory),
+        Err(ReadError::Bad { reason, .. }) => {
+            return Ok(plain_bad_token_before(text, reader, reason));
+        }
     }
 }
 
@@ -136,4 +126,10 @@ pub fn one_rules_law(_schema: &Schema, _text: &[u8])
 /// The tokens before any place of a front of a rules file are a front of a rules file, too.
 pub fn rules_fronts_law(_schema: &Schema)
     ensures { AreFrontsClosed (rules_file _schema.now) }
+{}
+
+/// A text that is no rules file is refused at one line and for one reason, and by one token.
+pub fn one_rules_fault_law(_schema: &Schema, _text: &[u8])
+    ensures refused { IsRefusedOnce (rules_file _schema.now) (plain_tokens _text.now) }
+    ensures token { HasOneBadTokenAmong (rules_file _schema.now) (plain_tokens _text.now) _text.now }
 {}

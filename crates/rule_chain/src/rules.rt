@@ -1,15 +1,15 @@
 //! Rules: their tests, and their acts.
 ghost use Rattle.std.specs.Prelude.{◌≡◌, ◌<◌, length, OnOk, IfOk};
 ghost use Rattle.token_forms.specs.View.{lexeme_of};
-ghost use Rattle.rule_chain.specs.PlainGives.{Gives};
+ghost use Rattle.token_forms.specs.Gives.{Gives};
 ghost use Rattle.rule_chain.specs.RulesReading as reading;
 ghost use Rattle.rule_chain.specs.RulesReading.{starts_test};
 
 use crate::chains::{Act, Chain, Rule, RuleList, Test, Tests};
 use crate::draft::ActWord;
-use crate::plain::{refused, table_place, used_set};
 use crate::words::{act_word, place_of_chain, test_word};
 use set_model::{Listed, Memory, SetDecl};
+use set_script::{table_place, used_set};
 use std::alloc::Global;
 use token_forms::{ReadError, Reader, Seen, short};
 
@@ -24,22 +24,22 @@ fn as_place(place: usize) -> Result<u32, Memory>
 }
 
 /// The word that begins a test behind so many tests.
-#[tactic(auto, unfolding(crate::specs::PlainGives::Refuses))]
+#[tactic(auto, unfolding(token_forms::specs::Gives::Refuses))]
 fn inside(reader: &mut Reader, tests: u64) -> Result<bool, ReadError>
     ensures { Gives (λ x. x) result reader.new (reading.inside tests reader.old) }
 {
     match reader.take() {
         Some(t) if t.is_word() => match test_word(tests, t.bytes) {
             Some(inside) => Ok(inside),
-            None => Err(refused(&t, &[])),
+            None => Err(t.refused(&[])),
         },
-        Some(t) => Err(refused(&t, &[])),
+        Some(t) => Err(t.refused(&[])),
         None => Err(short()),
     }
 }
 
 /// One test more.
-#[tactic(auto, using(crate::proofs::PlainLaws::refusals), unfolding(crate::specs::RulesReading::test))]
+#[tactic(auto, using(token_forms::proofs::Refusals::refusals), unfolding(crate::specs::RulesReading::test))]
 fn test(reader: &mut Reader, schema: &[SetDecl], tests: &mut Tests) -> Result<(), ReadError>
     ensures { Gives (λ _. tests.new) result reader.new (reading.test schema.now tests.old reader.old) }
 {
@@ -83,21 +83,21 @@ fn all_tests(reader: &mut Reader, alloc: Global, schema: &[SetDecl]) -> Result<T
 }
 
 /// The name of an earlier chain: its place.
-#[tactic(auto, unfolding(crate::specs::PlainGives::Refuses))]
+#[tactic(auto, unfolding(token_forms::specs::Gives::Refuses))]
 fn earlier_chain(reader: &mut Reader, chains: &[Chain]) -> Result<usize, ReadError>
     ensures { Gives (λ x. x) result reader.new (reading.earlier_chain chains.now reader.old) }
 {
     match reader.take() {
         Some(t) if t.is_word() => match place_of_chain(chains, t.bytes) {
             Some(place) => Ok(place),
-            None => Err(refused(&t, &[])),
+            None => Err(t.refused(&[])),
         },
-        Some(t) => Err(refused(&t, &[])),
+        Some(t) => Err(t.refused(&[])),
         None => Err(short()),
     }
 }
 
-#[tactic(auto, using(crate::proofs::PlainLaws::refusals), unfolding(crate::specs::RulesReading::act_behind))]
+#[tactic(auto, using(token_forms::proofs::Refusals::refusals), unfolding(crate::specs::RulesReading::act_behind))]
 fn act_behind(reader: &mut Reader, chains: &[Chain], word: ActWord) -> Result<Act, ReadError>
     ensures { Gives (λ x. x) result reader.new (reading.act_behind chains.now word reader.old) }
 {
@@ -114,21 +114,21 @@ fn act_behind(reader: &mut Reader, chains: &[Chain], word: ActWord) -> Result<Ac
 }
 
 /// The word of an act.
-#[tactic(auto, unfolding(crate::specs::PlainGives::Refuses))]
+#[tactic(auto, unfolding(token_forms::specs::Gives::Refuses))]
 fn word_of_act(reader: &mut Reader) -> Result<ActWord, ReadError>
     ensures { Gives (λ x. x) result reader.new (reading.word_of_act reader.old) }
 {
     match reader.take() {
         Some(t) if t.is_word() => match act_word(t.bytes) {
             Some(word) => Ok(word),
-            None => Err(refused(&t, &[])),
+            None => Err(t.refused(&[])),
         },
-        Some(t) => Err(refused(&t, &[])),
+        Some(t) => Err(t.refused(&[])),
         None => Err(short()),
     }
 }
 
-#[tactic(auto, using(crate::proofs::PlainLaws::refusals), unfolding(crate::specs::RulesReading::act))]
+#[tactic(auto, using(token_forms::proofs::Refusals::refusals), unfolding(crate::specs::RulesReading::act))]
 fn act(reader: &mut Reader, chains: &[Chain]) -> Result<Act, ReadError>
     ensures { Gives (λ x. x) result reader.new (reading.act chains.now reader.old) }
 {
@@ -137,7 +137,7 @@ fn act(reader: &mut Reader, chains: &[Chain]) -> Result<Act, ReadError>
 }
 
 /// One rule more: its tests, and its act.
-#[tactic(auto, using(crate::proofs::PlainLaws::refusals), unfolding(crate::specs::RulesReading::rule))]
+#[tactic(auto, using(token_forms::proofs::Refusals::refusals), unfolding(crate::specs::RulesReading::rule))]
 pub fn rule(
     reader: &mut Reader,
     alloc: Global,

@@ -188,7 +188,7 @@ start_of schema =
     let kinds : kinds_of (start schema).sets ≡ declared_kinds schema = empty_shows (λ s. s.kinds) (λ d. d.kinds) (λ d. refl) schema in
     record { work = record { base = kinds; open_sets = kinds }; named = λ k e lt. absurd (omega (arith, lt)) }
 
-start_sizes : (schema : List SetDecl) → Shows (λ s. s.size) (map (λ d. d.size) schema) (work_of (start schema))
+pub start_sizes : (schema : List SetDecl) → Shows (λ s. s.size) (map (λ d. d.size) schema) (work_of (start schema))
 start_sizes schema =
     let sizes : map (λ s. s.size) (start schema).sets ≡ map (λ d. d.size) schema = empty_shows (λ s. s.size) (λ d. d.size) (λ d. refl) schema in
     record { base = sizes; open_sets = sizes }
@@ -203,7 +203,7 @@ shown f g xs ys i x y same at_x at_y =
     let both : Some (f x) ≡ Some (g y) = sym left ∙ ap (λ zs. slice_get zs i) same ∙ right in
     cc both
 
-sets-alike : (schema : List SetDecl) (sets : List State) → kinds_of sets ≡ declared_kinds schema → map (λ (s : State). s.size) sets ≡ map (λ (d : SetDecl). d.size) schema → AreSetsOf schema sets
+pub sets-alike : (schema : List SetDecl) (sets : List State) → kinds_of sets ≡ declared_kinds schema → map (λ (s : State). s.size) sets ≡ map (λ (d : SetDecl). d.size) schema → AreSetsOf schema sets
 sets-alike schema sets kinds sizes = record {
   one_each = kinds_long (declared_kinds schema) sets kinds ∙ length-map schema (λ d. d.kinds);
   each = λ i d s at_d at_s. record {

@@ -1,5 +1,5 @@
 -- The line of a generated workload: its packets meet the last generation alone.
-use Rattle.std.proofs.Common.{◌≡◌, refl, sym, ◌∙◌, ap, subst, ℕ, zero, suc, ◌+◌, ◌<◌, ◌≤◌, false, true, List, [], ◌∷◌, ◌++◌, length, map, slice_get, Some, arith, append-nil}
+use Rattle.std.proofs.Common.{◌≡◌, refl, sym, ◌∙◌, ap, subst, ℕ, suc, ◌+◌, false, true, List, [], ◌∷◌, ◌++◌, length, map, slice_get, Some, arith, append-nil}
 use Rattle.std.proofs.lemmas.List.FromFn.{length-map-range_with_len}
 use Rattle.set_model.specs.declared.packet.Packet.{Packet}
 use Rattle.set_model.specs.declared.packet.Verdict.{Verdict}
@@ -20,7 +20,7 @@ use Rattle.drill_gen.specs.Drill.{drill_script, drill_steps, drill_keys, drill_p
 use Rattle.set_report.specs.SummaryText.{summary_of, summary_text}
 use Rattle.script_run.specs.Drill.{last_verdicts, drill_text, IsDrilled}
 use Rattle.script_run.specs.Telling.{looked_up}
-use Rattle.script_run.proofs.ControlLaws.{IsNumbered, section_numbered, start_numbered}
+use Rattle.script_run.proofs.ControlLaws.{section_numbered, start_numbered}
 use Rattle.script_run.proofs.TranscriptLaws.{start_stands}
 
 -- Two lists look the same where their items do, place by place.

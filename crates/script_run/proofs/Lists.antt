@@ -95,6 +95,14 @@ module _ {X : Type 0} where
   item-at (x ∷ xs) zero h = (x, refl)
   item-at (x ∷ xs) (suc i) h = item-at xs i (omega (arith, h))
 
+  -- what holds of the item at each place holds of all
+  pub each-item : (P : X → Type 0) (xs : List X) → ((i : ℕ) (x : X) → slice_get xs i ≡ Some x → P x) → All P xs
+  each-item P [] h = λ k d lt. absurd (omega (arith, lt))
+  each-item P (x ∷ xs) h = λ k d lt. go k d lt (each-item P xs (λ i y e. h (suc i) y e)) where
+    go : (k : ℕ) (d : X) → k < length (x ∷ xs) → All P xs → P (slice_index_or (x ∷ xs) k d)
+    go zero d lt rest = h 0 x refl
+    go (suc k) d lt rest = rest k d (omega (arith, lt))
+
   pub All-section : (P : X → Type 0) (xs : List (List X)) (j : ℕ) → All (All P) xs → All P (section_at xs j)
   All-section P xs j h = go (slice_get xs j) refl where
     go : (o : Option (List X)) → slice_get xs j ≡ o → All P (unwrap_or o [])

@@ -1,19 +1,18 @@
 -- What a section tells of its control and readers.
-use Rattle.std.proofs.Common.{◌≡◌, refl, sym, ◌∙◌, ap, subst, ℕ, zero, suc, ◌+◌, ◌<◌, Bool, false, List, [], ◌∷◌, ◌++◌, length, map, Option, Some, None, slice_get, option_map, arith, All}
+use Rattle.std.proofs.Common.{◌≡◌, refl, sym, ◌∙◌, ap, subst, ℕ, zero, suc, ◌+◌, Bool, List, [], ◌∷◌, length, map, Option, Some, slice_get, arith, All}
 use Rattle.std.proofs.lemmas.List.{length-map}
-use Rattle.std.proofs.lemmas.Option.{slice_get-map}
 use Rattle.atomic_table.specs.Seated.{TableId}
 use Rattle.history_laws.specs.Histories.{EndsWith}
 use Rattle.set_model.specs.declared.report.Event.{Event}
 use Rattle.set_model.specs.declared.script.SetDecl.{SetDecl}
 use Rattle.set_model.specs.declared.script.Step.{Step}
-use Rattle.set_model.specs.Control.{Mode, Generation, Control, mode_of, section}
+use Rattle.set_model.specs.Control.{Generation, mode_of}
 use Rattle.set_report.specs.Writes.{NamesSet}
 use Rattle.gen_publish.specs.Publish.{Steering, Reading, Grown, AllFresh, kinds_of, declared_kinds}
 use Rattle.gen_publish.proofs.Growing.{grown_last}
 use Rattle.packet_pool.specs.Running.{Ran, control_of}
 use Rattle.packet_pool.specs.Work.{AllReady}
-use Rattle.script_run.proofs.ControlLaws.{HasKinds, section_of}
+use Rattle.script_run.proofs.ControlLaws.{section_of}
 
 -- What is told names a declared set.
 pub told_named : (keep_going : Bool) (steps : List Step) (old new : Steering) (events : List Event) → EndsWith old.committed old.work.base → Grown old.schema 0 old.committed → kinds_of old.work.sets ≡ declared_kinds old.schema

@@ -1,33 +1,32 @@
 -- The transcript of a run: each packet gets a generation that was committed by the end of its section.
-use Rattle.std.proofs.Common.{◌≡◌, refl, sym, ◌∙◌, ap, subst, ℕ, zero, suc, ◌+◌, ◌-◌, ◌/◌, ◌<◌, ◌≤◌, Bool, true, false, ◌||◌, List, [], ◌∷◌, ◌++◌, length, map, take, drop, slice_get, get_or, Option, Some, None, arith, All, append-nil, append_assoc, add-one, add-zero, ◌⊎◌, inl, inr, unwrap_or}
+use Rattle.std.proofs.Common.{◌≡◌, refl, sym, ◌∙◌, ap, subst, ℕ, zero, suc, ◌+◌, ◌-◌, ◌/◌, ◌<◌, ◌≤◌, Bool, false, ◌||◌, List, [], ◌∷◌, ◌++◌, length, take, drop, slice_get, get_or, Option, Some, None, arith, All, append-nil, append_assoc, add-one, add-zero, ◌⊎◌, inl, inr, unwrap_or}
 use Rattle.std.specs.List.{flat_map, range_with_len, list_any}
 use Rattle.std.proofs.lemmas.List.{length-map, length-append, take_all}
 use Rattle.std.proofs.lemmas.Option.{slice_get_within}
 use Rattle.set_model.specs.declared.packet.Packet.{Packet}
+use Rattle.set_model.specs.declared.packet.Verdict.{Verdict}
 use Rattle.set_model.specs.declared.report.Event.{Event}
 use Rattle.set_model.specs.declared.report.Line.{Line}
 use Rattle.set_model.specs.declared.script.Script.{Script}
 use Rattle.set_model.specs.declared.script.Step.{Step}
 use Rattle.set_model.specs.declared.script.SetDecl.{SetDecl}
-use Rattle.set_model.specs.SetState.{State}
 use Rattle.set_model.specs.Control.{Mode, mode_of, Control, Generation, start, section, history, is_refusal, has_refusal, first_generation}
-use Rattle.set_model.specs.Legal.{Legal, IsLegalLine, IsLegalPair, IsVerdict, Placed, placed, before, after, last, section_events}
+use Rattle.set_model.specs.Legal.{AreLegal, IsLegalLine, IsLegalPair, IsVerdict, Placed, placed, before, after, last, section_events}
 use Rattle.set_model.specs.Runnable.{IsFitting}
-use Rattle.set_model.specs.Text.{transcript_text, section_text, section_count, events_text, lines_text, section_lines, packets_before, packets_up_to}
-use Rattle.gen_publish.specs.Publish.{Steering, Grown, kinds_of, declared_kinds}
-use Rattle.gen_publish.proofs.Growing.{as_many}
+use Rattle.set_model.specs.Text.{run_text, section_text, section_count, events_text, section_lines, packets_before, packets_up_to}
+use Rattle.gen_publish.specs.Publish.{Steering, Grown, declared_kinds}
 use Rattle.packet_pool.specs.Running.{run, Stands, Ran}
 use Rattle.packet_pool.proofs.RunLaws.{fold-more}
 use Rattle.set_report.specs.Writes.{NamesSet, AreSetsOf}
 use Rattle.set_space.specs.Open.{opened}
-use Rattle.packet_pool.specs.Section.{IsSection, IsSectionLine, IsAnswer, verdict_in}
+use Rattle.packet_pool.specs.Section.{IsSection, IsSectionLine, IsAnswer}
 use Rattle.packet_pool.specs.Work.{AllReady}
 use Rattle.script_run.specs.declared.telling.Telling.{Telling}
 use Rattle.set_model.specs.Runnable.{EndsClosed}
-use Rattle.script_run.specs.Telling.{section_at, looked_up, Begins, TellsSection}
+use Rattle.script_run.specs.Telling.{section_at, Begins, IsAnsweredBy, TellsSection}
 use Rattle.set_model.proofs.ClosedLaws.{closed-section}
 use Rattle.script_run.proofs.ControlLaws.{history-next, history_numbered, section_later, history_of, history_sets}
-use Rattle.script_run.proofs.Lists.{item-at, list_any-append, append-either, drop-take-behind, of-item}
+use Rattle.script_run.proofs.Lists.{list_any-append, append-either, drop-take-behind, of-item}
 use Rattle.script_run.proofs.SectionLaws.{grown_at}
 use Rattle.script_run.proofs.PlacedLaws.{in_section, count_of, count-next, of-placed, placed-here, placed-before, placed-count, count-rises}
 
@@ -100,45 +99,44 @@ lines-here keys n lines more long size =
     let from : packets_before keys n ≡ length lines + 0 = omega (arith, long) in
     (λ i. drop (from i) (take (to i) (lines ++ more))) ∙ drop-take-behind lines more 0 (length more) ∙ take_all (length more) more (omega arith)
 
--- The lines so far are legal.
-pub record IsLegalSoFar (mode : Mode) (script : Script) (keys : List (List Packet)) (threads : ℕ) (lines : List Line) : Type 0 where
-  pub each : (p : ℕ) (at : Placed) (line : Line) → slice_get (placed keys) p ≡ Some at → slice_get lines p ≡ Some line → IsLegalLine mode script threads p at line
+-- The lines so far are legal, by what a judge of this verdict says.
+pub record IsLegalSoFar (verdict : Generation → Packet → Verdict) (mode : Mode) (script : Script) (keys : List (List Packet)) (threads : ℕ) (lines : List Line) : Type 0 where
+  pub each : (p : ℕ) (at : Placed) (line : Line) → slice_get (placed keys) p ≡ Some at → slice_get lines p ≡ Some line → IsLegalLine (IsAnsweredBy verdict script.schema) mode script threads p at line
   pub pairs : (p q : ℕ) (a b : Placed) (earlier later : Line) → p < q
       → slice_get (placed keys) p ≡ Some a → slice_get (placed keys) q ≡ Some b
       → slice_get lines p ≡ Some earlier → slice_get lines q ≡ Some later → IsLegalPair a b earlier later
 
-none-legal : (mode : Mode) (script : Script) (keys : List (List Packet)) (threads : ℕ) → IsLegalSoFar mode script keys threads []
-none-legal mode script keys threads = record { each = λ p at line e f. absurd (cc f); pairs = λ p q a b earlier later lt e f g h. absurd (cc g) }
+none-legal : (verdict : Generation → Packet → Verdict) (mode : Mode) (script : Script) (keys : List (List Packet)) (threads : ℕ) → IsLegalSoFar verdict mode script keys threads []
+none-legal verdict mode script keys threads = record { each = λ p at line e f. absurd (cc f); pairs = λ p q a b earlier later lt e f g h. absurd (cc g) }
 
 -- The lines of one section more.
-module _ (mode : Mode) (script : Script) (keys : List (List Packet)) (fits : All (All (IsFitting script.schema)) keys) (threads j : ℕ) (lines more : List Line)
-    (long : length lines ≡ count_of keys j) (so_far : IsLegalSoFar mode script keys threads lines)
-    (answers : IsSection looked_up (section_at keys j) (count_of keys j) threads (length (before mode script (suc j)).committed) (after mode script (suc j)).committed more)
+module _ (verdict : Generation → Packet → Verdict) (mode : Mode) (script : Script) (keys : List (List Packet)) (fits : All (All (IsFitting script.schema)) keys) (threads j : ℕ) (lines more : List Line)
+    (long : length lines ≡ count_of keys j) (so_far : IsLegalSoFar verdict mode script keys threads lines)
+    (answers : IsSection verdict (section_at keys j) (count_of keys j) threads (length (before mode script (suc j)).committed) (after mode script (suc j)).committed more)
     (grown : Grown script.schema 0 (after mode script (suc j)).committed) where
+  abbrev Says : Generation → Packet → Verdict → Type 0
+  Says = IsAnsweredBy verdict script.schema
+
   -- a line of the section
   here : (q : ℕ) (line : Line) (at : Placed) → slice_get more q ≡ Some line → slice_get (placed keys) (length lines + q) ≡ Some at
       → (p : Packet) × (slice_get (section_at keys j) q ≡ Some p) × (in_section (1 + j) (q, p) ≡ at)
   here q line at e f = let within = slice_get_within more q line e in let size = answers.one_each in
       placed-here j q keys at (omega (arith, within, size)) (ap (λ n. slice_get (placed keys) (n + q)) (sym long) ∙ f)
 
-  verdict-is : (packet : Packet) (line : Line) → IsFitting script.schema packet → IsAnswer looked_up (after mode script (suc j)).committed packet line → IsVerdict (after mode script (suc j)).committed packet line.generation line.verdict
+  verdict-is : (packet : Packet) (line : Line) → IsFitting script.schema packet → IsAnswer verdict (after mode script (suc j)).committed packet line → IsVerdict Says (after mode script (suc j)).committed packet line.generation line.verdict
   verdict-is packet line fit answer =
-      let g = answer.0 in
-      let kinds = grown_at script.schema 0 (after mode script (suc j)).committed grown line.generation g answer.1 in
-      let many = as_many g.sets script.schema kinds in
-      let within = slice_get_within script.schema packet.set fit.set fit.declared in
-      let s = item-at g.sets packet.set (omega (arith, many, within)) in
-      record { generation = g; state = s.0; is_committed = answer.1; is_set = s.1; first_match = answer.2 ∙ ap (verdict_in packet.key packet.now) s.1 }
+      let sets = grown_at script.schema 0 (after mode script (suc j)).committed grown line.generation answer.0 answer.1 in
+      record { generation = answer.0; is_committed = answer.1; says = record { sets = sets; fits = fit; answer_is = answer.2 } }
 
-  new-line : (q : ℕ) (packet : Packet) (line : Line) → IsFitting script.schema packet → IsSectionLine looked_up (section_at keys j) (count_of keys j) threads (length (before mode script (suc j)).committed) (after mode script (suc j)).committed q packet line
-      → IsLegalLine mode script threads (length lines + q) (in_section (1 + j) (q, packet)) line
+  new-line : (q : ℕ) (packet : Packet) (line : Line) → IsFitting script.schema packet → IsSectionLine verdict (section_at keys j) (count_of keys j) threads (length (before mode script (suc j)).committed) (after mode script (suc j)).committed q packet line
+      → IsLegalLine Says mode script threads (length lines + q) (in_section (1 + j) (q, packet)) line
   new-line q packet line fit l =
       let one : 1 + j ≡ suc j = omega arith in
       let old_long = (history_numbered mode script.schema (take (suc j) script.sections)).long in
       let new_long = (history_numbered mode script.schema (take (suc j + 1) script.sections)).long in
       let early : last mode script (suc j - 1) ≡ (before mode script (suc j)).last.number = (let e : suc j - 1 + 1 ≡ suc j = omega arith in ap (λ n. (before mode script n).last.number) e) in
       let names = l.names in let old = l.not_too_old in let new = l.not_too_new in
-      subst (λ (n : ℕ). IsLegalLine mode script threads (length lines + q) (in_section n (q, packet)) line) (sym one) (record {
+      subst (λ (n : ℕ). IsLegalLine Says mode script threads (length lines + q) (in_section n (q, packet)) line) (sym one) (record {
         names_packet = omega (arith, names, long);
         thread = l.thread;
         not_too_old = omega (arith, old, old_long, early);
@@ -146,13 +144,13 @@ module _ (mode : Mode) (script : Script) (keys : List (List Packet)) (fits : All
         verdict = verdict-is packet line fit l.answer;
       })
 
-  each-is : (p : ℕ) (at : Placed) (line : Line) → slice_get (placed keys) p ≡ Some at → (slice_get lines p ≡ Some line) ⊎ ((q : ℕ) × (slice_get more q ≡ Some line) × (p ≡ length lines + q)) → IsLegalLine mode script threads p at line
+  each-is : (p : ℕ) (at : Placed) (line : Line) → slice_get (placed keys) p ≡ Some at → (slice_get lines p ≡ Some line) ⊎ ((q : ℕ) × (slice_get more q ≡ Some line) × (p ≡ length lines + q)) → IsLegalLine Says mode script threads p at line
   each-is p at line e (inl k) = so_far.each p at line e k
   each-is p at line e (inr k) =
       let h = here k.0 line at k.1 (ap (λ n. slice_get (placed keys) n) (sym k.2) ∙ e) in
       let fit : IsFitting script.schema at.packet = of-placed (IsFitting script.schema) 1 p keys at fits e in
       let is : IsFitting script.schema h.0 = subst (λ (z : Placed). IsFitting script.schema z.packet) (sym h.2) fit in
-      subst (λ (z : ℕ × Placed). IsLegalLine mode script threads z.0 z.1 line) (λ i. (sym k.2 i, h.2 i)) (new-line k.0 h.0 line is (answers.each k.0 h.0 line h.1 k.1))
+      subst (λ (z : ℕ × Placed). IsLegalLine Says mode script threads z.0 z.1 line) (λ i. (sym k.2 i, h.2 i)) (new-line k.0 h.0 line is (answers.each k.0 h.0 line h.1 k.1))
 
   abbrev Where : ℕ → Line → Type 0
   Where p line = (slice_get lines p ≡ Some line) ⊎ ((q : ℕ) × (slice_get more q ≡ Some line) × (p ≡ length lines + q))
@@ -181,30 +179,30 @@ module _ (mode : Mode) (script : Script) (keys : List (List Packet)) (fits : All
         never_falls = λ same. answers.never_falls k.0 m.0 earlier later (omega (arith, i, o, lt)) k.1 m.1 same;
       }
 
-  pub more-legal : IsLegalSoFar mode script keys threads (lines ++ more)
+  pub more-legal : IsLegalSoFar verdict mode script keys threads (lines ++ more)
   more-legal = record {
     each = λ p at line e f. each-is p at line e (append-either lines more p line f);
     pairs = λ p q a b earlier later lt e f g h. pair-is p q a b earlier later lt e f (append-either lines more p earlier g) (append-either lines more q later h);
   }
 
 -- The first n sections of a run are told.
-pub record IsToldUpTo (keep_going : Bool) (script : Script) (keys : List (List Packet)) (threads n : ℕ) (t : Telling) : Type 0 where
+pub record IsToldUpTo (verdict : Generation → Packet → Verdict) (packets_text : List Line → List ℕ) (keep_going : Bool) (script : Script) (keys : List (List Packet)) (threads n : ℕ) (t : Telling) : Type 0 where
   pub lines : List Line
   pub stands : Stands (before (mode_of keep_going) script n).events (before (mode_of keep_going) script n) (run t.control false [])
   pub schema_is : t.control.schema ≡ script.schema
   pub threads_are : length t.readers.items ≡ threads
   pub ready : AllReady t.control t.readers.items
-  pub text : t.output.text.items ≡ flat_map (section_text (mode_of keep_going) script keys lines) (range_with_len 0 n)
+  pub text : t.output.text.items ≡ flat_map (section_text packets_text (mode_of keep_going) script keys lines) (range_with_len 0 n)
   pub refused : t.output.refused ≡ list_any is_refusal (before (mode_of keep_going) script n).events
   pub count : t.packets ≡ packets_before keys n
   pub long : length lines ≡ packets_before keys n
-  pub legal : IsLegalSoFar (mode_of keep_going) script keys threads lines
+  pub legal : IsLegalSoFar verdict (mode_of keep_going) script keys threads lines
 
-module _ (keep_going : Bool) (script : Script) (keys : List (List Packet)) (threads : ℕ) where
+module _ (verdict : Generation → Packet → Verdict) (packets_text : List Line → List ℕ) (keep_going : Bool) (script : Script) (keys : List (List Packet)) (threads : ℕ) where
   abbrev mode : Mode
   mode = mode_of keep_going
 
-  pub told_none : (t : Telling) → Begins script.schema threads t → IsToldUpTo keep_going script keys threads 0 t
+  pub told_none : (t : Telling) → Begins script.schema threads t → IsToldUpTo verdict packets_text keep_going script keys threads 0 t
   told_none t b = record {
     lines = [];
     stands = record { committed = sym b.committed; last = sym (ap (λ w. w.base) b.work); sets = sym (ap (λ w. w.sets) b.work); failed = refl; told = refl };
@@ -215,22 +213,22 @@ module _ (keep_going : Bool) (script : Script) (keys : List (List Packet)) (thre
     refused = b.refused;
     count = b.packets;
     long = refl;
-    legal = none-legal mode script keys threads;
+    legal = none-legal verdict mode script keys threads;
   }
 
   -- the lines of section n
-  legal-more : (fits : All (All (IsFitting script.schema)) keys) (n : ℕ) (lines more : List Line) → length lines ≡ packets_before keys n → IsLegalSoFar mode script keys threads lines
-      → IsSection looked_up (packets_at keys n) (packets_before keys n) threads (length (before mode script n).committed) (after mode script n).committed more → Grown script.schema 0 (after mode script n).committed
-      → IsLegalSoFar mode script keys threads (lines ++ more)
-  legal-more fits zero lines [] long so_far answers grown = subst (λ (z : List Line). IsLegalSoFar mode script keys threads z) (sym (append-nil lines)) so_far
+  legal-more : (fits : All (All (IsFitting script.schema)) keys) (n : ℕ) (lines more : List Line) → length lines ≡ packets_before keys n → IsLegalSoFar verdict mode script keys threads lines
+      → IsSection verdict (packets_at keys n) (packets_before keys n) threads (length (before mode script n).committed) (after mode script n).committed more → Grown script.schema 0 (after mode script n).committed
+      → IsLegalSoFar verdict mode script keys threads (lines ++ more)
+  legal-more fits zero lines [] long so_far answers grown = subst (λ (z : List Line). IsLegalSoFar verdict mode script keys threads z) (sym (append-nil lines)) so_far
   legal-more fits zero lines (x ∷ more) long so_far answers grown = let size = answers.one_each in absurd (omega (arith, size))
   legal-more fits (suc j) lines more long so_far answers grown =
-      more-legal mode script keys fits threads j lines more (long ∙ ap (count_of keys) (one-less j)) so_far
-      (subst (λ (n : ℕ). IsSection looked_up (section_at keys j) (count_of keys n) threads (length (before mode script (suc j)).committed) (after mode script (suc j)).committed more) (one-less j) answers)
+      more-legal verdict mode script keys fits threads j lines more (long ∙ ap (count_of keys) (one-less j)) so_far
+      (subst (λ (n : ℕ). IsSection verdict (section_at keys j) (count_of keys n) threads (length (before mode script (suc j)).committed) (after mode script (suc j)).committed more) (one-less j) answers)
       grown
 
-  told_more : (fits : All (All (IsFitting script.schema)) keys) (n : ℕ) (t new : Telling) → IsToldUpTo keep_going script keys threads n t → EndsClosed (section_at script.sections n)
-      → TellsSection keep_going (section_at script.sections n) (packets_at keys n) t new → IsToldUpTo keep_going script keys threads (n + 1) new
+  told_more : (fits : All (All (IsFitting script.schema)) keys) (n : ℕ) (t new : Telling) → IsToldUpTo verdict packets_text keep_going script keys threads n t → EndsClosed (section_at script.sections n)
+      → TellsSection verdict packets_text keep_going (section_at script.sections n) (packets_at keys n) t new → IsToldUpTo verdict packets_text keep_going script keys threads (n + 1) new
   told_more fits n t new h closed tells =
       let c : Control = before mode script n in
       let c' : Control = after mode script n in
@@ -240,7 +238,7 @@ module _ (keep_going : Bool) (script : Script) (keys : List (List Packet)) (thre
       let quiet : c'.failed ≡ false = ap (λ (k : Control). k.failed) (after-next mode script n) ∙ closed-section (section_at script.sections n) closed mode c h.stands.failed in
       let events : section_events mode script n ≡ tells.events = ap (drop (length c.events)) here.told ∙ drop-behind c.events tells.events in
       let all : List Line = h.lines ++ tells.lines in
-      let answers = subst (λ (z : ℕ × ℕ × List Generation × List Generation). IsSection looked_up (packets_at keys n) z.0 z.1 (length z.2) z.3 tells.lines) (λ i. (h.count i, h.threads_are i, sym h.stands.committed i, sym here.committed i)) tells.answers in
+      let answers = subst (λ (z : ℕ × ℕ × List Generation × List Generation). IsSection verdict (packets_at keys n) z.0 z.1 (length z.2) z.3 tells.lines) (λ i. (h.count i, h.threads_are i, sym h.stands.committed i, sym here.committed i)) tells.answers in
       let grown : Grown script.schema 0 c'.committed = subst (λ (z : List SetDecl × List Generation). Grown z.0 0 z.1) (λ i. ((goes.schema_is ∙ h.schema_is) i, sym here.committed i)) tells.grown in
       let size : length tells.lines ≡ length (packets_at keys n) = answers.one_each in
       let counts = count-more keys n in
@@ -252,11 +250,11 @@ module _ (keep_going : Bool) (script : Script) (keys : List (List Packet)) (thre
         ready = tells.ready;
         text =
             tells.text
-            ∙ (λ i. (h.text ∙ range-same (section_text mode script keys h.lines) (section_text mode script keys all) n (λ j lt. ap (λ ls. events_text script.schema (section_events mode script j) ++ lines_text ls) (sym (lines-before keys n h.lines tells.lines h.long j lt)))) i
-            ++ (events_text (h.schema_is i) (sym events i) ++ lines_text (sym (lines-here keys n h.lines tells.lines h.long size) i)))
-            ∙ ap (λ m. flat_map (section_text mode script keys all) (range_with_len 0 n) ++ section_text mode script keys all m) (sym (zero_is n))
-            ∙ sym (range-more (section_text mode script keys all) 0 n)
-            ∙ ap (λ m. flat_map (section_text mode script keys all) (range_with_len 0 m)) (sym (add-one n));
+            ∙ (λ i. (h.text ∙ range-same (section_text packets_text mode script keys h.lines) (section_text packets_text mode script keys all) n (λ j lt. ap (λ ls. events_text script.schema (section_events mode script j) ++ packets_text ls) (sym (lines-before keys n h.lines tells.lines h.long j lt)))) i
+            ++ (events_text (h.schema_is i) (sym events i) ++ packets_text (sym (lines-here keys n h.lines tells.lines h.long size) i)))
+            ∙ ap (λ m. flat_map (section_text packets_text mode script keys all) (range_with_len 0 n) ++ section_text packets_text mode script keys all m) (sym (zero_is n))
+            ∙ sym (range-more (section_text packets_text mode script keys all) 0 n)
+            ∙ ap (λ m. flat_map (section_text packets_text mode script keys all) (range_with_len 0 m)) (sym (add-one n));
         refused = tells.refused ∙ ap (λ b. b || list_any is_refusal tells.events) h.refused ∙ sym (list_any-append is_refusal c.events tells.events) ∙ ap (list_any is_refusal) (sym here.told);
         count = tells.count ∙ ap (λ m. m + length (packets_at keys n)) h.count ∙ counts;
         long = let both = length-append h.lines tells.lines in let long = h.long in omega (arith, both, long, size, counts);
@@ -266,14 +264,14 @@ module _ (keep_going : Bool) (script : Script) (keys : List (List Packet)) (thre
         zero_is m = omega arith
 
   -- the same, by what the section's steps and packets are
-  pub told_next : (fits : All (All (IsFitting script.schema)) keys) (n : ℕ) (t new : Telling) (steps : List Step) (packets : List Packet) → IsToldUpTo keep_going script keys threads n t → EndsClosed (section_at script.sections n)
-      → steps ≡ section_at script.sections n → packets ≡ packets_at keys n → TellsSection keep_going steps packets t new → IsToldUpTo keep_going script keys threads (n + 1) new
+  pub told_next : (fits : All (All (IsFitting script.schema)) keys) (n : ℕ) (t new : Telling) (steps : List Step) (packets : List Packet) → IsToldUpTo verdict packets_text keep_going script keys threads n t → EndsClosed (section_at script.sections n)
+      → steps ≡ section_at script.sections n → packets ≡ packets_at keys n → TellsSection verdict packets_text keep_going steps packets t new → IsToldUpTo verdict packets_text keep_going script keys threads (n + 1) new
   told_next fits n t new steps packets h closed steps_are packets_are tells =
-      told_more fits n t new h closed (subst (λ (z : List Step × List Packet). TellsSection keep_going z.0 z.1 t new) (λ i. (steps_are i, packets_are i)) tells)
+      told_more fits n t new h closed (subst (λ (z : List Step × List Packet). TellsSection verdict packets_text keep_going z.0 z.1 t new) (λ i. (steps_are i, packets_are i)) tells)
 
   -- Behind the last section the whole is told.
-  pub told_all : (n : ℕ) (t : Telling) → section_count script keys ≡ n → IsToldUpTo keep_going script keys threads n t
-      → ((lines : List Line) × Legal script keys threads mode lines × (t.output.text.items ≡ transcript_text mode script keys lines)) × (t.output.refused ≡ has_refusal mode script)
+  pub told_all : (n : ℕ) (t : Telling) → section_count script keys ≡ n → IsToldUpTo verdict packets_text keep_going script keys threads n t
+      → ((lines : List Line) × AreLegal (IsAnsweredBy verdict script.schema) script keys threads mode lines × (t.output.text.items ≡ run_text packets_text mode script keys lines)) × (t.output.refused ≡ has_refusal mode script)
   told_all n t size h =
       let whole : take n script.sections ≡ script.sections = take_all n script.sections (omega (arith, size)) in
       let all_keys : take (n - 1) keys ≡ keys = take_all (n - 1) keys (omega (arith, size)) in
@@ -281,7 +279,7 @@ module _ (keep_going : Bool) (script : Script) (keys : List (List Packet)) (thre
         (
           h.lines,
           record { one_each = h.long ∙ many; each = h.legal.each; pairs = h.legal.pairs },
-          h.text ∙ ap (λ m. flat_map (section_text mode script keys h.lines) (range_with_len 0 m)) (sym size),
+          h.text ∙ ap (λ m. flat_map (section_text packets_text mode script keys h.lines) (range_with_len 0 m)) (sym size),
         ),
         h.refused ∙ ap (λ xs. list_any is_refusal (history mode script.schema xs).events) whole,
       )

@@ -8,9 +8,10 @@ use Rattle.set_model.specs.declared.report.Line.{Line}
 use Rattle.set_model.specs.declared.script.SetDecl.{SetDecl}
 use Rattle.set_model.specs.declared.script.Step.{Step}
 use Rattle.set_model.specs.Control.{Generation, is_refusal, first_generation}
-use Rattle.set_model.specs.Text.{events_text, lines_text}
+use Rattle.set_model.specs.Runnable.{IsFitting}
+use Rattle.set_model.specs.Text.{events_text}
 use Rattle.set_space.specs.Open.{opened}
-use Rattle.gen_publish.specs.Publish.{Grown}
+use Rattle.gen_publish.specs.Publish.{Grown, kinds_of, declared_kinds}
 use Rattle.packet_pool.specs.Running.{Ran}
 use Rattle.packet_pool.specs.Section.{IsSection, verdict_in}
 use Rattle.packet_pool.specs.Work.{AllReady}
@@ -35,15 +36,25 @@ pub record Begins (schema : List SetDecl) (threads : ℕ) (t : Telling) : Type 0
   pub text : t.output.text.items ≡ []
   pub refused : t.output.refused ≡ false
 
--- A section is done: its steps beside its packets.
-pub record TellsSection (keep_going : Bool) (steps : List Step) (packets : List Packet) (old new : Telling) : Type 0 where
+-- the line's verdict is what a judge says of some packet in some generation
+abbrev pub IsLineOf : (Generation → Packet → Verdict) → Line → Type 0
+IsLineOf verdict l = (g : Generation) × (p : Packet) × (l.verdict ≡ verdict g p)
+
+-- What a judge says of the packets of declared sets, in generations that have these sets.
+pub record IsAnsweredBy (verdict : Generation → Packet → Verdict) (schema : List SetDecl) (generation : Generation) (packet : Packet) (answer : Verdict) : Type 0 where
+  pub sets : kinds_of generation.sets ≡ declared_kinds schema
+  pub fits : IsFitting schema packet
+  pub answer_is : answer ≡ verdict generation packet
+
+-- A section is done by a judge of this verdict, whose lines have this text: its steps beside its packets.
+pub record TellsSection (verdict : Generation → Packet → Verdict) (packets_text : List Line → List ℕ) (keep_going : Bool) (steps : List Step) (packets : List Packet) (old new : Telling) : Type 0 where
   pub events : List Event
   pub lines : List Line
   pub ran : Ran keep_going steps old.control new.control events
-  pub answers : IsSection looked_up packets old.packets (length old.readers.items) (length old.control.committed) new.control.committed lines
+  pub answers : IsSection verdict packets old.packets (length old.readers.items) (length old.control.committed) new.control.committed lines
   pub grown : Grown new.control.schema 0 new.control.committed
   pub threads_are : length new.readers.items ≡ length old.readers.items
   pub ready : AllReady new.control new.readers.items
-  pub text : new.output.text.items ≡ old.output.text.items ++ (events_text old.control.schema events ++ lines_text lines)
+  pub text : new.output.text.items ≡ old.output.text.items ++ (events_text old.control.schema events ++ packets_text lines)
   pub refused : new.output.refused ≡ (old.output.refused || list_any is_refusal events)
   pub count : new.packets ≡ old.packets + length packets

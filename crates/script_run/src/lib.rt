@@ -1,4 +1,5 @@
-//! Runs scripts: the steps of each section beside the packets of its key section, which packet threads look up.
+//! Runs scripts: the steps of each section beside the packets of its key section, which packet threads look up, or judge by
+//! chains of rules.
 #![tactic(auto)]
 
 #[cfg(test)]
@@ -8,10 +9,13 @@ mod drilling;
 mod fixture;
 mod numbers;
 mod output;
+mod teller;
 mod telling;
 #[cfg(test)]
 mod tests;
 mod whole;
 
 pub use drilling::drill;
-pub use output::{Output, dump, listing, transcript};
+pub use output::{Output, dump, judged, listing, transcript};
+pub use telling::tells_refusal;
+pub use whole::Whole;

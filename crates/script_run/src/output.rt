@@ -1,18 +1,22 @@
 ghost use Rattle.std.specs.Prelude.{◌≡◌, ◌+◌, ◌<◌, ◌≤◌, [], List, length, max, All, IfOk};
 ghost use Rattle.std.specs.List.{list_any};
 ghost use Rattle.set_model.specs.Control.{mode_of, has_refusal, is_refusal};
-ghost use Rattle.set_model.specs.Legal.{Legal};
+ghost use Rattle.set_model.specs.Legal.{AreLegal, Legal};
 ghost use Rattle.set_model.specs.Runnable.{IsRunnable, IsFitting};
-ghost use Rattle.set_model.specs.Text.{transcript_text};
+ghost use Rattle.set_model.specs.Text.{run_text, transcript_text};
 ghost use Rattle.set_model.specs.declared.report.Line.{Line as PacketLine};
+ghost use Rattle.rule_chain.specs.Judged.{IsJudged};
+ghost use Rattle.rule_chain.specs.JudgedText.{judged_text};
 ghost use Rattle.set_report.specs.Remarks.{remarks_text};
 ghost use Rattle.set_report.specs.Writes.{NamesSet};
 ghost use Rattle.script_run.specs.Listings.{listing_text, tables_text};
-ghost use Rattle.script_run.specs.Telling.{section_at};
+ghost use Rattle.script_run.specs.Telling.{section_at, IsAnsweredBy};
 
+use crate::teller::Teller;
 use crate::telling::{Telling, tells_refusal};
 use crate::whole::Whole;
-use packet_pool::Gate;
+use packet_pool::{ChainJudge, Gate, LookupJudge};
+use rule_chain::Chains;
 use set_model::{Events, Keys, Listed, Memory, Packets, Schema, Script, Sections, Steps};
 use set_report::{write_dump, write_list, write_remarks};
 use std::alloc::Global;
@@ -44,6 +48,42 @@ fn later_sections(sections: &Sections, keys: &Keys) -> u64
     sections.len().saturating_sub(1).max(keys.len())
 }
 
+/// Runs a script beside the packets of a key file, which so many threads hand to a judge, and tells of both.
+fn told_by<R: Threads + Sync, J: Teller, G: Gate>(
+    rt: &R,
+    alloc: Global,
+    script: Script,
+    keys: &Keys,
+    keep_going: bool,
+    threads: u32,
+    judge: &J,
+    gate: &G,
+) -> Result<Output, Memory>
+    requires script { IsRunnable script }
+    requires keys { All (All (IsFitting script.schema)) keys.now }
+    requires threads { (0 < threads) × (threads ≤ 16) }
+    requires judge { J.serves judge.now script.schema }
+    ensures text { IfOk result (λ out. (lines : List PacketLine) × AreLegal (IsAnsweredBy (J.verdict judge.now) script.schema) script keys.now threads (mode_of keep_going) lines × (out.text.items ≡ run_text (J.packets_text judge.now) (mode_of keep_going) script keys.now lines)) }
+    ensures refused { IfOk result (λ out. out.refused ≡ has_refusal (mode_of keep_going) script) }
+{
+    let Script {
+        schema,
+        sections,
+        ..
+    } = script;
+    let mut telling = Telling::new(alloc, schema, threads)?;
+    let no_steps = Steps::new(alloc);
+    let no_packets = Packets::new(alloc);
+    let first = section(&sections, 0, &no_steps);
+    telling.do_section(rt, alloc, first, &no_packets, keep_going, judge, gate)?;
+    'rest: for j in 0..later_sections(&sections, keys) {
+        let steps = section(&sections, j + 1, &no_steps);
+        let packets = section(keys, j, &no_packets);
+        telling.do_section(rt, alloc, steps, packets, keep_going, judge, gate)?;
+    }
+    Ok(telling.output)
+}
+
 /// Runs a script beside the packets of a key file, which so many threads look up, and gives the transcript.
 ///
 /// # Errors
@@ -64,22 +104,43 @@ pub fn transcript<R: Threads + Sync, G: Gate>(
     ensures text { IfOk result (λ out. (lines : List PacketLine) × Legal script keys.now threads (mode_of keep_going) lines × (out.text.items ≡ transcript_text (mode_of keep_going) script keys.now lines)) }
     ensures refused { IfOk result (λ out. out.refused ≡ has_refusal (mode_of keep_going) script) }
 {
-    let Script {
-        schema,
-        sections,
-        ..
-    } = script;
-    let mut telling = Telling::new(alloc, schema, threads)?;
-    let no_steps = Steps::new(alloc);
-    let no_packets = Packets::new(alloc);
-    let first = section(&sections, 0, &no_steps);
-    telling.do_section(rt, alloc, first, &no_packets, keep_going, gate)?;
-    'rest: for j in 0..later_sections(&sections, keys) {
-        let steps = section(&sections, j + 1, &no_steps);
-        let packets = section(keys, j, &no_packets);
-        telling.do_section(rt, alloc, steps, packets, keep_going, gate)?;
-    }
-    Ok(telling.output)
+    told_by(
+        rt,
+        alloc,
+        script,
+        keys,
+        keep_going,
+        threads,
+        &LookupJudge,
+        gate,
+    )
+}
+
+/// Runs a script beside the packets of a key file, which so many threads judge by chains of rules, and gives the transcript
+/// with what becomes of each packet.
+///
+/// # Errors
+///
+/// `Memory` where there is none left.
+pub fn judged<R: Threads + Sync, G: Gate>(
+    rt: &R,
+    alloc: Global,
+    script: Script,
+    chains: Chains,
+    keys: &Keys,
+    keep_going: bool,
+    threads: u32,
+    gate: &G,
+) -> Result<Output, Memory>
+    requires script { IsRunnable script }
+    requires chains { chains.schema ≡ script.schema }
+    requires keys { All (All (IsFitting script.schema)) keys.now }
+    requires threads { (0 < threads) × (threads ≤ 16) }
+    ensures text { IfOk result (λ out. (lines : List PacketLine) × AreLegal (IsJudged chains) script keys.now threads (mode_of keep_going) lines × (out.text.items ≡ run_text (judged_text chains) (mode_of keep_going) script keys.now lines)) }
+    ensures refused { IfOk result (λ out. out.refused ≡ has_refusal (mode_of keep_going) script) }
+{
+    let judge = ChainJudge { chains };
+    told_by(rt, alloc, script, keys, keep_going, threads, &judge, gate)
 }
 
 /// What was told, as comments: the first lines of a listing and of a dump.

@@ -8,10 +8,11 @@ ghost use Rattle.script_run.specs.Telling.{Begins, TellsSection};
 
 use crate::numbers::has_numbers;
 use crate::output::Output;
+use crate::teller::Teller;
 use gen_publish::{Control, Reader, start};
-use packet_pool::{Gate, LookupJudge, run_section};
+use packet_pool::{Gate, run_section};
 use set_model::{Event, Memory, Packets, Schema, Steps};
-use set_report::{write_events, write_lines};
+use set_report::write_events;
 use std::alloc::Global;
 use std::thread::Threads;
 
@@ -81,19 +82,21 @@ impl Telling {
     }
 
     /// Does the steps of a section beside its packets, and writes what the steps tell, and then the packets' lines.
-    pub fn do_section<R: Threads + Sync, G: Gate>(
+    pub fn do_section<R: Threads + Sync, J: Teller, G: Gate>(
         &mut self,
         rt: &R,
         alloc: Global,
         steps: &Steps,
         packets: &Packets,
         keep_going: bool,
+        judge: &J,
         gate: &G,
     ) -> Result<(), Memory>
+        requires judge { J.serves judge.now self.old.control.schema }
         requires readers { (0 < length self.old.readers.items) × (length self.old.readers.items ≤ 16) × AllReady self.old.control self.old.readers.items }
         requires steps { All (IsRunnableStep self.old.control.schema) steps.now }
         requires packets { All (IsFitting self.old.control.schema) packets.now }
-        ensures { OnOk result (TellsSection keep_going steps.now packets.now self.old self.new) }
+        ensures { OnOk result (TellsSection (J.verdict judge.now) (J.packets_text judge.now) keep_going steps.now packets.now self.old self.new) }
     {
         let first = self.packets;
         let Some(end) = first.checked_add(packets.len()) else {
@@ -112,13 +115,13 @@ impl Telling {
             &mut self.readers,
             packets,
             first,
-            &LookupJudge,
+            judge,
             gate,
         )?;
         self.control.known();
         let text = &mut self.output.text;
-        write_events(self.control.schema(), &section.events, text)?;
-        write_lines(&section.lines, text)?;
+        write_events(self.control.schema(), &section.events, b"", text)?;
+        judge.write(&section.lines, text)?;
         self.output.refused = tells_more(self.output.refused, section.events.as_slice());
         self.packets = end;
         Ok(())

@@ -45,33 +45,42 @@ abbrev pub verdict_of : Option Element → Verdict
 verdict_of None = verdicts.None
 verdict_of (Some e) = verdicts.Element e.id
 
--- The verdict on a packet in the generation of a number: that generation is committed, and the
--- verdict is the first element of the packet's set that is live and holds its key.
-pub record IsVerdict (committed : List Generation) (packet : Packet) (number : ℕ) (verdict : Verdict) : Type 0 where
-  pub generation : Generation
+-- A lookup's verdict on a packet in a generation: the first element of the packet's set that is live and holds its key.
+pub record IsFirstMatch (generation : Generation) (packet : Packet) (verdict : Verdict) : Type 0 where
   pub state : State
-  pub is_committed : slice_get committed number ≡ Some generation
   pub is_set : slice_get generation.sets packet.set ≡ Some state
   pub first_match : verdict ≡ verdict_of (first state packet.key packet.now)
-
--- The line of packet p names it and a thread, and a generation no older than the last one before its
--- section and no newer than the last one after it, with that generation's verdict.
-pub record IsLegalLine (mode : Mode) (script : Script) (threads p : ℕ) (at : Placed) (line : Line) : Type 0 where
-  pub names_packet : line.packet ≡ p
-  pub thread : line.thread < threads
-  pub not_too_old : last mode script (at.section - 1) ≤ line.generation
-  pub not_too_new : line.generation ≤ last mode script at.section
-  pub verdict : IsVerdict (after mode script at.section).committed at.packet line.generation line.verdict
 
 -- Two lines: the packets of one batch of sixteen have one thread, and a thread's generations never fall.
 pub record IsLegalPair (a b : Placed) (earlier later : Line) : Type 0 where
   pub one_batch : a.section ≡ b.section → a.place / 16 ≡ b.place / 16 → earlier.thread ≡ later.thread
   pub never_falls : earlier.thread ≡ later.thread → earlier.generation ≤ later.generation
 
--- The lines of a run: one for each packet, each of them legal, and each two of them.
-pub record Legal (script : Script) (keys : List (List Packet)) (threads : ℕ) (mode : Mode) (lines : List Line) : Type 0 where
-  pub one_each : length lines ≡ length (placed keys)
-  pub each : (p : ℕ) (at : Placed) (line : Line) → slice_get (placed keys) p ≡ Some at → slice_get lines p ≡ Some line → IsLegalLine mode script threads p at line
-  pub pairs : (p q : ℕ) (a b : Placed) (earlier later : Line) → p < q
-      → slice_get (placed keys) p ≡ Some a → slice_get (placed keys) q ≡ Some b
-      → slice_get lines p ≡ Some earlier → slice_get lines q ≡ Some later → IsLegalPair a b earlier later
+-- What is said of packets in a generation: by a lookup, or by a judge that asks several sets.
+module _ (Says : Generation → Packet → Verdict → Type 0) where
+  -- The verdict on a packet in the generation of a number: that generation is committed, and this is what is said of the packet in it.
+  pub record IsVerdict (committed : List Generation) (packet : Packet) (number : ℕ) (verdict : Verdict) : Type 0 where
+    pub generation : Generation
+    pub is_committed : slice_get committed number ≡ Some generation
+    pub says : Says generation packet verdict
+
+  -- The line of packet p names it and a thread, and a generation no older than the last one before its
+  -- section and no newer than the last one after it, with that generation's verdict.
+  pub record IsLegalLine (mode : Mode) (script : Script) (threads p : ℕ) (at : Placed) (line : Line) : Type 0 where
+    pub names_packet : line.packet ≡ p
+    pub thread : line.thread < threads
+    pub not_too_old : last mode script (at.section - 1) ≤ line.generation
+    pub not_too_new : line.generation ≤ last mode script at.section
+    pub verdict : IsVerdict (after mode script at.section).committed at.packet line.generation line.verdict
+
+  -- The lines of a run: one for each packet, each of them legal, and each two of them.
+  pub record AreLegal (script : Script) (keys : List (List Packet)) (threads : ℕ) (mode : Mode) (lines : List Line) : Type 0 where
+    pub one_each : length lines ≡ length (placed keys)
+    pub each : (p : ℕ) (at : Placed) (line : Line) → slice_get (placed keys) p ≡ Some at → slice_get lines p ≡ Some line → IsLegalLine mode script threads p at line
+    pub pairs : (p q : ℕ) (a b : Placed) (earlier later : Line) → p < q
+        → slice_get (placed keys) p ≡ Some a → slice_get (placed keys) q ≡ Some b
+        → slice_get lines p ≡ Some earlier → slice_get lines q ≡ Some later → IsLegalPair a b earlier later
+
+-- The lines of a run whose packets are looked up.
+abbrev pub Legal : Script → List (List Packet) → ℕ → Mode → List Line → Type 0
+Legal = AreLegal IsFirstMatch

@@ -62,6 +62,7 @@ packet_text l = numbered (codes "packet") l.packet ++ numbered (codes " thread")
 abbrev pub events_text : List SetDecl → List Event → List ℕ
 events_text schema events = flat_map (event_text schema) events
 
+-- the lines of packets, in a run that looks them up
 abbrev pub lines_text : List Line → List ℕ
 lines_text lines = flat_map packet_text lines
 
@@ -76,14 +77,20 @@ packets_up_to keys j = length (flat_map (λ packets. packets) (take j keys))
 abbrev pub section_lines : List (List Packet) → ℕ → List Line → List Line
 section_lines keys j lines = drop (packets_before keys j) (take (packets_up_to keys j) lines)
 
--- the text of section j
-abbrev pub section_text : Mode → Script → List (List Packet) → List Line → ℕ → List ℕ
-section_text mode script keys lines j = events_text script.schema (section_events mode script j) ++ lines_text (section_lines keys j lines)
-
 -- how many sections a run has: those of the script, from 0 on, and those of the key file, from 1 on
 abbrev pub section_count : Script → List (List Packet) → ℕ
 section_count script keys = max (length script.sections) (length keys + 1)
 
--- The text of a run.
+-- Of runs by the text of their packets' lines, a lookup's or a judge's.
+module _ (packets_text : List Line → List ℕ) where
+  -- the text of section j
+  abbrev pub section_text : Mode → Script → List (List Packet) → List Line → ℕ → List ℕ
+  section_text mode script keys lines j = events_text script.schema (section_events mode script j) ++ packets_text (section_lines keys j lines)
+
+  -- the text of a run
+  abbrev pub run_text : Mode → Script → List (List Packet) → List Line → List ℕ
+  run_text mode script keys lines = flat_map (section_text mode script keys lines) (range_with_len 0 (section_count script keys))
+
+-- The text of a run whose packets are looked up.
 abbrev pub transcript_text : Mode → Script → List (List Packet) → List Line → List ℕ
-transcript_text mode script keys lines = flat_map (section_text mode script keys lines) (range_with_len 0 (section_count script keys))
+transcript_text = run_text lines_text

@@ -1,5 +1,7 @@
 use crate::kind::Key;
-use crate::listed::Listed;
+use crate::listed::{Duplicate, Listed};
+use crate::memory::Memory;
+use std::alloc::Global;
 
 /// A packet: the set that it is looked up in, its key and its moment in milliseconds.
 #[derive(Drop)]
@@ -7,6 +9,16 @@ pub struct Packet {
     pub set: u32,
     pub key: Key,
     pub now: u64,
+}
+
+impl Duplicate for Packet {
+    fn copy(&self, alloc: Global) -> Result<Self, Memory> {
+        Ok(Packet {
+            set: self.set,
+            key: self.key.copy(alloc)?,
+            now: self.now,
+        })
+    }
 }
 
 /// The packets of a section.

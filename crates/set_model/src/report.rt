@@ -1,5 +1,7 @@
-use crate::listed::Listed;
+use crate::listed::{Duplicate, Listed};
+use crate::memory::Memory;
 use crate::packet::Verdict;
+use std::alloc::Global;
 
 /// Why a change was refused.
 #[derive(Clone, Copy, Debug, PartialEq, Eq)]
@@ -34,6 +36,18 @@ pub struct Line {
     pub thread: u32,
     pub generation: u64,
     pub verdict: Verdict,
+}
+
+impl Duplicate for Event {
+    fn copy(&self, _: Global) -> Result<Self, Memory> {
+        Ok(*self)
+    }
+}
+
+impl Duplicate for Line {
+    fn copy(&self, _: Global) -> Result<Self, Memory> {
+        Ok(*self)
+    }
 }
 
 /// Events in their order.

@@ -1,6 +1,8 @@
 use crate::element::{Comment, Parts};
 use crate::kind::Kinds;
-use crate::listed::Listed;
+use crate::listed::{Duplicate, Listed};
+use crate::memory::Memory;
+use std::alloc::Global;
 
 /// The bytes of a table's or set's name.
 pub type Name = Listed<u8>;
@@ -35,6 +37,22 @@ pub struct SetDecl {
     pub size: Option<u32>,
 }
 
+impl Duplicate for SetDecl {
+    fn copy(&self, alloc: Global) -> Result<Self, Memory> {
+        Ok(SetDecl {
+            family: self.family,
+            table: self.table.copy(alloc)?,
+            name: self.name.copy(alloc)?,
+            kinds: self.kinds.copy(alloc)?,
+            interval: self.interval,
+            timed: self.timed,
+            disjoint: self.disjoint,
+            timeout: self.timeout,
+            size: self.size,
+        })
+    }
+}
+
 /// The four ways to change an element.
 #[derive(Clone, Copy, Debug, PartialEq, Eq)]
 pub enum Verb {
@@ -66,6 +84,37 @@ pub enum Step {
         now: u64,
     },
     Abort,
+}
+
+impl Duplicate for Step {
+    fn copy(&self, alloc: Global) -> Result<Self, Memory> {
+        Ok(match self {
+            Step::Change {
+                line,
+                set,
+                verb,
+                parts,
+                expiry,
+                comment,
+                now,
+            } => Step::Change {
+                line: *line,
+                set: *set,
+                verb: *verb,
+                parts: parts.copy(alloc)?,
+                expiry: *expiry,
+                comment: comment.copy(alloc)?,
+                now: *now,
+            },
+            Step::Flush { line, set, now } => Step::Flush {
+                line: *line,
+                set: *set,
+                now: *now,
+            },
+            Step::Commit { now } => Step::Commit { now: *now },
+            Step::Abort => Step::Abort,
+        })
+    }
 }
 
 /// The sets that a script declares, in order.

@@ -1,7 +1,7 @@
 -- A text that is appended step by step: what stands so far, and what is left of it.
 use Rattle.std.proofs.Common.{◌≡◌, refl, sym, ◌∙◌, ap, subst, ℕ, suc, ◌+◌, ◌-◌, ◌<◌, ◌≤◌, List, [], ◌++◌, flat_map, append_assoc, append-nil, arith}
 use Rattle.std.specs.List.{range_with_len}
-use Rattle.set_report.specs.Writes.{AppendsPart}
+use Rattle.text_pieces.specs.Appends.{AppendsPart}
 
 -- All of a text but what is left was appended.
 pub record Leaves (old new text left : List ℕ) : Type 0 where

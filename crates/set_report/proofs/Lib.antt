@@ -1,7 +1,5 @@
-mod PartLaws
 mod LineLaws
 mod Listings
-mod TwoParts
 mod DumpWorked
 mod ListLaws
 mod Leaves

@@ -18,8 +18,8 @@ use Rattle.set_model.specs.Key.{is_good, parts_fit}
 use Rattle.set_model.specs.SetState.{State, empty_set}
 use Rattle.set_report.specs.Kept.{Keeps}
 use Rattle.set_report.specs.ListText.{element_text, elements_line, same_table, sets_beside, first_sets}
-use Rattle.set_report.specs.Writes.{AppendsPart}
-use Rattle.set_report.proofs.PartLaws.{none_part}
+use Rattle.text_pieces.specs.Appends.{AppendsPart}
+use Rattle.text_pieces.proofs.PartLaws.{none_part}
 
 -- What is kept.
 pub keeps_same : (old new : List ℕ) → new ≡ old → Keeps old new

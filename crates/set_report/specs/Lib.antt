@@ -1,5 +1,4 @@
 pub mod Writes
-pub mod Pieces
 pub mod Remarks
 pub mod KindText
 pub mod ListText

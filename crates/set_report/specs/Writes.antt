@@ -1,16 +1,9 @@
--- What a writer of text leaves, and what it asks of events.
-use Rattle.std.specs.Prelude.{◌≡◌, ◌<◌, ℕ, List, ◌++◌, length, slice_get, Some}
+-- What a writer of text asks of events and of sets.
+use Rattle.std.specs.Prelude.{◌≡◌, ◌<◌, ℕ, List, length, slice_get, Some}
 use Rattle.set_model.specs.declared.script.SetDecl.{SetDecl}
 use Rattle.set_model.specs.declared.report.Event.{Event}
 use Rattle.set_model.specs.declared.report.Event.TheVariants.{Refused, Committed, Aborted, Dropped}
 use Rattle.set_model.specs.SetState.{State}
-
--- Of a text a part from its front was appended, and no more.
-pub record AppendsPart (old new text : List ℕ) : Type 0 where
-  pub part : List ℕ
-  pub rest : List ℕ
-  pub appended : new ≡ old ++ part
-  pub front : text ≡ part ++ rest
 
 -- An event names one of so many sets, where it names a set.
 abbrev pub NamesSet : ℕ → Event → Type 0

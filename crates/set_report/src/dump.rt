@@ -5,7 +5,8 @@ ghost use Rattle.set_model.specs.declared.element.Element.{Element};
 ghost use Rattle.pipapo_image.specs.Index.{IsIndexOf};
 ghost use Rattle.set_report.specs.DumpText.{span_text, end_text, heading_text, ways_text, field_text, tables_text, dump_text};
 ghost use Rattle.set_report.specs.DumpBuckets.{all_buckets_text};
-ghost use Rattle.set_report.specs.Writes.{AppendsPart, AreSetsOf};
+ghost use Rattle.set_report.specs.Writes.{AreSetsOf};
+ghost use Rattle.text_pieces.specs.Appends.{AppendsPart};
 
 mod bitmap;
 mod buckets;
@@ -13,8 +14,6 @@ mod buckets;
 mod tests;
 
 use crate::kinds::kind_word;
-use crate::piece::Piece::{Number, Set, Word};
-use crate::piece::append_pieces;
 use buckets::write_buckets;
 use lookup_table::FieldTable;
 use mapping_table::{EndTable, MapTable};
@@ -22,6 +21,8 @@ use pipapo_image::{Index, SetImage};
 use set_model::{Kind, Memory, Schema, SetDecl};
 use set_space::Generation;
 use set_tables::{End, Span};
+use text_pieces::Piece::{Number, Set, Word};
+use text_pieces::append_pieces;
 
 /// Appends the first line of field `f`.
 fn write_heading(f: u64, kind: Kind, table: &FieldTable, out: &mut Vec<u8>) -> Result<(), Memory>
@@ -67,7 +68,7 @@ fn write_end(end: &End, out: &mut Vec<u8>) -> Result<(), Memory>
     append_pieces(&[Word(b"end "), Number(end.place), Word(b"\n")], out)
 }
 
-#[tactic(auto, using(crate::proofs::PartLaws::item_part))]
+#[tactic(auto, using(text_pieces::proofs::PartLaws::item_part))]
 fn write_spans(map: &MapTable, out: &mut Vec<u8>) -> Result<(), Memory>
     ensures ok { OnOk result (out.new.items ≡ out.old.items ++ flat_map span_text map.now.items) }
     ensures err { OnErr result (AppendsPart out.old.items out.new.items (flat_map span_text map.now.items)) }
@@ -78,7 +79,7 @@ fn write_spans(map: &MapTable, out: &mut Vec<u8>) -> Result<(), Memory>
     Ok(())
 }
 
-#[tactic(auto, using(crate::proofs::PartLaws::item_part))]
+#[tactic(auto, using(text_pieces::proofs::PartLaws::item_part))]
 fn write_ends(ends: &EndTable, out: &mut Vec<u8>) -> Result<(), Memory>
     ensures ok { OnOk result (out.new.items ≡ out.old.items ++ flat_map end_text ends.now.items) }
     ensures err { OnErr result (AppendsPart out.old.items out.new.items (flat_map end_text ends.now.items)) }
@@ -104,7 +105,7 @@ fn write_ways(index: &Index, f: u64, out: &mut Vec<u8>) -> Result<(), Memory>
 }
 
 /// Appends a field's table: its first line, and the lines of its buckets.
-#[tactic(auto, using(crate::proofs::TwoParts::two_parts))]
+#[tactic(auto, using(text_pieces::proofs::TwoParts::two_parts))]
 fn write_table(f: u64, kind: Kind, table: &FieldTable, out: &mut Vec<u8>) -> Result<(), Memory>
     ensures ok { OnOk result (out.new.items ≡ out.old.items ++ (heading_text f kind table.now.width table.now.rules ++ all_buckets_text table.now)) }
     ensures err { OnErr result (AppendsPart out.old.items out.new.items (heading_text f kind table.now.width table.now.rules ++ all_buckets_text table.now)) }

@@ -1,11 +1,13 @@
 ghost use Rattle.std.specs.Prelude.{◌≡◌, ◌++◌, ◌<◌, All, length, OnOk, OnErr};
-ghost use Rattle.set_model.specs.Text.{event_text, events_text};
+ghost use Rattle.set_model.specs.Text.{event_text};
 ghost use Rattle.set_model.specs.declared.report.Event.TheVariants.{Refused};
-ghost use Rattle.set_report.specs.Writes.{AppendsPart, NamesSet};
+ghost use Rattle.set_report.specs.Remarks.{told_text};
+ghost use Rattle.set_report.specs.Writes.{NamesSet};
+ghost use Rattle.text_pieces.specs.Appends.{AppendsPart};
 
-use crate::piece::Piece::{Number, Set, Word};
-use crate::piece::append_pieces;
 use set_model::{Event, Events, Memory, Schema, SetDecl, Why};
+use text_pieces::Piece::{Number, Set, Word};
+use text_pieces::{append, append_pieces};
 
 /// Appends the line of a refused change.
 fn write_refusal(
@@ -82,7 +84,7 @@ fn write_refusal(
 }
 
 /// Appends the line of an event.
-pub(crate) fn write_event(schema: &Schema, event: &Event, out: &mut Vec<u8>) -> Result<(), Memory>
+fn write_event(schema: &Schema, event: &Event, out: &mut Vec<u8>) -> Result<(), Memory>
     requires { NamesSet (length schema.now) event.now }
     ensures ok { OnOk result (out.new.items ≡ out.old.items ++ event_text schema.now event.now) }
     ensures err { OnErr result (AppendsPart out.old.items out.new.items (event_text schema.now event.now)) }
@@ -110,18 +112,40 @@ pub(crate) fn write_event(schema: &Schema, event: &Event, out: &mut Vec<u8>) -> 
     }
 }
 
-/// Appends the lines of events, in their order, as `commit generation 1 purged 0`.
+/// Appends the line of an event behind a prefix.
+#[tactic(auto, using(text_pieces::proofs::TwoParts::two_parts))]
+fn write_behind(
+    schema: &Schema,
+    event: &Event,
+    prefix: &[u8],
+    out: &mut Vec<u8>,
+) -> Result<(), Memory>
+    requires { NamesSet (length schema.now) event.now }
+    ensures ok { OnOk result (out.new.items ≡ out.old.items ++ (prefix.now ++ event_text schema.now event.now)) }
+    ensures err { OnErr result (AppendsPart out.old.items out.new.items (prefix.now ++ event_text schema.now event.now)) }
+{
+    append(prefix, out)?;
+    write_event(schema, event, out)
+}
+
+/// Appends the lines of events, in their order, as `commit generation 1 purged 0`, each behind a prefix.
 ///
 /// # Errors
 ///
 /// `Memory` where there is none; a part of the text from its front is then appended.
-pub fn write_events(schema: &Schema, events: &Events, out: &mut Vec<u8>) -> Result<(), Memory>
+#[tactic(auto, using(text_pieces::proofs::PartLaws::item_part))]
+pub fn write_events(
+    schema: &Schema,
+    events: &Events,
+    prefix: &[u8],
+    out: &mut Vec<u8>,
+) -> Result<(), Memory>
     requires { All (NamesSet (length schema.now)) events.now }
-    ensures ok { OnOk result (out.new.items ≡ out.old.items ++ events_text schema.now events.now) }
-    ensures err { OnErr result (AppendsPart out.old.items out.new.items (events_text schema.now events.now)) }
+    ensures ok { OnOk result (out.new.items ≡ out.old.items ++ told_text prefix.now schema.now events.now) }
+    ensures err { OnErr result (AppendsPart out.old.items out.new.items (told_text prefix.now schema.now events.now)) }
 {
     for event in events.as_slice() {
-        write_event(schema, event, out)?;
+        write_behind(schema, event, prefix, out)?;
     }
     Ok(())
 }

@@ -7,7 +7,6 @@ mod events;
 mod kinds;
 mod lines;
 mod list;
-mod piece;
 mod remarks;
 mod summary;
 

@@ -1,11 +1,11 @@
 ghost use Rattle.std.specs.Prelude.{◌≡◌, ◌++◌, OnOk, OnErr};
 ghost use Rattle.set_model.specs.Text.{packet_text, lines_text};
 ghost use Rattle.set_report.specs.PacketLine.{TellsParts};
-ghost use Rattle.set_report.specs.Writes.{AppendsPart};
+ghost use Rattle.text_pieces.specs.Appends.{AppendsPart};
 
-use crate::piece::Piece::{Number, Word};
-use crate::piece::append_pieces;
 use set_model::{Line, Lines, Memory, Verdict};
+use text_pieces::Piece::{Number, Word};
+use text_pieces::append_pieces;
 
 /// Appends the line of a packet.
 fn write_line(line: &Line, out: &mut Vec<u8>) -> Result<(), Memory>

@@ -5,19 +5,20 @@ ghost use Rattle.addr_text.specs.Written.{interval_text};
 ghost use Rattle.set_report.specs.Kept.{Keeps};
 ghost use Rattle.set_report.specs.KindText.{kind_text};
 ghost use Rattle.set_report.specs.ListText.{parts_text, expiry_text, comment_text, element_text, type_line, size_line, flag_words, flags_line, timeout_line, elements_line, items_text, set_block, same_table, sets_beside, table_block, first_sets, list_text};
-ghost use Rattle.set_report.specs.Pieces.{piece_text};
-ghost use Rattle.set_report.specs.Writes.{AppendsPart, AreSetsOf};
+ghost use Rattle.text_pieces.specs.Pieces.{piece_text};
+ghost use Rattle.set_report.specs.Writes.{AreSetsOf};
+ghost use Rattle.text_pieces.specs.Appends.{AppendsPart};
 
 #[cfg(test)]
 mod tests;
 
 use crate::kinds::kind_word;
-use crate::piece::Piece::{Number, Time, Word};
-use crate::piece::{Piece, append_pieces, family_word};
 use addr_text::write_interval;
 use pipapo_image::SetImage;
 use set_model::{Element, Interval, Kind, Memory, Schema, SetDecl};
 use set_space::Generation;
+use text_pieces::Piece::{Number, Time, Word};
+use text_pieces::{Piece, append_pieces, family_word};
 
 /// Appends pieces. After `Memory` the old bytes stand in front, as behind each writer of this file.
 fn write(pieces: &[Piece], out: &mut Vec<u8>) -> Result<(), Memory>

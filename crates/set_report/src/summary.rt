@@ -2,12 +2,12 @@ ghost use Rattle.std.specs.Prelude.{◌≡◌, ◌++◌, count_by, OnOk, OnErr};
 ghost use Rattle.std.specs.List.{sum_by};
 ghost use Rattle.set_model.specs.Control.{is_refusal as refuses};
 ghost use Rattle.set_report.specs.SummaryText.{element_count, is_match as matches_one, id_given as id_of, summary_text};
-ghost use Rattle.set_report.specs.Writes.{AppendsPart};
+ghost use Rattle.text_pieces.specs.Appends.{AppendsPart};
 
-use crate::piece::Piece::{Number, Sum, Word};
-use crate::piece::append_pieces;
 use set_model::{Event, Events, Line, Lines, Memory, Verdict};
 use set_space::{Generation, Sets};
+use text_pieces::Piece::{Number, Sum, Word};
+use text_pieces::append_pieces;
 
 /// How many elements the sets have, all together.
 fn count_elements(sets: &Sets) -> u128

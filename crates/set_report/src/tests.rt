@@ -33,7 +33,7 @@ fn tell(alloc: Global, schema: &Schema, event: Event, out: &mut Vec<u8>) -> Resu
     requires { NamesSet (length schema.now) event }
 {
     let events = Events::from_vec(vec![in alloc; event]?);
-    write_events(schema, &events, out)
+    write_events(schema, &events, b"", out)
 }
 
 #[test]

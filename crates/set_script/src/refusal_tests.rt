@@ -460,6 +460,31 @@ fn comments_have_128_bytes(rt: HostRuntime) -> Result<(), Fail> {
 }
 
 #[test]
+fn names_have_127_bytes(rt: HostRuntime) -> Result<(), Fail> {
+    let alloc = rt.alloc();
+    let refused = Some((1, Reason::Set));
+    for (first, behind, expected) in [
+        (b'_', 0, None),
+        (b'_', 1, None),
+        (b'a', 125, None),
+        (b'a', 126, None),
+        (b'a', 127, refused),
+        (b'_', 127, refused),
+        (b'-', 1, refused),
+        (b'1', 1, refused),
+    ] {
+        let mut text = Vec::from_slice(alloc, b"add set t ")?;
+        text.push(first)?;
+        for _ in 0..behind {
+            text.push(b'a')?;
+        }
+        text.extend_from_slice(b" { type mark }")?;
+        assert_eq!(rt; refusal(alloc, text.as_slice()), expected);
+    }
+    Ok(())
+}
+
+#[test]
 fn a_script_declares_64_sets(rt: HostRuntime) -> Result<(), Fail> {
     let alloc = rt.alloc();
     let mut text = Vec::new(alloc);

@@ -34,23 +34,22 @@ module _ {D : Type 0} (stage ticket : D → ℕ) where
     seen_as : (j : ℕ) (e : D) → get_elem? (set views id w) j ≡ some e → ((j ≡ id) × (w ≡ e)) ⊎ ((j ≢ id) × (get_elem? views j ≡ some e))
     seen_as j e h = at_set views id j w e h
 
-    -- The seat stays at its stage, with its ticket.
-    pub stays : stage w ≡ stage d → ticket w ≡ ticket d → InLine stage ticket words (set views id w) line
-    stays same_stage same_ticket = let c = sum_by-view_set weight views id d w at in let t = ap tickets_at same_stage in let count = k.count in record {
+    -- A seat without a ticket has another view without one.
+    pub rests : stage d < 2 → stage w < 2 → InLine stage ticket words (set views id w) line
+    rests low low_then = let c = sum_by-view_set weight views id d w at in let t : weight d ≡ 0 = none_at (stage d) low in let u : weight w ≡ 0 = none_at (stage w) low_then in let count = k.count in record {
       wide = k.wide;
       small = k.small;
       next = k.next;
-      count = omega (arith, c, t, count);
+      count = omega (arith, c, t, u, count);
       each = λ p j h. let old = k.each p j h in dite (ℕ_discrete j id)
-          (λ here. let one : old.0 ≡ d = one_view views id old.0 d (sym (ap (get_elem? views) here) ∙ old.1) at in let high = old.2 in let s = ap stage one in
-          (w, ap (get_elem? (set views id w)) here ∙ set_here views id w there, omega (arith, high, s, same_stage), same_ticket ∙ ap ticket (sym one) ∙ old.3))
+          (λ here. let one : old.0 ≡ d = one_view views id old.0 d (sym (ap (get_elem? views) here) ∙ old.1) at in let high = old.2 in let s = ap stage one in absurd (omega (arith, high, s, low)))
           (λ other. (old.0, set_else views id j w other ∙ old.1, old.2, old.3));
       waits = λ j e h l. ⊎_elim
-          (λ (t : (j ≡ id) × (w ≡ e)). let s = ap stage t.1 in let got = k.waits id d at (omega (arith, l, s, same_stage)) in (got.0, got.1 ∙ ap some (sym t.0)))
+          (λ (t : (j ≡ id) × (w ≡ e)). let s = ap stage t.1 in absurd (omega (arith, l, s, low_then)))
           (λ (t : (j ≢ id) × (get_elem? views j ≡ some e)). k.waits j e t.1 l) (seen_as j e h);
       apart = k.apart;
       first = λ p j e h g three. ⊎_elim
-          (λ (t : (j ≡ id) × (w ≡ e)). k.first p id d (h ∙ ap some t.0) at (sym same_stage ∙ ap stage t.1 ∙ three))
+          (λ (t : (j ≡ id) × (w ≡ e)). let s = ap stage t.1 in absurd (omega (arith, three, s, low_then)))
           (λ (t : (j ≢ id) × (get_elem? views j ≡ some e)). k.first p j e h t.1 three) (seen_as j e g);
     }
 

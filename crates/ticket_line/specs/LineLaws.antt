@@ -23,9 +23,9 @@ abbrev pub DoneKeeps : Type 0 → Type 0
 DoneKeeps D = (stage ticket : D → ℕ) (words : List ℕ) (views : List D) (line : List ℕ) (id : ℕ) (d w : D) (next : ℕ) → get_elem? views id ≡ some d → InLine stage ticket words views line → stage d ≡ 3 → stage w < 2 → next ≡ (slice_index words 1 + 1) % 18446744073709551616
     → InLine stage ticket (slice_set words 1 next) (slice_set views id w) (behind_first line)
 
--- A seat's view is changed in what isn't its stage or ticket.
-abbrev pub ViewKeeps : Type 0 → Type 0
-ViewKeeps D = (stage ticket : D → ℕ) (words : List ℕ) (views : List D) (line : List ℕ) → InLine stage ticket words views line → (id : ℕ) (d w : D) → get_elem? views id ≡ some d → stage w ≡ stage d → ticket w ≡ ticket d → InLine stage ticket words (slice_set views id w) line
+-- A seat without a ticket has another view without one.
+abbrev pub RestKeeps : Type 0 → Type 0
+RestKeeps D = (stage ticket : D → ℕ) (words : List ℕ) (views : List D) (line : List ℕ) → InLine stage ticket words views line → (id : ℕ) (d w : D) → get_elem? views id ≡ some d → stage d < 2 → stage w < 2 → InLine stage ticket words (slice_set views id w) line
 
 -- A seat more has no ticket.
 abbrev pub SeatKeeps : Type 0 → Type 0

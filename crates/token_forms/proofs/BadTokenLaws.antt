@@ -1,11 +1,11 @@
 -- A place in a text's tokens, by the number of tokens before it.
-use Rattle.std.proofs.Common.{◌≡◌, refl, sym, ◌∙◌, ap, subst, ℕ, zero, suc, ◌+◌, ◌≤◌, List, [], ◌∷◌, ◌++◌, length, Option, Some, None, IsNone, IfSome, arith, append-nil, append_assoc, length-append}
+use Rattle.std.proofs.Common.{◌≡◌, refl, sym, ◌∙◌, ap, subst, ℕ, ◌+◌, ◌≤◌, List, [], ◌∷◌, ◌++◌, length, Option, Some, None, IsNone, IfSome, arith, append_assoc, length-append}
 use Rattle.token_forms.specs.Token.{Lexeme}
 use Rattle.token_forms.specs.View.{lexeme_of}
-use Rattle.token_forms.specs.TextTokens.{text_tokens}
+use Rattle.token_forms.specs.TextTokens.{text_tokens, plain_tokens}
 use Rattle.token_forms.specs.Form.{Form}
 use Rattle.token_forms.specs.Faults.{IsFault}
-use Rattle.token_forms.specs.BadTokens.{IsSeen, IsBadTokenOf, bad_token_of}
+use Rattle.token_forms.specs.BadTokens.{IsSeen, IsBadTokenAmong, IsBadTokenOf, IsPlainBadTokenOf, bad_token_of}
 use Rattle.token_forms.specs.declared.bad_token.BadToken.{BadToken}
 use Rattle.token_forms.specs.declared.seen.Seen.{Seen}
 use Rattle.token_forms.specs.declared.token.Reason.{Reason}
@@ -63,10 +63,18 @@ split_at ts line reason left k = k.0.split ∙ ap (λ z. k.0.before ++ k.0.bad �
 pub left_within : {A : Type 0} {f : Form A} (ts : List Lexeme) (line : ℕ) (reason : Reason) (left : List Lexeme) → IsRefusedAt f ts line reason left → length left ≤ length ts
 left_within ts line reason left k = omega (arith, ap length (split_at ts line reason left k), length-append k.0.before (k.0.bad ∷ left))
 
-pub bad_token_is : {A : Type 0} {f : Form A} (text : List ℕ) (line : ℕ) (reason : Reason) (left : List Lexeme) (found : Option BadToken) → IsRefusedAt f (text_tokens text) line reason left
-    → ((before : List Lexeme) (t : Lexeme) → text_tokens text ≡ before ++ t ∷ left → found ≡ Some (bad_token_of text t reason)) → IsBadTokenOf f text found
-bad_token_is {A} {f} text line reason left found k h =
-    subst (IsBadTokenOf f text) (sym (h k.0.before k.0.bad (split_at (text_tokens text) line reason left k))) (record {
+bad_token_among : {A : Type 0} {f : Form A} (ts : List Lexeme) (text : List ℕ) (line : ℕ) (reason : Reason) (left : List Lexeme) (found : Option BadToken) → IsRefusedAt f ts line reason left
+    → ((before : List Lexeme) (t : Lexeme) → ts ≡ before ++ t ∷ left → found ≡ Some (bad_token_of text t reason)) → IsBadTokenAmong f ts text found
+bad_token_among {A} {f} ts text line reason left found k h =
+    subst (IsBadTokenAmong f ts text) (sym (h k.0.before k.0.bad (split_at ts line reason left k))) (record {
       fault = record { outside = k.0.outside; before = k.0.before; bad = k.0.bad; behind = k.0.behind; split = k.0.split; is_bad = k.0.is_bad; in_line = refl; is_reason = k.0.is_reason };
       placed = refl;
     })
+
+pub bad_token_is : {A : Type 0} {f : Form A} (text : List ℕ) (line : ℕ) (reason : Reason) (left : List Lexeme) (found : Option BadToken) → IsRefusedAt f (text_tokens text) line reason left
+    → ((before : List Lexeme) (t : Lexeme) → text_tokens text ≡ before ++ t ∷ left → found ≡ Some (bad_token_of text t reason)) → IsBadTokenOf f text found
+bad_token_is text line reason left found k h = bad_token_among (text_tokens text) text line reason left found k h
+
+pub plain_bad_token_is : {A : Type 0} {f : Form A} (text : List ℕ) (line : ℕ) (reason : Reason) (left : List Lexeme) (found : Option BadToken) → IsRefusedAt f (plain_tokens text) line reason left
+    → ((before : List Lexeme) (t : Lexeme) → plain_tokens text ≡ before ++ t ∷ left → found ≡ Some (bad_token_of text t reason)) → IsPlainBadTokenOf f text found
+plain_bad_token_is text line reason left found k h = bad_token_among (plain_tokens text) text line reason left found k h

@@ -8,7 +8,7 @@ use Rattle.token_forms.specs.declared.piece.Piece.{Piece}
 use Rattle.token_forms.specs.Token.{Spelling, is_end}
 use Rattle.token_forms.specs.Bytes.{is_blank, is_mark_byte, is_word_byte, is_line_feed}
 use Rattle.token_forms.specs.Tokens.{tokens_from, piece, gap, token, joined_lines, string_piece, line_behind}
-use Rattle.token_forms.specs.TextTokens.{is_change_word, linked, text_tokens}
+use Rattle.token_forms.specs.TextTokens.{is_change_word, linked, text_tokens, plain_tokens, tokens_by}
 use Rattle.token_forms.proofs.WholeLaws.{Ends}
 
 -- a piece that isn't the end
@@ -71,17 +71,23 @@ tokens_end zero line place (b ∷ bytes) =
     ends_cons (piece b bytes).kind line place (take (piece b bytes).size (b ∷ bytes)) (tokens_from ((piece b bytes).size - 1) (line_behind b line) (place + 1) bytes) ((piece_good b bytes).no_end)
     (tokens_end ((piece b bytes).size - 1) (line_behind b line) (place + 1) bytes)
 
-linked_end : (behind : Bool) (others : List Spelling) (last : Spelling) → is_end last.kind ≡ true → NoEndSpelled others → Ends (linked behind (others ++ last ∷ []))
-linked_end behind [] last h k = record { others = []; last = record { kind = last.kind; line = last.line; from = last.from; bytes = last.bytes; behind = behind }; split = refl; is_end = h; inner = tt }
-linked_end behind (t ∷ others) last h k =
-    let e = linked_end (is_change_word t.kind t.bytes) others last h k.1 in
+linked_end : (plain behind : Bool) (others : List Spelling) (last : Spelling) → is_end last.kind ≡ true → NoEndSpelled others → Ends (linked plain behind (others ++ last ∷ []))
+linked_end plain behind [] last h k = record { others = []; last = record { kind = last.kind; line = last.line; from = last.from; bytes = last.bytes; behind = behind; plain = plain }; split = refl; is_end = h; inner = tt }
+linked_end plain behind (t ∷ others) last h k =
+    let e = linked_end plain (is_change_word t.kind t.bytes) others last h k.1 in
     record {
-      others = record { kind = t.kind; line = t.line; from = t.from; bytes = t.bytes; behind = behind } ∷ e.others;
+      others = record { kind = t.kind; line = t.line; from = t.from; bytes = t.bytes; behind = behind; plain = plain } ∷ e.others;
       last = e.last;
-      split = ap (λ z. record { kind = t.kind; line = t.line; from = t.from; bytes = t.bytes; behind = behind } ∷ z) e.split;
+      split = ap (λ z. record { kind = t.kind; line = t.line; from = t.from; bytes = t.bytes; behind = behind; plain = plain } ∷ z) e.split;
       is_end = e.is_end;
       inner = (k.0, e.inner);
     }
 
+pub tokens_ends : (plain : Bool) (text : List ℕ) → Ends (tokens_by plain text)
+tokens_ends plain text = let e = tokens_end 0 1 0 text in subst (λ z. Ends (linked plain false z)) (sym e.split) (linked_end plain false e.others e.last e.is_end e.inner)
+
 pub text_ends : (text : List ℕ) → Ends (text_tokens text)
-text_ends text = let e = tokens_end 0 1 0 text in subst (λ z. Ends (linked false z)) (sym e.split) (linked_end false e.others e.last e.is_end e.inner)
+text_ends text = tokens_ends false text
+
+pub plain_ends : (text : List ℕ) → Ends (plain_tokens text)
+plain_ends text = tokens_ends true text

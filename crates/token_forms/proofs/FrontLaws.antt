@@ -7,7 +7,7 @@ use Rattle.token_forms.specs.Words.{skip, line, lines}
 use Rattle.token_forms.specs.Faults.{IsBad, IsReason, IsFault, rank}
 use Rattle.token_forms.specs.Fronts.{IsRefusedOnce}
 use Rattle.token_forms.specs.TextTokens.{text_tokens}
-use Rattle.token_forms.specs.BadTokens.{HasOneBadToken, bad_token_of}
+use Rattle.token_forms.specs.BadTokens.{HasOneBadToken, HasOneBadTokenAmong, bad_token_of}
 use Rattle.token_forms.proofs.ReasonLaws.{of_rank, rank_back}
 
 pub record Closed {A : Type 0} (f : Form A) : Type 0 where
@@ -154,8 +154,11 @@ refused_once {A} {f} k ts line other reason why i j = go (places i.before i.bad 
   go (inr (inl b)) = absurd (not_past k i.before j.before i.bad i.is_bad j.is_bad.front b)
   go (inr (inr b)) = absurd (not_past k j.before i.before j.bad j.is_bad i.is_bad.front b)
 
-pub bad_token_once : {A : Type 0} {f : Form A} → Closed f → (text : List ℕ) → HasOneBadToken f text
-bad_token_once {A} {f} k text b other i j =
-    let token : i.fault.bad ≡ j.fault.bad = one_token k (text_tokens text) b.line other.line b.reason other.reason i.fault j.fault in
-    let reason : b.reason ≡ other.reason = (refused_once k (text_tokens text) b.line other.line b.reason other.reason i.fault j.fault).1 in
+pub bad_token_one : {A : Type 0} {f : Form A} → Closed f → (ts : List Lexeme) (text : List ℕ) → HasOneBadTokenAmong f ts text
+bad_token_one {A} {f} k ts text b other i j =
+    let token : i.fault.bad ≡ j.fault.bad = one_token k ts b.line other.line b.reason other.reason i.fault j.fault in
+    let reason : b.reason ≡ other.reason = (refused_once k ts b.line other.line b.reason other.reason i.fault j.fault).1 in
     i.placed ∙ ap (λ t. bad_token_of text t b.reason) token ∙ ap (bad_token_of text j.fault.bad) reason ∙ sym j.placed
+
+pub bad_token_once : {A : Type 0} {f : Form A} → Closed f → (text : List ℕ) → HasOneBadToken f text
+bad_token_once k text = bad_token_one k (text_tokens text) text

@@ -7,7 +7,7 @@ use Rattle.token_forms.specs.declared.token.Reason.{Reason}
 use Rattle.token_forms.specs.Bytes.{is_line_feed}
 use Rattle.token_forms.specs.Token.{Lexeme}
 use Rattle.token_forms.specs.View.{lexeme_of}
-use Rattle.token_forms.specs.TextTokens.{text_tokens}
+use Rattle.token_forms.specs.TextTokens.{text_tokens, plain_tokens}
 use Rattle.token_forms.specs.Form.{Form}
 use Rattle.token_forms.specs.Faults.{IsFault}
 
@@ -19,19 +19,29 @@ column_at text at = 1 + prefix_len (λ b. not (is_line_feed b)) (reverse (take a
 abbrev pub bad_token_of : List ℕ → Lexeme → Reason → BadToken
 bad_token_of text t reason = record { at = t.from; length = length t.bytes; line = t.line; column = column_at text t.from; reason = reason }
 
--- The text isn't in the form, and this is its bad token: the tokens before it are a front, and with it they are none.
-pub record IsBadToken {A : Type 0} (f : Form A) (text : List ℕ) (b : BadToken) : Type 0 where
-  pub fault : IsFault f (text_tokens text) b.line b.reason
+-- The text, which has these tokens, isn't in the form, and this is its bad token: those before it are a front, and with it they are none.
+pub record IsBadToken {A : Type 0} (f : Form A) (ts : List Lexeme) (text : List ℕ) (b : BadToken) : Type 0 where
+  pub fault : IsFault f ts b.line b.reason
   pub placed : b ≡ bad_token_of text fault.bad b.reason
 
 -- What is told of a text: its bad token, and none exactly where the text is in the form.
+abbrev pub IsBadTokenAmong : {A : Type 0} → Form A → List Lexeme → List ℕ → Option BadToken → Type 0
+IsBadTokenAmong {A} f ts text None = (a : A) × f.whole ts a
+IsBadTokenAmong f ts text (Some b) = IsBadToken f ts text b
+
+-- the same of a text in nft's language, and of one that leaves out no part of it
 abbrev pub IsBadTokenOf : {A : Type 0} → Form A → List ℕ → Option BadToken → Type 0
-IsBadTokenOf {A} f text None = (a : A) × f.whole (text_tokens text) a
-IsBadTokenOf f text (Some b) = IsBadToken f text b
+IsBadTokenOf f text found = IsBadTokenAmong f (text_tokens text) text found
+
+abbrev pub IsPlainBadTokenOf : {A : Type 0} → Form A → List ℕ → Option BadToken → Type 0
+IsPlainBadTokenOf f text found = IsBadTokenAmong f (plain_tokens text) text found
 
 -- A text has one bad token at most.
+abbrev pub HasOneBadTokenAmong : {A : Type 0} → Form A → List Lexeme → List ℕ → Type 0
+HasOneBadTokenAmong f ts text = (b other : BadToken) → IsBadToken f ts text b → IsBadToken f ts text other → b ≡ other
+
 abbrev pub HasOneBadToken : {A : Type 0} → Form A → List ℕ → Type 0
-HasOneBadToken f text = (b other : BadToken) → IsBadToken f text b → IsBadToken f text other → b ≡ other
+HasOneBadToken f text = HasOneBadTokenAmong f (text_tokens text) text
 
 -- the token of the code that stands for this one
 abbrev pub IsSeen : Lexeme → Option Seen → Type 0

@@ -15,13 +15,15 @@ pub record Spelling : Type 0 where
 abbrev pub token_of : Spelling → Token
 token_of s = record { kind = s.kind; line = s.line; from = s.from; to = s.from + length s.bytes }
 
--- A token as the forms see it. `behind`: the token before it is one of the words `delete`, `destroy`, `create`.
+-- A token as the forms see it. `behind`: the token before it is one of the words `delete`, `destroy`, `create`. `plain`: its text leaves out no part of
+-- nft's language, so that no word in it is told apart for that.
 pub record Lexeme : Type 0 where
   pub kind : TokenKind
   pub line : ℕ
   pub from : ℕ
   pub bytes : List ℕ
   pub behind : Bool
+  pub plain : Bool
 
 abbrev pub is_word : TokenKind → Bool
 is_word kinds.Word = true

@@ -8,7 +8,7 @@ abbrev pub spelling_of : Spelled → Spelling
 spelling_of t = record { kind = t.kind; line = t.line; from = t.from; bytes = t.bytes.now }
 
 abbrev pub lexeme_of : Seen → Lexeme
-lexeme_of t = record { kind = t.kind; line = t.line; from = t.from; bytes = t.bytes.now; behind = t.behind }
+lexeme_of t = record { kind = t.kind; line = t.line; from = t.from; bytes = t.bytes.now; behind = t.behind; plain = t.plain }
 
 -- a token that was read ahead, and those behind it
 abbrev pub with_head : Option Spelled → List Spelling → List Spelling

@@ -1,5 +1,5 @@
 -- Forms of one token, and of tokens that are passed over.
-use Rattle.std.specs.Prelude.{◌≡◌, ℕ, List, [], ◌∷◌, length, take, drop, ◌-◌, Bool, true, false, ◌&&◌, ◌||◌, nat_le, Option, Some, None, bytes_eq, cond}
+use Rattle.std.specs.Prelude.{◌≡◌, ℕ, List, [], ◌∷◌, length, take, drop, ◌-◌, Bool, true, false, ◌&&◌, ◌||◌, nat_le, Option, Some, None, bytes_eq, ◌==◌, cond}
 use Rattle.token_forms.specs.declared.token.TokenKind.TheVariants as kinds
 use Rattle.token_forms.specs.declared.token.Reason.{Reason}
 use Rattle.token_forms.specs.Token.{Lexeme, is_word, is_end, is_break, is_mark, is_text}
@@ -31,16 +31,19 @@ this_word text t = if_true (bytes_eq t.bytes text)
 abbrev pub word : List ℕ → Form (Unit {0})
 word text = word_by [] (this_word text)
 
--- a name has at most 64 bytes and begins with a letter
+-- a name has at most 127 bytes and begins with a letter or `_`
+abbrev pub most_name_bytes : ℕ
+most_name_bytes = 127
+
 abbrev pub is_letter : ℕ → Bool
 is_letter b = (nat_le 65 b && nat_le b 90) || (nat_le 97 b && nat_le b 122)
 
-abbrev pub begins_with_letter : List ℕ → Bool
-begins_with_letter [] = false
-begins_with_letter (b ∷ bytes) = is_letter b
+abbrev pub begins_as_name : List ℕ → Bool
+begins_as_name [] = false
+begins_as_name (b ∷ bytes) = is_letter b || (b == 95)
 
 abbrev pub is_name : List ℕ → Bool
-is_name text = begins_with_letter text && nat_le (length text) 64
+is_name text = begins_as_name text && nat_le (length text) most_name_bytes
 
 abbrev pub name_value : Lexeme → Option (List ℕ)
 name_value t = cond (is_name t.bytes) (Some t.bytes) None

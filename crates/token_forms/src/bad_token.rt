@@ -2,7 +2,7 @@ ghost use Rattle.std.specs.Prelude.{◌≡◌, ◌∷◌, ◌++◌, ◌+◌, ◌
 ghost use Rattle.std.specs.List.{prefix_len};
 ghost use Rattle.token_forms.specs.Bytes.{is_line_feed};
 ghost use Rattle.token_forms.specs.Token.{Lexeme};
-ghost use Rattle.token_forms.specs.TextTokens.{text_tokens};
+ghost use Rattle.token_forms.specs.TextTokens.{text_tokens, plain_tokens, tokens_by};
 ghost use Rattle.token_forms.specs.BadTokens.{IsSeen, column_at, bad_token_of};
 
 use crate::reader::Reader;
@@ -53,12 +53,12 @@ fn skipped<'a>(ahead: Reader<'a>, left: Reader) -> Reader<'a>
 }
 
 /// The last of the first tokens of a text, where these are as many as a reader has.
-fn last_of<'a>(text: &'a [u8], ahead: Reader) -> Option<Seen<'a>>
-    requires { length ahead ≤ length (text_tokens text.now) }
-    ensures { (before : List Lexeme) (t : Lexeme) (rest : List Lexeme) → text_tokens text.now ≡ before ++ t ∷ rest → length ahead.entry ≡ length before + 1 → IsSeen t result }
+fn last_of<'a>(text: &'a [u8], plain: bool, ahead: Reader) -> Option<Seen<'a>>
+    requires { length ahead ≤ length (tokens_by plain text.now) }
+    ensures { (before : List Lexeme) (t : Lexeme) (rest : List Lexeme) → tokens_by plain text.now ≡ before ++ t ∷ rest → length ahead.entry ≡ length before + 1 → IsSeen t result }
 {
     let mut ahead = ahead;
-    let mut reader = Reader::new(text);
+    let mut reader = Reader::at_first(text, plain);
     let mut last = None;
     'tokens: while let Some(_) = ahead.take() {
         last = reader.take();
@@ -67,19 +67,18 @@ fn last_of<'a>(text: &'a [u8], ahead: Reader) -> Option<Seen<'a>>
 }
 
 /// The token of a text behind which these are left.
-fn token_before<'a>(text: &'a [u8], left: Reader) -> Option<Seen<'a>>
-    requires { length left ≤ length (text_tokens text.now) }
-    ensures { (before : List Lexeme) (t : Lexeme) → text_tokens text.now ≡ before ++ t ∷ left.entry → IsSeen t result }
+fn token_before<'a>(text: &'a [u8], plain: bool, left: Reader) -> Option<Seen<'a>>
+    requires { length left ≤ length (tokens_by plain text.now) }
+    ensures { (before : List Lexeme) (t : Lexeme) → tokens_by plain text.now ≡ before ++ t ∷ left.entry → IsSeen t result }
 {
-    last_of(text, skipped(Reader::new(text), left))
+    last_of(text, plain, skipped(Reader::at_first(text, plain), left))
 }
 
-/// The bad token of a text that is refused for this reason, behind which these tokens are left.
-pub fn bad_token_before(text: &[u8], left: Reader, reason: Reason) -> Option<BadToken>
-    requires { length left ≤ length (text_tokens text.now) }
-    ensures { (before : List Lexeme) (t : Lexeme) → text_tokens text.now ≡ before ++ t ∷ left.entry → result ≡ Some (bad_token_of text.now t reason) }
+fn placed_token(text: &[u8], plain: bool, left: Reader, reason: Reason) -> Option<BadToken>
+    requires { length left ≤ length (tokens_by plain text.now) }
+    ensures { (before : List Lexeme) (t : Lexeme) → tokens_by plain text.now ≡ before ++ t ∷ left.entry → result ≡ Some (bad_token_of text.now t reason) }
 {
-    let token = token_before(text, left)?;
+    let token = token_before(text, plain, left)?;
     Some(BadToken {
         at: token.from,
         length: token.bytes.len() as u64,
@@ -87,4 +86,20 @@ pub fn bad_token_before(text: &[u8], left: Reader, reason: Reason) -> Option<Bad
         column: 1 + last_line(bytes_before(text, token.from)) as u64,
         reason,
     })
+}
+
+/// The bad token of a text in nft's language that is refused for this reason, behind which these tokens are left.
+pub fn bad_token_before(text: &[u8], left: Reader, reason: Reason) -> Option<BadToken>
+    requires { length left ≤ length (text_tokens text.now) }
+    ensures { (before : List Lexeme) (t : Lexeme) → text_tokens text.now ≡ before ++ t ∷ left.entry → result ≡ Some (bad_token_of text.now t reason) }
+{
+    placed_token(text, false, left, reason)
+}
+
+/// The same of a text that leaves out no part of nft's language.
+pub fn plain_bad_token_before(text: &[u8], left: Reader, reason: Reason) -> Option<BadToken>
+    requires { length left ≤ length (plain_tokens text.now) }
+    ensures { (before : List Lexeme) (t : Lexeme) → plain_tokens text.now ≡ before ++ t ∷ left.entry → result ≡ Some (bad_token_of text.now t reason) }
+{
+    placed_token(text, true, left, reason)
 }

@@ -12,7 +12,7 @@ mod seen;
 mod token;
 mod tokens;
 
-pub use bad_token::{BadToken, bad_token_before};
+pub use bad_token::{BadToken, bad_token_before, plain_bad_token_before};
 pub use error::{ReadError, short};
 pub use reader::{Reader, is_a_name};
 pub use seen::Seen;

@@ -1,5 +1,5 @@
 ghost use Rattle.std.specs.Prelude.{◌≡◌, ◌∷◌, [], IsNone, IfSome};
-ghost use Rattle.token_forms.specs.TextTokens.{text_tokens, is_change_word};
+ghost use Rattle.token_forms.specs.TextTokens.{text_tokens, plain_tokens, tokens_by, is_change_word};
 ghost use Rattle.token_forms.specs.View.{lexeme_of};
 ghost use Rattle.token_forms.specs.Words.{inside_quotes, is_name, separates, breaks_off};
 
@@ -18,6 +18,7 @@ pub struct Reader<'a> {
     head: Option<Spelled<'a>>,
     tokens: Lexer<'a>,
     behind: bool,
+    plain: bool,
 }
 
 impl<'a> Model for Reader<'a> {
@@ -28,7 +29,7 @@ impl<'a> Model for Reader<'a> {
 
     ghost Value = { List Lexeme };
 
-    ghost view = { λ a. linked a.behind (with_head a.head a.tokens) };
+    ghost view = { λ a. linked a.plain a.behind (with_head a.head a.tokens) };
 
     ghost invariant = { λ a. IsNone a.head → a.tokens ≡ [] };
 }
@@ -48,9 +49,23 @@ impl<'a> Reader<'a> {
     ghost use Rattle.token_forms.specs.Reading.{Read, begins_with};
     ghost use Rattle.token_forms.specs.WordReading as reading;
 
-    /// At the first token of a text.
+    /// At the first token of a text in nft's language.
     pub fn new(text: &'a [u8]) -> Self
         ensures { result ≡ text_tokens text.now }
+    {
+        Reader::at_first(text, false)
+    }
+
+    /// At the first token of a text that leaves out no part of nft's language: no word in it is told apart for that.
+    pub fn plain(text: &'a [u8]) -> Self
+        ensures { result ≡ plain_tokens text.now }
+    {
+        Reader::at_first(text, true)
+    }
+
+    /// At the first token of a text, which is plain or in nft's language.
+    pub fn at_first(text: &'a [u8], plain: bool) -> Self
+        ensures { result ≡ tokens_by plain text.now }
     {
         let mut tokens = Lexer::new(text);
         let head = tokens.next_token();
@@ -58,6 +73,7 @@ impl<'a> Reader<'a> {
             head,
             tokens,
             behind: false,
+            plain,
         }
     }
 
@@ -73,6 +89,7 @@ impl<'a> Reader<'a> {
                 from: t.from,
                 bytes: t.bytes,
                 behind: self.behind,
+                plain: self.plain,
             }),
         }
     }
@@ -95,6 +112,7 @@ impl<'a> Reader<'a> {
                     from: t.from,
                     bytes: t.bytes,
                     behind,
+                    plain: self.plain,
                 })
             }
         }
@@ -241,7 +259,7 @@ fn inside(text: &[u8]) -> &[u8]
     }
 }
 
-/// Whether a word is a name: 1 to 64 bytes, the first of them a letter.
+/// Whether a word is a name: 1 to 127 bytes, the first of them a letter or `_`.
 pub fn is_a_name(text: &[u8]) -> bool
     ensures { result ≡ is_name text.now }
 {
@@ -249,7 +267,7 @@ pub fn is_a_name(text: &[u8]) -> bool
         [] => false,
         [first, ..] => {
             let letter = (b'A' <= *first && *first <= b'Z') || (b'a' <= *first && *first <= b'z');
-            letter && text.len() <= 64
+            (letter || *first == b'_') && text.len() <= 127
         }
     }
 }

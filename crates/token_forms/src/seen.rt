@@ -21,6 +21,8 @@ pub struct Seen<'a> {
     /// Whether the token before it is the word `delete`, `destroy` or `create`, behind which the words `set` and
     /// `table` belong to a part of nft's language that is left out.
     pub behind: bool,
+    /// Whether its text leaves out no part of nft's language, so that no word in it is told apart for that.
+    pub plain: bool,
 }
 
 impl<'a> Seen<'a> {

@@ -5,12 +5,12 @@ ghost use Rattle.std.specs.Char.{digit_char};
 ghost use Rattle.addr_text.specs.Written.{hex_text};
 ghost use Rattle.bit_rows.specs.Row.{IsSpelling};
 ghost use Rattle.set_report.specs.DumpText.{byte_of, bitmap_text, same_bitmap, is_any_set};
-ghost use Rattle.set_report.specs.Writes.{AppendsPart};
+ghost use Rattle.text_pieces.specs.Appends.{AppendsPart};
 
-use crate::piece::Piece::Word;
-use crate::piece::append_pieces;
 use bit_rows::BitRow;
 use set_model::Memory;
+use text_pieces::Piece::Word;
+use text_pieces::append_pieces;
 
 /// Whether some place of the row is set.
 pub(crate) fn is_any_set(row: &BitRow) -> bool

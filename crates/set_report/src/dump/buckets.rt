@@ -3,17 +3,17 @@ ghost use Rattle.std.specs.Prelude.{◌≡◌, ℕ, ◌+◌, ◌/◌, ◌^◌, �
 ghost use Rattle.set_model.specs.Text.{line_feed};
 ghost use Rattle.set_report.specs.DumpText.{bitmap_text, run_text, runs_from, runs_text};
 ghost use Rattle.set_report.specs.DumpBuckets.{bits_at, bitmaps_at, buckets_text, all_buckets_text};
-ghost use Rattle.set_report.specs.Writes.{AppendsPart};
+ghost use Rattle.text_pieces.specs.Appends.{AppendsPart};
 
 use super::bitmap::{is_any_set, is_same, write_bitmap};
-use crate::piece::Piece::{Number, Word};
-use crate::piece::append_pieces;
 use bit_rows::BitRow;
 use lookup_table::{FieldTable, Rows};
 use set_model::Memory;
+use text_pieces::Piece::{Number, Word};
+use text_pieces::append_pieces;
 
 /// Appends a bitmap and the end of its line.
-#[tactic(auto, using(crate::proofs::TwoParts::two_parts))]
+#[tactic(auto, using(text_pieces::proofs::TwoParts::two_parts))]
 fn write_bitmap_to_end(row: &BitRow, out: &mut Vec<u8>) -> Result<(), Memory>
     ensures ok { OnOk result (out.new.items ≡ out.old.items ++ (bitmap_text row.now.bits ++ line_feed)) }
     ensures err { OnErr result (AppendsPart out.old.items out.new.items (bitmap_text row.now.bits ++ line_feed)) }

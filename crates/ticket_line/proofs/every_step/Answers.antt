@@ -1,4 +1,4 @@
-use Rattle.ticket_line.proofs.Lines.{opens, draws, takes, ends, stays, joins_none}
+use Rattle.ticket_line.proofs.Lines.{opens, draws, takes, ends, rests, joins_none}
 use Rattle.ticket_line.proofs.every_step.Goals as goal
 
 pub returns-clause-opening : goal.returns-clause-opening
@@ -13,8 +13,8 @@ returns-clause-look g c = takes
 pub returns-clause-done : goal.returns-clause-done
 returns-clause-done g c = ends
 
-pub returns-clause-view : goal.returns-clause-view
-returns-clause-view g c = stays
+pub returns-clause-rest : goal.returns-clause-rest
+returns-clause-rest g c = rests
 
 pub returns-clause-seat : goal.returns-clause-seat
 returns-clause-seat g c = joins_none

@@ -1,6 +1,5 @@
 use Rattle.std.specs.String.{string_bytes}
-use Rattle.std.proofs.Common.{◌≡◌, Some, None, ap, sym, ◌∙◌, map, drop, ◌+◌}
-use Rattle.command_words.specs.declared.shape.Shape.{Shape}
+use Rattle.std.proofs.Common.{Some, None, ap, sym, ◌∙◌, map, drop, ◌+◌}
 use Rattle.command_words.specs.WordForms.{with_word}
 use Rattle.command_words.proofs.CommandWords.{goes-on, nothing-fits}
 use Rattle.command_words.proofs.shape.has_shape.Goals as goal

@@ -1,4 +1,4 @@
-use Rattle.std.proofs.Common.{◌≡◌, refl, sym, ◌∙◌, ap, arith, decimal, eq-eqb, true, false, true≢false, Ok, Some}
+use Rattle.std.proofs.Common.{◌≡◌, sym, ◌∙◌, ap, arith, decimal, true≢false}
 use Rattle.std.specs.Prelude.{bytes_eq}
 use Rattle.command_words.proofs.CommandWords.{number-none, number-complete, same-bytes, bytes-same}
 use Rattle.command_words.proofs.shape.number_of.Goals as goal

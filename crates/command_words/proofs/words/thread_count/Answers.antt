@@ -1,5 +1,3 @@
-use Rattle.std.proofs.Common.{◌≡◌, ℕ, List, Option, Some, option_map, subst}
-use Rattle.command_words.specs.Words.{AreThreads}
 use Rattle.command_words.proofs.words.thread_count.Goals as goal
 
 pub written_number-requires : goal.written_number-requires

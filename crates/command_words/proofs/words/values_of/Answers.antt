@@ -10,12 +10,14 @@ pub returns : goal.returns
 returns c =
     let first_is : rule_of c.new-first.result ≡ new_rule (codes "first") = search rules in
     let second_is : rule_of c.new-second.result ≡ new_rule (codes "second") = search rules in
+    let third_is : rule_of c.new-third.result ≡ new_rule (codes "third") = search rules in
     let threads_are : rule_of c.long-threads.result ≡ threads_rule = search rules in
     let keep_is : rule_of c.action-keep_going.result ≡ keep_going_rule = search rules in
     let begun : app_of c.disable_help_flag.result ≡ on_top (λ s. record s { disable_help_flag = true }) (new_app (codes "pipapo")) =
     ap app_of_fields c.disable_help_flag.ensures ∙ ap (on_top (λ s. record s { disable_help_flag = true })) c.new-3.ensures.app in
     let with_first = c.in_ok-arg.ensures.shape (search rules) ∙ ap₂ with_rule begun first_is in
     let with_second = c.in_ok-arg-2.ensures.shape (search rules) ∙ ap₂ with_rule with_first second_is in
-    let with_threads = c.in_ok-arg-3.ensures.shape (search rules) ∙ ap₂ with_rule with_second threads_are in
-    let whole : app_of c.in_ok-arg-4.field-0 ≡ program = c.in_ok-arg-4.ensures.shape (search rules) ∙ ap₂ with_rule with_threads keep_is in
+    let with_third = c.in_ok-arg-3.ensures.shape (search rules) ∙ ap₂ with_rule with_second third_is in
+    let with_threads = c.in_ok-arg-4.ensures.shape (search rules) ∙ ap₂ with_rule with_third threads_are in
+    let whole : app_of c.in_ok-arg-5.field-0 ≡ program = c.in_ok-arg-5.ensures.shape (search rules) ∙ ap₂ with_rule with_threads keep_is in
     IfOk-weaker c.try_get_matches_from.result _ _ (λ m h word names threads goes said plain. gives-values (map string_bytes c.args.words.now) word names threads goes m (subst (λ (a : App). HasMatchesOf a (map string_bytes c.args.words.now) m) whole h) said plain) c.try_get_matches_from.ensures.matches

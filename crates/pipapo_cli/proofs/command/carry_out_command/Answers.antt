@@ -1,16 +1,15 @@
-use Rattle.pipapo_cli.proofs.Deliveries.{ends-map}
-use Rattle.pipapo_cli.proofs.Endings.{due-refusal, due-of-output}
-use Rattle.pipapo_cli.proofs.Completed.{fault-not-done}
+use Rattle.std.proofs.Common.{refl, map}
+use Rattle.std.specs.String.{string_bytes}
+use Rattle.pipapo_cli.proofs.Goings.{goes-usage, goes-early}
 use Rattle.pipapo_cli.proofs.command.carry_out_command.Goals as goal
 
-pub returns-in-Ok-clause-ends : goal.returns-in-Ok-clause-ends
-returns-in-Ok-clause-ends g c = ends-map _ _ _ _ _ _ _ (due-of-output _ _ _ _ _ _ _ c.in-Ok.ensures.output) (rw (c.done_status.ensures, c.as_slice.ensures.value) at c.deliver.ensures)
+pub returns-in-Ok : goal.returns-in-Ok
+returns-in-Ok g c = c.do_command.ensures (map string_bytes c.args.words.now) c.in-Ok.ensures.found
 
-pub returns-in-Err-clause-ends : goal.returns-in-Err-clause-ends
-returns-in-Err-clause-ends g c = ends-map _ _ _ _ _ _ _ (due-refusal _ _ _ _ _ c.in-Err.fault c.in-Err.ensures.cause) c.tell.ensures
+pub returns-in-Err-NoCommand : goal.returns-in-Err-NoCommand
+returns-in-Err-NoCommand g c = goes-usage _ (record { no_work = c.command_of.ensures.none (search c.in-Err-NoCommand.is); no_page = c.requires.no_page }) c.requires.nothing refl c.tell.ensures
 
-pub returns-in-Ok-clause-all_read : goal.returns-in-Ok-clause-all_read
-returns-in-Ok-clause-all_read g c done = c.in-Ok.ensures.whole
-
-pub returns-in-Err-clause-all_read : goal.returns-in-Err-clause-all_read
-returns-in-Err-clause-all_read g c done = absurd (fault-not-done c.in-Err.fault _ _ _ _ _ _ c.tell.ensures done)
+pub returns-in-Err-Memory : goal.returns-in-Err-Memory
+returns-in-Err-Memory g c =
+    let some = c.command_of.ensures.memory (search c.in-Err-Memory.is) in
+    goes-early _ some.1.0 some.1.1 c.requires.nothing refl c.tell-in-Err-Memory.ensures

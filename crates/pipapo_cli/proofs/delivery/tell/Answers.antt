@@ -4,11 +4,5 @@ use Rattle.pipapo_cli.proofs.delivery.tell.Goals as goal
 pub returns-in-Usage : goal.returns-in-Usage
 returns-in-Usage g c = rw c.in-Usage.is (search c.deliver.ensures)
 
-pub returns-in-BadScript : goal.returns-in-BadScript
-returns-in-BadScript g c = rw c.in-BadScript.is (search c.deliver_placed.ensures)
-
-pub returns-in-BadKeys : goal.returns-in-BadKeys
-returns-in-BadKeys g c = rw c.in-BadKeys.is (search c.deliver_placed-in-BadKeys.ensures)
-
 pub returns-in-Memory : goal.returns-in-Memory
 returns-in-Memory g c = rw c.in-Memory.is (ends-memory (g.K.Sink.taken c.args.sink.now) (g.K.Sink.faults c.args.sink.now))

@@ -2,10 +2,9 @@ use Rattle.std.proofs.Common.{◌≡◌, true, false}
 use Rattle.token_forms.specs.View.{lexeme_of}
 use Rattle.token_forms.specs.Words.{separates}
 use Rattle.token_forms.specs.WordReading.{line_starts}
-use Rattle.token_forms.proofs.LoopLaws.{left_stop, left_next}
+use Rattle.token_forms.proofs.LoopLaws.{left_stop, left_next, left_bad}
 use Rattle.set_script.specs.ScriptReading.{any_word}
 use Rattle.rule_chain.specs.declared.draft.RulesDraft.{RulesDraft}
-use Rattle.rule_chain.proofs.PlainLaws.{left_bad}
 use Rattle.rule_chain.proofs.blocks.statements.Goals as goal
 
 pub returns-then-not-starts : goal.returns-then-not-starts
@@ -21,4 +20,4 @@ lines-preserved c =
 pub returns-in-Err : goal.returns-in-Err
 returns-in-Err c =
     let yes : line_starts {S = RulesDraft} separates any_word (c.lines.d, c.lines.next) (lexeme_of c.in-Some.t) ≡ true = let k = c.starts_a_line-starts.ensures c.lines.d in cc in
-    left_bad c.in-Err.e c.lines.invariant c.in-Some.ensures.1 yes c.in-Err.ensures.gives
+    left_bad c.in-Err.e _ c.lines.invariant c.in-Some.ensures.1 yes c.in-Err.ensures.gives

@@ -1,8 +1,7 @@
 use Rattle.std.proofs.Common.{◌≡◌, true, false}
 use Rattle.token_forms.specs.View.{lexeme_of}
-use Rattle.token_forms.proofs.LoopLaws.{left_stop, left_next}
+use Rattle.token_forms.proofs.LoopLaws.{left_stop, left_next, left_bad}
 use Rattle.rule_chain.specs.RulesReading.{starts_test}
-use Rattle.rule_chain.proofs.PlainLaws.{left_bad}
 use Rattle.rule_chain.proofs.rules.all_tests.Goals as goal
 
 pub returns-then-not-starts : goal.returns-then-not-starts
@@ -18,4 +17,4 @@ tests-preserved c =
 pub returns-in-Err : goal.returns-in-Err
 returns-in-Err c =
     let yes : starts_test c.tests.tests (lexeme_of c.in-Some.t) ≡ true = let k = c.starts_a_test-starts.ensures in cc in
-    left_bad c.in-Err.e c.tests.invariant c.in-Some.ensures.1 yes c.in-Err.ensures.gives
+    left_bad c.in-Err.e _ c.tests.invariant c.in-Some.ensures.1 yes c.in-Err.ensures.gives

@@ -1,4 +1,4 @@
-use Rattle.std.proofs.Common.{◌≡◌, refl, sym, ap, subst, true, List, [], length}
+use Rattle.std.proofs.Common.{refl, subst, true, List, length}
 use Rattle.set_model.specs.declared.script.Step.{Step}
 use Rattle.packet_pool.specs.Running.{Ran}
 use Rattle.script_run.proofs.DrillLaws.{drilled-behind}

@@ -1,7 +1,7 @@
 use Rattle.std.proofs.Common.{◌≡◌, ap, subst, slice_get, Some}
 use Rattle.set_model.specs.Control.{Generation}
 use Rattle.set_report.specs.DumpText.{tables_text, dump_text}
-use Rattle.set_report.proofs.PartLaws.{on_err}
+use Rattle.text_pieces.proofs.PartLaws.{on_err}
 use Rattle.set_report.proofs.Leaves.{Leaves, begun, further, broken}
 use Rattle.set_report.proofs.DumpTables.{paired-more}
 use Rattle.set_report.proofs.dump.write_dump.Goals as goal

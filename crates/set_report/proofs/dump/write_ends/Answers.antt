@@ -1,7 +1,7 @@
 use Rattle.std.proofs.Common.{subst, flat_map}
 use Rattle.set_report.specs.DumpText.{end_text}
-use Rattle.set_report.specs.Writes.{AppendsPart}
-use Rattle.set_report.proofs.PartLaws.{on_err, item_part_at}
+use Rattle.text_pieces.specs.Appends.{AppendsPart}
+use Rattle.text_pieces.proofs.PartLaws.{on_err, item_part_at}
 use Rattle.set_report.proofs.dump.write_ends.Goals as goal
 
 pub returns-in_err-write_end-clause-err : goal.returns-in_err-write_end-clause-err

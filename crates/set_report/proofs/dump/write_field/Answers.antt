@@ -1,9 +1,9 @@
 use Rattle.std.proofs.Common.{◌∙◌, ap, subst, ◌++◌, append_assoc}
 use Rattle.set_report.specs.DumpText.{heading_text, ways_text}
 use Rattle.set_report.specs.DumpBuckets.{all_buckets_text}
-use Rattle.set_report.specs.Writes.{AppendsPart}
-use Rattle.set_report.proofs.PartLaws.{on_err}
-use Rattle.set_report.proofs.TwoParts.{first_part, second_part, ok-with, err-with}
+use Rattle.text_pieces.specs.Appends.{AppendsPart}
+use Rattle.text_pieces.proofs.PartLaws.{on_err}
+use Rattle.text_pieces.proofs.TwoParts.{first_part, second_part, ok-with, err-with}
 use Rattle.set_report.proofs.DumpTables.{field-is, kind-within}
 use Rattle.set_report.proofs.dump.write_field.Goals as goal
 

@@ -2,7 +2,7 @@ use Rattle.std.proofs.Common.{◌≡◌, ap, subst, slice_get, Some, flat_map}
 use Rattle.std.specs.List.{enumerate_from}
 use Rattle.set_model.specs.SetState.{State}
 use Rattle.set_report.specs.DumpText.{field_text}
-use Rattle.set_report.proofs.PartLaws.{on_err}
+use Rattle.text_pieces.proofs.PartLaws.{on_err}
 use Rattle.set_report.proofs.Leaves.{Leaves, further, broken}
 use Rattle.set_report.proofs.DumpTables.{numbered-more}
 use Rattle.set_report.proofs.dump.write_fields.Goals as goal

@@ -1,7 +1,7 @@
 use Rattle.set_report.specs.DumpText.{heading_text}
 use Rattle.set_report.specs.DumpBuckets.{all_buckets_text}
-use Rattle.set_report.proofs.PartLaws.{on_err}
-use Rattle.set_report.proofs.TwoParts.{first_part, second_part, err-with}
+use Rattle.text_pieces.proofs.PartLaws.{on_err}
+use Rattle.text_pieces.proofs.TwoParts.{first_part, second_part, err-with}
 use Rattle.set_report.proofs.dump.write_table.Goals as goal
 
 pub returns-in_err-write_heading-clause-err : goal.returns-in_err-write_heading-clause-err

@@ -2,9 +2,9 @@ use Rattle.std.proofs.Common.{subst, codes, ◌++◌, flat_map, Some}
 use Rattle.std.specs.List.{enumerate_from}
 use Rattle.set_model.specs.Text.{line_feed, set_text}
 use Rattle.set_report.specs.DumpText.{field_text}
-use Rattle.set_report.specs.Writes.{AppendsPart}
-use Rattle.set_report.proofs.PartLaws.{on_err}
-use Rattle.set_report.proofs.TwoParts.{first_part, second_part, err-with}
+use Rattle.text_pieces.specs.Appends.{AppendsPart}
+use Rattle.text_pieces.proofs.PartLaws.{on_err}
+use Rattle.text_pieces.proofs.TwoParts.{first_part, second_part, err-with}
 use Rattle.set_report.proofs.DumpLines.{set-parts}
 use Rattle.set_report.proofs.dump.write_tables.Goals as goal
 

@@ -1,6 +1,6 @@
 use Rattle.std.proofs.Common.{◌≡◌, sym, ap, subst, ◌++◌, codes, OnOk, OnErr}
 use Rattle.set_model.specs.Text.{verdict_text, numbered}
-use Rattle.set_report.specs.Writes.{AppendsPart}
+use Rattle.text_pieces.specs.Appends.{AppendsPart}
 use Rattle.set_report.proofs.LineLaws.{packet_line}
 use Rattle.set_report.proofs.lines.write_line.Goals as goal
 

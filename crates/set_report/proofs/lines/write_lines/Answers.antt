@@ -1,8 +1,8 @@
 use Rattle.std.proofs.Common.{rules, subst}
 use Rattle.std.proofs.lemmas.List.{get_or_default}
 use Rattle.set_model.specs.Text.{packet_text, lines_text}
-use Rattle.set_report.specs.Writes.{AppendsPart}
-use Rattle.set_report.proofs.PartLaws.{on_err, item_part}
+use Rattle.text_pieces.specs.Appends.{AppendsPart}
+use Rattle.text_pieces.proofs.PartLaws.{on_err, item_part}
 use Rattle.set_report.proofs.lines.write_lines.Goals as goal
 
 pub returns-in_err-write_line-clause-err : goal.returns-in_err-write_line-clause-err

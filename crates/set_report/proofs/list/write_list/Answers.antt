@@ -1,5 +1,5 @@
 use Rattle.std.proofs.Common.{rules}
-use Rattle.set_report.proofs.PartLaws.{on_err}
+use Rattle.text_pieces.proofs.PartLaws.{on_err}
 use Rattle.set_report.proofs.ListLaws.{cut}
 use Rattle.set_report.proofs.list.write_list.Goals as goal
 

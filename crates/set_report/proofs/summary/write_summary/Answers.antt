@@ -1,5 +1,5 @@
 use Rattle.std.proofs.Common.{◌≡◌, sym, subst, ◌++◌, OnOk, OnErr, rules}
-use Rattle.set_report.specs.Writes.{AppendsPart}
+use Rattle.text_pieces.specs.Appends.{AppendsPart}
 use Rattle.set_report.proofs.SummaryLaws.{summary_line}
 use Rattle.set_report.proofs.summary.write_summary.Goals as goal
 

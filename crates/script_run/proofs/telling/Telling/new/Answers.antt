@@ -1,6 +1,6 @@
-use Rattle.std.proofs.Common.{refl, ap, sym, ◌∙◌, ◌≡◌, length, map, Some, subst, List, ◌∷◌, []}
+use Rattle.std.proofs.Common.{refl, ap, sym, ◌∙◌, length, Some, subst, List}
 use Rattle.std.proofs.lemmas.List.{length-map}
-use Rattle.set_model.specs.Control.{first_generation, Generation}
+use Rattle.set_model.specs.Control.{Generation}
 use Rattle.set_model.specs.declared.script.SetDecl.{SetDecl}
 use Rattle.gen_publish.specs.Publish.{AllFresh}
 use Rattle.script_run.proofs.SectionLaws.{fresh_ready}

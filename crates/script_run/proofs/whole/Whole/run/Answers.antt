@@ -1,7 +1,6 @@
-use Rattle.std.proofs.Common.{◌≡◌, ◌∙◌, [], List, All, subst, sym, ap, take, false}
+use Rattle.std.proofs.Common.{◌∙◌, [], List, All, subst, sym, take, false}
 use Rattle.set_model.specs.declared.report.Event.{Event}
 use Rattle.set_model.specs.declared.script.SetDecl.{SetDecl}
-use Rattle.set_model.specs.declared.script.Step.{Step}
 use Rattle.set_model.specs.Control.{mode_of, start}
 use Rattle.packet_pool.specs.Running.{Stands, run}
 use Rattle.set_model.specs.Runnable.{EndsClosed, IsRunnableStep}

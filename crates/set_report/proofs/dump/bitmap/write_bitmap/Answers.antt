@@ -1,8 +1,8 @@
 use Rattle.std.proofs.Common.{◌∙◌, ap, subst, ◌++◌}
 use Rattle.addr_text.specs.Written.{hex_text}
 use Rattle.set_report.specs.DumpText.{byte_of, bitmap_text}
-use Rattle.set_report.specs.Writes.{AppendsPart}
-use Rattle.set_report.proofs.PartLaws.{on_err}
+use Rattle.text_pieces.specs.Appends.{AppendsPart}
+use Rattle.text_pieces.proofs.PartLaws.{on_err}
 use Rattle.set_report.proofs.Leaves.{from-more, from-broken}
 use Rattle.set_report.proofs.dump.bitmap.write_bitmap.Goals as goal
 

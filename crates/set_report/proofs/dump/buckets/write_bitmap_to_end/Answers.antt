@@ -1,7 +1,7 @@
 use Rattle.set_model.specs.Text.{line_feed}
 use Rattle.set_report.specs.DumpText.{bitmap_text}
-use Rattle.set_report.proofs.PartLaws.{on_err}
-use Rattle.set_report.proofs.TwoParts.{first_part}
+use Rattle.text_pieces.proofs.PartLaws.{on_err}
+use Rattle.text_pieces.proofs.TwoParts.{first_part}
 use Rattle.set_report.proofs.dump.buckets.write_bitmap_to_end.Goals as goal
 
 pub returns-in_err-write_bitmap-clause-err : goal.returns-in_err-write_bitmap-clause-err

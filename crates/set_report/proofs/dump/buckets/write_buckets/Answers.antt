@@ -1,5 +1,5 @@
 use Rattle.set_report.specs.DumpBuckets.{buckets_text, all_buckets_text}
-use Rattle.set_report.proofs.PartLaws.{on_err}
+use Rattle.text_pieces.proofs.PartLaws.{on_err}
 use Rattle.set_report.proofs.Leaves.{from-more, from-broken}
 use Rattle.set_report.proofs.dump.buckets.write_buckets.Goals as goal
 

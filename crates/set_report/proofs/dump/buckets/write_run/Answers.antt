@@ -1,9 +1,9 @@
 use Rattle.std.proofs.Common.{◌≡◌, sym, ◌∙◌, ap, subst, List, ℕ, Bool, ◌++◌}
 use Rattle.set_model.specs.Text.{line_feed}
 use Rattle.set_report.specs.DumpText.{bitmap_text, run_text}
-use Rattle.set_report.specs.Writes.{AppendsPart}
-use Rattle.set_report.proofs.PartLaws.{on_err}
-use Rattle.set_report.proofs.TwoParts.{first_part, second_part, err-with}
+use Rattle.text_pieces.specs.Appends.{AppendsPart}
+use Rattle.text_pieces.proofs.PartLaws.{on_err}
+use Rattle.text_pieces.proofs.TwoParts.{first_part, second_part, err-with}
 use Rattle.set_report.proofs.DumpLines.{run_head, run-parts}
 use Rattle.set_report.proofs.dump.buckets.write_run.Goals as goal
 

@@ -1,8 +1,8 @@
 use Rattle.std.proofs.Common.{◌≡◌, subst, [], ◌∷◌, ◌++◌, ◌+◌, ◌-◌, rules, arith}
 use Rattle.set_report.specs.DumpText.{runs_from, runs_text}
 use Rattle.set_report.specs.DumpBuckets.{bitmaps_at}
-use Rattle.set_report.specs.Writes.{AppendsPart}
-use Rattle.set_report.proofs.PartLaws.{on_err}
+use Rattle.text_pieces.specs.Appends.{AppendsPart}
+use Rattle.text_pieces.proofs.PartLaws.{on_err}
 use Rattle.set_report.proofs.Leaves.{Leaves, further, broken}
 use Rattle.set_report.proofs.DumpRuns.{lines-more}
 use Rattle.set_report.proofs.dump.buckets.write_runs.Goals as goal

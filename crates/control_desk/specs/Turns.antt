@@ -1,0 +1,61 @@
+-- What contracts see of a control thread at a desk, and what a transaction that it submits does.
+use Rattle.std.specs.Prelude.{◌≡◌, ◌+◌, ◌<◌, ◌≤◌, ◌++◌, ℕ, Bool, List, [], ◌∷◌, length, slice_get, Some}
+use Rattle.atomic_table.specs.Seated.{TableId}
+use Rattle.history_laws.specs.Histories.{StartsWith}
+use Rattle.set_model.specs.declared.report.Event.{Event}
+use Rattle.set_model.specs.declared.script.SetDecl.{SetDecl}
+use Rattle.set_model.specs.declared.script.Step.{Step}
+use Rattle.set_model.specs.Control.{Generation}
+use Rattle.control_desk.specs.declared.entry.Entry.{Entry}
+use Rattle.control_desk.specs.Woven.{HasSeen, entries_of}
+
+-- A control thread: which desk it is at, the declared sets, how many control threads there are, its number, the generations
+-- before the desk's log, the log as far as it has seen it, and how many transactions it may still submit.
+pub record Seated : Type 0 where
+  pub of : TableId
+  pub schema : List SetDecl
+  pub threads : ℕ
+  pub number : ℕ
+  pub base : List Generation
+  pub seen : List Entry
+  pub left : ℕ
+
+-- After a turn a control thread has seen the log from the same front on, or more of it. All else but what it has left stays.
+pub record HadTurn (old new : Seated) : Type 0 where
+  pub sees_more : StartsWith new.seen old.seen
+  pub same : new ≡ record old { seen = new.seen; left = new.left }
+
+-- A transaction was logged behind all that was logged at its turn, where no generation had come since the control thread
+-- last saw the log.
+pub record IsLogged (steps : List Step) (keep_going : Bool) (old new : Seated) (end : Event) : Type 0 where
+  pub turn : List Entry
+  pub refused : List Event
+  pub logged : new.seen ≡ turn ++ record { clerk = old.number; steps = steps; keep_going = keep_going; refused = refused; end = end } ∷ []
+  pub begins : StartsWith turn old.seen
+  pub own : entries_of old.number turn ≡ entries_of old.number old.seen
+  pub fresh : (had now : ℕ) → HasSeen old.base old.seen had → HasSeen old.base turn now → now ≤ had
+  pub left : new.left + 1 ≡ old.left
+
+-- Nothing was logged of a control thread.
+pub record IsUnlogged (old new : Seated) : Type 0 where
+  pub own : entries_of old.number new.seen ≡ entries_of old.number old.seen
+  pub left : new.left ≡ old.left
+
+-- At its turn the last generation had a greater number than the last that the control thread had seen.
+pub record IsStale (newer : ℕ) (old new : Seated) : Type 0 where
+  pub newer_is : HasSeen old.base new.seen newer
+  pub moved_on : (had : ℕ) → HasSeen old.base old.seen had → had < newer
+
+-- a control thread that has had no turn
+abbrev pub newcomer : TableId → List SetDecl → List Generation → ℕ → ℕ → ℕ → Seated
+newcomer of schema base threads number left = record { of = of; schema = schema; threads = threads; number = number; base = base; seen = []; left = left }
+
+-- A desk was opened behind these generations: its control threads are numbered from 1 on, and each has as many transactions
+-- left.
+pub record IsOpened (of : TableId) (schema : List SetDecl) (base : List Generation) (threads left : ℕ) (clerks : List Seated) : Type 0 where
+  pub size : length clerks ≡ threads
+  pub each : (place : ℕ) (c : Seated) → slice_get clerks place ≡ Some c → c ≡ newcomer of schema base threads (place + 1) left
+
+-- These are all control threads of one desk, in their order, and none has had a turn.
+pub record AreAll (of : TableId) (schema : List SetDecl) (base : List Generation) (clerks : List Seated) : Type 0 where
+  pub each : (place : ℕ) (c : Seated) → slice_get clerks place ≡ Some c → c ≡ newcomer of schema base (length clerks) (place + 1) c.left

@@ -1,0 +1,169 @@
+-- Files that are read one after the other.
+use Rattle.std.proofs.Common.{arith, ◌≡◌, ◌≢◌, ◌≤◌, ◌+◌, refl, sym, ◌∙◌, ap, subst, ℕ, List, [], ◌∷◌, ◌++◌, length, Option, Some, Ok, Bool}
+use Rattle.std.proofs.lemmas.List.{length-append}
+use Rattle.std.specs.Prelude.{All}
+use Rattle.std.specs.List.{AllPairs}
+use Rattle.std.specs.Io.KnownBytes.{IsAtEnd}
+use Rattle.std.proofs.lemmas.List.Elements.{All-nil, All-cons}
+use Rattle.std.proofs.lemmas.List.Kept.{AllPairs-cons}
+use Rattle.set_model.specs.declared.script.Script.{Script}
+use Rattle.set_model.specs.declared.script.SetDecl.{SetDecl}
+use Rattle.set_model.specs.declared.packet.Packet.{Packet}
+use Rattle.set_script.specs.ScriptText.{IsScriptText}
+use Rattle.key_file.specs.KeysText.{IsKeysText}
+use Rattle.rule_chain.specs.declared.chains.Chain.{Chain}
+use Rattle.rule_chain.specs.RulesText.{IsRulesText}
+use Rattle.pcap_keys.specs.declared.facts.Frame.{Frame}
+use Rattle.pcap_keys.specs.declared.selector.PlanLine.{PlanLine}
+use Rattle.pcap_keys.specs.Captured.{captured}
+use Rattle.pcap_keys.specs.PlansText.{IsPlanText}
+use Rattle.pip_base.specs.Picks.{IsPickOf, AsksOnce, KeepsLeft, ReadsToEnd}
+use Rattle.pip_base.specs.Whole.{size_limit}
+use Rattle.std.specs.Borrow.{Bor}
+use Rattle.pip_base.specs.Causes.{Rose}
+use Rattle.command_words.specs.declared.words.Task.{Task}
+use Rattle.command_words.specs.declared.words.Task.TheVariants as tasks
+use Rattle.command_words.specs.declared.words.Command.TheVariants as asked
+use Rattle.command_words.specs.WordForms.{plain}
+use Rattle.command_words.specs.Words.{Command}
+use Rattle.input_files.specs.declared.fault.Flaw.{Flaw}
+use Rattle.input_files.specs.declared.fault.FileFault.{FileFault}
+use Rattle.input_files.specs.declared.fault.FileFault.TheVariants.{Bad, ReadFault, TooLarge, Memory}
+use Rattle.input_files.specs.Inputs.{Input, script, keys, rules, plan, capture, names_of, inputs, form_of, IsOf, IsFlawed, ReadsAs, IsFileCause}
+use Rattle.input_files.specs.Reads.{AreOf, AreReadWhole, AreRead, HasRead, StopsAt}
+
+-- what comes of files by the numbers under which they were picked
+abbrev Numbers : Type 1
+Numbers = ℕ → Type 0
+
+no-pairs : AllPairs (λ (a b : ℕ). a ≢ b) []
+no-pairs i j d h k = absurd (omega (arith, k))
+
+pub none-whole : (old new : Numbers) (left : ℕ → Option (List ℕ)) → AreReadWhole old new left 0
+none-whole old new left = record { files = []; one_each = refl; apart = no-pairs; picked = All-nil (IsPickOf old new); at_end = All-nil (λ file. IsAtEnd (left file)) }
+
+-- Files that were read whole stay so.
+whole-kept : (old mid new : Numbers) (left_mid left : ℕ → Option (List ℕ)) (n : ℕ) → AreReadWhole old mid left_mid n → KeepsLeft mid new left_mid left → AreReadWhole old new left n
+whole-kept old mid new left_mid left n w kept = record {
+  files = w.files;
+  one_each = w.one_each;
+  apart = w.apart;
+  picked = λ k d h. let p = w.picked k d h in record { fresh = p.fresh; picked = (kept _ p.picked).0 };
+  at_end = λ k d h. let p = w.picked k d h in subst IsAtEnd (sym (kept _ p.picked).1) (w.at_end k d h);
+}
+
+-- One file more was read whole.
+whole-more : (old mid new : Numbers) (left_mid left : ℕ → Option (List ℕ)) (n : ℕ) → AreReadWhole old mid left_mid n → KeepsLeft mid new left_mid left → ((m : ℕ) → old m → mid m) → ReadsToEnd mid new left → AreReadWhole old new left (n + 1)
+unfolding whole-kept
+whole-more old mid new left_mid left n w kept picks r =
+    let all = whole-kept old mid new left_mid left n w kept in
+    let here : IsPickOf old new r.file = record { fresh = λ o. r.is_pick.fresh (picks r.file o); picked = r.is_pick.picked } in
+    let others : All (λ b. r.file ≢ b) w.files = λ k d h e. r.is_pick.fresh (subst mid (sym e) (w.picked k d h).picked) in
+    record {
+      files = r.file ∷ w.files;
+      one_each = omega (arith, w.one_each);
+      apart = AllPairs-cons (λ (a b : ℕ). a ≢ b) r.file w.files others w.apart;
+      picked = All-cons (IsPickOf old new) r.file w.files here all.picked;
+      at_end = All-cons (λ file. IsAtEnd (left file)) r.file w.files r.at_end all.at_end;
+    }
+
+-- a text that was read stands for what it was read as
+pub as-script : (told : List ℕ → Option (List ℕ)) (name : List ℕ) (s : Script) → ReadsAs told name (λ text. IsScriptText text s) → ReadsAs told name (IsOf script s.schema)
+as-script told name s read text at = let r = read text at in (r.0, (s, r.1, refl))
+
+pub as-keys : (told : List ℕ → Option (List ℕ)) (name : List ℕ) (sets : List SetDecl) (packets : List (List Packet)) → ReadsAs told name (λ text. IsKeysText sets text packets) → ReadsAs told name (IsOf keys sets)
+as-keys told name sets packets read text at = let r = read text at in (r.0, (packets, r.1))
+
+pub as-rules : (told : List ℕ → Option (List ℕ)) (name : List ℕ) (sets : List SetDecl) (chains : List Chain × Bool) → ReadsAs told name (λ text. IsRulesText sets text chains) → ReadsAs told name (IsOf rules sets)
+as-rules told name sets chains read text at = let r = read text at in (r.0, (chains, r.1))
+
+pub as-plan : (told : List ℕ → Option (List ℕ)) (name : List ℕ) (sets : List SetDecl) (lines : List PlanLine) → ReadsAs told name (λ text. IsPlanText sets text lines) → ReadsAs told name (IsOf plan sets)
+as-plan told name sets lines read text at = let r = read text at in (r.0, (lines, r.1))
+
+pub as-capture : (told : List ℕ → Option (List ℕ)) (name : List ℕ) (sets : List SetDecl) (frames : List Frame) → ReadsAs told name (λ text. captured text ≡ Ok frames) → ReadsAs told name (IsOf capture sets)
+as-capture told name sets frames read text at = let r = read text at in (r.0, (frames, r.1))
+
+-- what is read of a file is said of what the shelf tells, however that is named
+reads-same : (told other : List ℕ → Option (List ℕ)) (name : List ℕ) (Holds : List ℕ → Type 0) → ((n : List ℕ) → told n ≡ other n) → ReadsAs told name Holds → ReadsAs other name Holds
+reads-same told other name Holds same read text at = read text (same name ∙ at)
+
+-- a flawed text of a file that was read whole is the file's fault
+pub bad-cause : (told : List ℕ → Option (List ℕ)) (others asked : List (List ℕ)) (before now : ℕ) (sets : List SetDecl) (i : Input) (flaw : Flaw) (all slice : List ℕ) → (asked ≡ others ++ i.name ∷ []) × (now ≡ before) → form_of flaw ≡ i.form
+    → ((text : List ℕ) → told i.name ≡ Some text → all ≡ text) → length all ≤ size_limit → slice ≡ all → IsFlawed sets slice flaw → IsFileCause told sets others i asked before now (Bad flaw)
+bad-cause told others asked before now sets i flaw all slice quiet form bytes limit same flawed =
+    (quiet.0, quiet.1, form, λ text at. (subst (λ (t : List ℕ). length t ≤ size_limit) (bytes text at) limit, subst (λ (t : List ℕ). IsFlawed sets t flaw) (same ∙ bytes text at) flawed))
+
+names-append : (files : List Input) (i : Input) → names_of (files ++ i ∷ []) ≡ names_of files ++ i.name ∷ []
+names-append [] i = refl
+names-append (f ∷ files) i = ap (λ ns. f.name ∷ ns) (names-append files i)
+
+are-more : (told : List ℕ → Option (List ℕ)) (sets : List SetDecl) (files : List Input) (i : Input) → AreOf told sets files → ReadsAs told i.name (IsOf i.form sets) → AreOf told sets (files ++ i ∷ [])
+are-more told sets [] i h r = (r, tt)
+are-more told sets (f ∷ files) i h r = (h.0, are-more told sets files i h.1 r)
+
+-- These files were read, and nothing else was done: how the shelf stood before, and how it stands now.
+pub record UpTo (told_before : List ℕ → Option (List ℕ)) (faults_before : ℕ) (picked_before : Numbers) (told : List ℕ → Option (List ℕ)) (asked : List (List ℕ)) (faults : ℕ) (picked : Numbers) (left : ℕ → Option (List ℕ)) (sets : List SetDecl) (files : List Input) : Type 0 where
+  pub are_of : AreOf told_before sets files
+  pub whole : AreReadWhole picked_before picked left (length files)
+  pub names : asked ≡ names_of files
+  pub quiet : faults ≡ faults_before
+  pub picks : (m : ℕ) → picked_before m → picked m
+  pub same : (name : List ℕ) → told name ≡ told_before name
+
+pub up-to-none : (told : List ℕ → Option (List ℕ)) (asked : List (List ℕ)) (faults : ℕ) (picked : Numbers) (left : ℕ → Option (List ℕ)) (sets : List SetDecl) → asked ≡ [] → UpTo told faults picked told asked faults picked left sets []
+up-to-none told asked faults picked left sets nothing = record { are_of = tt; whole = none-whole picked picked left; names = nothing; quiet = refl; picks = λ m o. o; same = λ name. refl }
+
+module _ {told_before told_mid told : List ℕ → Option (List ℕ)} {faults_before faults_mid faults : ℕ} {picked_before picked_mid picked : Numbers} {asked_mid asked : List (List ℕ)} {left_mid left : ℕ → Option (List ℕ)} {sets : List SetDecl} {files : List Input} where
+  -- One file more was read.
+  pub up-to-more : (i : Input) → UpTo told_before faults_before picked_before told_mid asked_mid faults_mid picked_mid left_mid sets files → ReadsAs told_mid i.name (IsOf i.form sets) → (asked ≡ asked_mid ++ i.name ∷ []) × (faults ≡ faults_mid)
+      → ReadsToEnd picked_mid picked left → KeepsLeft picked_mid picked left_mid left → ((name : List ℕ) → told name ≡ told_mid name) → UpTo told_before faults_before picked_before told asked faults picked left sets (files ++ i ∷ [])
+  up-to-more i u read quiet whole kept same = record {
+    are_of = are-more told_before sets files i u.are_of (reads-same told_mid told_before i.name (IsOf i.form sets) u.same read);
+    whole = subst (λ (n : ℕ). AreReadWhole picked_before picked left n) (sym (length-append files (i ∷ []))) (whole-more picked_before picked_mid picked left_mid left (length files) u.whole kept u.picks whole);
+    names = quiet.0 ∙ ap (λ ns. ns ++ i.name ∷ []) u.names ∙ sym (names-append files i);
+    quiet = quiet.1 ∙ u.quiet;
+    picks = λ m o. (kept m (u.picks m o)).0;
+    same = λ name. same name ∙ u.same name;
+  }
+
+-- A cause is said of what the shelf told before, and of its counts then.
+same-cause : (told other : List ℕ → Option (List ℕ)) (sets : List SetDecl) (names others asked : List (List ℕ)) (before mid now : ℕ) (i : Input) (fault : FileFault) → ((name : List ℕ) → told name ≡ other name) → others ≡ names → mid ≡ before
+    → IsFileCause told sets others i asked mid now fault → IsFileCause other sets names i asked before now fault
+same-cause told other sets names others asked before mid now i (Bad flaw) same e quiet h = (h.0 ∙ ap (λ ns. ns ++ i.name ∷ []) e, h.1 ∙ quiet, h.2, reads-same told other i.name (λ text. IsFlawed sets text flaw) same h.3)
+same-cause told other sets names others asked before mid now i (ReadFault name) same e quiet h = (h.0 ∙ ap (λ ns. ns ++ i.name ∷ []) e, h.1, subst (λ (n : ℕ). Rose n now) quiet h.2)
+same-cause told other sets names others asked before mid now i (TooLarge name) same e quiet h = (h.0 ∙ ap (λ ns. ns ++ i.name ∷ []) e, h.1, h.2 ∙ quiet, λ text at. h.3 text (same i.name ∙ at))
+same-cause told other sets names others asked before mid now i Memory same e quiet h = (subst (λ (ns : List (List ℕ)). AsksOnce ns asked i.name) e h.0, h.1 ∙ quiet)
+
+-- The next file can't be had.
+module _ {told_before told_mid : List ℕ → Option (List ℕ)} {faults_before faults_mid faults : ℕ} {picked_before picked_mid picked : Numbers} {asked_mid asked : List (List ℕ)} {left_mid left : ℕ → Option (List ℕ)} {sets : List SetDecl} {files : List Input} where
+  pub stops : (c : Command) (i : Input) (later : List Input) (fault : FileFault) → inputs c ≡ files ++ i ∷ later → UpTo told_before faults_before picked_before told_mid asked_mid faults_mid picked_mid left_mid sets files
+      → KeepsLeft picked_mid picked left_mid left → IsFileCause told_mid sets asked_mid i asked faults_mid faults fault
+      → StopsAt (record { told = told_before; asked = asked; faults_before = faults_before; faults_now = faults; picked_before = picked_before; picked_now = picked; left = left }) c fault
+  stops c i later fault in_order u kept cause = record {
+    sets = sets;
+    earlier = files;
+    input = i;
+    later = later;
+    in_order = in_order;
+    read_before = record { are_of = u.are_of; whole = whole-kept picked_before picked_mid picked left_mid left (length files) u.whole kept };
+    cause = same-cause told_mid told_before sets (names_of files) asked_mid asked faults_before faults_mid faults i fault u.same u.names u.quiet cause;
+  }
+
+-- All files of a command were read.
+pub has-read : {told_before told : List ℕ → Option (List ℕ)} {faults_before faults : ℕ} {picked_before picked : Numbers} {asked : List (List ℕ)} {left : ℕ → Option (List ℕ)} {sets : List SetDecl} {files : List Input} (c : Command) → inputs c ≡ files
+    → UpTo told_before faults_before picked_before told asked faults picked left sets files
+    → HasRead (record { told = told_before; asked = asked; faults_before = faults_before; faults_now = faults; picked_before = picked_before; picked_now = picked; left = left }) c
+has-read {told_before} {told} {faults_before} {faults} {picked_before} {picked} {asked} {left} {sets} {files} c all u = record {
+  sets = sets;
+  all = subst (λ (fs : List Input). AreRead (record { told = told_before; asked = asked; faults_before = faults_before; faults_now = faults; picked_before = picked_before; picked_now = picked; left = left }) sets fs) (sym all) (record { are_of = u.are_of; whole = u.whole });
+  asked = u.names ∙ ap names_of (sym all);
+  quiet = u.quiet;
+}
+
+-- The first file of a command of a script.
+pub script-first : (name : Bor (List ℕ)) (task : Task) (goes : Bool) → (later : List Input) × (inputs (plain (asked.Script name task goes)) ≡ record { name = name.now; form = script } ∷ later)
+script-first name (tasks.Run k n) goes = (record { name = k.now; form = keys } ∷ [], refl)
+script-first name tasks.List goes = ([], refl)
+script-first name tasks.Dump goes = ([], refl)
+script-first name (tasks.Judge r k n) goes = (record { name = r.now; form = rules } ∷ record { name = k.now; form = keys } ∷ [], refl)
+script-first name (tasks.Capture p f n) goes = (record { name = p.now; form = plan } ∷ record { name = f.now; form = capture } ∷ [], refl)

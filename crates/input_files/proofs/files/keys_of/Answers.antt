@@ -1,0 +1,14 @@
+use Rattle.std.proofs.Common.{refl, ap, Err}
+use Rattle.input_files.specs.declared.fault.Flaw.TheVariants as flaws
+use Rattle.input_files.specs.Inputs.{keys}
+use Rattle.input_files.proofs.Reading.{bad-cause}
+use Rattle.input_files.proofs.files.keys_of.Goals as goal
+
+pub returns-in-Err-clause-cause : goal.returns-in-Err-clause-cause
+returns-in-Err-clause-cause g c = c.in-Err.ensures.cause c.args.schema.now (record { name = c.args.name.now; form = keys }) refl
+
+pub returns-in-Err-Bad-clause-cause : goal.returns-in-Err-Bad-clause-cause
+returns-in-Err-Bad-clause-cause g c =
+    bad-cause (g.F.Shelf.told c.args.shelf.now) (g.F.Shelf.asked c.args.shelf.now) (g.F.Shelf.asked c.text_of.new.shelf) (g.F.Shelf.faults c.args.shelf.now) (g.F.Shelf.faults c.text_of.new.shelf) c.args.schema.now (record { name = c.args.name.now; form = keys })
+    (flaws.Keys c.in-Err-Bad.line c.in-Err-Bad.reason) c.in-Ok.text.items c.as_slice.result.now c.in-Ok.ensures.quiet refl c.in-Ok.ensures.bytes c.in-Ok.ensures.limit c.as_slice.ensures.value
+    (c.in-Err-Bad.ensures.bad c.in-Err-Bad.line c.in-Err-Bad.reason (ap Err c.in-Err-Bad.field-0-is))

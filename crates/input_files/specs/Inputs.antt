@@ -1,0 +1,92 @@
+-- The files of a command, and what each has to be. What is said of a file's bytes is said where the shelf tells them.
+use Rattle.std.specs.Prelude.{◌≡◌, ◌≤◌, ◌<◌, ℕ, Bool, List, [], ◌∷◌, ◌++◌, map, length, Option, Some}
+use Rattle.set_model.specs.declared.script.Script.{Script}
+use Rattle.set_model.specs.declared.script.SetDecl.{SetDecl}
+use Rattle.set_model.specs.declared.packet.Packet.{Packet}
+use Rattle.token_forms.specs.TextTokens.{text_tokens}
+use Rattle.token_forms.specs.Faults.{IsFault}
+use Rattle.set_script.specs.Script.{script as script_form}
+use Rattle.set_script.specs.ScriptText.{IsScriptText}
+use Rattle.key_file.specs.Keys.{key_file}
+use Rattle.key_file.specs.KeysText.{IsKeysText}
+use Rattle.rule_chain.specs.declared.chains.Chain.{Chain}
+use Rattle.rule_chain.specs.RulesText.{IsRulesText, IsBadRules}
+use Rattle.pcap_keys.specs.declared.facts.Frame.{Frame}
+use Rattle.pcap_keys.specs.declared.selector.PlanLine.{PlanLine}
+use Rattle.pcap_keys.specs.CapturedPackets.{IsCapture, IsBadCapture}
+use Rattle.pcap_keys.specs.PlansText.{IsPlanText, IsBadPlan}
+use Rattle.pip_base.specs.Causes.{Rose}
+use Rattle.pip_base.specs.Picks.{AsksOnce}
+use Rattle.pip_base.specs.Whole.{size_limit}
+use Rattle.command_words.specs.Words.{Command, run, list, dump, drill, judge, capture as capture_command}
+use Rattle.input_files.specs.declared.fault.Flaw.{Flaw}
+use Rattle.input_files.specs.declared.fault.Flaw.TheVariants as flaws
+use Rattle.input_files.specs.declared.fault.FileFault.{FileFault}
+use Rattle.input_files.specs.declared.fault.FileFault.TheVariants.{Bad, ReadFault, TooLarge, Memory}
+
+-- what a file has to be
+pub data Form : Type 0 where
+  script : Form
+  keys : Form
+  rules : Form
+  plan : Form
+  capture : Form
+
+-- a file of a command: its name, and what it has to be
+pub record Input : Type 0 where
+  pub name : List ℕ
+  pub form : Form
+
+abbrev pub names_of : List Input → List (List ℕ)
+names_of inputs = map (λ i. i.name) inputs
+
+-- the files of a command, in the order of its words
+abbrev pub inputs : Command → List Input
+inputs (run s k threads keep_going) = record { name = s; form = script } ∷ record { name = k; form = keys } ∷ []
+inputs (list s keep_going) = record { name = s; form = script } ∷ []
+inputs (dump s keep_going) = record { name = s; form = script } ∷ []
+inputs (drill seed count threads) = []
+inputs (judge s r k threads keep_going) = record { name = s; form = script } ∷ record { name = r; form = rules } ∷ record { name = k; form = keys } ∷ []
+inputs (capture_command s p c threads keep_going) = record { name = s; form = script } ∷ record { name = p; form = plan } ∷ record { name = c; form = capture } ∷ []
+
+-- A text is of a form, beside a script with these sets: it is that script; it is a key file, a rules file or a plan for these sets;
+-- or it is a capture, which is of no sets.
+abbrev pub IsOf : Form → List SetDecl → List ℕ → Type 0
+IsOf script sets text = (s : Script) × IsScriptText text s × (s.schema ≡ sets)
+IsOf keys sets text = (packets : List (List Packet)) × IsKeysText sets text packets
+IsOf rules sets text = (chains : List Chain × Bool) × IsRulesText sets text chains
+IsOf plan sets text = (lines : List PlanLine) × IsPlanText sets text lines
+IsOf capture sets text = (frames : List Frame) × IsCapture text frames
+
+-- the form that a flaw is one of
+abbrev pub form_of : Flaw → Form
+form_of (flaws.Script line reason) = script
+form_of (flaws.Keys line reason) = keys
+form_of (flaws.Rules line reason) = rules
+form_of (flaws.Plan line reason) = plan
+form_of (flaws.Capture byte reason) = capture
+
+-- This is wrong with a text, beside a script with these sets: the bad token stands in this line, with this reason; of a capture, its
+-- first fault is this one.
+abbrev pub IsFlawed : List SetDecl → List ℕ → Flaw → Type 0
+IsFlawed sets text (flaws.Script line reason) = IsFault script_form (text_tokens text) line reason
+IsFlawed sets text (flaws.Keys line reason) = IsFault (key_file sets) (text_tokens text) line reason
+IsFlawed sets text (flaws.Rules line reason) = IsBadRules sets text line reason
+IsFlawed sets text (flaws.Plan line reason) = IsBadPlan sets text line reason
+IsFlawed sets text (flaws.Capture byte reason) = IsBadCapture text byte reason
+
+-- The file of a name, where its bytes are told, is within its size, and this holds of its text.
+abbrev pub ReadsAs : (List ℕ → Option (List ℕ)) → List ℕ → (List ℕ → Type 0) → Type 0
+ReadsAs told name Holds = (text : List ℕ) → told name ≡ Some text → (length text ≤ size_limit) × Holds text
+
+-- The file of a name, where its bytes are told, has more bytes than it may have.
+abbrev pub IsTooLarge : (List ℕ → Option (List ℕ)) → List ℕ → Type 0
+IsTooLarge told name = (text : List ℕ) → told name ≡ Some text → size_limit < length text
+
+-- Why a file can't be had, whose name was asked for behind others: the bytes are flawed, or too many; the shelf's count of faults
+-- rose; or memory was wanting. Else the count stands.
+abbrev pub IsFileCause : (List ℕ → Option (List ℕ)) → List SetDecl → List (List ℕ) → Input → List (List ℕ) → ℕ → ℕ → FileFault → Type 0
+IsFileCause told sets others i asked before now (Bad flaw) = (asked ≡ others ++ i.name ∷ []) × (now ≡ before) × (form_of flaw ≡ i.form) × ReadsAs told i.name (λ text. IsFlawed sets text flaw)
+IsFileCause told sets others i asked before now (ReadFault name) = (asked ≡ others ++ i.name ∷ []) × (name.now ≡ i.name) × Rose before now
+IsFileCause told sets others i asked before now (TooLarge name) = (asked ≡ others ++ i.name ∷ []) × (name.now ≡ i.name) × (now ≡ before) × IsTooLarge told i.name
+IsFileCause told sets others i asked before now Memory = AsksOnce others asked i.name × (now ≡ before)

@@ -1,0 +1,4 @@
+pub mod Inputs
+pub mod Reads
+pub mod Works
+pub mod Given

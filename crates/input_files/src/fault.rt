@@ -1,0 +1,30 @@
+use pcap_keys::CaptureReason;
+use token_forms::Reason;
+
+/// What is wrong with a file's text: where it stops being of the file's form, and why. Lines count from 1 and bytes from 0.
+#[derive(Clone, Copy)]
+pub enum Flaw {
+    /// The script isn't in the grammar: the line of its first token that doesn't fit.
+    Script { line: u64, reason: Reason },
+    /// The key file isn't in the grammar under the script's sets.
+    Keys { line: u64, reason: Reason },
+    /// The rules file isn't in the grammar under the script's sets.
+    Rules { line: u64, reason: Reason },
+    /// The plan isn't in the grammar under the script's sets.
+    Plan { line: u64, reason: Reason },
+    /// The capture is outside its format: the byte at which that shows.
+    Capture { byte: u64, reason: CaptureReason },
+}
+
+/// Why a file of a command can't be had.
+#[derive(Clone, Copy)]
+pub enum FileFault<'a> {
+    /// Its text isn't of its form.
+    Bad(Flaw),
+    /// The file of this name can't be opened or read.
+    ReadFault(&'a str),
+    /// The file of this name has more bytes than an input file may have.
+    TooLarge(&'a str),
+    /// Want of memory.
+    Memory,
+}

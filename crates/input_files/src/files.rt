@@ -1,0 +1,182 @@
+//! One file: read whole, and as what it has to be.
+ghost use Rattle.std.specs.Prelude.{◌≡◌, ◌<◌, ◌≤◌, List, [], ◌∷◌, ◌++◌, ℕ, length, All, Some, IfOk, IfErr, OnOk, Ok};
+ghost use Rattle.set_model.specs.declared.script.SetDecl.{SetDecl as Declared};
+ghost use Rattle.set_model.specs.Runnable.{IsRunnable, IsFitting};
+ghost use Rattle.set_script.specs.ScriptText.{IsScriptText};
+ghost use Rattle.key_file.specs.KeysText.{IsKeysText};
+ghost use Rattle.rule_chain.specs.RulesText.{IsRulesText};
+ghost use Rattle.pcap_keys.specs.Captured.{captured};
+ghost use Rattle.pcap_keys.specs.Fitting.{HasValues, IsPlanned};
+ghost use Rattle.pcap_keys.specs.PlansText.{IsPlanText};
+ghost use Rattle.pip_base.specs.Picks.{AsksOnce, KeepsLeft, ReadsToEnd};
+ghost use Rattle.pip_base.specs.Whole.{size_limit};
+ghost use Rattle.input_files.specs.Inputs as inputs;
+ghost use Rattle.input_files.specs.Inputs.{Input, ReadsAs, IsFileCause};
+
+use crate::fault::{FileFault, Flaw};
+use key_file::read_keys;
+use pcap_keys::{CaptureError, Frames, Plan, read_capture, read_plan};
+use pip_base::{ReadError, Shelf, read_whole};
+use rule_chain::{Chains, read_rules};
+use set_model::{Keys, Schema, Script};
+use set_script::read_script;
+use std::alloc::Global;
+use token_forms::ReadError as FormError;
+
+/// All bytes of the file of a name.
+fn text_of<'a, F: Shelf>(
+    alloc: Global,
+    shelf: &mut F,
+    name: &'a str,
+) -> Result<Vec<u8>, FileFault<'a>>
+    requires { length (F.asked shelf.old) ≤ 2 }
+    ensures bytes { IfOk result (λ all. (text : List ℕ) → F.told shelf.old name.now ≡ Some text → all.items ≡ text) }
+    ensures limit { IfOk result (λ all. length all.items ≤ size_limit) }
+    ensures quiet { OnOk result ((F.asked shelf.new ≡ F.asked shelf.old ++ name.now ∷ []) × (F.faults shelf.new ≡ F.faults shelf.old)) }
+    ensures whole { OnOk result (ReadsToEnd (F.is_picked shelf.old) (F.is_picked shelf.new) (F.left shelf.new)) }
+    ensures kept { KeepsLeft (F.is_picked shelf.old) (F.is_picked shelf.new) (F.left shelf.old) (F.left shelf.new) }
+    ensures told { (other : List ℕ) → F.told shelf.new other ≡ F.told shelf.old other }
+    ensures cause { (sets : List Declared) (i : Input) → i.name ≡ name.now → IfErr result (IsFileCause (F.told shelf.old) sets (F.asked shelf.old) i (F.asked shelf.new) (F.faults shelf.old) (F.faults shelf.new)) }
+{
+    match read_whole(alloc, shelf, name) {
+        Ok(text) => Ok(text),
+        Err(ReadError::Fault) => Err(FileFault::ReadFault(name)),
+        Err(ReadError::TooLarge) => Err(FileFault::TooLarge(name)),
+        Err(ReadError::Memory) => Err(FileFault::Memory),
+    }
+}
+
+/// The script of a name.
+pub fn script_of<'a, F: Shelf>(
+    alloc: Global,
+    shelf: &mut F,
+    name: &'a str,
+) -> Result<Script, FileFault<'a>>
+    requires { length (F.asked shelf.old) ≤ 2 }
+    ensures runnable { IfOk result IsRunnable }
+    ensures read { IfOk result (λ script. ReadsAs (F.told shelf.old) name.now (λ text. IsScriptText text script)) }
+    ensures quiet { OnOk result ((F.asked shelf.new ≡ F.asked shelf.old ++ name.now ∷ []) × (F.faults shelf.new ≡ F.faults shelf.old)) }
+    ensures whole { OnOk result (ReadsToEnd (F.is_picked shelf.old) (F.is_picked shelf.new) (F.left shelf.new)) }
+    ensures kept { KeepsLeft (F.is_picked shelf.old) (F.is_picked shelf.new) (F.left shelf.old) (F.left shelf.new) }
+    ensures told { (other : List ℕ) → F.told shelf.new other ≡ F.told shelf.old other }
+    ensures cause { (sets : List Declared) → IfErr result (IsFileCause (F.told shelf.old) sets (F.asked shelf.old) (record { name = name.now; form = inputs.script }) (F.asked shelf.new) (F.faults shelf.old) (F.faults shelf.new)) }
+{
+    let text = match text_of(alloc, shelf, name) {
+        Ok(text) => text,
+        Err(fault) => return Err(fault),
+    };
+    match read_script(alloc, text.as_slice()) {
+        Ok(script) => Ok(script),
+        Err(FormError::Bad { line, reason }) => Err(FileFault::Bad(Flaw::Script { line, reason })),
+        Err(FormError::Memory) => Err(FileFault::Memory),
+    }
+}
+
+/// The key file of a name, for the sets of a script.
+pub fn keys_of<'a, F: Shelf>(
+    alloc: Global,
+    shelf: &mut F,
+    schema: &Schema,
+    name: &'a str,
+) -> Result<Keys, FileFault<'a>>
+    requires { length (F.asked shelf.old) ≤ 2 }
+    ensures fits { IfOk result (All (All (IsFitting schema.now))) }
+    ensures read { IfOk result (λ keys. ReadsAs (F.told shelf.old) name.now (λ text. IsKeysText schema.now text keys)) }
+    ensures quiet { OnOk result ((F.asked shelf.new ≡ F.asked shelf.old ++ name.now ∷ []) × (F.faults shelf.new ≡ F.faults shelf.old)) }
+    ensures whole { OnOk result (ReadsToEnd (F.is_picked shelf.old) (F.is_picked shelf.new) (F.left shelf.new)) }
+    ensures kept { KeepsLeft (F.is_picked shelf.old) (F.is_picked shelf.new) (F.left shelf.old) (F.left shelf.new) }
+    ensures told { (other : List ℕ) → F.told shelf.new other ≡ F.told shelf.old other }
+    ensures cause { IfErr result (IsFileCause (F.told shelf.old) schema.now (F.asked shelf.old) (record { name = name.now; form = inputs.keys }) (F.asked shelf.new) (F.faults shelf.old) (F.faults shelf.new)) }
+{
+    let text = match text_of(alloc, shelf, name) {
+        Ok(text) => text,
+        Err(fault) => return Err(fault),
+    };
+    match read_keys(alloc, schema, text.as_slice()) {
+        Ok(keys) => Ok(keys),
+        Err(FormError::Bad { line, reason }) => Err(FileFault::Bad(Flaw::Keys { line, reason })),
+        Err(FormError::Memory) => Err(FileFault::Memory),
+    }
+}
+
+/// The rules file of a name, for the sets of a script.
+pub fn rules_of<'a, F: Shelf>(
+    alloc: Global,
+    shelf: &mut F,
+    schema: &Schema,
+    name: &'a str,
+) -> Result<Chains, FileFault<'a>>
+    requires { length (F.asked shelf.old) ≤ 2 }
+    ensures schema { IfOk result (λ c. c.schema ≡ schema.now) }
+    ensures read { IfOk result (λ c. ReadsAs (F.told shelf.old) name.now (λ text. IsRulesText schema.now text (c.chains, c.accept))) }
+    ensures quiet { OnOk result ((F.asked shelf.new ≡ F.asked shelf.old ++ name.now ∷ []) × (F.faults shelf.new ≡ F.faults shelf.old)) }
+    ensures whole { OnOk result (ReadsToEnd (F.is_picked shelf.old) (F.is_picked shelf.new) (F.left shelf.new)) }
+    ensures kept { KeepsLeft (F.is_picked shelf.old) (F.is_picked shelf.new) (F.left shelf.old) (F.left shelf.new) }
+    ensures told { (other : List ℕ) → F.told shelf.new other ≡ F.told shelf.old other }
+    ensures cause { IfErr result (IsFileCause (F.told shelf.old) schema.now (F.asked shelf.old) (record { name = name.now; form = inputs.rules }) (F.asked shelf.new) (F.faults shelf.old) (F.faults shelf.new)) }
+{
+    let text = match text_of(alloc, shelf, name) {
+        Ok(text) => text,
+        Err(fault) => return Err(fault),
+    };
+    match read_rules(alloc, schema, text.as_slice()) {
+        Ok(rules) => Ok(rules),
+        Err(FormError::Bad { line, reason }) => Err(FileFault::Bad(Flaw::Rules { line, reason })),
+        Err(FormError::Memory) => Err(FileFault::Memory),
+    }
+}
+
+/// The plan of a name, for the sets of a script.
+pub fn plan_of<'a, F: Shelf>(
+    alloc: Global,
+    shelf: &mut F,
+    schema: &Schema,
+    name: &'a str,
+) -> Result<Plan, FileFault<'a>>
+    requires { length (F.asked shelf.old) ≤ 2 }
+    ensures fits { IfOk result (All (IsPlanned schema.now)) }
+    ensures read { IfOk result (λ plan. ReadsAs (F.told shelf.old) name.now (λ text. IsPlanText schema.now text plan)) }
+    ensures quiet { OnOk result ((F.asked shelf.new ≡ F.asked shelf.old ++ name.now ∷ []) × (F.faults shelf.new ≡ F.faults shelf.old)) }
+    ensures whole { OnOk result (ReadsToEnd (F.is_picked shelf.old) (F.is_picked shelf.new) (F.left shelf.new)) }
+    ensures kept { KeepsLeft (F.is_picked shelf.old) (F.is_picked shelf.new) (F.left shelf.old) (F.left shelf.new) }
+    ensures told { (other : List ℕ) → F.told shelf.new other ≡ F.told shelf.old other }
+    ensures cause { IfErr result (IsFileCause (F.told shelf.old) schema.now (F.asked shelf.old) (record { name = name.now; form = inputs.plan }) (F.asked shelf.new) (F.faults shelf.old) (F.faults shelf.new)) }
+{
+    let text = match text_of(alloc, shelf, name) {
+        Ok(text) => text,
+        Err(fault) => return Err(fault),
+    };
+    match read_plan(alloc, schema, text.as_slice()) {
+        Ok(plan) => Ok(plan),
+        Err(FormError::Bad { line, reason }) => Err(FileFault::Bad(Flaw::Plan { line, reason })),
+        Err(FormError::Memory) => Err(FileFault::Memory),
+    }
+}
+
+/// The frames of the capture of a name.
+pub fn capture_of<'a, F: Shelf>(
+    alloc: Global,
+    shelf: &mut F,
+    name: &'a str,
+) -> Result<Frames, FileFault<'a>>
+    requires { length (F.asked shelf.old) ≤ 2 }
+    ensures values { IfOk result (All HasValues) }
+    ensures read { IfOk result (λ frames. ReadsAs (F.told shelf.old) name.now (λ text. captured text ≡ Ok frames)) }
+    ensures quiet { OnOk result ((F.asked shelf.new ≡ F.asked shelf.old ++ name.now ∷ []) × (F.faults shelf.new ≡ F.faults shelf.old)) }
+    ensures whole { OnOk result (ReadsToEnd (F.is_picked shelf.old) (F.is_picked shelf.new) (F.left shelf.new)) }
+    ensures kept { KeepsLeft (F.is_picked shelf.old) (F.is_picked shelf.new) (F.left shelf.old) (F.left shelf.new) }
+    ensures told { (other : List ℕ) → F.told shelf.new other ≡ F.told shelf.old other }
+    ensures cause { (sets : List Declared) → IfErr result (IsFileCause (F.told shelf.old) sets (F.asked shelf.old) (record { name = name.now; form = inputs.capture }) (F.asked shelf.new) (F.faults shelf.old) (F.faults shelf.new)) }
+{
+    let text = match text_of(alloc, shelf, name) {
+        Ok(text) => text,
+        Err(fault) => return Err(fault),
+    };
+    match read_capture(alloc, text.as_slice()) {
+        Ok(capture) => Ok(capture),
+        Err(CaptureError::Bad { byte, reason }) => {
+            Err(FileFault::Bad(Flaw::Capture { byte, reason }))
+        }
+        Err(CaptureError::Memory) => Err(FileFault::Memory),
+    }
+}

@@ -1,0 +1,12 @@
+//! The files of a command: each read whole and as what it has to be, or why not.
+//!
+//! [`work_of`] reads a command's files in the order of its words, each only where those before it were read whole and are of their
+//! forms, and gives what the command works on. [`FileFault`] says why a file can't be had.
+#![tactic(auto)]
+
+mod fault;
+mod files;
+mod work;
+
+pub use fault::{FileFault, Flaw};
+pub use work::{Work, work_of};

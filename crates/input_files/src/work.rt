@@ -1,0 +1,152 @@
+ghost use Rattle.std.specs.Prelude.{◌≡◌, List, ℕ, [], IfOk, IfErr, OnOk};
+ghost use Rattle.command_words.specs.Words.{IsCommand};
+ghost use Rattle.command_words.specs.WordForms.{plain};
+ghost use Rattle.input_files.specs.Reads.{HasRead, StopsAt};
+ghost use Rattle.input_files.specs.Works.{IsWork, IsDoable};
+
+use crate::fault::FileFault;
+use crate::files::{capture_of, keys_of, plan_of, rules_of, script_of};
+use command_words::{Command, Task};
+use pcap_keys::{Frames, Plan};
+use pip_base::Shelf;
+use rule_chain::Chains;
+use set_model::{Keys, Script};
+use std::alloc::Global;
+
+/// What a command works on: what its files stand for, and what its words say beside them.
+#[derive(Drop)]
+pub enum Work {
+    /// A run of a script beside packets, which so many packet threads look up.
+    Run {
+        script: Script,
+        keys: Keys,
+        threads: u32,
+        /// Whether a refused change is skipped, and doesn't fail its transaction; here and below.
+        keep_going: bool,
+    },
+    /// A listing of the last generation.
+    List {
+        script: Script,
+        keep_going: bool,
+    },
+    /// The tables of the last generation.
+    Dump {
+        script: Script,
+        keep_going: bool,
+    },
+    /// A generated run of so many elements and packets, which so many packet threads look up.
+    Drill {
+        seed: u64,
+        count: u32,
+        threads: u32,
+    },
+    /// A run of a script beside packets, which so many packet threads look up and chains of rules judge.
+    Judge {
+        script: Script,
+        chains: Chains,
+        keys: Keys,
+        threads: u32,
+        keep_going: bool,
+    },
+    /// A run of a script beside the packets that a plan takes from a capture's frames, which so many packet threads look up.
+    Capture {
+        script: Script,
+        plan: Plan,
+        frames: Frames,
+        threads: u32,
+        keep_going: bool,
+    },
+}
+
+/// Reads the files of a command, in the order of its words, each only where those before it were read whole and are of their forms.
+///
+/// # Errors
+///
+/// Why the first of them that can't be had can't.
+pub fn work_of<'a, F: Shelf>(
+    alloc: Global,
+    shelf: &mut F,
+    command: Command<'a>,
+) -> Result<Work, FileFault<'a>>
+    requires nothing { F.asked shelf.old ≡ [] }
+    requires threads { (words : List (List ℕ)) × IsCommand words (plain command) }
+    ensures work { IfOk result (IsWork (F.told shelf.old) (plain command.entry)) }
+    ensures doable { IfOk result IsDoable }
+    ensures all { OnOk result (HasRead (record { told = F.told shelf.old; asked = F.asked shelf.new; faults_before = F.faults shelf.old; faults_now = F.faults shelf.new; picked_before = F.is_picked shelf.old; picked_now = F.is_picked shelf.new; left = F.left shelf.new }) (plain command.entry)) }
+    ensures stops { IfErr result (StopsAt (record { told = F.told shelf.old; asked = F.asked shelf.new; faults_before = F.faults shelf.old; faults_now = F.faults shelf.new; picked_before = F.is_picked shelf.old; picked_now = F.is_picked shelf.new; left = F.left shelf.new }) (plain command.entry)) }
+{
+    match command {
+        Command::Script {
+            script,
+            task,
+            keep_going,
+        } => {
+            let script = match script_of(alloc, shelf, script) {
+                Ok(script) => script,
+                Err(fault) => return Err(fault),
+            };
+            match task {
+                Task::Run { keys, threads } => match keys_of(alloc, shelf, &script.schema, keys) {
+                    Ok(keys) => Ok(Work::Run {
+                        script,
+                        keys,
+                        threads,
+                        keep_going,
+                    }),
+                    Err(fault) => Err(fault),
+                },
+                Task::List => Ok(Work::List { script, keep_going }),
+                Task::Dump => Ok(Work::Dump { script, keep_going }),
+                Task::Judge {
+                    rules,
+                    keys,
+                    threads,
+                } => {
+                    let chains = match rules_of(alloc, shelf, &script.schema, rules) {
+                        Ok(chains) => chains,
+                        Err(fault) => return Err(fault),
+                    };
+                    match keys_of(alloc, shelf, &script.schema, keys) {
+                        Ok(keys) => Ok(Work::Judge {
+                            script,
+                            chains,
+                            keys,
+                            threads,
+                            keep_going,
+                        }),
+                        Err(fault) => Err(fault),
+                    }
+                }
+                Task::Capture {
+                    plan,
+                    packets,
+                    threads,
+                } => {
+                    let plan = match plan_of(alloc, shelf, &script.schema, plan) {
+                        Ok(plan) => plan,
+                        Err(fault) => return Err(fault),
+                    };
+                    match capture_of(alloc, shelf, packets) {
+                        Ok(frames) => Ok(Work::Capture {
+                            script,
+                            plan,
+                            frames,
+                            threads,
+                            keep_going,
+                        }),
+                        Err(fault) => Err(fault),
+                    }
+                }
+            }
+        }
+        Command::Drill {
+            seed,
+            count,
+            threads,
+        } => Ok(Work::Drill {
+            seed,
+            count,
+            threads,
+        }),
+    }
+}

@@ -1,0 +1,20 @@
+-- A call of the program, as its outside shows it.
+use Rattle.std.specs.Prelude.{ℕ, List, Option}
+use Rattle.pip_base.specs.Causes.{Rose}
+use Rattle.input_files.specs.Reads.{Shelved}
+
+-- The words; what the shelf shows; what the sink took, where it tells that, and how often it failed, before the call and behind it;
+-- and the status.
+pub record Call : Type 1 where
+  pub words : List (List ℕ)
+  pub shelf : Shelved
+  pub taken_before : Option (List ℕ)
+  pub taken_now : Option (List ℕ)
+  pub faults_before : ℕ
+  pub faults_now : ℕ
+  pub status : ℕ
+
+-- Nothing failed outside: neither the shelf's count of faults rose nor the sink's.
+pub record IsQuiet (c : Call) : Type 0 where
+  pub shelf : Rose c.shelf.faults_before c.shelf.faults_now → ⊥
+  pub sink : Rose c.faults_before c.faults_now → ⊥

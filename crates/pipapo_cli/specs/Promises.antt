@@ -1,0 +1,45 @@
+-- What a call of the program promises. The two to read first are `ends`, by which every status has its cause, and `exact`, by which
+-- each cause has its status.
+use Rattle.std.specs.Prelude.{◌≡◌, ◌≢◌, ◌⊎◌}
+use Rattle.input_files.specs.Inputs.{Form}
+use Rattle.pipapo_cli.specs.Calls.{Call, IsQuiet}
+use Rattle.pipapo_cli.specs.Lines.{form_status}
+use Rattle.pipapo_cli.specs.Names.{AsksInOrder, AsksForAll}
+use Rattle.pipapo_cli.specs.Answers.{Ends, IsDue, IsDone, Transcribes, Judges, Captures, Lists, Dumps, Drills, TellsPage, TellsReadFault, TellsFlaw}
+use Rattle.pipapo_cli.specs.Exactly.{IsExact, Completes}
+
+-- What every other promise follows from: how the call ends, and which files were read.
+pub record Goes (c : Call) : Type 0 where
+  pub ends : Ends (IsDue c.words c.shelf) c.taken_before c.taken_now c.faults_before c.faults_now c.status
+  pub names : AsksInOrder c.words c.shelf
+  pub all_read : IsDone c.status → AsksForAll c.words c.shelf
+
+pub record Promises (c : Call) : Type 0 where
+  -- Every status has its cause, and what was written is due.
+  pub ends : Ends (IsDue c.words c.shelf) c.taken_before c.taken_now c.faults_before c.faults_now c.status
+  -- Where no count of faults rose, each status comes exactly where the words and the files are such, but for want of memory.
+  pub exact : IsQuiet c → IsExact c
+  -- Where moreover the files are of their forms, the output of exactly these files was written, or memory was wanting.
+  pub complete : IsQuiet c → Completes c
+  -- With status 0 or 1 the sink took the text of a legal transcript, with 1 exactly where a change is refused.
+  pub run : IsDone c.status → Transcribes c
+  -- So it is where chains judge the packets, and of the packets of a capture.
+  pub judge : IsDone c.status → Judges c
+  pub capture : IsDone c.status → Captures c
+  -- In the same way it took the listing of the last generation, and its tables.
+  pub list : IsDone c.status → Lists c
+  pub dump : IsDone c.status → Dumps c
+  -- Of a drill it took the one line, and of words that ask for a page the page, and the status is 0.
+  pub drill : IsDone c.status → Drills c
+  pub page : IsDone c.status → TellsPage c
+  -- The shelf is asked for no name but those of the command's files, in their order; for each only where those before it were read
+  -- whole and accepted. With status 0 or 1 all were read to their ends.
+  pub names : AsksInOrder c.words c.shelf
+  pub all_read : IsDone c.status → AsksForAll c.words c.shelf
+  -- With the status of a form the sink took the line of what is wrong with the file of this form.
+  pub bad : (form : Form) → c.status ≡ form_status form → TellsFlaw form c
+  -- With status 5 the shelf's count rose, at the file that the line names: the last one asked for.
+  pub read_fault : c.status ≡ 5 → TellsReadFault c
+  -- The shelf's count rose only with 5 or 6, and the sink's only with 6.
+  pub shelf_count : c.shelf.faults_now ≢ c.shelf.faults_before → (c.status ≡ 5) ⊎ (c.status ≡ 6)
+  pub sink_count : c.faults_now ≢ c.faults_before → c.status ≡ 6

@@ -1,0 +1,10 @@
+use Rattle.token_forms.specs.TextTokens.{plain_tokens}
+use Rattle.token_forms.proofs.FrontLaws.{refused_once, bad_token_one}
+use Rattle.rule_chain.proofs.RulesFronts.{rules_file_closed}
+use Rattle.rule_chain.proofs.file.one_rules_fault_law.Goals as goal
+
+pub returns-clause-refused : goal.returns-clause-refused
+returns-clause-refused c = refused_once (rules_file_closed c.args._schema.now) (plain_tokens c.args._text.now)
+
+pub returns-clause-token : goal.returns-clause-token
+returns-clause-token c = bad_token_one (rules_file_closed c.args._schema.now) (plain_tokens c.args._text.now) c.args._text.now

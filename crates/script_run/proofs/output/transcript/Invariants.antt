@@ -1,7 +1,0 @@
-use Rattle.std.proofs.Common.{◌+◌}
-use Rattle.script_run.proofs.TranscriptLaws.{IsToldUpTo}
-use Rattle.script_run.proofs.output.transcript.Given as goal
-
--- the sections so far are told
-abbrev pub invariant-rest : goal.invariant-rest
-invariant-rest g l = IsToldUpTo l.keep_going l.fn.script l.keys l.threads (l.j + 1) l.telling
