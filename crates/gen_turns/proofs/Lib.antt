@@ -1,5 +1,5 @@
-pub mod Waiting
 pub mod Stock
+pub mod SeatMoves
 pub mod TakingTurns
 pub mod EndingTurns
 pub mod NoteSteps

@@ -6,17 +6,16 @@ use Rattle.std.specs.Global.{Vec}
 use Rattle.atomic_table.specs.Table.{State, Me, step, opening, Allows, Splits, Joins}
 use Rattle.history_laws.specs.Histories.{StartsWith, EndsWith, Chain}
 use Rattle.history_laws.specs.States.{AllShow}
+use Rattle.ticket_line.specs.Tickets.{InLine}
 use Rattle.gen_turns.specs.declared.board.SeatView.{SeatView}
 use Rattle.gen_turns.specs.declared.board.Role.TheVariants.{Idle, Reader, Keeper}
-use Rattle.gen_turns.specs.TurnRule.{Entry, HasTurns, IsStocked, Kept, listing, starting}
+use Rattle.gen_turns.specs.TurnRule.{Entry, HasTurns, stage_of, ticket_of, IsStocked, Kept, listing, starting}
 use Rattle.gen_turns.specs.TurnSteps.{given_one, next_reader, with_note, drew, looked, entered, published, learned}
 
--- The tickets that are out are exactly the numbers from the served one, in word 1, up to and without the next one, in word 0, modulo 2 ^ 64. At most one for each reader and the writer are out, and each is one seat's
+-- The tickets that are out are exactly the numbers from the served one, in word 1, up to and without the next one, in word 0, modulo 2 ^ 64, each one seat's, in their order. At most one for each reader and the writer are out
 pub record IsQueued {T X : Type 0} (state : T → X) (follows : X → X → Type 0) (s : State (Entry T) (SeatView T X)) (k : Kept state follows s) : Type 0 where
-  pub next : slice_index s.words 0 ≡ (slice_index s.words 1 + k.line) % 18446744073709551616
-  pub few : k.line ≤ k.n + 1
-  pub numbered : (j : ℕ) (d : SeatView T X) → get_elem? s.views j ≡ some d → 1 < d.stage → (i : ℕ) × (i < k.line) × (d.ticket ≡ (slice_index s.words 1 + i) % 18446744073709551616)
-  pub each : (i : ℕ) → i < k.line → (j : ℕ) × (d : SeatView T X) × (get_elem? s.views j ≡ some d) × (1 < d.stage) × (d.ticket ≡ (slice_index s.words 1 + i) % 18446744073709551616)
+  pub queue : InLine stage_of ticket_of s.words s.views k.line
+  pub few : length k.line ≤ k.n + 1
   pub one : (i j : ℕ) (d e : SeatView T X) → get_elem? s.views i ≡ some d → get_elem? s.views j ≡ some e → 1 < d.stage → 1 < e.stage → d.ticket ≡ e.ticket → i ≡ j
   pub turns : (j : ℕ) (d : SeatView T X) → get_elem? s.views j ≡ some d → 1 < d.stage → HasTurns d.role
 

@@ -8,16 +8,17 @@ use mathlib.Core.Option.{some, some-injective, some-ne-none}
 use native.Mathlib.Decide.{ℕ_discrete}
 use lib.ListN.{get_elem?}
 use Rattle.atomic_table.specs.Table.{State, Splits, Joins, opening}
-use Rattle.atomic_table.proofs.Lists.{at_set, set_else, at_longer}
+use Rattle.atomic_table.proofs.Lists.{at_set, at_longer}
 use Rattle.history_laws.proofs.Prefixes.{longer_begins}
 use Rattle.history_laws.proofs.Views.{views_stay, at_end, sum_by-view_set}
 use Rattle.ticket_line.proofs.Lines.{rests as line_rests, joins_none as line_joins, opens as line_opens}
+use Rattle.ticket_line.proofs.Seats.{nobody_still, one_still, one_with}
 use Rattle.log_turns.specs.declared.SeatView.{SeatView}
 use Rattle.log_turns.specs.declared.Role.{Role}
 use Rattle.log_turns.specs.declared.Role.TheVariants.{Idle, Opener, Clerk, Gatherer}
 use Rattle.log_turns.specs.LogRule.{left_at, kept_at, stage_of, ticket_of, seats_of, times_of, left_of, kept_of, IsOpener, HasTurns, of_clerk, Keeps, Plays, Sits, IsNamed, Kept, opening_view}
 use Rattle.log_turns.specs.LogSteps.{one_more, next_role, given_one, next_clerk, gathered, spent_view}
-use Rattle.log_turns.proofs.Seats.{sums_none, times_in, once_alone, never_alone, none_above, new_entries, one_still, one_with}
+use Rattle.log_turns.proofs.Seats.{sums_none, times_in, once_alone, never_alone, none_above, new_entries, GivesSeats}
 use Rattle.log_turns.proofs.Turns.{seated}
 
 module _ {B E G : Type 0} (log : B → List E) (base : B → List G) (number : B → ℕ) (clerk : E → ℕ) (each bound : ℕ) where
@@ -63,10 +64,8 @@ module _ {B E G : Type 0} (log : B → List E) (base : B → List G) (number : B
         few = (let all = few.1 in (omega (arith, some_left), all));
         deep = k.deep;
         queue = line_joins stage_of ticket_of s.words (set s.views id left) k.line right (line_rests stage_of ticket_of s.words s.views k.line k.queue id v left at low low) (omega arith);
-        home = λ away. k.home (λ j d h. dite (ℕ_discrete j id)
-            (λ here. λ three. let same : v ≡ d = some-injective v d (sym at ∙ sym (ap (get_elem? s.views) here) ∙ h) in let st = ap stage_of same in omega (arith, st, three, low))
-            (λ other. away j d (at_longer (set s.views id left) (right ∷ []) j d (set_else s.views id j left other ∙ h))));
-        one_opener = one_with IsOpener (set s.views id left) right (one_still IsOpener s.views id v left at (λ _. was_opener) k.one_opener) (λ _ _ _ _ new. subst IsOpener right_role new);
+        home = λ away. k.home (nobody_still stage_of s.views id v left at (λ three. three) (λ j d h. away j d (at_longer (set s.views id left) (right ∷ []) j d h)));
+        one_opener = one_with GivesSeats (set s.views id left) right (one_still GivesSeats s.views id v left at (λ _. was_opener) k.one_opener) (λ _ _ _ _ new. subst IsOpener right_role new);
         one_each = λ c. let t = sum (times_of c) in let one = k.one_each c in let zero_before : times_of c v ≡ 0 = ap (times_in {E = E} c) none_v in let zero_then : times_of c left ≡ 0 = ap (times_in {E = E} c) none_left in dite (ℕ_discrete (g + 1) c)
             (λ here. let none = sums_none (times_of c) s.views (λ j d at_j. none_above k.given c (kept_of d) (omega (arith, here, number_is))
             (All-weaker (Keeps log base number clerk k.given k.value) (λ p. p.0 ≤ k.given) (λ p h. h.1) (kept_of d) (k.each_seat j d at_j).3)) in
@@ -140,12 +139,9 @@ module _ {B E G : Type 0} (log : B → List E) (base : B → List G) (number : B
         few = k.few;
         deep = k.deep;
         queue = line_rests stage_of ticket_of s.words (set s.views id both) k.line middle other w spent there (omega (arith, its_one)) (omega arith);
-        home = λ away. k.home (λ j d h. dite (ℕ_discrete j id)
-            (λ here. λ three. let same : v ≡ d = some-injective v d (sym at ∙ sym (ap (get_elem? s.views) here) ∙ h) in let st = ap stage_of same in omega (arith, st, three, at_one))
-            (λ first. dite (ℕ_discrete j other)
-            (λ here. λ three. let same : w ≡ d = some-injective w d (sym beside ∙ sym (ap (get_elem? s.views) here) ∙ h) in let st = ap stage_of same in omega (arith, st, three, its_one))
-            (λ second. away j d (set_else (set s.views id both) other j spent second ∙ (set_else s.views id j both first ∙ h)))));
-        one_opener = one_still IsOpener (set s.views id both) other w spent there (λ none. absurd none) (one_still IsOpener s.views id v both at (λ none. absurd none) k.one_opener);
+        home = λ away. k.home (nobody_still stage_of s.views id v both at (λ z. absurd (omega (arith, z, at_one)))
+            (nobody_still stage_of (set s.views id both) other w spent there (λ z. absurd (omega (arith, z, its_one))) away));
+        one_opener = one_still GivesSeats (set s.views id both) other w spent there (λ none. absurd none) (one_still GivesSeats s.views id v both at (λ none. absurd none) k.one_opener);
         one_each = λ c. let t = sum (times_of c) in let one = k.one_each c in let parts : times_of c both ≡ times_of c v + times_of c w = sum_by-append (λ p. cond (p.0 == c) 1 0) (kept_of v) (kept_of w) in omega (arith, t, one, parts);
         clerks = omega (arith, clerks, lengths, count);
         named = k.named;

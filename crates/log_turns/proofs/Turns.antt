@@ -1,34 +1,25 @@
 -- A draw, a look and the end of a turn: each keeps the rule of the table.
-use Rattle.std.proofs.Common.{◌≡◌, ◌≢◌, ℕ, zero, suc, ◌+◌, ◌-◌, ◌%◌, ◌^◌, ◌<◌, ◌≤◌, List, [], ◌∷◌, ◌++◌, All, length, get_or, set, sym, refl, ap, ◌∙◌, subst, arith, Option, Some, None, length-set, length-append}
+use Rattle.std.proofs.Common.{◌≡◌, ◌≢◌, ℕ, ◌+◌, ◌-◌, ◌%◌, ◌^◌, ◌<◌, ◌≤◌, List, [], ◌∷◌, ◌++◌, All, length, get_or, set, sym, refl, ap, ◌∙◌, subst, arith, Option, Some, None, length-set, length-append}
 use Rattle.std.proofs.lemmas.List.Elements.{All-nil, All-cons, All-head, All-tail, All-append, All-weaker}
 use mathlib.Core.Logic.{dite}
-use mathlib.Core.Option.{none, some, some-injective}
+use mathlib.Core.Option.{none, some}
 use native.Mathlib.Decide.{ℕ_discrete}
 use lib.ListN.{get_elem?}
 use lib.Seq.{set-get_or}
 use Rattle.atomic_table.specs.Table.{State, Me, step, keeps, takes, gives, stepped, Allows, rest}
-use Rattle.atomic_table.proofs.Lists.{set_here, set_else, set_again}
+use Rattle.atomic_table.proofs.Lists.{set_here, set_again}
 use Rattle.history_laws.specs.Histories.{StartsWith}
 use Rattle.history_laws.proofs.Prefixes.{starts_itself, starts_through}
 use Rattle.history_laws.proofs.Views.{views_stay, entry_read, sum_by-view_set}
 use Rattle.ticket_line.specs.Tickets.{tickets_at, behind_first}
-use Rattle.ticket_line.proofs.Lines.{draws as line_draws, takes as line_takes, ends as line_ends}
+use Rattle.ticket_line.proofs.Lines.{none_at, draws as line_draws, takes as line_takes, ends as line_ends}
+use Rattle.ticket_line.proofs.Seats.{at_most_one, few_wait as most_wait, served_ticket, served_alone, nobody_still, one_still}
 use Rattle.log_turns.specs.declared.SeatView.{SeatView}
 use Rattle.log_turns.specs.declared.Role.{Role}
 use Rattle.log_turns.specs.declared.Role.TheVariants.{Idle, Opener, Clerk, Gatherer}
-use Rattle.log_turns.specs.LogRule.{left_at, kept_at, stage_of, ticket_of, seats_of, times_of, left_of, kept_of, IsOpener, HasTurns, of_clerk, Keeps, Plays, Sits, IsNamed, Kept}
-use Rattle.log_turns.specs.LogSteps.{drew, Finds, looked, done, MayGive}
-use Rattle.log_turns.proofs.Seats.{sums_le, part_le, parts_le, times_in, once_alone, all_others, others_entries, one_still}
-
-low_tickets : (n : ℕ) → n < 2 → tickets_at n ≡ 0
-low_tickets zero l = refl
-low_tickets (suc zero) l = refl
-low_tickets (suc (suc n)) l = absurd (omega arith)
-
-at_most_one : (n : ℕ) → tickets_at n ≤ 1
-at_most_one zero = omega arith
-at_most_one (suc zero) = omega arith
-at_most_one (suc (suc n)) = omega arith
+use Rattle.log_turns.specs.LogRule.{left_at, kept_at, stage_of, ticket_of, seats_of, times_of, left_of, kept_of, HasTurns, of_clerk, Keeps, Plays, Sits, IsNamed, Kept}
+use Rattle.log_turns.specs.LogSteps.{drew, looked, done, MayGive}
+use Rattle.log_turns.proofs.Seats.{GivesSeats, part_le, parts_le, times_in, once_alone, all_others, others_entries}
 
 abbrev value_or : {B : Type 0} → B → List (ℕ × Option B) → B
 value_or b [] = b
@@ -50,8 +41,8 @@ module _ {B E G : Type 0} (log : B → List E) (base : B → List G) (number : B
 
   -- only seats with a number have tickets
   one_ticket : (n given : ℕ) (value : B) (d : SeatView B E G) (role : Role) → PlaysAs n given value d role → tickets_at d.stage ≤ length (kept_at role d.seen d.kept)
-  one_ticket n given value d Idle k = let none = low_tickets d.stage k in omega (arith, none)
-  one_ticket n given value d (Opener g) k = let none = low_tickets d.stage k.0 in omega (arith, none)
+  one_ticket n given value d Idle k = let none = none_at d.stage k in omega (arith, none)
+  one_ticket n given value d (Opener g) k = let none = none_at d.stage k.0 in omega (arith, none)
   one_ticket n given value d (Clerk c) k = at_most_one d.stage
   one_ticket n given value d Gatherer k = let some_kept = k.2 in let one = at_most_one d.stage in omega (arith, one, some_kept)
 
@@ -77,8 +68,8 @@ module _ {B E G : Type 0} (log : B → List E) (base : B → List G) (number : B
 
   pub at_most_16 : (s : St) (k : Rule s) → length k.line ≤ 16
   at_most_16 s k =
-      let low = sums_le (λ d. tickets_at (stage_of d)) seats_of s.views (λ j d at. one_ticket k.n k.given k.value d d.role (k.each_seat j d at).2) in
-      let count = k.queue.count in let clerks = k.clerks in let few = k.few in let a = few.0 in let b = few.1 in omega (arith, low, count, clerks, a, b)
+      let most = most_wait stage_of ticket_of s.words s.views k.line k.queue seats_of (λ j d at. one_ticket k.n k.given k.value d d.role (k.each_seat j d at).2) in
+      let clerks = k.clerks in let few = k.few in let a = few.0 in let b = few.1 in omega (arith, most, clerks, a, b)
 
   few_wait : (s : St) (k : Rule s) → length k.line < 18446744073709551616
   few_wait s k = let few = at_most_16 s k in omega (arith, few)
@@ -86,29 +77,6 @@ module _ {B E G : Type 0} (log : B → List E) (base : B → List G) (number : B
   -- what each seat keeps
   pub seat_keeps : (s : St) (k : Rule s) (j : ℕ) (d : SeatView B E G) → get_elem? s.views j ≡ some d → StartsWith (log k.value) d.seen × All (Keeps log base number clerk k.given k.value) (kept_of d)
   seat_keeps s k j d at = let its = k.each_seat j d at in (its.0, its.3)
-
-  module _ (s : St) (k : Rule s) (id : ℕ) (d : SeatView B E G) (at : get_elem? s.views id ≡ some d) where
-    there : id < length s.views
-    there = (entry_read s.views id d at).0
-
-    -- nobody is served where nobody was, and this seat isn't
-    nobody_still : (w : SeatView B E G) → d.stage ≢ 3 → ((j : ℕ) (e : SeatView B E G) → get_elem? (set s.views id w) j ≡ some e → e.stage ≢ 3) → (j : ℕ) (e : SeatView B E G) → get_elem? s.views j ≡ some e → e.stage ≢ 3
-    nobody_still w mine away j e h = dite (ℕ_discrete j id)
-        (λ here. λ three. let same : d ≡ e = some-injective d e (sym at ∙ sym (ap (get_elem? s.views) here) ∙ h) in mine (ap (λ (v : SeatView B E G). v.stage) same ∙ three))
-        (λ other. away j e (set_else s.views id j w other ∙ h))
-
-    -- the ticket of who is served is the served one
-    served_ticket : d.stage ≡ 3 → d.ticket ≡ get_or s.words 1 0
-    served_ticket three =
-        let mine = k.queue.waits id d at (omega (arith, three)) in let first = k.queue.first mine.0 id d mine.1 at three in let old = k.queue.each mine.0 id mine.1 in let number_is = old.3 in
-        let same = ap (λ (v : SeatView B E G). v.ticket) (some-injective old.0 d (sym old.1 ∙ at)) in let small = k.queue.small in omega (arith, number_is, same, first, small)
-
-    -- and nobody else is served
-    served_alone : d.stage ≡ 3 → (j : ℕ) (e : SeatView B E G) → j ≢ id → get_elem? s.views j ≡ some e → e.stage ≢ 3
-    served_alone three j e other h = λ its_three.
-        let mine = k.queue.waits id d at (omega (arith, three)) in let first = k.queue.first mine.0 id d mine.1 at three in
-        let its = k.queue.waits j e h (omega (arith, its_three)) in let its_first = k.queue.first its.0 j e its.1 h its_three in
-        other (some-injective j id (sym its.1 ∙ ap (get_elem? k.line) (its_first ∙ sym first) ∙ mine.1))
 
   pub draws : (slots id : ℕ) (me : M) → HasTurns me.0.role → me.0.stage ≡ 1 → Allows Rule slots id me 0 (λ x. (x + 1) % 2 ^ 64) (drew (step slots 0 1 0 none) me)
   draws slots id me turns at_one s k deep at fits =
@@ -125,8 +93,8 @@ module _ {B E G : Type 0} (log : B → List E) (base : B → List G) (number : B
           few = k.few;
           deep = k.deep;
           queue = line_draws stage_of ticket_of s.words s.views k.line k.queue id me.0 w at (omega (arith, at_one)) refl refl (few_wait s k) ((e + 1) % 18446744073709551616) refl;
-          home = λ away. k.home (nobody_still s k id me.0 at w (λ z. omega (arith, z, at_one)) away);
-          one_opener = one_still IsOpener s.views id me.0 w at (λ h. h) k.one_opener;
+          home = λ away. k.home (nobody_still stage_of s.views id me.0 w at (λ z. absurd (omega (arith, z, at_one))) away);
+          one_opener = one_still GivesSeats s.views id me.0 w at (λ h. h) k.one_opener;
           one_each = λ c. let t = sum_by-view_set (times_of c) s.views id me.0 w at in let one = k.one_each c in omega (arith, t, one);
           clerks = omega (arith, clerks, count);
           named = k.named;
@@ -159,8 +127,8 @@ module _ {B E G : Type 0} (log : B → List E) (base : B → List G) (number : B
           few = k.few;
           deep = length-set s.homes 0 none ∙ k.deep;
           queue = served.0;
-          home = λ away. absurd (away id w (set_here s.views id w (there s k id me.0 at)) refl);
-          one_opener = one_still IsOpener s.views id me.0 w at (λ h. h) k.one_opener;
+          home = λ away. absurd (away id w (set_here s.views id w (entry_read s.views id me.0 at).0) refl);
+          one_opener = one_still GivesSeats s.views id me.0 w at (λ h. h) k.one_opener;
           one_each = λ c. let t = sum_by-view_set (times_of c) s.views id me.0 w at in let one = k.one_each c in omega (arith, t, one);
           clerks = omega (arith, clerks, count);
           named = k.named;
@@ -223,7 +191,7 @@ module _ {B E G : Type 0} (log : B → List E) (base : B → List G) (number : B
       let logged : log v ≡ log k.value ++ may.added = may.log_is ∙ ap (λ b. log b ++ may.added) took in let based : base v ≡ base k.value = may.base_is ∙ ap base took in
       let more : StartsWith (log v) (log k.value) = (may.added, logged) in
       let w : SeatView B E G = record me.0 { stage = 1; seen = log v; left = me.0.left - (length (log v) - length (log may.took)) } in
-      let ticket = served_ticket s k id me.0 at at_three in
+      let ticket = served_ticket stage_of ticket_of s.words s.views k.line k.queue id me.0 at at_three in
       let clerks = sum_by-view_set seats_of s.views id me.0 w at in let one_before = ap length (own_log me.0.seen) in let one_then = ap length (own_log (log v)) in
       let lefts = sum_by-view_set left_of s.views id me.0 w at in let count = k.clerks in let numbers = k.numbers in
       let left_is : left_of me.0 ≡ me.0.left = left_whole me.0.role me.0.left turns in let left_then : left_of w ≡ me.0.left - (length (log v) - length (log may.took)) = left_whole me.0.role (me.0.left - (length (log v) - length (log may.took))) turns in
@@ -240,7 +208,7 @@ module _ {B E G : Type 0} (log : B → List E) (base : B → List G) (number : B
           deep = length-set s.homes 0 (some (Some v)) ∙ k.deep;
           queue = line_ends stage_of ticket_of s.words s.views k.line id me.0 w new at k.queue at_three (omega arith) (new_of ∙ ap (λ (n : ℕ). (n + 1) % 18446744073709551616) ticket);
           home = λ _. set_here s.homes 0 (some (Some v)) (let one = k.deep in omega (arith, one));
-          one_opener = one_still IsOpener s.views id me.0 w at (λ h. h) k.one_opener;
+          one_opener = one_still GivesSeats s.views id me.0 w at (λ h. h) k.one_opener;
           one_each = λ o. let t = sum_by-view_set (times_of o) s.views id me.0 w at in let one = k.one_each o in let before : times_of o me.0 ≡ times_in o ((c, me.0.seen) ∷ []) = ap (times_in o) (own_log me.0.seen) in let then : times_of o w ≡ times_in o ((c, log v) ∷ []) = ap (times_in o) (own_log (log v)) in
               let same : times_in o ((c, me.0.seen) ∷ []) ≡ times_in o ((c, log v) ∷ []) = refl in omega (arith, t, one, before, then, same);
           clerks = omega (arith, clerks, count, one_before, one_then);
@@ -259,7 +227,7 @@ module _ {B E G : Type 0} (log : B → List E) (base : B → List G) (number : B
               let both = parts_le (times_of c) s.views id j me.0 d at at_j (λ z. other (sym z)) in let mine_once : times_of c me.0 ≡ 1 = ap (times_in c) (own_log me.0.seen) ∙ once_alone c me.0.seen in let most = k.one_each c in
               let none : times_of c d ≡ 0 = omega (arith, both, mine_once, most) in (
                 starts_through (log v) (log k.value) d.seen more old.0,
-                (λ three. absurd (served_alone s k id me.0 at at_three j d other at_j three)),
+                (λ three. absurd (served_alone stage_of ticket_of s.words s.views k.line k.queue id me.0 at at_three j d other at_j three)),
                 other_plays k.n k.given k.value v d d.role based old.2,
                 others_kept k.given k.value v c may.added logged may.own (kept_of d) (all_others c (kept_of d) none) old.3,
               ));

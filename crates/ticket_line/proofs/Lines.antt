@@ -9,7 +9,7 @@ use Rattle.atomic_table.proofs.Lists.{at_set, set_here, set_else, at_longer, at_
 use Rattle.history_laws.proofs.Views.{at_end, entry_read, sum_by-view_set}
 use Rattle.ticket_line.specs.Tickets.{tickets_at, behind_first, InLine}
 
-none_at : (n : ℕ) → n < 2 → tickets_at n ≡ 0
+pub none_at : (n : ℕ) → n < 2 → tickets_at n ≡ 0
 none_at zero l = refl
 none_at (suc zero) l = refl
 none_at (suc (suc n)) l = absurd (omega arith)
@@ -50,6 +50,26 @@ module _ {D : Type 0} (stage ticket : D → ℕ) where
       apart = k.apart;
       first = λ p j e h g three. ⊎_elim
           (λ (t : (j ≡ id) × (w ≡ e)). let s = ap stage t.1 in absurd (omega (arith, three, s, low_then)))
+          (λ (t : (j ≢ id) × (get_elem? views j ≡ some e)). k.first p j e h t.1 three) (seen_as j e g);
+    }
+
+    -- A seat has another view with the ticket that it had.
+    pub stays : stage w ≡ stage d → ticket w ≡ ticket d → InLine stage ticket words (set views id w) line
+    stays same_stage same_ticket = let c = sum_by-view_set weight views id d w at in let t = ap tickets_at same_stage in let count = k.count in record {
+      wide = k.wide;
+      small = k.small;
+      next = k.next;
+      count = omega (arith, c, t, count);
+      each = λ p j h. let old = k.each p j h in let high = old.2 in dite (ℕ_discrete j id)
+          (λ here. let one : old.0 ≡ d = one_view views id old.0 d (sym (ap (get_elem? views) here) ∙ old.1) at in let s = ap stage one in
+          (w, ap (get_elem? (set views id w)) here ∙ set_here views id w there, omega (arith, high, s, same_stage), same_ticket ∙ ap ticket (sym one) ∙ old.3))
+          (λ other. (old.0, set_else views id j w other ∙ old.1, old.2, old.3));
+      waits = λ j e h l. ⊎_elim
+          (λ (t : (j ≡ id) × (w ≡ e)). let s = ap stage t.1 in let mine = k.waits id d at (omega (arith, l, s, same_stage)) in (mine.0, mine.1 ∙ ap some (sym t.0)))
+          (λ (t : (j ≢ id) × (get_elem? views j ≡ some e)). k.waits j e t.1 l) (seen_as j e h);
+      apart = k.apart;
+      first = λ p j e h g three. ⊎_elim
+          (λ (t : (j ≡ id) × (w ≡ e)). let s = ap stage t.1 in k.first p id d (h ∙ ap some t.0) at (omega (arith, three, s, same_stage)))
           (λ (t : (j ≢ id) × (get_elem? views j ≡ some e)). k.first p j e h t.1 three) (seen_as j e g);
     }
 

@@ -27,6 +27,10 @@ DoneKeeps D = (stage ticket : D → ℕ) (words : List ℕ) (views : List D) (li
 abbrev pub RestKeeps : Type 0 → Type 0
 RestKeeps D = (stage ticket : D → ℕ) (words : List ℕ) (views : List D) (line : List ℕ) → InLine stage ticket words views line → (id : ℕ) (d w : D) → get_elem? views id ≡ some d → stage d < 2 → stage w < 2 → InLine stage ticket words (slice_set views id w) line
 
+-- A seat has another view with the ticket that it had.
+abbrev pub StayKeeps : Type 0 → Type 0
+StayKeeps D = (stage ticket : D → ℕ) (words : List ℕ) (views : List D) (line : List ℕ) → InLine stage ticket words views line → (id : ℕ) (d w : D) → get_elem? views id ≡ some d → stage w ≡ stage d → ticket w ≡ ticket d → InLine stage ticket words (slice_set views id w) line
+
 -- A seat more has no ticket.
 abbrev pub SeatKeeps : Type 0 → Type 0
 SeatKeeps D = (stage ticket : D → ℕ) (words : List ℕ) (views : List D) (line : List ℕ) (w : D) → InLine stage ticket words views line → stage w < 2 → InLine stage ticket words (views ++ w ∷ []) line

@@ -1,15 +1,16 @@
 //! Laws of the line of a ticket lock, whatever it locks: seats draw tickets, wait until theirs is served, and are done.
 #![tactic(auto)]
 
-ghost use Rattle.ticket_line.specs.LineLaws.{Opens, DrawKeeps, LookKeeps, DoneKeeps, RestKeeps, SeatKeeps};
+ghost use Rattle.ticket_line.specs.LineLaws.{Opens, DrawKeeps, LookKeeps, DoneKeeps, RestKeeps, StayKeeps, SeatKeeps};
 
 /// The line at the start is one, and each step keeps it: a draw, a look at a seat's own ticket, the end of its turn, a seat
-/// without a ticket that has another view without one, and a seat more.
+/// without a ticket that has another view without one, a seat that has another view with the same ticket, and a seat more.
 pub fn every_step<D>()
     ensures opening { Opens D }
     ensures draw { DrawKeeps D }
     ensures look { LookKeeps D }
     ensures done { DoneKeeps D }
     ensures rest { RestKeeps D }
+    ensures stay { StayKeeps D }
     ensures seat { SeatKeeps D }
 {}

@@ -1,4 +1,4 @@
-use Rattle.ticket_line.proofs.Lines.{opens, draws, takes, ends, rests, joins_none}
+use Rattle.ticket_line.proofs.Lines.{opens, draws, takes, ends, rests, stays, joins_none}
 use Rattle.ticket_line.proofs.every_step.Goals as goal
 
 pub returns-clause-opening : goal.returns-clause-opening
@@ -15,6 +15,9 @@ returns-clause-done g c = ends
 
 pub returns-clause-rest : goal.returns-clause-rest
 returns-clause-rest g c = rests
+
+pub returns-clause-stay : goal.returns-clause-stay
+returns-clause-stay g c = stays
 
 pub returns-clause-seat : goal.returns-clause-seat
 returns-clause-seat g c = joins_none
