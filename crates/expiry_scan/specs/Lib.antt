@@ -1,1 +1,2 @@
 pub mod Expired
+pub mod Soonest

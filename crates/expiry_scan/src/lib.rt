@@ -1,11 +1,14 @@
-//! Which elements of a list are expired. Moments are in milliseconds. Nothing here takes memory.
+//! Which elements of a list are expired. Moments are in milliseconds. A scan takes no memory.
 #![tactic(auto)]
 
 ghost use Rattle.std.specs.Prelude.{◌≡◌, ◌<◌, not, length, IfSome, position, count_by};
 ghost use Rattle.set_model.specs.Expiry.{lives};
 ghost use Rattle.expiry_scan.specs.Expired.{is_expired, next_place};
 
+mod timed;
+
 use set_model::{Element, Elements};
+pub use timed::TimedElements;
 
 /// Whether an expiry has come at `now`: there is one, and it is at most `now`.
 #[inline(always)]

@@ -1,19 +1,24 @@
 use crate::*;
-use set_model::{Comment, Elements, Interval, Memory, Parts};
+use set_model::{Comment, Element, Elements, Interval, Memory, Parts};
 use std::alloc::Global;
 use std::test::Fail;
 
-/// Adds an element of one port with this expiry.
-fn add(alloc: Global, elements: &mut Elements, expiry: Option<u64>) -> Result<(), Memory> {
-    let id = elements.len();
+/// An element of one port with this expiry.
+pub(crate) fn element(alloc: Global, id: u64, expiry: Option<u64>) -> Result<Element, Memory> {
     let mut parts = Parts::new(alloc);
     parts.push(Interval { low: 80, high: 80 })?;
-    elements.push(Element {
+    Ok(Element {
         id,
         parts,
         expiry,
         comment: Comment::new(alloc),
     })
+}
+
+/// Adds an element of one port with this expiry.
+fn add(alloc: Global, elements: &mut Elements, expiry: Option<u64>) -> Result<(), Memory> {
+    let id = elements.len();
+    elements.push(element(alloc, id, expiry)?)
 }
 
 #[test]

@@ -16,3 +16,4 @@ pub mod SpanLaws
 pub mod RunLaws
 pub mod Shrinking
 pub mod Purging
+pub mod Leaving

@@ -1,8 +1,10 @@
 -- What a deletion answers, and the set that it leaves.
-use Rattle.std.specs.Prelude.{◌≡◌, ℕ, ◌<◌, List, length, Option, Some, None, Result, Ok, Err, position, remove, IfSome}
+use Rattle.std.specs.Prelude.{◌≡◌, ℕ, ◌<◌, List, length, Option, Some, None, Result, Ok, Err, position, remove, if◌then◌else◌, IfSome}
 use Rattle.set_model.specs.declared.kind.Interval.{Interval}
 use Rattle.set_model.specs.SetState.{State, is_exactly}
 use Rattle.set_model.specs.declared.report.Why.TheVariants.{Missing}
+use Rattle.set_model.specs.Expiry.{live}
+use Rattle.pipapo_image.specs.Found.{element_at}
 use Rattle.pipapo_image.specs.declared.answers.ChangeError.{ChangeError}
 use Rattle.pipapo_image.specs.declared.answers.ChangeError.TheVariants.{Refused, Memory}
 
@@ -21,3 +23,7 @@ pub record IsExactPlace (s : State) (parts : List Interval) (now : ℕ) (result 
 -- the set without the element at a place
 abbrev pub without_at : State → ℕ → State
 without_at s i = record s { elements = remove s.elements i }
+
+-- the set without the element at a place where that is expired at a moment
+abbrev pub without_expired_at : State → ℕ → ℕ → State
+without_expired_at s i now = if live (element_at s i) now then s else without_at s i

@@ -5,7 +5,8 @@ ghost use Rattle.pipapo_image.specs.Found.{found, found_at, element_at, IsPlace}
 
 use crate::index::Index;
 use crate::scratch::Scratch;
-use set_model::{Duplicate, Elements, Found, Key, Kinds, Listed, Memory};
+use expiry_scan::TimedElements;
+use set_model::{Duplicate, Found, Key, Kinds, Memory};
 use std::alloc::Global;
 use std::marker::Model;
 
@@ -22,7 +23,7 @@ pub struct SetImage {
     pub disjoint: bool,
     /// The tables of the elements.
     pub index: Index,
-    pub elements: Elements,
+    pub elements: TimedElements,
     /// The id of the next new element.
     pub next: u64,
 }
@@ -60,7 +61,7 @@ impl SetImage {
             size,
             disjoint,
             index: Index::new(alloc, kinds)?,
-            elements: Listed::new(alloc),
+            elements: TimedElements::new(alloc),
             next: 0,
         })
     }

@@ -33,6 +33,10 @@ FitsSet w set parts = (s : State) → slice_get w.sets set ≡ Some s → parts_
 abbrev pub Lacks : Open → ℕ → List Interval → ℕ → Type 0
 Lacks w set parts now = (s : State) → slice_get w.sets set ≡ Some s → removed s parts now ≡ None
 
+-- The set at a place has no element.
+abbrev pub IsEmptyAt : Open → ℕ → Type 0
+IsEmptyAt w set = (s : State) → slice_get w.sets set ≡ Some s → s.elements ≡ []
+
 -- The set at a place is changed, from one state to another, and nothing else is.
 pub record IsChange (step : State → State → Type 0) (old : Open) (set : ℕ) (new : Open) : Type 0 where
   pub state : State

@@ -1,8 +1,9 @@
 -- What the sets of a work stand for, beside those of its base.
-use Rattle.std.specs.Prelude.{◌≡◌, ℕ, List, [], ◌∷◌, Some, not, count_by, slice_get}
+use Rattle.std.specs.Prelude.{◌≡◌, ℕ, List, [], ◌∷◌, Option, Some, None, not, count_by, slice_get}
 use Rattle.std.specs.Arc.{arc_value}
 use Rattle.set_model.specs.SetState.{State, purged}
 use Rattle.set_model.specs.Expiry.{live}
+use Rattle.expiry_scan.specs.Expired.{is_expired}
 use Rattle.set_space.specs.declared.open_set.OpenSet.{OpenSet}
 use Rattle.set_space.specs.declared.open_set.OpenSet.TheVariants.{Unchanged, Changed, Sealed}
 
@@ -17,6 +18,11 @@ abbrev pub open_states : List OpenSet → List State → List State
 open_states [] bases = []
 open_states (o ∷ os) [] = []
 open_states (o ∷ os) (base ∷ bases) = open_state o base ∷ open_states os bases
+
+-- A set without its expired elements, and how many these are; nothing where none is expired.
+abbrev pub IsPurgedAnew : State → ℕ → Option (State × ℕ) → Type 0
+IsPurgedAnew s now (Some (t, count)) = (t ≡ purged s now) × (count ≡ count_by (is_expired now) s.elements)
+IsPurgedAnew s now None = count_by (is_expired now) s.elements ≡ 0
 
 -- The state at a place, without its expired elements, and how many these are.
 pub record IsSealed (states : List State) (i now : ℕ) (published : State) (count : ℕ) : Type 0 where

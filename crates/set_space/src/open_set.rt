@@ -1,4 +1,4 @@
-ghost use Rattle.std.specs.Prelude.{◌≡◌, ◌<◌, true, None, length, count_by, IfOk, OnErr};
+ghost use Rattle.std.specs.Prelude.{◌≡◌, ◌<◌, true, None, Ok, [], length, count_by, IfOk, OnErr};
 ghost use Rattle.std.specs.Arc.{arc_value};
 ghost use Rattle.set_model.specs.Key.{parts_fit};
 ghost use Rattle.set_model.specs.SetState.{State, add, removed, purged, cleared};
@@ -7,10 +7,9 @@ ghost use Rattle.pipapo_image.specs.Found.{element_at};
 ghost use Rattle.pipapo_image.specs.Insert.{IsAnswer, said};
 ghost use Rattle.pipapo_image.specs.Decision.{CanBeDone, comes, left};
 ghost use Rattle.pipapo_image.specs.Remove.{IsRemoval, without_at};
-ghost use Rattle.set_space.specs.OpenSets.{open_state};
+ghost use Rattle.set_space.specs.OpenSets.{open_state, IsPurgedAnew};
 ghost use Rattle.set_space.specs.Answers.{IsCreation};
 
-use expiry_scan::count_expired;
 use pipapo_image::{Added, ChangeError, Decision, Scratch, SetImage};
 use set_model::{Comment, Memory, Parts, Why};
 use std::alloc::Global;
@@ -157,13 +156,18 @@ impl OpenSet {
         Ok(id)
     }
 
-    /// Takes all elements out, and answers how many there were.
+    /// Takes all elements out, and answers how many there were. A set without elements stays as it is,
+    /// shared where it was.
     pub(crate) fn flush(&mut self, alloc: Global, base: &SetImage) -> Result<u64, Memory>
         ensures ok { IfOk result (λ n. (n ≡ length (open_state self.old base.now).elements) × (open_state self.new base.now ≡ cleared (open_state self.old base.now))) }
         ensures err { OnErr result (open_state self.new base.now ≡ open_state self.old base.now) }
+        ensures empty { (open_state self.old base.now).elements ≡ [] → (result ≡ Ok 0) × (self.new ≡ self.old) }
     {
         let set = self.image(base);
         let count = set.elements.len();
+        if count == 0 {
+            return Ok(0);
+        }
         let image = emptied(alloc, set)?;
         *self = OpenSet::Changed(image);
         Ok(count)
@@ -191,19 +195,23 @@ impl OpenSet {
         match mem::replace(self, OpenSet::Unchanged) {
             OpenSet::Unchanged => Ok(Arc::try_clone(base)?),
             OpenSet::Sealed(image) => self.keep(image),
-            OpenSet::Changed(image) => match Arc::new(alloc, image) {
-                Ok(image) => self.keep(image),
-                Err(failed) => {
-                    *self = OpenSet::Changed(failed.value);
-                    Err(Memory)
+            OpenSet::Changed(mut image) => {
+                image.find_soonest();
+                match Arc::new(alloc, image) {
+                    Ok(image) => self.keep(image),
+                    Err(failed) => {
+                        *self = OpenSet::Changed(failed.value);
+                        Err(Memory)
+                    }
                 }
-            },
+            }
         }
     }
 
     /// The set as it is published at `now`, in milliseconds: without the elements that are expired
     /// then, and how many these are. The open set stays as it is. A set of which none is expired is
     /// shared and not copied.
+    #[tactic(auto, using(pipapo_image::proofs::Purging::all_stay))]
     pub(crate) fn seal(
         &mut self,
         alloc: Global,
@@ -213,18 +221,23 @@ impl OpenSet {
         ensures same { open_state self.new (arc_value base.now) ≡ open_state self.old (arc_value base.now) }
         ensures sealed { IfOk result (λ r. (arc_value r.0 ≡ purged (open_state self.old (arc_value base.now)) now) × (r.1 ≡ count_by (is_expired now) (open_state self.old (arc_value base.now)).elements)) }
     {
-        let count = expired_of(self.image(base), now);
-        if count > 0 {
-            let image = self.image(base).live_part(alloc, now)?;
-            return Ok((Arc::new(alloc, image)?, count));
+        match purged_anew(alloc, self.image(base), now)? {
+            Some((image, count)) => Ok((Arc::new(alloc, image)?, count)),
+            None => Ok((self.share(alloc, base)?, 0)),
         }
-        Ok((self.share(alloc, base)?, count))
     }
 }
 
-/// How many elements of a set are expired at `now`.
-fn expired_of(set: &SetImage, now: u64) -> u64
-    ensures { result ≡ count_by (is_expired now) set.now.elements }
+/// A set without the elements that are expired at `now`, and how many these are. `None` where none
+/// is expired, so that the set can be shared; nothing is made anew then.
+fn purged_anew(alloc: Global, set: &SetImage, now: u64) -> Result<Option<(SetImage, u64)>, Memory>
+    ensures none { count_by (is_expired now) set.now.elements ≡ 0 → result ≡ Ok None }
+    ensures some { IfOk result (λ anew. IsPurgedAnew set.now now anew) }
 {
-    count_expired(&set.elements, now)
+    let count = set.elements.count_expired(now);
+    if count == 0 {
+        return Ok(None);
+    }
+    let image = set.live_part(alloc, now)?;
+    Ok(Some((image, count)))
 }

@@ -119,6 +119,12 @@ fn change_nothing(rt: &impl Abort, alloc: Global, work: &mut Work) -> Result<(),
     Ok(())
 }
 
+/// Flushes a set, and how many elements it had.
+fn flushed(rt: &impl Abort, work: &mut Work, set: u32) -> Result<u64, Memory> {
+    assert!(rt; u64::from(set) < work.len());
+    work.flush(set)
+}
+
 /// Publishes the work at a moment.
 fn sealed(
     rt: &impl Abort,
@@ -201,5 +207,20 @@ fn what_changes_nothing_leaves_the_set_shared(rt: HostRuntime) -> Result<(), Fai
     change_nothing(&rt, alloc, &mut work)?;
     // of the work and the generation
     assert_eq!(rt; owners(&rt, &generation, 0), 2);
+    Ok(())
+}
+
+#[test]
+fn a_flush_of_an_empty_set_leaves_it_shared(rt: HostRuntime) -> Result<(), Fail> {
+    let alloc = rt.alloc();
+    let mut work = work_on_two_sets(alloc)?;
+    assert!(rt; inserted(&rt, alloc, &mut work, 1, None)? == Some(0));
+    assert_eq!(rt; flushed(&rt, &mut work, 0)?, 0);
+    assert_eq!(rt; flushed(&rt, &mut work, 1)?, 1);
+    let (generation, _) = sealed(&rt, &mut work, 0)?;
+    // of the base and the generation
+    assert_eq!(rt; owners(&rt, &generation, 0), 2);
+    assert_eq!(rt; owners(&rt, work.base(), 0), 2);
+    assert_eq!(rt; owners(&rt, work.base(), 1), 1);
     Ok(())
 }

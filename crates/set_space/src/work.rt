@@ -4,7 +4,7 @@ ghost use Rattle.set_model.specs.SetState.{add, removed, purged, cleared};
 ghost use Rattle.set_model.specs.Control.{expired_count};
 ghost use Rattle.pipapo_image.specs.Insert.{IsAnswer};
 ghost use Rattle.pipapo_image.specs.Remove.{IsRemoval};
-ghost use Rattle.set_space.specs.Open.{opened, sealed, FitsSet, Lacks, IsChange};
+ghost use Rattle.set_space.specs.Open.{opened, sealed, FitsSet, Lacks, IsEmptyAt, IsChange};
 ghost use Rattle.set_space.specs.Answers.{IsCreation, IsDestruction, IsFlush};
 ghost use Rattle.set_space.specs.OpenSets.{open_states, IsSealed};
 
@@ -247,7 +247,8 @@ impl Work {
         }
     }
 
-    /// Takes all elements out of a set, and answers how many there were. Ids go on.
+    /// Takes all elements out of a set, and answers how many there were. Ids go on. A set without
+    /// elements stays shared, and that takes no memory.
     ///
     /// # Errors
     ///
@@ -255,6 +256,7 @@ impl Work {
     pub fn flush(&mut self, set: u32) -> Result<u64, Memory>
         requires { set < length self.old.sets }
         ensures change { IsChange (λ s t. IsFlush result s t) self.old set self.new }
+        ensures empty { IsEmptyAt self.old set → result ≡ Ok 0 }
         ensures refused { OnErr result (self.new ≡ self.old) }
     {
         let base = self.base.set(set);

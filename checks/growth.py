@@ -1,0 +1,107 @@
+#!/usr/bin/env python3
+"""Runs scripts of n and of 4n elements and changes: words PROGRAM.
+
+Each row of the table is one kind of script. It grows too fast where the processor time of 4n is more than eight times that of
+n, each the least of a few runs. No absolute time is looked at.
+"""
+import os
+import resource
+import subprocess
+import sys
+import tempfile
+
+MOST, TIMES, RUNS = 8, 4, 3
+
+
+# ---- scripts
+
+def addresses(flags, count):
+    """A set of so many elements, committed."""
+    yield f"add set ip t s {{ type ipv4_addr . inet_service ; flags interval{flags} ; }}"
+    for n in range(count):
+        yield f"add element ip t s {{ 10.{n >> 16 & 255}.{n >> 8 & 255}.{n & 255} . {1024 + n % 1000} }}"
+    yield "commit"
+
+
+def beside(flags, count):
+    """So many elements, and commits of one change each of another set."""
+    yield "add set ip t p { type inet_service ; }"
+    yield from addresses(flags, count)
+    for n in range(count // 25):
+        yield f"{'delete' if n % 2 else 'add'} element ip t p {{ 80 }}"
+        yield "commit"
+
+
+def without_lives(count):
+    return beside("", count)
+
+
+def lives_far_off(count):
+    return beside(",timeout ; timeout 1d", count)
+
+
+def empty_flushes(count):
+    """Flushes of an empty set of eight fields, a hundred a transaction."""
+    yield "add set ip t p { type " + " . ".join(["inet_service"] * 8) + " ; }"
+    for n in range(count):
+        yield "flush set ip t p"
+        if n % 100 == 99:
+            yield "commit"
+
+
+def purges(count):
+    """So many elements, of which a hundred expire, and a commit at the moment of each of these."""
+    yield from addresses(",timeout", count)
+    for n in range(100):
+        yield f"add element ip t s {{ 11.0.0.{n} . 1 timeout {n + 1}s }}"
+    for n in range(100):
+        yield f"at {1000 * (n + 1)}"
+        yield "commit"
+
+
+ROWS = [
+    # what a script does, its lines by a number, the smaller number
+    ("commits beside elements without lives", without_lives, 50000),
+    ("commits beside elements whose lives are far off", lives_far_off, 50000),
+    ("flushes of an empty set", empty_flushes, 50000),
+    ("commits that purge one of the elements each", purges, 5000),
+]
+
+
+# ---- times
+
+def spent(program, words):
+    """The processor time of one run, which must end well."""
+    before = resource.getrusage(resource.RUSAGE_CHILDREN)
+    done = subprocess.run([program, *words], stdout=subprocess.DEVNULL, timeout=600)
+    after = resource.getrusage(resource.RUSAGE_CHILDREN)
+    if done.returncode != 0:
+        sys.exit(f"{' '.join(words)}: status {done.returncode}")
+    return after.ru_utime + after.ru_stime - before.ru_utime - before.ru_stime
+
+
+def least(program, folder, lines):
+    """The least processor time of a few runs of a script without packets."""
+    script, keys = os.path.join(folder, "script"), os.path.join(folder, "keys")
+    with open(script, "w") as file:
+        file.writelines(line + "\n" for line in lines)
+    with open(keys, "w"):
+        pass
+    return min(spent(program, ["run", script, keys]) for _ in range(RUNS))
+
+
+def main():
+    program = sys.argv[1]
+    bad = 0
+    with tempfile.TemporaryDirectory() as folder:
+        for name, maker, count in ROWS:
+            ratio = least(program, folder, maker(TIMES * count)) / max(least(program, folder, maker(count)), 0.001)
+            grows = ratio > MOST
+            bad += grows
+            print(f"{name}: {TIMES * count} take {ratio:.1f} times as long as {count}{', too many' if grows else ''}")
+    print(f"growth: {len(ROWS)} kinds, {bad} grow too fast")
+    return bad > 0
+
+
+if __name__ == "__main__":
+    sys.exit(main())
