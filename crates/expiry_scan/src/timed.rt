@@ -1,18 +1,19 @@
-ghost use Rattle.std.specs.Prelude.{◌≡◌, ◌<◌, ◌^◌, ◌-◌, [], ◌∷◌, ◌++◌, length, remove, slice_get, Some, count_by, unwrap_or, OnOk, OnErr};
+ghost use Rattle.std.specs.Prelude.{◌≡◌, ◌<◌, ◌^◌, ◌-◌, [], ◌∷◌, ◌++◌, length, remove, slice_get, Some, count_by, unwrap_or, IfOk, OnOk, OnErr};
 ghost use Rattle.set_model.specs.Expiry.{renewed_at};
 ghost use Rattle.expiry_scan.specs.Expired.{is_expired};
 ghost use Rattle.expiry_scan.specs.Soonest.{soonest_end};
 
-use crate::count_expired;
-use set_model::{Duplicate, Element, Elements, Listed, Memory};
+use crate::expired;
+use set_model::{Duplicate, Element, Memory};
+use shared_pages::Pages;
 use std::alloc::Global;
 use std::marker::Model;
 
 /// The elements of a set, in order of insertion, beside a moment before which none of them is
-/// expired. Contracts see the list.
+/// expired, in pages that copies share. Contracts see the list.
 #[derive(Drop)]
 pub struct TimedElements {
-    items: Elements,
+    items: Pages<Element>,
     /// In milliseconds. It may be before the soonest expiry: a removal leaves it, and a renewal
     /// never raises it.
     soonest: u64,
@@ -38,14 +39,38 @@ fn end_of(expiry: Option<u64>) -> u64
 }
 
 /// The soonest expiry of the elements, in milliseconds.
-fn soonest_end(elements: &[Element]) -> u64
+fn soonest_end(elements: &Pages<Element>) -> u64
     ensures { result ≡ soonest_end elements.now }
 {
     let mut soonest = u64::MAX;
-    'elements: for element in elements {
+    'elements: for i in 0..elements.len() {
+        let element = elements.at(i);
         soonest = soonest.min(end_of(element.expiry));
     }
     soonest
+}
+
+/// How many of the elements are expired at `now`.
+fn count_expired(elements: &Pages<Element>, now: u64) -> u64
+    ensures { result ≡ count_by (is_expired now) elements.now }
+{
+    let mut count = 0;
+    'elements: for i in 0..elements.len() {
+        let element = elements.at(i);
+        if expired(element.expiry, now) {
+            count += 1;
+        }
+    }
+    count
+}
+
+/// An element with another expiry. It shares its intervals and its comment.
+fn renewed(alloc: Global, element: &Element, expiry: Option<u64>) -> Result<Element, Memory>
+    ensures { IfOk result (λ other. other ≡ record { id = element.now.id; parts = element.now.parts; expiry = expiry; comment = element.now.comment }) }
+{
+    let mut other = element.copy(alloc)?;
+    other.expiry = expiry;
+    Ok(other)
 }
 
 impl TimedElements {
@@ -54,7 +79,7 @@ impl TimedElements {
         ensures { result ≡ [] }
     {
         TimedElements {
-            items: Listed::new(alloc),
+            items: Pages::new(alloc),
             soonest: u64::MAX,
         }
     }
@@ -74,13 +99,6 @@ impl TimedElements {
         self.items.at(i)
     }
 
-    /// The elements in a row.
-    pub fn as_slice(&self) -> &[Element]
-        ensures { result.now ≡ self.now }
-    {
-        self.items.as_slice()
-    }
-
     /// Adds an element at the end. After `Memory` the list is as it was.
     #[tactic(auto, using(crate::proofs::SoonestLaws::one_more))]
     pub fn push(&mut self, element: Element) -> Result<(), Memory>
@@ -93,24 +111,35 @@ impl TimedElements {
         Ok(())
     }
 
-    /// Takes the element at place `i` out. The later ones close up. It takes no memory.
+    /// Takes the element at place `i` out. The later ones close up.
+    ///
+    /// # Errors
+    /// `Memory` if there is none left. The list is as it was.
     #[tactic(auto, using(crate::proofs::SoonestLaws::one_less))]
-    pub fn remove(&mut self, i: u64) -> Element
+    pub fn remove(&mut self, i: u64) -> Result<Element, Memory>
         requires { i < length self.old }
-        ensures item { slice_get self.old i ≡ Some result }
-        ensures others { self.new ≡ remove self.old i }
+        ensures item { IfOk result (λ element. slice_get self.old i ≡ Some element) }
+        ensures ok { OnOk result (self.new ≡ remove self.old i) }
+        ensures err { OnErr result (self.new ≡ self.old) }
     {
-        self.items.remove(i)
+        let element = self.items.remove(i)?;
+        Ok(element)
     }
 
-    /// Changes the expiry of the element at place `i`, and nothing else. It takes no memory.
+    /// Changes the expiry of the element at place `i`, and nothing else.
+    ///
+    /// # Errors
+    /// `Memory` if there is none left. The list is as it was.
     #[tactic(auto, using(crate::proofs::SoonestLaws::one_renewed))]
-    pub fn set_expiry(&mut self, i: u64, expiry: Option<u64>)
+    pub fn set_expiry(&mut self, alloc: Global, i: u64, expiry: Option<u64>) -> Result<(), Memory>
         requires { i < length self.old }
-        ensures { self.new ≡ renewed_at self.old i expiry }
+        ensures ok { OnOk result (self.new ≡ renewed_at self.old i expiry) }
+        ensures err { OnErr result (self.new ≡ self.old) }
     {
+        let element = renewed(alloc, self.items.at(i), expiry)?;
+        self.items.set(i, element)?;
         self.soonest = self.soonest.min(end_of(expiry));
-        self.items.set_expiry(i, expiry);
+        Ok(())
     }
 
     /// How many elements are expired at `now`, in milliseconds. Before the moment that stands beside
@@ -128,7 +157,18 @@ impl TimedElements {
     pub fn find_soonest(&mut self)
         ensures { self.new ≡ self.old }
     {
-        self.soonest = soonest_end(self.items.as_slice());
+        self.soonest = soonest_end(&self.items);
+    }
+
+    /// Lets copies share the elements from now on. No element is copied.
+    ///
+    /// # Errors
+    /// `Memory` if there is none left. The list is as it was.
+    pub fn settle(&mut self) -> Result<(), Memory>
+        ensures { self.new ≡ self.old }
+    {
+        self.items.settle()?;
+        Ok(())
     }
 }
 
@@ -156,14 +196,15 @@ mod tests {
         elements.push(element(alloc, 1, Some(30))?)?;
         elements.push(element(alloc, 2, Some(20))?)?;
         assert_eq!(rt; elements.soonest, 20);
-        elements.set_expiry(0, Some(10));
+        elements.set_expiry(alloc, 0, Some(10))?;
         assert_eq!(rt; elements.soonest, 10);
-        elements.set_expiry(0, None);
-        let taken = elements.remove(2);
+        elements.set_expiry(alloc, 0, None)?;
+        let taken = elements.remove(2)?;
         assert_eq!(rt; taken.id, 2);
         assert_eq!(rt; elements.count_expired(29), 0);
         assert_eq!(rt; elements.copy(alloc)?.soonest, 10);
         elements.find_soonest();
+        elements.settle()?;
         assert_eq!(rt; elements.soonest, 30);
         assert_eq!(rt; elements.count_expired(30), 1);
         Ok(())

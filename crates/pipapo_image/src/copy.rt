@@ -61,8 +61,8 @@ impl Index {
 }
 
 impl SetImage {
-    /// The same set once more. Its tables are copied in blocks; its elements share their intervals
-    /// and comments with these.
+    /// The same set once more. Its tables are copied in blocks; its elements share the pages that were
+    /// settled ([`SetImage::settle`]), and else their intervals and comments with these.
     ///
     /// # Errors
     /// `Memory` if there is none left.

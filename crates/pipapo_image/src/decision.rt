@@ -164,7 +164,7 @@ impl SetImage {
     }
 
     /// Whether the element at place `i` has these intervals.
-    fn has_parts(&self, i: u64, parts: &Parts) -> bool
+    pub(crate) fn has_parts(&self, i: u64, parts: &Parts) -> bool
         requires { i < length self.now.elements }
         ensures { result ≡ same_parts (element_at self.now i).parts parts.now }
     {

@@ -1,23 +1,14 @@
-ghost use Rattle.std.specs.Prelude.{◌≡◌, ◌<◌, length, OnErr, IfOk, IfSome, position};
+ghost use Rattle.std.specs.Prelude.{◌≡◌, ◌<◌, length, OnErr, IfOk};
 ghost use Rattle.set_model.specs.SetState.{is_exactly, removed};
 ghost use Rattle.pipapo_image.specs.Found.{element_at, exactly_found};
 ghost use Rattle.pipapo_image.specs.Remove.{IsRemoval, IsExactPlace, without_at};
 
 use crate::answers::ChangeError;
-use crate::decision::is_same;
 use crate::drops::other_widths_without;
 use crate::image::SetImage;
 use expiry_scan::expired;
-use set_model::{Element, Found, Interval, Memory, Parts, Why};
+use set_model::{Found, Memory, Parts, Why};
 use std::alloc::Global;
-
-/// The place of the first element that is live and has exactly these intervals.
-fn exact_place(elements: &[Element], parts: &[Interval], now: u64) -> Option<usize>
-    ensures value { result ≡ position (is_exactly parts.now now) elements.now }
-    ensures within { IfSome result (λ i. i < length elements.now) }
-{
-    elements.iter().position(|e| !expired(e.expiry, now) && is_same(e.parts.as_slice(), parts))
-}
 
 impl SetImage {
     /// The first element that is live at `now`, in milliseconds, and has exactly these intervals.
@@ -49,10 +40,20 @@ impl SetImage {
     fn exact_at(&self, parts: &Parts, now: u64) -> Option<u64>
         ensures { IsExactPlace self.now parts.now now result }
     {
-        match exact_place(self.elements.as_slice(), parts.as_slice(), now) {
-            Some(i) => Some(i as u64),
-            None => None,
+        'places: for i in 0..self.elements.len() {
+            if self.is_exactly_at(i, parts, now) {
+                return Some(i);
+            }
         }
+        None
+    }
+
+    /// Whether the element at place `i` is live and has exactly these intervals.
+    fn is_exactly_at(&self, i: u64, parts: &Parts, now: u64) -> bool
+        requires { i < length self.now.elements }
+        ensures { result ≡ is_exactly parts.now now (element_at self.now i) }
+    {
+        !expired(self.elements.at(i).expiry, now) && self.has_parts(i, parts)
     }
 
     /// Takes the element at place `i` out, and answers its id. The rules of the later elements close up.
@@ -70,9 +71,9 @@ impl SetImage {
             self.index.fields.as_slice(),
             runs.as_slice(),
         )?;
+        let element = self.elements.remove(i)?;
         self.index
             .drop_element(others.as_mut_slice(), runs.as_slice());
-        let element = self.elements.remove(i);
         Ok(element.id)
     }
 }

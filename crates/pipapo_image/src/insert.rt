@@ -1,4 +1,4 @@
-ghost use Rattle.std.specs.Prelude.{◌≡◌, ◌+◌, ◌-◌, ◌<◌, ◌^◌, true, length, OnErr, IfOk, None, Some};
+ghost use Rattle.std.specs.Prelude.{◌≡◌, ◌+◌, ◌-◌, ◌<◌, ◌^◌, true, length, OnOk, OnErr, IfOk, None, Some};
 ghost use Rattle.set_model.specs.Key.{parts_fit};
 ghost use Rattle.set_model.specs.SetState.{add, crowded_field, renewed, with_element};
 ghost use Rattle.pipapo_image.specs.Built.{Built};
@@ -61,7 +61,7 @@ impl SetImage {
         match decision {
             Decision::Stays { id } => Ok(Added::Already { id }),
             Decision::Renews { place, id } => {
-                self.renew(place, expiry);
+                self.renew(alloc, place, expiry)?;
                 Ok(Added::Renewed { id })
             }
             Decision::Adds { columns } => Ok(Added::New {
@@ -70,17 +70,19 @@ impl SetImage {
         }
     }
 
-    /// Gives the element at place `i` another expiry.
-    fn renew(&mut self, i: u64, expiry: Option<u64>)
+    /// Gives the element at place `i` another expiry. All memory is taken before the first change.
+    fn renew(&mut self, alloc: Global, i: u64, expiry: Option<u64>) -> Result<(), Memory>
         requires { i < length self.old.elements }
-        ensures { self.new ≡ renewed self.old (Some i) expiry }
+        ensures ok { OnOk result (self.new ≡ renewed self.old (Some i) expiry) }
+        ensures err { OnErr result (self.new ≡ self.old) }
     {
         let _elements = self.elements.len();
         let _rules = self.index.ends.len();
         let first = rules_before(self.index.ends.as_slice(), i) as u32;
         let end = rules_before(self.index.ends.as_slice(), i + 1) as u32;
+        self.elements.set_expiry(alloc, i, expiry)?;
         self.index.ends.set_expiry(first, end - first, expiry);
-        self.elements.set_expiry(i, expiry);
+        Ok(())
     }
 
     /// Puts a new element at the end, which is within all limits. All memory is taken before the

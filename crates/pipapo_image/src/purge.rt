@@ -99,6 +99,17 @@ impl SetImage {
         self.elements.find_soonest();
     }
 
+    /// Lets copies share the elements from now on. No element is copied.
+    ///
+    /// # Errors
+    /// `Memory` if there is none left. The set is as it was.
+    pub fn settle(&mut self) -> Result<(), Memory>
+        ensures { self.new ≡ self.old }
+    {
+        self.elements.settle()?;
+        Ok(())
+    }
+
     /// Takes all elements out, and answers how many there were. Ids go on.
     ///
     /// # Errors

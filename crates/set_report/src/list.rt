@@ -14,6 +14,7 @@ mod tests;
 
 use crate::kinds::kind_word;
 use addr_text::write_interval;
+use expiry_scan::TimedElements;
 use pipapo_image::SetImage;
 use set_model::{Element, Interval, Kind, Memory, Schema, SetDecl};
 use set_space::Generation;
@@ -97,7 +98,7 @@ fn write_element(
 fn write_each(
     set: &SetDecl,
     now: u64,
-    elements: &[Element],
+    elements: &TimedElements,
     out: &mut Vec<u8>,
 ) -> Result<(), Memory>
     requires { All (λ e. parts_fit set.now.kinds e.parts ≡ true) elements.now }
@@ -105,7 +106,8 @@ fn write_each(
     ensures kept { Keeps out.old.items out.new.items }
 {
     let mut separator: &[u8] = b"";
-    'elements: for element in elements {
+    'elements: for i in 0..elements.len() {
+        let element = elements.at(i);
         write(&[Word(separator)], out)?;
         write_element(set, now, element, out)?;
         separator = b",\n\t\t\t     ";
@@ -117,21 +119,19 @@ fn write_each(
 fn write_elements(
     set: &SetDecl,
     now: u64,
-    elements: &[Element],
+    elements: &TimedElements,
     out: &mut Vec<u8>,
 ) -> Result<(), Memory>
     requires { All (λ e. parts_fit set.now.kinds e.parts ≡ true) elements.now }
     ensures ok { OnOk result (out.new.items ≡ out.old.items ++ elements_line set.now now elements.now) }
     ensures kept { Keeps out.old.items out.new.items }
 {
-    match elements {
-        [] => Ok(()),
-        _ => {
-            write(&[Word(b"\t\telements = { ")], out)?;
-            write_each(set, now, elements, out)?;
-            write(&[Word(b" }\n")], out)
-        }
+    if elements.len() == 0 {
+        return Ok(());
     }
+    write(&[Word(b"\t\telements = { ")], out)?;
+    write_each(set, now, elements, out)?;
+    write(&[Word(b" }\n")], out)
 }
 
 fn write_kinds(kinds: &[Kind], out: &mut Vec<u8>) -> Result<(), Memory>
@@ -200,11 +200,11 @@ fn write_timeout(timeout: Option<u64>, out: &mut Vec<u8>) -> Result<(), Memory>
 }
 
 /// The elements of a set. Their intervals fit its kinds.
-fn elements_of(image: &SetImage) -> &[Element]
+fn elements_of(image: &SetImage) -> &TimedElements
     ensures same { result.now ≡ image.now.elements }
     ensures fit { All (λ e. parts_fit image.now.kinds e.parts ≡ true) image.now.elements }
 {
-    image.elements.as_slice()
+    &image.elements
 }
 
 /// Appends the items of a set.

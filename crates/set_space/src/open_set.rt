@@ -1,4 +1,4 @@
-ghost use Rattle.std.specs.Prelude.{◌≡◌, ◌<◌, true, None, Ok, [], length, count_by, IfOk, OnErr};
+ghost use Rattle.std.specs.Prelude.{◌≡◌, ◌<◌, true, None, Ok, [], length, count_by, IfOk, IfErr, OnErr};
 ghost use Rattle.std.specs.Arc.{arc_value};
 ghost use Rattle.set_model.specs.Key.{parts_fit};
 ghost use Rattle.set_model.specs.SetState.{State, add, removed, purged, cleared};
@@ -34,6 +34,22 @@ fn emptied(alloc: Global, set: &SetImage) -> Result<SetImage, Memory>
     let mut image = SetImage::new(alloc, &set.kinds, set.size, set.disjoint)?;
     image.next = set.next;
     Ok(image)
+}
+
+/// A changed set, for generations to share and copies to share its elements. Where memory is missing it
+/// comes back as it was.
+fn settled(alloc: Global, mut image: SetImage) -> Result<Arc<SetImage, Global>, SetImage>
+    ensures ok { IfOk result (λ shared. arc_value shared ≡ image) }
+    ensures err { IfErr result (λ same. same ≡ image) }
+{
+    image.find_soonest();
+    if image.settle().is_err() {
+        return Err(image);
+    }
+    match Arc::new(alloc, image) {
+        Ok(shared) => Ok(shared),
+        Err(failed) => Err(failed.value),
+    }
 }
 
 impl OpenSet {
@@ -195,16 +211,13 @@ impl OpenSet {
         match mem::replace(self, OpenSet::Unchanged) {
             OpenSet::Unchanged => Ok(Arc::try_clone(base)?),
             OpenSet::Sealed(image) => self.keep(image),
-            OpenSet::Changed(mut image) => {
-                image.find_soonest();
-                match Arc::new(alloc, image) {
-                    Ok(image) => self.keep(image),
-                    Err(failed) => {
-                        *self = OpenSet::Changed(failed.value);
-                        Err(Memory)
-                    }
+            OpenSet::Changed(image) => match settled(alloc, image) {
+                Ok(image) => self.keep(image),
+                Err(image) => {
+                    *self = OpenSet::Changed(image);
+                    Err(Memory)
                 }
-            }
+            },
         }
     }
 
@@ -238,6 +251,7 @@ fn purged_anew(alloc: Global, set: &SetImage, now: u64) -> Result<Option<(SetIma
     if count == 0 {
         return Ok(None);
     }
-    let image = set.live_part(alloc, now)?;
+    let mut image = set.live_part(alloc, now)?;
+    image.settle()?;
     Ok(Some((image, count)))
 }

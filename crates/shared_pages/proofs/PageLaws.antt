@@ -1,154 +1,248 @@
--- The items of whole pages, one after the other, and of the tail behind them.
-use Rattle.std.proofs.Common.{◌≡◌, refl, sym, ◌∙◌, ap, ℕ, zero, suc, ◌+◌, ◌-◌, ◌*◌, ◌/◌, ◌%◌, ◌<◌, ◌≤◌, List, [], ◌∷◌, ◌++◌, length, get_or, take, drop, All, arith, length-append, length-drop, length-take-le, append-nil, append_assoc, slice_get, Some, flat_map}
-use Rattle.std.specs.Prelude.{remove}
+-- The items of whole pages, one after the other, and of the last page behind them; and whose the pages are.
+use Rattle.std.proofs.Common.{◌≡◌, refl, sym, ◌∙◌, ap, ℕ, zero, suc, ◌+◌, ◌-◌, ◌*◌, ◌/◌, ◌%◌, ◌<◌, ◌≤◌, List, [], ◌∷◌, ◌++◌, length, get_or, map, true, All, arith, length-append, append_assoc, slice_get, Some, flat_map}
+use Rattle.std.specs.Prelude.{insert, remove}
 use Rattle.std.proofs.Math.ListN.{set}
-use Rattle.std.proofs.lemmas.List.{take_all, get_or_append_left, get_or-append_right, set-append_left, set-append_right}
-use Rattle.std.proofs.lemmas.List.Elements.{All-head, All-tail, All-take, All-drop}
+use Rattle.std.proofs.lemmas.List.{get_or_append_left, get_or-append_right, set-append_left, set-append_right}
+use Rattle.std.proofs.lemmas.List.Edits.{insert-append_left, insert-append_right, length-remove}
+use Rattle.std.proofs.lemmas.List.Elements.{All-nil, All-cons, All-head, All-tail}
 use Rattle.std.proofs.lemmas.Option.{slice_get_read, slice_get_within, get_or_from_slice_get}
-use Rattle.shared_pages.specs.Paged.{items_in, IsWhole}
+use Rattle.shared_pages.specs.Paged.{PageOf, items_in, owns_of, IsWhole, IsPaged, AreOwn}
 
 module _ {X : Type 0} where
   -- ---- one page first
 
-  first : (l : List X) (ls : List (List X)) (tail : List X) → items_in (l ∷ ls) tail ≡ l ++ items_in ls tail
-  first l ls tail = append_assoc l (flat_map (λ m. m) ls) tail
+  first : (l : PageOf X) (ls : List (PageOf X)) (last : List X) → items_in (l ∷ ls) last ≡ l.items ++ items_in ls last
+  first l ls last = append_assoc l.items (flat_map (λ m. m.items) ls) last
 
-  pub items-length : (pages : List (List X)) (tail : List X) → All IsWhole pages → length (items_in pages tail) ≡ 512 * length pages + length tail
-  items-length [] tail whole = omega arith
-  items-length (l ∷ ls) tail whole =
-      let w : length l ≡ 512 = (All-head IsWhole l ls whole).whole in
-      let h : length (items_in ls tail) ≡ 512 * length ls + length tail = items-length ls tail (All-tail IsWhole l ls whole) in
-      let e : length (items_in (l ∷ ls) tail) ≡ length l + length (items_in ls tail) = ap length (first l ls tail) ∙ length-append l (items_in ls tail) in
+  pub items-length : (pages : List (PageOf X)) (last : List X) → All IsWhole pages → length (items_in pages last) ≡ 512 * length pages + length last
+  items-length [] last whole = omega arith
+  items-length (l ∷ ls) last whole =
+      let w : length l.items ≡ 512 = (All-head IsWhole l ls whole).whole in
+      let h : length (items_in ls last) ≡ 512 * length ls + length last = items-length ls last (All-tail IsWhole l ls whole) in
+      let e : length (items_in (l ∷ ls) last) ≡ length l.items + length (items_in ls last) = ap length (first l ls last) ∙ length-append l.items (items_in ls last) in
       omega arith
 
-  page-get : (pages : List (List X)) (tail : List X) (p k i : ℕ) (m : List X) (d : X) → All IsWhole pages → p < length pages → k < 512 → i ≡ 512 * p + k
-      → get_or (items_in pages tail) i d ≡ get_or (get_or pages p m) k d
-  page-get [] tail p k i m d whole h j e = absurd (omega arith)
-  page-get (l ∷ ls) tail zero k i m d whole h j e =
-      let w : length l ≡ 512 = (All-head IsWhole l ls whole).whole in
+  page-get : (pages : List (PageOf X)) (last : List X) (p k i : ℕ) (m : PageOf X) (d : X) → All IsWhole pages → p < length pages → k < 512 → i ≡ 512 * p + k
+      → get_or (items_in pages last) i d ≡ get_or (get_or pages p m).items k d
+  page-get [] last p k i m d whole h j e = absurd (omega arith)
+  page-get (l ∷ ls) last zero k i m d whole h j e =
+      let w : length l.items ≡ 512 = (All-head IsWhole l ls whole).whole in
       let same : i ≡ k = omega arith in
-      rw same (ap (λ xs. get_or xs k d) (first l ls tail) ∙ get_or_append_left l (items_in ls tail) d k (omega arith))
-  page-get (l ∷ ls) tail (suc p) k i m d whole h j e =
-      let w : length l ≡ 512 = (All-head IsWhole l ls whole).whole in
-      ap (λ xs. get_or xs i d) (first l ls tail) ∙ get_or-append_right l (items_in ls tail) 512 i d w (omega arith)
-      ∙ page-get ls tail p k (i - 512) m d (All-tail IsWhole l ls whole) (omega arith) j (omega arith)
+      rw same (ap (λ xs. get_or xs k d) (first l ls last) ∙ get_or_append_left l.items (items_in ls last) d k (omega arith))
+  page-get (l ∷ ls) last (suc p) k i m d whole h j e =
+      let w : length l.items ≡ 512 = (All-head IsWhole l ls whole).whole in
+      ap (λ xs. get_or xs i d) (first l ls last) ∙ get_or-append_right l.items (items_in ls last) 512 i d w (omega arith)
+      ∙ page-get ls last p k (i - 512) m d (All-tail IsWhole l ls whole) (omega arith) j (omega arith)
 
-  page-set : (pages : List (List X)) (tail : List X) (p k i : ℕ) (m n : List X) (x : X) → All IsWhole pages → p < length pages → k < 512 → i ≡ 512 * p + k
-      → n ≡ set (get_or pages p m) k x → items_in (set pages p n) tail ≡ set (items_in pages tail) i x
-  page-set [] tail p k i m n x whole h j e changed = absurd (omega arith)
-  page-set (l ∷ ls) tail zero k i m n x whole h j e changed =
-      let w : length l ≡ 512 = (All-head IsWhole l ls whole).whole in
+  page-set : (pages : List (PageOf X)) (last : List X) (p k i : ℕ) (m n : PageOf X) (x : X) → All IsWhole pages → p < length pages → k < 512 → i ≡ 512 * p + k
+      → n.items ≡ set (get_or pages p m).items k x → items_in (set pages p n) last ≡ set (items_in pages last) i x
+  page-set [] last p k i m n x whole h j e changed = absurd (omega arith)
+  page-set (l ∷ ls) last zero k i m n x whole h j e changed =
+      let w : length l.items ≡ 512 = (All-head IsWhole l ls whole).whole in
       let same : i ≡ k = omega arith in
-      first n ls tail ∙ ap (λ xs. xs ++ items_in ls tail) changed ∙ sym (set-append_left l (items_in ls tail) k x (omega arith))
-      ∙ ap (λ j. set (l ++ items_in ls tail) j x) (sym same) ∙ ap (λ xs. set xs i x) (sym (first l ls tail))
-  page-set (l ∷ ls) tail (suc p) k i m n x whole h j e changed =
-      let w : length l ≡ 512 = (All-head IsWhole l ls whole).whole in
-      first l (set ls p n) tail
-      ∙ ap (λ xs. l ++ xs) (page-set ls tail p k (i - 512) m n x (All-tail IsWhole l ls whole) (omega arith) j (omega arith) changed)
-      ∙ sym (set-append_right l (items_in ls tail) 512 i x w (omega arith)) ∙ ap (λ xs. set xs i x) (sym (first l ls tail))
+      first n ls last ∙ ap (λ xs. xs ++ items_in ls last) changed ∙ sym (set-append_left l.items (items_in ls last) k x (omega arith))
+      ∙ ap (λ j. set (l.items ++ items_in ls last) j x) (sym same) ∙ ap (λ xs. set xs i x) (sym (first l ls last))
+  page-set (l ∷ ls) last (suc p) k i m n x whole h j e changed =
+      let w : length l.items ≡ 512 = (All-head IsWhole l ls whole).whole in
+      first l (set ls p n) last
+      ∙ ap (λ xs. l.items ++ xs) (page-set ls last p k (i - 512) m n x (All-tail IsWhole l ls whole) (omega arith) j (omega arith) changed)
+      ∙ sym (set-append_right l.items (items_in ls last) 512 i x w (omega arith)) ∙ ap (λ xs. set xs i x) (sym (first l ls last))
 
-  -- ---- the tail
+  -- ---- the last
 
-  tail-get : (pages : List (List X)) (tail : List X) (i : ℕ) (d : X) → All IsWhole pages → 512 * length pages ≤ i
-      → get_or (items_in pages tail) i d ≡ get_or tail (i - 512 * length pages) d
-  tail-get [] tail i d whole h = let e : i - 512 * length {A = List X} [] ≡ i = omega arith in ap (λ j. get_or tail j d) (sym e)
-  tail-get (l ∷ ls) tail i d whole h =
-      let w : length l ≡ 512 = (All-head IsWhole l ls whole).whole in
+  last-get : (pages : List (PageOf X)) (last : List X) (i : ℕ) (d : X) → All IsWhole pages → 512 * length pages ≤ i
+      → get_or (items_in pages last) i d ≡ get_or last (i - 512 * length pages) d
+  last-get [] last i d whole h = let e : i - 512 * length {A = PageOf X} [] ≡ i = omega arith in ap (λ j. get_or last j d) (sym e)
+  last-get (l ∷ ls) last i d whole h =
+      let w : length l.items ≡ 512 = (All-head IsWhole l ls whole).whole in
       let e : (i - 512) - 512 * length ls ≡ i - 512 * length (l ∷ ls) = omega arith in
-      ap (λ xs. get_or xs i d) (first l ls tail) ∙ get_or-append_right l (items_in ls tail) 512 i d w (omega arith)
-      ∙ tail-get ls tail (i - 512) d (All-tail IsWhole l ls whole) (omega arith) ∙ ap (λ j. get_or tail j d) e
+      ap (λ xs. get_or xs i d) (first l ls last) ∙ get_or-append_right l.items (items_in ls last) 512 i d w (omega arith)
+      ∙ last-get ls last (i - 512) d (All-tail IsWhole l ls whole) (omega arith) ∙ ap (λ j. get_or last j d) e
 
-  pub tail-set : (pages : List (List X)) (tail : List X) (i : ℕ) (x : X) → All IsWhole pages → 512 * length pages ≤ i
-      → items_in pages (set tail (i - 512 * length pages) x) ≡ set (items_in pages tail) i x
-  tail-set [] tail i x whole h = let e : i - 512 * length {A = List X} [] ≡ i = omega arith in ap (λ j. set tail j x) e
-  tail-set (l ∷ ls) tail i x whole h =
-      let w : length l ≡ 512 = (All-head IsWhole l ls whole).whole in
+  pub last-set : (pages : List (PageOf X)) (last : List X) (i : ℕ) (x : X) → All IsWhole pages → 512 * length pages ≤ i
+      → items_in pages (set last (i - 512 * length pages) x) ≡ set (items_in pages last) i x
+  last-set [] last i x whole h = let e : i - 512 * length {A = PageOf X} [] ≡ i = omega arith in ap (λ j. set last j x) e
+  last-set (l ∷ ls) last i x whole h =
+      let w : length l.items ≡ 512 = (All-head IsWhole l ls whole).whole in
       let e : i - 512 * length (l ∷ ls) ≡ (i - 512) - 512 * length ls = omega arith in
-      ap (λ j. items_in (l ∷ ls) (set tail j x)) e ∙ first l ls (set tail ((i - 512) - 512 * length ls) x)
-      ∙ ap (λ xs. l ++ xs) (tail-set ls tail (i - 512) x (All-tail IsWhole l ls whole) (omega arith))
-      ∙ sym (set-append_right l (items_in ls tail) 512 i x w (omega arith)) ∙ ap (λ xs. set xs i x) (sym (first l ls tail))
+      ap (λ j. items_in (l ∷ ls) (set last j x)) e ∙ first l ls (set last ((i - 512) - 512 * length ls) x)
+      ∙ ap (λ xs. l.items ++ xs) (last-set ls last (i - 512) x (All-tail IsWhole l ls whole) (omega arith))
+      ∙ sym (set-append_right l.items (items_in ls last) 512 i x w (omega arith)) ∙ ap (λ xs. set xs i x) (sym (first l ls last))
 
   -- ---- a place by its page
 
-  pub read-page : (pages : List (List X)) (tail : List X) (i : ℕ) (m : List X) (x : X) → All IsWhole pages → i / 512 < length pages
-      → x ≡ get_or (get_or pages (i / 512) m) (i % 512) x → slice_get (items_in pages tail) i ≡ Some x
-  read-page pages tail i m x whole h e =
-      let within : i < length (items_in pages tail) = omega (arith, items-length pages tail whole) in
+  pub read-page : (pages : List (PageOf X)) (last : List X) (i : ℕ) (m : PageOf X) (x : X) → All IsWhole pages → i / 512 < length pages
+      → x ≡ get_or (get_or pages (i / 512) m).items (i % 512) x → slice_get (items_in pages last) i ≡ Some x
+  read-page pages last i m x whole h e =
+      let within : i < length (items_in pages last) = omega (arith, items-length pages last whole) in
       let split : i ≡ 512 * (i / 512) + i % 512 = omega arith in
-      slice_get_read (items_in pages tail) (length (items_in pages tail)) i x refl within
-      (e ∙ sym (page-get pages tail (i / 512) (i % 512) i m x whole h (omega arith) split))
+      slice_get_read (items_in pages last) (length (items_in pages last)) i x refl within
+      (e ∙ sym (page-get pages last (i / 512) (i % 512) i m x whole h (omega arith) split))
 
-  pub read-tail : (pages : List (List X)) (tail : List X) (i : ℕ) (x : X) → All IsWhole pages → length pages ≤ i / 512
-      → slice_get tail (i - 512 * length pages) ≡ Some x → slice_get (items_in pages tail) i ≡ Some x
-  read-tail pages tail i x whole h e =
-      let len = items-length pages tail whole in
-      let inside = slice_get_within tail (i - 512 * length pages) x e in
-      slice_get_read (items_in pages tail) (length (items_in pages tail)) i x refl (omega arith)
-      (sym (tail-get pages tail i x whole (omega arith) ∙ get_or_from_slice_get tail (i - 512 * length pages) x x e))
+  pub read-last : (pages : List (PageOf X)) (last : List X) (i : ℕ) (x : X) → All IsWhole pages → length pages ≤ i / 512
+      → slice_get last (i - 512 * length pages) ≡ Some x → slice_get (items_in pages last) i ≡ Some x
+  read-last pages last i x whole h e =
+      let len = items-length pages last whole in
+      let inside = slice_get_within last (i - 512 * length pages) x e in
+      slice_get_read (items_in pages last) (length (items_in pages last)) i x refl (omega arith)
+      (sym (last-get pages last i x whole (omega arith) ∙ get_or_from_slice_get last (i - 512 * length pages) x x e))
 
-  pub set-page : (pages : List (List X)) (tail : List X) (i : ℕ) (m n : List X) (x : X) → All IsWhole pages → i / 512 < length pages
-      → n ≡ set (get_or pages (i / 512) m) (i % 512) x → items_in (set pages (i / 512) n) tail ≡ set (items_in pages tail) i x
-  set-page pages tail i m n x whole h changed =
+  pub set-page : (pages : List (PageOf X)) (last : List X) (i : ℕ) (m n : PageOf X) (x : X) → All IsWhole pages → i / 512 < length pages
+      → n.items ≡ set (get_or pages (i / 512) m).items (i % 512) x → items_in (set pages (i / 512) n) last ≡ set (items_in pages last) i x
+  set-page pages last i m n x whole h changed =
       let split : i ≡ 512 * (i / 512) + i % 512 = omega arith in
-      page-set pages tail (i / 512) (i % 512) i m n x whole h (omega arith) split changed
+      page-set pages last (i / 512) (i % 512) i m n x whole h (omega arith) split changed
 
-  -- ---- a page more
+  -- ---- a page more, and one less
 
-  pub closed : (pages : List (List X)) (tail : List X) → items_in (pages ++ tail ∷ []) [] ≡ items_in pages tail
-  closed [] tail = ap (λ xs. xs ++ []) (append-nil tail) ∙ append-nil tail
-  closed (m ∷ ls) tail = first m (ls ++ tail ∷ []) [] ∙ ap (λ xs. m ++ xs) (closed ls tail) ∙ sym (first m ls tail)
+  pub one-more : (pages : List (PageOf X)) (page : PageOf X) (last : List X) → items_in (pages ++ page ∷ []) last ≡ items_in pages page.items ++ last
+  one-more [] page last = append_assoc page.items [] last
+  one-more (l ∷ ls) page last =
+      first l (ls ++ page ∷ []) last ∙ ap (λ xs. l.items ++ xs) (one-more ls page last)
+      ∙ sym (append_assoc l.items (items_in ls page.items) last) ∙ ap (λ xs. xs ++ last) (sym (first l ls page.items))
 
-  -- ---- the pages from p on as a part of the tail
+  -- ---- pages once more
 
-  pub joined-again : (pages : List (List X)) (tail : List X) (p : ℕ) → items_in (take p pages) (items_in (drop p pages) tail) ≡ items_in pages tail
-  joined-again pages tail zero = refl
-  joined-again [] tail (suc p) = refl
-  joined-again (l ∷ ls) tail (suc p) = first l (take p ls) (items_in (drop p ls) tail) ∙ ap (λ xs. l ++ xs) (joined-again ls tail p) ∙ sym (first l ls tail)
+  pub copied : (xs ys : List (PageOf X)) (last : List X) → map (λ l. l.items) xs ≡ map (λ l. l.items) ys → items_in xs last ≡ items_in ys last
+  copied [] [] last e = refl
+  copied [] (y ∷ ys) last e = cc
+  copied (x ∷ xs) [] last e = cc
+  copied (x ∷ xs) (y ∷ ys) last e =
+      let a : x.items ≡ y.items = cc in
+      let b : map (λ l. l.items) xs ≡ map (λ l. l.items) ys = cc in
+      first x xs last ∙ ap (λ s. s ++ items_in xs last) a ∙ ap (λ s. y.items ++ s) (copied xs ys last b) ∙ sym (first y ys last)
 
-  -- ---- an item of the tail goes
+  pub copied-length : (xs ys : List (PageOf X)) → map (λ l. l.items) xs ≡ map (λ l. l.items) ys → length xs ≡ length ys
+  copied-length [] [] e = refl
+  copied-length [] (y ∷ ys) e = cc
+  copied-length (x ∷ xs) [] e = cc
+  copied-length (x ∷ xs) (y ∷ ys) e = let b : map (λ l. l.items) xs ≡ map (λ l. l.items) ys = cc in ap suc (copied-length xs ys b)
 
-  pub tail-remove : (pages : List (List X)) (tail : List X) (i : ℕ) → All IsWhole pages → 512 * length pages ≤ i
-      → items_in pages (remove tail (i - 512 * length pages)) ≡ remove (items_in pages tail) i
-  tail-remove [] tail i whole h = let e : i - 512 * length {A = List X} [] ≡ i = omega arith in ap (λ j. remove tail j) e
-  tail-remove (l ∷ ls) tail i whole h =
-      let w : length l ≡ 512 = (All-head IsWhole l ls whole).whole in
-      let e : i - 512 * length (l ∷ ls) ≡ (i - 512) - 512 * length ls = omega arith in
-      ap (λ j. items_in (l ∷ ls) (remove tail j)) e ∙ first l ls (remove tail ((i - 512) - 512 * length ls))
-      ∙ ap (λ xs. l ++ xs) (tail-remove ls tail (i - 512) (All-tail IsWhole l ls whole) (omega arith))
-      ∙ sym (remove-behind l (items_in ls tail) 512 i w (omega arith)) ∙ ap (λ xs. remove xs i) (sym (first l ls tail)) where
-        remove-behind : (xs ys : List X) (n i : ℕ) → length xs ≡ n → n ≤ i → remove (xs ++ ys) i ≡ xs ++ remove ys (i - n)
-        remove-behind [] ys n i e h = let f : i - n ≡ i = omega arith in sym (ap (λ j. remove ys j) f)
-        remove-behind (x ∷ xs) ys n zero e h = absurd (omega arith)
-        remove-behind (x ∷ xs) ys n (suc i) e h =
-            let f : i - length xs ≡ suc i - n = omega arith in
-            ap (λ zs. x ∷ zs) (remove-behind xs ys (length xs) i refl (omega arith) ∙ ap (λ j. xs ++ remove ys j) f)
+  pub copied-whole : (xs ys : List (PageOf X)) → map (λ l. l.items) xs ≡ map (λ l. l.items) ys → All IsWhole ys → All IsWhole xs
+  copied-whole [] [] e whole = All-nil IsWhole
+  copied-whole [] (y ∷ ys) e whole = cc
+  copied-whole (x ∷ xs) [] e whole = cc
+  copied-whole (x ∷ xs) (y ∷ ys) e whole =
+      let a : x.items ≡ y.items = cc in
+      let b : map (λ l. l.items) xs ≡ map (λ l. l.items) ys = cc in
+      All-cons IsWhole x xs (record { whole = ap length a ∙ (All-head IsWhole y ys whole).whole }) (copied-whole xs ys b (All-tail IsWhole y ys whole))
 
-  -- ---- the pages from that of item i on become the tail, and the item goes
+  pub same-list : (xs ys : List (PageOf X)) (last kept : List X) → map (λ l. l.items) xs ≡ map (λ l. l.items) ys → last ≡ kept → items_in xs last ≡ items_in ys kept
+  same-list xs ys last kept e f = ap (λ t. items_in xs t) f ∙ copied xs ys kept e
 
-  pub from-page : (pages ps : List (List X)) (tail ts own : List X) (p : ℕ) → ps ≡ pages → ts ≡ tail → own ≡ items_in (take (length ps - p) (drop p ps)) ts → own ≡ items_in (drop p pages) tail
-  from-page pages ps tail ts own p e f o =
-      let d = length-drop p ps in
-      o ∙ ap (λ z. items_in z ts) (take_all (length ps - p) (drop p ps) (omega arith)) ∙ ap (λ z. items_in (drop p z) ts) e ∙ ap (λ z. items_in (drop p pages) z) f
+  pub same-paged : (xs ys : List (PageOf X)) (last kept : List X) (len : ℕ) → map (λ l. l.items) xs ≡ map (λ l. l.items) ys → last ≡ kept → IsPaged ys kept len → IsPaged xs last len
+  same-paged xs ys last kept len e f paged =
+      let n : length xs ≡ length ys = copied-length xs ys e in
+      let m : length last ≡ length kept = ap length f in
+      record {
+        whole = copied-whole xs ys e paged.whole;
+        within = omega (arith, paged.within);
+        filled = λ z. n ∙ paged.filled (sym m ∙ z);
+        counted = omega (arith, paged.counted);
+      }
 
-  pub joined-length : (pages : List (List X)) (tail own : List X) (p : ℕ) → All IsWhole pages → own ≡ items_in (drop p pages) tail → length own ≡ 512 * (length pages - p) + length tail
-  joined-length pages tail own p whole e =
-      let n = items-length (drop p pages) tail (All-drop IsWhole p pages whole) in
-      let d = length-drop p pages in
-      ap length e ∙ n ∙ ap (λ k. 512 * k + length tail) d
+  pub same-items : (pages : List (PageOf X)) (p : ℕ) (m n : PageOf X) → m ≡ get_or pages p m → n.items ≡ m.items → map (λ l. l.items) (set pages p n) ≡ map (λ l. l.items) pages
+  same-items [] p m n at e = refl
+  same-items (l ∷ ls) zero m n at e = ap (λ xs. xs ∷ map (λ l. l.items) ls) (e ∙ ap (λ z. z.items) at)
+  same-items (l ∷ ls) (suc p) m n at e = ap (λ xs. l.items ∷ xs) (same-items ls p m n at e)
 
-  pub taken-out : (pages : List (List X)) (tail own rest : List X) (kept : List (List X)) (i : ℕ) → All IsWhole pages → i / 512 < length pages
-      → own ≡ items_in (drop (i / 512) pages) tail → kept ≡ take (i / 512) pages → rest ≡ remove own (i - 512 * (i / 512))
-      → items_in kept rest ≡ remove (items_in pages tail) i
-  taken-out pages tail own rest kept i whole h o k r =
-      let n : length kept ≡ i / 512 = ap length k ∙ length-take-le (i / 512) pages (omega arith) in
-      let all : All IsWhole kept = rw k (All-take IsWhole (i / 512) pages whole) in
-      ap (λ xs. items_in kept xs) (r ∙ ap (λ j. remove own (i - 512 * j)) (sym n))
-      ∙ tail-remove kept own i all (omega arith)
-      ∙ ap (λ xs. remove xs i) (ap (λ ps. items_in ps own) k ∙ ap (λ xs. items_in (take (i / 512) pages) xs) o ∙ joined-again pages tail (i / 512))
+  -- ---- whose the pages are
 
-  -- ---- the pages without a tail, and then the tail
+  kept-own : (pages : List (PageOf X)) (p : ℕ) (n : PageOf X) → n.own ≡ true → (k : ℕ) → get_or (owns_of pages) k true ≡ true → get_or (owns_of (set pages p n)) k true ≡ true
+  kept-own [] p n e k h = h
+  kept-own (l ∷ ls) zero n e zero h = e
+  kept-own (l ∷ ls) zero n e (suc k) h = h
+  kept-own (l ∷ ls) (suc p) n e zero h = h
+  kept-own (l ∷ ls) (suc p) n e (suc k) h = kept-own ls p n e k h
 
-  pub extended : (pages others : List (List X)) (none tail items : List X) → others ≡ pages → none ≡ [] → items ≡ tail → items_in others none ++ items ≡ items_in pages tail
-  extended pages others none tail items e n f =
-      ap (λ ps. items_in ps none ++ items) e ∙ ap (λ xs. items_in pages xs ++ items) n ∙ ap (λ xs. items_in pages [] ++ xs) f
-      ∙ ap (λ xs. xs ++ tail) (append-nil (flat_map (λ page. page) pages))
+  pub own-read : (pages : List (PageOf X)) (p : ℕ) (m : PageOf X) → p < length pages → get_or (owns_of pages) p true ≡ true → (get_or pages p m).own ≡ true
+  own-read [] p m h e = absurd (omega arith)
+  own-read (l ∷ ls) zero m h e = e
+  own-read (l ∷ ls) (suc p) m h e = own-read ls p m (omega arith) e
+
+  pub own-so-far : (pages : List (PageOf X)) (from p : ℕ) (n : PageOf X) → p < length pages → n.own ≡ true
+      → ((j : ℕ) → from ≤ j → j < p → get_or (owns_of pages) j true ≡ true) → (j : ℕ) → from ≤ j → j < p + 1 → get_or (owns_of (set pages p n)) j true ≡ true
+  own-so-far [] from p n h e before j f g = absurd (omega arith)
+  own-so-far (l ∷ ls) from zero n h e before zero f g = e
+  own-so-far (l ∷ ls) from zero n h e before (suc j) f g = absurd (omega arith)
+  own-so-far (l ∷ ls) from (suc p) n h e before zero f g = before zero f (omega arith)
+  own-so-far (l ∷ ls) from (suc p) n h e before (suc j) f g =
+      own-so-far ls (from - 1) p n (omega arith) e (λ k a b. before (suc k) (omega arith) (omega arith)) j (omega arith) (omega arith)
+
+  pub own-stays : (pages : List (PageOf X)) (from p : ℕ) (n : PageOf X) → n.own ≡ true → AreOwn from pages → AreOwn from (set pages p n)
+  own-stays pages from p n e own = record { own = λ k h. kept-own pages p n e k (own.own k h) }
+
+  -- ---- an item is taken out, and the later ones close up
+
+  pub put-back : (xs : List X) (i : ℕ) (x : X) → slice_get xs i ≡ Some x → insert (remove xs i) i x ≡ xs
+  put-back xs i x e = again xs i (slice_get_within xs i x e) (get_or_from_slice_get xs i x x e) where
+    again : (xs : List X) (i : ℕ) → i < length xs → get_or xs i x ≡ x → insert (remove xs i) i x ≡ xs
+    again [] i h e = absurd (omega arith)
+    again (y ∷ ys) zero h e = ap (λ z. z ∷ ys) (sym e)
+    again (y ∷ ys) (suc i) h e = ap (λ zs. y ∷ zs) (again ys i (omega arith) e)
+
+  pub taken-out : (xs ys : List X) (i : ℕ) (x : X) → i < length ys → insert xs i x ≡ ys → xs ≡ remove ys i
+  taken-out xs ys i x h e = again xs i (rw e h) ∙ ap (λ zs. remove zs i) e where
+    again : (xs : List X) (i : ℕ) → i < length (insert xs i x) → xs ≡ remove (insert xs i x) i
+    again xs zero h = refl
+    again [] (suc i) h = absurd (omega arith)
+    again (y ∷ ys) (suc i) h = ap (λ zs. y ∷ zs) (again ys i (omega arith))
+
+  pub stood-there : (xs ys : List X) (i : ℕ) (x : X) → i < length ys → insert xs i x ≡ ys → slice_get ys i ≡ Some x
+  stood-there xs ys i x h e = slice_get_read ys (length ys) i x refl h (sym (ap (λ zs. get_or zs i x) (sym e) ∙ again xs i (rw e h))) where
+    again : (xs : List X) (i : ℕ) → i < length (insert xs i x) → get_or (insert xs i x) i x ≡ x
+    again xs zero h = refl
+    again [] (suc i) h = absurd (omega arith)
+    again (y ∷ ys) (suc i) h = again ys i (omega arith)
+
+  pub passed-on : (old new : List X) (i : ℕ) (x c : X) → slice_get old i ≡ Some x → new ≡ remove old i ++ c ∷ [] → insert new i x ≡ old ++ c ∷ []
+  passed-on old new i x c e n =
+      let within = slice_get_within old i x e in
+      let len = length-remove old i within in
+      ap (λ xs. insert xs i x) n ∙ insert-append_left (remove old i) (c ∷ []) i x (omega arith) ∙ ap (λ xs. xs ++ c ∷ []) (put-back old i x e)
+
+  pub last-out : (pages : List (PageOf X)) (last rest : List X) (i k : ℕ) (x : X) → All IsWhole pages → i ≡ 512 * length pages + k
+      → slice_get last k ≡ Some x → rest ≡ remove last k → insert (items_in pages rest) i x ≡ items_in pages last
+  last-out [] last rest i k x whole h e r =
+      let same : i ≡ k = omega arith in
+      ap (λ j. insert rest j x) same ∙ ap (λ xs. insert xs k x) r ∙ put-back last k x e
+  last-out (l ∷ ls) last rest i k x whole h e r =
+      let w : length l.items ≡ 512 = (All-head IsWhole l ls whole).whole in
+      ap (λ xs. insert xs i x) (first l ls rest) ∙ insert-append_right l.items (items_in ls rest) 512 i x w (omega arith)
+      ∙ ap (λ xs. l.items ++ xs) (last-out ls last rest (i - 512) k x (All-tail IsWhole l ls whole) (omega arith) e r) ∙ sym (first l ls last)
+
+  pub page-out : (pages : List (PageOf X)) (last : List X) (p k i j : ℕ) (m n : PageOf X) (c x : X) → All IsWhole pages → p < length pages
+      → k < 512 → i ≡ 512 * p + k → j ≡ 512 * p + 512 → m ≡ get_or pages p m → slice_get m.items k ≡ Some x → n.items ≡ remove m.items k ++ c ∷ []
+      → insert (items_in (set pages p n) last) i x ≡ insert (items_in pages last) j c
+  page-out [] last p k i j m n c x whole h w f t at e r = absurd (omega arith)
+  page-out (l ∷ ls) last zero k i j m n c x whole h w f t at e r =
+      let len : length l.items ≡ 512 = (All-head IsWhole l ls whole).whole in
+      let old : m.items ≡ l.items = ap (λ z. z.items) at in
+      let within = slice_get_within m.items k x e in
+      let less = length-remove m.items k within in
+      let long : length n.items ≡ length (remove m.items k) + 1 = ap length r ∙ length-append (remove m.items k) (c ∷ []) in
+      let full : length m.items ≡ 512 = ap length old ∙ len in
+      let same : i ≡ k = omega arith in
+      let start : j - 512 ≡ 0 = omega arith in
+      ap (λ z. insert (items_in (n ∷ ls) last) z x) same ∙ ap (λ xs. insert xs k x) (first n ls last)
+      ∙ insert-append_left n.items (items_in ls last) k x (omega arith)
+      ∙ ap (λ xs. xs ++ items_in ls last) (passed-on m.items n.items k x c e r ∙ ap (λ xs. xs ++ c ∷ []) old)
+      ∙ append_assoc l.items (c ∷ []) (items_in ls last)
+      ∙ sym (ap (λ z. l.items ++ insert (items_in ls last) z c) start)
+      ∙ sym (insert-append_right l.items (items_in ls last) 512 j c len (omega arith)) ∙ ap (λ xs. insert xs j c) (sym (first l ls last))
+  page-out (l ∷ ls) last (suc p) k i j m n c x whole h w f t at e r =
+      let len : length l.items ≡ 512 = (All-head IsWhole l ls whole).whole in
+      ap (λ xs. insert xs i x) (first l (set ls p n) last) ∙ insert-append_right l.items (items_in (set ls p n) last) 512 i x len (omega arith)
+      ∙ ap (λ xs. l.items ++ xs) (page-out ls last p k (i - 512) (j - 512) m n c x (All-tail IsWhole l ls whole) (omega arith) w (omega arith) (omega arith) at e r)
+      ∙ sym (insert-append_right l.items (items_in ls last) 512 j c len (omega arith)) ∙ ap (λ xs. insert xs j c) (sym (first l ls last))
+
+  pub still-whole : (pages : List (PageOf X)) (p k : ℕ) (m n : PageOf X) (c x : X) → All IsWhole pages → p < length pages → m ≡ get_or pages p m
+      → slice_get m.items k ≡ Some x → n.items ≡ remove m.items k ++ c ∷ [] → All IsWhole (set pages p n)
+  still-whole [] p k m n c x whole h at e r = absurd (omega arith)
+  still-whole (l ∷ ls) zero k m n c x whole h at e r =
+      let len : length m.items ≡ 512 = ap (λ z. length z.items) at ∙ (All-head IsWhole l ls whole).whole in
+      let less = length-remove m.items k (slice_get_within m.items k x e) in
+      let long : length n.items ≡ length (remove m.items k) + 1 = ap length r ∙ length-append (remove m.items k) (c ∷ []) in
+      All-cons IsWhole n ls (record { whole = omega arith }) (All-tail IsWhole l ls whole)
+  still-whole (l ∷ ls) (suc p) k m n c x whole h at e r =
+      All-cons IsWhole l (set ls p n) (All-head IsWhole l ls whole) (still-whole ls p k m n c x (All-tail IsWhole l ls whole) (omega arith) at e r)

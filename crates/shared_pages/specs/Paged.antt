@@ -1,15 +1,31 @@
 -- A list in pages.
-use Rattle.std.specs.Prelude.{◌≡◌, ℕ, ◌+◌, ◌*◌, List, ◌++◌, length, All, flat_map}
+use Rattle.std.specs.Prelude.{◌≡◌, ℕ, ◌+◌, ◌*◌, ◌≤◌, List, ◌++◌, Bool, true, length, get_or, map, All, flat_map}
 
--- the items of the pages, one after the other, and then those of the tail
-abbrev pub items_in : {X : Type 0} → List (List X) → List X → List X
-items_in pages tail = flat_map (λ page. page) pages ++ tail
+-- what a contract sees of a page: its items, and whether they are this page's alone
+pub record PageOf (X : Type 0) : Type 0 where
+  pub items : List X
+  pub own : Bool
+
+-- the items of the pages, one after the other, and then those of the last page
+abbrev pub items_in : {X : Type 0} → List (PageOf X) → List X → List X
+items_in pages last = flat_map (λ page. page.items) pages ++ last
+
+-- whose the pages are: true for one that is this list's alone
+abbrev pub owns_of : {X : Type 0} → List (PageOf X) → List Bool
+owns_of pages = map (λ page. page.own) pages
+
+-- The pages from this one on are the list's own.
+pub record AreOwn {X : Type 0} (from : ℕ) (pages : List (PageOf X)) : Type 0 where
+  pub own : (k : ℕ) → from ≤ k → get_or (owns_of pages) k true ≡ true
 
 -- a whole page
-pub record IsWhole {X : Type 0} (page : List X) : Type 0 where
-  pub whole : length page ≡ 512
+pub record IsWhole {X : Type 0} (page : PageOf X) : Type 0 where
+  pub whole : length page.items ≡ 512
 
--- The pages are whole ones, and all items are counted.
-pub record IsPaged {X : Type 0} (pages : List (List X)) (tail : List X) (len : ℕ) : Type 0 where
+-- The pages before the last one are whole ones, the last one has at most as many items and is empty in
+-- an empty list alone, and all items are counted.
+pub record IsPaged {X : Type 0} (pages : List (PageOf X)) (last : List X) (len : ℕ) : Type 0 where
   pub whole : All IsWhole pages
-  pub counted : len ≡ 512 * length pages + length tail
+  pub within : length last ≤ 512
+  pub filled : length last ≡ 0 → length pages ≡ 0
+  pub counted : len ≡ 512 * length pages + length last

@@ -1,7 +1,7 @@
 //! Lists in pages that copies share.
 //!
-//! Each transaction copies the sets that it changes. A copy of `Pages` counts up once a page and copies
-//! no item of a page; a change makes the pages that it touches the list's own.
+//! Each transaction copies the sets that it changes. A list that was settled is copied by one count a
+//! page and copies no item; a change makes the pages that it touches the list's own.
 #![tactic(auto)]
 
 mod page;
@@ -10,3 +10,6 @@ mod pages;
 mod tests;
 
 pub use pages::Pages;
+
+/// How many items a page has.
+const PAGE: usize = 512;

@@ -1,51 +1,221 @@
-ghost use Rattle.std.specs.Prelude.{◌≡◌, IfOk};
+ghost use Rattle.std.specs.Prelude.{◌≡◌, ◌<◌, true, [], ◌∷◌, ◌++◌, length, IfOk, OnOk, OnErr, slice_get, slice_set, remove, Some};
+ghost use Rattle.shared_pages.specs.Contents.{items_of};
 
+use crate::PAGE;
 use set_model::{Duplicate, Memory};
 use std::alloc::Global;
 use std::marker::Model;
+use std::mem;
 use std::sync::Arc;
 
-/// Items that lists share and nobody changes.
+/// Where the items of a page stand: in the page itself, or in one place that all its copies point to.
+#[derive(Drop)]
+pub enum Contents<T> {
+    Own(Vec<T>),
+    Common(Arc<Vec<T>, Global>),
+}
+
+/// Some items whose copies share them once they were made common. Contracts see the items, and whether
+/// they are this page's own.
 #[derive(Drop)]
 pub struct Page<T> {
-    items: Arc<Vec<T>, Global>,
+    contents: Contents<T>,
 }
 
 impl<T> Model for Page<T> {
-    ghost use Rattle.std.specs.Prelude.{List};
-    ghost use Rattle.std.specs.Arc.{arc_value};
+    ghost use Rattle.shared_pages.specs.Paged.{PageOf};
+    ghost use Rattle.shared_pages.specs.Contents.{items_of, is_own};
 
-    ghost Value = { List T };
+    ghost Value = { PageOf T };
 
-    ghost view = { λ a. (arc_value a.items).items };
+    ghost view = { λ a. record { items = items_of a.contents; own = is_own a.contents } };
+}
+
+/// The items once more, with room for a whole page.
+fn copied<T: Duplicate + Drop>(alloc: Global, items: &[T]) -> Result<Vec<T>, Memory>
+    ensures { IfOk result (λ all. all.items ≡ items.now) }
+{
+    let mut all = Vec::with_capacity(alloc, PAGE)?;
+    'items: for item in items {
+        all.push(item.copy(alloc)?)?;
+    }
+    Ok(all)
+}
+
+/// The items in a place that copies can share. After `Memory` they stay where they are.
+fn settled<T: Drop>(alloc: Global, items: Vec<T>) -> (Contents<T>, Result<(), Memory>)
+    ensures { items_of result.0 ≡ items.items }
+{
+    match Arc::new(alloc, items) {
+        Ok(common) => (Contents::Common(common), Ok(())),
+        Err(refused) => (Contents::Own(refused.value), Err(Memory)),
+    }
 }
 
 impl<T> Page<T> {
+    /// The empty page. It takes no memory.
+    pub fn new(alloc: Global) -> Self
+        ensures { result.items ≡ [] }
+    {
+        Page {
+            contents: Contents::Own(Vec::new(alloc)),
+        }
+    }
+
     /// The items in a row.
     #[inline(always)]
     pub fn as_slice(&self) -> &[T]
-        ensures { result.now ≡ self.now }
+        ensures { result.now ≡ self.now.items }
     {
-        self.items.as_slice()
+        match &self.contents {
+            Contents::Own(items) => items.as_slice(),
+            Contents::Common(items) => items.as_slice(),
+        }
     }
 
-    /// The same page once more: it is counted up.
-    pub fn again(&self) -> Result<Page<T>, Memory>
-        ensures { IfOk result (λ other. other ≡ self.now) }
+    /// Takes item `i` out of the page's own items. The later ones close up. It takes no memory.
+    pub fn remove(&mut self, i: usize) -> T
+        requires own { self.old.own ≡ true }
+        requires place { i < length self.old.items }
+        ensures item { slice_get self.old.items i ≡ Some result }
+        ensures others { self.new.items ≡ remove self.old.items i }
+        ensures own { self.new.own ≡ true }
     {
-        Ok(Page {
-            items: Arc::try_clone(&self.items)?,
-        })
+        match &mut self.contents {
+            Contents::Own(items) => items.remove(i),
+            Contents::Common(_) => unreachable!(),
+        }
+    }
+
+    /// Takes item `i` out of the page's own items and puts `next` behind the last one. It takes no
+    /// memory.
+    pub fn pass(&mut self, i: usize, next: T) -> T
+        requires own { self.old.own ≡ true }
+        requires place { i < length self.old.items }
+        ensures item { slice_get self.old.items i ≡ Some result }
+        ensures others { self.new.items ≡ remove self.old.items i ++ next ∷ [] }
+        ensures own { self.new.own ≡ true }
+    {
+        match &mut self.contents {
+            Contents::Own(items) => {
+                let item = items.remove(i);
+                items.push_reserved(next);
+                item
+            }
+            Contents::Common(_) => unreachable!(),
+        }
     }
 }
 
 impl<T: Duplicate + Drop> Page<T> {
-    /// A page of these items once more.
-    pub fn new(alloc: Global, items: Vec<T>) -> Result<Page<T>, Memory>
-        ensures { IfOk result (λ page. page ≡ items.items) }
+    /// Makes the items this page's own: they are copied where others may share them.
+    ///
+    /// # Errors
+    /// `Memory` if there is none left. The page is as it was.
+    pub fn own(&mut self, alloc: Global) -> Result<(), Memory>
+        ensures items { self.new.items ≡ self.old.items }
+        ensures own { OnOk result (self.new.own ≡ true) }
     {
-        Ok(Page {
-            items: Arc::new(alloc, items)?,
-        })
+        if let Contents::Own(_) = &self.contents {
+            return Ok(());
+        }
+        let items = copied(alloc, self.as_slice())?;
+        self.contents = Contents::Own(items);
+        Ok(())
+    }
+
+    /// Adds an item behind the last one, to this page and to no copy.
+    ///
+    /// # Errors
+    /// `Memory` if there is none left. The items are as they were.
+    pub fn push(&mut self, alloc: Global, item: T) -> Result<(), Memory>
+        ensures ok { OnOk result (self.new.items ≡ self.old.items ++ item ∷ []) }
+        ensures err { OnErr result (self.new.items ≡ self.old.items) }
+    {
+        if let Contents::Own(items) = &mut self.contents {
+            items.push(item)?;
+            return Ok(());
+        }
+        let mut items = copied(alloc, self.as_slice())?;
+        items.push(item)?;
+        self.contents = Contents::Own(items);
+        Ok(())
+    }
+
+    /// Writes over item `i`, in this page and in no copy.
+    ///
+    /// # Errors
+    /// `Memory` if there is none left. The items are as they were.
+    pub fn set(&mut self, alloc: Global, i: usize, item: T) -> Result<(), Memory>
+        requires { i < length self.old.items }
+        ensures ok { OnOk result (self.new.items ≡ slice_set self.old.items i item) }
+        ensures err { OnErr result (self.new.items ≡ self.old.items) }
+    {
+        if let Contents::Own(items) = &mut self.contents {
+            items[i] = item;
+            return Ok(());
+        }
+        let mut items = copied(alloc, self.as_slice())?;
+        items[i] = item;
+        self.contents = Contents::Own(items);
+        Ok(())
+    }
+
+    /// Lets copies share the items from now on. No item is copied.
+    ///
+    /// # Errors
+    /// `Memory` if there is none left. The items are as they were.
+    pub fn settle(&mut self, alloc: Global) -> Result<(), Memory>
+        ensures { self.new.items ≡ self.old.items }
+    {
+        if let Contents::Own(items) = &mut self.contents {
+            let own = mem::replace(items, Vec::new(alloc));
+            let (contents, done) = settled(alloc, own);
+            self.contents = contents;
+            return done;
+        }
+        Ok(())
+    }
+
+    /// The same items once more: one count where they are common, and item by item where they are
+    /// the page's own.
+    pub fn copy(&self, alloc: Global) -> Result<Self, Memory>
+        ensures { IfOk result (λ other. other.items ≡ self.now.items) }
+    {
+        let contents = match &self.contents {
+            Contents::Own(items) => Contents::Own(copied(alloc, items.as_slice())?),
+            Contents::Common(items) => Contents::Common(Arc::try_clone(items)?),
+        };
+        Ok(Page { contents })
+    }
+}
+
+#[cfg(test)]
+mod tests {
+    use super::*;
+    use std::test::Fail;
+
+    /// How many pages share the items; none where they are the page's own.
+    fn owners(page: &Page<u128>) -> usize {
+        match &page.contents {
+            Contents::Own(_) => 0,
+            Contents::Common(items) => Arc::strong_count(items),
+        }
+    }
+
+    #[test]
+    fn a_settled_page_is_shared_until_it_is_changed(rt: HostRuntime) -> Result<(), Fail> {
+        let alloc = rt.alloc();
+        let mut page = Page::new(alloc);
+        page.push(alloc, 7)?;
+        assert_eq!(rt; owners(&page.copy(alloc)?), 0);
+        page.settle(alloc)?;
+        let mut other = page.copy(alloc)?;
+        assert_eq!(rt; owners(&page), 2);
+        other.push(alloc, 8)?;
+        assert_eq!(rt; owners(&page), 1);
+        assert_eq!(rt; owners(&other), 0);
+        assert_eq!(rt; page.as_slice().len(), 1);
+        Ok(())
     }
 }

@@ -1,22 +1,22 @@
-ghost use Rattle.std.specs.Prelude.{◌≡◌, ◌<◌, ◌≤◌, [], ◌∷◌, ◌++◌, length, IfOk, OnOk, OnErr, slice_get, slice_set, remove, Some};
-ghost use Rattle.shared_pages.specs.Paged.{items_in};
+ghost use Rattle.std.specs.Prelude.{◌≡◌, ◌<◌, ◌≤◌, ◌+◌, ◌*◌, ◌/◌, [], ◌∷◌, ◌++◌, true, length, map, All, IfOk, OnOk, OnErr, slice_get, slice_set, insert, remove, max, Some};
+ghost use Rattle.shared_pages.specs.Paged.{items_in, owns_of, AreOwn, IsWhole};
 
+use crate::PAGE;
 use crate::page::Page;
 use set_model::{Duplicate, Memory};
 use std::alloc::Global;
 use std::marker::Model;
+use std::mem;
 
-/// How many items a page has.
-const PAGE: usize = 512;
-
-/// A list in pages of 512 items that its copies share. Contracts see the list of its items.
+/// A list in pages of 512 items, which its copies share once it was settled. Contracts see the list of
+/// its items.
 #[derive(Drop)]
 pub struct Pages<T> {
-    // Whole pages, which nobody changes.
+    // Each page before the last one is whole.
     whole: Vec<Page<T>>,
-    // The items behind them: this list's own.
-    tail: Vec<T>,
+    last: Page<T>,
     len: u64,
+    alloc: Global,
 }
 
 impl<T> Model for Pages<T> {
@@ -25,9 +25,9 @@ impl<T> Model for Pages<T> {
 
     ghost Value = { List T };
 
-    ghost view = { λ a. items_in a.whole.items a.tail.items };
+    ghost view = { λ a. items_in a.whole.items a.last.items };
 
-    ghost invariant = { λ a. IsPaged a.whole.items a.tail.items a.len };
+    ghost invariant = { λ a. IsPaged a.whole.items a.last.items a.len };
 }
 
 impl<T> Pages<T> {
@@ -37,8 +37,9 @@ impl<T> Pages<T> {
     {
         Pages {
             whole: Vec::new(alloc),
-            tail: Vec::new(alloc),
+            last: Page::new(alloc),
             len: 0,
+            alloc,
         }
     }
 
@@ -61,13 +62,13 @@ impl<T> Pages<T> {
             let items = &self.whole[page];
             &items.as_slice()[i as usize % PAGE]
         } else {
-            &self.tail[i as usize - PAGE * self.whole.len()]
+            &self.last.as_slice()[i as usize - PAGE * self.whole.len()]
         }
     }
 }
 
 impl<T: Duplicate + Drop> Pages<T> {
-    /// Adds an item at the end.
+    /// Adds an item at the end, to this list and to no copy.
     ///
     /// # Errors
     /// `Memory` if there is none left. The list is as it was.
@@ -75,35 +76,18 @@ impl<T: Duplicate + Drop> Pages<T> {
         ensures ok { OnOk result (self.new ≡ self.old ++ item ∷ []) }
         ensures err { OnErr result (self.new ≡ self.old) }
     {
-        self.close()?;
         if self.len == u64::MAX {
             return Err(Memory);
         }
-        self.tail.push(item)?;
+        if self.last.as_slice().len() < PAGE {
+            self.last.push(self.alloc, item)?;
+        } else {
+            let page = page_of(self.alloc, item)?;
+            self.whole.reserve(1)?;
+            let full = mem::replace(&mut self.last, page);
+            self.whole.push_reserved(full);
+        }
         self.len += 1;
-        Ok(())
-    }
-
-    /// Makes a page of the items behind the pages, where they are as many as one has.
-    fn close(&mut self) -> Result<(), Memory>
-        ensures { self.new ≡ self.old }
-    {
-        if self.tail.len() == PAGE {
-            let alloc = *self.tail.allocator();
-            let page = Page::new(alloc, copied(alloc, self.tail.as_slice())?)?;
-            self.whole.push(page)?;
-            self.tail.clear();
-        }
-        Ok(())
-    }
-
-    /// Adds the items once more at the end.
-    fn extend(&mut self, alloc: Global, items: &[T]) -> Result<(), Memory>
-        ensures { OnOk result (self.new ≡ self.old ++ items.now) }
-    {
-        'items: for item in items {
-            self.push(item.copy(alloc)?)?;
-        }
         Ok(())
     }
 
@@ -117,104 +101,167 @@ impl<T: Duplicate + Drop> Pages<T> {
         ensures err { OnErr result (self.new ≡ self.old) }
     {
         let page = i as usize / PAGE;
-        let pages = self.whole.len();
-        if page < pages {
-            let alloc = *self.tail.allocator();
-            let mut items = copied(alloc, self.whole[page].as_slice())?;
-            items[i as usize % PAGE] = item;
-            self.whole[page] = Page::new(alloc, items)?;
+        let count = self.whole.len();
+        if page < count {
+            let items = &mut self.whole[page];
+            items.set(self.alloc, i as usize % PAGE, item)?;
         } else {
-            self.tail[i as usize - PAGE * pages] = item;
+            self.last.set(self.alloc, i as usize - PAGE * count, item)?;
         }
         Ok(())
     }
 
-    /// Takes the item at place `i` out of this list, and of no copy. The later items close up, and are
-    /// this list's own from then on.
+    /// Takes the item at place `i` out of this list, and of no copy. The later items close up: they
+    /// move from page to page, and these pages are this list's own from then on.
     ///
     /// # Errors
     /// `Memory` if there is none left. The list is as it was.
-    pub fn remove(&mut self, i: u64) -> Result<(), Memory>
+    pub fn remove(&mut self, i: u64) -> Result<T, Memory>
         requires { i < length self.old }
+        ensures item { IfOk result (λ item. slice_get self.old i ≡ Some item) }
         ensures ok { OnOk result (self.new ≡ remove self.old i) }
         ensures err { OnErr result (self.new ≡ self.old) }
     {
-        let page = i as usize / PAGE;
-        if page >= self.whole.len() {
-            self.tail.remove(i as usize - PAGE * self.whole.len());
-            self.len -= 1;
-            return Ok(());
-        }
-        let mut own = joined(
-            *self.tail.allocator(),
-            &self.whole[page..],
-            self.tail.as_slice(),
-        )?;
-        own.remove(i as usize - PAGE * page);
-        self.whole.truncate(page);
-        self.tail = own;
+        self.last.own(self.alloc)?;
+        own_pages(self.alloc, &mut self.whole, i as usize / PAGE)?;
+        let item = take_out(&mut self.whole, &mut self.last, i as usize);
         self.len -= 1;
-        Ok(())
+        drop_empty(&mut self.whole, &mut self.last);
+        Ok(item)
+    }
+
+    /// Lets copies share all pages from now on. No item is copied.
+    ///
+    /// # Errors
+    /// `Memory` if there is none left. The list is as it was.
+    pub fn settle(&mut self) -> Result<(), Memory>
+        ensures { self.new ≡ self.old }
+    {
+        self.last.settle(self.alloc)?;
+        settle_pages(self.alloc, &mut self.whole)
     }
 }
 
 impl<T: Duplicate + Drop> Duplicate for Pages<T> {
     fn copy(&self, alloc: Global) -> Result<Self, Memory> {
-        let whole = shared(alloc, self.whole.as_slice())?;
-        let mut other = Pages {
+        let whole = copied_pages(alloc, self.whole.as_slice())?;
+        let last = self.last.copy(alloc)?;
+        Ok(Pages {
             whole,
-            tail: Vec::new(alloc),
-            len: self.len - self.tail.len() as u64,
-        };
-        other.extend(alloc, self.tail.as_slice())?;
-        Ok(other)
+            last,
+            len: self.len,
+            alloc,
+        })
     }
 }
 
-/// The same pages once more: one count for each.
-fn shared<T: Drop>(alloc: Global, pages: &[Page<T>]) -> Result<Vec<Page<T>>, Memory>
-    ensures { IfOk result (λ others. others.items ≡ pages.now) }
+/// A page of one item.
+fn page_of<T: Duplicate + Drop>(alloc: Global, item: T) -> Result<Page<T>, Memory>
+    ensures { IfOk result (λ page. page.items ≡ item ∷ []) }
+{
+    let mut page = Page::new(alloc);
+    page.push(alloc, item)?;
+    Ok(page)
+}
+
+/// The pages once more.
+fn copied_pages<T: Duplicate + Drop>(
+    alloc: Global,
+    pages: &[Page<T>],
+) -> Result<Vec<Page<T>>, Memory>
+    ensures { IfOk result (λ others. map (λ page. page.items) others.items ≡ map (λ page. page.items) pages.now) }
 {
     let mut others = Vec::with_capacity(alloc, pages.len())?;
     'pages: for page in pages {
-        others.push(page.again()?)?;
+        others.push(page.copy(alloc)?)?;
     }
     Ok(others)
 }
 
-/// The items once more.
-fn copied<T: Duplicate + Drop>(alloc: Global, items: &[T]) -> Result<Vec<T>, Memory>
-    ensures { IfOk result (λ all. all.items ≡ items.now) }
-{
-    let mut all = Vec::with_capacity(alloc, items.len())?;
-    'items: for item in items {
-        all.push(item.copy(alloc)?)?;
-    }
-    Ok(all)
-}
-
-/// The items of the pages and then those of the tail once more.
-fn joined<T: Duplicate + Drop>(
+/// Makes the pages from this one on the list's own.
+fn own_pages<T: Duplicate + Drop>(
     alloc: Global,
-    pages: &[Page<T>],
-    tail: &[T],
-) -> Result<Vec<T>, Memory>
-    ensures { IfOk result (λ all. all.items ≡ items_in pages.now tail.now) }
+    pages: &mut Vec<Page<T>>,
+    from: usize,
+) -> Result<(), Memory>
+    ensures items { map (λ page. page.items) pages.new.items ≡ map (λ page. page.items) pages.old.items }
+    ensures own { OnOk result (AreOwn from pages.new.items) }
 {
-    let mut all = Vec::new(alloc);
-    'pages: for page in pages {
-        append(alloc, &mut all, page.as_slice())?;
-    }
-    append(alloc, &mut all, tail)?;
-    Ok(all)
-}
-
-/// Adds the items once more.
-fn append<T: Duplicate + Drop>(alloc: Global, all: &mut Vec<T>, items: &[T]) -> Result<(), Memory>
-    ensures { OnOk result (all.new.items ≡ all.old.items ++ items.now) }
-{
-    'items: for item in items {
-        all.push(item.copy(alloc)?)?;
+    'pages: for k in from..pages.len() {
+        let page = &mut pages[k];
+        page.own(alloc)?;
     }
     Ok(())
+}
+
+/// Lets copies share the pages.
+fn settle_pages<T: Duplicate + Drop>(alloc: Global, pages: &mut Vec<Page<T>>) -> Result<(), Memory>
+    ensures items { map (λ page. page.items) pages.new.items ≡ map (λ page. page.items) pages.old.items }
+{
+    'pages: for k in 0..pages.len() {
+        let page = &mut pages[k];
+        page.settle(alloc)?;
+    }
+    Ok(())
+}
+
+/// Takes the item at place `i` out of the whole pages and the last one. It takes no memory.
+fn take_out<T>(whole: &mut Vec<Page<T>>, last: &mut Page<T>, i: usize) -> T
+    requires whole { All IsWhole whole.old.items }
+    requires own { AreOwn (i / 512) whole.old.items }
+    requires last { last.old.own ≡ true }
+    requires filled { 0 < length last.old.items }
+    requires place { i < length (items_in whole.old.items last.old.items) }
+    ensures item { insert (items_in whole.new.items last.new.items) i result ≡ items_in whole.old.items last.old.items }
+    ensures whole { All IsWhole whole.new.items }
+    ensures count { length whole.new.items ≡ length whole.old.items }
+    ensures less { length last.new.items + 1 ≡ length last.old.items }
+{
+    let page = i / PAGE;
+    let count = whole.len();
+    if page >= count {
+        return last.remove(i - PAGE * count);
+    }
+    let next = take_behind(whole, last, page);
+    let items = &mut whole[page];
+    items.pass(i % PAGE, next)
+}
+
+/// Takes the first item behind this page out, so that the later ones close up. It takes no memory.
+fn take_behind<T>(whole: &mut Vec<Page<T>>, last: &mut Page<T>, page: usize) -> T
+    requires page { page < length whole.old.items }
+    requires whole { All IsWhole whole.old.items }
+    requires own { AreOwn page whole.old.items }
+    requires last { last.old.own ≡ true }
+    requires filled { 0 < length last.old.items }
+    ensures item { insert (items_in whole.new.items last.new.items) (512 * page + 512) result ≡ items_in whole.old.items last.old.items }
+    ensures whole { All IsWhole whole.new.items }
+    ensures own { AreOwn page whole.new.items }
+    ensures count { length whole.new.items ≡ length whole.old.items }
+    ensures less { length last.new.items + 1 ≡ length last.old.items }
+{
+    let count = whole.len();
+    let mut next = last.remove(0);
+    'pages: for back in 1..count - page {
+        let items = &mut whole[count - back];
+        next = items.pass(0, next);
+    }
+    next
+}
+
+/// Lets the last page go where it is empty.
+fn drop_empty<T: Drop>(whole: &mut Vec<Page<T>>, last: &mut Page<T>)
+    requires { All IsWhole whole.old.items }
+    ensures items { items_in whole.new.items last.new.items ≡ items_in whole.old.items last.old.items }
+    ensures whole { All IsWhole whole.new.items }
+    ensures within { length last.new.items ≤ max 512 (length last.old.items) }
+    ensures filled { length last.new.items ≡ 0 → length whole.new.items ≡ 0 }
+    ensures counted { 512 * length whole.new.items + length last.new.items ≡ 512 * length whole.old.items + length last.old.items }
+{
+    if !last.as_slice().is_empty() {
+        return;
+    }
+    if let Some(page) = whole.pop() {
+        *last = page;
+    }
 }

@@ -4,4 +4,4 @@ use Rattle.set_report.proofs.ListLaws.{Joins}
 use Rattle.set_report.proofs.list.write_each.Given as goal
 
 abbrev pub invariant-elements : goal.invariant-elements
-invariant-elements l = Joins (element_text l.set l.now) (codes ",\n\t\t\t     ") (take l.element-index l.elements) l.initial.out.items l.out.items l.separator
+invariant-elements l = Joins (element_text l.set l.now) (codes ",\n\t\t\t     ") (take l.i l.elements) l.initial.out.items l.out.items l.separator

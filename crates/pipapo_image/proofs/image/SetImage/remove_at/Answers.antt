@@ -39,7 +39,10 @@ drop_element-requires c =
     subst (λ z. IsDroppable s.index z c.as_slice-3.result.now) (sym c.as_mut_slice.ensures.value) (subst (λ z. IsDroppable s.index c.in_ok-others.others.items z) (sym c.as_slice-3.ensures.value) is)
 
 pub invariant_of-self : goal.invariant_of-self
-invariant_of-self c =
+invariant_of-self c = subst (λ z. IsImage c.self.inside.kinds z c.self.inside.index) (sym c.in_err-element.ensures.err) c.self.invariant
+
+pub invariant_of-self-2 : goal.invariant_of-self-2
+invariant_of-self-2 c =
     let s = c.self.inside in
     let runs : AreRuns s.kinds s.elements c.args.i c.in_ok-runs.runs.items (length s.kinds) = rw (← c.self.view_is) at c.in_ok-runs.ensures in
     let h : c.args.i < length s.elements = rw (← c.self.view_is) at c.requires in
@@ -49,7 +52,7 @@ invariant_of-self c =
     let D : List (Option FieldTable) → List Span → Type 0 = λ x y. IsDropped s.index c.drop_element.new.self x y in
     let d1 : D c.in_ok-others.others.items c.as_slice-3.result.now = subst (λ z. D z c.as_slice-3.result.now) c.as_mut_slice.ensures.value c.drop_element.ensures in
     let d2 : D c.in_ok-others.others.items c.in_ok-runs.runs.items = subst (λ z. D c.in_ok-others.others.items z) c.as_slice-3.ensures.value d1 in
-    subst (λ z. IsImage s.kinds z c.drop_element.new.self) (sym c.remove-element.ensures.others)
+    subst (λ z. IsImage s.kinds z c.drop_element.new.self) (sym c.in_ok-element.ensures.ok)
     (shrink s.kinds s.elements s.index c.drop_element.new.self c.args.i c.in_ok-runs.runs.items c.in_ok-others.others.items c.self.invariant h runs o2 d2)
 
 pub returns-clause-ok : goal.returns-clause-ok
@@ -57,6 +60,6 @@ returns-clause-ok c =
     let s = c.self.inside in
     let make : List Element → State = λ es. record { kinds = s.kinds; size = s.size; disjoint = s.disjoint; elements = es; next = s.next } in
     rw (← c.self.view_is) (
-      ap (λ e. e.id) (sym (get_or_from_slice_get s.elements c.args.i c.remove-element.result no_element c.remove-element.ensures.item)),
-      ap make c.remove-element.ensures.others,
+      ap (λ e. e.id) (sym (get_or_from_slice_get s.elements c.args.i c.in_ok-element.element no_element c.in_ok-element.ensures.item)),
+      ap make c.in_ok-element.ensures.ok,
     )

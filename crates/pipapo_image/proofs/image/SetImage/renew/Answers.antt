@@ -21,8 +21,8 @@ overflow_sub-end c =
     let r = rules-next (split kinds (length kinds - 1)) es c.args.i d h in
     omega arith
 
-pub invariant_of-self : goal.invariant_of-self
-invariant_of-self c =
+pub invariant_of-self-2 : goal.invariant_of-self-2
+invariant_of-self-2 c =
     let kinds = c.self.inside.kinds in
     let es = c.self.inside.elements in
     let d : Element = record { id = 0; parts = []; expiry = None; comment = [] } in
@@ -31,4 +31,7 @@ invariant_of-self c =
     let b = c.rules_before-end.ensures.rules kinds es (c.as_slice-2.ensures ∙ c.self.invariant.tables.ends) in
     let r = rules-next (split kinds (length kinds - 1)) es c.args.i d h in
     let up : c.rules_before-first.result + (c.rules_before-end.result - c.rules_before-first.result) ≡ length (field_rules kinds (length kinds - 1) (take (c.args.i + 1) es)) = omega arith in
-    rw c.set_expiry-2.ensures (renewal kinds es c.self.inside.index c.args.i c.rules_before-first.result _ c.args.expiry c.set_expiry.new.self c.self.invariant h a up c.set_expiry.ensures.items)
+    rw c.in_ok-set_expiry.ensures.ok (renewal kinds es c.self.inside.index c.args.i c.rules_before-first.result _ c.args.expiry c.set_expiry-2.new.self c.self.invariant h a up c.set_expiry-2.ensures.items)
+
+pub invariant_of-self : goal.invariant_of-self
+invariant_of-self c = rw c.in_err-set_expiry.ensures.err c.self.invariant

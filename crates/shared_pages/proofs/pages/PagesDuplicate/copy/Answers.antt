@@ -1,8 +1,14 @@
-use Rattle.std.proofs.Common.{◌∙◌}
-use Rattle.shared_pages.proofs.PageLaws.{extended}
+use Rattle.std.proofs.Common.{◌∙◌, ap, map}
+use Rattle.shared_pages.proofs.PageLaws.{same-list, same-paged}
 use Rattle.shared_pages.proofs.pages.PagesDuplicate.copy.Goals as goal
+
+pub invariant_of-result : goal.invariant_of-result
+invariant_of-result g c =
+    same-paged c.in_ok-whole.whole.items c.self.inside.whole.items c.in_ok-last.last.items c.self.inside.last.items c.self.inside.len
+    (c.in_ok-whole.ensures ∙ ap (λ pages. map (λ page. page.items) pages) c.as_slice.ensures.value) c.in_ok-last.ensures c.self.invariant
 
 pub returns : goal.returns
 returns g c =
-    c.in_ok-extend.ensures ∙ extended c.self.inside.whole.items c.in_ok-whole.whole.items c.new.result.items c.self.inside.tail.items c.as_slice-2.result.now (c.in_ok-whole.ensures ∙ c.as_slice.ensures.value) c.new.ensures.items c.as_slice-2.ensures.value
+    same-list c.in_ok-whole.whole.items c.self.inside.whole.items c.in_ok-last.last.items c.self.inside.last.items
+    (c.in_ok-whole.ensures ∙ ap (λ pages. map (λ page. page.items) pages) c.as_slice.ensures.value) c.in_ok-last.ensures
     ∙ c.self.view_is

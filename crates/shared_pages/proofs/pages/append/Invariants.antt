@@ -1,5 +1,0 @@
-use Rattle.std.proofs.Common.{◌≡◌, ◌++◌, take}
-use Rattle.shared_pages.proofs.pages.append.Given as goal
-
-abbrev pub invariant-items : goal.invariant-items
-invariant-items g l = l.all.items ≡ l.initial.all.items ++ take l.item-index l.items

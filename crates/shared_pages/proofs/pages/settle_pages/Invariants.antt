@@ -1,0 +1,5 @@
+use Rattle.std.proofs.Common.{◌≡◌, map}
+use Rattle.shared_pages.proofs.pages.settle_pages.Given as goal
+
+abbrev pub invariant-pages : goal.invariant-pages
+invariant-pages g l = map (λ page. page.items) l.pages.items ≡ map (λ page. page.items) l.initial.pages.items

@@ -1,5 +1,0 @@
-use Rattle.std.proofs.Common.{◌≡◌, take}
-use Rattle.shared_pages.proofs.pages.shared.Given as goal
-
-abbrev pub invariant-pages : goal.invariant-pages
-invariant-pages g l = l.others.items ≡ take l.page-index l.pages
