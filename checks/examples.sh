@@ -9,7 +9,7 @@ for folder in examples/*/; do
     wanted=0
     [ -f "$folder/status" ] && wanted=$(cat "$folder/status")
     # the words of the examples have no blanks
-    written=$(cd "$folder" && "$top/pipapo" $words; echo "status $?")
+    written=$(cd "$folder" && "$top/pipapo" $words 2>/dev/null; echo "status $?")
     case $words in
     run*--threads*)
         if ! command -v python3 >/dev/null 2>&1; then

@@ -1,8 +1,9 @@
 """Cuts and flips bits of all listings and examples, and looks at what the program says of them: words PROGRAM.
 
 A text that was cut or flipped is read or refused, and nothing else comes of it: the status is one of 0, 1 and that of a
-refused text, a refusal is its one line with one of the known reasons and a line that the text has, and nothing stands on
-the standard error. What is drawn is the same each time.
+refused text, and a refusal is its one line with one of the known reasons and a line that the text has. The standard error has
+nothing with status 0, something with each other, the refusal's own line and a column of it, and nothing that moves a terminal.
+What is drawn is the same each time.
 """
 import glob
 import os
@@ -27,10 +28,10 @@ def mutants(rng, text):
         yield bytes(flipped)
 
 
-def complaint(run, text, what, refused):
+def complaint(run, path, text, what, refused):
     """What is wrong with a run of the program, or none."""
-    if run.stderr:
-        return f"something on the standard error: {run.stderr[:200]!r}"
+    if not re.fullmatch(rb"[\t\n -~]*", run.stderr) or (run.returncode == 0) != (run.stderr == b""):
+        return f"status {run.returncode} with this on the standard error: {run.stderr[:200]!r}"
     if run.returncode in (0, 1):
         return None
     if run.returncode != refused:
@@ -40,6 +41,9 @@ def complaint(run, text, what, refused):
         return f"status {refused} with {run.stdout[:200]!r}"
     if int(line.group(1)) > text.count(b"\n") + 1:
         return f"a line that isn't there: {line.group(1)}"
+    place = re.match(rf"{re.escape(path)}:([0-9]+):([0-9]+): ", run.stderr.decode())
+    if not place or place[1] != line[1] or int(place[2]) > len(text.split(b"\n")[int(line[1]) - 1]) + 1:
+        return f"line {line[1]} with this on the standard error: {run.stderr[:200]!r}"
     return None
 
 
@@ -63,7 +67,7 @@ def main():
                     file.write(text)
                 run = subprocess.run([program, *words, path], capture_output=True)
                 counts[run.returncode] = counts.get(run.returncode, 0) + 1
-                wrong = complaint(run, text, what, refused)
+                wrong = complaint(run, path, text, what, refused)
                 if wrong:
                     bad += 1
                     print(f"{name}, cut or flipped: {wrong}")

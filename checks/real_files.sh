@@ -10,7 +10,7 @@ expect() { # STATUS LINE WORDS..
     status=$1
     line=$2
     shift 2
-    written=$("$top/pipapo" "$@"; echo "status $?")
+    written=$("$top/pipapo" "$@" 2>/dev/null; echo "status $?")
     if [ "$written" != "$(printf '%s\nstatus %s' "$line" "$status")" ]; then
         echo "pipapo $*: wrote"
         echo "$written"

@@ -15,6 +15,7 @@ mod refused;
 mod source;
 #[cfg(test)]
 mod tests;
+mod told;
 
 pub use bad::bad_text_note;
 pub use captures::capture_note;
@@ -24,3 +25,4 @@ pub use note::Note;
 pub use pcap_keys::CaptureReason;
 pub use refusals::refusals_note;
 pub use token_forms::BadToken;
+pub use told::tell_note;

@@ -30,7 +30,11 @@ use Rattle.input_files.specs.declared.fault.Flaw.{Flaw}
 use Rattle.input_files.specs.declared.fault.FileFault.{FileFault}
 use Rattle.input_files.specs.declared.fault.FileFault.TheVariants.{Bad, ReadFault, TooLarge, Memory}
 use Rattle.input_files.specs.Inputs.{Input, script, keys, rules, plan, capture, names_of, inputs, form_of, IsOf, IsFlawed, ReadsAs, IsFileCause}
+use Rattle.fault_notes.specs.Told.{MayTell}
+use Rattle.input_files.specs.Noted.{IsNoteOn, StopsTelling}
 use Rattle.input_files.specs.Reads.{AreOf, AreReadWhole, AreRead, HasRead, StopsAt}
+use Rattle.fault_notes.proofs.ToldLaws.{tells-as}
+use Rattle.input_files.proofs.Telling.{same-note}
 
 -- what comes of files by the numbers under which they were picked
 abbrev Numbers : Type 1
@@ -135,18 +139,22 @@ same-cause told other sets names others asked before mid now i (TooLarge name) s
 same-cause told other sets names others asked before mid now i Memory same e quiet h = (subst (λ (ns : List (List ℕ)). AsksOnce ns asked i.name) e h.0, h.1 ∙ quiet)
 
 -- The next file can't be had.
-module _ {told_before told_mid : List ℕ → Option (List ℕ)} {faults_before faults_mid faults : ℕ} {picked_before picked_mid picked : Numbers} {asked_mid asked : List (List ℕ)} {left_mid left : ℕ → Option (List ℕ)} {sets : List SetDecl} {files : List Input} where
+module _ {told_before told_mid : List ℕ → Option (List ℕ)} {faults_before faults_mid faults : ℕ} {picked_before picked_mid picked : Numbers} {asked_mid asked : List (List ℕ)} {left_mid left : ℕ → Option (List ℕ)} {sets : List SetDecl} {files : List Input} {noted_before noted_mid noted : Option (List ℕ)} where
   pub stops : (c : Command) (i : Input) (later : List Input) (fault : FileFault) → inputs c ≡ files ++ i ∷ later → UpTo told_before faults_before picked_before told_mid asked_mid faults_mid picked_mid left_mid sets files
-      → KeepsLeft picked_mid picked left_mid left → IsFileCause told_mid sets asked_mid i asked faults_mid faults fault
-      → StopsAt (record { told = told_before; asked = asked; faults_before = faults_before; faults_now = faults; picked_before = picked_before; picked_now = picked; left = left }) c fault
-  stops c i later fault in_order u kept cause = record {
-    sets = sets;
-    earlier = files;
-    input = i;
-    later = later;
-    in_order = in_order;
-    read_before = record { are_of = u.are_of; whole = whole-kept picked_before picked_mid picked left_mid left (length files) u.whole kept };
-    cause = same-cause told_mid told_before sets (names_of files) asked_mid asked faults_before faults_mid faults i fault u.same u.names u.quiet cause;
+      → KeepsLeft picked_mid picked left_mid left → IsFileCause told_mid sets asked_mid i asked faults_mid faults fault → noted_mid ≡ noted_before → MayTell (IsNoteOn told_mid sets i.name fault) noted_mid noted
+      → StopsTelling (record { told = told_before; asked = asked; faults_before = faults_before; faults_now = faults; picked_before = picked_before; picked_now = picked; left = left }) c noted_before noted fault
+  stops c i later fault in_order u kept cause silent tells = record {
+    stops = record {
+      sets = sets;
+      earlier = files;
+      input = i;
+      later = later;
+      in_order = in_order;
+      read_before = record { are_of = u.are_of; whole = whole-kept picked_before picked_mid picked left_mid left (length files) u.whole kept };
+      cause = same-cause told_mid told_before sets (names_of files) asked_mid asked faults_before faults_mid faults i fault u.same u.names u.quiet cause;
+    };
+    noted = tells-as (IsNoteOn told_mid sets i.name fault) (IsNoteOn told_before sets i.name fault) noted_before noted (λ text is. same-note told_mid told_before sets i.name fault text u.same is)
+        (subst (λ (b : Option (List ℕ)). MayTell (IsNoteOn told_mid sets i.name fault) b noted) silent tells);
   }
 
 -- All files of a command were read.

@@ -2,3 +2,4 @@ pub mod Inputs
 pub mod Reads
 pub mod Works
 pub mod Given
+pub mod Noted

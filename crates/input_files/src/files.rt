@@ -10,13 +10,17 @@ ghost use Rattle.pcap_keys.specs.Fitting.{HasValues, IsPlanned};
 ghost use Rattle.pcap_keys.specs.PlansText.{IsPlanText};
 ghost use Rattle.pip_base.specs.Picks.{AsksOnce, KeepsLeft, ReadsToEnd};
 ghost use Rattle.pip_base.specs.Whole.{size_limit};
+ghost use Rattle.fault_notes.specs.Told.{MayTell};
 ghost use Rattle.input_files.specs.Inputs as inputs;
 ghost use Rattle.input_files.specs.Inputs.{Input, ReadsAs, IsFileCause};
+ghost use Rattle.input_files.specs.Noted.{IsNoteOn};
 
 use crate::fault::{FileFault, Flaw};
+use crate::told::{tell_bad, tell_capture, tell_read_fault, tell_too_large};
+use fault_notes::TextKind;
 use key_file::read_keys;
 use pcap_keys::{CaptureError, Frames, Plan, read_capture, read_plan};
-use pip_base::{ReadError, Shelf, read_whole};
+use pip_base::{Notes, ReadError, Shelf, read_whole};
 use rule_chain::{Chains, read_rules};
 use set_model::{Keys, Schema, Script};
 use set_script::read_script;
@@ -24,9 +28,10 @@ use std::alloc::Global;
 use token_forms::ReadError as FormError;
 
 /// All bytes of the file of a name.
-fn text_of<'a, F: Shelf>(
+fn text_of<'a, F: Shelf, N: Notes>(
     alloc: Global,
     shelf: &mut F,
+    notes: &mut N,
     name: &'a str,
 ) -> Result<Vec<u8>, FileFault<'a>>
     requires { length (F.asked shelf.old) ≤ 2 }
@@ -37,19 +42,29 @@ fn text_of<'a, F: Shelf>(
     ensures kept { KeepsLeft (F.is_picked shelf.old) (F.is_picked shelf.new) (F.left shelf.old) (F.left shelf.new) }
     ensures told { (other : List ℕ) → F.told shelf.new other ≡ F.told shelf.old other }
     ensures cause { (sets : List Declared) (i : Input) → i.name ≡ name.now → IfErr result (IsFileCause (F.told shelf.old) sets (F.asked shelf.old) i (F.asked shelf.new) (F.faults shelf.old) (F.faults shelf.new)) }
+    ensures silent { OnOk result (N.told notes.new ≡ N.told notes.old) }
+    ensures noted { (sets : List Declared) → IfErr result (λ fault. MayTell (IsNoteOn (F.told shelf.old) sets name.now fault) (N.told notes.old) (N.told notes.new)) }
 {
     match read_whole(alloc, shelf, name) {
         Ok(text) => Ok(text),
-        Err(ReadError::Fault) => Err(FileFault::ReadFault(name)),
-        Err(ReadError::TooLarge) => Err(FileFault::TooLarge(name)),
+        Err(ReadError::Fault) => {
+            tell_read_fault(alloc, notes, name, shelf.fault_kind());
+            Err(FileFault::ReadFault(name))
+        }
+        Err(ReadError::TooLarge) => {
+            tell_too_large(alloc, notes, name);
+            Err(FileFault::TooLarge(name))
+        }
         Err(ReadError::Memory) => Err(FileFault::Memory),
     }
 }
 
-/// The script of a name.
-pub fn script_of<'a, F: Shelf>(
+/// The script of a name, whose text is put into `kept`.
+pub fn script_of<'a, F: Shelf, N: Notes>(
     alloc: Global,
     shelf: &mut F,
+    notes: &mut N,
+    kept: &mut Vec<u8>,
     name: &'a str,
 ) -> Result<Script, FileFault<'a>>
     requires { length (F.asked shelf.old) ≤ 2 }
@@ -60,22 +75,30 @@ pub fn script_of<'a, F: Shelf>(
     ensures kept { KeepsLeft (F.is_picked shelf.old) (F.is_picked shelf.new) (F.left shelf.old) (F.left shelf.new) }
     ensures told { (other : List ℕ) → F.told shelf.new other ≡ F.told shelf.old other }
     ensures cause { (sets : List Declared) → IfErr result (IsFileCause (F.told shelf.old) sets (F.asked shelf.old) (record { name = name.now; form = inputs.script }) (F.asked shelf.new) (F.faults shelf.old) (F.faults shelf.new)) }
+    ensures silent { OnOk result (N.told notes.new ≡ N.told notes.old) }
+    ensures noted { (sets : List Declared) → IfErr result (λ fault. MayTell (IsNoteOn (F.told shelf.old) sets name.now fault) (N.told notes.old) (N.told notes.new)) }
 {
-    let text = match text_of(alloc, shelf, name) {
+    *kept = match text_of(alloc, shelf, notes, name) {
         Ok(text) => text,
         Err(fault) => return Err(fault),
     };
-    match read_script(alloc, text.as_slice()) {
+    let bytes = kept.as_slice();
+    match read_script(alloc, bytes) {
         Ok(script) => Ok(script),
-        Err(FormError::Bad { line, reason }) => Err(FileFault::Bad(Flaw::Script { line, reason })),
+        Err(FormError::Bad { line, reason }) => {
+            let found = set_script::bad_token(alloc, bytes);
+            tell_bad(alloc, notes, TextKind::Script, name, bytes, found);
+            Err(FileFault::Bad(Flaw::Script { line, reason }))
+        }
         Err(FormError::Memory) => Err(FileFault::Memory),
     }
 }
 
 /// The key file of a name, for the sets of a script.
-pub fn keys_of<'a, F: Shelf>(
+pub fn keys_of<'a, F: Shelf, N: Notes>(
     alloc: Global,
     shelf: &mut F,
+    notes: &mut N,
     schema: &Schema,
     name: &'a str,
 ) -> Result<Keys, FileFault<'a>>
@@ -87,22 +110,30 @@ pub fn keys_of<'a, F: Shelf>(
     ensures kept { KeepsLeft (F.is_picked shelf.old) (F.is_picked shelf.new) (F.left shelf.old) (F.left shelf.new) }
     ensures told { (other : List ℕ) → F.told shelf.new other ≡ F.told shelf.old other }
     ensures cause { IfErr result (IsFileCause (F.told shelf.old) schema.now (F.asked shelf.old) (record { name = name.now; form = inputs.keys }) (F.asked shelf.new) (F.faults shelf.old) (F.faults shelf.new)) }
+    ensures silent { OnOk result (N.told notes.new ≡ N.told notes.old) }
+    ensures noted { IfErr result (λ fault. MayTell (IsNoteOn (F.told shelf.old) schema.now name.now fault) (N.told notes.old) (N.told notes.new)) }
 {
-    let text = match text_of(alloc, shelf, name) {
+    let text = match text_of(alloc, shelf, notes, name) {
         Ok(text) => text,
         Err(fault) => return Err(fault),
     };
-    match read_keys(alloc, schema, text.as_slice()) {
+    let bytes = text.as_slice();
+    match read_keys(alloc, schema, bytes) {
         Ok(keys) => Ok(keys),
-        Err(FormError::Bad { line, reason }) => Err(FileFault::Bad(Flaw::Keys { line, reason })),
+        Err(FormError::Bad { line, reason }) => {
+            let found = key_file::bad_token(alloc, schema, bytes);
+            tell_bad(alloc, notes, TextKind::Keys, name, bytes, found);
+            Err(FileFault::Bad(Flaw::Keys { line, reason }))
+        }
         Err(FormError::Memory) => Err(FileFault::Memory),
     }
 }
 
 /// The rules file of a name, for the sets of a script.
-pub fn rules_of<'a, F: Shelf>(
+pub fn rules_of<'a, F: Shelf, N: Notes>(
     alloc: Global,
     shelf: &mut F,
+    notes: &mut N,
     schema: &Schema,
     name: &'a str,
 ) -> Result<Chains, FileFault<'a>>
@@ -114,22 +145,30 @@ pub fn rules_of<'a, F: Shelf>(
     ensures kept { KeepsLeft (F.is_picked shelf.old) (F.is_picked shelf.new) (F.left shelf.old) (F.left shelf.new) }
     ensures told { (other : List ℕ) → F.told shelf.new other ≡ F.told shelf.old other }
     ensures cause { IfErr result (IsFileCause (F.told shelf.old) schema.now (F.asked shelf.old) (record { name = name.now; form = inputs.rules }) (F.asked shelf.new) (F.faults shelf.old) (F.faults shelf.new)) }
+    ensures silent { OnOk result (N.told notes.new ≡ N.told notes.old) }
+    ensures noted { IfErr result (λ fault. MayTell (IsNoteOn (F.told shelf.old) schema.now name.now fault) (N.told notes.old) (N.told notes.new)) }
 {
-    let text = match text_of(alloc, shelf, name) {
+    let text = match text_of(alloc, shelf, notes, name) {
         Ok(text) => text,
         Err(fault) => return Err(fault),
     };
-    match read_rules(alloc, schema, text.as_slice()) {
+    let bytes = text.as_slice();
+    match read_rules(alloc, schema, bytes) {
         Ok(rules) => Ok(rules),
-        Err(FormError::Bad { line, reason }) => Err(FileFault::Bad(Flaw::Rules { line, reason })),
+        Err(FormError::Bad { line, reason }) => {
+            let found = rule_chain::bad_token(alloc, schema, bytes);
+            tell_bad(alloc, notes, TextKind::Rules, name, bytes, found);
+            Err(FileFault::Bad(Flaw::Rules { line, reason }))
+        }
         Err(FormError::Memory) => Err(FileFault::Memory),
     }
 }
 
 /// The plan of a name, for the sets of a script.
-pub fn plan_of<'a, F: Shelf>(
+pub fn plan_of<'a, F: Shelf, N: Notes>(
     alloc: Global,
     shelf: &mut F,
+    notes: &mut N,
     schema: &Schema,
     name: &'a str,
 ) -> Result<Plan, FileFault<'a>>
@@ -141,22 +180,30 @@ pub fn plan_of<'a, F: Shelf>(
     ensures kept { KeepsLeft (F.is_picked shelf.old) (F.is_picked shelf.new) (F.left shelf.old) (F.left shelf.new) }
     ensures told { (other : List ℕ) → F.told shelf.new other ≡ F.told shelf.old other }
     ensures cause { IfErr result (IsFileCause (F.told shelf.old) schema.now (F.asked shelf.old) (record { name = name.now; form = inputs.plan }) (F.asked shelf.new) (F.faults shelf.old) (F.faults shelf.new)) }
+    ensures silent { OnOk result (N.told notes.new ≡ N.told notes.old) }
+    ensures noted { IfErr result (λ fault. MayTell (IsNoteOn (F.told shelf.old) schema.now name.now fault) (N.told notes.old) (N.told notes.new)) }
 {
-    let text = match text_of(alloc, shelf, name) {
+    let text = match text_of(alloc, shelf, notes, name) {
         Ok(text) => text,
         Err(fault) => return Err(fault),
     };
-    match read_plan(alloc, schema, text.as_slice()) {
+    let bytes = text.as_slice();
+    match read_plan(alloc, schema, bytes) {
         Ok(plan) => Ok(plan),
-        Err(FormError::Bad { line, reason }) => Err(FileFault::Bad(Flaw::Plan { line, reason })),
+        Err(FormError::Bad { line, reason }) => {
+            let found = pcap_keys::bad_token(alloc, schema, bytes);
+            tell_bad(alloc, notes, TextKind::Plan, name, bytes, found);
+            Err(FileFault::Bad(Flaw::Plan { line, reason }))
+        }
         Err(FormError::Memory) => Err(FileFault::Memory),
     }
 }
 
 /// The frames of the capture of a name.
-pub fn capture_of<'a, F: Shelf>(
+pub fn capture_of<'a, F: Shelf, N: Notes>(
     alloc: Global,
     shelf: &mut F,
+    notes: &mut N,
     name: &'a str,
 ) -> Result<Frames, FileFault<'a>>
     requires { length (F.asked shelf.old) ≤ 2 }
@@ -167,14 +214,18 @@ pub fn capture_of<'a, F: Shelf>(
     ensures kept { KeepsLeft (F.is_picked shelf.old) (F.is_picked shelf.new) (F.left shelf.old) (F.left shelf.new) }
     ensures told { (other : List ℕ) → F.told shelf.new other ≡ F.told shelf.old other }
     ensures cause { (sets : List Declared) → IfErr result (IsFileCause (F.told shelf.old) sets (F.asked shelf.old) (record { name = name.now; form = inputs.capture }) (F.asked shelf.new) (F.faults shelf.old) (F.faults shelf.new)) }
+    ensures silent { OnOk result (N.told notes.new ≡ N.told notes.old) }
+    ensures noted { (sets : List Declared) → IfErr result (λ fault. MayTell (IsNoteOn (F.told shelf.old) sets name.now fault) (N.told notes.old) (N.told notes.new)) }
 {
-    let text = match text_of(alloc, shelf, name) {
+    let text = match text_of(alloc, shelf, notes, name) {
         Ok(text) => text,
         Err(fault) => return Err(fault),
     };
-    match read_capture(alloc, text.as_slice()) {
+    let bytes = text.as_slice();
+    match read_capture(alloc, bytes) {
         Ok(capture) => Ok(capture),
         Err(CaptureError::Bad { byte, reason }) => {
+            tell_capture(alloc, notes, name, bytes, byte, reason);
             Err(FileFault::Bad(Flaw::Capture { byte, reason }))
         }
         Err(CaptureError::Memory) => Err(FileFault::Memory),

@@ -6,6 +6,7 @@
 
 mod fault;
 mod files;
+mod told;
 mod work;
 
 pub use fault::{FileFault, Flaw};

@@ -1,14 +1,15 @@
 ghost use Rattle.std.specs.Prelude.{◌≡◌, List, ℕ, [], IfOk, IfErr, OnOk};
 ghost use Rattle.command_words.specs.Words.{IsCommand};
 ghost use Rattle.command_words.specs.WordForms.{plain};
-ghost use Rattle.input_files.specs.Reads.{HasRead, StopsAt};
+ghost use Rattle.input_files.specs.Noted.{StopsTelling};
+ghost use Rattle.input_files.specs.Reads.{HasRead};
 ghost use Rattle.input_files.specs.Works.{IsWork, IsDoable};
 
 use crate::fault::FileFault;
 use crate::files::{capture_of, keys_of, plan_of, rules_of, script_of};
 use command_words::{Command, Task};
 use pcap_keys::{Frames, Plan};
-use pip_base::Shelf;
+use pip_base::{Notes, Shelf};
 use rule_chain::Chains;
 use set_model::{Keys, Script};
 use std::alloc::Global;
@@ -59,13 +60,16 @@ pub enum Work {
 }
 
 /// Reads the files of a command, in the order of its words, each only where those before it were read whole and are of their forms.
+/// The script's text is put into `script_text`.
 ///
 /// # Errors
 ///
-/// Why the first of them that can't be had can't.
-pub fn work_of<'a, F: Shelf>(
+/// Why the first of them that can't be had can't, which a person is told where there is memory for it.
+pub fn work_of<'a, F: Shelf, N: Notes>(
     alloc: Global,
     shelf: &mut F,
+    notes: &mut N,
+    script_text: &mut Vec<u8>,
     command: Command<'a>,
 ) -> Result<Work, FileFault<'a>>
     requires nothing { F.asked shelf.old ≡ [] }
@@ -73,7 +77,8 @@ pub fn work_of<'a, F: Shelf>(
     ensures work { IfOk result (IsWork (F.told shelf.old) (plain command.entry)) }
     ensures doable { IfOk result IsDoable }
     ensures all { OnOk result (HasRead (record { told = F.told shelf.old; asked = F.asked shelf.new; faults_before = F.faults shelf.old; faults_now = F.faults shelf.new; picked_before = F.is_picked shelf.old; picked_now = F.is_picked shelf.new; left = F.left shelf.new }) (plain command.entry)) }
-    ensures stops { IfErr result (StopsAt (record { told = F.told shelf.old; asked = F.asked shelf.new; faults_before = F.faults shelf.old; faults_now = F.faults shelf.new; picked_before = F.is_picked shelf.old; picked_now = F.is_picked shelf.new; left = F.left shelf.new }) (plain command.entry)) }
+    ensures stops { IfErr result (StopsTelling (record { told = F.told shelf.old; asked = F.asked shelf.new; faults_before = F.faults shelf.old; faults_now = F.faults shelf.new; picked_before = F.is_picked shelf.old; picked_now = F.is_picked shelf.new; left = F.left shelf.new }) (plain command.entry) (N.told notes.old) (N.told notes.new)) }
+    ensures silent { OnOk result (N.told notes.new ≡ N.told notes.old) }
 {
     match command {
         Command::Script {
@@ -81,12 +86,18 @@ pub fn work_of<'a, F: Shelf>(
             task,
             keep_going,
         } => {
-            let script = match script_of(alloc, shelf, script) {
+            let script = match script_of(alloc, shelf, notes, script_text, script) {
                 Ok(script) => script,
                 Err(fault) => return Err(fault),
             };
             match task {
-                Task::Run { keys, threads } => match keys_of(alloc, shelf, &script.schema, keys) {
+                Task::Run { keys, threads } => match keys_of(
+                    alloc,
+                    shelf,
+                    notes,
+                    &script.schema,
+                    keys,
+                ) {
                     Ok(keys) => Ok(Work::Run {
                         script,
                         keys,
@@ -102,11 +113,11 @@ pub fn work_of<'a, F: Shelf>(
                     keys,
                     threads,
                 } => {
-                    let chains = match rules_of(alloc, shelf, &script.schema, rules) {
+                    let chains = match rules_of(alloc, shelf, notes, &script.schema, rules) {
                         Ok(chains) => chains,
                         Err(fault) => return Err(fault),
                     };
-                    match keys_of(alloc, shelf, &script.schema, keys) {
+                    match keys_of(alloc, shelf, notes, &script.schema, keys) {
                         Ok(keys) => Ok(Work::Judge {
                             script,
                             chains,
@@ -122,11 +133,11 @@ pub fn work_of<'a, F: Shelf>(
                     packets,
                     threads,
                 } => {
-                    let plan = match plan_of(alloc, shelf, &script.schema, plan) {
+                    let plan = match plan_of(alloc, shelf, notes, &script.schema, plan) {
                         Ok(plan) => plan,
                         Err(fault) => return Err(fault),
                     };
-                    match capture_of(alloc, shelf, packets) {
+                    match capture_of(alloc, shelf, notes, packets) {
                         Ok(frames) => Ok(Work::Capture {
                             script,
                             plan,

@@ -38,7 +38,7 @@ form-above forms.rules = omega arith
 form-above forms.plan = omega arith
 form-above forms.capture = omega arith
 
-file-above : (f : FileFault) → 2 ≤ file_status f
+pub file-above : (f : FileFault) → 2 ≤ file_status f
 file-above (files.Bad flaw) = form-above (form_of flaw)
 file-above (files.ReadFault name) = omega arith
 file-above (files.TooLarge name) = omega arith

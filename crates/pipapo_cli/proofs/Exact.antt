@@ -27,6 +27,7 @@ use Rattle.pipapo_cli.specs.Lines.{done_status, form_status, file_status, status
 use Rattle.pipapo_cli.specs.Answers.{Ends, written, cut, memory, IsDue, output, page, refusal, Delivers}
 use Rattle.pipapo_cli.specs.Exactly.{HasTurn, IsExact, IsStatus, Completes, DeliversText, DeliversRun, DeliversJudgement, RanOut}
 use Rattle.pipapo_cli.specs.Promises.{Promises, Goes}
+use Rattle.pipapo_cli.proofs.Noting.{no-note}
 use Rattle.pipapo_cli.proofs.Endings.{TheEnd, page-told, transcribes, judges, captures, lists, dumps, drills, tells-page}
 use Rattle.pipapo_cli.proofs.Completed.{completes, tells-read-fault, tells-flaw, shelf-moved, sink-moved}
 
@@ -190,4 +191,6 @@ promises c g = record {
   read_fault = λ e. tells-read-fault c g.ends e;
   shelf_count = λ moved. shelf-moved c.words c.shelf c.taken_before c.taken_now c.faults_before c.faults_now c.status g.ends moved;
   sink_count = λ moved. sink-moved c.words c.shelf c.taken_before c.taken_now c.faults_before c.faults_now c.status g.ends moved;
+  noted = g.noted;
+  no_note = λ e. no-note c g.noted e;
 }

@@ -1,6 +1,7 @@
 mod Deliveries
 mod Asking
 pub mod Endings
+mod Noting
 mod Completed
 mod Exact
 pub mod Outputs

@@ -4,7 +4,7 @@ use Rattle.pip_base.specs.Causes.{Rose}
 use Rattle.input_files.specs.Reads.{Shelved}
 
 -- The words; what the shelf shows; what the sink took, where it tells that, and how often it failed, before the call and behind it;
--- and the status.
+-- what a person was told before and behind it, where the notes tell that; and the status.
 pub record Call : Type 1 where
   pub words : List (List ℕ)
   pub shelf : Shelved
@@ -12,6 +12,8 @@ pub record Call : Type 1 where
   pub taken_now : Option (List ℕ)
   pub faults_before : ℕ
   pub faults_now : ℕ
+  pub noted_before : Option (List ℕ)
+  pub noted_now : Option (List ℕ)
   pub status : ℕ
 
 -- Nothing failed outside: neither the shelf's count of faults rose nor the sink's.

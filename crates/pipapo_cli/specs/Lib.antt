@@ -4,5 +4,6 @@ pub mod Calls
 pub mod Causes
 pub mod Names
 pub mod Answers
+pub mod Noted
 pub mod Exactly
 pub mod Promises

@@ -7,12 +7,14 @@ use Rattle.pipapo_cli.specs.Lines.{form_status}
 use Rattle.pipapo_cli.specs.Names.{AsksInOrder, AsksForAll}
 use Rattle.pipapo_cli.specs.Answers.{Ends, IsDue, IsDone, Transcribes, Judges, Captures, Lists, Dumps, Drills, TellsPage, TellsReadFault, TellsFlaw}
 use Rattle.pipapo_cli.specs.Exactly.{IsExact, Completes}
+use Rattle.pipapo_cli.specs.Noted.{IsNoted}
 
--- What every other promise follows from: how the call ends, and which files were read.
+-- What every other promise follows from: how the call ends, which files were read, and what a person was told.
 pub record Goes (c : Call) : Type 0 where
   pub ends : Ends (IsDue c.words c.shelf) c.taken_before c.taken_now c.faults_before c.faults_now c.status
   pub names : AsksInOrder c.words c.shelf
   pub all_read : IsDone c.status → AsksForAll c.words c.shelf
+  pub noted : IsNoted c
 
 pub record Promises (c : Call) : Type 0 where
   -- Every status has its cause, and what was written is due.
@@ -43,3 +45,7 @@ pub record Promises (c : Call) : Type 0 where
   -- The shelf's count rose only with 5 or 6, and the sink's only with 6.
   pub shelf_count : c.shelf.faults_now ≢ c.shelf.faults_before → (c.status ≡ 5) ⊎ (c.status ≡ 6)
   pub sink_count : c.faults_now ≢ c.faults_before → c.status ≡ 6
+  -- A person is told nothing beside the output, or where and why a file can't be had, or which changes were refused; with status 0
+  -- nothing.
+  pub noted : IsNoted c
+  pub no_note : c.status ≡ 0 → c.noted_now ≡ c.noted_before

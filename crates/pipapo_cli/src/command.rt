@@ -8,10 +8,11 @@ ghost use Rattle.pipapo_cli.specs.Promises.{Goes, Promises};
 use crate::delivery::{deliver, deliver_page, tell};
 use crate::fault::Fault;
 use crate::output::output_of;
+use crate::refusals::tell_refusals;
 use command_words::{Command, WordsError, command_of, page_of};
 use input_files::work_of;
 use packet_pool::Gate;
-use pip_base::{Shelf, Sink};
+use pip_base::{Notes, Shelf, Sink};
 use std::alloc::Global;
 use std::thread::Threads;
 
@@ -22,22 +23,28 @@ fn done_status(refused: bool) -> u8
     if refused { 1 } else { 0 }
 }
 
-/// Does what a command asks for, writes what comes of it, and answers the status.
-fn do_command<'a, R: Threads + Sync, F: Shelf, K: Sink, G: Gate>(
+/// Does what a command asks for, writes what comes of it, tells a person what was wrong, and answers the status.
+fn do_command<'a, R: Threads + Sync, F: Shelf, K: Sink, N: Notes, G: Gate>(
     rt: &R,
     alloc: Global,
     command: Command<'a>,
     shelf: &mut F,
     sink: &mut K,
+    notes: &mut N,
     gate: &G,
 ) -> u8
     requires nothing { F.asked shelf.old ≡ [] }
     requires is_command { (words : List (List ℕ)) × IsCommand words (plain command) }
-    ensures { (words : List (List ℕ)) → IsCommand words (plain command.entry) → Goes (record { words = words; shelf = record { told = F.told shelf.old; asked = F.asked shelf.new; faults_before = F.faults shelf.old; faults_now = F.faults shelf.new; picked_before = F.is_picked shelf.old; picked_now = F.is_picked shelf.new; left = F.left shelf.new }; taken_before = K.taken sink.old; taken_now = K.taken sink.new; faults_before = K.faults sink.old; faults_now = K.faults sink.new; status = result }) }
+    ensures { (words : List (List ℕ)) → IsCommand words (plain command.entry) → Goes (record { words = words; shelf = record { told = F.told shelf.old; asked = F.asked shelf.new; faults_before = F.faults shelf.old; faults_now = F.faults shelf.new; picked_before = F.is_picked shelf.old; picked_now = F.is_picked shelf.new; left = F.left shelf.new }; taken_before = K.taken sink.old; taken_now = K.taken sink.new; faults_before = K.faults sink.old; faults_now = K.faults sink.new; noted_before = N.told notes.old; noted_now = N.told notes.new; status = result }) }
 {
-    match work_of(alloc, shelf, command) {
+    let mut script_text = Vec::new(alloc);
+    match work_of(alloc, shelf, notes, &mut script_text, command) {
         Ok(work) => match output_of(rt, alloc, work, gate) {
-            Ok(output) => deliver(sink, done_status(output.refused), output.text.as_slice()),
+            Ok(output) => {
+                let status = deliver(sink, done_status(output.refused), output.text.as_slice());
+                tell_refusals(alloc, notes, command, script_text.as_slice(), &output);
+                status
+            }
             Err(_) => tell(sink, Fault::Memory),
         },
         Err(fault) => tell(sink, Fault::File(fault)),
@@ -45,40 +52,42 @@ fn do_command<'a, R: Threads + Sync, F: Shelf, K: Sink, G: Gate>(
 }
 
 /// Does what words ask for that ask for no page, writes what comes of it, and answers the status.
-fn carry_out_command<R: Threads + Sync, F: Shelf, K: Sink, G: Gate>(
+fn carry_out_command<R: Threads + Sync, F: Shelf, K: Sink, N: Notes, G: Gate>(
     rt: &R,
     alloc: Global,
     words: &[String],
     shelf: &mut F,
     sink: &mut K,
+    notes: &mut N,
     gate: &G,
 ) -> u8
     requires nothing { F.asked shelf.old ≡ [] }
     requires no_page { (p : _) → AsksFor (map string_bytes words.now) p → ⊥ }
-    ensures { Goes (record { words = map string_bytes words.now; shelf = record { told = F.told shelf.old; asked = F.asked shelf.new; faults_before = F.faults shelf.old; faults_now = F.faults shelf.new; picked_before = F.is_picked shelf.old; picked_now = F.is_picked shelf.new; left = F.left shelf.new }; taken_before = K.taken sink.old; taken_now = K.taken sink.new; faults_before = K.faults sink.old; faults_now = K.faults sink.new; status = result }) }
+    ensures { Goes (record { words = map string_bytes words.now; shelf = record { told = F.told shelf.old; asked = F.asked shelf.new; faults_before = F.faults shelf.old; faults_now = F.faults shelf.new; picked_before = F.is_picked shelf.old; picked_now = F.is_picked shelf.new; left = F.left shelf.new }; taken_before = K.taken sink.old; taken_now = K.taken sink.new; faults_before = K.faults sink.old; faults_now = K.faults sink.new; noted_before = N.told notes.old; noted_now = N.told notes.new; status = result }) }
 {
     match command_of(alloc, words) {
-        Ok(command) => do_command(rt, alloc, command, shelf, sink, gate),
+        Ok(command) => do_command(rt, alloc, command, shelf, sink, notes, gate),
         Err(WordsError::NoCommand) => tell(sink, Fault::Usage),
         Err(WordsError::Memory) => tell(sink, Fault::Memory),
     }
 }
 
 /// Does what the words ask for, writes what comes of it, and answers the status.
-fn carry_out<R: Threads + Sync, F: Shelf, K: Sink, G: Gate>(
+fn carry_out<R: Threads + Sync, F: Shelf, K: Sink, N: Notes, G: Gate>(
     rt: &R,
     alloc: Global,
     words: &[String],
     shelf: &mut F,
     sink: &mut K,
+    notes: &mut N,
     gate: &G,
 ) -> u8
     requires { F.asked shelf.old ≡ [] }
-    ensures { Goes (record { words = map string_bytes words.now; shelf = record { told = F.told shelf.old; asked = F.asked shelf.new; faults_before = F.faults shelf.old; faults_now = F.faults shelf.new; picked_before = F.is_picked shelf.old; picked_now = F.is_picked shelf.new; left = F.left shelf.new }; taken_before = K.taken sink.old; taken_now = K.taken sink.new; faults_before = K.faults sink.old; faults_now = K.faults sink.new; status = result }) }
+    ensures { Goes (record { words = map string_bytes words.now; shelf = record { told = F.told shelf.old; asked = F.asked shelf.new; faults_before = F.faults shelf.old; faults_now = F.faults shelf.new; picked_before = F.is_picked shelf.old; picked_now = F.is_picked shelf.new; left = F.left shelf.new }; taken_before = K.taken sink.old; taken_now = K.taken sink.new; faults_before = K.faults sink.old; faults_now = K.faults sink.new; noted_before = N.told notes.old; noted_now = N.told notes.new; status = result }) }
 {
     match page_of(words) {
         Some(page) => deliver_page(sink, page),
-        None => carry_out_command(rt, alloc, words, shelf, sink, gate),
+        None => carry_out_command(rt, alloc, words, shelf, sink, notes, gate),
     }
 }
 
@@ -99,8 +108,9 @@ fn carry_out<R: Threads + Sync, F: Shelf, K: Sink, G: Gate>(
 /// `--version` alone for the version: the page is written, with 0, and no file is asked for.
 ///
 /// With `--keep-going` a refused change is skipped, and doesn't fail its transaction. Where the words,
-/// a file or its reading is at fault, one line is written in place of the output. The `gate` is called
-/// before and after each lookup and each commit; the program's own does nothing. The status is:
+/// a file or its reading is at fault, one line is written in place of the output. Where a file is at fault or a change was
+/// refused, a person is told more by `notes`, if there is memory for it; neither status nor output hangs on that. The `gate`
+/// is called before and after each lookup and each commit; the program's own does nothing. The status is:
 ///
 /// - 0: the whole output was written, and tells no refusal;
 /// - 1: the whole output was written, and tells that a change was refused;
@@ -111,18 +121,19 @@ fn carry_out<R: Threads + Sync, F: Shelf, K: Sink, G: Gate>(
 /// - 7: want of memory, and nothing was written;
 /// - 8: a file has more than 67,108,864 bytes;
 /// - 10: the capture is outside its form.
-pub fn pipapo<R: Threads + Sync, F: Shelf, K: Sink, G: Gate>(
+pub fn pipapo<R: Threads + Sync, F: Shelf, K: Sink, N: Notes, G: Gate>(
     rt: &R,
     alloc: Global,
     words: &[String],
     shelf: &mut F,
     sink: &mut K,
+    notes: &mut N,
     gate: &G,
 ) -> u8
     requires { F.asked shelf.old ≡ [] }
 
     // A call is a record of what its outside shows, and what it promises is said of that, sentence by sentence.
-    ensures { Promises (record { words = map string_bytes words.now; shelf = record { told = F.told shelf.old; asked = F.asked shelf.new; faults_before = F.faults shelf.old; faults_now = F.faults shelf.new; picked_before = F.is_picked shelf.old; picked_now = F.is_picked shelf.new; left = F.left shelf.new }; taken_before = K.taken sink.old; taken_now = K.taken sink.new; faults_before = K.faults sink.old; faults_now = K.faults sink.new; status = result }) }
+    ensures { Promises (record { words = map string_bytes words.now; shelf = record { told = F.told shelf.old; asked = F.asked shelf.new; faults_before = F.faults shelf.old; faults_now = F.faults shelf.new; picked_before = F.is_picked shelf.old; picked_now = F.is_picked shelf.new; left = F.left shelf.new }; taken_before = K.taken sink.old; taken_now = K.taken sink.new; faults_before = K.faults sink.old; faults_now = K.faults sink.new; noted_before = N.told notes.old; noted_now = N.told notes.new; status = result }) }
 {
-    carry_out(rt, alloc, words, shelf, sink, gate)
+    carry_out(rt, alloc, words, shelf, sink, notes, gate)
 }

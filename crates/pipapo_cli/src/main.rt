@@ -10,13 +10,16 @@ mod fault;
 #[cfg(test)]
 mod other_files;
 mod output;
+mod refusals;
 #[cfg(test)]
 mod tests;
+#[cfg(test)]
+mod told;
 #[cfg(test)]
 mod worked;
 
 use crate::call::{call, words_behind};
-use pip_base::{DirShelf, OutSink};
+use pip_base::{DirShelf, ErrNotes, OutSink};
 use std::env;
 use std::process::ExitCode;
 
@@ -24,5 +27,7 @@ fn main(rt: HostRuntime) -> ExitCode {
     let words = words_behind(rt.alloc(), env::args(&rt));
     let mut shelf = DirShelf::new(rt.alloc(), &rt, rt.stdin());
     let mut sink = OutSink::new(&rt);
-    ExitCode::from(call(&rt, rt.alloc(), words, &mut shelf, &mut sink))
+    let mut notes = ErrNotes::new(rt.stderr());
+    let status = call(&rt, rt.alloc(), words, &mut shelf, &mut sink, &mut notes);
+    ExitCode::from(status)
 }

@@ -3,7 +3,7 @@ ghost use Rattle.std.specs.Prelude.{◌≡◌, [], IfOk};
 use crate::command::pipapo;
 use command_words::{Page, Verb};
 use packet_pool::{Gate, OpenGate};
-use pip_base::{MemShelf, MemSink, Sink};
+use pip_base::{MemNotes, MemShelf, MemSink, Sink};
 use std::alloc::Global;
 use std::test::Fail;
 use std::thread::Threads;
@@ -23,7 +23,7 @@ const USAGE: &str =
 
 /// A shelf with a script under `a.nft` and a key file under `keys`, where they are given, whose call of
 /// this number fails.
-fn shelf_with(
+pub fn shelf_with(
     alloc: Global,
     script: Option<&[u8]>,
     keys: Option<&[u8]>,
@@ -46,13 +46,14 @@ fn shelf_with(
     Ok(shelf)
 }
 
-/// Runs words over a shelf, and a sink that takes 7 bytes at once and so many in all.
-pub fn run_words<R: Threads + Sync, G: Gate>(
+/// Runs words over a shelf, and a sink that takes 7 bytes at once and so many in all; `notes` are told what a person is told.
+pub fn run_noted<R: Threads + Sync, G: Gate>(
     rt: &R,
     alloc: Global,
     words: &[&str],
     shelf: MemShelf,
     room: usize,
+    notes: &mut MemNotes,
     gate: &G,
 ) -> Result<(u8, MemSink), Fail>
     requires { shelf.asked ≡ [] }
@@ -63,8 +64,31 @@ pub fn run_words<R: Threads + Sync, G: Gate>(
         command.push(String::from_str(alloc, word)?)?;
     }
     let mut sink = MemSink::new(alloc, 7, room)?;
-    let status = pipapo(rt, alloc, command.as_slice(), &mut shelf, &mut sink, gate);
+    let status = pipapo(
+        rt,
+        alloc,
+        command.as_slice(),
+        &mut shelf,
+        &mut sink,
+        notes,
+        gate,
+    );
     Ok((status, sink))
+}
+
+/// The same, whatever a person is told.
+pub fn run_words<R: Threads + Sync, G: Gate>(
+    rt: &R,
+    alloc: Global,
+    words: &[&str],
+    shelf: MemShelf,
+    room: usize,
+    gate: &G,
+) -> Result<(u8, MemSink), Fail>
+    requires { shelf.asked ≡ [] }
+{
+    let mut notes = MemNotes::new(alloc);
+    run_noted(rt, alloc, words, shelf, room, &mut notes, gate)
 }
 
 /// `run a.nft keys` over a script and a key file, where they are given.

@@ -1,4 +1,4 @@
-use Rattle.std.proofs.Common.{ap, ◌∙◌, [], ◌∷◌}
+use Rattle.std.proofs.Common.{refl, ap, ◌∙◌, [], ◌∷◌}
 use Rattle.command_words.specs.WordForms.{plain}
 use Rattle.command_words.specs.declared.words.Command.TheVariants as asked
 use Rattle.input_files.specs.Inputs.{script, keys, rules, plan, capture, inputs}
@@ -8,7 +8,7 @@ use Rattle.input_files.proofs.work.work_of.Goals as goal
 pub returns-in-Err-clause-stops : goal.returns-in-Err-clause-stops
 returns-in-Err-clause-stops g c =
     let first = script-first c.in-Script.script c.in-Script.task c.in-Script.keep_going in
-    stops (plain c.args.command) (record { name = c.in-Script.script.now; form = script }) first.0 c.in-Err.fault (ap (λ x. inputs (plain x)) c.in-Script.is ∙ first.1) (up-to-none (g.F.Shelf.told c.args.shelf.now) (g.F.Shelf.asked c.args.shelf.now) (g.F.Shelf.faults c.args.shelf.now) (g.F.Shelf.is_picked c.args.shelf.now) (g.F.Shelf.left c.args.shelf.now) [] c.requires.nothing) c.in-Err.ensures.kept (c.in-Err.ensures.cause [])
+    stops (plain c.args.command) (record { name = c.in-Script.script.now; form = script }) first.0 c.in-Err.fault (ap (λ x. inputs (plain x)) c.in-Script.is ∙ first.1) (up-to-none (g.F.Shelf.told c.args.shelf.now) (g.F.Shelf.asked c.args.shelf.now) (g.F.Shelf.faults c.args.shelf.now) (g.F.Shelf.is_picked c.args.shelf.now) (g.F.Shelf.left c.args.shelf.now) [] c.requires.nothing) c.in-Err.ensures.kept (c.in-Err.ensures.cause []) refl (c.in-Err.ensures.noted [])
 
 pub returns-in-Ok-keys_of-clause-all : goal.returns-in-Ok-keys_of-clause-all
 returns-in-Ok-keys_of-clause-all g c =
@@ -21,7 +21,7 @@ pub returns-in-Run-clause-stops : goal.returns-in-Run-clause-stops
 returns-in-Run-clause-stops g c =
     stops (plain c.args.command) (record { name = c.in-Run.keys.now; form = keys }) [] c.in-Err-keys_of.fault (ap (λ x. inputs (plain x)) c.in-Script.is ∙ ap (λ t. inputs (plain (asked.Script c.in-Script.script t c.in-Script.keep_going))) c.in-Run.is)
     (up-to-more (record { name = c.in-Script.script.now; form = script }) (up-to-none (g.F.Shelf.told c.args.shelf.now) (g.F.Shelf.asked c.args.shelf.now) (g.F.Shelf.faults c.args.shelf.now) (g.F.Shelf.is_picked c.args.shelf.now) (g.F.Shelf.left c.args.shelf.now) c.in-Ok.script.schema c.requires.nothing)
-    (as-script (g.F.Shelf.told c.args.shelf.now) c.in-Script.script.now c.in-Ok.script c.in-Ok.ensures.read) c.in-Ok.ensures.quiet c.in-Ok.ensures.whole c.in-Ok.ensures.kept c.in-Ok.ensures.told) c.in-Err-keys_of.ensures.kept c.in-Err-keys_of.ensures.cause
+    (as-script (g.F.Shelf.told c.args.shelf.now) c.in-Script.script.now c.in-Ok.script c.in-Ok.ensures.read) c.in-Ok.ensures.quiet c.in-Ok.ensures.whole c.in-Ok.ensures.kept c.in-Ok.ensures.told) c.in-Err-keys_of.ensures.kept c.in-Err-keys_of.ensures.cause c.in-Ok.ensures.silent c.in-Err-keys_of.ensures.noted
 
 pub returns-in-List-clause-all : goal.returns-in-List-clause-all
 returns-in-List-clause-all g c =
@@ -39,7 +39,7 @@ pub returns-in-Err-rules_of-clause-stops : goal.returns-in-Err-rules_of-clause-s
 returns-in-Err-rules_of-clause-stops g c =
     stops (plain c.args.command) (record { name = c.in-Judge.rules.now; form = rules }) (record { name = c.in-Judge.keys.now; form = keys } ∷ []) c.in-Err-rules_of.fault (ap (λ x. inputs (plain x)) c.in-Script.is ∙ ap (λ t. inputs (plain (asked.Script c.in-Script.script t c.in-Script.keep_going))) c.in-Judge.is)
     (up-to-more (record { name = c.in-Script.script.now; form = script }) (up-to-none (g.F.Shelf.told c.args.shelf.now) (g.F.Shelf.asked c.args.shelf.now) (g.F.Shelf.faults c.args.shelf.now) (g.F.Shelf.is_picked c.args.shelf.now) (g.F.Shelf.left c.args.shelf.now) c.in-Ok.script.schema c.requires.nothing)
-    (as-script (g.F.Shelf.told c.args.shelf.now) c.in-Script.script.now c.in-Ok.script c.in-Ok.ensures.read) c.in-Ok.ensures.quiet c.in-Ok.ensures.whole c.in-Ok.ensures.kept c.in-Ok.ensures.told) c.in-Err-rules_of.ensures.kept c.in-Err-rules_of.ensures.cause
+    (as-script (g.F.Shelf.told c.args.shelf.now) c.in-Script.script.now c.in-Ok.script c.in-Ok.ensures.read) c.in-Ok.ensures.quiet c.in-Ok.ensures.whole c.in-Ok.ensures.kept c.in-Ok.ensures.told) c.in-Err-rules_of.ensures.kept c.in-Err-rules_of.ensures.cause c.in-Ok.ensures.silent c.in-Err-rules_of.ensures.noted
 
 pub returns-in-Ok-keys_of-2-clause-all : goal.returns-in-Ok-keys_of-2-clause-all
 returns-in-Ok-keys_of-2-clause-all g c =
@@ -54,13 +54,13 @@ returns-in-Judge-clause-stops g c =
     stops (plain c.args.command) (record { name = c.in-Judge.keys.now; form = keys }) [] c.in-Err-keys_of-2.fault (ap (λ x. inputs (plain x)) c.in-Script.is ∙ ap (λ t. inputs (plain (asked.Script c.in-Script.script t c.in-Script.keep_going))) c.in-Judge.is)
     (up-to-more (record { name = c.in-Judge.rules.now; form = rules }) (up-to-more (record { name = c.in-Script.script.now; form = script }) (up-to-none (g.F.Shelf.told c.args.shelf.now) (g.F.Shelf.asked c.args.shelf.now) (g.F.Shelf.faults c.args.shelf.now) (g.F.Shelf.is_picked c.args.shelf.now) (g.F.Shelf.left c.args.shelf.now) c.in-Ok.script.schema c.requires.nothing)
     (as-script (g.F.Shelf.told c.args.shelf.now) c.in-Script.script.now c.in-Ok.script c.in-Ok.ensures.read) c.in-Ok.ensures.quiet c.in-Ok.ensures.whole c.in-Ok.ensures.kept c.in-Ok.ensures.told)
-    (as-rules (g.F.Shelf.told c.script_of.new.shelf) c.in-Judge.rules.now c.in-Ok.script.schema (c.in-Ok-rules_of.chains.chains, c.in-Ok-rules_of.chains.accept) c.in-Ok-rules_of.ensures.read) c.in-Ok-rules_of.ensures.quiet c.in-Ok-rules_of.ensures.whole c.in-Ok-rules_of.ensures.kept c.in-Ok-rules_of.ensures.told) c.in-Err-keys_of-2.ensures.kept c.in-Err-keys_of-2.ensures.cause
+    (as-rules (g.F.Shelf.told c.script_of.new.shelf) c.in-Judge.rules.now c.in-Ok.script.schema (c.in-Ok-rules_of.chains.chains, c.in-Ok-rules_of.chains.accept) c.in-Ok-rules_of.ensures.read) c.in-Ok-rules_of.ensures.quiet c.in-Ok-rules_of.ensures.whole c.in-Ok-rules_of.ensures.kept c.in-Ok-rules_of.ensures.told) c.in-Err-keys_of-2.ensures.kept c.in-Err-keys_of-2.ensures.cause (c.in-Ok-rules_of.ensures.silent ∙ c.in-Ok.ensures.silent) c.in-Err-keys_of-2.ensures.noted
 
 pub returns-in-Err-plan_of-clause-stops : goal.returns-in-Err-plan_of-clause-stops
 returns-in-Err-plan_of-clause-stops g c =
     stops (plain c.args.command) (record { name = c.in-Capture.plan.now; form = plan }) (record { name = c.in-Capture.packets.now; form = capture } ∷ []) c.in-Err-plan_of.fault (ap (λ x. inputs (plain x)) c.in-Script.is ∙ ap (λ t. inputs (plain (asked.Script c.in-Script.script t c.in-Script.keep_going))) c.in-Capture.is)
     (up-to-more (record { name = c.in-Script.script.now; form = script }) (up-to-none (g.F.Shelf.told c.args.shelf.now) (g.F.Shelf.asked c.args.shelf.now) (g.F.Shelf.faults c.args.shelf.now) (g.F.Shelf.is_picked c.args.shelf.now) (g.F.Shelf.left c.args.shelf.now) c.in-Ok.script.schema c.requires.nothing)
-    (as-script (g.F.Shelf.told c.args.shelf.now) c.in-Script.script.now c.in-Ok.script c.in-Ok.ensures.read) c.in-Ok.ensures.quiet c.in-Ok.ensures.whole c.in-Ok.ensures.kept c.in-Ok.ensures.told) c.in-Err-plan_of.ensures.kept c.in-Err-plan_of.ensures.cause
+    (as-script (g.F.Shelf.told c.args.shelf.now) c.in-Script.script.now c.in-Ok.script c.in-Ok.ensures.read) c.in-Ok.ensures.quiet c.in-Ok.ensures.whole c.in-Ok.ensures.kept c.in-Ok.ensures.told) c.in-Err-plan_of.ensures.kept c.in-Err-plan_of.ensures.cause c.in-Ok.ensures.silent c.in-Err-plan_of.ensures.noted
 
 pub returns-in-Ok-capture_of-clause-all : goal.returns-in-Ok-capture_of-clause-all
 returns-in-Ok-capture_of-clause-all g c =
@@ -75,7 +75,7 @@ returns-in-Script-clause-stops g c =
     stops (plain c.args.command) (record { name = c.in-Capture.packets.now; form = capture }) [] c.in-Err-capture_of.fault (ap (λ x. inputs (plain x)) c.in-Script.is ∙ ap (λ t. inputs (plain (asked.Script c.in-Script.script t c.in-Script.keep_going))) c.in-Capture.is)
     (up-to-more (record { name = c.in-Capture.plan.now; form = plan }) (up-to-more (record { name = c.in-Script.script.now; form = script }) (up-to-none (g.F.Shelf.told c.args.shelf.now) (g.F.Shelf.asked c.args.shelf.now) (g.F.Shelf.faults c.args.shelf.now) (g.F.Shelf.is_picked c.args.shelf.now) (g.F.Shelf.left c.args.shelf.now) c.in-Ok.script.schema c.requires.nothing)
     (as-script (g.F.Shelf.told c.args.shelf.now) c.in-Script.script.now c.in-Ok.script c.in-Ok.ensures.read) c.in-Ok.ensures.quiet c.in-Ok.ensures.whole c.in-Ok.ensures.kept c.in-Ok.ensures.told)
-    (as-plan (g.F.Shelf.told c.script_of.new.shelf) c.in-Capture.plan.now c.in-Ok.script.schema c.in-Ok-plan_of.plan c.in-Ok-plan_of.ensures.read) c.in-Ok-plan_of.ensures.quiet c.in-Ok-plan_of.ensures.whole c.in-Ok-plan_of.ensures.kept c.in-Ok-plan_of.ensures.told) c.in-Err-capture_of.ensures.kept (c.in-Err-capture_of.ensures.cause c.in-Ok.script.schema)
+    (as-plan (g.F.Shelf.told c.script_of.new.shelf) c.in-Capture.plan.now c.in-Ok.script.schema c.in-Ok-plan_of.plan c.in-Ok-plan_of.ensures.read) c.in-Ok-plan_of.ensures.quiet c.in-Ok-plan_of.ensures.whole c.in-Ok-plan_of.ensures.kept c.in-Ok-plan_of.ensures.told) c.in-Err-capture_of.ensures.kept (c.in-Err-capture_of.ensures.cause c.in-Ok.script.schema) (c.in-Ok-plan_of.ensures.silent ∙ c.in-Ok.ensures.silent) (c.in-Err-capture_of.ensures.noted c.in-Ok.script.schema)
 
 pub returns-clause-all : goal.returns-clause-all
 returns-clause-all g c =

@@ -8,10 +8,10 @@ returns-in-Ok-output_of g c words is_command =
     let out = c.in-Ok-output_of.output in
     goes-output _ (plain c.args.command) is_command c.in-Ok.ensures.all out.refused out.text.items
     (is-output (g.F.Shelf.told c.args.shelf.now) (plain c.args.command) c.in-Ok.work out.refused out.text.items c.in-Ok.ensures.work c.in-Ok-output_of.ensures)
-    (rw (c.done_status.ensures, c.as_slice.ensures.value) at c.deliver.ensures)
+    (rw (c.done_status.ensures, c.as_slice.ensures.value) at c.deliver-status.ensures) _ c.in-Ok.ensures.silent c.tell_refusals.ensures
 
-pub returns-in-Err-output_of : goal.returns-in-Err-output_of
-returns-in-Err-output_of g c words is_command = goes-late _ (plain c.args.command) is_command c.in-Ok.ensures.all c.tell.ensures
+pub returns-in-Ok : goal.returns-in-Ok
+returns-in-Ok g c words is_command = goes-late _ (plain c.args.command) is_command c.in-Ok.ensures.all c.in-Ok.ensures.silent c.tell.ensures
 
-pub returns-in-Err : goal.returns-in-Err
-returns-in-Err g c words is_command = goes-file _ (plain c.args.command) c.in-Err.fault is_command c.in-Err.ensures.stops c.tell-in-Err.ensures
+pub returns : goal.returns
+returns g c words is_command = goes-file _ (plain c.args.command) c.in-Err.fault is_command c.in-Err.ensures.stops c.tell-in-Err.ensures

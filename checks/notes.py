@@ -1,0 +1,202 @@
+"""Compares what a program tells on the standard error with what is promised: words PROGRAM FORMATS.
+
+Each case has its words, what is told, the line on the standard output or None where that isn't looked at, and the status. Where a
+line of a text is shown, it is the file's own and the caret stands under the column that is told. Each case runs with a standard
+error that is closed and with one that is full, too.
+"""
+import os
+import re
+import subprocess
+import sys
+import tempfile
+
+LARGE = 67_108_865
+
+PORTS = "add set ip t p { type inet_service ; flags interval ; }\n"
+SOURCES = "add set ip t s { type ipv4_addr ; flags interval ; }\n"
+PCAP = bytes.fromhex("d4c3b2a1020004000000000000000000ffff0000")
+ETHERNET = PCAP + bytes.fromhex("01000000")
+
+FILES = {
+    "good.nft": PORTS + "add element ip t p { 80 }\n",
+    "good.keys": "ip t p 80\n",
+    "good.rules": "chain main { in ip t p accept }\npolicy drop\n",
+    "good.plan": "ip t p dport\n",
+    "x.nft": "table ip t {\n\tset s {\n\t\ttype ipv4_addr\n\t\tflags interval\n\t\tauto-merge\n\t}\n}\n",
+    "overlap.nft": "table ip t {\n\tset s {\n\t\ttype ipv4_addr\n\t\tflags interval\n\t\telements = { 10.0.1.0/24,\n\t\t10.0.1.128/25 }\n\t}\n}\n",
+    "character.nft": PORTS + "add element ip t p { $ports }\n",
+    "end.nft": PORTS + "add element ip t p { 80,",
+    "type.nft": "add set ip t p { type port ; }\n",
+    "value.nft": PORTS + "add element ip t p { 80, 65536 }\n",
+    "time.nft": "add set ip t p { type inet_service ; timeout 5x ; }\n",
+    "moment.nft": "at 10\nat 9\n",
+    "set.nft": PORTS + SOURCES + "add element ip t q { 80 }\n",
+    "number.nft": "add set ip t p { type inet_service ; size 0 ; }\n",
+    "statement.nft": PORTS + "drop everything\n",
+    "bad.keys": "ip t p 80\nip t p 80 . 81\n",
+    "bad.rules": "chain main { in ip t q accept }\npolicy drop\n",
+    "bad.plan": "ip t p ip_saddr\n",
+    "gzip.nft": bytes.fromhex("1f8b080000000000"),
+    "pcap.nft": ETHERNET,
+    "pcapng.nft": bytes.fromhex("0a0d0d0a1c000000"),
+    "mark.nft": b"\xef\xbb\xbf" + PORTS.encode(),
+    "utf16.nft": PORTS.encode("utf-16"),
+    "large.nft": None,
+    "escape\x1b.nft": "\x1b[2J\n",
+    "long.nft": PORTS + "add element ip t p { " + ", ".join(str(port) for port in range(1, 200)) + ", here, " + ", ".join(str(port) for port in range(300, 400)) + " }\n",
+    "empty.pcap": b"",
+    "short.pcap": ETHERNET[:-1],
+    "cut.pcap": ETHERNET + bytes(10),
+    "version.pcap": bytes.fromhex("d4c3b2a1030004000000000000000000ffff000001000000"),
+    "link.pcap": PCAP + bytes.fromhex("71000000"),
+    "gzip.pcap": bytes.fromhex("1f8b080000000000"),
+    "pcapng.pcap": bytes.fromhex("0a0d0d0a1c000000"),
+    "exists.nft": PORTS + "add element ip t p { 80 }\ncreate element ip t p { 80 }\n",
+    "missing.nft": PORTS + "delete element ip t p { 81 }\n",
+    "many.nft": PORTS + "".join(f"delete element ip t p {{ {port} }}\n" for port in range(1, 26)),
+}
+
+USAGE = re.compile("pipapo: usage: ")
+
+
+def cases(shown):
+    """The cases; `shown` are the examples of the formats, which tell of the files x.nft and overlap.nft."""
+    left_out, overlap, failed = shown
+    run = ["run", "good.nft"]
+    capture = ["capture", "good.nft", "good.plan"]
+    yield ["list", "x.nft"], left_out, "pipapo: script line 5: left out", 3
+    yield ["list", "overlap.nft"], overlap + failed, None, 1
+    yield ["dump", "overlap.nft"], overlap + failed, None, 1
+    yield ["list", "overlap.nft", "--keep-going"], overlap, None, 1
+    yield ["run", "overlap.nft", "empty.pcap"], overlap, None, 1
+    for name, line, column, said, why in [
+        ("character.nft", 2, 22, "'$' begins nothing that is read here (character)", "character"),
+        ("end.nft", 2, 25, "the text ends too early (end)", "end"),
+        ("type.nft", 1, 23, "'port' is no type that may stand here (type)", "type"),
+        ("value.nft", 2, 26, "'65536' is no value or interval of this field (value)", "value"),
+        ("time.nft", 1, 46, "'5x' is no time (time)", "time"),
+        ("moment.nft", 2, 4, "'9' is no moment that may stand here (moment)", "moment"),
+        ("set.nft", 3, 18, "'q' is no set that may be named here (set)", "set"),
+        ("number.nft", 1, 43, "'0' is no size (number)", "number"),
+        ("statement.nft", 2, 1, "'drop' can't stand here (statement)", "statement"),
+    ]:
+        yield ["list", name], placed(name, line, column, said), f"pipapo: script line {line}: {why}", 3
+    yield [*run, "bad.keys"], placed("bad.keys", 2, 11, "'.' can't stand here (statement)"), "pipapo: keys line 2: statement", 4
+    yield ["judge", "good.nft", "bad.rules", "good.keys"], placed("bad.rules", 1, 22, "'q' is no set that may be named here (set)"), "pipapo: rules line 1: set", 9
+    yield ["capture", "good.nft", "bad.plan", "empty.pcap"], placed("bad.plan", 1, 8, "'ip_saddr' is no selector of this field (type)"), "pipapo: plan line 1: type", 11
+    # other files in a text's place
+    for name, said in [
+        ("gzip.nft", "this is a file that gzip has packed: unpack it first"),
+        ("pcap.nft", "this is a capture of packets (pcap), and no text"),
+        ("pcapng.nft", "this is a capture of packets (pcapng), and no text"),
+        ("mark.nft", "the text begins with a byte order mark of UTF-8: leave its three bytes out"),
+        ("utf16.nft", "this is a text in UTF-16: write it in ASCII"),
+    ]:
+        yield ["list", name], re.compile(rf"{re.escape(name)}:[0-9]+:[0-9]+: {re.escape(said)}\n"), None, 3
+    yield ["run", "good.keys", "good.nft"], "good.keys:1:1: this looks like a key file: the script is named first, and then the key file\n", None, 3
+    yield [*run, "good.nft"], re.compile("good.nft:1:[0-9]+: this looks like a script: the script is named first, and then the key file\n"), None, 4
+    yield [*run, "good.rules"], re.compile("good.rules:1:[0-9]+: this looks like a rules file: .*\n"), None, 4
+    yield ["judge", "good.nft", "good.keys", "good.rules"], re.compile("good.keys:1:1: this looks like a key file: .*\n"), None, 9
+    yield ["capture", "good.nft", "good.nft", "link.pcap"], re.compile("good.nft:1:[0-9]+: this looks like a script: .*\n"), None, 11
+    # captures
+    for name, byte, said, why in [
+        ("empty.pcap", 0, "the file is empty", "magic"),
+        ("short.pcap", 0, "the file has fewer bytes than the 24 of a capture's header", "cut"),
+        ("cut.pcap", 24, "the record that begins here isn't there as a whole: the first 24 bytes are a capture", "cut"),
+        ("version.pcap", 4, "its version isn't 2.4", "version"),
+        ("link.pcap", 20, "its link type is 113: Ethernet (1) and raw IP (101) are read; capture on one interface, and not on 'any'", "link type"),
+        ("gzip.pcap", 0, "this is a file that gzip has packed: unpack it first", "magic"),
+        ("pcapng.pcap", 0, "this is a pcapng file: write it as pcap, as editcap -F pcap does", "magic"),
+        ("good.keys", 0, "this looks like a text: the script is named first, then the plan, and then the capture", "magic"),
+    ]:
+        yield [*capture, name], f"{name}: byte {byte}: {said}\n", f"pipapo: capture byte {byte}: {why}", 10
+    # files that aren't read
+    yield [*run, "nowhere"], "nowhere: there is no file of this name\n", "pipapo: read fault: nowhere", 5
+    yield [*run, "folder"], "folder: this is a directory and no file\n", "pipapo: read fault: folder", 5
+    yield [*run, "/proc/self/mem"], "/proc/self/mem: it can't be read\n", "pipapo: read fault: /proc/self/mem", 5
+    if os.geteuid() != 0:
+        yield [*run, "closed"], "closed: the permission to read it is missing\n", "pipapo: read fault: closed", 5
+    yield ["list", "large.nft"], "large.nft: a file may have 67108864 bytes (64 MiB) at most\n", "pipapo: too large: large.nft", 8
+    # what would move a terminal, and a long line
+    yield ["list", "escape\x1b.nft"], re.compile(r"escape\\x1b.nft:1:1: '\\x1b' begins nothing that is read here \(character\)\n\\x1b\[2J\n\^\^\^\^\nhelp: .*\n"), None, 3
+    yield ["list", "long.nft"], re.compile(r"long.nft:2:[0-9]+: 'here' is no value or interval of this field \(value\)\n\.\..{100}here.{40}\.\.\n {102}\^{4}\n(help: .*\n)?"), None, 3
+    # refused changes
+    yield ["list", "exists.nft"], "exists.nft:3:25: 80 exists already (line 2)\n" + failed.replace("overlap.nft", "exists.nft"), None, 1
+    yield ["run", "missing.nft", "good.keys"], "missing.nft:2:25: 81 is no element of the set\n", None, 1
+    many = "".join(f"many.nft:{line}:25: {line - 1} is no element of the set\n" for line in range(2, 22))
+    yield ["run", "many.nft", "good.keys", "--keep-going"], many + "many.nft: 5 more changes are refused\n", None, 1
+    # where nothing is told
+    yield [*run, "good.keys"], "", None, 0
+    yield ["drill", "7", "2000"], "", None, 0
+    yield ["help"], "", None, 0
+    yield ["run"], "", USAGE, 2
+
+
+def placed(name, line, column, said):
+    """A note on a bad token, whatever it says to do."""
+    return re.compile(rf"{re.escape(name)}:{line}:{column}: {re.escape(said)}\n.*\n[ \t]*\^+\n(help: .*\n)?")
+
+
+def is_same(wanted, text):
+    return wanted.fullmatch(text) is not None if isinstance(wanted, re.Pattern) else wanted == text
+
+
+def points(text, name):
+    """Whether a line of a file that is shown is its own, and the caret stands under the column that is told."""
+    told = re.match(rf"{re.escape(name)}:([0-9]+):([0-9]+): .*\n(.*)\n([ \t]*)\^", text)
+    if told is None or "\\x" in text or "\n.." in text:
+        return True
+    lines = FILES[name].split("\n")
+    line, column = int(told[1]), int(told[2])
+    return told[3] == lines[line - 1] and len(told[4]) == column - 1 and told[4] == re.sub(r"[^\t]", " ", lines[line - 1][: column - 1])
+
+
+def run(program, words, folder, stderr, closed=False):
+    done = subprocess.run([program, *words], cwd=folder, stdout=subprocess.PIPE, stderr=stderr, stdin=subprocess.DEVNULL, timeout=60, preexec_fn=(lambda: os.close(2)) if closed else None)
+    return done.returncode, done.stdout, done.stderr
+
+
+def shown_in(formats):
+    """The notes that the formats show, in their order."""
+    with open(formats) as file:
+        text = file.read().split("## The standard error\n")[1].split("\n## ")[0]
+    left_out = re.search(r"(    x\.nft:5:3: .*\n(?:    .*\n){3})", text)[1]
+    overlap, failed = re.search(r"    (x\.nft:6:3: .*\n)    (x\.nft: .*\n)", text).groups()
+    return re.sub("^    ", "", left_out, flags=re.M), overlap.replace("x.nft", "overlap.nft"), failed.replace("x.nft", "overlap.nft")
+
+
+def main():
+    program, formats = sys.argv[1:3]
+    shown = shown_in(formats)
+    bad = count = 0
+    with tempfile.TemporaryDirectory() as folder, open("/dev/full", "w") as full:
+        for name, text in FILES.items():
+            with open(f"{folder}/{name}", "wb") as file:
+                if text is None:
+                    file.truncate(LARGE)
+                else:
+                    file.write(text if isinstance(text, bytes) else text.encode())
+        os.mkdir(f"{folder}/folder")
+        with open(f"{folder}/closed", "w"):
+            os.chmod(f"{folder}/closed", 0)
+        for words, told, line, status in cases(shown):
+            count += 1
+            got = run(program, words, folder, subprocess.PIPE)
+            text = got[2].decode()
+            output = got[1].decode()
+            fits = line is None or (line.match(output) if isinstance(line, re.Pattern) else output == line + "\n")
+            names = [name for name in words[1:] if isinstance(FILES.get(name), str)]
+            if got[0] != status or not fits or not is_same(told, text) or not all(points(text, name) for name in names):
+                bad += 1
+                print(f"{' '.join(words)}: status {got[0]}, {output!r:.200}, told\n{text}")
+            if run(program, words, folder, full)[:2] != got[:2]:
+                bad += 1
+                print(f"{' '.join(words)}: does something else where the standard error is full")
+            if run(program, words, folder, None, closed=True)[:2] != got[:2]:
+                bad += 1
+                print(f"{' '.join(words)}: does something else where the standard error is closed")
+    print(f"{count} calls told what they are to tell, or nothing" if not bad else f"{bad} of {count} calls told something else")
+    sys.exit(1 if bad else 0)
+
+
+main()

@@ -1,0 +1,5 @@
+use Rattle.fault_notes.specs.Told.{note}
+use Rattle.fault_notes.proofs.told.tell_note.Goals as goal
+
+pub returns-in-Ok-clause-told : goal.returns-in-Ok-clause-told
+returns-in-Ok-clause-told g c = rw c.in-Ok.is (note c.as_slice.result.now c.as_slice.ensures.quiet c.as_slice.ensures.bytes c.tell.ensures)

@@ -1,0 +1,17 @@
+//! How a note is told.
+ghost use Rattle.std.specs.Prelude.{◌≡◌, IfOk, OnErr};
+ghost use Rattle.fault_notes.specs.Told.{MayTell};
+
+use crate::note::Note;
+use pip_base::Notes;
+use set_model::Memory;
+
+/// Tells a note. Where memory was wanting for it nothing is told.
+pub fn tell_note<N: Notes>(notes: &mut N, made: Result<Note, Memory>)
+    ensures told { IfOk made (λ note. MayTell (λ text. text ≡ note.bytes.items) (N.told notes.old) (N.told notes.new)) }
+    ensures nothing { OnErr made (N.told notes.new ≡ N.told notes.old) }
+{
+    if let Ok(note) = made {
+        notes.tell(note.as_slice());
+    }
+}

@@ -1,0 +1,57 @@
+//! What a person is told of a file that can't be had.
+ghost use Rattle.fault_notes.specs.Shown.{Begins, byte_text, name_text};
+ghost use Rattle.fault_notes.specs.Told.{MayTell};
+ghost use Rattle.input_files.specs.Noted.{IsPlacedBy};
+
+use fault_notes::{
+    TextKind, bad_text_note, capture_note, read_fault_note, tell_note, too_large_note,
+};
+use pcap_keys::CaptureReason;
+use pip_base::{FaultKind, Notes};
+use set_model::Memory;
+use std::alloc::Global;
+use token_forms::BadToken;
+
+/// Tells where a text isn't in its grammar, by its bad token, where that was found.
+pub fn tell_bad<N: Notes>(
+    alloc: Global,
+    notes: &mut N,
+    kind: TextKind,
+    name: &str,
+    text: &[u8],
+    found: Result<Option<BadToken>, Memory>,
+)
+    ensures { MayTell (IsPlacedBy found name.now) (N.told notes.old) (N.told notes.new) }
+{
+    if let Ok(Some(bad)) = found {
+        tell_note(notes, bad_text_note(alloc, kind, name, text, bad));
+    }
+}
+
+/// Tells at which byte a file is no capture.
+pub fn tell_capture<N: Notes>(
+    alloc: Global,
+    notes: &mut N,
+    name: &str,
+    file: &[u8],
+    byte: u64,
+    reason: CaptureReason,
+)
+    ensures { MayTell (Begins (byte_text name.now byte)) (N.told notes.old) (N.told notes.new) }
+{
+    tell_note(notes, capture_note(alloc, name, file, byte, reason));
+}
+
+/// Tells why a file can't be opened or read.
+pub fn tell_read_fault<N: Notes>(alloc: Global, notes: &mut N, name: &str, kind: FaultKind)
+    ensures { MayTell (Begins (name_text name.now)) (N.told notes.old) (N.told notes.new) }
+{
+    tell_note(notes, read_fault_note(alloc, name, kind));
+}
+
+/// Tells that a file has too many bytes.
+pub fn tell_too_large<N: Notes>(alloc: Global, notes: &mut N, name: &str)
+    ensures { MayTell (Begins (name_text name.now)) (N.told notes.old) (N.told notes.new) }
+{
+    tell_note(notes, too_large_note(alloc, name));
+}
