@@ -52,6 +52,8 @@ FILES = {
     "gzip.pcap": bytes.fromhex("1f8b080000000000"),
     "pcapng.pcap": bytes.fromhex("0a0d0d0a1c000000"),
     "exists.nft": PORTS + "add element ip t p { 80 }\ncreate element ip t p { 80 }\n",
+    "clerks.nft": PORTS + "round\n" * 17,
+    "desk.nft": PORTS + "add element ip t p { 80 }\nround\ncreate element ip t p { 80 }\n",
     "missing.nft": PORTS + "delete element ip t p { 81 }\n",
     "many.nft": PORTS + "".join(f"delete element ip t p {{ {port} }}\n" for port in range(1, 26)),
 }
@@ -125,6 +127,9 @@ def cases(shown):
     yield ["run", "missing.nft", "good.keys"], "missing.nft:2:25: 81 is no element of the set\n", None, 1
     many = "".join(f"many.nft:{line}:25: {line - 1} is no element of the set\n" for line in range(2, 22))
     yield ["run", "many.nft", "good.keys", "--keep-going"], many + "many.nft: 5 more changes are refused\n", None, 1
+    # several control threads
+    yield ["desk", "clerks.nft"], "clerks.nft: the script has 18 sections, and desk runs 17 at most: the first, and one for each of 16 control threads; join some, by leaving lines 'round' out\n", "pipapo: too many clerks: clerks.nft", 12
+    yield ["desk", "desk.nft"], "desk.nft:4:25: 80 exists already\n" + failed.replace("overlap.nft", "desk.nft"), None, 1
     # where nothing is told
     yield [*run, "good.keys"], "", None, 0
     yield ["drill", "7", "2000"], "", None, 0

@@ -5,4 +5,32 @@ if ! command -v python3 >/dev/null 2>&1; then
     exit 0
 fi
 ./pipapo >/dev/null
-python3 checks/notes.py "$(pwd)/crates/pipapo_cli/out/pipapo_cli" docs/formats.md
+program=$(pwd)/crates/pipapo_cli/out/pipapo_cli
+python3 checks/notes.py "$program" docs/formats.md || exit 1
+
+# On a terminal it tells how far it is, at most ten times a second, and takes that away; the output is the same.
+if ! script -qec true /dev/null </dev/null >/dev/null 2>&1; then
+    echo "checks/notes.sh: what is told on a terminal is skipped, since script isn't to be had"
+    exit 0
+fi
+folder=$(mktemp -d) || exit 1
+trap 'rm -rf "$folder"' EXIT
+echo 'add set ip t p { type inet_service ; flags interval ; elements = { 1000-2000 } }' >"$folder/sets"
+seq -f 'ip t p %g' 1 65535 >"$folder/ports"
+for _ in 1 2 3 4 5 6 7 8 9 10 11 12 13 14 15 16; do cat "$folder/ports"; done >"$folder/keys"
+"$program" run "$folder/sets" "$folder/keys" >"$folder/wanted" 2>"$folder/told" || exit 1
+[ ! -s "$folder/told" ] || { echo "checks/notes.sh: something is told where there is no terminal"; exit 1; }
+script -qec "$program run $folder/sets $folder/keys >$folder/output" "$folder/terminal" </dev/null >/dev/null || exit 1
+cmp "$folder/wanted" "$folder/output" || exit 1
+python3 - "$folder/terminal" <<'END'
+import re
+import sys
+with open(sys.argv[1], newline="") as file:
+    lines = file.read().split("\n", 1)[1].rsplit("\nScript done", 1)[0]
+texts = lines.strip("\r\n").split("\r\x1b[K")
+far = [re.fullmatch(r"pipapo: section 2 of 2, packet ([0-9]+) of 1048560", text) for text in texts[1:-1]]
+counts = [int(one[1]) for one in far if one]
+if texts[0] != "pipapo: reading" or texts[-1] != "" or not counts or counts != sorted(counts):
+    sys.exit(f"checks/notes.sh: on a terminal this is told: {lines!r}")
+print(f"{len(texts) - 1} texts told on a terminal how far a run is")
+END

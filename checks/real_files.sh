@@ -17,7 +17,7 @@ expect() { # STATUS LINE WORDS..
         bad=1
     fi
 }
-usage='pipapo: usage: run SCRIPT KEYS [--threads N] [--keep-going] | list SCRIPT [--keep-going] | dump SCRIPT [--keep-going] | drill SEED COUNT [--threads N] | judge SCRIPT RULES KEYS [--threads N] [--keep-going] | capture SCRIPT PLAN PCAP [--threads N] [--keep-going]'
+usage='pipapo: usage: run SCRIPT KEYS [--threads N] [--keep-going] | list SCRIPT [--keep-going] | dump SCRIPT [--keep-going] | drill SEED COUNT [--threads N] | judge SCRIPT RULES KEYS [--threads N] [--keep-going] | capture SCRIPT PLAN PCAP [--threads N] [--keep-going] | desk SCRIPT [--keep-going]'
 "$top/pipapo" >/dev/null
 expect 5 'pipapo: read fault: missing.nft' run missing.nft packets.keys
 expect 5 'pipapo: read fault: missing.keys' run allow.nft missing.keys
@@ -52,6 +52,58 @@ expect 5 'pipapo: read fault: missing.plan' capture allow.nft missing.plan missi
 expect 11 'pipapo: plan line 1: type' capture allow.nft bad.plan missing.pcap
 expect 5 'pipapo: read fault: missing.pcap' capture allow.nft source.plan missing.pcap
 expect 10 'pipapo: capture byte 0: magic' capture allow.nft source.plan bad.pcap
+# more sections than there may be control threads
+{ cat allow.nft; for n in 1 2 3 4 5 6 7 8 9 10 11 12 13 14 15 16 17; do echo round; done; } >many.nft
+expect 12 'pipapo: too many clerks: many.nft' desk many.nft
+# a named pipe, and a pipe of single bytes
+mkfifo pipe
+cat allow.nft >pipe &
+"$top/pipapo" run pipe packets.keys | cmp - wanted || { echo "a named pipe isn't read whole"; bad=1; }
+dd if=allow.nft bs=1 2>/dev/null | "$top/pipapo" run - packets.keys | cmp - wanted || { echo "single bytes aren't read whole"; bad=1; }
+# the greatest size, one byte more, and a file without an end
+{ printf '#'; head -c 67108863 /dev/zero | tr '\0' '#'; } >greatest.nft
+{ cat greatest.nft; printf '#'; } >greater.nft
+[ -z "$("$top/pipapo" list greatest.nft || echo "status $?")" ] || { echo "a file of the greatest size isn't read"; bad=1; }
+expect 8 'pipapo: too large: greater.nft' list greater.nft
+expect 8 'pipapo: too large: /dev/zero' list /dev/zero
+rm greatest.nft greater.nft
+# a file that grows meanwhile is read as far as it is, or is too large
+echo '# more' >growing.nft
+(while echo '# more'; do :; done) >>growing.nft 2>/dev/null &
+grows=$!
+"$top/pipapo" list growing.nft >written
+status=$?
+kill $grows
+wait $grows 2>/dev/null
+case $status in
+0) [ -s written ] && { echo "a growing file: wrote"; cat written; bad=1; } ;;
+8) [ "$(cat written)" = 'pipapo: too large: growing.nft' ] || { echo "a growing file: wrote"; cat written; bad=1; } ;;
+*) echo "a growing file: status $status"; bad=1 ;;
+esac
+rm growing.nft
+# a file that may not be read
+if [ "$(id -u)" -eq 0 ]; then
+    echo "checks/real_files.sh: a file without the permission is skipped, since root may read all"
+else
+    cp allow.nft secret.nft
+    chmod 000 secret.nft
+    expect 5 'pipapo: read fault: secret.nft' list secret.nft
+fi
+# a reader that leaves, an output that may not grow, and no number left for a file
+{ echo 'add set ip t p { type inet_service ; }'; n=0; while [ $n -lt 20000 ]; do echo "add element ip t p { $n }"; n=$((n + 1)); done; } >long.nft
+{ "$top/pipapo" list long.nft; echo $? >status; } | head -c 10 >/dev/null
+[ "$(cat status)" -eq 6 ] || { echo "a reader that leaves: status $(cat status)"; bad=1; }
+(trap '' XFSZ; ulimit -f 16; "$top/pipapo" list long.nft >written 2>/dev/null)
+limited=$?
+[ $limited -eq 6 ] || { echo "an output that may not grow: status $limited"; bad=1; }
+# interrupted while it reads, it has written nothing
+mkfifo held
+sleep 5 >held &
+sleeps=$!
+timeout --preserve-status -s INT 1 "$top/crates/pipapo_cli/out/pipapo_cli" list held >written
+interrupted=$?
+kill $sleeps 2>/dev/null
+[ $interrupted -eq 130 ] && [ ! -s written ] || { echo "interrupted: status $interrupted, $(wc -c <written) bytes"; bad=1; }
 "$top/pipapo" run allow.nft packets.keys >&-
 closed=$?
 "$top/pipapo" run allow.nft packets.keys >/dev/full

@@ -17,7 +17,7 @@ bad=0
 expect() { # ELEMENTS STATUS LINES
     script "$1" >rules.nft
     : >packets.keys
-    written=$("$top/pipapo" run rules.nft packets.keys; echo "status $?")
+    written=$("$top/pipapo" run rules.nft packets.keys 2>/dev/null; echo "status $?")
     if [ "$written" != "$(printf '%s\nstatus %s' "$3" "$2")" ]; then
         echo "$1 intervals: wrote"
         echo "$written"

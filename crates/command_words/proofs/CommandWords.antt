@@ -10,9 +10,9 @@ use Rattle.std.proofs.lemmas.List.Sums.{sum_by-cons}
 use Rattle.std.proofs.lemmas.Slice.Eq.{bytes_eq-Decides}
 use Rattle.std.proofs.lemmas.Str.Parse.{digit_at}
 use Rattle.command_words.specs.declared.shape.Verb.{Verb}
-use Rattle.command_words.specs.declared.shape.Verb.TheVariants.{Run, List as Lists, Dump, Drill, Judge, Capture}
+use Rattle.command_words.specs.declared.shape.Verb.TheVariants.{Run, List as Lists, Dump, Drill, Judge, Capture, Desk}
 use Rattle.command_words.specs.declared.shape.Shape.{Shape}
-use Rattle.command_words.specs.Words.{stdin_name, is_stdin, verb_word, IsNumber, AreThreads, AreWords, ArePacketWords, Command, run, list, dump, drill, judge, capture, IsCommand, AreArguments, no_words, name_and, threads_and, mark_and, is_name, threads_word, keep_going_word, last_seed, most_elements}
+use Rattle.command_words.specs.Words.{stdin_name, is_stdin, verb_word, IsNumber, AreThreads, AreWords, ArePacketWords, Command, run, list, dump, drill, judge, capture, desk, IsCommand, AreArguments, no_words, name_and, threads_and, mark_and, is_name, threads_word, keep_going_word, last_seed, most_elements}
 use Rattle.command_words.specs.WordForms.{verb_of, name_count, is_whole, begun, stdin_once, fits, HasVerb, number_in, takes_name, takes_threads, takes_mark, with_threads, with_argument, with_word, after}
 
 both : (a b : Bool) → (a && b) ≡ true → (a ≡ true) × (b ≡ true)
@@ -134,6 +134,7 @@ name-of-command Lists place word e = (both _ _ e).1
 name-of-command Dump place word e = (both _ _ e).1
 name-of-command Judge place word e = (both _ _ e).1
 name-of-command Capture place word e = (both _ _ e).1
+name-of-command Desk place word e = (both _ _ e).1
 name-of-command Drill place word e = go (place == 0) (both _ _ e).1 where
   go : (b : Bool) → is_some (cond b (number_in 0 last_seed word) (number_in 1 most_elements word)) ≡ true → is_name word ≡ true
   go true f = number-name 0 last_seed word (omega arith) f
@@ -306,7 +307,7 @@ one-once a = go (is_stdin a) refl where
 numbers-once : (low high k m : ℕ) (a b : List ℕ) (x y : ℕ) → high < 2 ^ 64 → m < 2 ^ 64 → IsNumber low high a x → IsNumber k m b y → stdin_once (a ∷ b ∷ []) ≡ true
 numbers-once low high k m a b x y small little h j = rw (number-no-stdin low high a x small h, number-no-stdin k m b y little j) refl
 
--- A list and a dump have no packet threads, and a drill no mark.
+-- A list, a dump and a desk have no packet threads, and a drill no mark.
 no-threads : (verb : Verb) (threads : Option (List ℕ)) → takes_threads verb ≡ false → ThreadsFit verb false threads → threads ≡ None
 no-threads verb None e h = refl
 no-threads verb (Some word) e h = absurd (true≢false (sym h.0 ∙ e))
@@ -335,6 +336,7 @@ module _ (rest : List (List ℕ)) (threads : Option (List ℕ)) (keep_going : Bo
   by-verb Run (script ∷ keys ∷ []) a ns ts gs count once = let k = packet-words Run (script ∷ keys ∷ []) a ts once in (run script keys k.0 keep_going, k.1, refl)
   by-verb Lists (script ∷ []) a ns ts gs count once = (list script keep_going, lone-words Lists (script ∷ []) refl a ts, refl)
   by-verb Dump (script ∷ []) a ns ts gs count once = (dump script keep_going, lone-words Dump (script ∷ []) refl a ts, refl)
+  by-verb Desk (script ∷ []) a ns ts gs count once = (desk script keep_going, lone-words Desk (script ∷ []) refl a ts, refl)
   by-verb Drill (seed ∷ count ∷ []) a ns ts gs _ once =
       let s = number-of 0 last_seed seed ns.0 in
       let c = number-of 1 most_elements count ns.1.0 in
@@ -405,6 +407,7 @@ shape-of-command word ws (dump script keep_going) h = lone-shape word ws script 
 shape-of-command word ws (drill seed count n) h = shaped word ws _ h.0 false Drill h.3 (writes 0 last_seed h.1 seed (omega arith) h.4, (writes 1 most_elements h.2 count (omega arith) h.5, tt)) (threads-fit Drill h.0 n refl h.6) (λ e. absurd (true≢false (sym e))) refl (threads-no-stdin h.0 n h.6) (numbers-once 0 last_seed 1 most_elements h.1 h.2 seed count (omega arith) (omega arith) h.4 h.5)
 shape-of-command word ws (judge script rules keys n keep_going) h = packet-shape word ws (script ∷ rules ∷ keys ∷ []) n keep_going Judge refl refl (λ all. all) refl h
 shape-of-command word ws (capture script plan packets n keep_going) h = packet-shape word ws (script ∷ plan ∷ packets ∷ []) n keep_going Capture refl refl (λ all. all) refl h
+shape-of-command word ws (desk script keep_going) h = lone-shape word ws script keep_going Desk refl (λ all. all) refl h
 
 -- what the first of a command's arguments is
 pub data Leads (word : List ℕ) (ws names : List (List ℕ)) (threads : Option (List ℕ)) (keep_going : Bool) : Type 0 where
@@ -461,7 +464,7 @@ same-threads (Some v) (Some w) m n e h k = same-number 1 16 v w m n (omega arith
 -- the verb of a word
 verb_named : List ℕ → Verb
 verb_named word = cond (bytes_eq word (codes "run")) Run (cond (bytes_eq word (codes "list")) Lists (cond (bytes_eq word (codes "dump")) Dump (cond (bytes_eq word (codes "drill")) Drill
-    (cond (bytes_eq word (codes "judge")) Judge Capture))))
+    (cond (bytes_eq word (codes "judge")) Judge (cond (bytes_eq word (codes "capture")) Capture Desk)))))
 
 named-verb : (verb : Verb) → verb_named (verb_word verb) ≡ verb
 unfolding verb_named
@@ -471,6 +474,7 @@ named-verb Dump = refl
 named-verb Drill = refl
 named-verb Judge = refl
 named-verb Capture = refl
+named-verb Desk = refl
 
 pub first-word : (words : List (List ℕ)) (c : Command) → IsCommand words c → (rest : List (List ℕ)) × (words ≡ verb_word (verb_of c) ∷ rest)
 first-word words (run script keys n g) h = (h.1.rest, h.1.words_are)
@@ -479,6 +483,7 @@ first-word words (dump script g) h = (h.rest, h.words_are)
 first-word words (drill seed count n) h = (h.3.rest, h.3.words_are)
 first-word words (judge script rules keys n g) h = (h.1.rest, h.1.words_are)
 first-word words (capture script plan packets n g) h = (h.1.rest, h.1.words_are)
+first-word words (desk script g) h = (h.rest, h.words_are)
 
 same-packet-words : (words : List (List ℕ)) (first other : List ℕ) (names ms : List (List ℕ)) (n m : ℕ) (keep_going g : Bool) → ArePacketWords words first names n keep_going → ArePacketWords words other ms m g → (names ≡ ms) × (n ≡ m) × (keep_going ≡ g)
 same-packet-words words first other names ms n m keep_going g h j =
@@ -511,6 +516,7 @@ one-command words c d h j = one c d verb h j where
       cc (script, plan, packets, r.1, r.2)
   one (list s g) (list s' g') e h j = let r = same-words words _ _ _ _ _ _ _ _ h j in let script : s ≡ s' = cc r.1 in cc (script, r.3)
   one (dump s g) (dump s' g') e h j = let r = same-words words _ _ _ _ _ _ _ _ h j in let script : s ≡ s' = cc r.1 in cc (script, r.3)
+  one (desk s g) (desk s' g') e h j = let r = same-words words _ _ _ _ _ _ _ _ h j in let script : s ≡ s' = cc r.1 in cc (script, r.3)
   one (drill s k n) (drill s' k' n') e h j =
       let r = same-words words _ _ _ _ _ _ _ _ h.3 j.3 in
       let first : h.1 ≡ j.1 = cc r.1 in

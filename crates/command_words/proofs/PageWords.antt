@@ -2,17 +2,17 @@
 use Rattle.std.proofs.Common.{◌≡◌, refl, sym, ◌∙◌, ap, subst, ℕ, Bool, false, cond, List, [], ◌∷◌, codes, Option, Some, None, true≢false, inl, inr}
 use Rattle.std.specs.Prelude.{bytes_eq, option_map, if◌then◌else◌}
 use Rattle.command_words.specs.declared.shape.Verb.{Verb}
-use Rattle.command_words.specs.declared.shape.Verb.TheVariants.{Run, List as Lists, Dump, Drill, Judge, Capture}
+use Rattle.command_words.specs.declared.shape.Verb.TheVariants.{Run, List as Lists, Dump, Drill, Judge, Capture, Desk}
 use Rattle.command_words.specs.declared.page.Page.{Page}
 use Rattle.command_words.specs.declared.page.Page.TheVariants.{Program, Command as On, Version}
-use Rattle.command_words.specs.Words.{AreWords, AreArguments, AsksFor, Command, run, list, dump, drill, judge, capture, IsCommand, verb_word, is_name, threads_word, keep_going_word}
+use Rattle.command_words.specs.Words.{AreWords, AreArguments, AsksFor, Command, run, list, dump, drill, judge, capture, desk, IsCommand, verb_word, is_name, threads_word, keep_going_word}
 use Rattle.command_words.specs.WordForms.{verb_of}
 use Rattle.command_words.proofs.CommandWords.{leads, Leads, by_name, by_threads, by_mark}
 
 -- the verb that a word names
 named : List ℕ → Option Verb
 named word = cond (bytes_eq word (codes "run")) (Some Run) (cond (bytes_eq word (codes "list")) (Some Lists) (cond (bytes_eq word (codes "dump")) (Some Dump) (cond (bytes_eq word (codes "drill")) (Some Drill)
-    (cond (bytes_eq word (codes "judge")) (Some Judge) (cond (bytes_eq word (codes "capture")) (Some Capture) None)))))
+    (cond (bytes_eq word (codes "judge")) (Some Judge) (cond (bytes_eq word (codes "capture")) (Some Capture) (cond (bytes_eq word (codes "desk")) (Some Desk) None))))))
 
 named-verb : (verb : Verb) → named (verb_word verb) ≡ Some verb
 unfolding named
@@ -22,6 +22,7 @@ named-verb Dump = refl
 named-verb Drill = refl
 named-verb Judge = refl
 named-verb Capture = refl
+named-verb Desk = refl
 
 no-verb : (verb : Verb) (word : List ℕ) → named word ≡ None → verb_word verb ≡ word → ⊥
 no-verb verb word none same = let there = sym (named-verb verb) ∙ ap named same ∙ none in cc there
@@ -33,6 +34,7 @@ no-help Dump = refl
 no-help Drill = refl
 no-help Judge = refl
 no-help Capture = refl
+no-help Desk = refl
 
 -- the page that words ask for, where they do
 page_named : List (List ℕ) → Option Page
@@ -73,6 +75,7 @@ of-command words (dump script g) h = behind words (script ∷ []) Dump None g h
 of-command words (drill seed count n) h = behind words (h.1 ∷ h.2 ∷ []) Drill h.0 false h.3
 of-command words (judge script rules keys n g) h = behind words (script ∷ rules ∷ keys ∷ []) Judge h.0 g h.1
 of-command words (capture script plan packets n g) h = behind words (script ∷ plan ∷ packets ∷ []) Capture h.0 g h.1
+of-command words (desk script g) h = behind words (script ∷ []) Desk None g h
 
 -- Another word with a dash is no argument.
 no-argument : (word : List ℕ) (ws names : List (List ℕ)) (threads : Option (List ℕ)) (keep_going : Bool) → is_name word ≡ false → bytes_eq word threads_word ≡ false → bytes_eq word keep_going_word ≡ false

@@ -4,8 +4,8 @@ use Rattle.std.specs.Prelude.{IfSome, IsSome}
 use Rattle.std.specs.Borrow.{Bor}
 use Rattle.command_words.specs.declared.words.Arguments.{Arguments}
 use Rattle.command_words.specs.declared.shape.Verb.{Verb}
-use Rattle.command_words.specs.declared.shape.Verb.TheVariants.{Run, List as Lists, Dump, Drill, Judge, Capture}
-use Rattle.command_words.specs.Words.{NameStdinOnce, Command, run, list, dump, drill, judge, capture, IsCommand, AreWords, ArePacketWords, AreThreads, IsNumber, is_name, last_seed, most_elements}
+use Rattle.command_words.specs.declared.shape.Verb.TheVariants.{Run, List as Lists, Dump, Drill, Judge, Capture, Desk}
+use Rattle.command_words.specs.Words.{NameStdinOnce, Command, run, list, dump, drill, judge, capture, desk, IsCommand, AreWords, ArePacketWords, AreThreads, IsNumber, is_name, last_seed, most_elements}
 use Rattle.command_words.specs.WordForms.{HasVerb, HasArguments, ArePlain, verb_of}
 use Rattle.command_words.proofs.CommandWords.{number-is-name}
 
@@ -62,6 +62,7 @@ Of words a Dump = IsAloneOf words a (codes "dump")
 Of words a Drill = IsDrillOf words a
 Of words a Judge = IsTripleOf words a (codes "judge")
 Of words a Capture = IsTripleOf words a (codes "capture")
+Of words a Desk = IsAloneOf words a (codes "desk")
 
 module _ (words : List (List ℕ)) (a : Arguments) (given : (word : List ℕ) (names : List (List ℕ)) (threads : Option (List ℕ)) (keep_going : Bool) → AreWords words word names threads keep_going → ArePlain names threads → HasArguments a names threads keep_going) where
   with-mark : (word : List ℕ) (names : List (List ℕ)) (threads : Option (List ℕ)) (goes : Bool) → a.keep_going ≡ goes → AreWords words word names threads goes → AreWords words word names threads a.keep_going
@@ -93,6 +94,7 @@ module _ (words : List (List ℕ)) (a : Arguments) (given : (word : List ℕ) (n
   of-command (capture script plan file n goes) h = (script, plan, file, packets (codes "capture") (script ∷ plan ∷ file ∷ []) n goes (omega arith) h)
   of-command (list script goes) h = alone (codes "list") script goes h
   of-command (dump script goes) h = alone (codes "dump") script goes h
+  of-command (desk script goes) h = alone (codes "desk") script goes h
   of-command (drill seed elements n) h =
       let k = given (codes "drill") (h.1 ∷ h.2 ∷ []) h.0 false h.3 (record { few = omega arith; no_dash = plain-threads h.0 n h.6 }) in record {
         seed_word = h.1;
@@ -129,6 +131,7 @@ module _ (words : List (List ℕ)) (a : Arguments) where
   has-first Drill of = there a.first of.seed_word of.first
   has-first Judge of = there a.first of.0 of.3.first
   has-first Capture of = there a.first of.0 of.3.first
+  has-first Desk of = there a.first of.script of.first
 
   pub pair-second : (word : List ℕ) → IsPairOf words a word → IsSome a.second
   pair-second word of = there a.second of.1 of.2.second

@@ -15,8 +15,8 @@ use Rattle.command_words.specs.declared.words.Command.{Command as Asked}
 use Rattle.command_words.specs.declared.words.Command.TheVariants as asked
 use Rattle.command_words.specs.declared.page.Page.{Page}
 use Rattle.command_words.specs.declared.page.Page.TheVariants as pages
-use Rattle.command_words.specs.declared.help.TheConstants.{PROGRAM, RUN, LIST, DUMP, DRILL, JUDGE, CAPTURE, VERSION}
-use Rattle.command_words.specs.Words.{Command, run, list, dump, drill, judge, capture, IsCommand, is_name, is_stdin, threads_word, keep_going_word, last_seed, most_elements}
+use Rattle.command_words.specs.declared.help.TheConstants.{PROGRAM, RUN, LIST, DUMP, DRILL, JUDGE, CAPTURE, DESK, VERSION}
+use Rattle.command_words.specs.Words.{Command, run, list, dump, drill, judge, capture, desk, IsCommand, is_name, is_stdin, threads_word, keep_going_word, last_seed, most_elements}
 
 -- how many names a command has
 abbrev pub name_count : Verb → ℕ
@@ -26,6 +26,7 @@ name_count verbs.Dump = 1
 name_count verbs.Drill = 2
 name_count verbs.Judge = 3
 name_count verbs.Capture = 3
+name_count verbs.Desk = 1
 
 -- A command may have packet threads.
 abbrev pub takes_threads : Verb → Bool
@@ -35,6 +36,7 @@ takes_threads verbs.Dump = false
 takes_threads verbs.Drill = true
 takes_threads verbs.Judge = true
 takes_threads verbs.Capture = true
+takes_threads verbs.Desk = false
 
 -- A command may keep going behind a refused change.
 abbrev pub takes_mark : Verb → Bool
@@ -44,6 +46,7 @@ takes_mark verbs.Dump = true
 takes_mark verbs.Drill = false
 takes_mark verbs.Judge = true
 takes_mark verbs.Capture = true
+takes_mark verbs.Desk = true
 
 -- the number that a word writes, where it lies within bounds
 unfoldable pub number_in : ℕ → ℕ → List ℕ → Option ℕ
@@ -63,6 +66,7 @@ is_name_of verbs.Dump place word = is_name word
 is_name_of verbs.Drill place word = is_some (drill_number place word)
 is_name_of verbs.Judge place word = is_name word
 is_name_of verbs.Capture place word = is_name word
+is_name_of verbs.Desk place word = is_name word
 
 abbrev pub takes_name : Verb → ℕ → List ℕ → Bool
 takes_name verb place word = nat_lt place (name_count verb) && is_name_of verb place word
@@ -111,6 +115,7 @@ verb_of (dump script keep_going) = verbs.Dump
 verb_of (drill seed count threads) = verbs.Drill
 verb_of (judge script rules keys threads keep_going) = verbs.Judge
 verb_of (capture script plan packets threads keep_going) = verbs.Capture
+verb_of (desk script keep_going) = verbs.Desk
 
 -- The words are a command that does this.
 abbrev pub HasVerb : List (List ℕ) → Verb → Type 0
@@ -125,6 +130,7 @@ page_text (pages.Command verbs.Dump) = DUMP.now
 page_text (pages.Command verbs.Drill) = DRILL.now
 page_text (pages.Command verbs.Judge) = JUDGE.now
 page_text (pages.Command verbs.Capture) = CAPTURE.now
+page_text (pages.Command verbs.Desk) = DESK.now
 page_text pages.Version = VERSION.now
 
 -- what the code's command is
@@ -134,6 +140,7 @@ plain_task script tasks.List keep_going = list script keep_going
 plain_task script tasks.Dump keep_going = dump script keep_going
 plain_task script (tasks.Judge rules keys threads) keep_going = judge script rules.now keys.now threads keep_going
 plain_task script (tasks.Capture plan packets threads) keep_going = capture script plan.now packets.now threads keep_going
+plain_task script tasks.Desk keep_going = desk script keep_going
 
 abbrev pub plain : Asked → Command
 plain (asked.Script script task keep_going) = plain_task script.now task keep_going

@@ -27,6 +27,7 @@ verb_word verbs.Dump = codes "dump"
 verb_word verbs.Drill = codes "drill"
 verb_word verbs.Judge = codes "judge"
 verb_word verbs.Capture = codes "capture"
+verb_word verbs.Desk = codes "desk"
 
 abbrev pub threads_word : List ℕ
 threads_word = codes "--threads"
@@ -74,6 +75,7 @@ pub data Command : Type 0 where
   drill : (seed count threads : ℕ) → Command
   judge : (script rules keys : List ℕ) (threads : ℕ) (keep_going : Bool) → Command
   capture : (script plan packets : List ℕ) (threads : ℕ) (keep_going : Bool) → Command
+  desk : (script : List ℕ) (keep_going : Bool) → Command
 
 -- At most one of the names is the standard input.
 abbrev pub NameStdinOnce : List (List ℕ) → Type 0
@@ -92,6 +94,7 @@ IsCommand words (drill seed count n) = (threads : Option (List ℕ)) × (seed_wo
     × AreWords words (codes "drill") (seed_word ∷ count_word ∷ []) threads false × IsNumber 0 last_seed seed_word seed × IsNumber 1 most_elements count_word count × AreThreads threads n
 IsCommand words (judge script rules keys n keep_going) = ArePacketWords words (codes "judge") (script ∷ rules ∷ keys ∷ []) n keep_going
 IsCommand words (capture script plan packets n keep_going) = ArePacketWords words (codes "capture") (script ∷ plan ∷ packets ∷ []) n keep_going
+IsCommand words (desk script keep_going) = AreWords words (codes "desk") (script ∷ []) None keep_going
 
 -- The words ask for a text of the program's own: help on it or on one of its commands, or its version.
 abbrev pub AsksFor : List (List ℕ) → Page → Type 0
@@ -124,6 +127,9 @@ IsJudge words script rules keys threads keep_going = IsCommand words (judge scri
 abbrev pub IsCapture : List (List ℕ) → List ℕ → List ℕ → List ℕ → ℕ → Bool → Type 0
 IsCapture words script plan packets threads keep_going = IsCommand words (capture script plan packets threads keep_going)
 
+abbrev pub IsDesk : List (List ℕ) → List ℕ → Bool → Type 0
+IsDesk words script keep_going = IsCommand words (desk script keep_going)
+
 -- the files that a command reads, by their names, in their order
 abbrev pub file_names : Command → List (List ℕ)
 file_names (run script keys threads keep_going) = script ∷ keys ∷ []
@@ -132,6 +138,7 @@ file_names (dump script keep_going) = script ∷ []
 file_names (drill seed count threads) = []
 file_names (judge script rules keys threads keep_going) = script ∷ rules ∷ keys ∷ []
 file_names (capture script plan packets threads keep_going) = script ∷ plan ∷ packets ∷ []
+file_names (desk script keep_going) = script ∷ []
 
 -- The first file of a command is its script.
 abbrev pub IsScriptOf : Command → List ℕ → Type 0

@@ -11,6 +11,7 @@ usage: pipapo run SCRIPT KEYS [--threads N] [--keep-going]
        pipapo drill SEED COUNT [--threads N]
        pipapo judge SCRIPT RULES KEYS [--threads N] [--keep-going]
        pipapo capture SCRIPT PLAN PCAP [--threads N] [--keep-going]
+       pipapo desk SCRIPT [--keep-going]
        pipapo help [COMMAND], pipapo [COMMAND] --help, pipapo [COMMAND] -h
        pipapo --version
 
@@ -21,6 +22,7 @@ commands:
   drill    runs a workload drawn from SEED, and writes one line on it
   judge    as run, but each packet is judged by the chains of RULES
   capture  as run, but the packets are those that PLAN takes from the capture PCAP
+  desk     runs the sections of SCRIPT by several control threads, and lists the result
 
 SCRIPT is in the language of nft(8), and KEYS has a packet's key in each line. RULES has
 chains of rules over the sets, PLAN says which fields of a frame are the keys of a set, and
@@ -43,6 +45,7 @@ statuses:
   9   the rules file isn't in its grammar
   10  the capture isn't in its form
   11  the plan isn't in its grammar
+  12  the script has too many sections for a desk
 ";
 
 pub const RUN: &str = "\
@@ -128,4 +131,21 @@ options, in any order among the names:
 statuses: 0 done, 1 done with a refused change, 3 SCRIPT isn't in its grammar, 11 PLAN isn't,
 10 PCAP isn't in its form, 5 a file can't be read, 6 the standard output failed, 7 want of
 memory, 8 a file is too large
+";
+
+pub const DESK: &str = "\
+usage: pipapo desk SCRIPT [--keep-going]
+
+Runs the first section of SCRIPT alone, and then each of the others, 16 at most, by a control
+thread of its own: all submit their transactions to one control, and one that was prepared
+against an older generation is submitted again. Writes what became of the transactions, in the
+order in which they were done, as comments, and then the sets of the last generation as a
+script. SCRIPT may be -, the standard input.
+
+options, before or behind the name:
+  --keep-going   a refused change is skipped, and doesn't fail its transaction
+
+statuses: 0 done, 1 done with a refused change, 3 SCRIPT isn't in its grammar, 12 it has more
+than 17 sections, 5 it can't be read, 6 the standard output failed, 7 want of memory, 8 SCRIPT
+is too large
 ";

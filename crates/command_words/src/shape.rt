@@ -33,6 +33,8 @@ pub enum Verb {
     Judge,
     /// It runs a script beside the packets that a plan takes from a capture.
     Capture,
+    /// It runs a script by several control threads.
+    Desk,
 }
 
 /// The shape of the words behind a command's word, so far.
@@ -96,6 +98,7 @@ impl Verb {
             "drill" => Some(Verb::Drill),
             "judge" => Some(Verb::Judge),
             "capture" => Some(Verb::Capture),
+            "desk" => Some(Verb::Desk),
             _ => None,
         }
     }
@@ -105,7 +108,7 @@ impl Verb {
         ensures { result ≡ count_of_names self }
     {
         match self {
-            Verb::List | Verb::Dump => 1,
+            Verb::List | Verb::Dump | Verb::Desk => 1,
             Verb::Run | Verb::Drill => 2,
             Verb::Judge | Verb::Capture => 3,
         }
@@ -116,7 +119,7 @@ impl Verb {
     {
         match self {
             Verb::Run | Verb::Drill | Verb::Judge | Verb::Capture => true,
-            Verb::List | Verb::Dump => false,
+            Verb::List | Verb::Dump | Verb::Desk => false,
         }
     }
 

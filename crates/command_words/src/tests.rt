@@ -15,6 +15,7 @@ fn plain(alloc: Global, command: Command<'_>) -> Result<String, AllocError> {
             }
             Task::List => format!(in alloc; "list {script} {keep_going}"),
             Task::Dump => format!(in alloc; "dump {script} {keep_going}"),
+            Task::Desk => format!(in alloc; "desk {script} {keep_going}"),
             Task::Judge {
                 rules,
                 keys,
@@ -52,7 +53,7 @@ fn asked(alloc: Global, words: &[&str]) -> Result<String, AllocError> {
 
 #[test]
 fn words_that_are_no_command(rt: HostRuntime) -> Result<(), Fail> {
-    let commands: [&[&str]; 58] = [
+    let commands: [&[&str]; 61] = [
         &[],
         &["run", "a"],
         &["run", "a", "b", "c"],
@@ -98,7 +99,10 @@ fn words_that_are_no_command(rt: HostRuntime) -> Result<(), Fail> {
         &["capture", "a", "b"],
         &["capture", "-", "-", "c"],
         &["capture", "a", "b", "c", "--threads", "17"],
-        &["desk", "a"],
+        &["desk"],
+        &["desk", "a", "b"],
+        &["desk", "a", "--threads", "2"],
+        &["desks", "a"],
         &["lists", "a"],
         &["help", "lists"],
         &["help", "help"],
@@ -120,7 +124,7 @@ fn words_that_are_no_command(rt: HostRuntime) -> Result<(), Fail> {
 
 #[test]
 fn words_in_any_order(rt: HostRuntime) -> Result<(), Fail> {
-    let commands: [(&[&str], &str); 17] = [
+    let commands: [(&[&str], &str); 20] = [
         (&["run", "help", "b"], "run help b 1 false"),
         (&["run", "--threads", "16", "16", "b"], "run 16 b 16 false"),
         (
@@ -153,6 +157,9 @@ fn words_in_any_order(rt: HostRuntime) -> Result<(), Fail> {
             &["capture", "--keep-going", "a", "b", "c", "--threads", "16"],
             "capture a b c 16 true",
         ),
+        (&["desk", "a"], "desk a false"),
+        (&["desk", "--keep-going", "desk"], "desk desk true"),
+        (&["desk", "-", "--keep-going"], "desk - true"),
     ];
     for (words, line) in commands {
         assert_eq!(rt; asked(rt.alloc(), words)?.as_str(), line);
@@ -162,7 +169,7 @@ fn words_in_any_order(rt: HostRuntime) -> Result<(), Fail> {
 
 #[test]
 fn words_that_ask_for_a_page(rt: HostRuntime) -> Result<(), Fail> {
-    let pages: [(&[&str], Page); 22] = [
+    let pages: [(&[&str], Page); 25] = [
         (&["help"], Page::Program),
         (&["--help"], Page::Program),
         (&["-h"], Page::Program),
@@ -185,6 +192,9 @@ fn words_that_ask_for_a_page(rt: HostRuntime) -> Result<(), Fail> {
         (&["help", "capture"], Page::Command(Verb::Capture)),
         (&["capture", "--help"], Page::Command(Verb::Capture)),
         (&["capture", "-h"], Page::Command(Verb::Capture)),
+        (&["help", "desk"], Page::Command(Verb::Desk)),
+        (&["desk", "--help"], Page::Command(Verb::Desk)),
+        (&["desk", "-h"], Page::Command(Verb::Desk)),
     ];
     for (words, page) in pages {
         assert_eq!(rt; asked(rt.alloc(), words)?.as_str(), page.text());
@@ -194,7 +204,7 @@ fn words_that_ask_for_a_page(rt: HostRuntime) -> Result<(), Fail> {
 
 #[test]
 fn each_page_begins_with_its_own_line(rt: HostRuntime) -> Result<(), Fail> {
-    let pages: [(Page, &str); 8] = [
+    let pages: [(Page, &str); 9] = [
         (
             Page::Program,
             "pipapo runs nftables set scripts and looks packets up in the sets.\n",
@@ -223,6 +233,10 @@ fn each_page_begins_with_its_own_line(rt: HostRuntime) -> Result<(), Fail> {
         (
             Page::Command(Verb::Capture),
             "usage: pipapo capture SCRIPT PLAN PCAP [--threads N] [--keep-going]\n",
+        ),
+        (
+            Page::Command(Verb::Desk),
+            "usage: pipapo desk SCRIPT [--keep-going]\n",
         ),
     ];
     for (page, line) in pages {

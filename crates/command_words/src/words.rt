@@ -33,6 +33,8 @@ pub enum Task<'a> {
         packets: &'a str,
         threads: u32,
     },
+    /// A run by several control threads, one for each section but the first.
+    Desk,
 }
 
 /// A command.
@@ -193,6 +195,11 @@ fn command_with<'a>(
                 packets: third.unwrap(),
                 threads: thread_count(threads),
             },
+            keep_going,
+        }),
+        Verb::Desk => Ok(Command::Script {
+            script: first,
+            task: Task::Desk,
             keep_going,
         }),
         Verb::Drill => Ok(Command::Drill {

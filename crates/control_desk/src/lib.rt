@@ -11,6 +11,8 @@ mod clerk;
 mod entry;
 mod opening;
 mod run;
+#[cfg(test)]
+mod tests;
 mod transaction;
 mod work;
 

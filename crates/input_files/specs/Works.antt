@@ -7,7 +7,7 @@ use Rattle.rule_chain.specs.RulesText.{IsRulesText}
 use Rattle.pcap_keys.specs.CapturedPackets.{IsCapture}
 use Rattle.pcap_keys.specs.Fitting.{HasValues, IsPlanned}
 use Rattle.pcap_keys.specs.PlansText.{IsPlanText}
-use Rattle.command_words.specs.Words.{Command, run, list, dump, drill, judge, capture}
+use Rattle.command_words.specs.Words.{Command, run, list, dump, drill, judge, capture, desk}
 use Rattle.input_files.specs.declared.work.Work.{Work}
 use Rattle.input_files.specs.declared.work.Work.TheVariants as works
 use Rattle.input_files.specs.Inputs.{ReadsAs}
@@ -25,6 +25,7 @@ IsWork told c (works.Judge script chains keys threads keep_going) =
 IsWork told c (works.Capture script plan frames threads keep_going) =
     (s : List ℕ) × (p : List ℕ) × (f : List ℕ) × (c ≡ capture s p f threads keep_going) × ReadsAs told s (λ text. IsScriptText text script)
     × ReadsAs told p (λ text. IsPlanText script.schema text plan) × ReadsAs told f (λ text. IsCapture text frames)
+IsWork told c (works.Desk script keep_going) = (s : List ℕ) × (c ≡ desk s keep_going) × ReadsAs told s (λ text. IsScriptText text script)
 
 -- There are packet threads, and at most sixteen.
 abbrev pub FewThreads : ℕ → Type 0
@@ -38,3 +39,4 @@ IsDoable (works.Dump script keep_going) = IsRunnable script
 IsDoable (works.Drill seed count threads) = FewThreads threads
 IsDoable (works.Judge script chains keys threads keep_going) = IsRunnable script × (chains.schema ≡ script.schema) × All (All (IsFitting script.schema)) keys × FewThreads threads
 IsDoable (works.Capture script plan frames threads keep_going) = IsRunnable script × All (IsPlanned script.schema) plan × All HasValues frames × FewThreads threads
+IsDoable (works.Desk script keep_going) = IsRunnable script

@@ -57,6 +57,11 @@ pub enum Work {
         threads: u32,
         keep_going: bool,
     },
+    /// A run of a script by several control threads, one for each section but the first.
+    Desk {
+        script: Script,
+        keep_going: bool,
+    },
 }
 
 /// Reads the files of a command, in the order of its words, each only where those before it were read whole and are of their forms.
@@ -108,6 +113,7 @@ pub fn work_of<'a, F: Shelf, N: Notes>(
                 },
                 Task::List => Ok(Work::List { script, keep_going }),
                 Task::Dump => Ok(Work::Dump { script, keep_going }),
+                Task::Desk => Ok(Work::Desk { script, keep_going }),
                 Task::Judge {
                     rules,
                     keys,

@@ -1,5 +1,5 @@
 -- What a call wrote, by its status, and where nothing failed outside.
-use Rattle.std.proofs.Common.{◌<◌, Bool, true, false, ◌≡◌, ◌≢◌, refl, sym, ◌∙◌, ap, subst, ℕ, ◌==◌, ◌||◌, if◌then◌else◌, List, [], ◌∷◌, ◌++◌, length, Option, Some, None, inl, inr, arith, append-nil}
+use Rattle.std.proofs.Common.{◌<◌, ◌≤◌, Bool, true, false, ◌≡◌, ◌≢◌, refl, sym, ◌∙◌, ap, subst, ℕ, ◌==◌, ◌||◌, if◌then◌else◌, List, [], ◌∷◌, ◌++◌, length, Option, Some, None, inl, inr, arith, append-nil}
 use Rattle.std.specs.Prelude.{◌⊎◌}
 use Rattle.std.specs.Io.KnownBytes.{Appends, Keeps}
 use Rattle.pip_base.specs.Causes.{Rose}
@@ -15,29 +15,31 @@ use Rattle.rule_chain.specs.Judged.{IsJudged}
 use Rattle.rule_chain.specs.JudgedText.{judged_text}
 use Rattle.rule_chain.proofs.FileLaws.{rules_single}
 use Rattle.set_script.proofs.ScriptWhole.{script_single}
+use Rattle.set_script.specs.ScriptText.{IsScriptText}
 use Rattle.key_file.specs.KeysText.{IsKeysText}
 use Rattle.key_file.proofs.KeysLaws.{keys_single}
 use Rattle.pcap_keys.specs.CapturedPackets.{AreCaptured}
 use Rattle.pcap_keys.proofs.OneCapture.{one_capture}
 use Rattle.script_run.specs.Listings.{listing_text, tables_text}
-use Rattle.command_words.specs.Words.{Command, IsCommand, run, list, dump, drill, judge, capture}
+use Rattle.desk_run.specs.DeskText.{IsDeskText}
+use Rattle.command_words.specs.Words.{Command, IsCommand, run, list, dump, drill, judge, capture, desk}
 use Rattle.command_words.proofs.CommandWords.{one-command}
 use Rattle.command_words.proofs.PageWords.{page-no-command}
 use Rattle.input_files.specs.declared.fault.FileFault.{FileFault}
 use Rattle.input_files.specs.declared.fault.FileFault.TheVariants as files
 use Rattle.input_files.specs.Inputs as forms
-use Rattle.input_files.specs.Inputs.{Input, Form, inputs, form_of, names_of, IsOf, IsFileCause}
+use Rattle.input_files.specs.Inputs.{Input, Form, inputs, form_of, names_of, IsOf, ReadsAs, IsFileCause}
 use Rattle.input_files.specs.Reads.{Shelved, StopsAt}
 use Rattle.input_files.specs.Given.{Has, AreGiven}
 use Rattle.input_files.proofs.Turns.{given-one, given-front, given-refuses}
 use Rattle.pipapo_cli.specs.declared.fault.Fault.{Fault}
-use Rattle.pipapo_cli.specs.declared.fault.Fault.TheVariants.{Usage, File, Memory}
-use Rattle.pipapo_cli.specs.Transcript.{IsTranscript, IsJudgement, AreRulesOf, IsCaptured, IsTextOf}
+use Rattle.pipapo_cli.specs.declared.fault.Fault.TheVariants.{Usage, File, TooManyClerks, Memory}
+use Rattle.pipapo_cli.specs.Transcript.{IsTranscript, IsJudgement, AreRulesOf, IsCaptured, IsTextOf, IsWovenOf, most_sections}
 use Rattle.pipapo_cli.specs.Calls.{Call, IsQuiet}
-use Rattle.pipapo_cli.specs.Causes.{IsCause, no_command, of_file, no_memory}
+use Rattle.pipapo_cli.specs.Causes.{IsCause, no_command, of_file, too_many, no_memory}
 use Rattle.pipapo_cli.specs.Lines.{done_status, form_status, file_status, file_line, status_of, line_of}
-use Rattle.pipapo_cli.specs.Answers.{Ends, written, cut, memory, IsDue, output, page, refusal, TellsReadFault, TellsFlaw}
-use Rattle.pipapo_cli.specs.Exactly.{HasScript, HasKeys, HasRules, HasCaptured, Completes, DeliversText, DeliversRun, DeliversJudgement, RanOut}
+use Rattle.pipapo_cli.specs.Answers.{Ends, written, cut, memory, IsDue, output, page, refusal, TellsReadFault, TellsFlaw, TellsTooMany}
+use Rattle.pipapo_cli.specs.Exactly.{HasScript, HasKeys, HasRules, HasCaptured, Completes, DeliversText, DeliversRun, DeliversJudgement, DeliversDesk, RanOut}
 use Rattle.pipapo_cli.proofs.Endings.{done-small, does, Wrote, TheEnd, HasWritten, drilled, page-told}
 
 -- The numbers that are a form's status, told apart from the others.
@@ -88,6 +90,7 @@ module _ (c : Call) where
   cause-fault : (fault : Fault) → IsCause c.words c.shelf fault → status_of fault ≡ 5 → Appends c.taken_before c.taken_now (line_of fault) → TellsReadFault c
   cause-fault Usage (no_command none nothing same) e line = absurd (omega (arith, e))
   cause-fault (File f) (of_file d g is_d s) e line = file-fault d f s e line
+  cause-fault (TooManyClerks name) (too_many n h) e line = absurd (omega (arith, e))
   cause-fault Memory (no_memory d is_d asked same) e line = absurd (omega (arith, e))
 
   due-fault : (status : ℕ) (text : List ℕ) → IsDue c.words c.shelf status text → status ≡ 5 → Appends c.taken_before c.taken_now text → TellsReadFault c
@@ -116,6 +119,7 @@ module _ (c : Call) where
     unfolding is_form
     cause-flaw Usage (no_command none nothing same) e line = absurd (form-apart form 2 e refl)
     cause-flaw (File f) (of_file d g is_d s) e line = file-flaw d f is_d s e line
+    cause-flaw (TooManyClerks name) (too_many n h) e line = absurd (form-apart form 12 e refl)
     cause-flaw Memory (no_memory d is_d asked same) e line = absurd (form-apart form 7 e refl)
 
     due-flaw : (status : ℕ) (text : List ℕ) → IsDue c.words c.shelf status text → status ≡ form_status form → Appends c.taken_before c.taken_now text → TellsFlaw form c
@@ -129,6 +133,38 @@ module _ (c : Call) where
     ends-flaw result (written status text due appends quiet) e = due-flaw status text due e appends
     ends-flaw result (cut status text due front rose) e = absurd (form-apart form 6 e refl)
     ends-flaw result (memory due keeps quiet) e = absurd (form-apart form 7 e refl)
+
+  -- With status 12 a desk's script with too many sections was told.
+  file-no-twelve : (f : FileFault) → file_status f ≡ 12 → ⊥
+  file-no-twelve (files.Bad flaw) e = form-no-twelve (form_of flaw) e where
+    form-no-twelve : (form : Form) → form_status form ≡ 12 → ⊥
+    form-no-twelve forms.script e = omega (arith, e)
+    form-no-twelve forms.keys e = omega (arith, e)
+    form-no-twelve forms.rules e = omega (arith, e)
+    form-no-twelve forms.plan e = omega (arith, e)
+    form-no-twelve forms.capture e = omega (arith, e)
+  file-no-twelve (files.ReadFault name) e = omega (arith, e)
+  file-no-twelve (files.TooLarge name) e = omega (arith, e)
+  file-no-twelve files.Memory e = omega (arith, e)
+
+  cause-many : (fault : Fault) → IsCause c.words c.shelf fault → status_of fault ≡ 12 → Appends c.taken_before c.taken_now (line_of fault) → TellsTooMany c
+  cause-many Usage (no_command none nothing same) e line = absurd (omega (arith, e))
+  cause-many (File f) (of_file d g is_d s) e line = absurd (file-no-twelve f e)
+  cause-many (TooManyClerks name) (too_many n h) e line = record { name = name.now; has_many = h; written = line }
+  cause-many Memory (no_memory d is_d asked same) e line = absurd (omega (arith, e))
+
+  due-many : (status : ℕ) (text : List ℕ) → IsDue c.words c.shelf status text → status ≡ 12 → Appends c.taken_before c.taken_now text → TellsTooMany c
+  due-many status text (output refused t has) e line = absurd (let small = done-small refused in omega (arith, e, small))
+  due-many status text (page p asks nothing same) e line = absurd (omega (arith, e))
+  due-many status text (refusal fault cause) e line = cause-many fault cause e line
+
+  ends-many : (result : ℕ) → Ends (IsDue c.words c.shelf) c.taken_before c.taken_now c.faults_before c.faults_now result → result ≡ 12 → TellsTooMany c
+  ends-many result (written status text due appends quiet) e = due-many status text due e appends
+  ends-many result (cut status text due front rose) e = absurd (omega (arith, e))
+  ends-many result (memory due keeps quiet) e = absurd (omega (arith, e))
+
+  pub tells-too-many : TheEnd c → c.status ≡ 12 → TellsTooMany c
+  tells-too-many ends e = ends-many c.status ends e
 
   pub tells-flaw : TheEnd c → (form : Form) → c.status ≡ form_status form → TellsFlaw form c
   tells-flaw ends form e = ends-flaw form c.status ends e
@@ -144,6 +180,7 @@ module _ (words : List (List ℕ)) (shelf : Shelved) where
   cause-moved : (fault : Fault) → IsCause words shelf fault → shelf.faults_now ≢ shelf.faults_before → status_of fault ≡ 5
   cause-moved Usage (no_command none nothing same) moved = absurd (moved same)
   cause-moved (File f) (of_file d g is_d s) moved = file-moved s.sets (names_of s.earlier) s.input f s.cause moved
+  cause-moved (TooManyClerks name) (too_many n h) moved = absurd (moved h.has_read.quiet)
   cause-moved Memory (no_memory d is_d asked same) moved = absurd (moved same)
 
   due-moved : (status : ℕ) (text : List ℕ) → IsDue words shelf status text → shelf.faults_now ≢ shelf.faults_before → status ≡ 5
@@ -166,9 +203,13 @@ kept-by-nothing None b h = tt
 kept-by-nothing (Some xs) None h = absurd h
 kept-by-nothing (Some xs) (Some ys) h = h ∙ append-nil xs
 
+-- A command isn't a desk whose script has too many sections.
+abbrev HasFew : (List ℕ → Option (List ℕ)) → Command → Type 0
+HasFew told c = (name : List ℕ) (keep_going : Bool) (s : Script) → c ≡ desk name keep_going → ReadsAs told name (λ text. IsScriptText text s) → most_sections < length s.sections → ⊥
+
 -- Where a command's files are all told and of their forms, and nothing failed outside, its output was written, or memory was wanting.
 module _ (words : List (List ℕ)) (shelf : Shelved) (quiet : Rose shelf.faults_before shelf.faults_now → ⊥) (c : Command) (is_c : IsCommand words c) (sets : List SetDecl) (given : AreGiven shelf.told sets (inputs c)) where
-  file-given : (fault : FileFault) → StopsAt shelf c fault → fault ≡ files.Memory
+  pub file-given : (fault : FileFault) → StopsAt shelf c fault → fault ≡ files.Memory
   file-given (files.Bad flaw) s = absurd (given-refuses shelf.told c s.earlier s.input s.later s.sets sets flaw s.in_order s.read_before.are_of s.cause.2 s.cause.3 (given-front shelf.told sets s.earlier (s.input ∷ s.later) here) (given-one shelf.told sets s.earlier s.input s.later here)) where
     here : AreGiven shelf.told sets (s.earlier ++ s.input ∷ s.later)
     here = subst (λ (z : List Input). AreGiven shelf.told sets z) s.in_order given
@@ -184,25 +225,27 @@ module _ (words : List (List ℕ)) (shelf : Shelved) (quiet : Rose shelf.faults_
     big = s.cause.3 has.text has.is_told
   file-given files.Memory s = refl
 
-  cause-given : (fault : Fault) → IsCause words shelf fault → (status_of fault ≡ 7) × (line_of fault ≡ [])
-  cause-given Usage (no_command none nothing same) = absurd (none.no_work c is_c)
-  cause-given (File f) (of_file d g is_d s) =
-      let e = file-given f (subst (λ (x : Command). StopsAt shelf x f) (one-command words d c is_d is_c) s) in
-      (ap file_status e, ap file_line e)
-  cause-given Memory (no_memory d is_d asked same) = (refl, refl)
+  module _ (few : HasFew shelf.told c) where
+    cause-given : (fault : Fault) → IsCause words shelf fault → (status_of fault ≡ 7) × (line_of fault ≡ [])
+    cause-given Usage (no_command none nothing same) = absurd (none.no_work c is_c)
+    cause-given (File f) (of_file d g is_d s) =
+        let e = file-given f (subst (λ (x : Command). StopsAt shelf x f) (one-command words d c is_d is_c) s) in
+        (ap file_status e, ap file_line e)
+    cause-given (TooManyClerks name) (too_many n h) = absurd (few name.now h.keep_going h.script (one-command words c (desk name.now h.keep_going) is_c h.is_desk) h.reads h.many)
+    cause-given Memory (no_memory d is_d asked same) = (refl, refl)
 
-  module _ (taken_before taken_now : Option (List ℕ)) where
-    due-given : (status : ℕ) (text : List ℕ) → IsDue words shelf status text → Appends taken_before taken_now text → Wrote words shelf taken_before taken_now status ⊎ ((status ≡ 7) × Keeps taken_before taken_now)
-    due-given status text (output refused t has) appends = inl (record { refused = refused; text = t; status = refl; has = has; appends = appends })
-    due-given status text (page p asks nothing same) appends = absurd (page-no-command words p c asks is_c)
-    due-given status text (refusal fault cause) appends =
-        let g = cause-given fault cause in
-        inr (g.0, kept-by-nothing taken_before taken_now (subst (λ (t : List ℕ). Appends taken_before taken_now t) g.1 appends))
+    module _ (taken_before taken_now : Option (List ℕ)) where
+      due-given : (status : ℕ) (text : List ℕ) → IsDue words shelf status text → Appends taken_before taken_now text → Wrote words shelf taken_before taken_now status ⊎ ((status ≡ 7) × Keeps taken_before taken_now)
+      due-given status text (output refused t has) appends = inl (record { refused = refused; text = t; status = refl; has = has; appends = appends })
+      due-given status text (page p asks nothing same) appends = absurd (page-no-command words p c asks is_c)
+      due-given status text (refusal fault cause) appends =
+          let g = cause-given fault cause in
+          inr (g.0, kept-by-nothing taken_before taken_now (subst (λ (t : List ℕ). Appends taken_before taken_now t) g.1 appends))
 
-    pub given-done : (b n result : ℕ) → Ends (IsDue words shelf) taken_before taken_now b n result → (Rose b n → ⊥) → Wrote words shelf taken_before taken_now result ⊎ ((result ≡ 7) × Keeps taken_before taken_now)
-    given-done b n result (written status text due appends same) sink = due-given status text due appends
-    given-done b n result (cut status text due front rose) sink = absurd (sink rose)
-    given-done b n result (memory due keeps same) sink = inr (refl, keeps)
+      pub given-done : (b n result : ℕ) → Ends (IsDue words shelf) taken_before taken_now b n result → (Rose b n → ⊥) → Wrote words shelf taken_before taken_now result ⊎ ((result ≡ 7) × Keeps taken_before taken_now)
+      given-done b n result (written status text due appends same) sink = due-given status text due appends
+      given-done b n result (cut status text due front rose) sink = absurd (sink rose)
+      given-done b n result (memory due keeps same) sink = inr (refl, keeps)
 
 -- The files of a command with a script alone, and of a run, are told and of their forms.
 pub given-script : (told : List ℕ → Option (List ℕ)) (name : List ℕ) (s : Script) → HasScript told name s → Has told name (IsOf forms.script s.schema)
@@ -234,8 +277,8 @@ given-capture told p f s packets h = record { text = h.capture.text; is_told = h
 
 module _ (c : Call) (ends : TheEnd c) (quiet : IsQuiet c) where
   -- a command whose files are given
-  pub ended : (d : Command) (sets : List SetDecl) → IsCommand c.words d → AreGiven c.shelf.told sets (inputs d) → HasWritten c ⊎ RanOut c
-  ended d sets is_d given = given-done c.words c.shelf quiet.shelf d is_d sets given c.taken_before c.taken_now c.faults_before c.faults_now c.status ends quiet.sink
+  pub ended : (d : Command) (sets : List SetDecl) → IsCommand c.words d → AreGiven c.shelf.told sets (inputs d) → HasFew c.shelf.told d → HasWritten c ⊎ RanOut c
+  ended d sets is_d given few = given-done c.words c.shelf quiet.shelf d is_d sets given few c.taken_before c.taken_now c.faults_before c.faults_now c.status ends quiet.sink
 
   -- the transcript of the script and the key file that the texts stand for
   same-files : (n : ℕ) (mode : Mode) (script keys_name : List ℕ) (s : Script) (packets : List (List Packet)) (hs : HasScript c.shelf.told script s) (hk : HasKeys c.shelf.told keys_name s packets) (w : HasWritten c)
@@ -282,6 +325,19 @@ module _ (c : Call) (ends : TheEnd c) (quiet : IsQuiet c) where
       let one : t.script ≡ s = script_single hs.text t.script s t.script_is hs.holds in
       record { written = subst (λ (o : List ℕ). Appends c.taken_before c.taken_now o) (t.text_is ∙ ap (text mode) one) w.appends; status = w.status ∙ ap done_status (t.refusal ∙ ap (has_refusal mode) one) }
 
+  -- the text of a desk
+  same-desk : (script : List ℕ) (g : Bool) (s : Script) (hs : HasScript c.shelf.told script s) (w : HasWritten c) → IsWovenOf hs.text g w.refused w.text → DeliversDesk s g c
+  same-desk script g s hs w t =
+      let one : t.script ≡ s = script_single hs.text t.script s t.script_is hs.holds in
+      record { refused = w.refused; text = w.text; is_desk = subst (λ (x : Script). IsDeskText x g w.refused w.text) one t.is_desk; written = w.appends; status = w.status }
+
+  few-sections : (script : List ℕ) (g : Bool) (s : Script) (hs : HasScript c.shelf.told script s) → length s.sections ≤ most_sections → HasFew c.shelf.told (desk script g)
+  few-sections script g s hs few name k t e reads many =
+      let here : script ≡ name = cc e in
+      let is_t : IsScriptText hs.text t = (reads hs.text (subst (λ (n : List ℕ). c.shelf.told n ≡ Some hs.text) here hs.is_told)).1 in
+      let size = ap (λ (x : Script). length x.sections) (script_single hs.text t s is_t hs.holds) in
+      omega (arith, size, few, many)
+
   or-ran-out : (P : Type 0) → (HasWritten c → P) → HasWritten c ⊎ RanOut c → P ⊎ RanOut c
   or-ran-out P f (inl w) = inl (f w)
   or-ran-out P f (inr r) = inr r
@@ -292,23 +348,27 @@ module _ (c : Call) (ends : TheEnd c) (quiet : IsQuiet c) where
     run = λ script keys n g s packets is_run hs hk.
         or-ran-out (DeliversRun n (mode_of g) s packets c)
         (λ w. same-files n (mode_of g) script keys s packets hs hk w (does c.words c.shelf (run script keys n g) w.refused w.text is_run w.has hs.text hk.text hs.is_told hk.is_told))
-        (ended (run script keys n g) s.schema is_run (given-script c.shelf.told script s hs, (given-keys c.shelf.told keys s packets hk, tt)));
+        (ended (run script keys n g) s.schema is_run (given-script c.shelf.told script s hs, (given-keys c.shelf.told keys s packets hk, tt)) (λ name k t e. absurd (cc e)));
     judge = λ script rules keys n g s r packets is_judge hs hr hk.
         or-ran-out (DeliversJudgement n (mode_of g) s r packets c)
         (λ w. same-judgement n (mode_of g) script rules keys s r packets hs hr hk w (does c.words c.shelf (judge script rules keys n g) w.refused w.text is_judge w.has hs.text hr.text hk.text hs.is_told hr.is_told hk.is_told))
-        (ended (judge script rules keys n g) s.schema is_judge (given-script c.shelf.told script s hs, (given-rules c.shelf.told rules s r hr, (given-keys c.shelf.told keys s packets hk, tt))));
+        (ended (judge script rules keys n g) s.schema is_judge (given-script c.shelf.told script s hs, (given-rules c.shelf.told rules s r hr, (given-keys c.shelf.told keys s packets hk, tt))) (λ name k t e. absurd (cc e)));
     capture = λ script plan packets n g s taken is_capture hs hc.
         or-ran-out (DeliversRun n (mode_of g) s (taken ∷ []) c)
         (λ w. same-capture n (mode_of g) script plan packets s taken hs hc w (does c.words c.shelf (capture script plan packets n g) w.refused w.text is_capture w.has hs.text hc.plan.text hc.capture.text hs.is_told hc.plan.is_told hc.capture.is_told))
-        (ended (capture script plan packets n g) s.schema is_capture (given-script c.shelf.told script s hs, (given-plan c.shelf.told plan packets s taken hc, (given-capture c.shelf.told plan packets s taken hc, tt))));
+        (ended (capture script plan packets n g) s.schema is_capture (given-script c.shelf.told script s hs, (given-plan c.shelf.told plan packets s taken hc, (given-capture c.shelf.told plan packets s taken hc, tt))) (λ name k t e. absurd (cc e)));
     list = λ script g s is_list hs.
         or-ran-out (DeliversText (mode_of g) s (listing_text (mode_of g) s) c)
         (λ w. same-script listing_text (mode_of g) script s hs w (does c.words c.shelf (list script g) w.refused w.text is_list w.has hs.text hs.is_told))
-        (ended (list script g) s.schema is_list (given-script c.shelf.told script s hs, tt));
+        (ended (list script g) s.schema is_list (given-script c.shelf.told script s hs, tt) (λ name k t e. absurd (cc e)));
     dump = λ script g s is_dump hs.
         or-ran-out (DeliversText (mode_of g) s (tables_text (mode_of g) s) c)
         (λ w. same-script tables_text (mode_of g) script s hs w (does c.words c.shelf (dump script g) w.refused w.text is_dump w.has hs.text hs.is_told))
-        (ended (dump script g) s.schema is_dump (given-script c.shelf.told script s hs, tt));
-    drill = λ seed count threads is_drill. or-ran-out _ (drilled c seed count threads is_drill) (ended (drill seed count threads) [] is_drill tt);
+        (ended (dump script g) s.schema is_dump (given-script c.shelf.told script s hs, tt) (λ name k t e. absurd (cc e)));
+    desk = λ script g s is_desk hs few.
+        or-ran-out (DeliversDesk s g c)
+        (λ w. same-desk script g s hs w (does c.words c.shelf (desk script g) w.refused w.text is_desk w.has hs.text hs.is_told))
+        (ended (desk script g) s.schema is_desk (given-script c.shelf.told script s hs, tt) (few-sections script g s hs few));
+    drill = λ seed count threads is_drill. or-ran-out _ (drilled c seed count threads is_drill) (ended (drill seed count threads) [] is_drill tt (λ name k t e. absurd (cc e)));
     page = page-told c ends quiet.sink;
   }

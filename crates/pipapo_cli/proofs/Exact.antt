@@ -1,13 +1,13 @@
 -- Each status comes exactly where its cause is there.
 use Rattle.std.specs.Borrow.{Bor}
-use Rattle.std.proofs.Common.{ap, sym, ◌≡◌, ◌≤◌, ◌<◌, ◌∙◌, refl, subst, ℕ, List, [], ◌∷◌, ◌++◌, length, Option, Some, inl, inr, arith}
+use Rattle.std.proofs.Common.{Bool, false, ap, sym, ◌≡◌, ◌≤◌, ◌<◌, ◌∙◌, refl, subst, ℕ, List, [], ◌∷◌, ◌++◌, length, Option, Some, inl, inr, arith}
 use Rattle.std.specs.Prelude.{◌⊎◌}
 use Rattle.pip_base.specs.Causes.{Rose}
 use Rattle.set_model.specs.declared.script.Script.{Script}
 use Rattle.set_model.specs.declared.script.SetDecl.{SetDecl}
 use Rattle.set_model.specs.declared.packet.Packet.{Packet}
 use Rattle.set_model.specs.Control.{Mode, mode_of, has_refusal}
-use Rattle.command_words.specs.Words.{Command, IsCommand, IsNoCommand}
+use Rattle.command_words.specs.Words.{Command, IsCommand, IsNoCommand, desk}
 use Rattle.command_words.proofs.CommandWords.{one-command}
 use Rattle.command_words.proofs.PageWords.{page-no-command}
 use Rattle.input_files.specs.declared.fault.Flaw.{Flaw}
@@ -18,18 +18,20 @@ use Rattle.input_files.specs.Reads.{Shelved, AreOf, HasRead, StopsAt}
 use Rattle.input_files.specs.Given.{AreGiven}
 use Rattle.input_files.proofs.Turns.{Turns, before, behind, same, two-turns, of-one, of-front, given-one, given-front, given-as-read, given-refuses}
 use Rattle.rule_chain.specs.Chains.{Rules}
+use Rattle.set_script.proofs.ScriptWhole.{script_single}
+use Rattle.pipapo_cli.specs.Transcript.{IsOutput, most_sections}
 use Rattle.pip_base.specs.Whole.{size_limit}
 use Rattle.pipapo_cli.specs.declared.fault.Fault.{Fault}
-use Rattle.pipapo_cli.specs.declared.fault.Fault.TheVariants.{Usage, File, Memory}
+use Rattle.pipapo_cli.specs.declared.fault.Fault.TheVariants.{Usage, File, TooManyClerks, Memory}
 use Rattle.pipapo_cli.specs.Calls.{Call, IsQuiet}
-use Rattle.pipapo_cli.specs.Causes.{IsCause, no_command, of_file, no_memory}
+use Rattle.pipapo_cli.specs.Causes.{IsCause, no_command, of_file, too_many, no_memory}
 use Rattle.pipapo_cli.specs.Lines.{done_status, form_status, file_status, status_of}
 use Rattle.pipapo_cli.specs.Answers.{Ends, written, cut, memory, IsDue, output, page, refusal, Delivers}
-use Rattle.pipapo_cli.specs.Exactly.{HasTurn, IsExact, IsStatus, Completes, DeliversText, DeliversRun, DeliversJudgement, RanOut}
+use Rattle.pipapo_cli.specs.Exactly.{HasTurn, IsExact, IsStatus, Completes, DeliversText, DeliversRun, DeliversJudgement, DeliversDesk, HasScript, RanOut}
 use Rattle.pipapo_cli.specs.Promises.{Promises, Goes}
 use Rattle.pipapo_cli.proofs.Noting.{no-note}
-use Rattle.pipapo_cli.proofs.Endings.{TheEnd, page-told, transcribes, judges, captures, lists, dumps, drills, tells-page}
-use Rattle.pipapo_cli.proofs.Completed.{completes, tells-read-fault, tells-flaw, shelf-moved, sink-moved}
+use Rattle.pipapo_cli.proofs.Endings.{TheEnd, does, page-told, transcribes, judges, captures, lists, dumps, weaves, drills, tells-page}
+use Rattle.pipapo_cli.proofs.Completed.{completes, file-given, given-script, tells-read-fault, tells-flaw, tells-too-many, shelf-moved, sink-moved}
 
 -- A file that came to its turn, and is told.
 module _ (shelf : Shelved) (quiet : Rose shelf.faults_before shelf.faults_now → ⊥) (c : Command) (earlier later : List Input) (i : Input) (sets : List SetDecl) (text : List ℕ)
@@ -102,6 +104,7 @@ module _ (words : List (List ℕ)) (shelf : Shelved) (c : Command) (is_c : IsCom
   cause-status : (fault : Fault) → IsCause words shelf fault → (status_of fault ≡ status) ⊎ (status_of fault ≡ 7)
   cause-status Usage (no_command none nothing quiet) = absurd (none.no_work c is_c)
   cause-status (File f) (of_file d g is_d s) = of_stop f (subst (λ (x : Command). StopsAt shelf x f) (one-command words d c is_d is_c) s)
+  cause-status (TooManyClerks name) (too_many n h) = absurd (no_read (subst (λ (x : Command). HasRead shelf x) (one-command words (desk name.now h.keep_going) c h.is_desk is_c) h.has_read))
   cause-status Memory (no_memory d is_d asked quiet) = inr refl
 
   due-status : (result : ℕ) (text : List ℕ) → IsDue words shelf result text → (result ≡ status) ⊎ (result ≡ 7)
@@ -114,11 +117,38 @@ module _ (words : List (List ℕ)) (shelf : Shelved) (c : Command) (is_c : IsCom
   ends-status taken_before taken_now b n result (cut r text due front rose) sink = absurd (sink rose)
   ends-status taken_before taken_now b n result (memory due keeps quiet) sink = inr refl
 
+-- Words of a desk whose script has too many sections have the line of that.
+module _ (words : List (List ℕ)) (shelf : Shelved) (quiet : Rose shelf.faults_before shelf.faults_now → ⊥) (script : List ℕ) (keep_going : Bool) (s : Script) (is_desk : IsCommand words (desk script keep_going)) (hs : HasScript shelf.told script s) (many : most_sections < length s.sections) where
+  cause-many : (fault : Fault) → IsCause words shelf fault → (status_of fault ≡ 12) ⊎ (status_of fault ≡ 7)
+  cause-many Usage (no_command none nothing still) = absurd (none.no_work (desk script keep_going) is_desk)
+  cause-many (File f) (of_file d g is_d stops) =
+      inr (ap file_status (file-given words shelf quiet (desk script keep_going) is_desk s.schema (given-script shelf.told script s hs, tt) f (subst (λ (x : Command). StopsAt shelf x f) (one-command words d (desk script keep_going) is_d is_desk) stops)))
+  cause-many (TooManyClerks name) (too_many n h) = inl refl
+  cause-many Memory (no_memory d is_d asked still) = inr refl
+
+  not-woven : (refused : Bool) (text : List ℕ) → IsOutput (desk script keep_going) shelf.told refused text → ⊥
+  not-woven refused text is_output =
+      let w = is_output hs.text hs.is_told in
+      let few = w.few in
+      let size = ap (λ (x : Script). length x.sections) (script_single hs.text w.script s w.script_is hs.holds) in
+      omega (arith, size, few, many)
+
+  due-many : (result : ℕ) (text : List ℕ) → IsDue words shelf result text → (result ≡ 12) ⊎ (result ≡ 7)
+  due-many result text (output refused t has) = absurd (not-woven refused t (does words shelf (desk script keep_going) refused t is_desk has))
+  due-many result text (page p asks nothing still) = absurd (page-no-command words p (desk script keep_going) asks is_desk)
+  due-many result text (refusal fault cause) = cause-many fault cause
+
+  ends-many : (taken_before taken_now : Option (List ℕ)) (b n result : ℕ) → Ends (IsDue words shelf) taken_before taken_now b n result → (Rose b n → ⊥) → (result ≡ 12) ⊎ (result ≡ 7)
+  ends-many taken_before taken_now b n result (written r text due appends still) sink = due-many r text due
+  ends-many taken_before taken_now b n result (cut r text due front rose) sink = absurd (sink rose)
+  ends-many taken_before taken_now b n result (memory due keeps still) sink = inr refl
+
 -- Words that are no command have the usage line.
 module _ (words : List (List ℕ)) (shelf : Shelved) (none : IsNoCommand words) where
   cause-usage : (fault : Fault) → IsCause words shelf fault → status_of fault ≡ 2
   cause-usage Usage (no_command other nothing quiet) = refl
   cause-usage (File f) (of_file d g is_d s) = absurd (none.no_work d is_d)
+  cause-usage (TooManyClerks name) (too_many n h) = absurd (none.no_work (desk name.now h.keep_going) h.is_desk)
   cause-usage Memory (no_memory d is_d asked quiet) = absurd (none.no_work d is_d)
 
   due-usage : (result : ℕ) (text : List ℕ) → IsDue words shelf result text → result ≡ 2
@@ -147,6 +177,10 @@ module _ (c : Call) (ends : TheEnd c) (quiet : IsQuiet c) where
   of-judgement n mode s r packets (inl d) = inl d.delivers.status
   of-judgement n mode s r packets (inr o) = inr o.0
 
+  of-desk : (s : Script) (g : Bool) → DeliversDesk s g c ⊎ RanOut c → (refused : Bool) × IsStatus (done_status refused) c
+  of-desk s g (inl d) = (d.refused, inl d.status)
+  of-desk s g (inr r) = (false, inr r.0)
+
   of-drill : (text : List ℕ) → Delivers text c ⊎ RanOut c → IsStatus 0 c
   of-drill text (inl d) = inl d.status
   of-drill text (inr r) = inr r.0
@@ -168,6 +202,8 @@ module _ (c : Call) (ends : TheEnd c) (quiet : IsQuiet c) where
     done_capture = λ script plan packets n g s taken is_capture hs hc. of-run n (mode_of g) s (taken ∷ []) (done.capture script plan packets n g s taken is_capture hs hc);
     done_list = λ script g s is_list hs. of-text (mode_of g) s _ (done.list script g s is_list hs);
     done_dump = λ script g s is_dump hs. of-text (mode_of g) s _ (done.dump script g s is_dump hs);
+    too_many = λ script g s is_desk hs many. ends-many c.words c.shelf quiet.shelf script g s is_desk hs many c.taken_before c.taken_now c.faults_before c.faults_now c.status ends quiet.sink;
+    done_desk = λ script g s is_desk hs few. of-desk s g (done.desk script g s is_desk hs few);
     done_drill = λ seed count n is_drill. of-drill _ (done.drill seed count n is_drill);
     done_page = λ p asks. (page-told c ends quiet.sink p asks).status;
   }
@@ -183,11 +219,13 @@ promises c g = record {
   capture = λ e. captures c g.ends e;
   list = λ e. lists c g.ends e;
   dump = λ e. dumps c g.ends e;
+  desk = λ e. weaves c g.ends e;
   drill = λ e. drills c g.ends e;
   page = λ e. tells-page c g.ends e;
   names = g.names;
   all_read = g.all_read;
   bad = λ form e. tells-flaw c g.ends form e;
+  too_many = λ e. tells-too-many c g.ends e;
   read_fault = λ e. tells-read-fault c g.ends e;
   shelf_count = λ moved. shelf-moved c.words c.shelf c.taken_before c.taken_now c.faults_before c.faults_now c.status g.ends moved;
   sink_count = λ moved. sink-moved c.words c.shelf c.taken_before c.taken_now c.faults_before c.faults_now c.status g.ends moved;

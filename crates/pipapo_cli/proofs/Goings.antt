@@ -1,18 +1,25 @@
 -- A call goes by what its command comes to: an output, a fault or a page.
-use Rattle.std.proofs.Common.{◌≡◌, ℕ, Bool, true, List, [], Option, inr, inl}
+use Rattle.std.specs.Borrow.{Bor}
+use Rattle.std.proofs.Common.{◌≡◌, subst, ℕ, Bool, true, List, [], Option, inr, inl}
 use Rattle.command_words.specs.declared.page.Page.{Page}
 use Rattle.command_words.specs.WordForms.{page_text}
-use Rattle.command_words.specs.Words.{Command, IsCommand, IsNoCommand, AsksFor}
+use Rattle.command_words.specs.Words.{Command, IsCommand, IsNoCommand, AsksFor, desk}
 use Rattle.command_words.proofs.PageWords.{page-no-command}
+use Rattle.fault_notes.specs.Shown.{Begins, name_text}
 use Rattle.fault_notes.specs.Told.{MayTell, nothing as no_note}
 use Rattle.input_files.specs.declared.fault.FileFault.{FileFault}
 use Rattle.input_files.specs.Noted.{StopsTelling}
-use Rattle.input_files.specs.Reads.{HasRead}
+use Rattle.input_files.specs.Reads.{Shelved, HasRead, StopsAt}
+use Rattle.input_files.specs.declared.work.Work.{Work}
+use Rattle.input_files.specs.declared.work.Work.TheVariants as works
+use Rattle.input_files.specs.Inputs.{ReadsAs}
+use Rattle.input_files.specs.Works.{IsWork}
+use Rattle.set_script.specs.ScriptText.{IsScriptText}
 use Rattle.pipapo_cli.specs.declared.fault.Fault.{Fault}
 use Rattle.pipapo_cli.specs.declared.fault.Fault.TheVariants as faults
-use Rattle.pipapo_cli.specs.Transcript.{IsOutput}
+use Rattle.pipapo_cli.specs.Transcript.{IsOutput, IsOverfull}
 use Rattle.pipapo_cli.specs.Calls.{Call}
-use Rattle.pipapo_cli.specs.Causes.{IsCause, no_command, of_file, no_memory}
+use Rattle.pipapo_cli.specs.Causes.{IsCause, HasManySections, no_command, of_file, too_many, no_memory}
 use Rattle.pipapo_cli.specs.Lines.{done_status, status_of, line_of}
 use Rattle.pipapo_cli.specs.Names.{AsksInOrder}
 use Rattle.pipapo_cli.specs.Answers.{Ends, IsDue, IsExactly, HasOutput}
@@ -21,7 +28,20 @@ use Rattle.pipapo_cli.specs.Promises.{Goes}
 use Rattle.pipapo_cli.proofs.Asking.{asks-nothing, asks-files, asks-until, asks-all}
 use Rattle.pipapo_cli.proofs.Deliveries.{ends-map}
 use Rattle.pipapo_cli.proofs.Endings.{due-of-output, due-refusal, due-of-page, fault-not-done}
-use Rattle.pipapo_cli.proofs.Noting.{ended-of, file-noted, changes-noted}
+use Rattle.pipapo_cli.proofs.Noting.{ended-of, file-noted, sections-noted, changes-noted}
+
+-- A desk's script that was read has too many sections.
+pub many-sections : (words : List (List ℕ)) (shelf : Shelved) (c : Command) (work : Work) (name : Bor (List ℕ)) → IsCommand words c → HasRead shelf c → IsWork shelf.told c work → IsOverfull c work name → HasManySections words shelf name.now
+many-sections words shelf c work name is_c has_read is_work over =
+    let of_desk : IsWork shelf.told c (works.Desk over.script over.keep_going) = subst (λ (w : Work). IsWork shelf.told c w) over.is_work is_work in
+    let same : of_desk.0 ≡ name.now = cc (of_desk.1, over.is_name) in record {
+      keep_going = over.keep_going;
+      script = over.script;
+      is_desk = subst (λ (d : Command). IsCommand words d) over.is_name is_c;
+      has_read = subst (λ (d : Command). HasRead shelf d) over.is_name has_read;
+      reads = subst (λ (n : List ℕ). ReadsAs shelf.told n (λ text. IsScriptText text over.script)) same of_desk.2;
+      many = over.many;
+    }
 
 module _ (c : Call) where
   abbrev EndsWith : ℕ → List ℕ → Type 0
@@ -58,6 +78,12 @@ module _ (c : Call) where
   goes-file d fault is_d s ends =
       goes-fault (faults.File fault) (of_file d fault is_d s.stops) (asks-until c.words c.shelf d fault is_d s.stops) ends
       (file-noted c d fault is_d s (ended-of (status_of (faults.File fault)) (line_of (faults.File fault)) c.taken_before c.taken_now c.faults_before c.faults_now c.status ends))
+
+  -- a desk's script has too many sections
+  pub goes-too-many : (name : Bor (List ℕ)) → HasManySections c.words c.shelf name.now → (mid : Option (List ℕ)) → mid ≡ c.noted_before → MayTell (Begins (name_text name.now)) mid c.noted_now → EndsWith (status_of (faults.TooManyClerks name)) (line_of (faults.TooManyClerks name)) → Goes c
+  goes-too-many name h mid silent tells ends =
+      goes-fault (faults.TooManyClerks name) (too_many name h) (asks-files c.words c.shelf (desk name.now h.keep_going) h.is_desk h.has_read) ends
+      (sections-noted c name.now h (ended-of (status_of (faults.TooManyClerks name)) (line_of (faults.TooManyClerks name)) c.taken_before c.taken_now c.faults_before c.faults_now c.status ends) mid silent tells)
 
   -- memory was wanting for the words, or for the output
   pub goes-early : (d : Command) → IsCommand c.words d → c.shelf.asked ≡ [] → c.shelf.faults_now ≡ c.shelf.faults_before → Silent → EndsWith (status_of faults.Memory) (line_of faults.Memory) → Goes c

@@ -7,16 +7,16 @@ use Rattle.set_model.specs.Control.{mode_of}
 use Rattle.script_run.specs.Drill.{drill_text}
 use Rattle.command_words.specs.declared.page.Page.{Page}
 use Rattle.command_words.specs.WordForms.{page_text}
-use Rattle.command_words.specs.Words.{Command, IsCommand, AsksFor, IsRun, IsList, IsDump, IsDrill, IsJudge, IsCapture}
+use Rattle.command_words.specs.Words.{Command, IsCommand, AsksFor, IsRun, IsList, IsDump, IsDrill, IsJudge, IsCapture, IsDesk}
 use Rattle.input_files.specs.declared.fault.Flaw.{Flaw}
 use Rattle.input_files.specs.declared.fault.FileFault.TheVariants.{Bad}
 use Rattle.input_files.specs.Inputs.{Form, form_of}
 use Rattle.input_files.specs.Reads.{Shelved, HasRead, StopsAt}
 use Rattle.pipapo_cli.specs.declared.fault.Fault.{Fault}
-use Rattle.pipapo_cli.specs.Transcript.{IsOutput, IsTranscript, IsJudgement, IsCaptured, IsListing, IsTables}
+use Rattle.pipapo_cli.specs.Transcript.{IsOutput, IsTranscript, IsJudgement, IsCaptured, IsListing, IsTables, IsWovenOf}
 use Rattle.pipapo_cli.specs.Calls.{Call}
-use Rattle.pipapo_cli.specs.Causes.{IsCause}
-use Rattle.pipapo_cli.specs.Lines.{done_status, status_of, line_of, flaw_line, read_fault_line}
+use Rattle.pipapo_cli.specs.Causes.{IsCause, HasManySections}
+use Rattle.pipapo_cli.specs.Lines.{done_status, status_of, line_of, flaw_line, read_fault_line, too_many_line}
 
 -- The command of the words has this output: all its files were asked for and read, no fault was counted, and this is what the
 -- command does.
@@ -85,6 +85,11 @@ Lists c = (script script_text : List ℕ) (keep_going : Bool) → IsList c.words
 abbrev pub Dumps : Call → Type 0
 Dumps c = (script script_text : List ℕ) (keep_going : Bool) → IsDump c.words script keep_going → c.shelf.told script ≡ Some script_text → Writes (IsTables script_text (mode_of keep_going)) c
 
+-- The same of a desk: what the sink took in this call is what the script's first section told, what each transaction of the other
+-- sections' control threads told, in the order in which they were done, and the last generation of these.
+abbrev pub Weaves : Call → Type 0
+Weaves c = (script script_text : List ℕ) (keep_going : Bool) → IsDesk c.words script keep_going → c.shelf.told script ≡ Some script_text → Writes (IsWovenOf script_text keep_going) c
+
 -- A text was written whole, and the status is 0.
 pub record Delivers (text : List ℕ) (c : Call) : Type 0 where
   pub written : Appends c.taken_before c.taken_now text
@@ -114,3 +119,9 @@ pub record TellsFlaw (form : Form) (c : Call) : Type 0 where
   pub stops : StopsAt c.shelf command (Bad flaw)
   pub of_form : form_of flaw ≡ form
   pub written : Appends c.taken_before c.taken_now (flaw_line flaw)
+
+-- That a desk's script has too many sections was told by its name.
+pub record TellsTooMany (c : Call) : Type 0 where
+  pub name : List ℕ
+  pub has_many : HasManySections c.words c.shelf name
+  pub written : Appends c.taken_before c.taken_now (too_many_line name)

@@ -20,12 +20,13 @@ use Rattle.pcap_keys.specs.Planned.{packets as planned_packets}
 use Rattle.pcap_keys.specs.PlansText.{IsPlanText}
 use Rattle.script_run.specs.Listings.{listing_text, tables_text}
 use Rattle.script_run.specs.Drill.{drill_text}
+use Rattle.desk_run.specs.DeskText.{IsDeskText}
 use Rattle.pip_base.specs.Whole.{size_limit}
 use Rattle.command_words.specs.declared.page.Page.{Page}
-use Rattle.command_words.specs.Words.{Command, IsCommand, AsksFor, IsNoCommand, IsRun, IsList, IsDump, IsDrill, IsJudge, IsCapture}
+use Rattle.command_words.specs.Words.{Command, IsCommand, AsksFor, IsNoCommand, IsRun, IsList, IsDump, IsDrill, IsJudge, IsCapture, IsDesk}
 use Rattle.input_files.specs.Inputs.{Input, inputs, IsOf}
 use Rattle.input_files.specs.Given.{Has, AreGiven}
-use Rattle.pipapo_cli.specs.Transcript.{AreRulesOf}
+use Rattle.pipapo_cli.specs.Transcript.{AreRulesOf, most_sections}
 use Rattle.pipapo_cli.specs.Calls.{Call}
 use Rattle.pipapo_cli.specs.Lines.{done_status, form_status}
 use Rattle.pipapo_cli.specs.Answers.{Delivers, TellsPage}
@@ -78,6 +79,8 @@ pub record IsExact (c : Call) : Type 0 where
       → HasCaptured c.shelf.told plan packets s taken → IsStatus (done_status (has_refusal (mode_of keep_going) s)) c
   pub done_list : (script : List ℕ) (keep_going : Bool) (s : Script) → IsList c.words script keep_going → HasScript c.shelf.told script s → IsStatus (done_status (has_refusal (mode_of keep_going) s)) c
   pub done_dump : (script : List ℕ) (keep_going : Bool) (s : Script) → IsDump c.words script keep_going → HasScript c.shelf.told script s → IsStatus (done_status (has_refusal (mode_of keep_going) s)) c
+  pub too_many : (script : List ℕ) (keep_going : Bool) (s : Script) → IsDesk c.words script keep_going → HasScript c.shelf.told script s → most_sections < length s.sections → IsStatus 12 c
+  pub done_desk : (script : List ℕ) (keep_going : Bool) (s : Script) → IsDesk c.words script keep_going → HasScript c.shelf.told script s → length s.sections ≤ most_sections → (refused : Bool) × IsStatus (done_status refused) c
   pub done_drill : (seed count threads : ℕ) → IsDrill c.words seed count threads → IsStatus 0 c
   pub done_page : (p : Page) → AsksFor c.words p → c.status ≡ 0
 
@@ -102,6 +105,14 @@ pub record DeliversJudgement (threads : ℕ) (mode : Mode) (s : Script) (rules :
   pub legal : AreLegal (IsJudged rules) s keys threads mode lines
   pub delivers : DeliversText mode s (run_text (judged_text rules) mode s keys lines) c
 
+-- The text of a desk was written; the status is 1 where it tells a refusal, and else 0.
+pub record DeliversDesk (s : Script) (keep_going : Bool) (c : Call) : Type 0 where
+  pub refused : Bool
+  pub text : List ℕ
+  pub is_desk : IsDeskText s keep_going refused text
+  pub written : Appends c.taken_before c.taken_now text
+  pub status : c.status ≡ done_status refused
+
 -- Where the words are a command, and its files are within their size and of their forms, the output of exactly these was written; or
 -- memory was wanting, and nothing was written. A drill has no files. A page is written in any case.
 pub record Completes (c : Call) : Type 0 where
@@ -113,5 +124,6 @@ pub record Completes (c : Call) : Type 0 where
       → HasCaptured c.shelf.told plan packets s taken → DeliversRun threads (mode_of keep_going) s (taken ∷ []) c ⊎ RanOut c
   pub list : (script : List ℕ) (keep_going : Bool) (s : Script) → IsList c.words script keep_going → HasScript c.shelf.told script s → DeliversText (mode_of keep_going) s (listing_text (mode_of keep_going) s) c ⊎ RanOut c
   pub dump : (script : List ℕ) (keep_going : Bool) (s : Script) → IsDump c.words script keep_going → HasScript c.shelf.told script s → DeliversText (mode_of keep_going) s (tables_text (mode_of keep_going) s) c ⊎ RanOut c
+  pub desk : (script : List ℕ) (keep_going : Bool) (s : Script) → IsDesk c.words script keep_going → HasScript c.shelf.told script s → length s.sections ≤ most_sections → DeliversDesk s keep_going c ⊎ RanOut c
   pub drill : (seed count threads : ℕ) → IsDrill c.words seed count threads → Delivers (drill_text seed count) c ⊎ RanOut c
   pub page : TellsPage c

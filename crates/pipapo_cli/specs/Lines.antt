@@ -10,7 +10,7 @@ use Rattle.input_files.specs.declared.fault.FileFault.{FileFault}
 use Rattle.input_files.specs.declared.fault.FileFault.TheVariants as files
 use Rattle.input_files.specs.Inputs.{Form, script, keys, rules, plan, capture, form_of}
 use Rattle.pipapo_cli.specs.declared.fault.Fault.{Fault}
-use Rattle.pipapo_cli.specs.declared.fault.Fault.TheVariants.{Usage, File, Memory}
+use Rattle.pipapo_cli.specs.declared.fault.Fault.TheVariants.{Usage, File, TooManyClerks, Memory}
 
 -- the status of an output: 1 where it tells a refusal, and else 0
 abbrev pub done_status : Bool → ℕ
@@ -36,10 +36,11 @@ file_status files.Memory = 7
 abbrev pub status_of : Fault → ℕ
 status_of Usage = 2
 status_of (File fault) = file_status fault
+status_of (TooManyClerks name) = 12
 status_of Memory = 7
 
 abbrev pub usage_line : List ℕ
-usage_line = codes "pipapo: usage: run SCRIPT KEYS [--threads N] [--keep-going] | list SCRIPT [--keep-going] | dump SCRIPT [--keep-going] | drill SEED COUNT [--threads N] | judge SCRIPT RULES KEYS [--threads N] [--keep-going] | capture SCRIPT PLAN PCAP [--threads N] [--keep-going]\n"
+usage_line = codes "pipapo: usage: run SCRIPT KEYS [--threads N] [--keep-going] | list SCRIPT [--keep-going] | dump SCRIPT [--keep-going] | drill SEED COUNT [--threads N] | judge SCRIPT RULES KEYS [--threads N] [--keep-going] | capture SCRIPT PLAN PCAP [--threads N] [--keep-going] | desk SCRIPT [--keep-going]\n"
 
 -- a line that ends with a name
 abbrev pub named_line : List ℕ → List ℕ → List ℕ
@@ -91,6 +92,10 @@ read_fault_line = named_line (codes "pipapo: read fault: ")
 abbrev pub too_large_line : List ℕ → List ℕ
 too_large_line = named_line (codes "pipapo: too large: ")
 
+-- the line of a script with more sections than a desk has control threads for
+abbrev pub too_many_line : List ℕ → List ℕ
+too_many_line = named_line (codes "pipapo: too many clerks: ")
+
 -- the line of a file that can't be had; want of memory has none
 abbrev pub file_line : FileFault → List ℕ
 file_line (files.Bad flaw) = flaw_line flaw
@@ -102,4 +107,5 @@ file_line files.Memory = []
 abbrev pub line_of : Fault → List ℕ
 line_of Usage = usage_line
 line_of (File fault) = file_line fault
+line_of (TooManyClerks name) = too_many_line name.now
 line_of Memory = []

@@ -1,11 +1,13 @@
 -- What a person is told beside a call's output.
 use Rattle.std.specs.Prelude.{◌≡◌, ◌⊎◌, ℕ, true, List}
 use Rattle.command_words.specs.Words.{Command, IsCommand}
+use Rattle.fault_notes.specs.Shown.{Begins, name_text}
 use Rattle.fault_notes.specs.Told.{MayTell}
 use Rattle.input_files.specs.declared.fault.FileFault.{FileFault}
 use Rattle.input_files.specs.Noted.{IsNoteOn}
 use Rattle.input_files.specs.Reads.{Shelved, StopsAt}
 use Rattle.pipapo_cli.specs.Calls.{Call}
+use Rattle.pipapo_cli.specs.Causes.{HasManySections}
 use Rattle.pipapo_cli.specs.Lines.{file_status}
 use Rattle.pipapo_cli.specs.Answers.{HasOutput}
 
@@ -14,9 +16,11 @@ abbrev pub Ended : ℕ → ℕ → Type 0
 Ended due status = (status ≡ due) ⊎ (status ≡ 6)
 
 -- The notes that are due: one that begins with the name of a file which can't be had, in its turn, and the place of what is wrong with
--- its text; or one on the changes that an output tells to be refused.
+-- its text; or one that begins with the name of a desk's script which has too many sections; or one on the changes that an output
+-- tells to be refused.
 pub data IsDueNote (words : List (List ℕ)) (shelf : Shelved) (status : ℕ) : List ℕ → Type 0 where
   on_file : (c : Command) (fault : FileFault) (stops : StopsAt shelf c fault) (text : List ℕ) → IsCommand words c → IsNoteOn shelf.told stops.sets stops.input.name fault text → Ended (file_status fault) status → IsDueNote words shelf status text
+  on_sections : (name text : List ℕ) → HasManySections words shelf name → Begins (name_text name) text → Ended 12 status → IsDueNote words shelf status text
   on_changes : (output text : List ℕ) → HasOutput words shelf true output → Ended 1 status → IsDueNote words shelf status text
 
 -- A person was told nothing in a call, or one note that is due.

@@ -5,7 +5,7 @@ use Rattle.input_files.specs.Inputs.{Form}
 use Rattle.pipapo_cli.specs.Calls.{Call, IsQuiet}
 use Rattle.pipapo_cli.specs.Lines.{form_status}
 use Rattle.pipapo_cli.specs.Names.{AsksInOrder, AsksForAll}
-use Rattle.pipapo_cli.specs.Answers.{Ends, IsDue, IsDone, Transcribes, Judges, Captures, Lists, Dumps, Drills, TellsPage, TellsReadFault, TellsFlaw}
+use Rattle.pipapo_cli.specs.Answers.{Ends, IsDue, IsDone, Transcribes, Judges, Captures, Lists, Dumps, Weaves, Drills, TellsPage, TellsReadFault, TellsFlaw, TellsTooMany}
 use Rattle.pipapo_cli.specs.Exactly.{IsExact, Completes}
 use Rattle.pipapo_cli.specs.Noted.{IsNoted}
 
@@ -31,6 +31,9 @@ pub record Promises (c : Call) : Type 0 where
   -- In the same way it took the listing of the last generation, and its tables.
   pub list : IsDone c.status → Lists c
   pub dump : IsDone c.status → Dumps c
+  -- Of a desk it took the text of a log that is woven of the script's sections and replays to the listed generation, with 1 exactly
+  -- where that text tells a refusal.
+  pub desk : IsDone c.status → Weaves c
   -- Of a drill it took the one line, and of words that ask for a page the page, and the status is 0.
   pub drill : IsDone c.status → Drills c
   pub page : IsDone c.status → TellsPage c
@@ -40,6 +43,8 @@ pub record Promises (c : Call) : Type 0 where
   pub all_read : IsDone c.status → AsksForAll c.words c.shelf
   -- With the status of a form the sink took the line of what is wrong with the file of this form.
   pub bad : (form : Form) → c.status ≡ form_status form → TellsFlaw form c
+  -- With status 12 it took the line of a desk's script that was read and has too many sections.
+  pub too_many : c.status ≡ 12 → TellsTooMany c
   -- With status 5 the shelf's count rose, at the file that the line names: the last one asked for.
   pub read_fault : c.status ≡ 5 → TellsReadFault c
   -- The shelf's count rose only with 5 or 6, and the sink's only with 6.

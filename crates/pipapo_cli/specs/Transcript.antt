@@ -1,5 +1,6 @@
 -- What a command writes: the transcript of a run, the listing of a script, the tables of a script, a drill's summary.
-use Rattle.std.specs.Prelude.{◌≡◌, ℕ, Bool, false, List, [], ◌∷◌, Option, Some}
+use Rattle.std.specs.Borrow.{Bor}
+use Rattle.std.specs.Prelude.{◌≡◌, ◌≤◌, ◌<◌, ℕ, Bool, false, List, [], ◌∷◌, Option, Some, length}
 use Rattle.set_model.specs.declared.script.Script.{Script}
 use Rattle.set_model.specs.declared.packet.Packet.{Packet}
 use Rattle.set_model.specs.declared.report.Line.{Line}
@@ -16,7 +17,8 @@ use Rattle.pcap_keys.specs.Planned.{packets as planned_packets}
 use Rattle.pcap_keys.specs.CapturedPackets.{AreCaptured}
 use Rattle.script_run.specs.Listings.{listing_text, tables_text}
 use Rattle.script_run.specs.Drill.{drill_text}
-use Rattle.command_words.specs.Words.{Command, run, list, dump, drill, judge, capture}
+use Rattle.desk_run.specs.DeskText.{IsDeskText}
+use Rattle.command_words.specs.Words.{Command, run, list, dump, drill, judge, capture, desk}
 use Rattle.input_files.specs.declared.work.Work.{Work}
 use Rattle.input_files.specs.declared.work.Work.TheVariants as works
 
@@ -76,6 +78,18 @@ IsListing = IsTextOf listing_text
 abbrev pub IsTables : List ℕ → Mode → Bool → List ℕ → Type 0
 IsTables = IsTextOf tables_text
 
+-- the most sections of a desk's script: the first, and one for each of sixteen control threads
+abbrev pub most_sections : ℕ
+most_sections = 17
+
+-- The output is the text of a desk, of the script that a text stands for: its first section alone, and then a log that is woven of
+-- the others.
+pub record IsWovenOf (script_text : List ℕ) (keep_going : Bool) (refused : Bool) (output : List ℕ) : Type 0 where
+  pub script : Script
+  pub script_is : IsScriptText script_text script
+  pub few : length script.sections ≤ most_sections
+  pub is_desk : IsDeskText script keep_going refused output
+
 -- What a command writes, by the bytes that are told under its files' names, and whether that tells a refusal.
 abbrev pub IsOutput : Command → (List ℕ → Option (List ℕ)) → Bool → List ℕ → Type 0
 IsOutput (run script keys threads keep_going) told refused output = (script_text keys_text : List ℕ) → told script ≡ Some script_text → told keys ≡ Some keys_text → IsTranscript script_text keys_text threads (mode_of keep_going) refused output
@@ -88,6 +102,7 @@ IsOutput (judge script rules keys threads keep_going) told refused output =
 IsOutput (capture script plan packets threads keep_going) told refused output =
     (script_text plan_text capture_text : List ℕ) → told script ≡ Some script_text → told plan ≡ Some plan_text → told packets ≡ Some capture_text
     → IsCaptured script_text plan_text capture_text threads (mode_of keep_going) refused output
+IsOutput (desk script keep_going) told refused output = (script_text : List ℕ) → told script ≡ Some script_text → IsWovenOf script_text keep_going refused output
 
 -- The lines are legal ones of a script and its packets, and the text is that of their transcript.
 pub record HasTranscript (s : Script) (packets : List (List Packet)) (threads : ℕ) (mode : Mode) (text : List ℕ) : Type 0 where
@@ -102,6 +117,24 @@ pub record HasJudgement (s : Script) (rules : Rules) (packets : List (List Packe
   pub legal : AreLegal (IsJudged rules) s packets threads mode lines
   pub text_is : text ≡ run_text (judged_text rules) mode s packets lines
 
+-- A desk has a control thread for each section but the first.
+abbrev pub HasFewClerks : Work → Type 0
+HasFewClerks (works.Run s packets threads keep_going) = Unit {0}
+HasFewClerks (works.List s keep_going) = Unit {0}
+HasFewClerks (works.Dump s keep_going) = Unit {0}
+HasFewClerks (works.Drill seed count threads) = Unit {0}
+HasFewClerks (works.Judge s chains packets threads keep_going) = Unit {0}
+HasFewClerks (works.Capture s plan frames threads keep_going) = Unit {0}
+HasFewClerks (works.Desk s keep_going) = length s.sections ≤ most_sections
+
+-- A command's work is a desk with more sections than there may be, of the script of this name.
+pub record IsOverfull (c : Command) (work : Work) (name : Bor (List ℕ)) : Type 0 where
+  pub script : Script
+  pub keep_going : Bool
+  pub is_work : work ≡ works.Desk script keep_going
+  pub is_name : c ≡ desk name.now keep_going
+  pub many : most_sections < length script.sections
+
 -- What a command's work gives: its text, and whether that tells a refusal.
 abbrev pub Gives : Work → Bool → List ℕ → Type 0
 Gives (works.Run s packets threads keep_going) refused text = HasTranscript s packets threads (mode_of keep_going) text × (refused ≡ has_refusal (mode_of keep_going) s)
@@ -111,3 +144,4 @@ Gives (works.Drill seed count threads) refused text = (text ≡ drill_text seed 
 Gives (works.Capture s plan frames threads keep_going) refused text =
     HasTranscript s (planned_packets plan frames ∷ []) threads (mode_of keep_going) text × (refused ≡ has_refusal (mode_of keep_going) s)
 Gives (works.Judge s chains packets threads keep_going) refused text = HasJudgement s chains packets threads (mode_of keep_going) text × (refused ≡ has_refusal (mode_of keep_going) s)
+Gives (works.Desk s keep_going) refused text = IsDeskText s keep_going refused text × (length s.sections ≤ most_sections)

@@ -4,6 +4,7 @@ use packet_pool::Gate;
 use pip_base::Sink;
 use std::alloc::Global;
 use std::process::Abort;
+use std::sync::Wait;
 use std::sync::atomic::{AtomicU64, Ordering};
 use std::test::Fail;
 use std::thread;
@@ -104,7 +105,7 @@ fn packets(alloc: Global, count: u64) -> Result<String, Fail> {
 }
 
 /// Runs packets of an empty set on two threads, where two of them meet, and counts the lines.
-fn expect_meeting<R: Threads + Abort + Sync>(
+fn expect_meeting<R: Threads + Wait + Abort + Sync>(
     rt: &R,
     alloc: Global,
     count: u64,
@@ -155,7 +156,7 @@ fn commit_beside_packet(rt: HostRuntime) -> Result<(), Fail> {
 }
 
 /// Runs a script beside packets, and compares the transcript with those that are legal.
-fn expect_one_of<R: Threads + Abort + Sync>(
+fn expect_one_of<R: Threads + Wait + Abort + Sync>(
     rt: &R,
     alloc: Global,
     words: &[&str],

@@ -7,12 +7,13 @@ ghost use Rattle.std.specs.declared.io.ErrorKind.TheVariants.{OutOfMemory};
 ghost use Rattle.pipapo_cli.specs.Promises.{Promises};
 
 use crate::command::pipapo;
-use packet_pool::OpenGate;
+use packet_pool::Gate;
 use pip_base::{Notes, Shelf, Sink};
 use set_model::Memory;
 use std::alloc::{AllocError, Global};
 use std::env::Args;
 use std::io;
+use std::sync::Wait;
 use std::thread::Threads;
 
 /// All words but the first, which is the program's name.
@@ -41,21 +42,22 @@ pub fn words_behind(alloc: Global, told: io::Result<Args>) -> Result<Vec<String>
 }
 
 /// Does what the words ask for, and answers the status. Where there was no memory for the words it is 7, and no file
-/// is asked for and nothing is written.
-pub fn call<R: Threads + Sync, F: Shelf, K: Sink, N: Notes>(
+/// is asked for and nothing is written. The `gate` is told how far the run is.
+pub fn call<R: Threads + Wait + Sync, F: Shelf, K: Sink, N: Notes, G: Gate>(
     rt: &R,
     alloc: Global,
     words: Result<Vec<String>, Memory>,
     shelf: &mut F,
     sink: &mut K,
     notes: &mut N,
+    gate: &G,
 ) -> u8
     requires { F.asked shelf.old ≡ [] }
     ensures promises { IfOk words (λ told. Promises (record { words = map string_bytes told.items; shelf = record { told = F.told shelf.old; asked = F.asked shelf.new; faults_before = F.faults shelf.old; faults_now = F.faults shelf.new; picked_before = F.is_picked shelf.old; picked_now = F.is_picked shelf.new; left = F.left shelf.new }; taken_before = K.taken sink.old; taken_now = K.taken sink.new; faults_before = K.faults sink.old; faults_now = K.faults sink.new; noted_before = N.told notes.old; noted_now = N.told notes.new; status = result })) }
     ensures memory { OnErr words ((result ≡ 7) × (shelf.new ≡ shelf.old) × (sink.new ≡ sink.old) × (notes.new ≡ notes.old)) }
 {
     match words {
-        Ok(words) => pipapo(rt, alloc, words.as_slice(), shelf, sink, notes, &OpenGate),
+        Ok(words) => pipapo(rt, alloc, words.as_slice(), shelf, sink, notes, gate),
         Err(_) => 7,
     }
 }

@@ -1,19 +1,22 @@
-ghost use Rattle.std.specs.Prelude.{◌≡◌, [], List, ℕ, map};
+ghost use Rattle.std.specs.Prelude.{◌≡◌, [], List, ℕ, map, Option, None, IfSome};
 ghost use Rattle.std.specs.String.{string_bytes};
 ghost use Rattle.command_words.specs.Words.{IsCommand, AsksFor};
 ghost use Rattle.command_words.specs.WordForms.{plain};
 ghost use Rattle.pipapo_cli.specs.Lines.{done_status as status_of_done};
+ghost use Rattle.input_files.specs.Works.{IsWork};
 ghost use Rattle.pipapo_cli.specs.Promises.{Goes, Promises};
+ghost use Rattle.pipapo_cli.specs.Transcript.{HasFewClerks, IsOverfull};
 
 use crate::delivery::{deliver, deliver_page, tell};
 use crate::fault::Fault;
 use crate::output::output_of;
-use crate::refusals::tell_refusals;
+use crate::refusals::{tell_refusals, tell_too_many};
 use command_words::{Command, WordsError, command_of, page_of};
-use input_files::work_of;
+use input_files::{Work, work_of};
 use packet_pool::Gate;
 use pip_base::{Notes, Shelf, Sink};
 use std::alloc::Global;
+use std::sync::Wait;
 use std::thread::Threads;
 
 /// The status of an output.
@@ -23,8 +26,26 @@ fn done_status(refused: bool) -> u8
     if refused { 1 } else { 0 }
 }
 
+/// The most sections of a desk's script: the first, and one for each control thread.
+const MOST_SECTIONS: u64 = 17;
+
+/// The name of the script of a desk that has more sections than there may be, and how many it has.
+fn overfull<'a>(command: Command<'a>, work: &Work) -> Option<(&'a str, u64)>
+    requires { (told : List ℕ → Option (List ℕ)) × IsWork told (plain command) work.now }
+    ensures some { IfSome result (λ r. IsOverfull (plain command.entry) work.now r.0) }
+    ensures none { result ≡ None → HasFewClerks work.now }
+{
+    match work {
+        Work::Desk { script, .. } if script.sections.len() > MOST_SECTIONS => match command {
+            Command::Script { script: name, .. } => Some((name, script.sections.len())),
+            Command::Drill { .. } => unreachable!(),
+        },
+        _ => None,
+    }
+}
+
 /// Does what a command asks for, writes what comes of it, tells a person what was wrong, and answers the status.
-fn do_command<'a, R: Threads + Sync, F: Shelf, K: Sink, N: Notes, G: Gate>(
+fn do_command<'a, R: Threads + Wait + Sync, F: Shelf, K: Sink, N: Notes, G: Gate>(
     rt: &R,
     alloc: Global,
     command: Command<'a>,
@@ -39,20 +60,26 @@ fn do_command<'a, R: Threads + Sync, F: Shelf, K: Sink, N: Notes, G: Gate>(
 {
     let mut script_text = Vec::new(alloc);
     match work_of(alloc, shelf, notes, &mut script_text, command) {
-        Ok(work) => match output_of(rt, alloc, work, gate) {
-            Ok(output) => {
-                let status = deliver(sink, done_status(output.refused), output.text.as_slice());
-                tell_refusals(alloc, notes, command, script_text.as_slice(), &output);
-                status
+        Ok(work) => match overfull(command, &work) {
+            Some((name, sections)) => {
+                tell_too_many(alloc, notes, name, sections);
+                tell(sink, Fault::TooManyClerks(name))
             }
-            Err(_) => tell(sink, Fault::Memory),
+            None => match output_of(rt, alloc, work, gate) {
+                Ok(output) => {
+                    let status = deliver(sink, done_status(output.refused), output.text.as_slice());
+                    tell_refusals(alloc, notes, command, script_text.as_slice(), &output);
+                    status
+                }
+                Err(_) => tell(sink, Fault::Memory),
+            },
         },
         Err(fault) => tell(sink, Fault::File(fault)),
     }
 }
 
 /// Does what words ask for that ask for no page, writes what comes of it, and answers the status.
-fn carry_out_command<R: Threads + Sync, F: Shelf, K: Sink, N: Notes, G: Gate>(
+fn carry_out_command<R: Threads + Wait + Sync, F: Shelf, K: Sink, N: Notes, G: Gate>(
     rt: &R,
     alloc: Global,
     words: &[String],
@@ -73,7 +100,7 @@ fn carry_out_command<R: Threads + Sync, F: Shelf, K: Sink, N: Notes, G: Gate>(
 }
 
 /// Does what the words ask for, writes what comes of it, and answers the status.
-fn carry_out<R: Threads + Sync, F: Shelf, K: Sink, N: Notes, G: Gate>(
+fn carry_out<R: Threads + Wait + Sync, F: Shelf, K: Sink, N: Notes, G: Gate>(
     rt: &R,
     alloc: Global,
     words: &[String],
@@ -102,7 +129,9 @@ fn carry_out<R: Threads + Sync, F: Shelf, K: Sink, N: Notes, G: Gate>(
 /// - `judge SCRIPT RULES KEYS [--threads N] [--keep-going]` runs a script beside the packets of a key file, on which the
 ///   chains of a rules file decide, and writes the transcript with the deciding rules;
 /// - `capture SCRIPT PLAN PCAP [--threads N] [--keep-going]` runs a script beside the packets that a plan takes from a
-///   capture, and writes the transcript.
+///   capture, and writes the transcript;
+/// - `desk SCRIPT [--keep-going]` runs the first section of a script, and then each of the others by a control thread of
+///   its own, and writes what each transaction told, in the order in which they were done, and the last generation.
 ///
 /// `help`, `--help` and `-h` alone, `help` before the word of a command and the other two behind it ask for help, and
 /// `--version` alone for the version: the page is written, with 0, and no file is asked for.
@@ -120,8 +149,9 @@ fn carry_out<R: Threads + Sync, F: Shelf, K: Sink, N: Notes, G: Gate>(
 /// - 6: the sink failed, after a front of what was to be written;
 /// - 7: want of memory, and nothing was written;
 /// - 8: a file has more than 67,108,864 bytes;
-/// - 10: the capture is outside its form.
-pub fn pipapo<R: Threads + Sync, F: Shelf, K: Sink, N: Notes, G: Gate>(
+/// - 10: the capture is outside its form;
+/// - 12: the script of a desk has more than 17 sections.
+pub fn pipapo<R: Threads + Wait + Sync, F: Shelf, K: Sink, N: Notes, G: Gate>(
     rt: &R,
     alloc: Global,
     words: &[String],

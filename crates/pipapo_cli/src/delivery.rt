@@ -16,7 +16,7 @@ use pip_base::{Sink, WriteFault, write_whole};
 use token_forms::Reason;
 
 const USAGE: &[u8] =
-    b"pipapo: usage: run SCRIPT KEYS [--threads N] [--keep-going] | list SCRIPT [--keep-going] | dump SCRIPT [--keep-going] | drill SEED COUNT [--threads N] | judge SCRIPT RULES KEYS [--threads N] [--keep-going] | capture SCRIPT PLAN PCAP [--threads N] [--keep-going]\n";
+    b"pipapo: usage: run SCRIPT KEYS [--threads N] [--keep-going] | list SCRIPT [--keep-going] | dump SCRIPT [--keep-going] | drill SEED COUNT [--threads N] | judge SCRIPT RULES KEYS [--threads N] [--keep-going] | capture SCRIPT PLAN PCAP [--threads N] [--keep-going] | desk SCRIPT [--keep-going]\n";
 
 /// Writes a text, and answers its status, or 6 where the sink fails.
 pub fn deliver<K: Sink>(sink: &mut K, status: u8, text: &[u8]) -> u8
@@ -181,6 +181,7 @@ pub fn tell<K: Sink>(sink: &mut K, fault: Fault<'_>) -> u8
     match fault {
         Fault::Usage => deliver(sink, 2, USAGE),
         Fault::File(fault) => tell_file(sink, fault),
+        Fault::TooManyClerks(name) => deliver_named(sink, 12, b"pipapo: too many clerks: ", name),
         Fault::Memory => 7,
     }
 }

@@ -7,6 +7,8 @@ pub enum Fault<'a> {
     Usage,
     /// One of the command's files can't be had.
     File(FileFault<'a>),
+    /// The script of this name has more sections than a desk has control threads for.
+    TooManyClerks(&'a str),
     /// Want of memory, for the words or for the output.
     Memory,
 }

@@ -6,7 +6,12 @@ mod beside;
 mod call;
 mod command;
 mod delivery;
+#[cfg(test)]
+mod desks;
 mod fault;
+mod meter;
+#[cfg(test)]
+mod metered;
 #[cfg(test)]
 mod other_files;
 mod output;
@@ -19,15 +24,28 @@ mod told;
 mod worked;
 
 use crate::call::{call, words_behind};
+use crate::meter::{InPlace, Meter};
 use pip_base::{DirShelf, ErrNotes, OutSink};
 use std::env;
+use std::io::IsTerminal;
 use std::process::ExitCode;
 
 fn main(rt: HostRuntime) -> ExitCode {
     let words = words_behind(rt.alloc(), env::args(&rt));
     let mut shelf = DirShelf::new(rt.alloc(), &rt, rt.stdin());
-    let mut sink = OutSink::new(&rt);
-    let mut notes = ErrNotes::new(rt.stderr());
-    let status = call(&rt, rt.alloc(), words, &mut shelf, &mut sink, &mut notes);
+    let terminal = rt.stderr().is_terminal().then_some(rt.stderr());
+    let meter = Meter::new(rt.alloc(), &rt, terminal);
+    let mut sink = InPlace::new(OutSink::new(&rt), &meter);
+    let mut notes = InPlace::new(ErrNotes::new(rt.stderr()), &meter);
+    let status = call(
+        &rt,
+        rt.alloc(),
+        words,
+        &mut shelf,
+        &mut sink,
+        &mut notes,
+        &meter,
+    );
+    meter.finish();
     ExitCode::from(status)
 }

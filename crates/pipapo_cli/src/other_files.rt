@@ -6,6 +6,7 @@ use packet_pool::OpenGate;
 use pip_base::MemShelf;
 use std::alloc::Global;
 use std::process::Abort;
+use std::sync::Wait;
 use std::test::Fail;
 use std::thread::Threads;
 
@@ -44,7 +45,7 @@ fn shelf_of_three(
 }
 
 /// Runs a command over three files, and compares what is written, and the status.
-fn expect<R: Threads + Abort + Sync>(
+fn expect<R: Threads + Wait + Abort + Sync>(
     rt: &R,
     alloc: Global,
     words: &[&str],
@@ -61,7 +62,7 @@ fn expect<R: Threads + Abort + Sync>(
 }
 
 /// Takes the packets of a capture by a plan.
-fn expect_capture<R: Threads + Abort + Sync>(
+fn expect_capture<R: Threads + Wait + Abort + Sync>(
     rt: &R,
     alloc: Global,
     plan: &str,
@@ -121,7 +122,7 @@ fn a_cut_capture(rt: HostRuntime) -> Result<(), Fail> {
 }
 
 /// Judges the packets of a key file by a rules file.
-fn expect_judge<R: Threads + Abort + Sync>(
+fn expect_judge<R: Threads + Wait + Abort + Sync>(
     rt: &R,
     alloc: Global,
     script: &str,

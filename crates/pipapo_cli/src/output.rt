@@ -5,14 +5,17 @@ ghost use Rattle.set_model.specs.Runnable.{IsFitting};
 ghost use Rattle.pcap_keys.specs.Fitting.{HasValues, IsPlanned};
 ghost use Rattle.pcap_keys.specs.Planned as planned;
 ghost use Rattle.input_files.specs.Works.{IsDoable};
-ghost use Rattle.pipapo_cli.specs.Transcript.{Gives};
+ghost use Rattle.pipapo_cli.specs.Transcript.{Gives, HasFewClerks};
 
+use control_desk::QuietBell;
+use desk_run::desk;
 use input_files::Work;
 use packet_pool::Gate;
 use pcap_keys::{Frames, Plan, keys_of};
 use script_run::{Output, drill, dump, judged, listing, transcript};
 use set_model::{Keys, Memory};
 use std::alloc::Global;
+use std::sync::Wait;
 use std::thread::Threads;
 
 /// The packets that a plan takes from a capture's frames, as the one section of a key file.
@@ -31,13 +34,14 @@ fn captured(alloc: Global, plan: &Plan, frames: &Frames) -> Result<Keys, Memory>
 /// # Errors
 ///
 /// `Memory` where there is none left.
-pub fn output_of<R: Threads + Sync, G: Gate>(
+pub fn output_of<R: Threads + Wait + Sync, G: Gate>(
     rt: &R,
     alloc: Global,
     work: Work,
     gate: &G,
 ) -> Result<Output, Memory>
-    requires { IsDoable work }
+    requires doable { IsDoable work }
+    requires clerks { HasFewClerks work }
     ensures { IfOk result (λ out. Gives work out.refused out.text.items) }
 {
     match work {
@@ -71,5 +75,6 @@ pub fn output_of<R: Threads + Sync, G: Gate>(
             threads,
             keep_going,
         } => judged(rt, alloc, script, chains, &keys, keep_going, threads, gate),
+        Work::Desk { script, keep_going } => desk(rt, alloc, script, keep_going, &QuietBell),
     }
 }

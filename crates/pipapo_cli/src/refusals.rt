@@ -1,9 +1,10 @@
-//! What a person is told of refused changes.
+//! What a person is told of refused changes, and of a desk's script that has too many sections.
 ghost use Rattle.std.specs.Prelude.{◌≡◌, true};
+ghost use Rattle.fault_notes.specs.Shown.{Begins, name_text};
 ghost use Rattle.fault_notes.specs.Told.{MayTell};
 
 use command_words::Command;
-use fault_notes::{refusals_note, tell_note};
+use fault_notes::{refusals_note, tell_note, too_many_clerks_note};
 use pip_base::Notes;
 use script_run::Output;
 use set_script::read_script;
@@ -30,4 +31,11 @@ pub fn tell_refusals<N: Notes>(
         let note = refusals_note(alloc, name, script_text, &script, output.text.as_slice());
         tell_note(notes, note);
     }
+}
+
+/// Tells that a desk's script has too many sections.
+pub fn tell_too_many<N: Notes>(alloc: Global, notes: &mut N, name: &str, sections: u64)
+    ensures { MayTell (Begins (name_text name.now)) (N.told notes.old) (N.told notes.new) }
+{
+    tell_note(notes, too_many_clerks_note(alloc, name, sections));
 }

@@ -5,6 +5,7 @@ use command_words::{Page, Verb};
 use packet_pool::{Gate, OpenGate};
 use pip_base::{MemNotes, MemShelf, MemSink, Sink};
 use std::alloc::Global;
+use std::sync::Wait;
 use std::test::Fail;
 use std::thread::Threads;
 
@@ -19,7 +20,7 @@ const TRANSCRIPT: &str =
 const RUN: [&str; 3] = ["run", "a.nft", "keys"];
 
 const USAGE: &str =
-    "pipapo: usage: run SCRIPT KEYS [--threads N] [--keep-going] | list SCRIPT [--keep-going] | dump SCRIPT [--keep-going] | drill SEED COUNT [--threads N] | judge SCRIPT RULES KEYS [--threads N] [--keep-going] | capture SCRIPT PLAN PCAP [--threads N] [--keep-going]\n";
+    "pipapo: usage: run SCRIPT KEYS [--threads N] [--keep-going] | list SCRIPT [--keep-going] | dump SCRIPT [--keep-going] | drill SEED COUNT [--threads N] | judge SCRIPT RULES KEYS [--threads N] [--keep-going] | capture SCRIPT PLAN PCAP [--threads N] [--keep-going] | desk SCRIPT [--keep-going]\n";
 
 /// A shelf with a script under `a.nft` and a key file under `keys`, where they are given, whose call of
 /// this number fails.
@@ -47,7 +48,7 @@ pub fn shelf_with(
 }
 
 /// Runs words over a shelf, and a sink that takes 7 bytes at once and so many in all; `notes` are told what a person is told.
-pub fn run_noted<R: Threads + Sync, G: Gate>(
+pub fn run_noted<R: Threads + Wait + Sync, G: Gate>(
     rt: &R,
     alloc: Global,
     words: &[&str],
@@ -77,7 +78,7 @@ pub fn run_noted<R: Threads + Sync, G: Gate>(
 }
 
 /// The same, whatever a person is told.
-pub fn run_words<R: Threads + Sync, G: Gate>(
+pub fn run_words<R: Threads + Wait + Sync, G: Gate>(
     rt: &R,
     alloc: Global,
     words: &[&str],
@@ -92,7 +93,7 @@ pub fn run_words<R: Threads + Sync, G: Gate>(
 }
 
 /// `run a.nft keys` over a script and a key file, where they are given.
-fn run_files<R: Threads + Sync>(
+fn run_files<R: Threads + Wait + Sync>(
     rt: &R,
     alloc: Global,
     script: Option<&[u8]>,
@@ -105,7 +106,7 @@ fn run_files<R: Threads + Sync>(
 }
 
 /// The status and output of a command over a script under `a.nft` and a key file under `keys`, held by a gate.
-pub fn run_held<R: Threads + Sync, G: Gate>(
+pub fn run_held<R: Threads + Wait + Sync, G: Gate>(
     rt: &R,
     alloc: Global,
     words: &[&str],
@@ -118,7 +119,7 @@ pub fn run_held<R: Threads + Sync, G: Gate>(
 }
 
 /// The status and output of a command over a script under `a.nft` and a key file under `keys`.
-pub fn run<R: Threads + Sync>(
+pub fn run<R: Threads + Wait + Sync>(
     rt: &R,
     alloc: Global,
     words: &[&str],
@@ -129,7 +130,7 @@ pub fn run<R: Threads + Sync>(
 }
 
 /// The status and output of a command over no files.
-fn run_alone<R: Threads + Sync>(
+fn run_alone<R: Threads + Wait + Sync>(
     rt: &R,
     alloc: Global,
     words: &[&str],

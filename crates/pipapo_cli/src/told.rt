@@ -4,6 +4,7 @@ use packet_pool::OpenGate;
 use pip_base::{MemNotes, Sink};
 use std::alloc::Global;
 use std::process::Abort;
+use std::sync::Wait;
 use std::test::Fail;
 use std::thread::Threads;
 
@@ -11,7 +12,7 @@ const PORTS: &str = "add set ip t p { type inet_service ; }\n";
 
 /// Runs words over a script under `a.nft` and a key file under `keys`, and compares what a person is told, what is written, and the
 /// status.
-fn expect_told<R: Threads + Abort + Sync>(
+fn expect_told<R: Threads + Wait + Abort + Sync>(
     rt: &R,
     alloc: Global,
     words: &[&str],
@@ -127,5 +128,22 @@ fn nothing_is_told_where_all_is_well(rt: HostRuntime) -> Result<(), Fail> {
         "",
         "packet 0 thread 0 generation 0 none\n",
         0,
+    )
+}
+
+#[test]
+fn a_desk_with_too_many_sections_is_told_how_many(rt: HostRuntime) -> Result<(), Fail> {
+    let rounds =
+        "round\nround\nround\nround\nround\nround\nround\nround\nround\nround\nround\nround\nround\nround\nround\nround\nround\n";
+    let script = format!(in rt.alloc(); "{PORTS}{rounds}")?;
+    expect_told(
+        &rt,
+        rt.alloc(),
+        &["desk", "a.nft"],
+        Some(script.as_str().as_bytes()),
+        "",
+        "a.nft: the script has 18 sections, and desk runs 17 at most: the first, and one for each of 16 control threads; join some, by leaving lines 'round' out\n",
+        "pipapo: too many clerks: a.nft\n",
+        12,
     )
 }

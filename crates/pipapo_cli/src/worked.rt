@@ -1,11 +1,12 @@
 use crate::tests::run;
 use std::alloc::Global;
 use std::process::Abort;
+use std::sync::Wait;
 use std::test::Fail;
 use std::thread::Threads;
 
 /// Runs a command over a script and a key file, and compares what is written, and the status.
-fn expect<R: Threads + Abort + Sync>(
+fn expect<R: Threads + Wait + Abort + Sync>(
     rt: &R,
     alloc: Global,
     words: &[&str],
@@ -21,7 +22,7 @@ fn expect<R: Threads + Abort + Sync>(
 }
 
 /// Compares the transcript of a run, and its status.
-fn expect_run<R: Threads + Abort + Sync>(
+fn expect_run<R: Threads + Wait + Abort + Sync>(
     rt: &R,
     alloc: Global,
     script: &str,
@@ -41,7 +42,7 @@ fn expect_run<R: Threads + Abort + Sync>(
 }
 
 /// Compares the listing of a script in which nothing is refused.
-fn expect_list<R: Threads + Abort + Sync>(
+fn expect_list<R: Threads + Wait + Abort + Sync>(
     rt: &R,
     alloc: Global,
     script: &str,

@@ -73,14 +73,14 @@ impl Full {
         }
     }
 
-    /// Adds the first `count` elements at moment 0. Every tenth expires at moment 1.
+    /// Adds the first `count` elements at moment 0, and settles them, as a commit does. Every tenth expires at moment 1.
     fn fill(&mut self, elements: &[u64], fields: usize, count: usize) -> Result<(), Memory> {
         for e in 0..count {
             let expiry = if e % 10 == 0 { Some(1) } else { None };
             let parts = parts_at(self.alloc, elements, fields, e)?;
             insert(self.alloc, &mut self.set, &parts, expiry, &mut self.scratch);
         }
-        Ok(())
+        self.set.settle()
     }
 
     /// Adds the elements from number `from` up to `to` at moment 0.

@@ -16,6 +16,7 @@ mod tests;
 mod whole;
 
 pub use drilling::drill;
+pub use numbers::has_numbers;
 pub use output::{Output, dump, judged, listing, transcript};
 pub use telling::tells_refusal;
 pub use whole::Whole;

@@ -75,10 +75,13 @@ fn told_by<R: Threads + Sync, J: Teller, G: Gate>(
     let no_steps = Steps::new(alloc);
     let no_packets = Packets::new(alloc);
     let first = section(&sections, 0, &no_steps);
+    let last = later_sections(&sections, keys);
+    gate.section(0, last, 0);
     telling.do_section(rt, alloc, first, &no_packets, keep_going, judge, gate)?;
-    'rest: for j in 0..later_sections(&sections, keys) {
+    'rest: for j in 0..last {
         let steps = section(&sections, j + 1, &no_steps);
         let packets = section(keys, j, &no_packets);
+        gate.section(j + 1, last, packets.len());
         telling.do_section(rt, alloc, steps, packets, keep_going, judge, gate)?;
     }
     Ok(telling.output)

@@ -77,3 +77,8 @@ pub returns-in-Dump : goal.returns-in-Dump
 returns-in-Dump c =
     is-alone (map string_bytes c.args.words.now) c.in_ok-first.field-0 c.unwrap-first.result c.unwrap-first.ensures (codes "dump")
     (of-verb (map string_bytes c.args.words.now) c.in_ok-first.field-0 c.in_ok-first.ensures c.args.verb verbs.Dump c.in-Dump.is c.requires)
+
+pub returns-in-Desk : goal.returns-in-Desk
+returns-in-Desk c =
+    is-alone (map string_bytes c.args.words.now) c.in_ok-first.field-0 c.unwrap-first.result c.unwrap-first.ensures (codes "desk")
+    (of-verb (map string_bytes c.args.words.now) c.in_ok-first.field-0 c.in_ok-first.ensures c.args.verb verbs.Desk c.in-Desk.is c.requires)

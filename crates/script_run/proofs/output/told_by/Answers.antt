@@ -47,12 +47,12 @@ rest-preserved g c =
 
 pub returns-clause-text : goal.returns-clause-text
 returns-clause-text g c =
-    let size : section_count c.args.script c.args.keys.now ≡ c.rest.j + 1 = omega (arith, c.later_sections-j-end.ensures) in
+    let size : section_count c.args.script c.args.keys.now ≡ c.rest.j + 1 = omega (arith, c.later_sections-last.ensures) in
     (told_all (g.J.Judge.verdict c.args.judge.now) (g.J.Teller.packets_text c.args.judge.now) c.args.keep_going c.args.script c.args.keys.now c.args.threads (c.rest.j + 1) c.rest.telling size c.rest.invariant).0
 
 pub returns-clause-refused : goal.returns-clause-refused
 returns-clause-refused g c =
-    let size : section_count c.args.script c.args.keys.now ≡ c.rest.j + 1 = omega (arith, c.later_sections-j-end.ensures) in
+    let size : section_count c.args.script c.args.keys.now ≡ c.rest.j + 1 = omega (arith, c.later_sections-last.ensures) in
     (told_all (g.J.Judge.verdict c.args.judge.now) (g.J.Teller.packets_text c.args.judge.now) c.args.keep_going c.args.script c.args.keys.now c.args.threads (c.rest.j + 1) c.rest.telling size c.rest.invariant).1
 
 pub do_section-requires-clause-judge : goal.do_section-requires-clause-judge

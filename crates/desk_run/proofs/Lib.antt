@@ -1,0 +1,4 @@
+pub mod FirstSection
+pub mod LogLaws
+pub mod Opening
+pub mod Telling

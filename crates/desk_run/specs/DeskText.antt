@@ -1,0 +1,53 @@
+-- What `desk` writes: what the first section told, the log of the control threads behind it, and the last generation.
+use Rattle.std.specs.Prelude.{◌≡◌, ℕ, Bool, List, ◌++◌, drop, take, All, codes}
+use Rattle.std.specs.List.{flat_map, list_any}
+use Rattle.history_laws.specs.Histories.{EndsWith}
+use Rattle.set_model.specs.declared.report.Event.{Event}
+use Rattle.set_model.specs.declared.script.Script.{Script}
+use Rattle.set_model.specs.declared.script.SetDecl.{SetDecl}
+use Rattle.set_model.specs.Control.{Control, Generation, history, is_refusal, mode_of}
+use Rattle.set_model.specs.Text.{numbered}
+use Rattle.set_report.specs.Remarks.{remarks_text, told_text}
+use Rattle.set_report.specs.ListText.{list_text}
+use Rattle.control_desk.specs.declared.entry.Entry.{Entry}
+use Rattle.control_desk.specs.Woven.{IsWoven, Replays, said}
+
+-- what stands in front of each line that a control thread's transaction told
+abbrev pub clerk_prefix : ℕ → List ℕ
+clerk_prefix clerk = numbered (codes "# clerk") clerk ++ codes " "
+
+-- what a transaction told, line by line, behind its control thread's number
+abbrev pub entry_text : List SetDecl → Entry → List ℕ
+entry_text schema e = told_text (clerk_prefix e.clerk) schema (said e)
+
+-- what the transactions of a log told, in their order
+abbrev pub log_text : List SetDecl → List Entry → List ℕ
+log_text schema log = flat_map (entry_text schema) log
+
+-- the control behind the first section of a script, which runs alone
+abbrev pub first_part : Bool → Script → Control
+first_part keep_going script = history (mode_of keep_going) script.schema (take 1 script.sections)
+
+-- What the first section told as remarks, then the log, and the last generation as a script, at the script's last moment: nft(8)
+-- reads it, since all that was told are comments.
+abbrev pub desk_text : Bool → Script → List Entry → Generation → List ℕ
+desk_text keep_going script log last =
+    remarks_text script.schema (first_part keep_going script).events ++ (log_text script.schema log ++ list_text script.schema last.sets script.last)
+
+-- all that was told: of the first section, and of the transactions of the log
+abbrev pub all_told : Bool → Script → List Entry → List Event
+all_told keep_going script log = (first_part keep_going script).events ++ flat_map said log
+
+-- The first section of a script ran alone, and then the others as control threads at one desk: the log is woven of these sections,
+-- replays from the generations of the first section to those that end with the listed one, and each transaction is in this mode. A
+-- refusal is told exactly where the text has one.
+pub record IsDeskText (script : Script) (keep_going : Bool) (refused : Bool) (output : List ℕ) : Type 0 where
+  pub log : List Entry
+  pub committed : List Generation
+  pub last : Generation
+  pub woven : IsWoven (drop 1 script.sections) log
+  pub replays : Replays (first_part keep_going script).committed committed log
+  pub modes : All (λ e. e.keep_going ≡ keep_going) log
+  pub ends : EndsWith committed last
+  pub text : output ≡ desk_text keep_going script log last
+  pub refusal : refused ≡ list_any is_refusal (all_told keep_going script log)

@@ -1,0 +1,134 @@
+ghost use Rattle.std.specs.Prelude.{◌≡◌, ◌≤◌, ◌++◌, false, [], ◌∷◌, drop, length, All, IfOk};
+ghost use Rattle.std.specs.List.{flat_map, list_any};
+ghost use Rattle.control_desk.specs.Books.{IsClosed};
+ghost use Rattle.control_desk.specs.Woven.{said};
+ghost use Rattle.set_model.specs.Control.{history, is_refusal, mode_of};
+ghost use Rattle.set_model.specs.Runnable.{EndsClosed, HasFields, IsRunnable, IsRunnableStep};
+ghost use Rattle.packet_pool.specs.Running.{run, Stands};
+ghost use Rattle.set_report.specs.ListText.{list_text};
+ghost use Rattle.set_report.specs.Remarks.{remarks_text};
+ghost use Rattle.set_report.specs.Writes.{AreSetsOf, NamesSet};
+ghost use Rattle.script_run.specs.Telling.{section_at};
+ghost use Rattle.desk_run.specs.DeskText.{IsDeskText, log_text};
+
+use crate::running::run_later;
+use crate::text::write_log;
+use control_desk::{Bell, Entry, Log};
+use gen_publish::{Control, start};
+use packet_pool::run_steps;
+use script_run::{Output, has_numbers, tells_refusal};
+use set_model::{Duplicate, Events, Memory, Schema, Script, Sections, Steps};
+use set_report::{write_list, write_remarks};
+use std::alloc::Global;
+use std::sync::Wait;
+use std::thread::Threads;
+
+/// The first of some sections, which is taken away from them, or one without steps where there is none.
+fn take_first(alloc: Global, sections: &mut Sections) -> Steps
+    ensures first { result ≡ section_at sections.old 0 }
+    ensures others { sections.new ≡ drop 1 sections.old }
+{
+    if sections.len() == 0 {
+        Steps::new(alloc)
+    } else {
+        sections.remove(0)
+    }
+}
+
+/// Does the first section of a script on a new control, alone, and gives the control and what it told.
+fn run_first(
+    alloc: Global,
+    schema: Schema,
+    steps: &Steps,
+    keep_going: bool,
+) -> Result<(Control, Events), Memory>
+    requires sets { All HasFields schema }
+    requires steps { All (IsRunnableStep schema) steps.now }
+    requires closed { EndsClosed steps.now }
+    ensures stands { IfOk result (λ r. Stands [] (history (mode_of keep_going) schema (steps.now ∷ [])) (run r.0 false r.1)) }
+    ensures schema { IfOk result (λ r. r.0.schema ≡ schema) }
+    ensures rests { IfOk result (λ r. IsClosed r.0) }
+{
+    let (mut control, _readers) = start(alloc, schema, 1)?;
+    if !has_numbers(&control, steps) {
+        return Err(Memory);
+    }
+    let told = run_steps(alloc, &mut control, steps, keep_going)?;
+    Ok((control, told))
+}
+
+/// What a desk writes: what its first section told, its log, and its last generation as a script.
+fn write_desk(
+    alloc: Global,
+    schema: &Schema,
+    control: &Control,
+    told: &Events,
+    log: &Log,
+    last: u64,
+) -> Result<Vec<u8>, Memory>
+    requires told { All (NamesSet (length schema.now)) told.now }
+    requires log { All (λ e. All (NamesSet (length schema.now)) (said e)) log.now }
+    requires sets { AreSetsOf schema.now control.now.work.base.sets }
+    ensures { IfOk result (λ text. text.items ≡ remarks_text schema.now told.now ++ (log_text schema.now log.now ++ list_text schema.now control.now.work.base.sets last)) }
+{
+    let mut text = Vec::new(alloc);
+    write_remarks(schema, told, &mut text)?;
+    write_log(alloc, schema, log, &mut text)?;
+    write_list(schema, control.generation(), last, &mut text)?;
+    Ok(text)
+}
+
+/// Whether what was told of a transaction tells that a change was refused.
+fn has_refusal(entry: &Entry) -> bool
+    ensures { result ≡ list_any is_refusal (said entry.now) }
+{
+    tells_refusal(entry.refused.as_slice()) || tells_refusal(&[entry.end])
+}
+
+/// Whether one of these transactions had a change refused.
+fn have_refusal(entries: &[Entry]) -> bool
+    ensures { result ≡ list_any (λ e. list_any is_refusal (said e)) entries.now }
+{
+    entries.iter().any(|entry| has_refusal(entry))
+}
+
+/// Whether a refusal was told first, or of a transaction of the log.
+fn any_refusal(told: &Events, log: &Log) -> bool
+    ensures { result ≡ list_any is_refusal (told.now ++ flat_map said log.now) }
+{
+    tells_refusal(told.as_slice()) || have_refusal(log.as_slice())
+}
+
+/// Runs the first section of a script alone, and then each of the others by a control thread of its own, all of which submit
+/// their transactions to one control; and gives what was told, transaction by transaction, and the last generation as a script.
+/// It waits for the control threads, and calls the bell before each submission.
+///
+/// # Errors
+///
+/// `Memory` where there is none left.
+pub fn desk<R: Threads + Wait + Sync, B: Bell>(
+    rt: &R,
+    alloc: Global,
+    script: Script,
+    keep_going: bool,
+    bell: &B,
+) -> Result<Output, Memory>
+    requires script { IsRunnable script }
+    requires clerks { length script.sections ≤ 17 }
+    ensures { IfOk result (λ out. IsDeskText script keep_going out.refused out.text.items) }
+{
+    let Script {
+        schema,
+        mut sections,
+        last,
+    } = script;
+    let declared = schema.copy(alloc)?;
+    let first = take_first(alloc, &mut sections);
+    let (control, told) = run_first(alloc, schema, &first, keep_going)?;
+    let (control, log) = run_later(rt, alloc, control, &sections, keep_going, bell)?;
+    let text = write_desk(alloc, &declared, &control, &told, &log, last)?;
+    Ok(Output {
+        text,
+        refused: any_refusal(&told, &log),
+    })
+}

@@ -1,0 +1,194 @@
+//! How far a run is, told to a person at a terminal.
+ghost use Rattle.std.specs.Prelude.{◌≡◌, List, ℕ, Option};
+
+use packet_pool::Gate;
+use pip_base::{Failed, Notes, Sink};
+use std::alloc::{AllocError, Global};
+use std::io::{Stderr, Write};
+use std::sync::atomic::{AtomicU64, Ordering};
+use std::time::{Clock, Instant};
+
+/// The least time between two texts, in milliseconds.
+const PAUSE: u64 = 100;
+
+/// How many packets are answered between two looks at the clock.
+const STEP: u64 = 256;
+
+/// Where a meter's line stands.
+pub trait Screen {
+    /// Shows bytes. Where that fails they are lost.
+    fn show(&self, bytes: &[u8]);
+}
+
+impl Screen for Stderr {
+    fn show(&self, bytes: &[u8]) {
+        let mut err = *self;
+        let _ = err.write_all(bytes);
+    }
+}
+
+/// A gate that tells how far a run is, at most ten times a second, each text in the place of the one before.
+#[derive(Drop)]
+pub struct Meter<'a, C: Clock, S: Screen + Drop> {
+    alloc: Global,
+    clock: &'a C,
+    /// Where the texts stand; none where nobody sees them.
+    screen: Option<S>,
+    /// When the meter was made, where the clock tells that.
+    began: Option<Instant>,
+    /// When the last text was told, in milliseconds from then on.
+    told: AtomicU64,
+    /// Whether a text stands: 1, and else 0.
+    stands: AtomicU64,
+    /// The section's number, and that of the last one, from 0 on.
+    section: AtomicU64,
+    last: AtomicU64,
+    /// How many packets the section has, and how many of them are answered.
+    packets: AtomicU64,
+    answered: AtomicU64,
+}
+
+impl<'a, C: Clock, S: Screen + Drop> Meter<'a, C, S> {
+    /// A meter that tells that files are read. Without a screen it does nothing.
+    pub fn new(alloc: Global, clock: &'a C, screen: Option<S>) -> Meter<'a, C, S> {
+        if let Some(screen) = &screen {
+            screen.show(b"pipapo: reading");
+        }
+        Meter {
+            alloc,
+            clock,
+            screen,
+            began: Instant::now(clock).ok(),
+            told: AtomicU64::new(0),
+            stands: AtomicU64::new(1),
+            section: AtomicU64::new(0),
+            last: AtomicU64::new(0),
+            packets: AtomicU64::new(0),
+            answered: AtomicU64::new(0),
+        }
+    }
+
+    /// How many milliseconds have passed, where the clock tells that.
+    fn passed(&self) -> Option<u64> {
+        let passed = self.began?.elapsed(self.clock).ok()?;
+        u64::try_from(passed.as_millis()).ok()
+    }
+
+    /// Whether the last text is old enough for another one, which no other thread tells.
+    fn is_due(&self) -> bool {
+        let Some(passed) = self.passed() else {
+            return false;
+        };
+        let told = self.told.load(Ordering::SeqCst);
+        passed >= told.saturating_add(PAUSE)
+            && self
+                .told
+                .compare_exchange(told, passed, Ordering::SeqCst, Ordering::SeqCst)
+                .is_ok()
+    }
+
+    /// How far the run is, as it is told: in the place of what stands. Sections are counted from 1.
+    ///
+    /// # Errors
+    ///
+    /// `AllocError` if there is no memory for it.
+    pub fn text(&self) -> Result<String, AllocError> {
+        let section = self.section.load(Ordering::SeqCst).saturating_add(1);
+        let last = self.last.load(Ordering::SeqCst).saturating_add(1);
+        let packets = self.packets.load(Ordering::SeqCst);
+        if packets == 0 {
+            return format!(in self.alloc; "\r\x1b[Kpipapo: section {section} of {last}");
+        }
+        let answered = self.answered.load(Ordering::SeqCst);
+        format!(in self.alloc;
+            "\r\x1b[Kpipapo: section {section} of {last}, packet {answered} of {packets}"
+        )
+    }
+
+    /// Tells how far the run is, where that is due and there is memory for it.
+    #[cold]
+    fn tell(&self, screen: &S) {
+        if !self.is_due() {
+            return;
+        }
+        if let Ok(text) = self.text() {
+            screen.show(text.as_bytes());
+            self.stands.store(1, Ordering::SeqCst);
+        }
+    }
+
+    /// Takes away the text that stands.
+    pub fn finish(&self) {
+        if let Some(screen) = &self.screen {
+            if self.stands.swap(0, Ordering::SeqCst) == 1 {
+                screen.show(b"\r\x1b[K");
+            }
+        }
+    }
+}
+
+impl<C: Clock + Sync, S: Screen + Sync + Drop> Gate for Meter<'_, C, S> {
+    fn section(&self, number: u64, last: u64, packets: u64) {
+        if let Some(screen) = &self.screen {
+            self.section.store(number, Ordering::SeqCst);
+            self.last.store(last, Ordering::SeqCst);
+            self.packets.store(packets, Ordering::SeqCst);
+            self.answered.store(0, Ordering::SeqCst);
+            self.tell(screen);
+        }
+    }
+
+    #[inline]
+    fn before(&self, _thread: u32, _packet: u64) {}
+
+    #[inline]
+    fn after(&self, _thread: u32, _packet: u64) {
+        if let Some(screen) = &self.screen {
+            if self.answered.fetch_add(1, Ordering::SeqCst) % STEP == 0 {
+                self.tell(screen);
+            }
+        }
+    }
+
+    fn closing(&self, _generation: u64) {}
+
+    fn closed(&self, _generation: u64) {
+        if let Some(screen) = &self.screen {
+            self.tell(screen);
+        }
+    }
+}
+
+/// What takes bytes in the place of a meter's text: before the first of them it takes the text away.
+#[derive(Drop)]
+pub struct InPlace<'a, 'b, T: Drop, C: Clock, S: Screen + Drop> {
+    inner: T,
+    meter: &'a Meter<'b, C, S>,
+}
+
+impl<'a, 'b, T: Drop, C: Clock, S: Screen + Drop> InPlace<'a, 'b, T, C, S> {
+    /// What hands on to `inner`, in the place of the meter's text.
+    pub fn new(inner: T, meter: &'a Meter<'b, C, S>) -> InPlace<'a, 'b, T, C, S> {
+        InPlace { inner, meter }
+    }
+}
+
+impl<T: Sink + Drop, C: Clock, S: Screen + Drop> Sink for InPlace<'_, '_, T, C, S> {
+    ghost taken = { λ s. T.taken s.inner };
+
+    ghost faults = { λ s. T.faults s.inner };
+
+    fn write(&mut self, piece: &[u8]) -> Result<usize, Failed> {
+        self.meter.finish();
+        self.inner.write(piece)
+    }
+}
+
+impl<T: Notes + Drop, C: Clock, S: Screen + Drop> Notes for InPlace<'_, '_, T, C, S> {
+    ghost told = { λ s. T.told s.inner };
+
+    fn tell(&mut self, text: &[u8]) {
+        self.meter.finish();
+        self.inner.tell(text);
+    }
+}
