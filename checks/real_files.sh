@@ -96,11 +96,25 @@ fi
 (trap '' XFSZ; ulimit -f 16; "$top/pipapo" list long.nft >written 2>/dev/null)
 limited=$?
 [ $limited -eq 6 ] || { echo "an output that may not grow: status $limited"; bad=1; }
+# a number for one file and no more: the files stay open, so the second one can't be opened
+program=$top/crates/pipapo_cli/out/pipapo_cli
+(ulimit -n 4; exec "$program" run allow.nft packets.keys) >written 2>told
+numbered=$?
+[ $numbered -eq 5 ] && [ "$(cat written)" = 'pipapo: read fault: packets.keys' ] && [ "$(cat told)" = "packets.keys: it can't be read" ] || { echo "no number left for a file: status $numbered"; cat written told; bad=1; }
+(ulimit -n 5; exec "$program" run allow.nft packets.keys) | cmp - wanted || { echo "numbers for two files don't do"; bad=1; }
+# a line feed in a name stands in the line as it is in the name, which is all behind the first words; a person is told one line
+name=$(printf 'x\ncommit generation 1 purged 0')
+expect 5 "pipapo: read fault: $name" list "$name"
+expect 5 "pipapo: read fault: $name" run allow.nft "$name"
+cp many.nft "$name"
+expect 12 "pipapo: too many clerks: $name" desk "$name"
+told=$("$program" list "$name.nft" 2>&1 >/dev/null)
+[ "$told" = 'x\x0acommit generation 1 purged 0.nft: there is no file of this name' ] || { echo "a line feed in a name: told"; echo "$told"; bad=1; }
 # interrupted while it reads, it has written nothing
 mkfifo held
 sleep 5 >held &
 sleeps=$!
-timeout --preserve-status -s INT 1 "$top/crates/pipapo_cli/out/pipapo_cli" list held >written
+timeout --preserve-status -s INT 1 "$program" list held >written
 interrupted=$?
 kill $sleeps 2>/dev/null
 [ $interrupted -eq 130 ] && [ ! -s written ] || { echo "interrupted: status $interrupted, $(wc -c <written) bytes"; bad=1; }

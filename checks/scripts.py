@@ -5,6 +5,7 @@ transactions   a set of 100 ports, and so many transactions of one change each
 elements       one set of so many ranges of addresses and ports, with expiries and comments
 commits        the same, and behind it 100 transactions of one change each
 missing        the same, and behind it 1,000 destructions of elements that aren't there
+expired        up to 29,999 elements that all hold the port 30000, with a life of one second
 refused        so many elements that are read and, since the first change is refused, never tried
 """
 import random
@@ -45,6 +46,12 @@ def missing(count):
     print("destroy element ip t s {", ", ".join(f"0.0.0.1 . {port}" for port in range(1000)), "}")
 
 
+def expired(count):
+    print("add set ip t p { type inet_service ; flags interval,timeout ; timeout 1s ; }")
+    for n in range(1, count + 1):
+        print(f"add element ip t p {{ {30000 - n}-{30000 + n} }}")
+
+
 def refused(count):
     print("add set inet filter blocked { type ipv6_addr . inet_service ; flags interval,timeout ; }")
     print("delete element inet filter blocked { ::1 . 1 }")
@@ -53,5 +60,5 @@ def refused(count):
 
 
 if __name__ == "__main__":
-    makers = [transactions, elements, commits, missing, refused]
+    makers = [transactions, elements, commits, missing, expired, refused]
     {maker.__name__: maker for maker in makers}[sys.argv[1]](int(sys.argv[2]))

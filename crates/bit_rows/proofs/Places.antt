@@ -55,6 +55,12 @@ pub word-cleared : (words : List ℕ) (w : ℕ) → w < length words → (i : �
 word-cleared words w within i = by-run (64 * w) (64 * (w + 1)) i (λ t. place (set words w 0) i ≡ cond t false (place words i))
     (λ h l. place-set-same words w 0 i within (omega arith) ∙ bit-zero (i % 64)) (λ h. place-set-other words w 0 i (omega arith)) (λ h. place-set-other words w 0 i (omega arith))
 
+-- writing over one word
+pub word-put : (words : List ℕ) (w word : ℕ) → w < length words → (i : ℕ) → place (set words w word) i ≡ cond (lies (64 * w) (64 * (w + 1)) i) (bit word (i - 64 * w)) (place words i)
+word-put words w word within i = by-run (64 * w) (64 * (w + 1)) i (λ t. place (set words w word) i ≡ cond t (bit word (i - 64 * w)) (place words i))
+    (λ h l. let e : i % 64 ≡ i - 64 * w = omega arith in place-set-same words w word i within (omega arith) ∙ ap (bit word) e)
+    (λ h. place-set-other words w word i (omega arith)) (λ h. place-set-other words w word i (omega arith))
+
 -- setting bits of the one word that holds the places from a up to b
 pub set-in-word : (words : List ℕ) (a b v m : ℕ) → a < b → b ≤ 64 * length words → (b - 1) / 64 ≡ a / 64 → v ≡ bit_or (get_or words (a / 64) 0) m
     → ((k : ℕ) → k < 64 → bit m k ≡ lies (a % 64) ((b - 1) % 64 + 1) k)

@@ -3,7 +3,7 @@ use Rattle.std.proofs.Common.{◌≡◌, refl, sym, ◌∙◌, ap, ℕ, zero, su
 use Rattle.std.proofs.lemmas.Bool.{cases_lt, cond-true, cond-false, lt-ltb}
 use Rattle.std.proofs.lemmas.List.{get_or_past, length-map, length-append, length-take, length-drop, length-replicate, take_all, get_or_append_left, get_or-append_right, get_or-replicate, get_or-take, get_or-drop, get_or_push, length_push}
 use Rattle.std.proofs.lemmas.Slice.Zip.{length-zip}
-use Rattle.bit_rows.specs.Row.{bit, at, both, either, with_run, without_run, lies, IsNextSet, IsCleared, IsSpelling}
+use Rattle.bit_rows.specs.Row.{bit, at, both, either, with_run, without_run, lies, IsNextSet, IsCleared, IsPut, IsSpelling}
 use Rattle.bit_rows.specs.Words.{place, bits_of, IsRow, IsClearFrom, IsNextPlace}
 use Rattle.bit_rows.proofs.Tests.{and-false, and-true, or-false, or-true, lies-in, lies-below, lies-above, by-run}
 use Rattle.bit_rows.proofs.Bits.{place-is, place-past, bits-same, bits-read, bits-at, length-bits}
@@ -282,6 +282,33 @@ bits-cleared old new len from to row after places = record {
   chosen true false = refl
   chosen false true = refl
   chosen false false = refl
+
+-- ---- one word
+
+pub row-put : (old new : List ℕ) (len i word : ℕ) → IsRow old len → length new ≡ length old → ((r : ℕ) → place new r ≡ cond (lies (64 * i) (64 * (i + 1)) r) (bit word (r - 64 * i)) (place old r))
+    → ((k : ℕ) → k < 64 → len ≤ 64 * i + k → bit word k ≡ false) → IsRow new len
+row-put old new len i word row long places within = row-kept old new len len row long row.within
+    (λ r h. by-run (64 * i) (64 * (i + 1)) r (λ t. (place new r ≡ cond t (bit word (r - 64 * i)) (place old r)) → place new r ≡ false)
+    (λ a b e. e ∙ within (r - 64 * i) (omega arith) (omega arith)) (λ a e. e ∙ row.clear r h) (λ a e. e ∙ row.clear r h) (places r))
+
+pub bits-put : (old new : List ℕ) (len i word : ℕ) → IsRow old len → IsRow new len → ((r : ℕ) → place new r ≡ cond (lies (64 * i) (64 * (i + 1)) r) (bit word (r - 64 * i)) (place old r))
+    → IsPut i word (bits_of old len) (bits_of new len)
+bits-put old new len i word row after places = record {
+  long = length-bits new len ∙ sym (length-bits old len);
+  here = λ k h.
+      let e : 64 * i + k - 64 * i ≡ k = omega arith in
+      bits-read new len after (64 * i + k) ∙ places (64 * i + k)
+      ∙ cond-true _ (bit word (64 * i + k - 64 * i)) (place old (64 * i + k)) (lies-in (64 * i) (64 * (i + 1)) (64 * i + k) (omega arith) (omega arith)) ∙ ap (bit word) e;
+  others = λ r differs. bits-read new len after r ∙ places r ∙ outside r differs (cases_lt r (64 * i)) ∙ sym (bits-read old len row r);
+} where
+  outside : (r : ℕ) → (r / 64 ≡ i → ⊥) → (r < 64 * i) ⊎ (64 * i ≤ r) → cond (lies (64 * i) (64 * (i + 1)) r) (bit word (r - 64 * i)) (place old r) ≡ place old r
+  outside r differs (inl l) = cond-false _ (bit word (r - 64 * i)) (place old r) (lies-below (64 * i) (64 * (i + 1)) r l)
+  outside r differs (inr l) = cond-false _ (bit word (r - 64 * i)) (place old r) (lies-above (64 * i) (64 * (i + 1)) r (above differs)) where
+    above : (r / 64 ≡ i → ⊥) → 64 * (i + 1) ≤ r
+    above d = elim (cases_lt r (64 * (i + 1))) [
+      | inl m ↦ absurd (d (omega arith))
+      | inr m ↦ m
+    ]
 
 -- ---- the words as a slice
 

@@ -46,6 +46,12 @@ pub record IsCleared (from to : ℕ) (old new : List Bool) : Type 0 where
 unfoldable pub bit : ℕ → ℕ → Bool
 bit word k = word / 2 ^ k % 2 == 1
 
+-- the 64 places from place 64 * i on are those of the word, and the others are as they were
+pub record IsPut (i word : ℕ) (old new : List Bool) : Type 0 where
+  pub long : length new ≡ length old
+  pub here : (k : ℕ) → k < 64 → at new (64 * i + k) ≡ bit word k
+  pub others : (r : ℕ) → (r / 64 ≡ i → ⊥) → at new r ≡ at old r
+
 -- The words spell the list, 64 places to a word and the first place in the lowest bit. What lies
 -- past the list's end is not set, and the words come in steps of eight.
 pub record IsSpelling (words : List ℕ) (bits : List Bool) : Type 0 where

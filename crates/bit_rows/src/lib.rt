@@ -11,3 +11,4 @@ mod storage;
 mod words;
 
 pub use row::BitRow;
+pub use words::{joined, merged};

@@ -1,5 +1,5 @@
 ghost use Rattle.std.specs.Prelude.{◌≡◌, ℕ, ◌+◌, ◌-◌, ◌*◌, ◌%◌, ◌^◌, ◌<◌, ◌≤◌, false, [], ◌∷◌, ◌++◌, length, replicate, cond, IfOk, OnOk, OnErr, MatchOption};
-ghost use Rattle.bit_rows.specs.Row.{Row, at, both, either, with_run, without_run, bit, IsNextSet, IsCleared, IsSpelling};
+ghost use Rattle.bit_rows.specs.Row.{Row, at, both, either, with_run, without_run, bit, IsNextSet, IsCleared, IsPut, IsSpelling};
 ghost use Rattle.bit_rows.specs.Words.{bits_of, room_of, IsRow};
 
 use crate::{storage, words};
@@ -187,6 +187,17 @@ impl BitRow {
         ensures spare { self.new.spare ≡ self.old.spare }
     {
         storage::take_word(&mut self.words, i as usize)
+    }
+
+    /// Makes the 64 places from place `64 * i` on those of a word, which has none past the row's end.
+    #[inline(always)]
+    pub fn put_word(&mut self, i: u32, word: u64)
+        requires place { 64 * i < length self.old.bits }
+        requires within { (k : ℕ) → k < 64 → length self.old.bits ≤ 64 * i + k → bit word k ≡ false }
+        ensures bits { IsPut i word self.old.bits self.new.bits }
+        ensures spare { self.new.spare ≡ self.old.spare }
+    {
+        storage::put_word(&mut self.words, i as usize, word);
     }
 
     /// Leaves a place set where it is set in the other row too.

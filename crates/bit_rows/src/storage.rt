@@ -1,6 +1,6 @@
 // The functions on words, over the vector that keeps a row.
-ghost use Rattle.std.specs.Prelude.{◌≡◌, ℕ, ◌+◌, ◌*◌, ◌^◌, ◌<◌, ◌≤◌, false, cond, ◌&&◌, ◌||◌, nat_lt, length, slice_index, OnOk, OnErr};
-ghost use Rattle.bit_rows.specs.Row.{lies};
+ghost use Rattle.std.specs.Prelude.{◌≡◌, ℕ, ◌+◌, ◌-◌, ◌*◌, ◌^◌, ◌<◌, ◌≤◌, false, cond, ◌&&◌, ◌||◌, nat_lt, length, slice_index, OnOk, OnErr};
+ghost use Rattle.bit_rows.specs.Row.{bit, lies};
 ghost use Rattle.bit_rows.specs.Words.{place};
 
 use crate::words;
@@ -58,6 +58,17 @@ pub(crate) fn take_word(words: &mut Vec<u64>, w: usize) -> u64
         ≡ cond (lies (64 * w) (64 * (w + 1)) i) false (place words.old.items i) }
 {
     words::take_word(words.as_mut_slice(), w)
+}
+
+/// Writes over word `w`.
+#[inline(always)]
+pub(crate) fn put_word(words: &mut Vec<u64>, w: usize, word: u64)
+    requires { w < length words.old.items }
+    ensures length { length words.new.items ≡ length words.old.items }
+    ensures places { (i : ℕ) → place words.new.items i
+        ≡ cond (lies (64 * w) (64 * (w + 1)) i) (bit word (i - 64 * w)) (place words.old.items i) }
+{
+    words::put_word(words.as_mut_slice(), w, word);
 }
 
 /// ANDs the first `n` words with those of `other`.

@@ -52,7 +52,7 @@ pub(crate) fn word_at(words: &[u64], w: usize) -> u64
 /// The 64 bits from bit `by` of `low` on, where `high` follows `low`.
 #[inline(always)]
 #[tactic(auto, using(crate::proofs::Places::joins))]
-fn joined(low: u64, high: u64, by: u32) -> u64
+pub fn joined(low: u64, high: u64, by: u32) -> u64
     requires { by < 64 }
     ensures { (k : ℕ) → k < 64 → bit result k
         ≡ (bit low (by + k) || (nat_le 64 (by + k) && bit high (by + k - 64))) }
@@ -83,7 +83,7 @@ fn word_within(words: &[u64], w: usize, by: u32) -> u64
 /// The bits of `old` below bit `low`, and those of `new` from it on.
 #[inline(always)]
 #[tactic(auto, using(crate::proofs::Places::joins))]
-fn merged(old: u64, new: u64, low: u32) -> u64
+pub fn merged(old: u64, new: u64, low: u32) -> u64
     requires { low < 64 }
     ensures { (k : ℕ) → k < 64 → bit result k ≡ cond (nat_lt k low) (bit old k) (bit new k) }
 {
@@ -153,6 +153,17 @@ pub(crate) fn take_word(words: &mut [u64], w: usize) -> u64
     let word = words[w];
     words[w] = 0;
     word
+}
+
+/// Writes over word `w`.
+#[inline(always)]
+pub(crate) fn put_word(words: &mut [u64], w: usize, word: u64)
+    requires { w < length words.old }
+    ensures length { length words.new ≡ length words.old }
+    ensures places { (i : ℕ) → place words.new i
+        ≡ cond (lies (64 * w) (64 * (w + 1)) i) (bit word (i - 64 * w)) (place words.old i) }
+{
+    words[w] = word;
 }
 
 /// ANDs the first `n` words with those of `other`.

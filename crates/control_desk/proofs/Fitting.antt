@@ -26,7 +26,7 @@ set_there a b set d same there = kinds_there (slice_get b set) d.kinds
     (sym (slice_get-map (λ (x : SetDecl). x.kinds) b set) ∙ ap (λ (z : List (List Kind)). slice_get z set) (sym same) ∙ slice_get-map (λ (x : SetDecl). x.kinds) a set ∙ ap (option_map (λ (x : SetDecl). x.kinds)) there)
 
 fits_step : (a b : List SetDecl) → declared_kinds a ≡ declared_kinds b → (s : Step) → IsRunnableStep a s → IsRunnableStep b s
-fits_step a b same (Change line set verb parts expiry comment now) fits = let e = set_there a b set fits.0 same fits.1 in (e.0, e.1, subst (λ kinds. IsTrue (parts_fit kinds parts)) (sym e.2) fits.2)
+fits_step a b same (Change line set verb element now) fits = let e = set_there a b set fits.0 same fits.1 in (e.0, e.1, subst (λ kinds. IsTrue (parts_fit kinds element.parts)) (sym e.2) fits.2)
 fits_step a b same (Flush line set now) fits = let e = set_there a b set fits.0 same fits.1 in (e.0, e.1)
 fits_step a b same (Commit now) fits = tt
 fits_step a b same Abort fits = tt

@@ -2,7 +2,6 @@
 use Rattle.std.proofs.Common.{◌≡◌, refl, ◌∙◌, ap, ℕ, ◌+◌, ◌-◌, Bool, true, false, if◌then◌else◌, List, [], ◌∷◌, All, length, take, Option, Some, None, slice_get, arith, length-append}
 use Rattle.std.proofs.lemmas.List.{take-append-le, take_all}
 use Rattle.std.proofs.lemmas.List.Elements.{All-head, All-tail}
-use Rattle.set_model.specs.declared.kind.Interval.{Interval}
 use Rattle.set_model.specs.declared.report.Why.{Why}
 use Rattle.set_model.specs.declared.script.Step.{Step}
 use Rattle.set_model.specs.declared.script.Step.TheVariants.{Change, Flush, Commit, Abort}
@@ -10,6 +9,7 @@ use Rattle.set_model.specs.declared.script.Verb.{Verb}
 use Rattle.set_model.specs.SetState.{State}
 use Rattle.set_model.specs.Control.{Mode, Strict, KeepGoing, Control, step, section, refused, changed, changed_set, answered, flushed}
 use Rattle.set_model.specs.Runnable.{opens}
+use Rattle.set_model.specs.declared.element.NewElement.{NewElement}
 use Rattle.control_desk.specs.Woven.{IsTransaction}
 
 -- A control has the committed generations of another.
@@ -28,9 +28,9 @@ answered_keeps : (mode : Mode) (b c : Control) (line set : ℕ) (x : Option Why 
 answered_keeps mode b c line set (Some why, s) h = refused_keeps mode b c line set why h
 answered_keeps mode b c line set (None, s) h = record { committed = h.committed; last = h.last }
 
-changed_keeps : (mode : Mode) (b c : Control) (line set : ℕ) (verb : Verb) (parts : List Interval) (expiry : Option ℕ) (comment : List ℕ) (now : ℕ) (o : Option State) → Keeps b c → Keeps b (changed mode c line set verb parts expiry comment now o)
-changed_keeps mode b c line set verb parts expiry comment now None h = h
-changed_keeps mode b c line set verb parts expiry comment now (Some s) h = answered_keeps mode b c line set (changed_set verb s parts expiry comment now) h
+changed_keeps : (mode : Mode) (b c : Control) (line set : ℕ) (verb : Verb) (element : NewElement) (now : ℕ) (o : Option State) → Keeps b c → Keeps b (changed mode c line set verb element now o)
+changed_keeps mode b c line set verb element now None h = h
+changed_keeps mode b c line set verb element now (Some s) h = answered_keeps mode b c line set (changed_set verb s element now) h
 
 flushed_keeps : (b c : Control) (set : ℕ) (o : Option State) → Keeps b c → Keeps b (flushed c set o)
 flushed_keeps b c set None h = h
@@ -42,7 +42,7 @@ if_keeps b false x y p q = q
 
 -- A change or a flush commits nothing.
 pub step_keeps : (mode : Mode) (b c : Control) (s : Step) → opens (Some s) ≡ true → Keeps b c → Keeps b (step mode c s)
-step_keeps mode b c (Change line set verb parts expiry comment now) o h = if_keeps b c.failed c _ h (changed_keeps mode b c line set verb parts expiry comment now (slice_get c.sets set) h)
+step_keeps mode b c (Change line set verb element now) o h = if_keeps b c.failed c _ h (changed_keeps mode b c line set verb element now (slice_get c.sets set) h)
 step_keeps mode b c (Flush line set now) o h = if_keeps b c.failed c _ h (flushed_keeps b c set (slice_get c.sets set) h)
 step_keeps mode b c (Commit now) o h = absurd (cc o)
 step_keeps mode b c Abort o h = absurd (cc o)

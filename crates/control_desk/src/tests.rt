@@ -8,8 +8,8 @@ use crate::clerk::{Clerk, DeskError};
 use crate::opening::open_desk;
 use gen_publish::start;
 use set_model::{
-    Comment, Event, Family, Interval, Kind, Kinds, Memory, Name, Parts, Schema, SetDecl, Step,
-    Steps, Verb, parts_fit,
+    Comment, Event, Family, Interval, Kind, Kinds, Memory, Name, NewElement, Parts, Schema,
+    SetDecl, Step, Steps, Verb, parts_fit,
 };
 use std::alloc::Global;
 use std::test::Fail;
@@ -54,9 +54,11 @@ fn addition(alloc: Global, schema: &Schema, port: u128) -> Result<Step, Memory>
         line: 1,
         set: 0,
         verb: Verb::Add,
-        parts,
-        expiry: None,
-        comment: Comment::new(alloc),
+        element: NewElement {
+            parts,
+            expiry: None,
+            comment: Comment::new(alloc),
+        },
         now: 0,
     })
 }

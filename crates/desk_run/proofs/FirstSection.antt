@@ -23,7 +23,7 @@ commit-rests mode c now = go c.failed refl where
   go false e = rw e refl
 
 end-rests : (mode : Mode) (c : Control) (s : Step) → opens (Some s) ≡ false → Rests (step mode c s)
-end-rests mode c (Change line set verb parts expiry comment now) e = absurd (cc e)
+end-rests mode c (Change line set verb element now) e = absurd (cc e)
 end-rests mode c (Flush line set now) e = absurd (cc e)
 end-rests mode c (Commit now) e = commit-rests mode c now
 end-rests mode c Abort e = refl

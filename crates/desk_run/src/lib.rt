@@ -2,6 +2,7 @@
 //! others is submitted by a control thread of its own, transaction by transaction.
 #![tactic(auto)]
 
+mod gate_bell;
 mod running;
 #[cfg(test)]
 mod tests;

@@ -1,5 +1,6 @@
 use crate::whole::desk;
 use control_desk::{Bell, QuietBell};
+use packet_pool::{Gate, OpenGate};
 use script_run::Output;
 use set_model::Memory;
 use set_script::{ScriptError, read_script};
@@ -51,17 +52,41 @@ impl Bell for Meeting {
     }
 }
 
+/// A gate that keeps what it was told of sections: behind a 1 two digits a section, its number and that of the last one.
+#[derive(Drop)]
+struct Told {
+    digits: AtomicU64,
+}
+
+impl Gate for Told {
+    fn section(&self, number: u64, last: u64, _packets: u64) {
+        let before = self.digits.load(Ordering::SeqCst).saturating_mul(100);
+        let both = number.saturating_mul(10).saturating_add(last);
+        self.digits
+            .store(before.saturating_add(both), Ordering::SeqCst);
+    }
+
+    fn before(&self, _thread: u32, _packet: u64) {}
+
+    fn after(&self, _thread: u32, _packet: u64) {}
+
+    fn closing(&self, _generation: u64) {}
+
+    fn closed(&self, _generation: u64) {}
+}
+
 /// Runs the script of a text at a desk.
-fn run<R: Threads + Wait + Sync + Abort, B: Bell>(
+fn run<R: Threads + Wait + Sync + Abort, B: Bell, G: Gate>(
     rt: &R,
     alloc: Global,
     text: &str,
     bell: &B,
+    gate: &G,
 ) -> Result<Output, Memory> {
     match read_script(alloc, text.as_bytes()) {
         Ok(script) => {
             assert!(rt; script.sections.len() <= 17);
-            desk(rt, alloc, script, false, bell)
+            desk(rt, alloc, script, false, bell, gate)
         }
         Err(ScriptError::Memory) => Err(Memory),
         Err(ScriptError::Bad { line, .. }) => {
@@ -88,6 +113,7 @@ fn two_control_threads_at_once(rt: HostRuntime) -> Result<(), Fail> {
          round\n\
          add element ip t p { 443 }\n",
         &meeting,
+        &OpenGate,
     )?;
     let one_first = "# clerk 1 commit generation 1 purged 0\n\
                      # clerk 2 commit generation 2 purged 0\n\
@@ -124,6 +150,7 @@ fn the_first_section_alone(rt: HostRuntime) -> Result<(), Fail> {
         "add set ip t p { type inet_service ; flags interval ; }\n\
          add element ip t p { 80 }\n",
         &QuietBell,
+        &OpenGate,
     )?;
     expect(
         &rt,
@@ -153,6 +180,7 @@ fn a_control_thread_that_is_refused(rt: HostRuntime) -> Result<(), Fail> {
          commit\n\
          delete element ip t p { 80 }\n",
         &QuietBell,
+        &OpenGate,
     )?;
     expect(
         &rt,
@@ -181,6 +209,7 @@ fn sixteen_control_threads_with_nothing_to_do(rt: HostRuntime) -> Result<(), Fai
          round\nround\nround\nround\nround\nround\nround\nround\n\
          round\nround\nround\nround\nround\nround\nround\nround\n",
         &QuietBell,
+        &OpenGate,
     )?;
     expect(
         &rt,
@@ -193,5 +222,27 @@ fn sixteen_control_threads_with_nothing_to_do(rt: HostRuntime) -> Result<(), Fai
          }\n",
         false,
     );
+    Ok(())
+}
+
+#[test]
+fn a_gate_is_told_of_the_first_section_and_of_each_submission(rt: HostRuntime) -> Result<(), Fail> {
+    let told = Told {
+        digits: AtomicU64::new(1),
+    };
+    let _output = run(
+        &rt,
+        rt.alloc(),
+        "add set ip t p { type inet_service ; flags interval ; }\n\
+         add element ip t p { 80 }\n\
+         round\n\
+         round\n\
+         delete element ip t p { 80 }\n\
+         commit\n\
+         add element ip t p { 443 }\n",
+        &QuietBell,
+        &told,
+    )?;
+    assert_eq!(rt; told.digits.load(Ordering::SeqCst), 1_02_22_22);
     Ok(())
 }

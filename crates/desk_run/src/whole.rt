@@ -11,11 +11,12 @@ ghost use Rattle.set_report.specs.Writes.{AreSetsOf, NamesSet};
 ghost use Rattle.script_run.specs.Telling.{section_at};
 ghost use Rattle.desk_run.specs.DeskText.{IsDeskText, log_text};
 
+use crate::gate_bell::GateBell;
 use crate::running::run_later;
 use crate::text::write_log;
 use control_desk::{Bell, Entry, Log};
 use gen_publish::{Control, start};
-use packet_pool::run_steps;
+use packet_pool::{Gate, run_steps};
 use script_run::{Output, has_numbers, tells_refusal};
 use set_model::{Duplicate, Events, Memory, Schema, Script, Sections, Steps};
 use set_report::{write_list, write_remarks};
@@ -36,11 +37,12 @@ fn take_first(alloc: Global, sections: &mut Sections) -> Steps
 }
 
 /// Does the first section of a script on a new control, alone, and gives the control and what it told.
-fn run_first(
+fn run_first<G: Gate>(
     alloc: Global,
     schema: Schema,
     steps: &Steps,
     keep_going: bool,
+    gate: &G,
 ) -> Result<(Control, Events), Memory>
     requires sets { All HasFields schema }
     requires steps { All (IsRunnableStep schema) steps.now }
@@ -53,7 +55,7 @@ fn run_first(
     if !has_numbers(&control, steps) {
         return Err(Memory);
     }
-    let told = run_steps(alloc, &mut control, steps, keep_going)?;
+    let told = run_steps(alloc, &mut control, steps, keep_going, gate)?;
     Ok((control, told))
 }
 
@@ -101,17 +103,19 @@ fn any_refusal(told: &Events, log: &Log) -> bool
 
 /// Runs the first section of a script alone, and then each of the others by a control thread of its own, all of which submit
 /// their transactions to one control; and gives what was told, transaction by transaction, and the last generation as a script.
-/// It waits for the control threads, and calls the bell before each submission.
+/// It waits for the control threads, and calls the bell before each submission. The gate is told of the first section, and then
+/// of the section of each submission before it.
 ///
 /// # Errors
 ///
 /// `Memory` where there is none left.
-pub fn desk<R: Threads + Wait + Sync, B: Bell>(
+pub fn desk<R: Threads + Wait + Sync, B: Bell, G: Gate>(
     rt: &R,
     alloc: Global,
     script: Script,
     keep_going: bool,
     bell: &B,
+    gate: &G,
 ) -> Result<Output, Memory>
     requires script { IsRunnable script }
     requires clerks { length script.sections ≤ 17 }
@@ -124,8 +128,14 @@ pub fn desk<R: Threads + Wait + Sync, B: Bell>(
     } = script;
     let declared = schema.copy(alloc)?;
     let first = take_first(alloc, &mut sections);
-    let (control, told) = run_first(alloc, schema, &first, keep_going)?;
-    let (control, log) = run_later(rt, alloc, control, &sections, keep_going, bell)?;
+    let bell = GateBell {
+        bell,
+        gate,
+        last: sections.len(),
+    };
+    gate.section(0, bell.last, 0);
+    let (control, told) = run_first(alloc, schema, &first, keep_going, gate)?;
+    let (control, log) = run_later(rt, alloc, control, &sections, keep_going, &bell)?;
     let text = write_desk(alloc, &declared, &control, &told, &log, last)?;
     Ok(Output {
         text,

@@ -28,7 +28,7 @@ abbrev pub parts_of : Target → List Interval
 parts_of t = interval_of t.addresses ∷ interval_of t.ports ∷ []
 
 abbrev pub addition_of : Target → ℕ → Step
-addition_of t line = Change line 0 Add (parts_of t) None [] 0
+addition_of t line = Change line 0 Add (record { parts = parts_of t; expiry = None; comment = [] }) 0
 
 -- a key of an element
 abbrev pub key_of : Target → ℕ → List ℕ

@@ -63,7 +63,7 @@ drill_set = record { family = Ip; table = codes "drill"; name = codes "s"; kinds
 
 -- Element i is added on line i + 1.
 abbrev pub addition : ℕ → ℕ → Step
-addition seed i = Change (i + 1) 0 Add (addresses seed i ∷ ports seed i ∷ []) None [] 0
+addition seed i = Change (i + 1) 0 Add (record { parts = addresses seed i ∷ ports seed i ∷ []; expiry = None; comment = [] }) 0
 
 -- The steps add the elements in one transaction.
 abbrev pub drill_steps : ℕ → ℕ → List Step

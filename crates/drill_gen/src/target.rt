@@ -2,7 +2,7 @@ ghost use Rattle.std.specs.Prelude.{◌≡◌, IfOk};
 ghost use Rattle.drill_gen.specs.Drill.{after};
 
 use crate::draws::Draws;
-use set_model::{Comment, Interval, Key, Memory, Parts, Step, Verb};
+use set_model::{Comment, Interval, Key, Memory, NewElement, Parts, Step, Verb};
 use std::alloc::Global;
 
 /// The values from a lowest one on, so many behind it and none past the greatest of their kind.
@@ -85,9 +85,11 @@ impl Target {
             line,
             set: 0,
             verb: Verb::Add,
-            parts: self.parts(alloc)?,
-            expiry: None,
-            comment: Comment::new(alloc),
+            element: NewElement {
+                parts: self.parts(alloc)?,
+                expiry: None,
+                comment: Comment::new(alloc),
+            },
             now: 0,
         })
     }

@@ -5,7 +5,7 @@ use std::test::Fail;
 /// The intervals that step `i` adds.
 fn added(script: &Script, i: usize) -> Option<&[Interval]> {
     match script.sections.as_slice().first()?.as_slice().get(i)? {
-        Step::Change { parts, .. } => Some(parts.as_slice()),
+        Step::Change { element, .. } => Some(element.parts.as_slice()),
         _ => None,
     }
 }

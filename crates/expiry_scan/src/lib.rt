@@ -7,7 +7,7 @@ ghost use Rattle.expiry_scan.specs.Expired.{is_expired, next_place};
 
 mod timed;
 
-use set_model::{Element, Elements};
+use set_model::{Element, Elements, is_live};
 pub use timed::TimedElements;
 
 /// Whether an expiry has come at `now`: there is one, and it is at most `now`.
@@ -15,10 +15,7 @@ pub use timed::TimedElements;
 pub fn expired(expiry: Option<u64>, now: u64) -> bool
     ensures { result ≡ not (lives expiry now) }
 {
-    match expiry {
-        None => false,
-        Some(moment) => moment <= now,
-    }
+    !is_live(expiry, now)
 }
 
 /// The least place, not below `from`, of an element that is expired at `now`. `None` where there is

@@ -109,13 +109,13 @@ fn change_of(step: &Step, place: u64, set: usize) -> Option<Change<'_>> {
             line,
             set: other,
             verb,
-            parts,
+            element,
             ..
         } if *other as usize == set => Some(Change {
             place,
             line: *line,
             verb: *verb,
-            parts: parts.as_slice(),
+            parts: element.parts.as_slice(),
         }),
         _ => None,
     }

@@ -4,8 +4,8 @@ use crate::{
 };
 use pip_base::FaultKind;
 use set_model::{
-    Comment, Family, Interval, Kind, Kinds, Memory, Name, Parts, Schema, Script, Sections, SetDecl,
-    Step, Steps, Verb,
+    Comment, Family, Interval, Kind, Kinds, Memory, Name, NewElement, Parts, Schema, Script,
+    Sections, SetDecl, Step, Steps, Verb,
 };
 use std::alloc::Global;
 use std::test::Fail;
@@ -311,9 +311,11 @@ fn addition(alloc: Global, line: u64, low: u128, high: u128) -> Result<Step, Mem
         line,
         set: 0,
         verb: Verb::Add,
-        parts,
-        expiry: None,
-        comment: Comment::new(alloc),
+        element: NewElement {
+            parts,
+            expiry: None,
+            comment: Comment::new(alloc),
+        },
         now: 0,
     })
 }

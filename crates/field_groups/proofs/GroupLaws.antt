@@ -13,13 +13,19 @@ use Rattle.field_groups.specs.Laws.{HeldByGroups}
 
 -- ---- the code's masks
 
+masked : (value s width n : ℕ) → width < n → bit_and (value / 2 ^ s) (1 * 2 ^ width % 2 ^ n - 1) ≡ value / 2 ^ s % 2 ^ width
+masked value s width n h = ap (λ m. bit_and (value / 2 ^ s) (m - 1)) (one_shl width n h) ∙ and_mask (value / 2 ^ s) width
+
 pub group-mask : (value s width : ℕ) → width < 128 → bit_and (value / 2 ^ s) (1 * 2 ^ width % 2 ^ 128 - 1) ≡ value / 2 ^ s % 2 ^ width
-group-mask value s width h = ap (λ m. bit_and (value / 2 ^ s) (m - 1)) (one_shl width 128 h) ∙ and_mask (value / 2 ^ s) width
+group-mask value s width h = masked value s width 128 h
+
+pub short-mask : (value s width : ℕ) → width < 64 → bit_and (value / 2 ^ s) (1 * 2 ^ width % 2 ^ 64 - 1) ≡ value / 2 ^ s % 2 ^ width
+short-mask value s width h = masked value s width 64 h
 
 pub fixed-fits : (width k : ℕ) → width < 32 → k ≤ width → 1 * 2 ^ k % 2 ^ 32 ≤ 1 * 2 ^ width % 2 ^ 32
 fixed-fits width k small h = rw (one_shl k 32 (omega arith), one_shl width 32 small) (pow_mono {i = k} {j = width} h)
 
-pub ruleset masks = (group-mask, fixed-fits)
+pub ruleset masks = (group-mask, short-mask, fixed-fits)
 
 -- ---- numbers and their high parts
 

@@ -30,7 +30,11 @@ pub fn group_value(value: u128, width: u32, bits: u32, g: u32) -> u32
     ensures { result ≡ group width bits g value }
 {
     let shift = bits - width * (g + 1);
-    (value >> shift & (1u128 << width) - 1) as u32
+    if bits <= 64 {
+        (value as u64 >> shift & (1u64 << width) - 1) as u32
+    } else {
+        (value >> shift & (1u128 << width) - 1) as u32
+    }
 }
 
 /// Group `g` of the block's base, and the mask of the bits that the block fixes in that group.

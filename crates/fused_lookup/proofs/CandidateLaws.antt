@@ -1,20 +1,11 @@
 -- What is skipped between two candidates of a page of words.
-use Rattle.std.proofs.Common.{◌≡◌, ℕ, ◌+◌, ◌-◌, ◌*◌, ◌/◌, ◌<◌, ◌≤◌, false, List, arith}
+use Rattle.std.proofs.Common.{◌≡◌, ℕ, ◌+◌, ◌-◌, ◌*◌, ◌/◌, ◌<◌, ◌≤◌, false, arith}
 use Rattle.bit_rows.specs.Row.{bit}
 use Rattle.lookup_table.specs.declared.table.FieldTable.{FieldTable}
 use Rattle.lookup_table.specs.Candidates.{LeavesNone}
-use Rattle.fused_lookup.specs.Sieve.{AreLastFour, HaveWords, NoneHolds}
+use Rattle.fused_lookup.specs.Sieve.{NoneHolds}
 
 -- the words from a up to b of a page are no candidates
 pub none-between : (t : FieldTable) (value p candidates a b : ℕ) → LeavesNone t value p candidates → b ≤ 64 → ((k : ℕ) → a ≤ k → k < b → bit candidates k ≡ false) → NoneHolds t value (64 * p + a) (64 * p + b)
 none-between t value p candidates a b leaves small unset = λ blocks stands r low high within.
     leaves blocks stands (r / 64 - 64 * p) r (omega arith) (unset (r / 64 - 64 * p) (omega arith) (omega arith)) within (omega arith)
-
--- a word that has rules is in each bucket
-pub have-words : (t : FieldTable) (value i : ℕ) (fourth third second last : List ℕ) → AreLastFour t value fourth third second last → 64 * i < t.rules → HaveWords (i + 1) fourth third second last
-have-words t value i fourth third second last are h =
-    let a = are.four.long in
-    let b = are.three.long in
-    let c = are.two.long in
-    let d = are.one.long in
-    record { four = omega arith; three = omega arith; two = omega arith; one = omega arith }

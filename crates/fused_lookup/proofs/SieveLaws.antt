@@ -1,37 +1,52 @@
 -- What the buckets of a value's last four groups leave, and the others of that.
-use Rattle.std.proofs.Common.{◌≡◌, refl, sym, ◌∙◌, ap, ℕ, zero, suc, ◌+◌, ◌-◌, ◌*◌, ◌/◌, ◌^◌, ◌<◌, ◌≤◌, ◌⊎◌, inl, inr, Bool, true, false, ◌&&◌, List, length, arith, Some, slice_get}
+use Rattle.std.proofs.Common.{◌≡◌, refl, sym, ◌∙◌, ap, ℕ, zero, suc, ◌+◌, ◌-◌, ◌*◌, ◌/◌, ◌%◌, ◌^◌, ◌<◌, ◌≤◌, ◌⊎◌, inl, inr, Bool, true, false, ◌&&◌, List, length, subst, arith}
 use Rattle.std.specs.Prelude.{slice_index, replicate}
 use Rattle.std.proofs.lemmas.Bool.{cases_lt, lt-ltb}
 use Rattle.std.proofs.lemmas.Nat.{le-div}
 use Rattle.std.proofs.lemmas.List.{get_or_past, length-replicate}
 use Rattle.std.proofs.Math.Bool.{and_comm, and_assoc}
-use Rattle.bit_rows.specs.Row.{Row, at, bit, IsSpelling}
+use Rattle.bit_rows.specs.Row.{Row, at, bit}
 use Rattle.bit_rows.proofs.Bits.{bit-ones}
 use Rattle.field_groups.specs.Groups.{IsWidth, every}
 use Rattle.set_model.specs.declared.block.Block.{Block}
 use Rattle.set_model.specs.Blocks.{holds_value}
 use Rattle.lookup_table.specs.declared.table.FieldTable.{FieldTable}
-use Rattle.lookup_table.specs.Table.{block_at}
+use Rattle.lookup_table.specs.Table.{block_at, bucket_at, cell}
+use Rattle.lookup_table.specs.Lines.{IsPage}
 use Rattle.lookup_table.specs.Rules.{Stands, place_of}
-use Rattle.lookup_table.proofs.RowsLaws.{cell-read}
+use Rattle.lookup_table.proofs.RowsLaws.{cell-is, All-bucket}
 use Rattle.lookup_table.proofs.MatchLaws.{held-by-buckets}
 use Rattle.set_tables.specs.Rows.{matched}
 use Rattle.fused_lookup.specs.Words.{IsWordOf}
-use Rattle.fused_lookup.specs.Sieve.{is_set, IsBucket, AreLastFour, in_all, KeepsWhereSet, NoneHolds}
+use Rattle.fused_lookup.specs.Sieve.{is_set, IsBucket, AreLastFour, HaveLines, in_all, KeepsWhereSet, NoneHolds}
+use Rattle.fused_lookup.specs.declared.sieve.LastFour.{LastFour}
 use Rattle.fused_lookup.proofs.MatchLaws.{left-at, length-left, word-left, ones-left}
 
 -- a field has a group
 pub some-group : (width bits : ℕ) → IsWidth width bits → 1 ≤ bits / width
 some-group width bits w = le-div 1 bits width (omega (arith, w.four)) (omega (arith, w.some, w.eight))
 
-pub is-bucket : (t : FieldTable) (value g : ℕ) (words : List ℕ) (bucket : Row) → slice_get t.buckets (place_of t g value) ≡ Some bucket → length bucket.bits ≡ t.rules → IsSpelling words bucket.bits
-    → IsBucket t value g words
-is-bucket t value g words bucket found long spells = record {
-  steps = spells.steps;
-  long = let h = spells.long in omega arith;
-  same = λ w k h. spells.same w k h ∙ sym (cell-read t.buckets (place_of t g value) (64 * w + k) bucket found);
-  past = λ w k h p. spells.same w k h ∙ get_or_past bucket.bits (64 * w + k) false (omega arith);
-}
+-- a bit of a word of a page
+page-bit : (t : FieldTable) (value g place i k : ℕ) (words : List ℕ) → IsPage t.buckets.rows (i / 8) words → IsBucket t value g place → k < 64 → bit (slice_index words (place * 8 + i % 8)) k ≡ is_set t value (64 * i + k) g
+page-bit t value g place i k words page bucket h =
+    let at : 512 * (i / 8) + 64 * (i % 8) + k ≡ 64 * i + k = omega arith in
+    page.bits place (i % 8) k bucket.within (omega arith) h ∙ ap (cell t.buckets.rows place) at ∙ ap (λ p. cell t.buckets.rows p (64 * i + k)) bucket.at
+
+-- no rule is set past the last one
+bucket-past : (t : FieldTable) (value g place r : ℕ) → IsBucket t value g place → t.rules ≤ r → is_set t value r g ≡ false
+bucket-past t value g place r bucket past =
+    let within : place_of t g value < length t.buckets.rows = subst (λ (p : ℕ). p < length t.buckets.rows) bucket.at bucket.within in
+    let long = All-bucket (λ (x : Row). length x.bits ≡ t.rules) t.buckets.rows (place_of t g value) t.shaped.rows within in
+    cell-is t.buckets.rows (place_of t g value) r ∙ get_or_past (bucket_at t.buckets.rows (place_of t g value)).bits r false (omega arith)
+
+pub have-lines : (t : FieldTable) (value : ℕ) (buckets : LastFour) (p : ℕ) (words : List ℕ) → AreLastFour t value buckets → IsPage t.buckets.rows p words → HaveLines (length words) buckets
+have-lines t value buckets p words are page =
+    let n = page.long in
+    let a = are.four.within in
+    let b = are.three.within in
+    let c = are.two.within in
+    let d = are.one.within in
+    record { four = omega arith; three = omega arith; two = omega arith; one = omega arith }
 
 -- ---- all groups are the last four and those before them
 
@@ -79,21 +94,22 @@ last-four p (suc (suc (suc (suc m)))) h =
 
 -- ---- a word
 
-in-four : (t : FieldTable) (value : ℕ) (fourth third second last : List ℕ) (w k : ℕ) → AreLastFour t value fourth third second last → k < 64
-    → in_all fourth third second last w k
-    ≡ (((is_set t value (64 * w + k) (t.bits / t.width - 4) && is_set t value (64 * w + k) (t.bits / t.width - 3)) && is_set t value (64 * w + k) (t.bits / t.width - 2))
-    && is_set t value (64 * w + k) (t.bits / t.width - 1))
-in-four t value fourth third second last w k are h = two (two (two (are.four.same w k h) (are.three.same w k h)) (are.two.same w k h)) (are.one.same w k h) where
-  two : {a b c d : Bool} → a ≡ b → c ≡ d → (a && c) ≡ (b && d)
-  two x y = cc
+in-four : (t : FieldTable) (value : ℕ) (buckets : LastFour) (i k : ℕ) (words : List ℕ) → AreLastFour t value buckets → IsPage t.buckets.rows (i / 8) words → k < 64
+    → in_all words buckets (i % 8) k
+    ≡ (((is_set t value (64 * i + k) (t.bits / t.width - 4) && is_set t value (64 * i + k) (t.bits / t.width - 3)) && is_set t value (64 * i + k) (t.bits / t.width - 2))
+    && is_set t value (64 * i + k) (t.bits / t.width - 1))
+in-four t value buckets i k words are page h =
+    two (two (two (page-bit t value _ buckets.fourth i k words page are.four h) (page-bit t value _ buckets.third i k words page are.three h)) (page-bit t value _ buckets.second i k words page are.two h)) (page-bit t value _ buckets.last i k words page are.one h) where
+      two : {a b c d : Bool} → a ≡ b → c ≡ d → (a && c) ≡ (b && d)
+      two x y = cc
 
 -- what is left of a rule in all groups
-pub in-groups : (t : FieldTable) (value : ℕ) (fourth third second last : List ℕ) (blocks : List Block) (w k : ℕ) → AreLastFour t value fourth third second last → Stands t blocks → value < 2 ^ t.bits → k < 64
-    → 64 * w + k < t.rules → (in_all fourth third second last w k && every (is_set t value (64 * w + k)) (t.bits / t.width - 4)) ≡ holds_value (block_at blocks (64 * w + k)) value
-in-groups t value fourth third second last blocks w k are stands small h r =
-    ap (λ x. x && every (is_set t value (64 * w + k)) (t.bits / t.width - 4)) (in-four t value fourth third second last w k are h)
-    ∙ last-four (is_set t value (64 * w + k)) (t.bits / t.width) (some-group t.width t.bits t.shaped.groups)
-    ∙ held-by-buckets t blocks value (64 * w + k) stands small r
+pub in-groups : (t : FieldTable) (value : ℕ) (buckets : LastFour) (words : List ℕ) (blocks : List Block) (i k : ℕ) → AreLastFour t value buckets → IsPage t.buckets.rows (i / 8) words → Stands t blocks → value < 2 ^ t.bits
+    → k < 64 → 64 * i + k < t.rules → (in_all words buckets (i % 8) k && every (is_set t value (64 * i + k)) (t.bits / t.width - 4)) ≡ holds_value (block_at blocks (64 * i + k)) value
+in-groups t value buckets words blocks i k are page stands small h r =
+    ap (λ x. x && every (is_set t value (64 * i + k)) (t.bits / t.width - 4)) (in-four t value buckets i k words are page h)
+    ∙ last-four (is_set t value (64 * i + k)) (t.bits / t.width) (some-group t.width t.bits t.shaped.groups)
+    ∙ held-by-buckets t blocks value (64 * i + k) stands small r
 
 and-fails : (a b : Bool) → a ≡ false → (a && b) ≡ false
 and-fails a b e = ap (λ x. x && b) e
@@ -103,23 +119,23 @@ pub rest-left : (t : FieldTable) (value i left word n : ℕ) → KeepsWhereSet t
 rest-left t value i left word n keeps is k h = keeps k h ∙ ap (λ m. bit left k && every (is_set t value (64 * i + k)) m) is
 
 -- a word of the rules that hold the value
-pub word-held : (t : FieldTable) (value : ℕ) (fourth third second last : List ℕ) (blocks : List Block) (w left word : ℕ) → AreLastFour t value fourth third second last → Stands t blocks → value < 2 ^ t.bits
-    → ((k : ℕ) → k < 64 → bit left k ≡ in_all fourth third second last w k) → ((k : ℕ) → k < 64 → bit word k ≡ (bit left k && every (is_set t value (64 * w + k)) (t.bits / t.width - 4)))
-    → (k : ℕ) → k < 64 → 64 * w + k < t.rules → bit word k ≡ (bit (2 ^ 64 - 1) k && holds_value (block_at blocks (64 * w + k)) value)
-word-held t value fourth third second last blocks w left word are stands small all rest k h r =
-    rest k h ∙ ap (λ x. x && every (is_set t value (64 * w + k)) (t.bits / t.width - 4)) (all k h)
-    ∙ in-groups t value fourth third second last blocks w k are stands small h r
-    ∙ sym (ap (λ x. x && holds_value (block_at blocks (64 * w + k)) value) (bit-ones 64 k ∙ lt-ltb k 64 h))
+pub word-held : (t : FieldTable) (value : ℕ) (buckets : LastFour) (words : List ℕ) (blocks : List Block) (i left word : ℕ) → AreLastFour t value buckets → IsPage t.buckets.rows (i / 8) words → Stands t blocks → value < 2 ^ t.bits
+    → ((k : ℕ) → k < 64 → bit left k ≡ in_all words buckets (i % 8) k) → ((k : ℕ) → k < 64 → bit word k ≡ (bit left k && every (is_set t value (64 * i + k)) (t.bits / t.width - 4)))
+    → (k : ℕ) → k < 64 → 64 * i + k < t.rules → bit word k ≡ (bit (2 ^ 64 - 1) k && holds_value (block_at blocks (64 * i + k)) value)
+word-held t value buckets words blocks i left word are page stands small all rest k h r =
+    rest k h ∙ ap (λ x. x && every (is_set t value (64 * i + k)) (t.bits / t.width - 4)) (all k h)
+    ∙ in-groups t value buckets words blocks i k are page stands small h r
+    ∙ sym (ap (λ x. x && holds_value (block_at blocks (64 * i + k)) value) (bit-ones 64 k ∙ lt-ltb k 64 h))
 
-pub word-past : (t : FieldTable) (value : ℕ) (fourth third second last : List ℕ) (w left word : ℕ) → AreLastFour t value fourth third second last
-    → ((k : ℕ) → k < 64 → bit left k ≡ in_all fourth third second last w k) → ((k : ℕ) → k < 64 → bit word k ≡ (bit left k && every (is_set t value (64 * w + k)) (t.bits / t.width - 4)))
-    → (k : ℕ) → k < 64 → t.rules ≤ 64 * w + k → bit word k ≡ false
-word-past t value fourth third second last w left word are all rest k h p =
+pub word-past : (t : FieldTable) (value : ℕ) (buckets : LastFour) (words : List ℕ) (i left word : ℕ) → AreLastFour t value buckets → IsPage t.buckets.rows (i / 8) words
+    → ((k : ℕ) → k < 64 → bit left k ≡ in_all words buckets (i % 8) k) → ((k : ℕ) → k < 64 → bit word k ≡ (bit left k && every (is_set t value (64 * i + k)) (t.bits / t.width - 4)))
+    → (k : ℕ) → k < 64 → t.rules ≤ 64 * i + k → bit word k ≡ false
+word-past t value buckets words i left word are page all rest k h p =
     rest k h
-    ∙ and-fails (bit left k) (every (is_set t value (64 * w + k)) (t.bits / t.width - 4))
-    (all k h
-    ∙ and-fails ((bit (slice_index fourth w) k && bit (slice_index third w) k) && bit (slice_index second w) k) (bit (slice_index last w) k)
-    (and-fails (bit (slice_index fourth w) k && bit (slice_index third w) k) (bit (slice_index second w) k) (and-fails (bit (slice_index fourth w) k) (bit (slice_index third w) k) (are.four.past w k h p))))
+    ∙ and-fails (bit left k) (every (is_set t value (64 * i + k)) (t.bits / t.width - 4))
+    (all k h ∙ in-four t value buckets i k words are page h
+    ∙ and-fails _ (is_set t value (64 * i + k) (t.bits / t.width - 1))
+    (and-fails _ (is_set t value (64 * i + k) (t.bits / t.width - 2)) (and-fails _ (is_set t value (64 * i + k) (t.bits / t.width - 3)) (bucket-past t value _ buckets.fourth (64 * i + k) are.four p))))
 
 -- ---- rows
 

@@ -1,4 +1,4 @@
--- The buckets of a value's groups as words, and the rules that they leave.
+-- The buckets of a value's groups, word by word, and the rules that they leave.
 use Rattle.std.specs.Prelude.{◌≡◌, ℕ, ◌+◌, ◌-◌, ◌*◌, ◌/◌, ◌%◌, ◌<◌, ◌≤◌, Bool, false, ◌&&◌, List, length, slice_index}
 use Rattle.bit_rows.specs.Row.{bit}
 use Rattle.field_groups.specs.Groups.{every}
@@ -7,35 +7,38 @@ use Rattle.set_model.specs.Blocks.{holds_value}
 use Rattle.lookup_table.specs.declared.table.FieldTable.{FieldTable}
 use Rattle.lookup_table.specs.Table.{cell, block_at}
 use Rattle.lookup_table.specs.Rules.{Stands, place_of}
+use Rattle.fused_lookup.specs.declared.sieve.LastFour.{LastFour}
 
 -- Rule r is set in the bucket of the value's group g.
 abbrev pub is_set : FieldTable → ℕ → ℕ → ℕ → Bool
-is_set t value r g = cell t.buckets (place_of t g value) r
+is_set t value r g = cell t.buckets.rows (place_of t g value) r
 
--- the bucket of a value's group g as words: eight at a time, and nothing set past the rules
-pub record IsBucket (t : FieldTable) (value g : ℕ) (words : List ℕ) : Type 0 where
-  pub steps : length words % 8 ≡ 0
-  pub long : t.rules ≤ 64 * length words
-  pub same : (w k : ℕ) → k < 64 → bit (slice_index words w) k ≡ is_set t value (64 * w + k) g
-  pub past : (w k : ℕ) → k < 64 → t.rules ≤ 64 * w + k → bit (slice_index words w) k ≡ false
+-- where the bucket of a value's group g stands
+pub record IsBucket (t : FieldTable) (value g place : ℕ) : Type 0 where
+  pub at : place ≡ place_of t g value
+  pub within : place < length t.buckets.rows
 
--- The buckets of a value's last four groups. A field of fewer groups has its first one more than once.
-pub record AreLastFour (t : FieldTable) (value : ℕ) (fourth third second last : List ℕ) : Type 0 where
-  pub four : IsBucket t value (t.bits / t.width - 4) fourth
-  pub three : IsBucket t value (t.bits / t.width - 3) third
-  pub two : IsBucket t value (t.bits / t.width - 2) second
-  pub one : IsBucket t value (t.bits / t.width - 1) last
+-- The buckets of a value's last four groups, and the number of groups before them. A field of fewer groups
+-- has its first one more than once.
+pub record AreLastFour (t : FieldTable) (value : ℕ) (buckets : LastFour) : Type 0 where
+  pub four : IsBucket t value (t.bits / t.width - 4) buckets.fourth
+  pub three : IsBucket t value (t.bits / t.width - 3) buckets.third
+  pub two : IsBucket t value (t.bits / t.width - 2) buckets.second
+  pub one : IsBucket t value (t.bits / t.width - 1) buckets.last
+  pub rest : buckets.rest ≡ t.bits / t.width - 4
 
--- Each has n words at least.
-pub record HaveWords (n : ℕ) (fourth third second last : List ℕ) : Type 0 where
-  pub four : n ≤ length fourth
-  pub three : n ≤ length third
-  pub two : n ≤ length second
-  pub one : n ≤ length last
+-- Each has its line of eight in a page of n words.
+pub record HaveLines (n : ℕ) (buckets : LastFour) : Type 0 where
+  pub four : buckets.fourth * 8 + 8 ≤ n
+  pub three : buckets.third * 8 + 8 ≤ n
+  pub two : buckets.second * 8 + 8 ≤ n
+  pub one : buckets.last * 8 + 8 ≤ n
 
--- bit k of word w in all four
-abbrev pub in_all : List ℕ → List ℕ → List ℕ → List ℕ → ℕ → ℕ → Bool
-in_all fourth third second last w k = ((bit (slice_index fourth w) k && bit (slice_index third w) k) && bit (slice_index second w) k) && bit (slice_index last w) k
+-- bit k of word w of a page in all four
+abbrev pub in_all : List ℕ → LastFour → ℕ → ℕ → Bool
+in_all words buckets w k =
+    ((bit (slice_index words (buckets.fourth * 8 + w)) k && bit (slice_index words (buckets.third * 8 + w)) k) && bit (slice_index words (buckets.second * 8 + w)) k)
+    && bit (slice_index words (buckets.last * 8 + w)) k
 
 -- A bit of word i stays where its rule is set in the buckets of the first n groups too.
 abbrev pub KeepsWhereSet : FieldTable → ℕ → ℕ → ℕ → ℕ → ℕ → Type 0

@@ -8,40 +8,33 @@ ghost use Rattle.fused_lookup.specs.Window.{IsWindow};
 use crate::bits::next_bit;
 use crate::led::first_live;
 use crate::refill::refill_word;
-use crate::sieve::{bucket_words, match_at};
+use crate::sieve::{LastFour, last_four, match_at};
 use crate::window::Window;
 use bit_rows::BitRow;
 use lookup_table::FieldTable;
-use set_tables::{End, Span};
+use mapping_table::{EndTable, MapTable};
 
 /// Matches the first field's rules, and sets what they map to in the next field's row, which is
 /// clear. It gives that row's window.
 pub fn refill_from_first(
     table: &FieldTable,
-    spans: &[Span],
+    spans: &MapTable,
     value: u128,
     next: &mut BitRow,
 ) -> Window
     requires value { value < 2 ^ table.now.bits }
-    requires rules { length spans.now ≡ table.now.rules }
-    requires inside { All (λ s. s.first + s.count ≤ length next.old.bits) spans.now }
+    requires rules { length spans.now.items ≡ table.now.rules }
+    requires inside { All (λ s. s.first + s.count ≤ length next.old.bits) spans.now.items }
     requires clear { IsClear next.old.bits }
-    ensures refilled { Refills table.now spans.now (λ rule. holds_value rule value) (replicate table.now.rules true) next.new.bits }
+    ensures refilled { Refills table.now spans.now.items (λ rule. holds_value rule value) (replicate table.now.rules true) next.new.bits }
     ensures window { IsWindow next.new.bits result }
     ensures next_len { length next.new.bits ≡ length next.old.bits }
     ensures next_spare { next.new.spare ≡ next.old.spare }
 {
-    let groups = table.groups();
-    let fourth = bucket_words(table, value, groups.saturating_sub(4));
-    let third = bucket_words(table, value, groups.saturating_sub(3));
-    let second = bucket_words(table, value, groups.saturating_sub(2));
-    let last = bucket_words(table, value, groups - 1);
-    let rest = groups.saturating_sub(4);
+    let buckets = last_four(table, value);
     let mut reached = Window::none();
     'pages: for p in 0..table.rules.div_ceil(4096) {
-        reached = refill_page(
-            table, spans, value, fourth, third, second, last, rest, p, next, reached,
-        );
+        reached = refill_page(table, spans, value, buckets, p, next, reached);
     }
     reached
 }
@@ -50,25 +43,20 @@ pub fn refill_from_first(
 #[inline(always)]
 fn refill_page(
     table: &FieldTable,
-    spans: &[Span],
+    spans: &MapTable,
     value: u128,
-    fourth: &[u64],
-    third: &[u64],
-    second: &[u64],
-    last: &[u64],
-    rest: u32,
+    buckets: LastFour,
     p: u32,
     next: &mut BitRow,
     window: Window,
 ) -> Window
     requires value { value < 2 ^ table.now.bits }
-    requires rules { length spans.now ≡ table.now.rules }
-    requires inside { All (λ s. s.first + s.count ≤ length next.old.bits) spans.now }
-    requires four { AreLastFour table.now value fourth.now third.now second.now last.now }
-    requires rest { rest ≡ table.now.bits / table.now.width - 4 }
+    requires rules { length spans.now.items ≡ table.now.rules }
+    requires inside { All (λ s. s.first + s.count ≤ length next.old.bits) spans.now.items }
+    requires four { AreLastFour table.now value buckets }
     requires page { 4096 * p < table.now.rules }
     requires window { IsWindow next.old.bits window }
-    ensures filled { RefillsWords table.now spans.now (λ rule. holds_value rule value) (64 * p) (64 * (p + 1)) next.old.bits next.new.bits }
+    ensures filled { RefillsWords table.now spans.now.items (λ rule. holds_value rule value) (64 * p) (64 * (p + 1)) next.old.bits next.new.bits }
     ensures window { IsWindow next.new.bits result }
     ensures len { length next.new.bits ≡ length next.old.bits }
     ensures spare { next.new.spare ≡ next.old.spare }
@@ -79,7 +67,7 @@ fn refill_page(
     let mut from = 0;
     'words: while let Some(k) = next_bit(candidates, from) {
         let i = 64 * p + k;
-        let word = match_at(table, value, fourth, third, second, last, rest, i);
+        let word = match_at(table, value, buckets, i);
         window = refill_word(spans, i, word, next, window);
         from = k + 1;
     }
@@ -88,21 +76,14 @@ fn refill_page(
 
 /// Matches the rules of the one field of a set. It gives the place of the element of the lowest rule
 /// that is matched and whose end is live.
-pub fn lead_from_first(table: &FieldTable, ends: &[End], value: u128, now: u64) -> Option<u64>
+pub fn lead_from_first(table: &FieldTable, ends: &EndTable, value: u128, now: u64) -> Option<u64>
     requires value { value < 2 ^ table.now.bits }
-    requires rules { length ends.now ≡ table.now.rules }
-    ensures { Leads table.now ends.now (λ rule. holds_value rule value) (replicate table.now.rules true) now result }
+    requires rules { length ends.now.items ≡ table.now.rules }
+    ensures { Leads table.now ends.now.items (λ rule. holds_value rule value) (replicate table.now.rules true) now result }
 {
-    let groups = table.groups();
-    let fourth = bucket_words(table, value, groups.saturating_sub(4));
-    let third = bucket_words(table, value, groups.saturating_sub(3));
-    let second = bucket_words(table, value, groups.saturating_sub(2));
-    let last = bucket_words(table, value, groups - 1);
-    let rest = groups.saturating_sub(4);
+    let buckets = last_four(table, value);
     'pages: for p in 0..table.rules.div_ceil(4096) {
-        if let Some(place) = lead_page(
-            table, ends, value, fourth, third, second, last, rest, p, now,
-        ) {
+        if let Some(place) = lead_page(table, ends, value, buckets, p, now) {
             return Some(place);
         }
     }
@@ -113,29 +94,24 @@ pub fn lead_from_first(table: &FieldTable, ends: &[End], value: u128, now: u64) 
 #[inline(always)]
 fn lead_page(
     table: &FieldTable,
-    ends: &[End],
+    ends: &EndTable,
     value: u128,
-    fourth: &[u64],
-    third: &[u64],
-    second: &[u64],
-    last: &[u64],
-    rest: u32,
+    buckets: LastFour,
     p: u32,
     now: u64,
 ) -> Option<u64>
     requires value { value < 2 ^ table.now.bits }
-    requires rules { length ends.now ≡ table.now.rules }
-    requires four { AreLastFour table.now value fourth.now third.now second.now last.now }
-    requires rest { rest ≡ table.now.bits / table.now.width - 4 }
+    requires rules { length ends.now.items ≡ table.now.rules }
+    requires four { AreLastFour table.now value buckets }
     requires page { 4096 * p < table.now.rules }
-    ensures { LeadsWords table.now ends.now (λ rule. holds_value rule value) (64 * p) (64 * (p + 1)) now result }
+    ensures { LeadsWords table.now ends.now.items (λ rule. holds_value rule value) (64 * p) (64 * (p + 1)) now result }
 {
     let _rules = table.rules;
     let candidates = table.candidates(value, p);
     let mut from = 0;
     'words: while let Some(k) = next_bit(candidates, from) {
         let i = 64 * p + k;
-        let word = match_at(table, value, fourth, third, second, last, rest, i);
+        let word = match_at(table, value, buckets, i);
         if let Some(place) = first_live(ends, i, word, now) {
             return Some(place);
         }

@@ -9,25 +9,25 @@ use crate::refill::refill_on;
 use crate::window::Window;
 use bit_rows::BitRow;
 use lookup_table::FieldTable;
-use set_tables::{End, Span};
+use mapping_table::{EndTable, MapTable};
 
 /// Matches a field's rules, of which those in the row's window may be left, and sets what they map
 /// to in the next field's row, which is clear. It gives that row's window, and leaves this one clear.
 pub fn refill_from(
     table: &FieldTable,
-    spans: &[Span],
+    spans: &MapTable,
     value: u128,
     window: Window,
     row: &mut BitRow,
     next: &mut BitRow,
 ) -> Window
     requires value { value < 2 ^ table.now.bits }
-    requires rules { length spans.now ≡ table.now.rules }
+    requires rules { length spans.now.items ≡ table.now.rules }
     requires room { table.now.rules ≤ length row.old.bits }
-    requires inside { All (λ s. s.first + s.count ≤ length next.old.bits) spans.now }
+    requires inside { All (λ s. s.first + s.count ≤ length next.old.bits) spans.now.items }
     requires window { IsWindow row.old.bits window }
     requires clear { IsClear next.old.bits }
-    ensures refilled { Refills table.now spans.now (λ rule. holds_value rule value) row.old.bits next.new.bits }
+    ensures refilled { Refills table.now spans.now.items (λ rule. holds_value rule value) row.old.bits next.new.bits }
     ensures window { IsWindow next.new.bits result }
     ensures clear { IsClear row.new.bits }
     ensures len { length row.new.bits ≡ length row.old.bits }
@@ -48,17 +48,17 @@ pub fn refill_from(
 /// clear.
 pub fn lead_from(
     table: &FieldTable,
-    ends: &[End],
+    ends: &EndTable,
     value: u128,
     now: u64,
     window: Window,
     row: &mut BitRow,
 ) -> Option<u64>
     requires value { value < 2 ^ table.now.bits }
-    requires rules { length ends.now ≡ table.now.rules }
+    requires rules { length ends.now.items ≡ table.now.rules }
     requires room { table.now.rules ≤ length row.old.bits }
     requires window { IsWindow row.old.bits window }
-    ensures led { Leads table.now ends.now (λ rule. holds_value rule value) row.old.bits now result }
+    ensures led { Leads table.now ends.now.items (λ rule. holds_value rule value) row.old.bits now result }
     ensures clear { IsClear row.new.bits }
     ensures len { length row.new.bits ≡ length row.old.bits }
     ensures spare { row.new.spare ≡ row.old.spare }

@@ -1,33 +1,24 @@
 ghost use Rattle.std.specs.Prelude.{◌≡◌, ◌^◌, ◌<◌, length};
 ghost use Rattle.set_model.specs.Blocks.{holds_value};
-ghost use Rattle.set_model.specs.Expiry.{lives};
 ghost use Rattle.fused_lookup.specs.Words.{HasRules};
 ghost use Rattle.fused_lookup.specs.Led.{LeadsWord, LeadsOn};
 
 use crate::bits::next_bit;
 use lookup_table::FieldTable;
-use set_tables::End;
-
-#[inline(always)]
-fn is_live(expiry: Option<u64>, now: u64) -> bool
-    ensures { result ≡ lives expiry now }
-{
-    match expiry {
-        None => true,
-        Some(moment) => now < moment,
-    }
-}
+use mapping_table::EndTable;
+use set_model::is_live;
 
 /// The place of the element of the lowest rule of a word of matched rules, whose bit 0 stands for
 /// rule `64 * i`, whose end is live.
 #[inline(always)]
-pub(crate) fn first_live(ends: &[End], i: u32, word: u64, now: u64) -> Option<u64>
-    requires { HasRules (length ends.now) i word }
-    ensures { LeadsWord ends.now i word now result }
+pub(crate) fn first_live(ends: &EndTable, i: u32, word: u64, now: u64) -> Option<u64>
+    requires { HasRules (length ends.now.items) i word }
+    ensures { LeadsWord ends.now.items i word now result }
 {
+    let _rules = ends.len();
     let mut from = 0;
     'rules: while let Some(k) = next_bit(word, from) {
-        let end = ends[64 * i as usize + k as usize];
+        let end = ends.at(64 * i + k);
         if is_live(end.expiry, now) {
             return Some(end.place);
         }
@@ -42,15 +33,15 @@ pub(crate) fn first_live(ends: &[End], i: u32, word: u64, now: u64) -> Option<u6
 pub(crate) fn led_on(
     found: Option<u64>,
     table: &FieldTable,
-    ends: &[End],
+    ends: &EndTable,
     value: u128,
     i: u32,
     left: u64,
     now: u64,
 ) -> Option<u64>
     requires value { value < 2 ^ table.now.bits }
-    requires rules { length ends.now ≡ table.now.rules }
-    ensures { LeadsOn table.now ends.now (λ rule. holds_value rule value) i left now found result }
+    requires rules { length ends.now.items ≡ table.now.rules }
+    ensures { LeadsOn table.now ends.now.items (λ rule. holds_value rule value) i left now found result }
 {
     match found {
         Some(place) => Some(place),

@@ -8,31 +8,32 @@ use crate::bits::next_bit;
 use crate::window::Window;
 use bit_rows::BitRow;
 use lookup_table::FieldTable;
-use set_tables::Span;
+use mapping_table::MapTable;
 
 /// Sets the spans of the rules of a word of matched rules, whose bit 0 stands for rule `64 * i`, in
 /// the next field's row. It gives the window with the words that were touched.
 #[inline(always)]
 pub(crate) fn refill_word(
-    spans: &[Span],
+    spans: &MapTable,
     i: u32,
     word: u64,
     next: &mut BitRow,
     window: Window,
 ) -> Window
-    requires rules { HasRules (length spans.now) i word }
-    requires inside { All (λ s. s.first + s.count ≤ length next.old.bits) spans.now }
+    requires rules { HasRules (length spans.now.items) i word }
+    requires inside { All (λ s. s.first + s.count ≤ length next.old.bits) spans.now.items }
     requires window { IsWindow next.old.bits window }
-    ensures filled { FillsWord spans.now i word next.old.bits next.new.bits }
+    ensures filled { FillsWord spans.now.items i word next.old.bits next.new.bits }
     ensures window { IsWindow next.new.bits result }
     ensures len { length next.new.bits ≡ length next.old.bits }
     ensures spare { next.new.spare ≡ next.old.spare }
 {
     let _len = next.len();
+    let _rules = spans.len();
     let mut window = window;
     let mut from = 0;
     'rules: while let Some(k) = next_bit(word, from) {
-        let span = spans[64 * i as usize + k as usize];
+        let span = spans.at(64 * i + k);
         next.set_range(span.first, span.count);
         window = window.widened(span.first, span.count);
         from = k + 1;
@@ -45,7 +46,7 @@ pub(crate) fn refill_word(
 #[inline(always)]
 pub(crate) fn refill_on(
     table: &FieldTable,
-    spans: &[Span],
+    spans: &MapTable,
     value: u128,
     i: u32,
     left: u64,
@@ -53,10 +54,10 @@ pub(crate) fn refill_on(
     window: Window,
 ) -> Window
     requires value { value < 2 ^ table.now.bits }
-    requires rules { length spans.now ≡ table.now.rules }
-    requires inside { All (λ s. s.first + s.count ≤ length next.old.bits) spans.now }
+    requires rules { length spans.now.items ≡ table.now.rules }
+    requires inside { All (λ s. s.first + s.count ≤ length next.old.bits) spans.now.items }
     requires window { IsWindow next.old.bits window }
-    ensures filled { RefillsWord table.now spans.now (λ rule. holds_value rule value) i left next.old.bits next.new.bits }
+    ensures filled { RefillsWord table.now spans.now.items (λ rule. holds_value rule value) i left next.old.bits next.new.bits }
     ensures window { IsWindow next.new.bits result }
     ensures len { length next.new.bits ≡ length next.old.bits }
     ensures spare { next.new.spare ≡ next.old.spare }

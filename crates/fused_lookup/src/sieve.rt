@@ -1,38 +1,69 @@
-ghost use Rattle.std.specs.Prelude.{◌≡◌, ℕ, ◌+◌, ◌-◌, ◌*◌, ◌/◌, ◌^◌, ◌<◌, ◌≤◌, true, false};
+ghost use Rattle.std.specs.Prelude.{◌≡◌, ℕ, ◌+◌, ◌-◌, ◌*◌, ◌/◌, ◌^◌, ◌<◌, ◌≤◌, true, false, length};
 ghost use Rattle.bit_rows.specs.Row.{bit};
 ghost use Rattle.set_model.specs.Blocks.{holds_value};
 ghost use Rattle.lookup_table.specs.Rules.{KeepsBitsWhere};
-ghost use Rattle.fused_lookup.specs.Sieve.{IsBucket, AreLastFour, HaveWords, in_all, KeepsWhereSet};
+ghost use Rattle.fused_lookup.specs.Sieve.{IsBucket, AreLastFour, HaveLines, in_all, KeepsWhereSet};
+ghost use Rattle.lookup_table.specs.Lines.{IsPage};
 
 use lookup_table::FieldTable;
 
 // A value's last four groups tell most rules apart. So their buckets are ANDed first, and the other
 // groups are looked up only for a word in which something is left.
 
-/// The words of the bucket of a value's group `g`.
+/// Where the buckets of a value's last four groups stand, and how many groups there are before them.
+#[derive(Clone, Copy)]
+pub(crate) struct LastFour {
+    fourth: usize,
+    third: usize,
+    second: usize,
+    last: usize,
+    rest: u32,
+}
+
+/// Where the bucket of a value's group `g` stands.
 #[inline(always)]
-pub(crate) fn bucket_words(table: &FieldTable, value: u128, g: u32) -> &[u64]
+fn bucket_place(table: &FieldTable, value: u128, g: u32) -> usize
     requires group { g < table.now.bits / table.now.width }
     requires value { value < 2 ^ table.now.bits }
-    ensures { IsBucket table.now value g result.now }
+    ensures { IsBucket table.now value g result }
 {
-    table.bucket(value, g).words()
+    table.place(value, g)
 }
 
-/// What is left of word `w` in four buckets.
+/// A value's last four buckets. A field of fewer groups has its first one more than once.
 #[inline(always)]
-fn left_at(fourth: &[u64], third: &[u64], second: &[u64], last: &[u64], w: usize) -> u64
-    requires { HaveWords (w + 1) fourth.now third.now second.now last.now }
-    ensures { (k : ℕ) → k < 64 → bit result k ≡ in_all fourth.now third.now second.now last.now w k }
+pub(crate) fn last_four(table: &FieldTable, value: u128) -> LastFour
+    requires { value < 2 ^ table.now.bits }
+    ensures { AreLastFour table.now value result }
 {
-    fourth[w] & third[w] & second[w] & last[w]
+    let groups = table.groups();
+    LastFour {
+        fourth: bucket_place(table, value, groups.saturating_sub(4)),
+        third: bucket_place(table, value, groups.saturating_sub(3)),
+        second: bucket_place(table, value, groups.saturating_sub(2)),
+        last: bucket_place(table, value, groups - 1),
+        rest: groups.saturating_sub(4),
+    }
 }
 
-/// What the first `n` groups leave of a word.
+/// What is left of word `w` of a page in four buckets.
 #[inline(always)]
-fn match_rest(table: &FieldTable, value: u128, n: u32, i: u32, word: u64) -> u64
+fn left_at(words: &[u64], buckets: LastFour, w: usize) -> u64
+    requires lines { HaveLines (length words.now) buckets }
+    requires word { w < 8 }
+    ensures { (k : ℕ) → k < 64 → bit result k ≡ in_all words.now buckets w k }
+{
+    let (fourth, third) = (words[buckets.fourth * 8 + w], words[buckets.third * 8 + w]);
+    let (second, last) = (words[buckets.second * 8 + w], words[buckets.last * 8 + w]);
+    fourth & third & second & last
+}
+
+/// What the first `n` groups leave of word `i`, which lies in this page.
+#[inline(always)]
+fn match_rest(table: &FieldTable, words: &[u64], value: u128, n: u32, i: u32, word: u64) -> u64
     requires groups { n ≤ table.now.bits / table.now.width }
     requires value { value < 2 ^ table.now.bits }
+    requires words { IsPage table.now.buckets.rows (i / 8) words.now }
     ensures { KeepsWhereSet table.now value n i word result }
 {
     let mut left = word;
@@ -40,31 +71,21 @@ fn match_rest(table: &FieldTable, value: u128, n: u32, i: u32, word: u64) -> u64
         if left == 0 {
             return 0;
         }
-        left &= table.bucket(value, g).word(i);
+        left &= words[table.place(value, g) * 8 + i as usize % 8];
     }
     left
 }
 
-/// Word `i` of the rules that hold the value. `rest` is how many groups there are before the last
-/// four.
+/// Word `i` of the rules that hold the value.
 #[inline(always)]
-pub(crate) fn match_at(
-    table: &FieldTable,
-    value: u128,
-    fourth: &[u64],
-    third: &[u64],
-    second: &[u64],
-    last: &[u64],
-    rest: u32,
-    i: u32,
-) -> u64
+pub(crate) fn match_at(table: &FieldTable, value: u128, buckets: LastFour, i: u32) -> u64
     requires value { value < 2 ^ table.now.bits }
-    requires four { AreLastFour table.now value fourth.now third.now second.now last.now }
-    requires words { HaveWords (i + 1) fourth.now third.now second.now last.now }
-    requires rest { rest ≡ table.now.bits / table.now.width - 4 }
+    requires four { AreLastFour table.now value buckets }
+    requires word { 64 * i < table.now.rules }
     ensures held { KeepsBitsWhere table.now (λ rule. holds_value rule value) i (2 ^ 64 - 1) result }
     ensures past { (k : ℕ) → k < 64 → table.now.rules ≤ 64 * i + k → bit result k ≡ false }
 {
-    let left = left_at(fourth, third, second, last, i as usize);
-    match_rest(table, value, rest, i, left)
+    let words = table.page(i);
+    let left = left_at(words, buckets, i as usize % 8);
+    match_rest(table, words, value, buckets.rest, i, left)
 }

@@ -3,20 +3,20 @@ use Rattle.std.proofs.Common.{◌≡◌, ◌<◌, refl, sym, ◌∙◌, ap, ℕ,
 use Rattle.std.proofs.lemmas.Option.{slice_get-map, slice_get_within, slice_get-get_or}
 use Rattle.set_model.specs.declared.kind.Interval.{Interval}
 use Rattle.set_model.specs.declared.kind.Kind.{Kind}
-use Rattle.set_model.specs.declared.element.Element.{Element}
+use Rattle.set_model.specs.declared.element.NewElement.{NewElement}
 use Rattle.set_model.specs.declared.memory.Memory.{Memory as NoMemory}
-use Rattle.set_model.specs.declared.report.Why.{Why}
 use Rattle.set_model.specs.declared.script.SetDecl.{SetDecl}
 use Rattle.set_model.specs.declared.packet.Packet.{Packet}
-use Rattle.set_model.specs.Key.{start_key, key_fits, parts_fit}
-use Rattle.set_model.specs.SetState.{State, empty_set, add, add_by, add_new, add_again, twin, refusal, place, removed, without}
+use Rattle.set_model.specs.Key.{key_fits, parts_fit}
+use Rattle.set_model.specs.SetState.{State, empty_set, element_at, add, removed, exact_place, without_at}
 use Rattle.set_model.specs.Control.{Generation}
 use Rattle.set_model.specs.Runnable.{IsFitting}
 use Rattle.pipapo_image.specs.declared.answers.Added.{Added}
 use Rattle.pipapo_image.specs.declared.answers.ChangeError.{ChangeError}
 use Rattle.pipapo_image.specs.declared.answers.ChangeError.TheVariants as errors
-use Rattle.pipapo_image.specs.Insert.{IsAnswer}
-use Rattle.pipapo_image.specs.Remove.{IsRemoval}
+use Rattle.pipapo_image.specs.Image.Insert.{IsAnswer}
+use Rattle.pipapo_image.specs.Image.Remove.{IsRemoval}
+use Rattle.pipapo_image.proofs.AddKeeps.{add_keeps}
 use Rattle.set_space.specs.Answers.{IsCreation, IsDestruction, IsFlush}
 use Rattle.set_space.specs.Open.{Open, FitsSet, IsChange}
 use Rattle.history_laws.specs.Histories.{EndsWith}
@@ -30,46 +30,29 @@ stays s t e = ap (λ (x : State). x.kinds) e
 becomes : (s t u : State) → u.kinds ≡ s.kinds → t ≡ u → t.kinds ≡ s.kinds
 becomes s t u same e = ap (λ (x : State). x.kinds) e ∙ same
 
+module _ (s : State) (e : NewElement) (now : ℕ) where
+  insertion : (r : Result Added ChangeError) (t : State) → IsAnswer (add s e now) r s t → t.kinds ≡ s.kinds
+  insertion (Ok came) t h = becomes s t _ (add_keeps s e now).kinds h.1
+  insertion (Err (errors.Refused why)) t h = becomes s t _ (add_keeps s e now).kinds h.1
+  insertion (Err errors.Memory) t h = stays s t h
+
+  creation : (r : Result ℕ ChangeError) (t : State) → IsCreation (add s e now) r s t → t.kinds ≡ s.kinds
+  creation (Ok id) t h = becomes s t _ (add_keeps s e now).kinds h.1
+  creation (Err (errors.Refused why)) t h = stays s t h.1
+  creation (Err errors.Memory) t h = stays s t h
+
 module _ (s : State) (parts : List Interval) (now : ℕ) where
-  module _ (expiry : Option ℕ) (comment : List ℕ) where
-    fresh : (why : Option Why) → (add_new s parts expiry comment why).1.kinds ≡ s.kinds
-    fresh None = refl
-    fresh (Some why) = refl
-
-    again : (x i : Option ℕ) (e : Element) → (add_again s x i e).1.kinds ≡ s.kinds
-    again None i e = refl
-    again (Some x) None e = refl
-    again (Some x) (Some i) e = refl
-
-    by_twin : (e : Option Element) → (add_by s parts expiry comment now e).1.kinds ≡ s.kinds
-    by_twin None = fresh (refusal s parts now)
-    by_twin (Some e) = again expiry (place s (start_key parts) now) e
-
-    added : (add s parts expiry comment now).1.kinds ≡ s.kinds
-    added = by_twin (twin s parts now)
-
-    insertion : (r : Result Added ChangeError) (t : State) → IsAnswer (add s parts expiry comment now) r s t → t.kinds ≡ s.kinds
-    insertion (Ok came) t h = becomes s t _ added h.1
-    insertion (Err (errors.Refused why)) t h = becomes s t _ added h.1
-    insertion (Err errors.Memory) t h = stays s t h
-
-    creation : (r : Result ℕ ChangeError) (t : State) → IsCreation (add s parts expiry comment now) r s t → t.kinds ≡ s.kinds
-    creation (Ok id) t h = becomes s t _ added h.1
-    creation (Err (errors.Refused why)) t h = stays s t h.1
-    creation (Err errors.Memory) t h = stays s t h
-
   -- the set that is left
   abbrev left : Option (ℕ × State) → State
   left None = s
   left (Some found) = found.1
 
-  by_element : (e : Option Element) (i : Option ℕ) → (left (without s e i)).kinds ≡ s.kinds
-  by_element None i = refl
-  by_element (Some e) None = refl
-  by_element (Some e) (Some i) = refl
+  by_place : (o : Option ℕ) → (left (option_map {U = ℕ × State} (λ i. ((element_at s i).id, without_at s i)) o)).kinds ≡ s.kinds
+  by_place None = refl
+  by_place (Some i) = refl
 
   removal_of : (id : ℕ) (t : State) → removed s parts now ≡ Some (id, t) → t.kinds ≡ s.kinds
-  removal_of id t e = ap (λ (x : Option (ℕ × State)). (left x).kinds) (sym e) ∙ by_element _ _
+  removal_of id t e = ap (λ (x : Option (ℕ × State)). (left x).kinds) (sym e) ∙ by_place (exact_place s parts now)
 
   removal : (r : Result ℕ ChangeError) (t : State) → IsRemoval (removed s parts now) r s t → t.kinds ≡ s.kinds
   removal (Ok id) t h = removal_of id t h
@@ -96,11 +79,11 @@ module _ (schema : List SetDecl) (made : List Generation) (old new : Open) (i : 
       steered_by schema made old steered new (ap (λ (w : Open). w.base) h.others)
       (ap (λ (w : Open). kinds_of w.sets) h.others ∙ set_kinds old.sets i h.state h.left h.at (keeps h.state h.left h.changed))
 
-  pub insertion_on : (parts : List Interval) (expiry : Option ℕ) (comment : List ℕ) (now : ℕ) (r : Result Added ChangeError) → IsChange (λ s t. IsAnswer (add s parts expiry comment now) r s t) old i new → IsSteered schema made new
-  insertion_on parts expiry comment now r h = changed_on _ (λ s t a. insertion s parts now expiry comment r t a) h
+  pub insertion_on : (e : NewElement) (now : ℕ) (r : Result Added ChangeError) → IsChange (λ s t. IsAnswer (add s e now) r s t) old i new → IsSteered schema made new
+  insertion_on e now r h = changed_on _ (λ s t a. insertion s e now r t a) h
 
-  pub creation_on : (parts : List Interval) (expiry : Option ℕ) (comment : List ℕ) (now : ℕ) (r : Result ℕ ChangeError) → IsChange (λ s t. IsCreation (add s parts expiry comment now) r s t) old i new → IsSteered schema made new
-  creation_on parts expiry comment now r h = changed_on _ (λ s t a. creation s parts now expiry comment r t a) h
+  pub creation_on : (e : NewElement) (now : ℕ) (r : Result ℕ ChangeError) → IsChange (λ s t. IsCreation (add s e now) r s t) old i new → IsSteered schema made new
+  creation_on e now r h = changed_on _ (λ s t a. creation s e now r t a) h
 
   pub removal_on : (parts : List Interval) (now : ℕ) (r : Result ℕ ChangeError) → IsChange (λ s t. IsRemoval (removed s parts now) r s t) old i new → IsSteered schema made new
   removal_on parts now r h = changed_on _ (λ s t a. removal s parts now r t a) h

@@ -8,7 +8,7 @@ use Rattle.set_model.specs.declared.packet.Found.{Found}
 use Rattle.set_model.specs.declared.script.SetDecl.{SetDecl}
 use Rattle.set_model.specs.SetState.{State}
 use Rattle.set_model.specs.Control.{Generation, expired_count}
-use Rattle.pipapo_image.specs.Found.{found}
+use Rattle.pipapo_image.specs.Image.Found.{found}
 use Rattle.set_space.specs.Open.{Open, opened, sealed}
 use Rattle.gen_publish.specs.declared.receipt.Receipt.{Receipt}
 

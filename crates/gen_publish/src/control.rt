@@ -3,8 +3,8 @@ ghost use Rattle.std.specs.Prelude.{◌≡◌, ◌+◌, ◌<◌, ◌≤◌, ◌^
 ghost use Rattle.std.specs.Arc.{arc_value};
 ghost use Rattle.history_laws.specs.Histories.{StartsWith, EndsWith};
 ghost use Rattle.set_model.specs.SetState.{add, removed};
-ghost use Rattle.pipapo_image.specs.Insert.{IsAnswer};
-ghost use Rattle.pipapo_image.specs.Remove.{IsRemoval};
+ghost use Rattle.pipapo_image.specs.Image.Insert.{IsAnswer};
+ghost use Rattle.pipapo_image.specs.Image.Remove.{IsRemoval};
 ghost use Rattle.set_space.specs.Answers.{IsCreation, IsDestruction, IsFlush};
 ghost use Rattle.set_space.specs.Open.{opened, FitsSet, Lacks, IsChange};
 ghost use Rattle.gen_publish.specs.Publish.{IsCommit, IsSteered, Grown, kinds_of, declared_kinds};
@@ -14,7 +14,7 @@ use crate::note::Note;
 use crate::receipt::Receipt;
 use gen_slots::{Steps, Writer};
 use pipapo_image::{Added, ChangeError};
-use set_model::{Comment, Memory, Parts, Schema, Why, parts_fit};
+use set_model::{Memory, NewElement, Parts, Schema, Why, parts_fit};
 use set_space::{Generation, Work};
 use std::alloc::Global;
 use std::marker::{Brand, Model};
@@ -116,7 +116,7 @@ impl Control {
         place < self.schema.len() && parts_fit(&self.schema.at(place).kinds, parts)
     }
 
-    /// Inserts into an open set. `expiry` and `now` are in milliseconds. Where a live element of the same intervals is
+    /// Inserts into an open set. `now` is in milliseconds. Where a live element of the same intervals is
     /// there, it stays, and takes the new expiry if one is handed in.
     ///
     /// # Errors
@@ -124,21 +124,14 @@ impl Control {
     /// `Overlap` if a live element holds the start key and has other intervals, or else holds the end key; then `Full`;
     /// then `RulesFull` with the first field that would have too many rules. `Memory` if there is none left. Each leaves
     /// the control as it was.
-    pub fn insert(
-        &mut self,
-        set: u32,
-        parts: &Parts,
-        expiry: Option<u64>,
-        comment: &Comment,
-        now: u64,
-    ) -> Result<Added, ChangeError>
+    pub fn insert(&mut self, set: u32, element: &NewElement, now: u64) -> Result<Added, ChangeError>
         requires set { set < length self.old.work.sets }
-        requires fits { FitsSet self.old.work set parts.now }
-        ensures change { IsChange (λ s t. IsAnswer (add s parts.now expiry comment.now now) result s t) self.old.work set self.new.work }
+        requires fits { FitsSet self.old.work set element.now.parts }
+        ensures change { IsChange (λ s t. IsAnswer (add s element.now now) result s t) self.old.work set self.new.work }
         ensures others { self.new ≡ record self.old { work = self.new.work } }
         ensures refused { OnErr result (self.new ≡ self.old) }
     {
-        self.work.insert(set, parts, expiry, comment, now)
+        self.work.insert(set, element, now)
     }
 
     /// Inserts into an open set where no live element of the same intervals is there, and answers the new id.
@@ -147,21 +140,14 @@ impl Control {
     ///
     /// `Exists` if one is there, also where a new expiry is handed in. Then as of an insertion. Each leaves the control as
     /// it was.
-    pub fn create(
-        &mut self,
-        set: u32,
-        parts: &Parts,
-        expiry: Option<u64>,
-        comment: &Comment,
-        now: u64,
-    ) -> Result<u64, ChangeError>
+    pub fn create(&mut self, set: u32, element: &NewElement, now: u64) -> Result<u64, ChangeError>
         requires set { set < length self.old.work.sets }
-        requires fits { FitsSet self.old.work set parts.now }
-        ensures change { IsChange (λ s t. IsCreation (add s parts.now expiry comment.now now) result s t) self.old.work set self.new.work }
+        requires fits { FitsSet self.old.work set element.now.parts }
+        ensures change { IsChange (λ s t. IsCreation (add s element.now now) result s t) self.old.work set self.new.work }
         ensures others { self.new ≡ record self.old { work = self.new.work } }
         ensures refused { OnErr result (self.new ≡ self.old) }
     {
-        self.work.create(set, parts, expiry, comment, now)
+        self.work.create(set, element, now)
     }
 
     /// Takes the first live element of exactly these intervals out of an open set, and answers its id.

@@ -4,7 +4,8 @@ ghost use Rattle.set_space.specs.Open.{CanBeBuilt, FitsSet};
 use crate::{Control, Held, Reader, Receipt, start};
 use pipapo_image::{Added, ChangeError};
 use set_model::{
-    Comment, Family, Interval, Key, Kind, Kinds, Memory, Name, Parts, Schema, SetDecl, Why,
+    Comment, Family, Interval, Key, Kind, Kinds, Memory, Name, NewElement, Parts, Schema, SetDecl,
+    Why,
 };
 use std::alloc::Global;
 use std::process::Abort;
@@ -61,6 +62,24 @@ fn ports(rt: &impl Abort, alloc: Global, control: &Control, low: u128, high: u12
     parts
 }
 
+/// A new element of the ports from `low` to `high`, which set 0 takes.
+fn element(
+    rt: &impl Abort,
+    alloc: Global,
+    control: &Control,
+    low: u128,
+    high: u128,
+    expiry: Option<u64>,
+) -> NewElement
+    ensures { (0 < length control.now.work.sets) × FitsSet control.now.work 0 result.parts }
+{
+    NewElement {
+        parts: ports(rt, alloc, control, low, high),
+        expiry,
+        comment: Comment::new(alloc),
+    }
+}
+
 fn key(alloc: Global, port: u128) -> Result<Key, Memory> {
     let mut key = Key::new(alloc);
     key.push(port)?;
@@ -74,8 +93,8 @@ fn add(
     control: &mut Control,
     number: u128,
 ) -> Result<Added, ChangeError> {
-    let parts = ports(rt, alloc, control, number, number);
-    control.insert(0, &parts, None, &Comment::new(alloc), 0)
+    let element = element(rt, alloc, control, number, number, None);
+    control.insert(0, &element, 0)
 }
 
 /// Commits at a moment.
@@ -221,14 +240,14 @@ fn create(
     control: &mut Control,
     number: u128,
 ) -> Result<u64, ChangeError> {
-    let parts = ports(rt, alloc, control, number, number);
-    control.create(0, &parts, None, &Comment::new(alloc), 0)
+    let element = element(rt, alloc, control, number, number, None);
+    control.create(0, &element, 0)
 }
 
 /// Inserts the ports 80 and 81 as one interval.
 fn add_range(rt: &impl Abort, alloc: Global, control: &mut Control) -> Result<Added, ChangeError> {
-    let parts = ports(rt, alloc, control, 80, 81);
-    control.insert(0, &parts, None, &Comment::new(alloc), 0)
+    let element = element(rt, alloc, control, 80, 81, None);
+    control.insert(0, &element, 0)
 }
 
 fn delete(
@@ -289,10 +308,8 @@ fn changes_and_their_refusals_are_handed_on(rt: HostRuntime) {
 
 /// Inserts a port that expires.
 fn add_until(rt: &impl Abort, alloc: Global, control: &mut Control, expiry: u64) {
-    let parts = ports(rt, alloc, control, 443, 443);
-    let _ = control
-        .insert(0, &parts, Some(expiry), &Comment::new(alloc), 0)
-        .expect(rt, "room");
+    let element = element(rt, alloc, control, 443, 443, Some(expiry));
+    let _ = control.insert(0, &element, 0).expect(rt, "room");
 }
 
 #[test]

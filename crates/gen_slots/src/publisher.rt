@@ -1,5 +1,5 @@
 //! The writer, which finds a slot that nobody holds without waiting.
-ghost use Rattle.std.specs.Prelude.{◌≡◌, ◌≢◌, ℕ, ◌+◌, ◌-◌, ◌*◌, ◌%◌, ◌^◌, ◌≤◌, ◌<◌, List, [], ◌∷◌, ◌++◌, length, get_or, replicate, slice_set, Some, None};
+ghost use Rattle.std.specs.Prelude.{◌≡◌, ◌≢◌, ℕ, ◌+◌, ◌-◌, ◌*◌, ◌%◌, ◌^◌, ◌≤◌, ◌<◌, List, [], ◌∷◌, ◌++◌, length, vec_capacity, get_or, replicate, slice_set, Some, None};
 ghost use Rattle.std.specs.Arc.{arc_value};
 ghost use Rattle.history_laws.specs.Histories.{StartsWith, EndsWith, Chain};
 ghost use Rattle.history_laws.specs.States.{AllShow};
@@ -82,6 +82,7 @@ fn refill<T: Version + Drop>(
     requires { (place.old.table_id ≡ top.now.table_id) × (slot < 18) × (length values.old.items ≤ 16) × ((ys : List _) × (length ys ≡ length values.old.items) × (place.old.me.1 ≡ berths slot 0 ys)) }
     ensures seat { (place.new.table_id ≡ place.old.table_id) × (place.new.id ≡ place.old.id) × (place.new.me ≡ (place.old.me.0, berths slot 0 values.old.items)) }
     ensures values { place.old.me.1 ≡ berths slot 0 values.new.items }
+    ensures room { vec_capacity values.new ≡ vec_capacity values.old }
 {
     for reader in 0..values.len() {
         let value = values[reader].take();
@@ -121,6 +122,7 @@ impl<T: Version + Drop> Writer<T> {
         ensures made { (x : T.State) → AllShow T.state x berths.old.items → self.new ≡ record self.old { made = self.old.made ++ x ∷ []; checks = self.new.checks; published = self.new.published; states = slice_set self.old.states self.new.published (Some x) } }
         ensures slot { (self.new.published < self.old.readers + 2) × (self.new.published ≢ self.old.published) }
         ensures stored { (length berths.new.items ≡ self.old.readers) × WereStored T.state self.old.made self.old.readers (get_or self.old.states self.new.published None) berths.new.items }
+        ensures room { vec_capacity berths.new ≡ vec_capacity berths.old }
         ensures counted { steps.new + self.old.checks ≡ steps.old + self.new.checks }
         ensures cost { steps.new ≤ steps.old + self.old.readers + 1 }
     {

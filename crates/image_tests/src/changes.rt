@@ -19,7 +19,7 @@ impl PlainElement {
 
 impl PlainSet {
     /// Takes the first live element of exactly these intervals out.
-    fn delete(&mut self, parts: &[Interval], now: u64) -> Result<u64, ChangeError> {
+    pub(crate) fn delete(&mut self, parts: &[Interval], now: u64) -> Result<u64, ChangeError> {
         for i in 0..self.elements.len() {
             if self.elements[i].is_exactly(parts, now) {
                 return Ok(self.elements.remove(i).id);
@@ -36,7 +36,7 @@ impl PlainSet {
     }
 
     /// The intervals of the element at a place. Past the end there are none.
-    fn parts_at(&self, alloc: Global, place: usize) -> Result<Vec<Interval>, Memory> {
+    pub(crate) fn parts_at(&self, alloc: Global, place: usize) -> Result<Vec<Interval>, Memory> {
         match self.elements.get(place) {
             Some(element) => Ok(Vec::from_slice(alloc, element.parts.as_slice())?),
             None => Ok(Vec::new(alloc)),
@@ -90,7 +90,7 @@ fn look_up_one(
     Ok(())
 }
 
-fn purge_both(rt: &impl Abort, trial: &mut Trial, plain: &mut PlainSet, now: u64) {
+pub(crate) fn purge_both(rt: &impl Abort, trial: &mut Trial, plain: &mut PlainSet, now: u64) {
     let answer = trial.set.purge(trial.alloc, now);
     assert!(rt; answer == Ok(plain.purge(now)));
 }

@@ -113,7 +113,7 @@ fn step(
     }
     let expiry = expiry_of(random, now);
     let answer = trial.add(rt, parts.as_slice(), expiry, now);
-    let wanted = if trial.set.disjoint {
+    let wanted = if trial.set.is_disjoint() {
         plain.add_apart(parts.as_slice(), expiry, now)
     } else {
         plain.add(parts.as_slice(), expiry, now)

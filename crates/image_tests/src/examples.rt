@@ -138,8 +138,8 @@ fn find_addresses(rt: &impl Abort, trial: &mut Trial, n: u64) {
 
 /// Sees that the groups of the first field have so many bits.
 pub(crate) fn has_width(rt: &impl Abort, trial: &Trial, width: u32) {
-    assert!(rt; trial.set.index.fields.len() == 1);
-    assert!(rt; trial.set.index.fields.at(0).width == width);
+    assert!(rt; trial.set.index().fields.len() == 1);
+    assert!(rt; trial.set.index().fields.at(0).width == width);
 }
 
 #[test]

@@ -1,6 +1,8 @@
 // A set with what a lookup works in. Calls first see that their conditions hold.
 use pipapo_image::{Added, ChangeError, Scratch, SetImage};
-use set_model::{Comment, Found, Interval, Key, Kind, Kinds, Memory, Parts, fits, parts_fit};
+use set_model::{
+    Comment, Found, Interval, Key, Kind, Kinds, Memory, NewElement, Parts, fits, parts_fit,
+};
 use std::alloc::Global;
 use std::process::Abort;
 
@@ -60,14 +62,17 @@ impl Trial {
         expiry: Option<u64>,
         now: u64,
     ) -> Result<Added, ChangeError> {
-        let parts = parts_of(self.alloc, parts)?;
+        let element = NewElement {
+            parts: parts_of(self.alloc, parts)?,
+            expiry,
+            comment: Comment::new(self.alloc),
+        };
         add_to(
             rt,
             self.alloc,
             &mut self.set,
             &mut self.scratch,
-            &parts,
-            expiry,
+            &element,
             now,
         )
     }
@@ -75,7 +80,7 @@ impl Trial {
     /// Takes an element out.
     pub(crate) fn delete(&mut self, parts: &[Interval], now: u64) -> Result<u64, ChangeError> {
         let parts = parts_of(self.alloc, parts)?;
-        self.set.delete(self.alloc, &parts, now)
+        self.set.delete(self.alloc, &parts, now, &mut self.scratch)
     }
 
     /// Looks a key up, and sees that the textbook lookup finds the same place.
@@ -118,12 +123,11 @@ fn add_to(
     alloc: Global,
     set: &mut SetImage,
     scratch: &mut Scratch,
-    parts: &Parts,
-    expiry: Option<u64>,
+    element: &NewElement,
     now: u64,
 ) -> Result<Added, ChangeError> {
-    assert!(rt; parts_fit(&set.kinds, parts));
-    set.insert(alloc, parts, expiry, &Comment::new(alloc), now, scratch)
+    assert!(rt; parts_fit(set.kinds(), &element.parts));
+    set.insert(alloc, element, now, scratch)
 }
 
 fn find_in(
@@ -133,7 +137,7 @@ fn find_in(
     key: &Key,
     now: u64,
 ) -> Option<Found> {
-    assert!(rt; fits(&set.kinds, key));
+    assert!(rt; fits(set.kinds(), key));
     let found = set.find(key, now, scratch);
     let place = set.plain_place(key, now, scratch);
     assert!(rt; place_of(found) == place);
@@ -147,7 +151,7 @@ fn sharing_in(
     parts: &Parts,
     now: u64,
 ) -> Option<Found> {
-    assert!(rt; parts_fit(&set.kinds, parts));
+    assert!(rt; parts_fit(set.kinds(), parts));
     set.first_sharing(parts, now, scratch)
 }
 

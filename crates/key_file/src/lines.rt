@@ -15,7 +15,7 @@ use crate::packets::{packet, packet_at};
 use set_model::{Family, Listed, Memory, SetDecl};
 use set_script::{place_of_set, read_family, read_moment};
 use std::alloc::Global;
-use token_forms::{ReadError, Reader, Reason, Seen, short};
+use token_forms::{ReadError, Reader, Reason, Seen};
 
 fn read_key_word(text: &[u8]) -> KeyWord
     ensures { result ≡ key_word_of text.now }
@@ -51,13 +51,10 @@ fn read_at_word(schema: &[SetDecl], text: &[u8]) -> Option<AtWord>
 fn at_word(reader: &mut Reader, schema: &[SetDecl]) -> Result<AtWord, ReadError>
     ensures { Gives (λ x. x) result reader.new (reading.at_word schema.now reader.old) }
 {
-    match reader.take() {
-        Some(t) if t.is_word() => match read_at_word(schema, t.bytes) {
-            Some(word) => Ok(word),
-            None => Err(t.refused(&[Reason::Moment, Reason::Set])),
-        },
-        Some(t) => Err(t.refused(&[Reason::Moment, Reason::Set])),
-        None => Err(short()),
+    let t = reader.next()?;
+    match read_at_word(schema, t.bytes) {
+        Some(word) if t.is_word() => Ok(word),
+        _ => Err(t.refused(&[Reason::Moment, Reason::Set])),
     }
 }
 

@@ -7,19 +7,16 @@ use addr_text::read_value;
 use set_model::{Family, Key, Kind, Listed, Packet, SetDecl};
 use set_script::used_set;
 use std::alloc::Global;
-use token_forms::{ReadError, Reader, Reason, short};
+use token_forms::{ReadError, Reader, Reason};
 
 #[tactic(auto, unfolding(token_forms::specs::Gives::Refuses))]
 fn value(reader: &mut Reader, kind: Kind) -> Result<u128, ReadError>
     ensures { Gives (λ x. x) result reader.new (reading.value kind reader.old) }
 {
-    match reader.take() {
-        Some(t) if t.is_word() => match read_value(kind, t.bytes) {
-            Ok(value) => Ok(value),
-            Err(_) => Err(t.refused(&[Reason::Value])),
-        },
-        Some(t) => Err(t.refused(&[Reason::Value])),
-        None => Err(short()),
+    let t = reader.next()?;
+    match read_value(kind, t.bytes) {
+        Ok(value) if t.is_word() => Ok(value),
+        _ => Err(t.refused(&[Reason::Value])),
     }
 }
 
@@ -61,10 +58,7 @@ fn all_values(reader: &mut Reader, alloc: Global, kinds: &[Kind]) -> Result<Key,
     ensures { Gives (λ x. x) result reader.new (reading.all_values kinds.now reader.old) }
 {
     match kinds {
-        [] => match reader.take() {
-            Some(t) => Err(t.refused(&[])),
-            None => Err(short()),
-        },
+        [] => Err(reader.next()?.refused(&[])),
         [kind, others @ ..] => some_values(reader, alloc, *kind, others),
     }
 }
@@ -81,10 +75,7 @@ pub fn packet_at(
     ensures { Gives (λ _. d.new) result reader.new (reading.packet_at schema.now d.old place reader.old) }
 {
     match schema.get(place) {
-        None => match reader.take() {
-            Some(t) => Err(t.refused(&[])),
-            None => Err(short()),
-        },
+        None => Err(reader.next()?.refused(&[])),
         Some(decl) => {
             let key = all_values(reader, alloc, decl.kinds.as_slice())?;
             // No memory holds a schema in which a set has a place above 32 bits.

@@ -1,4 +1,5 @@
 use crate::scripts::script;
+use packet_pool::OpenGate;
 use script_run::listing;
 use set_model::Memory;
 use set_script::{ScriptError, read_script};
@@ -10,7 +11,7 @@ use std::test::Fail;
 fn listed(rt: &impl Abort, alloc: Global, text: &[u8]) -> Result<Vec<u8>, Memory> {
     match read_script(alloc, text) {
         Ok(script) => {
-            let output = listing(alloc, script, true)?;
+            let output = listing(alloc, script, true, &OpenGate)?;
             sets_of(alloc, output.text.as_slice())
         }
         Err(ScriptError::Memory) => Err(Memory),

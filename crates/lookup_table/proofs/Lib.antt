@@ -7,3 +7,5 @@ pub mod ShareLaws
 pub mod WideLaws
 pub mod NarrowLaws
 pub mod SummaryLaws
+pub mod LineLaws
+pub mod WriteLaws

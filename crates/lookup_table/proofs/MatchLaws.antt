@@ -27,7 +27,7 @@ set-in-all width bits rules value r buckets blocks w stands small h =
     ∙ groups-hold width bits (block_at blocks r) value w (All-get_or (IsWithin bits) blocks r (record { base = 0; free_bits = 0 }) (let s = stands.one_each in omega arith) stands.within) small
 
 pub held-by-buckets : HeldByBuckets
-held-by-buckets t blocks value r stands small h = set-in-all t.width t.bits t.rules value r t.buckets blocks t.shaped.groups stands small h
+held-by-buckets t blocks value r stands small h = set-in-all t.width t.bits t.rules value r t.buckets.rows blocks t.shaped.groups stands small h
 
 -- ---- a row of rules
 

@@ -1,9 +1,9 @@
 -- A table in groups of four bits, from one in groups of eight.
-use Rattle.std.proofs.Common.{◌≡◌, refl, sym, ◌∙◌, ap, ℕ, ◌+◌, ◌*◌, ◌/◌, ◌%◌, ◌^◌, ◌<◌, ◌≤◌, ◌⊎◌, true, false, cond, ◌==◌, ◌&&◌, List, arith, inl, inr}
+use Rattle.std.proofs.Common.{◌≡◌, refl, sym, ◌∙◌, ap, ℕ, ◌+◌, ◌*◌, ◌/◌, ◌%◌, ◌^◌, ◌<◌, ◌≤◌, ◌⊎◌, true, false, cond, ◌==◌, ◌&&◌, List, length, arith, inl, inr}
 use Rattle.std.proofs.lemmas.Bool.{cases_eq, cases_Bool, eq-eqb, ne_eqb, and_from}
 use Rattle.std.proofs.Math.Bool.{and-false}
 use Rattle.set_model.specs.declared.block.Block.{Block}
-use Rattle.bit_rows.specs.Row.{Row}
+use Rattle.bit_rows.specs.Row.{Row, at}
 use Rattle.field_groups.specs.Groups.{IsWidth, group, agrees, some_from}
 use Rattle.field_groups.proofs.RangeTests.{some-false, some-true, some-same}
 use Rattle.field_groups.proofs.GroupLaws.{group-below, agrees-own}
@@ -20,8 +20,11 @@ IsNarrow old rules j row = IsJoined old (halves_start j) (halves_step j) 16 rule
 pub narrow-groups : (bits : ℕ) → IsWidth 8 bits → IsWidth 4 bits
 narrow-groups bits w = record { fours = refl; four = omega arith; eight = omega arith; bytes = w.bytes; some = w.some; most = w.most }
 
-pub narrow-shape : (bits rules : ℕ) (old rows : List Row) → IsShaped 8 bits rules old → Made (IsNarrow old rules) (bits / 4 * 16) rows → IsShaped 4 bits rules rows
-narrow-shape bits rules old rows shape done = made-shape (IsNarrow old rules) 4 bits rules (bits / 4 * 16) rows (narrow-groups bits shape.groups) refl (λ j row narrow. narrow.long) done
+pub narrow-same : (old : List Row) (rules j : ℕ) (a b : Row) → b.bits ≡ a.bits → IsNarrow old rules j a → IsNarrow old rules j b
+narrow-same old rules j a b e narrow = record { long = ap length e ∙ narrow.long; at = λ r h. ap (λ xs. at xs r) e ∙ narrow.at r h }
+
+pub narrow-shape : (bits rules n : ℕ) (old rows : List Row) → IsShaped 8 bits rules old → Made (IsNarrow old rules) (bits / 4 * 16) rules n rows → IsShaped 4 bits rules rows
+narrow-shape bits rules n old rows shape done = made-shape (IsNarrow old rules) 4 bits rules (bits / 4 * 16) n rows (narrow-groups bits shape.groups) refl done
 
 -- ---- sixteen values of a group of eight bits that have one half
 
@@ -67,7 +70,7 @@ lower-half bits g block v h small = go (cases_Bool (agrees 4 bits block (2 * g +
 
 -- ---- all buckets
 
-pub narrow-stands : (bits rules : ℕ) (old rows : List Row) (blocks : List Block) → IsWidth 8 bits → Made (IsNarrow old rules) (bits / 4 * 16) rows → StandsFor 8 bits rules old blocks → StandsFor 4 bits rules rows blocks
+pub narrow-stands : (bits rules : ℕ) (old rows : List Row) (blocks : List Block) → IsWidth 8 bits → Made (IsNarrow old rules) (bits / 4 * 16) rules (bits / 4 * 16) rows → StandsFor 8 bits rules old blocks → StandsFor 4 bits rules rows blocks
 narrow-stands bits rules old rows blocks w done stands = record { one_each = stands.one_each; within = stands.within; bucket = λ g v r h k l. bucket g v r h k l (cases_eq (g % 2) 0) } where
   -- the sixteen buckets by their values
   sixteen : (g v r start step : ℕ) (value : ℕ → ℕ) → g < bits / 4 → v < 2 ^ 4 → r < rules → halves_start (bucket_place 4 g v) ≡ start → halves_step (bucket_place 4 g v) ≡ step

@@ -2,9 +2,10 @@
 use Rattle.std.proofs.Common.{◌≡◌, refl, sym, ◌∙◌, ap, subst, ℕ, zero, suc, ◌+◌, ◌<◌, ◌≤◌, [], ◌∷◌, ◌++◌, Bool, false, List, length, get_or, replicate, arith, All, Some, slice_get}
 use Rattle.std.proofs.lemmas.List.{length-map, get_or-map, ext_get_or, length-append, length-replicate}
 use Rattle.std.proofs.lemmas.List.Elements.{All-get_or, All-from_get_or}
+use Rattle.std.proofs.lemmas.Option.{slice_get-get_or}
 use Rattle.bit_rows.specs.Row.{Row, at}
 use Rattle.lookup_table.specs.Table.{bucket_at, cell, rooms_of, bits_of}
-use Rattle.lookup_table.specs.Rows.{Each, HasRoom, IsRaised, IsClosedUp, IsGrown, IsReserved, IsSameSize}
+use Rattle.lookup_table.specs.Rows.{Each, IsRaised, IsClosedUp, IsGrown, IsSameSize}
 
 pub cell-is : (rows : List Row) (j r : ℕ) → cell rows j r ≡ at (bucket_at rows j).bits r
 unfolding cell
@@ -22,6 +23,9 @@ pub read-within : (rows : List Row) (j : ℕ) (row : Row) → slice_get rows j �
 read-within [] j row e = absurd (cc e)
 read-within (x ∷ rows) zero row e = omega arith
 read-within (x ∷ rows) (suc j) row e = let h = read-within rows j row e in omega arith
+
+pub bucket-found : (rows : List Row) (j : ℕ) → j < length rows → slice_get rows j ≡ Some (bucket_at rows j)
+bucket-found rows j h = slice_get-get_or rows j (record { bits = []; spare = 0 }) h
 
 -- what holds of each row holds of one that is read, or looked up
 pub All-read : (P : Row → Type 0) (rows : List Row) (j : ℕ) (row : Row) → All P rows → slice_get rows j ≡ Some row → P row
@@ -42,22 +46,6 @@ pub record Changed (R : Row → Row → Type 0) (old : List Row) (i : ℕ) (rows
   pub rest : (j : ℕ) → i ≤ j → bucket_at rows j ≡ bucket_at old j
 
 -- ---- what each change keeps
-
-pub each-grown : (places : ℕ) (old new : List Row) → Each (IsReserved places) old new → Each IsGrown old new
-each-grown places old new each = record { long = each.long; at = λ j h. let x = each.at j h in record { bits = x.bits; spare = x.spare } }
-
-pub each-room : (places : ℕ) (old new : List Row) → Each (IsReserved places) old new → All (HasRoom places) new
-each-room places old new each = bucket-All (HasRoom places) new (λ j h. let l = each.long in let x = each.at j (omega arith) in record { room = x.room })
-
-pub grown-room : (places : ℕ) (old new : List Row) → Each IsGrown old new → All (HasRoom places) old → All (HasRoom places) new
-grown-room places old new each all =
-    bucket-All (HasRoom places) new
-    (λ j h. let l = each.long in
-    let x = each.at j (omega arith) in
-    let y = All-bucket (HasRoom places) old j all (omega arith) in
-    let z = y.room in
-    let k = x.spare in
-    record { room = omega (arith, ap length x.bits) })
 
 pub length-raised : (xs : List Bool) (n : ℕ) → length (xs ++ replicate n false) ≡ length xs + n
 length-raised xs n = omega (arith, length-append xs (replicate n false), length-replicate n false)
@@ -93,16 +81,3 @@ grown-bits old new each =
     let before : j < length old = omega arith in
     get_or-map (λ (x : Row). x.bits) new j (record { bits = []; spare = 0 }) [] within ∙ (each.at j before).bits
     ∙ sym (get_or-map (λ (x : Row). x.bits) old j (record { bits = []; spare = 0 }) [] before))
-
--- rows of the same rooms have room for the same places
-pub rooms-room : (places : ℕ) (old new : List Row) → rooms_of new ≡ rooms_of old → All (HasRoom places) old → All (HasRoom places) new
-rooms-room places old new same all =
-    bucket-All (HasRoom places) new
-    (λ j h. let long : length new ≡ length old = sym (length-map new (λ (x : Row). length x.bits + x.spare)) ∙ ap length same ∙ length-map old (λ (x : Row). length x.bits + x.spare) in
-    let before : j < length old = omega arith in
-    let e : length (bucket_at new j).bits + (bucket_at new j).spare ≡ length (bucket_at old j).bits + (bucket_at old j).spare =
-    sym (get_or-map (λ (x : Row). length x.bits + x.spare) new j (record { bits = []; spare = 0 }) 0 h) ∙ ap (λ xs. get_or xs j 0) same
-    ∙ get_or-map (λ (x : Row). length x.bits + x.spare) old j (record { bits = []; spare = 0 }) 0 before in
-    let x = All-bucket (HasRoom places) old j all before in
-    let y = x.room in
-    record { room = omega arith })

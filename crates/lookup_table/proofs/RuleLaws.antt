@@ -9,7 +9,7 @@ use Rattle.set_model.specs.Blocks.{IsWithin}
 use Rattle.bit_rows.specs.Row.{Row, at}
 use Rattle.field_groups.specs.Groups.{agrees}
 use Rattle.lookup_table.specs.Table.{bucket_at, bucket_place, cell, block_at, IsShaped, StandsFor, without_blocks}
-use Rattle.lookup_table.specs.Rows.{Each, HasRoom, IsRaised, IsClosedUp, IsGrown, IsSameSize, HasRules}
+use Rattle.lookup_table.specs.Rows.{Each, IsRaised, IsClosedUp, IsGrown, IsSameSize, HasRules}
 use Rattle.lookup_table.proofs.RowsLaws.{cell-is, All-bucket, bucket-All, length-raised}
 
 pub place-within : (width bits rules g v : ℕ) (buckets : List Row) → IsShaped width bits rules buckets → g < bits / width → v < 2 ^ width → bucket_place width g v < length buckets
@@ -45,17 +45,6 @@ grown-stands width bits rules old new blocks shape grown stands = record {
       cell-is new (bucket_place width g v) r ∙ ap (λ xs. at xs r) (grown.at (bucket_place width g v) (place-within width bits rules g v old shape h k)).bits
       ∙ sym (cell-is old (bucket_place width g v) r) ∙ stands.bucket g v r h k l;
 }
-
-pub room-spare : (width bits rules n : ℕ) (buckets : List Row) → IsShaped width bits rules buckets → All (HasRoom (rules + n)) buckets → All (λ row. n ≤ row.spare) buckets
-room-spare width bits rules n buckets shape all =
-    bucket-All (λ (x : Row). n ≤ x.spare) buckets
-    (λ j h. let x = All-bucket (HasRoom (rules + n)) buckets j all h in
-    let y = x.room in
-    let z = long-at width bits rules j buckets shape h in
-    omega arith)
-
-pub rows-below : (width bits rules n : ℕ) (buckets : List Row) → IsShaped width bits rules buckets → rules ≤ n → All (λ row. length row.bits ≤ n) buckets
-rows-below width bits rules n buckets shape le = bucket-All (λ (x : Row). length x.bits ≤ n) buckets (λ j h. let z = long-at width bits rules j buckets shape h in omega arith)
 
 -- ---- more rules
 
@@ -100,7 +89,7 @@ rules-stand width bits rules buckets blocks count has = record {
 
 -- ---- fewer rules
 
-at-without : {A : Type 0} (d : A) (xs : List A) (first n i : ℕ) → first + n ≤ length xs → get_or (take first xs ++ drop (first + n) xs) i d ≡ get_or xs (cond (nat_lt i first) i (i + n)) d
+pub at-without : {A : Type 0} (d : A) (xs : List A) (first n i : ℕ) → first + n ≤ length xs → get_or (take first xs ++ drop (first + n) xs) i d ≡ get_or xs (cond (nat_lt i first) i (i + n)) d
 at-without d xs first n i h = go (cases_lt i first) where
   front : length (take first xs) ≡ first
   front = omega (arith, length-take first xs)

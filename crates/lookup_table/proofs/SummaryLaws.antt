@@ -1,5 +1,5 @@
 -- The summary of a table as it is made, and what it leaves out.
-use Rattle.std.proofs.Common.{◌≡◌, refl, sym, ◌∙◌, ap, subst, ℕ, zero, suc, ◌+◌, ◌-◌, All, ◌*◌, ◌/◌, ◌%◌, ◌^◌, ◌<◌, ◌≤◌, ◌⊎◌, inl, inr, Bool, true, false, ◌&&◌, nat_lt, List, [], ◌∷◌, ◌++◌, length, get_or, take, drop, replicate, set, arith, Some, slice_get, bit_and}
+use Rattle.std.proofs.Common.{◌≡◌, refl, sym, ◌∙◌, ap, subst, ℕ, zero, suc, ◌+◌, ◌-◌, All, ◌*◌, ◌/◌, ◌%◌, ◌^◌, ◌<◌, ◌≤◌, ◌⊎◌, inl, inr, Bool, true, false, ◌&&◌, nat_lt, List, [], ◌∷◌, ◌++◌, length, get_or, map, take, drop, replicate, set, arith, Some, slice_get, bit_and}
 use Rattle.std.specs.Prelude.{slice_index}
 use Rattle.std.proofs.lemmas.Bool.{cases_lt, cases_eq, lt-ltb, le-ltb, ltb-true}
 use Rattle.std.proofs.lemmas.List.{get_or_past, get_or_append_left, get_or_push, length_push, length-replicate, get_or-take, length-take, get_or-set_same, get_or-set_other, length-set, get_or_default, get_or-append_right, get_or-replicate}
@@ -7,16 +7,20 @@ use Rattle.std.proofs.lemmas.List.Elements.{All-get_or, All-from_get_or}
 use Rattle.std.proofs.lemmas.Bool.{and_parts}
 use Rattle.set_model.specs.declared.block.Block.{Block}
 use Rattle.set_model.specs.Blocks.{holds_value, IsWithin}
-use Rattle.bit_rows.specs.Row.{Row, at, bit, IsSpelling}
+use Rattle.bit_rows.specs.Row.{Row, at, bit}
 use Rattle.bit_rows.proofs.Bits.{bit-and}
 use Rattle.field_groups.specs.Groups.{agrees, group, every, IsWidth}
 use Rattle.field_groups.proofs.GroupLaws.{groups-hold, group-below}
 use Rattle.field_groups.proofs.HalfLaws.{agrees-halves}
-use Rattle.word_summary.specs.Marks.{IsMarked, IsPage, IsBlockMarked, is_candidate, share}
+use Rattle.shared_pages.specs.Paged.{PageOf, owns_of}
+use Rattle.word_summary.specs.Marks.{IsPage as IsPage8, IsMarked, IsBlockMarked, is_candidate, share}
 use Rattle.word_summary.proofs.MarkLaws.{share-bit}
 use Rattle.lookup_table.specs.Table.{bucket_at, cell, IsShaped, block_at, StandsFor}
+use Rattle.lookup_table.specs.Lines.{words_at, IsPage, IsWithinRoom}
 use Rattle.lookup_table.specs.Rows.{Each, IsRaised, IsClosedUp, IsGrown, KeepsCells, IsFresh, HasOnly}
-use Rattle.lookup_table.specs.Summary.{upper_place, lower_place, agrees_at, page_at, HasMarks, IsSummed, KeepsMarks, IsRuleMarked, AreRulesMarked}
+use Rattle.lookup_table.specs.Summary.{upper_place, lower_place, agrees_at, HasMarks, ArePages, IsSummed, KeepsMarks, IsRuleMarked, AreRulesMarked}
+use Rattle.shared_pages.proofs.PageLaws.{copied-length}
+use Rattle.lookup_table.proofs.LineLaws.{same-words}
 use Rattle.lookup_table.proofs.RowsLaws.{cell-is, cell-read, All-bucket}
 
 pub same-lt : (a b c d : ℕ) → (a < b → c < d) → (c < d → a < b) → nat_lt a b ≡ nat_lt c d
@@ -34,74 +38,131 @@ eight-or-four width bits w = go (cases_lt width 8) where
   go (inl h) = inr (omega (arith, w.fours, w.four))
   go (inr h) = inl (omega (arith, w.eight))
 
-pub upper-within : (width bits rules j : ℕ) (buckets : List Row) → IsShaped width bits rules buckets → j < bits / 8 * 256 → upper_place width j < length buckets
-upper-within width bits rules j buckets shape h = go (eight-or-four width bits shape.groups) where
+pub upper-within : (width bits j : ℕ) (buckets : List Row) → IsWidth width bits → length buckets ≡ bits / width * 2 ^ width → j < bits / 8 * 256 → upper_place width j < length buckets
+upper-within width bits j buckets w count h = go (eight-or-four width bits w) where
   go : (width ≡ 8) ⊎ (width ≡ 4) → upper_place width j < length buckets
   go (inl e) =
-      let n : length buckets ≡ bits / 8 * 256 = rw e at shape.count in
+      let n : length buckets ≡ bits / 8 * 256 = rw e at count in
       rw e (omega arith)
   go (inr e) =
-      let n : length buckets ≡ bits / 4 * 16 = rw e at shape.count in
-      let w = shape.groups.bytes in
+      let n : length buckets ≡ bits / 4 * 16 = rw e at count in
+      let m = w.bytes in
       rw e (omega arith)
 
-pub lower-within : (width bits rules j : ℕ) (buckets : List Row) → IsShaped width bits rules buckets → j < bits / 8 * 256 → lower_place width j < length buckets
-lower-within width bits rules j buckets shape h = go (eight-or-four width bits shape.groups) where
+pub lower-within : (width bits j : ℕ) (buckets : List Row) → IsWidth width bits → length buckets ≡ bits / width * 2 ^ width → j < bits / 8 * 256 → lower_place width j < length buckets
+lower-within width bits j buckets w count h = go (eight-or-four width bits w) where
   go : (width ≡ 8) ⊎ (width ≡ 4) → lower_place width j < length buckets
   go (inl e) =
-      let n : length buckets ≡ bits / 8 * 256 = rw e at shape.count in
+      let n : length buckets ≡ bits / 8 * 256 = rw e at count in
       rw e (omega arith)
   go (inr e) =
-      let n : length buckets ≡ bits / 4 * 16 = rw e at shape.count in
-      let w = shape.groups.bytes in
+      let n : length buckets ≡ bits / 4 * 16 = rw e at count in
+      let m = w.bytes in
       rw e (omega arith)
+
+-- a table has a bucket, and a few thousand at most
+pub buckets-some : (width bits : ℕ) (buckets : List Row) → IsWidth width bits → length buckets ≡ bits / width * 2 ^ width → 1 ≤ length buckets
+buckets-some width bits buckets w count = go (eight-or-four width bits w) where
+  go : (width ≡ 8) ⊎ (width ≡ 4) → 1 ≤ length buckets
+  go (inl e) =
+      let n : length buckets ≡ bits / 8 * 256 = rw e at count in
+      omega (arith, w.bytes, w.some)
+  go (inr e) =
+      let n : length buckets ≡ bits / 4 * 16 = rw e at count in
+      omega (arith, w.bytes, w.some)
+
+pub buckets-few : (width bits : ℕ) (buckets : List Row) → IsWidth width bits → length buckets ≡ bits / width * 2 ^ width → length buckets ≤ 4096
+buckets-few width bits buckets w count = go (eight-or-four width bits w) where
+  go : (width ≡ 8) ⊎ (width ≡ 4) → length buckets ≤ 4096
+  go (inl e) =
+      let n : length buckets ≡ bits / 8 * 256 = rw e at count in
+      omega (arith, w.most)
+  go (inr e) =
+      let n : length buckets ≡ bits / 4 * 16 = rw e at count in
+      omega (arith, w.most)
+
+-- so many rules more are counted by a u32, where there is room for them
+pub few-rules : (width bits rules n room : ℕ) (buckets : List Row) → IsShaped width bits rules buckets → All (λ row. n ≤ row.spare) buckets → All (λ row. room ≡ length row.bits + row.spare) buckets → room < 2 ^ 32 → rules + n < 2 ^ 32
+few-rules width bits rules n room buckets shape spare rooms small =
+    let some = buckets-some width bits buckets shape.groups shape.count in
+    let long = All-bucket (λ (x : Row). length x.bits ≡ rules) buckets 0 shape.rows (omega arith) in
+    let a = All-bucket (λ (x : Row). n ≤ x.spare) buckets 0 spare (omega arith) in
+    let b = All-bucket (λ (x : Row). room ≡ length x.bits + x.spare) buckets 0 rooms (omega arith) in
+    omega arith
+
+-- the pages of rules that close up, and of the summary above them
+pub first-long : (width bits rules : ℕ) (buckets : List Row) → IsShaped width bits rules buckets → length (bucket_at buckets 0).bits ≡ rules
+first-long width bits rules buckets shape =
+    let some = buckets-some width bits buckets shape.groups shape.count in
+    All-bucket (λ (x : Row). length x.bits ≡ rules) buckets 0 shape.rows (omega arith)
+
+pub closed-room : (width bits rules first n r : ℕ) (old new : List Row) → IsShaped width bits rules old → Each (IsClosedUp first n) old new → r < rules → IsWithinRoom r new
+closed-room width bits rules first n r old new shape closed h = record {
+  room = let some = buckets-some width bits old shape.groups shape.count in let long = first-long width bits rules old shape in let e = (closed.at 0 (omega arith)).room in omega arith;
+}
+
+pub own-words : (pages : List (PageOf ℕ)) (first rules q : ℕ) → ((r : ℕ) → first ≤ r → r < rules → get_or (owns_of pages) (r / 4096) true ≡ true) → first < rules → first / 512 ≤ q → 512 * q < rules
+    → get_or (owns_of pages) (q / 8) true ≡ true
+own-words pages first rules q own some low high = go (cases_lt (512 * q) first) where
+  go : (512 * q < first) ⊎ (first ≤ 512 * q) → get_or (owns_of pages) (q / 8) true ≡ true
+  go (inl l) = let at : first / 4096 ≡ q / 8 = omega arith in ap (λ k. get_or (owns_of pages) k true) (sym at) ∙ own first (omega arith) some
+  go (inr l) = let at : 512 * q / 4096 ≡ q / 8 = omega arith in ap (λ k. get_or (owns_of pages) k true) (sym at) ∙ own (512 * q) l high
+
+-- a rule's place is within the room
+pub rule-room : (width bits rules r : ℕ) (buckets : List Row) → IsShaped width bits rules buckets → r < rules → IsWithinRoom r buckets
+rule-room width bits rules r buckets shape h = record {
+  room = let some = buckets-some width bits buckets shape.groups shape.count in let long = All-bucket (λ (x : Row). length x.bits ≡ rules) buckets 0 shape.rows (omega arith) in omega arith;
+}
 
 -- ---- a page
 
--- the first j lines of a page have the marks of all rules, and the others are as they were
-pub record LinesDone (width bits p j : ℕ) (buckets : List Row) (old page : List ℕ) : Type 0 where
+-- The first j lines of a page have the marks of the rules up to rule 512 * (q + 1), and the others are as they were.
+pub record LinesDone (width bits q j : ℕ) (buckets : List Row) (old page : List ℕ) : Type 0 where
   pub long : length page ≡ bits / 8 * 256
-  pub done : (i r : ℕ) → i < j → r / 4096 ≡ p → agrees_at width buckets i r ≡ true → bit (slice_index page i) (r / 64 % 64) ≡ true
+  pub done : (i r : ℕ) → i < j → r / 4096 ≡ q / 8 → r < 512 * (q + 1) → agrees_at width buckets i r ≡ true → bit (slice_index page i) (r / 64 % 64) ≡ true
   pub rest : (i : ℕ) → j ≤ i → slice_index page i ≡ slice_index old i
 
-pub lines-none : (width bits p n : ℕ) (buckets : List Row) (page : List ℕ) → HasMarks width bits n buckets p page → LinesDone width bits p 0 buckets page page
-lines-none width bits p n buckets page has = record { long = has.long; done = λ i r h e a. absurd (omega arith); rest = λ i h. refl }
+pub lines-none : (width bits q n : ℕ) (buckets : List Row) (page : List ℕ) → HasMarks width bits n buckets (q / 8) page → LinesDone width bits q 0 buckets page page
+lines-none width bits q n buckets page has = record { long = has.long; done = λ i r h e m a. absurd (omega arith); rest = λ i h. refl }
 
 -- a rule that two rows have is seen in the words that they share
-shared-rule : (buckets : List Row) (j i r w : ℕ) (upper lower : List ℕ) (a b : Row) → slice_get buckets j ≡ Some a → slice_get buckets i ≡ Some b → IsSpelling upper a.bits → IsSpelling lower b.bits
-    → (cell buckets j r && cell buckets i r) ≡ true → w ≡ r / 64 → share (slice_index upper w) (slice_index lower w) ≡ true
-shared-rule buckets j i r w upper lower a b read_a read_b spells_a spells_b both e =
-    let parts = and_parts (cell buckets j r) (cell buckets i r) both in
-    let whole : 64 * w + r % 64 ≡ r = omega arith in
-    share-bit (slice_index upper w) (slice_index lower w) (r % 64)
-    (spells_a.same w (r % 64) (omega arith) ∙ ap (at a.bits) whole ∙ sym (cell-read buckets j r a read_a) ∙ parts.0)
-    (spells_b.same w (r % 64) (omega arith) ∙ ap (at b.bits) whole ∙ sym (cell-read buckets i r b read_b) ∙ parts.1)
+shared-rule : (buckets : List Row) (q upper lower r : ℕ) (words : List ℕ) → IsPage buckets q words → upper < length buckets → lower < length buckets → r / 512 ≡ q → (cell buckets upper r && cell buckets lower r) ≡ true
+    → share (slice_index words (upper * 8 + r % 512 / 64)) (slice_index words (lower * 8 + r % 512 / 64)) ≡ true
+shared-rule buckets q upper lower r words page high low e both =
+    let parts = and_parts (cell buckets upper r) (cell buckets lower r) both in
+    let whole : 512 * q + 64 * (r % 512 / 64) + r % 64 ≡ r = omega arith in
+    share-bit (slice_index words (upper * 8 + r % 512 / 64)) (slice_index words (lower * 8 + r % 512 / 64)) (r % 64)
+    (page.bits upper (r % 512 / 64) (r % 64) high (omega arith) (omega arith) ∙ ap (cell buckets upper) whole ∙ parts.0)
+    (page.bits lower (r % 512 / 64) (r % 64) low (omega arith) (omega arith) ∙ ap (cell buckets lower) whole ∙ parts.1)
 
-pub lines-more : (width bits p from j : ℕ) (buckets : List Row) (upper lower old page new : List ℕ) (a b : Row) → j < bits / 8 * 256 → from < 64
-    → slice_get buckets (upper_place width j) ≡ Some a → slice_get buckets (lower_place width j) ≡ Some b → IsSpelling upper a.bits → IsSpelling lower b.bits
-    → HasMarks width bits (64 * (64 * p + from)) buckets p old → IsMarked j (64 * p) from upper lower page new → LinesDone width bits p j buckets old page → LinesDone width bits p (j + 1) buckets old new
-lines-more width bits p from j buckets upper lower old page new a b h small read_a read_b spells_a spells_b has marked so_far = record {
+pub lines-more : (width bits q j marks : ℕ) (buckets : List Row) (words old page new : List ℕ) → j < bits / 8 * 256 → IsPage buckets q words → upper_place width j < length buckets → lower_place width j < length buckets
+    → ((w : ℕ) → w < 64 → bit marks w ≡ (nat_lt w 8 && share (slice_index words (upper_place width j * 8 + w)) (slice_index words (lower_place width j * 8 + w))))
+    → HasMarks width bits (512 * q) buckets (q / 8) old → IsMarked j (8 * (q % 8)) marks page new → LinesDone width bits q j buckets old page → LinesDone width bits q (j + 1) buckets old new
+lines-more width bits q j marks buckets words old page new h is upper lower made has marked so_far = record {
   long = marked.long ∙ so_far.long;
-  done = λ i r l e agree. go i r l e agree (cases_eq i j);
+  done = λ i r l e m agree. go i r l e m agree (cases_eq i j);
   rest = λ i l. marked.others i (λ e. absurd (omega arith)) ∙ so_far.rest i (omega arith);
 } where
-  here : (r : ℕ) → r / 4096 ≡ p → agrees_at width buckets j r ≡ true → (r / 64 % 64 < from) ⊎ (from ≤ r / 64 % 64) → bit (slice_index new j) (r / 64 % 64) ≡ true
-  here r e agree (inl l) =
-      marked.kept (r / 64 % 64) l ∙ ap (λ x. bit x (r / 64 % 64)) (so_far.rest j (omega arith)) ∙ has.marks j r h (omega arith) e agree
-  here r e agree (inr l) =
-      marked.marks (r / 64 % 64) l (omega arith)
-      ∙ shared-rule buckets (upper_place width j) (lower_place width j) r (64 * p + r / 64 % 64) upper lower a b read_a read_b spells_a spells_b agree (omega arith)
+  here : (r : ℕ) → r / 4096 ≡ q / 8 → r < 512 * (q + 1) → agrees_at width buckets j r ≡ true → (r < 512 * q) ⊎ (512 * q ≤ r) → bit (slice_index new j) (r / 64 % 64) ≡ true
+  here r e m agree (inl l) =
+      marked.below (r / 64 % 64) (omega arith) ∙ ap (λ x. bit x (r / 64 % 64)) (so_far.rest j (omega arith)) ∙ has.marks j r h l e agree
+  here r e m agree (inr l) =
+      let there : r / 512 ≡ q = omega arith in
+      let at : 8 * (q % 8) + r % 512 / 64 ≡ r / 64 % 64 = omega arith in
+      ap (bit (slice_index new j)) (sym at) ∙ marked.here (r % 512 / 64) (omega arith) ∙ made (r % 512 / 64) (omega arith)
+      ∙ ap (λ t. t && share (slice_index words (upper_place width j * 8 + r % 512 / 64)) (slice_index words (lower_place width j * 8 + r % 512 / 64))) (lt-ltb (r % 512 / 64) 8 (omega arith))
+      ∙ shared-rule buckets q (upper_place width j) (lower_place width j) r words is upper lower there agree
 
-  go : (i r : ℕ) → i < j + 1 → r / 4096 ≡ p → agrees_at width buckets i r ≡ true → (i ≡ j) ⊎ (i ≡ j → ⊥) → bit (slice_index new i) (r / 64 % 64) ≡ true
-  go i r l e agree (inl same) =
+  go : (i r : ℕ) → i < j + 1 → r / 4096 ≡ q / 8 → r < 512 * (q + 1) → agrees_at width buckets i r ≡ true → (i ≡ j) ⊎ (i ≡ j → ⊥) → bit (slice_index new i) (r / 64 % 64) ≡ true
+  go i r l e m agree (inl same) =
       let agree_j : agrees_at width buckets j r ≡ true = subst (λ x. agrees_at width buckets x r ≡ true) same agree in
-      ap (λ x. bit (slice_index new x) (r / 64 % 64)) same ∙ here r e agree_j (cases_lt (r / 64 % 64) from)
-  go i r l e agree (inr differs) = ap (λ x. bit x (r / 64 % 64)) (marked.others i differs) ∙ so_far.done i r (before l differs) e agree where
+      ap (λ x. bit (slice_index new x) (r / 64 % 64)) same ∙ here r e m agree_j (cases_lt r (512 * q))
+  go i r l e m agree (inr differs) = ap (λ x. bit x (r / 64 % 64)) (marked.others i differs) ∙ so_far.done i r (before l differs) e m agree where
     before : i < j + 1 → (i ≡ j → ⊥) → i < j
     before a b = omega arith
 
-pub lines-all : (width bits n p j : ℕ) (buckets : List Row) (old page : List ℕ) → bits / 8 * 256 ≤ j → LinesDone width bits p j buckets old page → HasMarks width bits n buckets p page
-lines-all width bits n p j buckets old page le so_far = record { long = so_far.long; marks = λ i r h l e agree. so_far.done i r (omega arith) e agree }
+pub lines-all : (width bits q j : ℕ) (buckets : List Row) (old page : List ℕ) → bits / 8 * 256 ≤ j → LinesDone width bits q j buckets old page → HasMarks width bits (512 * (q + 1)) buckets (q / 8) page
+lines-all width bits q j buckets old page le so_far = record { long = so_far.long; marks = λ i r h l e agree. so_far.done i r (omega arith) e l agree }
 
 -- ---- pages
 
@@ -112,65 +173,64 @@ marks-weaker width bits n m p buckets page within has = record { long = has.long
 pub no-marks : (width bits n p : ℕ) (buckets : List Row) (page : List ℕ) → page ≡ replicate (bits / 8 * 256) 0 → n ≤ 4096 * p → HasMarks width bits n buckets p page
 no-marks width bits n p buckets page e le = record { long = ap length e ∙ length-replicate (bits / 8 * 256) 0; marks = λ j r h l same agree. absurd (omega arith) }
 
--- the pages before page p have the marks of all rules, and the others are as they were
-pub record PagesDone (width bits n p : ℕ) (buckets : List Row) (old pages : List (List ℕ)) : Type 0 where
-  pub long : length pages ≡ length old
-  pub done : (q : ℕ) → q < p → q < length pages → HasMarks width bits n buckets q (page_at pages q)
-  pub rest : (q : ℕ) → p ≤ q → page_at pages q ≡ page_at old q
+-- rules that are behind a page, or before it, are none of its
+pub summed-weaker : (width bits n m : ℕ) (buckets : List Row) (pages : List (PageOf ℕ)) → m ≤ n → IsSummed width bits n buckets pages → IsSummed width bits m buckets pages
+summed-weaker width bits n m buckets pages le summed = record { few = summed.few; each = λ p h. marks-weaker width bits n m p buckets (words_at pages p) (λ r a e. omega arith) (summed.each p h) }
 
-pub pages-none : (width bits n m p : ℕ) (buckets : List Row) (pages : List (List ℕ)) → 4096 * p ≤ m → IsSummed width bits m buckets pages → PagesDone width bits n p buckets pages pages
-pages-none width bits n m p buckets pages le summed = record {
-  long = refl;
-  done = λ q h l. marks-weaker width bits m n q buckets (page_at pages q) (λ r a e. omega arith) (summed.each q l);
-  rest = λ q h. refl;
-}
-
-pub pages-more : (width bits n p : ℕ) (buckets : List Row) (old pages : List (List ℕ)) (page : List ℕ) → p < length pages → HasMarks width bits n buckets p page → PagesDone width bits n p buckets old pages
-    → PagesDone width bits n (p + 1) buckets old (set pages p page)
-pages-more width bits n p buckets old pages page h has so_far = record {
-  long = length-set pages p page ∙ so_far.long;
-  done = λ q l m. go q l (cases_eq q p);
-  rest = λ q l. get_or-set_other pages p q page [] (λ e. absurd (omega arith)) ∙ so_far.rest q (omega arith);
+-- eight words more, in the page that has them
+pub summed-more : (width bits q : ℕ) (buckets : List Row) (pages : List (PageOf ℕ)) (page : PageOf ℕ) → q / 8 < length pages → HasMarks width bits (512 * (q + 1)) buckets (q / 8) page.items
+    → IsSummed width bits (512 * q) buckets pages → IsSummed width bits (512 * (q + 1)) buckets (set pages (q / 8) page)
+summed-more width bits q buckets pages page h has summed = record {
+  few = let f = summed.few in omega (arith, length-set pages (q / 8) page);
+  each = λ p l. go p (omega (arith, length-set pages (q / 8) page)) (cases_eq p (q / 8));
 } where
-  go : (q : ℕ) → q < p + 1 → (q ≡ p) ⊎ (q ≡ p → ⊥) → HasMarks width bits n buckets q (page_at (set pages p page) q)
-  go q l (inl e) =
-      let same : page_at (set pages p page) q ≡ page = ap (page_at (set pages p page)) e ∙ get_or-set_same pages p page [] h in
-      subst (HasMarks width bits n buckets q) (sym same) (subst (λ x. HasMarks width bits n buckets x page) (sym e) has)
-  go q l (inr e) =
-      let before : q < p = apart l e in
-      subst (HasMarks width bits n buckets q) (sym (get_or-set_other pages p q page [] e)) (so_far.done q before (omega arith)) where
-        apart : q < p + 1 → (q ≡ p → ⊥) → q < p
-        apart a b = omega arith
+  go : (p : ℕ) → p < length pages → (p ≡ q / 8) ⊎ (p ≡ q / 8 → ⊥) → HasMarks width bits (512 * (q + 1)) buckets p (words_at (set pages (q / 8) page) p)
+  go p l (inl e) =
+      let same : words_at (set pages (q / 8) page) p ≡ page.items = ap (words_at (set pages (q / 8) page)) e ∙ ap (λ (m : PageOf ℕ). m.items) (get_or-set_same pages (q / 8) page _ h) in
+      subst (HasMarks width bits (512 * (q + 1)) buckets p) (sym same) (subst (λ x. HasMarks width bits (512 * (q + 1)) buckets x page.items) (sym e) has)
+  go p l (inr e) =
+      subst (HasMarks width bits (512 * (q + 1)) buckets p) (sym (ap (λ (m : PageOf ℕ). m.items) (get_or-set_other pages (q / 8) p page _ e)))
+      (marks-weaker width bits (512 * q) (512 * (q + 1)) p buckets (words_at pages p) (λ r a b. omega arith) (summed.each p l))
 
-pub pages-all : (width bits n m p : ℕ) (buckets : List Row) (old pages : List (List ℕ)) → length pages ≤ p → IsSummed width bits m buckets old → PagesDone width bits n p buckets old pages → IsSummed width bits n buckets pages
-pages-all width bits n m p buckets old pages le summed so_far = record {
-  few = let a = summed.few in let b = so_far.long in omega arith;
-  each = λ q h. so_far.done q (omega arith) h;
+-- eight words for which there is no page
+pub summed-past : (width bits q : ℕ) (buckets : List Row) (pages : List (PageOf ℕ)) → length pages ≤ q / 8 → IsSummed width bits (512 * q) buckets pages → IsSummed width bits (512 * (q + 1)) buckets pages
+summed-past width bits q buckets pages past summed = record {
+  few = summed.few;
+  each = λ p h. marks-weaker width bits (512 * q) (512 * (q + 1)) p buckets (words_at pages p) (λ r a b. omega arith) (summed.each p h);
 }
 
-pub pages-push : (width bits n : ℕ) (buckets : List Row) (pages : List (List ℕ)) (page : List ℕ) → length pages < 2 ^ 26 → HasMarks width bits n buckets (length pages) page → IsSummed width bits n buckets pages
+pub pages-push : (width bits n : ℕ) (buckets : List Row) (pages : List (PageOf ℕ)) (page : PageOf ℕ) → length pages < 2 ^ 26 → HasMarks width bits n buckets (length pages) page.items → IsSummed width bits n buckets pages
     → IsSummed width bits n buckets (pages ++ page ∷ [])
 pages-push width bits n buckets pages page small has summed = record {
   few = omega (arith, length_push pages page);
   each = λ q h. go q h (cases_lt q (length pages));
 } where
-  go : (q : ℕ) → q < length (pages ++ page ∷ []) → (q < length pages) ⊎ (length pages ≤ q) → HasMarks width bits n buckets q (page_at (pages ++ page ∷ []) q)
-  go q h (inl l) = subst (HasMarks width bits n buckets q) (sym (get_or_append_left pages (page ∷ []) [] q l)) (summed.each q l)
+  go : (q : ℕ) → q < length (pages ++ page ∷ []) → (q < length pages) ⊎ (length pages ≤ q) → HasMarks width bits n buckets q (words_at (pages ++ page ∷ []) q)
+  go q h (inl l) = subst (HasMarks width bits n buckets q) (sym (ap (λ (m : PageOf ℕ). m.items) (get_or_append_left pages (page ∷ []) _ q l))) (summed.each q l)
   go q h (inr l) =
       let e : length pages ≡ q = omega (arith, length_push pages page) in
-      subst (HasMarks width bits n buckets q) (sym (get_or_push pages page [] q e)) (subst (λ x. HasMarks width bits n buckets x page) e has)
+      subst (HasMarks width bits n buckets q) (sym (ap (λ (m : PageOf ℕ). m.items) (get_or_push pages page _ q e))) (subst (λ x. HasMarks width bits n buckets x page.items) e has)
 
 -- a page that is read
-pub page-marks : (width bits n p : ℕ) (buckets : List Row) (pages : List (List ℕ)) (page : List ℕ) → IsSummed width bits n buckets pages → p < length pages → page ≡ get_or pages p [] → HasMarks width bits n buckets p page
-page-marks width bits n p buckets pages page summed h e = subst (HasMarks width bits n buckets p) (sym e) (summed.each p h)
+pub page-marks : (width bits n p : ℕ) (buckets : List Row) (pages : List (PageOf ℕ)) (page : PageOf ℕ) → IsSummed width bits n buckets pages → p < length pages → page ≡ get_or pages p page → HasMarks width bits n buckets p page.items
+page-marks width bits n p buckets pages page summed h e = subst (HasMarks width bits n buckets p) (sym (ap (λ (m : PageOf ℕ). m.items) (e ∙ get_or_default pages p page _ h))) (summed.each p h)
 
-pub summed-none : (width bits n : ℕ) (buckets : List Row) (pages : List (List ℕ)) → pages ≡ [] → IsSummed width bits n buckets pages
+pub summed-none : (width bits n : ℕ) (buckets : List Row) (pages : List (PageOf ℕ)) → pages ≡ [] → IsSummed width bits n buckets pages
 summed-none width bits n buckets pages e = record { few = let l = ap length e in omega arith; each = λ p h. absurd (omega (arith, ap length e)) }
+
+-- the same pages, whosever they are
+pub summed-same : (width bits n : ℕ) (buckets : List Row) (pages new : List (PageOf ℕ)) → map (λ page. page.items) new ≡ map (λ page. page.items) pages → IsSummed width bits n buckets pages → IsSummed width bits n buckets new
+summed-same width bits n buckets pages new same summed =
+    let l = copied-length new pages same in
+    record {
+      few = let f = summed.few in omega arith;
+      each = λ p h. subst (HasMarks width bits n buckets p) (sym (same-words pages new same p)) (summed.each p (omega arith));
+    }
 
 -- ---- a table that changes
 
 -- the marks of rules that stay
-pub summed-kept : (width bits n m : ℕ) (old new : List Row) (pages : List (List ℕ)) → m ≤ n → KeepsCells m old new → IsSummed width bits n old pages → IsSummed width bits m new pages
+pub summed-kept : (width bits n m : ℕ) (old new : List Row) (pages : List (PageOf ℕ)) → m ≤ n → KeepsCells m old new → IsSummed width bits n old pages → IsSummed width bits m new pages
 summed-kept width bits n m old new pages le kept summed = record {
   few = summed.few;
   each = λ p h. one p (summed.each p h);
@@ -178,7 +238,7 @@ summed-kept width bits n m old new pages le kept summed = record {
   two : (a b c d : Bool) → a ≡ b → c ≡ d → (a && c) ≡ (b && d)
   two a b c d x y = cc
 
-  one : (p : ℕ) → HasMarks width bits n old p (page_at pages p) → HasMarks width bits m new p (page_at pages p)
+  one : (p : ℕ) → HasMarks width bits n old p (words_at pages p) → HasMarks width bits m new p (words_at pages p)
   one p has = record {
     long = has.long;
     marks = λ j r h l e agree.
@@ -294,53 +354,60 @@ words-within rules p k words marked all set = ltb-true (64 * (64 * p + k)) rules
 
 -- ---- rules that are added
 
-pub keeps-none : (pages : List (List ℕ)) → KeepsMarks pages pages
+pub keeps-none : (pages : List (PageOf ℕ)) → KeepsMarks pages pages
 keeps-none pages = record { long = refl; sizes = λ p. refl; marks = λ p j i h. h }
 
-pub keeps-both : (old pages new : List (List ℕ)) → KeepsMarks old pages → KeepsMarks pages new → KeepsMarks old new
+pub keeps-both : (old pages new : List (PageOf ℕ)) → KeepsMarks old pages → KeepsMarks pages new → KeepsMarks old new
 keeps-both old pages new first second = record {
   long = second.long ∙ first.long;
   sizes = λ p. second.sizes p ∙ first.sizes p;
   marks = λ p j i h. second.marks p j i (first.marks p j i h);
 }
 
-pub no-page : (bits r : ℕ) (block : Block) (pages : List (List ℕ)) → length pages ≤ r / 4096 → IsRuleMarked bits block r pages
+pub no-page : (bits r : ℕ) (block : Block) (pages : List (PageOf ℕ)) → length pages ≤ r / 4096 → IsRuleMarked bits block r pages
 no-page bits r block pages past = record { set = λ g v h k a inside. absurd (omega arith) }
 
 -- a page that is marked
-pub keeps-page : (bits k p : ℕ) (block : Block) (pages : List (List ℕ)) (page new : List ℕ) → p < length pages → page ≡ page_at pages p → IsBlockMarked bits block k page new → KeepsMarks pages (set pages p new)
+pub keeps-page : (bits k p : ℕ) (block : Block) (pages : List (PageOf ℕ)) (page new : PageOf ℕ) → p < length pages → page ≡ get_or pages p page → IsBlockMarked bits block k page.items new.items → KeepsMarks pages (set pages p new)
 keeps-page bits k p block pages page new h e marked = record {
   long = length-set pages p new;
   sizes = λ q. sizes q (cases_eq q p);
   marks = λ q j i m. marks q j i m (cases_eq q p);
 } where
-  sizes : (q : ℕ) → (q ≡ p) ⊎ (q ≡ p → ⊥) → length (page_at (set pages p new) q) ≡ length (page_at pages q)
-  sizes q (inl same) =
-      ap (λ x. length (page_at (set pages p new) x)) same ∙ ap length (get_or-set_same pages p new [] h) ∙ marked.kept.long ∙ ap length e ∙ ap (λ x. length (page_at pages x)) (sym same)
-  sizes q (inr differs) = ap length (get_or-set_other pages p q new [] differs)
+  there : (q : ℕ) → q ≡ p → words_at (set pages p new) q ≡ new.items
+  there q same = ap (words_at (set pages p new)) same ∙ ap (λ (m : PageOf ℕ). m.items) (get_or-set_same pages p new _ h)
 
-  marks : (q j i : ℕ) → bit (slice_index (page_at pages q) j) i ≡ true → (q ≡ p) ⊎ (q ≡ p → ⊥) → bit (slice_index (page_at (set pages p new) q) j) i ≡ true
-  marks q j i m (inl same) =
-      let there : page_at (set pages p new) q ≡ new = ap (page_at (set pages p new)) same ∙ get_or-set_same pages p new [] h in
-      let before : page_at pages q ≡ page = ap (page_at pages) same ∙ sym e in
-      ap (λ x. bit (slice_index x j) i) there ∙ marked.kept.marks j i (ap (λ x. bit (slice_index x j) i) (sym before) ∙ m)
-  marks q j i m (inr differs) = ap (λ x. bit (slice_index x j) i) (get_or-set_other pages p q new [] differs) ∙ m
+  before : (q : ℕ) → q ≡ p → words_at pages q ≡ page.items
+  before q same = ap (words_at pages) same ∙ sym (ap (λ (m : PageOf ℕ). m.items) (e ∙ get_or_default pages p page _ h))
 
-pub page-marked : (bits r p : ℕ) (block : Block) (pages : List (List ℕ)) (page new : List ℕ) → p ≡ r / 4096 → p < length pages → IsBlockMarked bits block (r / 64 % 64) page new → IsRuleMarked bits block r (set pages p new)
+  other : (q : ℕ) → (q ≡ p → ⊥) → words_at (set pages p new) q ≡ words_at pages q
+  other q differs = ap (λ (m : PageOf ℕ). m.items) (get_or-set_other pages p q new _ differs)
+
+  sizes : (q : ℕ) → (q ≡ p) ⊎ (q ≡ p → ⊥) → length (words_at (set pages p new) q) ≡ length (words_at pages q)
+  sizes q (inl same) = ap length (there q same) ∙ marked.kept.long ∙ ap length (sym (before q same))
+  sizes q (inr differs) = ap length (other q differs)
+
+  marks : (q j i : ℕ) → bit (slice_index (words_at pages q) j) i ≡ true → (q ≡ p) ⊎ (q ≡ p → ⊥) → bit (slice_index (words_at (set pages p new) q) j) i ≡ true
+  marks q j i m (inl same) = ap (λ x. bit (slice_index x j) i) (there q same) ∙ marked.kept.marks j i (ap (λ x. bit (slice_index x j) i) (sym (before q same)) ∙ m)
+  marks q j i m (inr differs) = ap (λ x. bit (slice_index x j) i) (other q differs) ∙ m
+
+pub page-marked : (bits r p : ℕ) (block : Block) (pages : List (PageOf ℕ)) (page new : PageOf ℕ) → p ≡ r / 4096 → p < length pages → IsBlockMarked bits block (r / 64 % 64) page.items new.items → IsRuleMarked bits block r (set pages p new)
 page-marked bits r p block pages page new e h marked = record {
   set = λ g v a b agree inside.
-      let there : page_at (set pages p new) (r / 4096) ≡ new = ap (page_at (set pages p new)) (sym e) ∙ get_or-set_same pages p new [] h in
+      let there : words_at (set pages p new) (r / 4096) ≡ new.items = ap (words_at (set pages p new)) (sym e) ∙ ap (λ (m : PageOf ℕ). m.items) (get_or-set_same pages p new _ h) in
       ap (λ x. bit (slice_index x (g * 256 + v)) (r / 64 % 64)) there ∙ marked.set g v a b agree;
 }
 
-pub pages-page : (bits : ℕ) (old new : List (List ℕ)) → KeepsMarks old new → All (IsPage bits) old → All (IsPage bits) new
-pages-page bits old new kept all =
-    All-from_get_or (IsPage bits) new [] (λ p h. let l = kept.long in let was = All-get_or (IsPage bits) old p [] (omega arith) all in record { long = kept.sizes p ∙ was.long })
+pub pages-page : (bits : ℕ) (old new : List (PageOf ℕ)) → KeepsMarks old new → ArePages bits old → ArePages bits new
+pages-page bits old new kept are = record { each = λ p h. let l = kept.long in record { long = kept.sizes p ∙ (are.each p (omega arith)).long } }
 
-pub rules-none : (bits first : ℕ) (blocks : List Block) (pages : List (List ℕ)) → AreRulesMarked bits first 0 blocks pages
+pub page-is : (bits : ℕ) (pages : List (PageOf ℕ)) (p : ℕ) (page : PageOf ℕ) → p < length pages → page ≡ get_or pages p page → ArePages bits pages → IsPage8 bits page.items
+page-is bits pages p page h e are = subst (IsPage8 bits) (sym (ap (λ (m : PageOf ℕ). m.items) (e ∙ get_or_default pages p page _ h))) (are.each p h)
+
+pub rules-none : (bits first : ℕ) (blocks : List Block) (pages : List (PageOf ℕ)) → AreRulesMarked bits first 0 blocks pages
 rules-none bits first blocks pages = record { each = λ i h. absurd (omega arith) }
 
-pub rules-more : (bits first n : ℕ) (d : Block) (blocks : List Block) (pages new : List (List ℕ)) → n < length blocks → KeepsMarks pages new → IsRuleMarked bits (get_or blocks n d) (first + n) new
+pub rules-more : (bits first n : ℕ) (d : Block) (blocks : List Block) (pages new : List (PageOf ℕ)) → n < length blocks → KeepsMarks pages new → IsRuleMarked bits (get_or blocks n d) (first + n) new
     → AreRulesMarked bits first n blocks pages → AreRulesMarked bits first (n + 1) blocks new
 rules-more bits first n d blocks pages new within kept marked so_far = record { each = λ i h. go i h (cases_eq i n) } where
   same : get_or blocks n d ≡ block_at blocks n
@@ -354,8 +421,8 @@ rules-more bits first n d blocks pages new within kept marked so_far = record { 
     before : i < n + 1 → (i ≡ n → ⊥) → i < n
     before a b = omega arith
 
-pub summed-pages : (width bits n : ℕ) (buckets : List Row) (pages : List (List ℕ)) → IsSummed width bits n buckets pages → All (IsPage bits) pages
-summed-pages width bits n buckets pages summed = All-from_get_or (IsPage bits) pages [] (λ p h. record { long = (summed.each p h).long })
+pub summed-pages : (width bits n : ℕ) (buckets : List Row) (pages : List (PageOf ℕ)) → IsSummed width bits n buckets pages → ArePages bits pages
+summed-pages width bits n buckets pages summed = record { each = λ p h. record { long = (summed.each p h).long } }
 
 -- no rule of raised rows is set
 pub fresh-raised : (width bits rules n : ℕ) (old new : List Row) → IsShaped width bits rules old → Each (IsRaised n) old new → IsFresh rules new
@@ -397,7 +464,7 @@ new-agrees width bits first n j r blocks new w only h low agree = go (eight-or-f
   go (inr e) = narrow (subst (λ x. HasOnly x bits first n blocks new) e only) (subst (λ x. agrees_at x new j r ≡ true) e agree)
 
 -- the summary with the rules that are added
-pub summed-added : (width bits first n : ℕ) (blocks : List Block) (old new : List Row) (pages marked : List (List ℕ)) → IsWidth width bits → IsSummed width bits first old pages → KeepsCells first old new
+pub summed-added : (width bits first n : ℕ) (blocks : List Block) (old new : List Row) (pages marked : List (PageOf ℕ)) → IsWidth width bits → IsSummed width bits first old pages → KeepsCells first old new
     → HasOnly width bits first n blocks new → KeepsMarks pages marked → AreRulesMarked bits first n blocks marked → IsSummed width bits (first + n) new marked
 summed-added width bits first n blocks old new pages marked w summed cells only kept rules = record {
   few = let l = kept.long in let f = summed.few in omega arith;
@@ -406,9 +473,9 @@ summed-added width bits first n blocks old new pages marked w summed cells only 
   two : (a b c d : Bool) → a ≡ b → c ≡ d → (a && c) ≡ (b && d)
   two a b c d x y = cc
 
-  one : (p : ℕ) → p < length marked → HasMarks width bits first old p (page_at pages p) → HasMarks width bits (first + n) new p (page_at marked p)
+  one : (p : ℕ) → p < length marked → HasMarks width bits first old p (words_at pages p) → HasMarks width bits (first + n) new p (words_at marked p)
   one p h has = record { long = kept.sizes p ∙ has.long; marks = λ j r a b e agree. go j r a b e agree (cases_lt r first) } where
-    go : (j r : ℕ) → j < bits / 8 * 256 → r < first + n → r / 4096 ≡ p → agrees_at width new j r ≡ true → (r < first) ⊎ (first ≤ r) → bit (slice_index (page_at marked p) j) (r / 64 % 64) ≡ true
+    go : (j r : ℕ) → j < bits / 8 * 256 → r < first + n → r / 4096 ≡ p → agrees_at width new j r ≡ true → (r < first) ⊎ (first ≤ r) → bit (slice_index (words_at marked p) j) (r / 64 % 64) ≡ true
     go j r a b e agree (inl l) =
         kept.marks p j (r / 64 % 64) (has.marks j r a l e (sym (two _ _ _ _ (cells.cells (upper_place width j) r l) (cells.cells (lower_place width j) r l)) ∙ agree))
     go j r a b e agree (inr l) =
@@ -416,6 +483,6 @@ summed-added width bits first n blocks old new pages marked w summed cells only 
         let whole : j / 256 * 256 + j % 256 ≡ j = omega arith in
         let inside : (first + (r - first)) / 4096 < length marked = rw (i, e) h in
         let set = (rules.each (r - first) (omega arith)).set (j / 256) (j % 256) (omega arith) (omega arith) (new-agrees width bits first n j r blocks new w only a l agree) inside in
-        ap (λ x. bit (slice_index (page_at marked p) x) (r / 64 % 64)) (sym whole)
-        ∙ ap (λ x. bit (slice_index (page_at marked x) (j / 256 * 256 + j % 256)) (r / 64 % 64)) (sym e)
-        ∙ ap (λ x. bit (slice_index (page_at marked (x / 4096)) (j / 256 * 256 + j % 256)) (x / 64 % 64)) (sym i) ∙ set
+        ap (λ x. bit (slice_index (words_at marked p) x) (r / 64 % 64)) (sym whole)
+        ∙ ap (λ x. bit (slice_index (words_at marked x) (j / 256 * 256 + j % 256)) (r / 64 % 64)) (sym e)
+        ∙ ap (λ x. bit (slice_index (words_at marked (x / 4096)) (j / 256 * 256 + j % 256)) (x / 64 % 64)) (sym i) ∙ set

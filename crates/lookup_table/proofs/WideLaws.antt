@@ -1,44 +1,50 @@
 -- A table in groups of eight bits, from one in groups of four.
-use Rattle.std.proofs.Common.{◌≡◌, refl, sym, ◌∙◌, ap, ℕ, ◌+◌, ◌*◌, ◌/◌, ◌%◌, ◌^◌, ◌<◌, ◌≤◌, ◌⊎◌, ◌∷◌, [], ◌++◌, ◌&&◌, Bool, List, length, arith, inl, inr, Some, slice_get, subst}
-use Rattle.std.proofs.lemmas.Bool.{cases_lt}
-use Rattle.std.proofs.lemmas.List.{get_or_append_left, get_or_push, length_push}
+use Rattle.std.proofs.Common.{◌≡◌, refl, sym, ◌∙◌, ap, ℕ, ◌+◌, ◌*◌, ◌/◌, ◌%◌, ◌^◌, ◌<◌, ◌≤◌, ◌⊎◌, All, ◌&&◌, Bool, false, List, length, replicate, arith, inl, inr, subst}
+use Rattle.std.proofs.lemmas.Bool.{cases_eq}
+use Rattle.std.proofs.lemmas.List.{length-replicate}
 use Rattle.set_model.specs.declared.block.Block.{Block}
 use Rattle.bit_rows.specs.Row.{Row, at, both}
 use Rattle.bit_rows.proofs.Rows.{at-both, length-both}
 use Rattle.field_groups.specs.Groups.{agrees, IsWidth}
 use Rattle.field_groups.proofs.HalfLaws.{agrees-halves}
 use Rattle.lookup_table.specs.Table.{bucket_at, bucket_place, cell, IsShaped, block_at, StandsFor}
-use Rattle.lookup_table.specs.Rows.{IsWide}
-use Rattle.lookup_table.proofs.RowsLaws.{cell-is, cell-read, bucket-All}
+use Rattle.lookup_table.specs.Rows.{IsWide, IsPut}
+use Rattle.lookup_table.proofs.RowsLaws.{cell-is, All-bucket, bucket-All}
 
 -- ---- buckets made one after another
 
--- P holds of each of the first n buckets, and there are no more
-pub record Made (P : ℕ → Row → Type 0) (n : ℕ) (rows : List Row) : Type 0 where
-  pub long : length rows ≡ n
+-- P holds of each of the first n buckets, of so many
+pub record Made (P : ℕ → Row → Type 0) (count rules n : ℕ) (rows : List Row) : Type 0 where
+  pub long : length rows ≡ count
+  pub sizes : (j : ℕ) → j < count → length (bucket_at rows j).bits ≡ rules
   pub at : (j : ℕ) → j < n → P j (bucket_at rows j)
 
-pub made-none : (P : ℕ → Row → Type 0) (rows : List Row) → rows ≡ [] → Made P 0 rows
-made-none P rows e = record { long = ap length e; at = λ j h. absurd (omega arith) }
+pub made-none : (P : ℕ → Row → Type 0) (count rules : ℕ) (rows : List Row) → length rows ≡ count → All (λ row. row.bits ≡ replicate rules false) rows → Made P count rules 0 rows
+made-none P count rules rows long zeros = record {
+  long = long;
+  sizes = λ j h. ap length (All-bucket (λ (x : Row). x.bits ≡ replicate rules false) rows j zeros (omega arith)) ∙ length-replicate rules false;
+  at = λ j h. absurd (omega arith);
+}
 
-pub made-more : (P : ℕ → Row → Type 0) (n : ℕ) (rows : List Row) (row : Row) → P n row → Made P n rows → Made P (n + 1) (rows ++ row ∷ [])
-made-more P n rows row here so_far = record { long = length_push rows row ∙ ap (λ m. m + 1) so_far.long; at = λ j h. go j h (cases_lt j n) } where
-  go : (j : ℕ) → j < n + 1 → (j < n) ⊎ (n ≤ j) → P j (bucket_at (rows ++ row ∷ []) j)
-  go j h (inl l) =
-      let e : bucket_at (rows ++ row ∷ []) j ≡ bucket_at rows j = get_or_append_left rows (row ∷ []) (record { bits = []; spare = 0 }) j (omega (arith, so_far.long)) in
-      subst (P j) (sym e) (so_far.at j l)
-  go j h (inr l) =
-      let same : n ≡ j = omega arith in
-      let e : bucket_at (rows ++ row ∷ []) j ≡ row = get_or_push rows row (record { bits = []; spare = 0 }) j (so_far.long ∙ same) in
-      subst (P j) (sym e) (subst (λ k. P k row) same here)
+pub made-more : (P : ℕ → Row → Type 0) (count rules n : ℕ) (old new : List Row) (row : Row) → ((j : ℕ) (a b : Row) → b.bits ≡ a.bits → P j a → P j b) → P n row → IsPut n row.bits old new → Made P count rules n old
+    → Made P count rules (n + 1) new
+made-more P count rules n old new row same here put so_far = record {
+  long = put.size.long ∙ so_far.long;
+  sizes = λ j h. put.size.bits j ∙ so_far.sizes j h;
+  at = λ j h. go j h (cases_eq j n);
+} where
+  go : (j : ℕ) → j < n + 1 → (j ≡ n) ⊎ (j ≡ n → ⊥) → P j (bucket_at new j)
+  go j h (inl e) = subst (λ i. P i (bucket_at new i)) (sym e) (same n row (bucket_at new n) put.row here)
+  go j h (inr differs) = same j (bucket_at old j) (bucket_at new j) (put.others j differs) (so_far.at j (less h differs)) where
+    less : j < n + 1 → (j ≡ n → ⊥) → j < n
+    less a b = omega arith
 
--- such buckets are a table's, where each has a place for each rule
-pub made-shape : (P : ℕ → Row → Type 0) (width bits rules n : ℕ) (rows : List Row) → IsWidth width bits → n ≡ bits / width * 2 ^ width → ((j : ℕ) (row : Row) → P j row → length row.bits ≡ rules)
-    → Made P n rows → IsShaped width bits rules rows
-made-shape P width bits rules n rows w count long done = record {
+-- such buckets are a table's
+pub made-shape : (P : ℕ → Row → Type 0) (width bits rules count n : ℕ) (rows : List Row) → IsWidth width bits → count ≡ bits / width * 2 ^ width → Made P count rules n rows → IsShaped width bits rules rows
+made-shape P width bits rules count n rows w e done = record {
   groups = w;
-  count = done.long ∙ count;
-  rows = bucket-All (λ (x : Row). length x.bits ≡ rules) rows (λ j h. long j (bucket_at rows j) (done.at j (omega (arith, done.long))));
+  count = done.long ∙ e;
+  rows = bucket-All (λ (x : Row). length x.bits ≡ rules) rows (λ j h. done.sizes j (omega (arith, done.long)));
 }
 
 -- ---- groups of eight
@@ -46,19 +52,29 @@ made-shape P width bits rules n rows w count long done = record {
 pub wide-groups : (bits : ℕ) → IsWidth 4 bits → IsWidth 8 bits
 wide-groups bits w = record { fours = refl; four = omega arith; eight = omega arith; bytes = w.bytes; some = w.some; most = w.most }
 
-pub wide-is : (old : List Row) (rules j : ℕ) (first second row : Row) → slice_get old (bucket_place 4 (2 * (j / 2 ^ 8)) (j % 2 ^ 8 / 2 ^ 4)) ≡ Some first
-    → slice_get old (bucket_place 4 (2 * (j / 2 ^ 8) + 1) (j % 2 ^ 8 % 2 ^ 4)) ≡ Some second → length first.bits ≡ rules → length second.bits ≡ rules → row.bits ≡ both first.bits second.bits → IsWide old rules j row
-wide-is old rules j first second row e f a b made = record {
-  long = ap length made ∙ length-both first.bits second.bits (a ∙ sym b) ∙ a;
-  at = λ r h. ap (λ xs. at xs r) made ∙ at-both first.bits second.bits r (a ∙ sym b) (omega arith) ∙ two (sym (cell-read old _ r first e)) (sym (cell-read old _ r second f));
+pub wide-is : (old : List Row) (rules j : ℕ) (first row : Row) → first.bits ≡ (bucket_at old (bucket_place 4 (2 * (j / 2 ^ 8)) (j % 2 ^ 8 / 2 ^ 4))).bits
+    → length (bucket_at old (bucket_place 4 (2 * (j / 2 ^ 8)) (j % 2 ^ 8 / 2 ^ 4))).bits ≡ rules → length (bucket_at old (bucket_place 4 (2 * (j / 2 ^ 8) + 1) (j % 2 ^ 8 % 2 ^ 4))).bits ≡ rules
+    → row.bits ≡ both first.bits (bucket_at old (bucket_place 4 (2 * (j / 2 ^ 8) + 1) (j % 2 ^ 8 % 2 ^ 4))).bits → IsWide old rules j row
+wide-is old rules j first row e a b made = record {
+  long = ap length made ∙ length-both first.bits other same ∙ ap length e ∙ a;
+  at = λ r h. ap (λ xs. at xs r) made ∙ at-both first.bits other r same (omega (arith, ap length e)) ∙ two (ap (λ xs. at xs r) e ∙ sym (cell-is old _ r)) (sym (cell-is old _ r));
 } where
+  other : List Bool
+  other = (bucket_at old (bucket_place 4 (2 * (j / 2 ^ 8) + 1) (j % 2 ^ 8 % 2 ^ 4))).bits
+
+  same : length first.bits ≡ length other
+  same = ap length e ∙ a ∙ sym b
+
   two : {p q r t : Bool} → p ≡ q → r ≡ t → (p && r) ≡ (q && t)
   two x y = cc
 
-pub wide-shape : (bits rules : ℕ) (old rows : List Row) → IsShaped 4 bits rules old → Made (IsWide old rules) (bits / 8 * 256) rows → IsShaped 8 bits rules rows
-wide-shape bits rules old rows shape done = made-shape (IsWide old rules) 8 bits rules (bits / 8 * 256) rows (wide-groups bits shape.groups) refl (λ j row wide. wide.long) done
+pub wide-same : (old : List Row) (rules j : ℕ) (a b : Row) → b.bits ≡ a.bits → IsWide old rules j a → IsWide old rules j b
+wide-same old rules j a b e wide = record { long = ap length e ∙ wide.long; at = λ r h. ap (λ xs. at xs r) e ∙ wide.at r h }
 
-pub wide-stands : (bits rules : ℕ) (old rows : List Row) (blocks : List Block) → IsWidth 4 bits → Made (IsWide old rules) (bits / 8 * 256) rows → StandsFor 4 bits rules old blocks → StandsFor 8 bits rules rows blocks
+pub wide-shape : (bits rules n : ℕ) (old rows : List Row) → IsShaped 4 bits rules old → Made (IsWide old rules) (bits / 8 * 256) rules n rows → IsShaped 8 bits rules rows
+wide-shape bits rules n old rows shape done = made-shape (IsWide old rules) 8 bits rules (bits / 8 * 256) n rows (wide-groups bits shape.groups) refl done
+
+pub wide-stands : (bits rules : ℕ) (old rows : List Row) (blocks : List Block) → IsWidth 4 bits → Made (IsWide old rules) (bits / 8 * 256) rules (bits / 8 * 256) rows → StandsFor 4 bits rules old blocks → StandsFor 8 bits rules rows blocks
 wide-stands bits rules old rows blocks w done stands = record { one_each = stands.one_each; within = stands.within; bucket = bucket } where
   bucket : (g v r : ℕ) → g < bits / 8 → v < 2 ^ 8 → r < rules → cell rows (bucket_place 8 g v) r ≡ agrees 8 bits (block_at blocks r) g v
   bucket g v r h k l =

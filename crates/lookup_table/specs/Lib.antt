@@ -1,6 +1,7 @@
 pub mod Table
 pub mod Rules
 pub mod Rows
+pub mod Lines
 pub mod Width
 pub mod Laws
 pub mod Summary

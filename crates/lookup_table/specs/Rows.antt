@@ -1,5 +1,5 @@
 -- Changes of buckets, one by one, and what is made of some of them.
-use Rattle.std.specs.Prelude.{◌≡◌, ℕ, ◌+◌, ◌-◌, ◌*◌, ◌/◌, ◌%◌, ◌^◌, ◌<◌, ◌≤◌, true, false, cond, ◌&&◌, ◌||◌, ◌==◌, nat_lt, List, ◌++◌, length, replicate, All}
+use Rattle.std.specs.Prelude.{◌≡◌, ℕ, ◌+◌, ◌-◌, ◌*◌, ◌/◌, ◌%◌, ◌^◌, ◌<◌, ◌≤◌, Bool, true, false, cond, ◌&&◌, ◌||◌, ◌==◌, nat_lt, List, ◌++◌, length, replicate, All}
 use Rattle.set_model.specs.declared.block.Block.{Block}
 use Rattle.set_model.specs.Blocks.{IsWithin}
 use Rattle.bit_rows.specs.Row.{Row, at, lies, without_run}
@@ -10,10 +10,6 @@ use Rattle.lookup_table.specs.Table.{bucket_at, bucket_place, block_at, cell}
 pub record Each (R : Row → Row → Type 0) (old new : List Row) : Type 0 where
   pub long : length new ≡ length old
   pub at : (j : ℕ) → j < length old → R (bucket_at old j) (bucket_at new j)
-
--- the row has room for so many places
-pub record HasRoom (places : ℕ) (row : Row) : Type 0 where
-  pub room : places ≤ length row.bits + row.spare
 
 -- n places more that are not set, in the same room
 pub record IsRaised (n : ℕ) (old new : Row) : Type 0 where
@@ -30,12 +26,6 @@ pub record IsGrown (old new : Row) : Type 0 where
   pub bits : new.bits ≡ old.bits
   pub spare : old.spare ≤ new.spare
 
--- and room for so many places
-pub record IsReserved (places : ℕ) (old new : Row) : Type 0 where
-  pub bits : new.bits ≡ old.bits
-  pub spare : old.spare ≤ new.spare
-  pub room : places ≤ length new.bits + new.spare
-
 -- each row keeps its length and its room
 pub record IsSameSize (old new : List Row) : Type 0 where
   pub long : length new ≡ length old
@@ -46,6 +36,12 @@ pub record IsSameSize (old new : List Row) : Type 0 where
 pub record IsMarked (from to r : ℕ) (old new : List Row) : Type 0 where
   pub size : IsSameSize old new
   pub cells : (j i : ℕ) → cell new j i ≡ (cell old j i || (lies from to j && i == r))
+
+-- row j is written over
+pub record IsPut (j : ℕ) (bits : List Bool) (old new : List Row) : Type 0 where
+  pub size : IsSameSize old new
+  pub row : (bucket_at new j).bits ≡ bits
+  pub others : (i : ℕ) → (i ≡ j → ⊥) → (bucket_at new i).bits ≡ (bucket_at old i).bits
 
 -- place r is set in the buckets of the first n groups whose value agrees with the block too
 pub record IsBlockMarked (width bits n : ℕ) (block : Block) (r : ℕ) (old new : List Row) : Type 0 where

@@ -1,19 +1,36 @@
 -- What is said of a table, of its change and of a row of its rules.
-use Rattle.std.specs.Prelude.{◌≡◌, ℕ, ◌+◌, ◌*◌, ◌<◌, Bool, ◌&&◌, List, ◌++◌}
+use Rattle.std.specs.Prelude.{◌≡◌, ℕ, ◌+◌, ◌*◌, ◌/◌, ◌<◌, ◌≤◌, Bool, true, ◌&&◌, List, ◌++◌, get_or}
 use Rattle.set_model.specs.declared.block.Block.{Block}
 use Rattle.bit_rows.specs.Row.{Row, at, bit}
+use Rattle.shared_pages.specs.Paged.{owns_of}
 use Rattle.field_groups.specs.Groups.{group}
 use Rattle.lookup_table.specs.declared.table.FieldTable.{FieldTable}
+use Rattle.lookup_table.specs.Lines.{IsCommon}
 use Rattle.lookup_table.specs.Table.{StandsFor, bucket_place, block_at, without_blocks}
 
 -- the table stands for these blocks, one per rule
 abbrev pub Stands : FieldTable → List Block → Type 0
-Stands t blocks = StandsFor t.width t.bits t.rules t.buckets blocks
+Stands t blocks = StandsFor t.width t.bits t.rules t.buckets.rows blocks
 
 -- both tables are of the same field, in groups of the same width
 pub record IsSameField (old new : FieldTable) : Type 0 where
   pub width : new.width ≡ old.width
   pub bits : new.bits ≡ old.bits
+
+-- The pages of the rules from `from` up to `to`, and of the summary above them, are the table's own.
+pub record IsOwn (from to : ℕ) (t : FieldTable) : Type 0 where
+  pub rows : (r : ℕ) → from ≤ r → r < to → get_or t.buckets.own (r / 512) true ≡ true
+  pub marks : (r : ℕ) → from ≤ r → r < to → get_or (owns_of t.pages.items) (r / 4096) true ≡ true
+
+-- No page is the table's own: a copy takes a count for each.
+pub record IsShared (t : FieldTable) : Type 0 where
+  pub rows : IsCommon t.buckets.own
+  pub marks : IsCommon (owns_of t.pages.items)
+
+-- A page is the new table's own where it was the old one's.
+pub record IsAsOwn (old new : FieldTable) : Type 0 where
+  pub rows : new.buckets.own ≡ old.buckets.own
+  pub marks : owns_of new.pages.items ≡ owns_of old.pages.items
 
 -- The new table stands for each list of blocks that the old one stands for.
 abbrev pub KeepsRules : FieldTable → FieldTable → Type 0

@@ -6,8 +6,8 @@
 #![tactic(auto)]
 
 mod laws;
+mod lines;
 mod marks;
-mod rows;
 mod summary;
 mod table;
 #[cfg(test)]
@@ -15,6 +15,6 @@ mod tests;
 mod widths;
 
 pub use laws::held_by_buckets;
-pub use rows::Rows;
+pub use lines::Lines;
 pub use table::FieldTable;
 pub use widths::width_for;

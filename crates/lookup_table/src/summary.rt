@@ -1,15 +1,17 @@
-ghost use Rattle.std.specs.Prelude.{◌≡◌, ℕ, ◌+◌, ◌*◌, ◌/◌, ◌^◌, ◌<◌, ◌≤◌, nat_lt, length, All};
+ghost use Rattle.std.specs.Prelude.{◌≡◌, ℕ, ◌+◌, ◌*◌, ◌/◌, ◌^◌, ◌<◌, ◌≤◌, true, nat_lt, length, get_or, All, IfOk};
 ghost use Rattle.bit_rows.specs.Row.{bit};
 ghost use Rattle.lookup_table.specs.Table.{IsShaped};
-ghost use Rattle.lookup_table.specs.Summary.{upper_place, lower_place, HasMarks, IsSummed, KeepsMarks, IsRuleMarked, AreRulesMarked};
+ghost use Rattle.lookup_table.specs.Lines.{IsWithinRoom};
+ghost use Rattle.lookup_table.specs.Summary.{upper_place, lower_place, HasMarks, ArePages, IsSummed, KeepsMarks, IsRuleMarked, AreRulesMarked};
 ghost use Rattle.set_model.specs.Blocks.{IsWithin};
 ghost use Rattle.field_groups.specs.Groups.{IsWidth};
-ghost use Rattle.word_summary.specs.Marks.{IsPage};
+ghost use Rattle.shared_pages.specs.Paged.{owns_of};
 
-use crate::rows::Rows;
+use crate::lines::Lines;
 use set_model::{Block, Memory};
+use shared_pages::Page;
 use std::alloc::Global;
-use word_summary::Page;
+use word_summary::{mark_block, mark_line, new_page, shared_words};
 
 // A table's summary is made from its buckets: a word of rules is marked for a value of a byte where
 // the buckets of that value leave a rule of the word.
@@ -29,69 +31,76 @@ fn line_places(width: u32, j: u64) -> (u64, u64)
     }
 }
 
-/// Makes the marks of page `p` from word `from` of the page on anew. Those before it stand.
-pub(crate) fn renew_page(
-    page: &mut Page,
-    buckets: &Rows,
-    width: u32,
-    bits: u32,
-    rules: u32,
-    p: u32,
-    from: u32,
-)
-    requires shape { IsShaped width bits rules buckets.now }
-    requires page { p < 2 ^ 26 }
-    requires from { from < 64 }
-    requires marks { HasMarks width bits (64 * (64 * p + from)) buckets.now p page.old }
-    ensures { HasMarks width bits rules buckets.now p page.new }
+/// Makes the marks of the eight words of rules from word `8 * q` on anew, in the page that has them.
+fn renew_words(page: &mut Page<u64>, buckets: &Lines, width: u32, bits: u32, q: u32)
+    requires groups { IsWidth width bits }
+    requires count { length buckets.now.rows ≡ bits / width * 2 ^ width }
+    requires words { IsWithinRoom (512 * q) buckets.now.rows }
+    requires own { page.old.own ≡ true }
+    requires marks { HasMarks width bits (512 * q) buckets.now.rows (q / 8) page.old.items }
+    ensures marks { HasMarks width bits (512 * (q + 1)) buckets.now.rows (q / 8) page.new.items }
+    ensures own { page.new.own ≡ true }
 {
+    let words = buckets.page(q);
     'lines: for j in 0..bits / 8 * 256 {
         let (upper, lower) = line_places(width, j as u64);
-        page.mark(
-            j as usize,
-            from,
-            buckets.at(upper).words(),
-            buckets.at(lower).words(),
-            64 * p as usize,
-        );
+        let marks = shared_words(words, upper as usize, lower as usize);
+        mark_line(page, j as usize, q % 8, marks);
     }
 }
 
-/// Makes the marks from word `from` of the rules on anew. Those before it stand.
+/// Makes the marks of the rules from rule `512 * from` up to rule `512 * end` anew, where there are pages
+/// for them. Those before them stand.
 pub(crate) fn renew_pages(
-    pages: &mut Vec<Page>,
-    buckets: &Rows,
+    pages: &mut Vec<Page<u64>>,
+    buckets: &Lines,
     width: u32,
     bits: u32,
-    rules: u32,
     from: u32,
+    end: u32,
 )
-    requires shape { IsShaped width bits rules buckets.now }
-    requires summed { IsSummed width bits (64 * from) buckets.now pages.old.items }
-    ensures { IsSummed width bits rules buckets.now pages.new.items }
+    requires groups { IsWidth width bits }
+    requires count { length buckets.now.rows ≡ bits / width * 2 ^ width }
+    requires order { from ≤ end }
+    requires words { (q : ℕ) → q < end → IsWithinRoom (512 * q) buckets.now.rows }
+    requires own { (q : ℕ) → from ≤ q → q < end → get_or (owns_of pages.old.items) (q / 8) true ≡ true }
+    requires summed { IsSummed width bits (512 * from) buckets.now.rows pages.old.items }
+    ensures summed { IsSummed width bits (512 * end) buckets.now.rows pages.new.items }
+    ensures own { owns_of pages.new.items ≡ owns_of pages.old.items }
 {
-    'pages: for p in from / 64..pages.len() as u32 {
-        let first = if p == from / 64 { from % 64 } else { 0 };
-        renew_page(
-            &mut pages[p as usize],
-            buckets,
-            width,
-            bits,
-            rules,
-            p,
-            first,
-        );
+    'words: for q in from..end {
+        renew_at(pages, buckets, width, bits, q);
     }
 }
 
-/// Marks the rules of these blocks, from rule `first` on.
-pub(crate) fn mark_added(pages: &mut Vec<Page>, added: &[Block], bits: u32, first: u32)
+/// Makes the marks of the eight words of rules from word `8 * q` on anew, if there is a page for them.
+fn renew_at(pages: &mut Vec<Page<u64>>, buckets: &Lines, width: u32, bits: u32, q: u32)
+    requires groups { IsWidth width bits }
+    requires count { length buckets.now.rows ≡ bits / width * 2 ^ width }
+    requires words { IsWithinRoom (512 * q) buckets.now.rows }
+    requires own { get_or (owns_of pages.old.items) (q / 8) true ≡ true }
+    requires summed { IsSummed width bits (512 * q) buckets.now.rows pages.old.items }
+    ensures summed { IsSummed width bits (512 * (q + 1)) buckets.now.rows pages.new.items }
+    ensures own { owns_of pages.new.items ≡ owns_of pages.old.items }
+{
+    let p = q as usize / 8;
+    if p >= pages.len() {
+        return;
+    }
+    let page = &mut pages[p];
+    renew_words(page, buckets, width, bits, q);
+}
+
+/// Marks the rules of these blocks, from rule `first` on, where there are pages for them.
+pub(crate) fn mark_added(pages: &mut Vec<Page<u64>>, added: &[Block], bits: u32, first: u32)
     requires groups { IsWidth 8 bits }
-    requires pages { All (IsPage bits) pages.old.items }
+    requires pages { ArePages bits pages.old.items }
     requires few { first + length added.now < 2 ^ 32 }
+    requires own { (r : ℕ) → first ≤ r → r < first + length added.now → get_or (owns_of pages.old.items) (r / 4096) true ≡ true }
     requires within { All (IsWithin bits) added.now }
     ensures kept { KeepsMarks pages.old.items pages.new.items }
     ensures marked { AreRulesMarked bits first (length added.now) added.now pages.new.items }
+    ensures own { owns_of pages.new.items ≡ owns_of pages.old.items }
 {
     'rules: for (i, block) in added.iter().enumerate() {
         mark_rule(pages, *block, bits, first + i as u32);
@@ -99,19 +108,42 @@ pub(crate) fn mark_added(pages: &mut Vec<Page>, added: &[Block], bits: u32, firs
 }
 
 /// Marks a rule in each line whose value agrees with its block, if there is a page for it.
-fn mark_rule(pages: &mut Vec<Page>, block: Block, bits: u32, r: u32)
+fn mark_rule(pages: &mut Vec<Page<u64>>, block: Block, bits: u32, r: u32)
     requires groups { IsWidth 8 bits }
-    requires pages { All (IsPage bits) pages.old.items }
+    requires pages { ArePages bits pages.old.items }
+    requires own { get_or (owns_of pages.old.items) (r / 4096) true ≡ true }
     requires block { IsWithin bits block }
     ensures kept { KeepsMarks pages.old.items pages.new.items }
-    ensures pages { All (IsPage bits) pages.new.items }
+    ensures pages { ArePages bits pages.new.items }
     ensures marked { IsRuleMarked bits block r pages.new.items }
+    ensures own { owns_of pages.new.items ≡ owns_of pages.old.items }
 {
     let p = r as usize / 4096;
     if p >= pages.len() {
         return;
     }
-    pages[p].mark_block(block, bits, r / 64 % 64);
+    let page = &mut pages[p];
+    mark_block(page, block, bits, r / 64 % 64);
+}
+
+/// Page `p` of a summary, with the marks of all its rules.
+fn summed_page(
+    alloc: Global,
+    buckets: &Lines,
+    width: u32,
+    bits: u32,
+    rules: u32,
+    p: u32,
+) -> Result<Page<u64>, Memory>
+    requires shape { IsShaped width bits rules buckets.now.rows }
+    requires page { p < 2 ^ 26 }
+    ensures { IfOk result (λ page. HasMarks width bits rules buckets.now.rows p page.items) }
+{
+    let mut page = new_page(alloc, bits)?;
+    'words: for q in 8 * p..rules.div_ceil(512).min(8 * p + 8) {
+        renew_words(&mut page, buckets, width, bits, q);
+    }
+    Ok(page)
 }
 
 /// Adds pages with their marks, up to `n` pages.
@@ -120,22 +152,20 @@ fn mark_rule(pages: &mut Vec<Page>, block: Block, bits: u32, r: u32)
 /// `Memory` if there is none left. The pages so far are right.
 pub(crate) fn add_pages(
     alloc: Global,
-    pages: &mut Vec<Page>,
+    pages: &mut Vec<Page<u64>>,
     n: u32,
-    buckets: &Rows,
+    buckets: &Lines,
     width: u32,
     bits: u32,
     rules: u32,
 ) -> Result<(), Memory>
-    requires shape { IsShaped width bits rules buckets.now }
+    requires shape { IsShaped width bits rules buckets.now.rows }
     requires few { n ≤ 2 ^ 26 }
-    requires summed { IsSummed width bits rules buckets.now pages.old.items }
-    ensures { IsSummed width bits rules buckets.now pages.new.items }
+    requires summed { IsSummed width bits rules buckets.now.rows pages.old.items }
+    ensures { IsSummed width bits rules buckets.now.rows pages.new.items }
 {
     'pages: for p in pages.len()..n as usize {
-        let mut page = Page::new(alloc, bits)?;
-        renew_page(&mut page, buckets, width, bits, rules, p as u32, 0);
-        pages.push(page)?;
+        pages.push(summed_page(alloc, buckets, width, bits, rules, p as u32)?)?;
     }
     Ok(())
 }

@@ -1,15 +1,16 @@
 ghost use Rattle.lookup_table.specs.Table.{IsShaped};
 ghost use Rattle.lookup_table.specs.Summary.{IsSummed};
 
+use crate::lines::Lines;
 use crate::marks::mark_blocks;
-use crate::rows::Rows;
 use crate::summary::{add_pages, mark_added, pages_for, renew_pages, words_of};
 use crate::widths::halves_of;
 use bit_rows::BitRow;
 use field_groups::{group_mask, group_value};
 use set_model::{Block, Memory};
+use shared_pages::{Page, copy_plain_pages, own_plain_pages, settle_plain_pages};
 use std::alloc::Global;
-use word_summary::{Page, copy_pages};
+use word_summary::candidates;
 
 /// The lookup table of a field.
 ///
@@ -21,26 +22,32 @@ use word_summary::{Page, copy_pages};
 /// A table that is summed has a summary above its rules: a page of marks for each 4,096 of them, once
 /// there are more than 64. `candidates` reads it. The summary is made from the buckets, and is the same
 /// at either width.
+///
+/// The buckets lie in pages of 512 rules, and the summary in those of 4,096, which copies share once the
+/// table was settled. A change is made on pages that are the table's own: [`FieldTable::reserve`] and
+/// [`FieldTable::own_from`] make them so, before it.
 #[derive(Drop)]
 pub struct FieldTable {
     pub width: u32,
     pub bits: u32,
     pub rules: u32,
-    pub buckets: Rows,
+    pub buckets: Lines,
     pub is_summed: bool,
-    pub pages: Vec<Page>,
-    pub ghost shaped: { IsShaped width bits rules buckets },
-    pub ghost summed: { IsSummed width bits rules buckets pages.items },
+    pub pages: Vec<Page<u64>>,
+    pub ghost shaped: { IsShaped width bits rules buckets.rows },
+    pub ghost summed: { IsSummed width bits rules buckets.rows pages.items },
 }
 
 impl FieldTable {
-    ghost use Rattle.std.specs.Prelude.{◌≡◌, ℕ, ◌+◌, ◌*◌, ◌/◌, ◌^◌, ◌<◌, ◌≤◌, ◌&&◌, true, false, List, [], ◌∷◌, ◌++◌, length, slice_get, Some, replicate, ◌-◌, All, IfOk, OnOk};
+    ghost use Rattle.std.specs.Prelude.{◌≡◌, ℕ, ◌+◌, ◌*◌, ◌/◌, ◌^◌, ◌<◌, ◌≤◌, ◌&&◌, true, false, List, [], ◌∷◌, ◌++◌, length, get_or, replicate, ◌-◌, All, IfOk, OnOk};
     ghost use Rattle.set_model.specs.declared.block.Block.{Block};
     ghost use Rattle.set_model.specs.Blocks.{holds_value, IsWithin};
     ghost use Rattle.bit_rows.specs.Row.{bit};
     ghost use Rattle.field_groups.specs.Groups.{IsWidth, meets, share_value};
+    ghost use Rattle.shared_pages.specs.Paged.{owns_of};
     ghost use Rattle.lookup_table.specs.Table.{rooms_of, bits_of};
-    ghost use Rattle.lookup_table.specs.Rules.{Stands, IsSameField, KeepsRules, AppendsRules, DropsRules, KeepsWhere, KeepsBitsWhere, place_of};
+    ghost use Rattle.lookup_table.specs.Lines.{IsPage};
+    ghost use Rattle.lookup_table.specs.Rules.{Stands, IsOwn, IsAsOwn, IsShared, IsSameField, KeepsRules, AppendsRules, DropsRules, KeepsWhere, KeepsBitsWhere, place_of};
     ghost use Rattle.lookup_table.specs.Rows.{IsJoined, IsWide, halves_start, halves_step};
     ghost use Rattle.lookup_table.specs.Candidates.{LeavesNone};
 
@@ -56,7 +63,7 @@ impl FieldTable {
         ensures rules { IfOk result (λ t. t.rules ≡ 0) }
         ensures stands { IfOk result (λ t. Stands t []) }
     {
-        let buckets = Rows::empty(alloc, bits / 8 * 256)?;
+        let buckets = Lines::zeros(alloc, bits / 8 * 256, 0)?;
         Ok(FieldTable {
             width: 8,
             bits,
@@ -89,19 +96,29 @@ impl FieldTable {
         }
     }
 
-    /// The bucket of a value's group `g`.
+    /// Where the bucket of a value's group `g` stands.
     #[inline(always)]
-    pub fn bucket(&self, value: u128, g: u32) -> &BitRow
+    pub fn place(&self, value: u128, g: u32) -> usize
         requires group { g < self.now.bits / self.now.width }
         requires value { value < 2 ^ self.now.bits }
-        ensures bucket { slice_get self.now.buckets (place_of self.now g value) ≡ Some result.now }
-        ensures length { length result.now.bits ≡ self.now.rules }
+        ensures place { result ≡ place_of self.now g value }
+        ensures within { result < length self.now.buckets.rows }
     {
         let v = group_value(value, self.width, self.bits, g);
-        self.buckets.at(((g as u64) << self.width) + v as u64)
+        ((g as usize) << self.width) + v as usize
     }
 
-    /// Takes room for `n` rules more. It takes constant time where there is that room already.
+    /// The page with word `i` of each bucket: a line of eight words for each.
+    #[inline(always)]
+    pub fn page(&self, i: u32) -> &[u64]
+        requires { 64 * i < self.now.rules }
+        ensures { IsPage self.now.buckets.rows (i / 8) result.now }
+    {
+        self.buckets.page(i / 8)
+    }
+
+    /// Takes room for `n` rules more, on pages that are the table's own. It takes constant time where
+    /// there is that room already.
     ///
     /// # Errors
     /// `Memory` if there is none left. The table is as it was.
@@ -109,12 +126,43 @@ impl FieldTable {
         requires { self.old.rules + n < 2 ^ 32 }
         ensures same { IsSameField self.old self.new }
         ensures rules { self.new.rules ≡ self.old.rules }
-        ensures bits { bits_of self.new.buckets ≡ bits_of self.old.buckets }
+        ensures bits { bits_of self.new.buckets.rows ≡ bits_of self.old.buckets.rows }
         ensures stands { KeepsRules self.old self.new }
-        ensures spare { OnOk result (All (λ row. n ≤ row.spare) self.new.buckets) }
+        ensures spare { OnOk result (All (λ row. n ≤ row.spare) self.new.buckets.rows) }
+        ensures own { OnOk result (IsOwn self.old.rules (self.old.rules + n) self.new) }
     {
-        self.buckets.reserve(self.rules + n)?;
+        self.buckets.reserve(n)?;
         self.take_pages(pages_for(self.is_summed, self.rules + n))?;
+        self.own_summary(self.rules, self.rules + n)
+    }
+
+    /// Makes the pages of the rules from `first` on, and of the summary above them, the table's own.
+    ///
+    /// # Errors
+    /// `Memory` if there is none left. The table is as it was.
+    pub fn own_from(&mut self, first: u32) -> Result<(), Memory>
+        ensures same { IsSameField self.old self.new }
+        ensures rules { self.new.rules ≡ self.old.rules }
+        ensures buckets { self.new.buckets.rows ≡ self.old.buckets.rows }
+        ensures own { OnOk result (IsOwn first self.old.rules self.new) }
+    {
+        self.buckets.own_from(first)?;
+        self.own_summary(first, self.rules)
+    }
+
+    /// Makes the pages of the summary above the rules from `from` up to `to` the table's own.
+    ///
+    /// # Errors
+    /// `Memory` if there is none left. The table is as it was.
+    fn own_summary(&mut self, from: u32, to: u32) -> Result<(), Memory>
+        ensures same { IsSameField self.old self.new }
+        ensures rules { self.new.rules ≡ self.old.rules }
+        ensures buckets { self.new.buckets ≡ self.old.buckets }
+        ensures own { OnOk result ((r : ℕ) → from ≤ r → r < to → get_or (owns_of self.new.pages.items) (r / 4096) true ≡ true) }
+    {
+        let alloc = *self.pages.allocator();
+        let end = self.pages.len().min(to.div_ceil(4096) as usize);
+        own_plain_pages(alloc, &mut self.pages, from as usize / 4096, end)?;
         Ok(())
     }
 
@@ -135,11 +183,13 @@ impl FieldTable {
 
     /// Adds a rule with the next number, for which there is room in each bucket.
     pub fn add_block(&mut self, block: Block)
-        requires spare { All (λ row. 1 ≤ row.spare) self.old.buckets }
+        requires spare { All (λ row. 1 ≤ row.spare) self.old.buckets.rows }
+        requires own { IsOwn self.old.rules (self.old.rules + 1) self.old }
         requires within { IsWithin self.old.bits block }
         ensures same { IsSameField self.old self.new }
         ensures rules { self.new.rules ≡ self.old.rules + 1 }
-        ensures room { rooms_of self.new.buckets ≡ rooms_of self.old.buckets }
+        ensures room { rooms_of self.new.buckets.rows ≡ rooms_of self.old.buckets.rows }
+        ensures whose { IsAsOwn self.old self.new }
         ensures stands { AppendsRules self.old self.new (block ∷ []) }
     {
         self.add_blocks(&[block]);
@@ -147,15 +197,17 @@ impl FieldTable {
 
     /// Adds rules with the next numbers, for which there is room in each bucket.
     pub fn add_blocks(&mut self, added: &[Block])
-        requires spare { All (λ row. length added.now ≤ row.spare) self.old.buckets }
+        requires spare { All (λ row. length added.now ≤ row.spare) self.old.buckets.rows }
+        requires own { IsOwn self.old.rules (self.old.rules + length added.now) self.old }
         requires within { All (IsWithin self.old.bits) added.now }
         ensures same { IsSameField self.old self.new }
         ensures rules { self.new.rules ≡ self.old.rules + length added.now }
-        ensures room { rooms_of self.new.buckets ≡ rooms_of self.old.buckets }
+        ensures room { rooms_of self.new.buckets.rows ≡ rooms_of self.old.buckets.rows }
+        ensures whose { IsAsOwn self.old self.new }
         ensures stands { AppendsRules self.old self.new added.now }
     {
         // The room is what bounds the number of blocks.
-        let _room = self.buckets.at(0).room();
+        let _room = self.buckets.room();
         let count = added.len() as u32;
         let before = self.rules;
         self.buckets.raise(count);
@@ -164,14 +216,21 @@ impl FieldTable {
         mark_added(&mut self.pages, added, self.bits, before);
     }
 
-    /// Takes the `n` rules from `first` on out. The later rules close up.
+    /// Takes the `n` rules from `first` on out. The later rules close up, on pages that are the table's
+    /// own.
     pub fn drop_rules(&mut self, first: u32, n: u32)
-        requires { first + n ≤ self.old.rules }
+        requires within { first + n ≤ self.old.rules }
+        requires own { IsOwn first self.old.rules self.old }
         ensures same { IsSameField self.old self.new }
         ensures rules { self.new.rules + n ≡ self.old.rules }
-        ensures room { rooms_of self.new.buckets ≡ rooms_of self.old.buckets }
+        ensures room { rooms_of self.new.buckets.rows ≡ rooms_of self.old.buckets.rows }
+        ensures whose { IsAsOwn self.old self.new }
         ensures stands { DropsRules self.old self.new first n }
     {
+        if n == 0 {
+            return;
+        }
+        let end = self.rules.div_ceil(512);
         self.buckets.close_up(first, n);
         self.rules -= n;
         renew_pages(
@@ -179,8 +238,8 @@ impl FieldTable {
             &self.buckets,
             self.width,
             self.bits,
-            self.rules,
-            first / 64,
+            first / 512,
+            end,
         );
     }
 
@@ -193,7 +252,7 @@ impl FieldTable {
         ensures held { KeepsWhere self.now (λ rule. holds_value rule value) row.old row.new }
     {
         'groups: for g in 0..self.groups() {
-            row.and_from(self.bucket(value, g));
+            self.buckets.and_into(self.place(value, g) as u64, row);
         }
     }
 
@@ -207,7 +266,7 @@ impl FieldTable {
     {
         let words = words_of(self.rules, p);
         match self.pages.get(p as usize) {
-            Some(page) => words & page.candidates(value, self.bits),
+            Some(page) => words & candidates(page.as_slice(), value, self.bits),
             None => words,
         }
     }
@@ -219,12 +278,16 @@ impl FieldTable {
         ensures held { KeepsBitsWhere self.now (λ rule. holds_value rule value) i word result }
         ensures past { (k : ℕ) → k < 64 → self.now.rules ≤ 64 * i + k → bit result k ≡ false }
     {
+        if i >= self.rules.div_ceil(64) {
+            return 0;
+        }
+        let words = self.page(i);
         let mut left = word;
         'groups: for g in 0..self.groups() {
             if left == 0 {
                 return 0;
             }
-            left &= self.bucket(value, g).word(i);
+            left &= words[self.place(value, g) * 8 + i as usize % 8];
         }
         left
     }
@@ -267,7 +330,7 @@ impl FieldTable {
         let count = (1u64 << self.width) - mask as u64;
         // Each rule agrees with some value of a group that the block leaves free.
         if count == 1 {
-            row.and_from(self.buckets.at(first));
+            self.buckets.and_into(first, row);
         } else if mask != 0 {
             rest.fill(self.rules, false);
             self.join_into(first, 1, count, rest);
@@ -281,12 +344,12 @@ impl FieldTable {
         requires row { row.old.bits ≡ replicate self.now.rules false }
         requires step { step ≤ 16 }
         requires some { 1 ≤ n }
-        requires place { start + (n - 1) * step < length self.now.buckets }
-        ensures joined { IsJoined self.now.buckets start step n self.now.rules row.new }
+        requires place { start + (n - 1) * step < length self.now.buckets.rows }
+        ensures joined { IsJoined self.now.buckets.rows start step n self.now.rules row.new }
         ensures spare { row.new.spare ≡ row.old.spare }
     {
         'rows: for i in 0..n {
-            row.or_from(self.buckets.at(start + i * step));
+            self.buckets.or_into(start + i * step, row);
         }
     }
 
@@ -318,9 +381,10 @@ impl FieldTable {
         ensures rules { IfOk result (λ t. t.rules ≡ self.now.rules) }
         ensures stands { IfOk result (KeepsRules self.now) }
     {
-        let mut buckets = Rows::new(alloc);
+        let mut buckets = Lines::zeros(alloc, self.bits / 8 * 256, self.rules)?;
         'rows: for j in 0..self.bits / 8 * 256 {
-            buckets.push(self.wide_bucket(alloc, j as u64)?)?;
+            let row = self.wide_bucket(alloc, j as u64)?;
+            buckets.put(j as u64, &row);
         }
         let mut table = FieldTable {
             width: 8,
@@ -339,11 +403,11 @@ impl FieldTable {
     fn wide_bucket(&self, alloc: Global, j: u64) -> Result<BitRow, Memory>
         requires width { self.now.width ≡ 4 }
         requires place { j < self.now.bits / 8 * 256 }
-        ensures { IfOk result (IsWide self.now.buckets self.now.rules j) }
+        ensures { IfOk result (IsWide self.now.buckets.rows self.now.rules j) }
     {
         let (g, v) = (j / 256, j % 256);
-        let mut row = self.buckets.at(2 * g * 16 + v / 16).copy(alloc)?;
-        row.and_from(self.buckets.at((2 * g + 1) * 16 + v % 16));
+        let mut row = self.buckets.row(alloc, 2 * g * 16 + v / 16)?;
+        self.buckets.and_into((2 * g + 1) * 16 + v % 16, &mut row);
         Ok(row)
     }
 
@@ -355,9 +419,10 @@ impl FieldTable {
         ensures rules { IfOk result (λ t. t.rules ≡ self.now.rules) }
         ensures stands { IfOk result (KeepsRules self.now) }
     {
-        let mut buckets = Rows::new(alloc);
+        let mut buckets = Lines::zeros(alloc, self.bits / 4 * 16, self.rules)?;
         'rows: for j in 0..self.bits / 4 * 16 {
-            buckets.push(self.narrow_bucket(alloc, j as u64)?)?;
+            let row = self.narrow_bucket(alloc, j as u64)?;
+            buckets.put(j as u64, &row);
         }
         let mut table = FieldTable {
             width: 4,
@@ -376,7 +441,7 @@ impl FieldTable {
     fn narrow_bucket(&self, alloc: Global, j: u64) -> Result<BitRow, Memory>
         requires width { self.now.width ≡ 8 }
         requires place { j < self.now.bits / 4 * 16 }
-        ensures { IfOk result (IsJoined self.now.buckets (halves_start j) (halves_step j) 16 self.now.rules) }
+        ensures { IfOk result (IsJoined self.now.buckets.rows (halves_start j) (halves_step j) 16 self.now.rules) }
     {
         let (start, step) = halves_of(j);
         let mut row = BitRow::zeros(alloc, self.rules)?;
@@ -384,7 +449,23 @@ impl FieldTable {
         Ok(row)
     }
 
-    /// The same table once more, with the same room.
+    /// Lets copies share all pages from now on. No word is copied.
+    ///
+    /// # Errors
+    /// `Memory` if there is none left. The table is as it was.
+    pub fn settle(&mut self) -> Result<(), Memory>
+        ensures same { IsSameField self.old self.new }
+        ensures rules { self.new.rules ≡ self.old.rules }
+        ensures buckets { self.new.buckets.rows ≡ self.old.buckets.rows }
+        ensures common { OnOk result (IsShared self.new) }
+    {
+        self.buckets.settle()?;
+        let alloc = *self.pages.allocator();
+        settle_plain_pages(alloc, &mut self.pages)?;
+        Ok(())
+    }
+
+    /// The same table once more, with the same room: one count for each page that was settled.
     ///
     /// # Errors
     /// `Memory` if there is none left.
@@ -395,7 +476,7 @@ impl FieldTable {
         ensures buckets { IfOk result (λ t. t.buckets ≡ self.now.buckets) }
     {
         let buckets = self.buckets.copy(alloc)?;
-        let pages = copy_pages(alloc, self.pages.as_slice())?;
+        let pages = copy_plain_pages(alloc, self.pages.as_slice())?;
         Ok(FieldTable {
             width: self.width,
             bits: self.bits,

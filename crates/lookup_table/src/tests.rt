@@ -186,11 +186,15 @@ fn rules_come_and_go(rt: HostRuntime) -> Result<(), Fail> {
 
     // The last byte of 10.0.0.5 agrees with the first two rules, and its first with one.
     assert!(rt; table.bits == 32 && table.groups() == 4);
-    assert_eq!(rt; table.bucket(0x0A00_0005, 3).word(0), 0b011);
+    assert_eq!(rt;
+        table.buckets.word(table.place(0x0A00_0005, 3) as u64, 0),
+        0b011
+    );
     assert!(rt; table.buckets.len() == 1024);
-    assert_eq!(rt; table.buckets.at(0x0A).word(0), 0b001);
+    assert_eq!(rt; table.buckets.word(0x0A, 0), 0b001);
 
     assert!(rt; table.rules == 3);
+    table.own_from(1)?;
     table.drop_rules(1, 1);
     assert_eq!(rt; table.rules, 2);
     assert_eq!(rt;
@@ -205,6 +209,56 @@ fn rules_come_and_go(rt: HostRuntime) -> Result<(), Fail> {
         holding(&rt, rt.alloc(), &table, 0x0A00_0005)?.as_slice(),
         [0].as_slice()
     );
+    Ok(())
+}
+
+// A table of so many hosts, 10.0.0.0 and on.
+fn hosts(rt: &impl Abort, alloc: Global, n: u32) -> Result<FieldTable, Fail> {
+    let mut table = FieldTable::new(alloc, 32)?;
+    table.set_summed(true);
+    for i in 0..n {
+        assert!(rt; table.bits == 32 && table.rules < 4096 && i < 4096);
+        table.reserve(1)?;
+        table.add_block(block(rt, 32, 0x0A00_0000 + i, 0));
+    }
+    Ok(table)
+}
+
+#[test]
+fn copies_live_on_beside_each_other(rt: HostRuntime) -> Result<(), Fail> {
+    for n in [511, 512, 513, 1024] {
+        let alloc = rt.alloc();
+        let mut table = hosts(&rt, alloc, n)?;
+        table.settle()?;
+        let mut other = table.copy(alloc)?;
+        assert!(rt; other.bits == 32 && other.rules == n && n < 4096 && n > 1);
+        other.reserve(1)?;
+        other.add_block(block(&rt, 32, 0x0B00_0000, 0));
+        assert!(rt; table.rules == n);
+        table.own_from(1)?;
+        table.drop_rules(1, 1);
+
+        assert_eq!(rt; table.rules, n - 1);
+        assert_eq!(rt; holding(&rt, alloc, &table, 0x0A00_0001)?.len(), 0);
+        assert_eq!(rt; holding(&rt, alloc, &table, 0x0B00_0000)?.len(), 0);
+        assert_eq!(rt;
+            holding(&rt, alloc, &table, 0x0A00_0000 + n - 1)?.as_slice(),
+            [n - 2].as_slice()
+        );
+        assert_eq!(rt; other.rules, n + 1);
+        assert_eq!(rt;
+            holding(&rt, alloc, &other, 0x0A00_0001)?.as_slice(),
+            [1].as_slice()
+        );
+        assert_eq!(rt;
+            holding(&rt, alloc, &other, 0x0A00_0000 + n - 1)?.as_slice(),
+            [n - 1].as_slice()
+        );
+        assert_eq!(rt;
+            holding(&rt, alloc, &other, 0x0B00_0000)?.as_slice(),
+            [n].as_slice()
+        );
+    }
     Ok(())
 }
 

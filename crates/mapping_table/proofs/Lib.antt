@@ -1,2 +1,3 @@
 pub mod Refill
 pub mod LedLaws
+pub mod MoveLaws

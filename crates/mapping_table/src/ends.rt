@@ -1,17 +1,18 @@
 ghost use Rattle.std.specs.Prelude.{◌≡◌, ◌+◌, ◌<◌, ◌≤◌, ◌^◌, ◌&&◌, [], ◌∷◌, ◌++◌, length, slice_get, Some, IfOk, OnOk, All, take, drop, map, position};
 ghost use Rattle.std.specs.List.{zip};
-ghost use Rattle.set_model.specs.Expiry.{lives};
 ghost use Rattle.set_tables.specs.Rows.{ends_without, ends_renewed, lowered_place, end_renewed, is_led};
+ghost use Rattle.mapping_table.specs.Spared.{OwnsRange, OwnsFrom, KeepsOwn, IsMoved};
 
 use crate::roomy::Roomy;
 use bit_rows::BitRow;
-use set_model::Memory;
+use set_model::{Memory, is_live};
 use set_tables::End;
 use std::alloc::Global;
 use std::marker::Model;
 
-/// The rules of the last field, each with its element's place and expiry. It shows a number
-/// `spare`: how many more rules it has room for.
+/// The rules of the last field, each with its element's place and expiry, in pages of 512 that copies
+/// share. Beside them it shows a number `spare`: how many more rules it has room for; and of each page
+/// whether it is this table's `own`, so that it can be changed.
 #[derive(Drop)]
 pub struct EndTable {
     ends: Roomy<End>,
@@ -45,19 +46,12 @@ impl EndTable {
     }
 
     /// The end of rule `i`.
+    #[inline(always)]
     pub fn at(&self, i: u32) -> &End
         requires { i < length self.now.items }
         ensures { slice_get self.now.items i ≡ Some result.now }
     {
         self.ends.at(i)
-    }
-
-    /// The ends in a row, for a loop that reads many.
-    #[inline(always)]
-    pub fn as_slice(&self) -> &[End]
-        ensures { result.now ≡ self.now.items }
-    {
-        self.ends.as_slice()
     }
 
     /// Takes room for `n` rules more.
@@ -69,15 +63,17 @@ impl EndTable {
         ensures items { self.new.items ≡ self.old.items }
         ensures ok { OnOk result (n ≤ self.new.spare) }
         ensures kept { self.old.spare ≤ self.new.spare }
+        ensures own { KeepsOwn self.old self.new }
     {
         self.ends.reserve(n)
     }
 
-    /// Adds a rule, for which there is room.
+    /// Adds a rule, for which there is room. It takes no memory.
     pub fn push(&mut self, item: End)
         requires { 1 ≤ self.old.spare }
         ensures items { self.new.items ≡ self.old.items ++ item ∷ [] }
         ensures spare { self.new.spare + 1 ≡ self.old.spare }
+        ensures own { self.new.own ≡ self.old.own }
     {
         self.ends.push(item);
     }
@@ -87,36 +83,72 @@ impl EndTable {
         requires { length matched.now.bits ≡ length self.now.items }
         ensures { result ≡ position (is_led now) (zip self.now.items matched.now.bits) }
     {
-        first_led(self.ends.as_slice(), matched, now)
+        first_led(&self.ends, matched, now)
+    }
+
+    /// Makes the pages of the `n` rules from `first` on this table's own.
+    ///
+    /// # Errors
+    /// `Memory` if there is none left. The rules stay, and what was own still is.
+    pub fn own_range(&mut self, first: u32, n: u32) -> Result<(), Memory>
+        ensures items { self.new.items ≡ self.old.items }
+        ensures spare { self.new.spare ≡ self.old.spare }
+        ensures ok { OnOk result (OwnsRange first n self.new) }
+        ensures own { KeepsOwn self.old self.new }
+    {
+        self.ends.own_range(first, n)
+    }
+
+    /// Makes the pages from rule `first` on this table's own.
+    ///
+    /// # Errors
+    /// `Memory` if there is none left. The rules stay, and what was own still is.
+    pub fn own_from(&mut self, first: u32) -> Result<(), Memory>
+        ensures items { self.new.items ≡ self.old.items }
+        ensures spare { self.new.spare ≡ self.old.spare }
+        ensures ok { OnOk result (OwnsFrom first self.new) }
+        ensures own { KeepsOwn self.old self.new }
+    {
+        self.ends.own_from(first)
     }
 
     /// Takes the `n` rules of one element, from `first` on, out. The elements of the later rules
-    /// stand one place lower.
+    /// stand one place lower. It takes no memory.
     pub fn drop_rules(&mut self, first: u32, n: u32)
         requires range { first + n ≤ length self.old.items }
         requires later { All (λ e. 1 ≤ e.place) (drop (first + n) self.old.items) }
+        requires own { OwnsFrom first self.old }
         ensures items { self.new.items ≡ ends_without self.old.items first n }
-        ensures spare { self.new.spare ≡ self.old.spare + n }
+        ensures own { KeepsOwn self.old self.new }
     {
-        self.ends.remove_range(first, n);
-        let ends = &mut self.ends;
-        lower(&mut ends.items[first as usize..]);
+        close_up(&mut self.ends, first, n);
+        let len = self.ends.len();
+        self.ends.truncate(len - n);
     }
 
     /// Gives the `n` ends from `first` on another expiry. It takes no memory.
     pub fn set_expiry(&mut self, first: u32, n: u32, expiry: Option<u64>)
         requires range { first + n ≤ length self.old.items }
+        requires own { OwnsRange first n self.old }
         ensures items { self.new.items ≡ ends_renewed self.old.items first n expiry }
         ensures spare { self.new.spare ≡ self.old.spare }
+        ensures own { self.new.own ≡ self.old.own }
     {
-        let _len = self.ends.len();
-        let ends = &mut self.ends;
-        let first = first as usize;
-        let n = n as usize;
-        renew(&mut ends.items[first..first + n], expiry);
+        renew(&mut self.ends, first, n, expiry);
     }
 
-    /// The same rules once more.
+    /// Lets copies share the pages from now on. No page is copied.
+    ///
+    /// # Errors
+    /// `Memory` if there is none left. The rules stay.
+    pub fn settle(&mut self) -> Result<(), Memory>
+        ensures items { self.new.items ≡ self.old.items }
+        ensures spare { self.new.spare ≡ self.old.spare }
+    {
+        self.ends.settle()
+    }
+
+    /// The same rules once more: one count for each page that was settled.
     ///
     /// # Errors
     /// `Memory` if there is none left.
@@ -129,24 +161,14 @@ impl EndTable {
     }
 }
 
-#[inline(always)]
-fn is_live(expiry: Option<u64>, now: u64) -> bool
-    ensures { result ≡ lives expiry now }
-{
-    match expiry {
-        None => true,
-        Some(moment) => now < moment,
-    }
-}
-
-fn first_led(ends: &[End], matched: &BitRow, now: u64) -> Option<u32>
-    requires { length matched.now.bits ≡ length ends.now }
-    ensures { result ≡ position (is_led now) (zip ends.now matched.now.bits) }
+fn first_led(ends: &Roomy<End>, matched: &BitRow, now: u64) -> Option<u32>
+    requires { length matched.now.bits ≡ length ends.now.items }
+    ensures { result ≡ position (is_led now) (zip ends.now.items matched.now.bits) }
 {
     let _rules = matched.len();
     let mut from = 0;
     'rules: while let Some(r) = matched.next_set(from) {
-        if is_live(ends[r as usize].expiry, now) {
+        if is_live(ends.at(r).expiry, now) {
             return Some(r);
         }
         from = r + 1;
@@ -154,19 +176,34 @@ fn first_led(ends: &[End], matched: &BitRow, now: u64) -> Option<u32>
     None
 }
 
-fn lower(ends: &mut [End])
-    requires { All (λ e. 1 ≤ e.place) ends.old }
-    ensures { ends.new ≡ map lowered_place ends.old }
+/// Writes the ends behind the `n` rules from `first` on over these and the later ones, each of an
+/// element one place lower.
+fn close_up(ends: &mut Roomy<End>, first: u32, n: u32)
+    requires range { first + n ≤ length ends.old.items }
+    requires later { All (λ e. 1 ≤ e.place) (drop (first + n) ends.old.items) }
+    requires own { OwnsFrom first ends.old }
+    ensures items { IsMoved lowered_place first n (length ends.old.items) ends.old.items ends.new.items }
+    ensures spare { ends.new.spare ≡ ends.old.spare }
+    ensures own { ends.new.own ≡ ends.old.own }
 {
-    'ends: for end in ends.iter_mut() {
+    'ends: for i in first..ends.len() - n {
+        let mut end = *ends.at(i + n);
         end.place -= 1;
+        ends.set(i, end);
     }
 }
 
-fn renew(ends: &mut [End], expiry: Option<u64>)
-    ensures { ends.new ≡ map (end_renewed expiry) ends.old }
+fn renew(ends: &mut Roomy<End>, first: u32, n: u32, expiry: Option<u64>)
+    requires range { first + n ≤ length ends.old.items }
+    requires own { OwnsRange first n ends.old }
+    ensures items { ends.new.items ≡ ends_renewed ends.old.items first n expiry }
+    ensures spare { ends.new.spare ≡ ends.old.spare }
+    ensures own { ends.new.own ≡ ends.old.own }
 {
-    'ends: for end in ends.iter_mut() {
+    let _rules = ends.len();
+    'ends: for i in first..first + n {
+        let mut end = *ends.at(i);
         end.expiry = expiry;
+        ends.set(i, end);
     }
 }

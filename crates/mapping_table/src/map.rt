@@ -1,5 +1,6 @@
-ghost use Rattle.std.specs.Prelude.{◌≡◌, ◌+◌, ◌<◌, ◌≤◌, ◌^◌, [], ◌∷◌, ◌++◌, length, replicate, slice_get, Some, false, IfOk, OnOk, All, drop, map};
+ghost use Rattle.std.specs.Prelude.{◌≡◌, ◌+◌, ◌<◌, ◌≤◌, ◌^◌, [], ◌∷◌, ◌++◌, length, replicate, slice_get, Some, false, IfOk, OnOk, All, drop};
 ghost use Rattle.set_tables.specs.Rows.{refilled, spans_without, lowered};
+ghost use Rattle.mapping_table.specs.Spared.{OwnsFrom, KeepsOwn, IsMoved};
 
 use crate::roomy::Roomy;
 use bit_rows::BitRow;
@@ -43,19 +44,12 @@ impl MapTable {
     }
 
     /// The span of rule `i`.
+    #[inline(always)]
     pub fn at(&self, i: u32) -> &Span
         requires { i < length self.now.items }
         ensures { slice_get self.now.items i ≡ Some result.now }
     {
         self.spans.at(i)
-    }
-
-    /// The spans in a row, for a loop that reads many.
-    #[inline(always)]
-    pub fn as_slice(&self) -> &[Span]
-        ensures { result.now ≡ self.now.items }
-    {
-        self.spans.as_slice()
     }
 
     /// Takes room for `n` rules more.
@@ -67,15 +61,17 @@ impl MapTable {
         ensures items { self.new.items ≡ self.old.items }
         ensures ok { OnOk result (n ≤ self.new.spare) }
         ensures kept { self.old.spare ≤ self.new.spare }
+        ensures own { KeepsOwn self.old self.new }
     {
         self.spans.reserve(n)
     }
 
-    /// Adds a rule, for which there is room.
+    /// Adds a rule, for which there is room. It takes no memory.
     pub fn push(&mut self, item: Span)
         requires { 1 ≤ self.old.spare }
         ensures items { self.new.items ≡ self.old.items ++ item ∷ [] }
         ensures spare { self.new.spare + 1 ≡ self.old.spare }
+        ensures own { self.new.own ≡ self.old.own }
     {
         self.spans.push(item);
     }
@@ -90,22 +86,48 @@ impl MapTable {
         ensures len { length next.new.bits ≡ length next.old.bits }
         ensures spare { next.new.spare ≡ next.old.spare }
     {
-        refill_spans(self.spans.as_slice(), matched, next);
+        refill_spans(&self.spans, matched, next);
     }
 
-    /// Takes the `n` rules from `first` on out. The spans of the later rules begin `next_n` lower.
+    /// Makes the pages from rule `first` on this table's own.
+    ///
+    /// # Errors
+    /// `Memory` if there is none left. The rules stay, and what was own still is.
+    pub fn own_from(&mut self, first: u32) -> Result<(), Memory>
+        ensures items { self.new.items ≡ self.old.items }
+        ensures spare { self.new.spare ≡ self.old.spare }
+        ensures ok { OnOk result (OwnsFrom first self.new) }
+        ensures own { KeepsOwn self.old self.new }
+    {
+        self.spans.own_from(first)
+    }
+
+    /// Takes the `n` rules from `first` on out. The spans of the later rules begin `next_n` lower. It
+    /// takes no memory.
     pub fn drop_rules(&mut self, first: u32, n: u32, next_n: u32)
         requires range { first + n ≤ length self.old.items }
         requires high { All (λ s. next_n ≤ s.first) (drop (first + n) self.old.items) }
+        requires own { OwnsFrom first self.old }
         ensures items { self.new.items ≡ spans_without self.old.items first n next_n }
-        ensures spare { self.new.spare ≡ self.old.spare + n }
+        ensures own { KeepsOwn self.old self.new }
     {
-        self.spans.remove_range(first, n);
-        let spans = &mut self.spans;
-        lower(&mut spans.items[first as usize..], next_n);
+        close_up(&mut self.spans, first, n, next_n);
+        let len = self.spans.len();
+        self.spans.truncate(len - n);
     }
 
-    /// The same rules once more.
+    /// Lets copies share the pages from now on. No page is copied.
+    ///
+    /// # Errors
+    /// `Memory` if there is none left. The rules stay.
+    pub fn settle(&mut self) -> Result<(), Memory>
+        ensures items { self.new.items ≡ self.old.items }
+        ensures spare { self.new.spare ≡ self.old.spare }
+    {
+        self.spans.settle()
+    }
+
+    /// The same rules once more: one count for each page that was settled.
     ///
     /// # Errors
     /// `Memory` if there is none left.
@@ -118,27 +140,34 @@ impl MapTable {
     }
 }
 
-fn lower(spans: &mut [Span], k: u32)
-    requires { All (λ s. k ≤ s.first) spans.old }
-    ensures { spans.new ≡ map (lowered k) spans.old }
+/// Writes the spans behind the `n` rules from `first` on over these and the later ones, each `k` lower.
+fn close_up(spans: &mut Roomy<Span>, first: u32, n: u32, k: u32)
+    requires range { first + n ≤ length spans.old.items }
+    requires high { All (λ s. k ≤ s.first) (drop (first + n) spans.old.items) }
+    requires own { OwnsFrom first spans.old }
+    ensures items { IsMoved (lowered k) first n (length spans.old.items) spans.old.items spans.new.items }
+    ensures spare { spans.new.spare ≡ spans.old.spare }
+    ensures own { spans.new.own ≡ spans.old.own }
 {
-    'spans: for span in spans.iter_mut() {
+    'spans: for i in first..spans.len() - n {
+        let mut span = *spans.at(i + n);
         span.first -= k;
+        spans.set(i, span);
     }
 }
 
-fn refill_spans(spans: &[Span], matched: &BitRow, next: &mut BitRow)
-    requires rows { length matched.now.bits ≡ length spans.now }
+fn refill_spans(spans: &Roomy<Span>, matched: &BitRow, next: &mut BitRow)
+    requires rows { length matched.now.bits ≡ length spans.now.items }
     requires zeros { next.old.bits ≡ replicate (length next.old.bits) false }
-    requires within { All (λ s. s.first + s.count ≤ length next.old.bits) spans.now }
-    ensures bits { next.new.bits ≡ refilled spans.now matched.now.bits (length next.old.bits) }
+    requires within { All (λ s. s.first + s.count ≤ length next.old.bits) spans.now.items }
+    ensures bits { next.new.bits ≡ refilled spans.now.items matched.now.bits (length next.old.bits) }
     ensures len { length next.new.bits ≡ length next.old.bits }
     ensures spare { next.new.spare ≡ next.old.spare }
 {
     let _rules = matched.len();
     let mut from = 0;
     'rules: while let Some(r) = matched.next_set(from) {
-        let span = spans[r as usize];
+        let span = *spans.at(r);
         next.set_range(span.first, span.count);
         from = r + 1;
     }

@@ -1,27 +1,35 @@
-ghost use Rattle.std.specs.Prelude.{◌≡◌, ◌+◌, ◌-◌, ◌<◌, ◌≤◌, ◌^◌, [], ◌∷◌, ◌++◌, length, IfOk, OnOk, OnErr, slice_get, Some, take, drop};
-ghost use Rattle.set_tables.specs.Rows.{without};
+ghost use Rattle.std.specs.Prelude.{◌≡◌, ◌+◌, ◌/◌, ◌<◌, ◌≤◌, ◌^◌, [], ◌∷◌, ◌++◌, length, IfOk, OnOk, slice_get, slice_set, Some, take, drop, true};
+ghost use Rattle.std.specs.Vec.{vec_capacity};
+ghost use Rattle.mapping_table.specs.Spared.{OwnsRange, OwnsFrom, KeepsOwn};
 
 use set_model::Memory;
+use shared_pages::{PAGE, Page, copy_plain_pages, own_plain_pages, settle_plain_pages};
 use std::alloc::Global;
 use std::marker::Model;
+use std::mem;
 
-/// A list with room for more items.
+/// A list of plain items in pages of 512 that its copies share, with room for more items.
 #[derive(Drop)]
 pub struct Roomy<T> {
-    pub(crate) items: Vec<T>,
+    whole: Vec<Page<T>>,
+    // What stands behind the whole pages: this list's own at every moment.
+    rest: Vec<T>,
+    // How many items `rest` has room for.
     room: u32,
+    alloc: Global,
 }
 
 impl<T> Model for Roomy<T> {
-    ghost use Rattle.std.specs.Prelude.{◌-◌, ◌≤◌, ◌^◌, ◌<◌, length};
+    ghost use Rattle.std.specs.Prelude.{◌-◌, length};
     ghost use Rattle.std.specs.Vec.{vec_capacity};
-    ghost use Rattle.mapping_table.specs.Spared.{Spared};
+    ghost use Rattle.shared_pages.specs.Paged.{items_in, owns_of};
+    ghost use Rattle.mapping_table.specs.Spared.{Spared, IsRoomy};
 
     ghost Value = { Spared T };
 
-    ghost view = { λ a. record { items = a.items.items; spare = a.room - length a.items.items } };
+    ghost view = { λ a. record { items = items_in a.whole.items a.rest.items; spare = a.room - length a.rest.items; own = owns_of a.whole.items } };
 
-    ghost invariant = { λ a. (length a.items.items ≤ a.room) × (a.room ≤ vec_capacity a.items) };
+    ghost invariant = { λ a. IsRoomy a.whole.items a.rest.items a.room (vec_capacity a.rest) };
 }
 
 impl<T> Roomy<T> {
@@ -30,8 +38,10 @@ impl<T> Roomy<T> {
         ensures spare { result.spare ≡ 0 }
     {
         Roomy {
-            items: Vec::new(alloc),
+            whole: Vec::new(alloc),
+            rest: Vec::new(alloc),
             room: 0,
+            alloc,
         }
     }
 
@@ -40,7 +50,7 @@ impl<T> Roomy<T> {
         ensures { result ≡ length self.now.items }
     {
         let _room = self.room;
-        self.items.len() as u32
+        (PAGE * self.whole.len() + self.rest.len()) as u32
     }
 
     #[inline(always)]
@@ -48,29 +58,13 @@ impl<T> Roomy<T> {
         requires { i < length self.now.items }
         ensures { slice_get self.now.items i ≡ Some result.now }
     {
-        &self.items[i as usize]
-    }
-
-    #[inline(always)]
-    pub(crate) fn as_slice(&self) -> &[T]
-        ensures { result.now ≡ self.now.items }
-    {
-        self.items.as_slice()
-    }
-
-    /// Takes room for `n` more items. The items stay.
-    pub(crate) fn reserve(&mut self, n: u32) -> Result<(), Memory>
-        requires { length self.old.items + n < 2 ^ 32 }
-        ensures items { self.new.items ≡ self.old.items }
-        ensures ok { OnOk result (n ≤ self.new.spare) }
-        ensures kept { self.old.spare ≤ self.new.spare }
-    {
-        self.items.reserve(n as usize)?;
-        let room = self.items.len() as u32 + n;
-        if self.room < room {
-            self.room = room;
+        let page = i as usize / PAGE;
+        if page < self.whole.len() {
+            let items = &self.whole[page];
+            &items.as_slice()[i as usize % PAGE]
+        } else {
+            &self.rest[i as usize - PAGE * self.whole.len()]
         }
-        Ok(())
     }
 
     /// Adds an item at the end. There is room for it.
@@ -78,32 +72,172 @@ impl<T> Roomy<T> {
         requires { 1 ≤ self.old.spare }
         ensures items { self.new.items ≡ self.old.items ++ item ∷ [] }
         ensures spare { self.new.spare + 1 ≡ self.old.spare }
+        ensures own { self.new.own ≡ self.old.own }
     {
-        self.items.push_reserved(item);
+        self.rest.push_reserved(item);
     }
 }
 
 impl<T: Copy + Drop> Roomy<T> {
-    /// Takes the `n` items from `first` on out. The room stays.
-    pub(crate) fn remove_range(&mut self, first: u32, n: u32)
-        requires { first + n ≤ length self.old.items }
-        ensures items { self.new.items ≡ without self.old.items first n }
-        ensures spare { self.new.spare ≡ self.old.spare + n }
+    /// Takes room for `n` more items, in what is the list's own.
+    pub(crate) fn reserve(&mut self, n: u32) -> Result<(), Memory>
+        requires { length self.old.items + n < 2 ^ 32 }
+        ensures items { self.new.items ≡ self.old.items }
+        ensures ok { OnOk result (n ≤ self.new.spare) }
+        ensures kept { self.old.spare ≤ self.new.spare }
+        ensures own { KeepsOwn self.old self.new }
     {
-        let _room = self.room;
-        let first = first as usize;
-        let n = n as usize;
-        let len = self.items.len();
-        self.items.copy_within(first + n..len, first);
-        self.items.truncate(len - n);
+        self.turn_page()?;
+        self.grow(n)
     }
 
-    /// The same items once more.
+    /// Takes room behind the whole pages.
+    fn grow(&mut self, n: u32) -> Result<(), Memory>
+        requires { length self.old.items + n < 2 ^ 32 }
+        ensures items { self.new.items ≡ self.old.items }
+        ensures ok { OnOk result (n ≤ self.new.spare) }
+        ensures kept { self.old.spare ≤ self.new.spare }
+        ensures own { self.new.own ≡ self.old.own }
+    {
+        self.rest.reserve(n as usize)?;
+        let room = self.rest.len() as u32 + n;
+        if self.room < room {
+            self.room = room;
+        }
+        Ok(())
+    }
+
+    /// Where a page or more stands behind the whole pages, makes one of them whole.
+    fn turn_page(&mut self) -> Result<(), Memory>
+        ensures items { self.new.items ≡ self.old.items }
+        ensures spare { self.new.spare ≡ self.old.spare }
+        ensures own { KeepsOwn self.old self.new }
+    {
+        if self.rest.len() < PAGE {
+            return Ok(());
+        }
+        let page = first_page(self.alloc, self.rest.as_slice())?;
+        self.whole.push(page)?;
+        drop_front(&mut self.rest, PAGE);
+        self.room -= PAGE as u32;
+        Ok(())
+    }
+
+    /// Makes the pages of the `n` items from `first` on this list's own.
+    pub(crate) fn own_range(&mut self, first: u32, n: u32) -> Result<(), Memory>
+        ensures items { self.new.items ≡ self.old.items }
+        ensures spare { self.new.spare ≡ self.old.spare }
+        ensures ok { OnOk result (OwnsRange first n self.new) }
+        ensures own { KeepsOwn self.old self.new }
+    {
+        let behind = (first as usize + n as usize).div_ceil(PAGE);
+        let to = behind.min(self.whole.len());
+        own_plain_pages(self.alloc, &mut self.whole, first as usize / PAGE, to)
+    }
+
+    /// Makes the pages from item `first` on this list's own.
+    pub(crate) fn own_from(&mut self, first: u32) -> Result<(), Memory>
+        ensures items { self.new.items ≡ self.old.items }
+        ensures spare { self.new.spare ≡ self.old.spare }
+        ensures ok { OnOk result (OwnsFrom first self.new) }
+        ensures own { KeepsOwn self.old self.new }
+    {
+        let to = self.whole.len();
+        own_plain_pages(self.alloc, &mut self.whole, first as usize / PAGE, to)
+    }
+
+    /// Writes over item `i`, whose page is this list's own.
+    #[inline(always)]
+    pub(crate) fn set(&mut self, i: u32, item: T)
+        requires place { i < length self.old.items }
+        requires own { OwnsRange i 1 self.old }
+        ensures items { self.new.items ≡ slice_set self.old.items i item }
+        ensures spare { self.new.spare ≡ self.old.spare }
+        ensures own { self.new.own ≡ self.old.own }
+    {
+        let page = i as usize / PAGE;
+        let count = self.whole.len();
+        if page < count {
+            let items = &mut self.whole[page];
+            items.put(i as usize % PAGE, item);
+        } else {
+            self.rest[i as usize - PAGE * count] = item;
+        }
+    }
+
+    /// Leaves the first `len` items alone. The pages from there on are this list's own.
+    pub(crate) fn truncate(&mut self, len: u32)
+        requires place { len ≤ length self.old.items }
+        requires own { OwnsFrom len self.old }
+        ensures items { self.new.items ≡ take len self.old.items }
+        ensures own { KeepsOwn self.old self.new }
+    {
+        self.reopen(len);
+        let before = PAGE * self.whole.len();
+        self.rest.truncate(len as usize - before);
+    }
+
+    /// Lets the page of item `len` be what stands behind the whole pages, without the later ones.
+    fn reopen(&mut self, len: u32)
+        requires own { OwnsRange len 1 self.old }
+        ensures items { take len self.new.items ≡ take len self.old.items }
+        ensures behind { length self.new.own ≤ len / 512 }
+        ensures own { KeepsOwn self.old self.new }
+    {
+        let count = len as usize / PAGE;
+        if count >= self.whole.len() {
+            return;
+        }
+        let page = &mut self.whole[count];
+        let open = mem::replace(page, Page::new(self.alloc));
+        self.whole.truncate(count);
+        self.rest = open.into_vec();
+        self.room = PAGE as u32;
+    }
+
+    /// Lets copies share the whole pages from now on.
+    pub(crate) fn settle(&mut self) -> Result<(), Memory>
+        ensures items { self.new.items ≡ self.old.items }
+        ensures spare { self.new.spare ≡ self.old.spare }
+    {
+        self.turn_page()?;
+        settle_plain_pages(self.alloc, &mut self.whole)
+    }
+
+    /// The same items once more: one count for each whole page that was settled.
     pub(crate) fn copy(&self, alloc: Global) -> Result<Roomy<T>, Memory>
         ensures { IfOk result (λ other. other.items ≡ self.now.items) }
     {
-        let room = self.len();
-        let items = Vec::from_slice(alloc, self.items.as_slice())?;
-        Ok(Roomy { items, room })
+        let _room = self.room;
+        let whole = copy_plain_pages(alloc, self.whole.as_slice())?;
+        let rest = Vec::from_slice(alloc, self.rest.as_slice())?;
+        let room = rest.len() as u32;
+        Ok(Roomy {
+            whole,
+            rest,
+            room,
+            alloc,
+        })
     }
+}
+
+/// A page of the first 512 items.
+fn first_page<T: Copy + Drop>(alloc: Global, items: &[T]) -> Result<Page<T>, Memory>
+    requires { 512 ≤ length items.now }
+    ensures items { IfOk result (λ page. page.items ≡ take 512 items.now) }
+    ensures own { IfOk result (λ page. page.own ≡ true) }
+{
+    let first = &items[..PAGE];
+    Ok(Page::from_vec(Vec::from_slice(alloc, first)?))
+}
+
+/// Takes the first `n` items out. The others move down.
+fn drop_front<T: Copy + Drop>(items: &mut Vec<T>, n: usize)
+    requires { n ≤ length items.old.items }
+    ensures items { items.new.items ≡ drop n items.old.items }
+    ensures capacity { vec_capacity items.new ≡ vec_capacity items.old }
+{
+    let len = items.len();
+    items.copy_within(n..len, 0);
+    items.truncate(len - n);
 }

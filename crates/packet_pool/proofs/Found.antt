@@ -4,12 +4,12 @@ use Rattle.set_tables.proofs.RowLaws.{find-at, find-none}
 use Rattle.set_model.specs.declared.packet.Found.{Found}
 use Rattle.set_model.specs.declared.packet.Verdict.{Verdict}
 use Rattle.set_model.specs.declared.packet.Verdict.TheVariants as verdicts
-use Rattle.set_model.specs.SetState.{State, first, place, answers}
+use Rattle.set_model.specs.SetState.{State, first, place, answers, element_at}
 use Rattle.set_model.specs.Control.{Generation}
 use Rattle.set_model.specs.Legal.{verdict_of}
 use Rattle.gen_publish.specs.Publish.{IsLookup}
 use Rattle.rule_chain.specs.Judged.{holds_key, has_element}
-use Rattle.pipapo_image.specs.Found.{found, element_at}
+use Rattle.pipapo_image.specs.Image.Found.{found}
 
 -- what was found, as a verdict
 abbrev pub verdict_found : Option Found → Verdict

@@ -17,6 +17,7 @@ use Rattle.set_model.specs.declared.script.Verb.{Verb}
 use Rattle.set_model.specs.Key.{parts_fit}
 use Rattle.set_model.specs.SetState.{State, cleared}
 use Rattle.set_model.specs.Control.{Mode, Strict, KeepGoing, Control, Generation, mode_of, step, section, refused, rewound, committed, changed, changed_set, answered, flushed, with_set, expired_count}
+use Rattle.set_model.specs.declared.element.NewElement.{NewElement}
 use Rattle.set_space.specs.Answers.{IsFlush}
 use Rattle.set_space.specs.Open.{Open, IsChange, FitsSet, opened, sealed}
 use Rattle.set_space.specs.Open.{with_set as work_with}
@@ -39,12 +40,12 @@ goes_as f g old new same does = record {
 by_test : (b c : Bool) (x y : Control) → b ≡ c → (if c then x else y) ≡ (if b then x else y)
 by_test b c x y e = ap (λ (t : Bool). if t then x else y) (sym e)
 
-module _ (mode : Mode) (line set : ℕ) (verb : Verb) (parts : List Interval) (expiry : Option ℕ) (comment : List ℕ) (now : ℕ) where
+module _ (mode : Mode) (line set : ℕ) (verb : Verb) (element : NewElement) (now : ℕ) where
   abbrev goes : Control → Control
-  goes c = changed mode c line set verb parts expiry comment now (slice_get c.sets set)
+  goes c = changed mode c line set verb element now (slice_get c.sets set)
 
-  answer-at : (c : Control) (s : State) (o : Option State) → o ≡ Some s → changed mode c line set verb parts expiry comment now o ≡ answered mode c line set (changed_set verb s parts expiry comment now)
-  answer-at c s o e = ap (changed mode c line set verb parts expiry comment now) e
+  answer-at : (c : Control) (s : State) (o : Option State) → o ≡ Some s → changed mode c line set verb element now o ≡ answered mode c line set (changed_set verb s element now)
+  answer-at c s o e = ap (changed mode c line set verb element now) e
 
   answer-refused : (c : Control) (why : Why) (x : Option Why × State) → Some why ≡ x.0 → answered mode c line set x ≡ refused mode c line set why
   answer-refused c why (None, t) e = absurd (cc e)
@@ -56,14 +57,14 @@ module _ (mode : Mode) (line set : ℕ) (verb : Verb) (parts : List Interval) (e
 
   module _ (k new : Steering) (told : List Event) (same : new ≡ record k { work = new.work }) where
     -- a change that was made
-    pub change_goes : (failed : Bool) → IsChange (λ s t. HasCome (changed_set verb s parts expiry comment now) None t) k.work set new.work → GoesOn goes (run k failed told) (run new failed told)
+    pub change_goes : (failed : Bool) → IsChange (λ s t. HasCome (changed_set verb s element now) None t) k.work set new.work → GoesOn goes (run k failed told) (run new failed told)
     change_goes failed change = record {
       of_is = ap (λ x. x.of) same;
       schema_is = ap (λ x. x.schema) same;
       readers_is = ap (λ x. x.readers) same;
       stands = λ before c h.
           let at : slice_get c.sets set ≡ Some change.state = ap (λ z. slice_get z set) h.sets ∙ change.at in
-          let made : goes c ≡ with_set c set change.left = answer-at c change.state (slice_get c.sets set) at ∙ answer-made c change.left (changed_set verb change.state parts expiry comment now) change.changed.answer change.changed.leaves in
+          let made : goes c ≡ with_set c set change.left = answer-at c change.state (slice_get c.sets set) at ∙ answer-made c change.left (changed_set verb change.state element now) change.changed.answer change.changed.leaves in
           subst (λ (z : Control). Stands before z (run new failed told)) (sym made) (record {
             committed = h.committed ∙ sym (ap (λ x. x.committed) same);
             last = h.last ∙ sym (ap (λ w. w.base) change.others);
@@ -74,13 +75,13 @@ module _ (mode : Mode) (line set : ℕ) (verb : Verb) (parts : List Interval) (e
     }
 
     -- a refused change leaves the work
-    left : (why : Why) → IsChange (λ s t. HasCome (changed_set verb s parts expiry comment now) (Some why) t) k.work set new.work → new ≡ k
+    left : (why : Why) → IsChange (λ s t. HasCome (changed_set verb s element now) (Some why) t) k.work set new.work → new ≡ k
     left why change =
-        let state : change.left ≡ change.state = change.changed.leaves ∙ refusal_keeps change.state parts expiry comment now verb why (sym change.changed.answer) in
+        let state : change.left ≡ change.state = change.changed.leaves ∙ refusal_keeps change.state element now verb why (sym change.changed.answer) in
         let work : new.work ≡ k.work = change.others ∙ ap (λ t. work_with k.work set t) state ∙ ap (λ z. record { base = k.work.base; sets = z }) (set-same k.work.sets set change.state change.at) in
         same ∙ ap (λ w. record k { work = w }) work
 
-    pub refusal_goes : (why : Why) (failed failed' : Bool) (events : List Event) → IsChange (λ s t. HasCome (changed_set verb s parts expiry comment now) (Some why) t) k.work set new.work
+    pub refusal_goes : (why : Why) (failed failed' : Bool) (events : List Event) → IsChange (λ s t. HasCome (changed_set verb s element now) (Some why) t) k.work set new.work
         → ((x : Steering) → GoesOn (λ c. refused mode c line set why) (run x failed told) (run x failed' events)) → GoesOn goes (run k failed told) (run new failed' events)
     refusal_goes why failed failed' events change does = subst (λ (x : Steering). GoesOn goes (run x failed told) (run new failed' events)) (left why change) (record {
       of_is = refl;
@@ -89,7 +90,7 @@ module _ (mode : Mode) (line set : ℕ) (verb : Verb) (parts : List Interval) (e
       stands = λ before c h.
           let sets : c.sets ≡ k.work.sets = h.sets ∙ ap (λ x. x.work.sets) (left why change) in
           let at : slice_get c.sets set ≡ Some change.state = ap (λ z. slice_get z set) sets ∙ change.at in
-          let is : goes c ≡ refused mode c line set why = answer-at c change.state (slice_get c.sets set) at ∙ answer-refused c why (changed_set verb change.state parts expiry comment now) change.changed.answer in
+          let is : goes c ≡ refused mode c line set why = answer-at c change.state (slice_get c.sets set) at ∙ answer-refused c why (changed_set verb change.state element now) change.changed.answer in
           subst (λ (z : Control). Stands before z (run new failed' events)) (sym is) ((does new).stands before c h);
     })
 
@@ -118,11 +119,11 @@ flush_goes k new set n r ok same change told failed = record {
 }
 
 -- A change and a flush where the transaction hasn't failed.
-pub open_change : (mode : Mode) (old new : Run) (line set : ℕ) (verb : Verb) (parts : List Interval) (expiry : Option ℕ) (comment : List ℕ) (now : ℕ) → old.failed ≡ false
-    → GoesOn (λ c. changed mode c line set verb parts expiry comment now (slice_get c.sets set)) old new
-    → GoesOn (λ c. step mode c (Change line set verb parts expiry comment now)) old new
-open_change mode old new line set verb parts expiry comment now quiet does =
-    goes_as (λ c. changed mode c line set verb parts expiry comment now (slice_get c.sets set)) (λ c. step mode c (Change line set verb parts expiry comment now)) old new
+pub open_change : (mode : Mode) (old new : Run) (line set : ℕ) (verb : Verb) (element : NewElement) (now : ℕ) → old.failed ≡ false
+    → GoesOn (λ c. changed mode c line set verb element now (slice_get c.sets set)) old new
+    → GoesOn (λ c. step mode c (Change line set verb element now)) old new
+open_change mode old new line set verb element now quiet does =
+    goes_as (λ c. changed mode c line set verb element now (slice_get c.sets set)) (λ c. step mode c (Change line set verb element now)) old new
     (λ before c h. by_test c.failed false c _ (h.failed ∙ quiet)) does
 
 pub open_flush : (mode : Mode) (old new : Run) (line set now : ℕ) → old.failed ≡ false
@@ -134,8 +135,8 @@ open_flush mode old new line set now quiet does =
 pub stays : (f : Control → Control) (r : Run) → ((before : List Event) (c : Control) → Stands before c r → c ≡ f c) → GoesOn f r r
 stays f r same = goes_as (λ c. c) f r r same (record { of_is = refl; schema_is = refl; readers_is = refl; stands = λ before c h. h })
 
-pub failed_change : (mode : Mode) (r : Run) (line set : ℕ) (verb : Verb) (parts : List Interval) (expiry : Option ℕ) (comment : List ℕ) (now : ℕ) → r.failed ≡ true → GoesOn (λ c. step mode c (Change line set verb parts expiry comment now)) r r
-failed_change mode r line set verb parts expiry comment now failed = stays (λ c. step mode c (Change line set verb parts expiry comment now)) r (λ before c h. by_test c.failed true c _ (h.failed ∙ failed))
+pub failed_change : (mode : Mode) (r : Run) (line set : ℕ) (verb : Verb) (element : NewElement) (now : ℕ) → r.failed ≡ true → GoesOn (λ c. step mode c (Change line set verb element now)) r r
+failed_change mode r line set verb element now failed = stays (λ c. step mode c (Change line set verb element now)) r (λ before c h. by_test c.failed true c _ (h.failed ∙ failed))
 
 pub failed_flush : (mode : Mode) (r : Run) (line set now : ℕ) → r.failed ≡ true → GoesOn (λ c. step mode c (Flush line set now)) r r
 failed_flush mode r line set now failed = stays (λ c. step mode c (Flush line set now)) r (λ before c h. by_test c.failed true c _ (h.failed ∙ failed))
@@ -237,9 +238,9 @@ answered_last : (mode : Mode) (c : Control) (line set : ℕ) (x : Option Why × 
 answered_last mode c line set (Some why, s) = refused_last mode c line set why
 answered_last mode c line set (None, s) = refl
 
-changed_last : (mode : Mode) (c : Control) (line set : ℕ) (verb : Verb) (parts : List Interval) (expiry : Option ℕ) (comment : List ℕ) (now : ℕ) (o : Option State) → (changed mode c line set verb parts expiry comment now o).last ≡ c.last
-changed_last mode c line set verb parts expiry comment now None = refl
-changed_last mode c line set verb parts expiry comment now (Some s) = answered_last mode c line set (changed_set verb s parts expiry comment now)
+changed_last : (mode : Mode) (c : Control) (line set : ℕ) (verb : Verb) (element : NewElement) (now : ℕ) (o : Option State) → (changed mode c line set verb element now o).last ≡ c.last
+changed_last mode c line set verb element now None = refl
+changed_last mode c line set verb element now (Some s) = answered_last mode c line set (changed_set verb s element now)
 
 flushed_last : (c : Control) (set : ℕ) (o : Option State) → (flushed c set o).last ≡ c.last
 flushed_last c set None = refl
@@ -253,9 +254,9 @@ same_number : (c d : Control) → d.last ≡ c.last → d.last.number ≤ c.last
 same_number c d e = let n = ap (λ (g : Generation). g.number) e in omega (arith, n)
 
 step_number : (mode : Mode) (c : Control) (s : Step) → (step mode c s).last.number ≤ c.last.number + 1
-step_number mode c (Change line set verb parts expiry comment now) =
-    let o = slice_get c.sets set in let d = changed mode c line set verb parts expiry comment now o in
-    if_number c.failed c d (c.last.number + 1) (omega arith) (same_number c d (changed_last mode c line set verb parts expiry comment now o))
+step_number mode c (Change line set verb element now) =
+    let o = slice_get c.sets set in let d = changed mode c line set verb element now o in
+    if_number c.failed c d (c.last.number + 1) (omega arith) (same_number c d (changed_last mode c line set verb element now o))
 step_number mode c (Flush line set now) = let o = slice_get c.sets set in let d = flushed c set o in if_number c.failed c d (c.last.number + 1) (omega arith) (same_number c d (flushed_last c set o))
 step_number mode c (Commit now) = if_number c.failed (rewound c (Dropped c.last.number)) (committed c now) (c.last.number + 1) (omega arith) (omega arith)
 step_number mode c Abort = omega arith
@@ -292,9 +293,9 @@ answered_grew : (mode : Mode) (b c : Control) (line set : ℕ) (x : Option Why �
 answered_grew mode b c line set (Some why, s) h = refused_grew mode b c line set why h
 answered_grew mode b c line set (None, s) h = h
 
-changed_grew : (mode : Mode) (b c : Control) (line set : ℕ) (verb : Verb) (parts : List Interval) (expiry : Option ℕ) (comment : List ℕ) (now : ℕ) (o : Option State) → Grew b c → Grew b (changed mode c line set verb parts expiry comment now o)
-changed_grew mode b c line set verb parts expiry comment now None h = h
-changed_grew mode b c line set verb parts expiry comment now (Some s) h = answered_grew mode b c line set (changed_set verb s parts expiry comment now) h
+changed_grew : (mode : Mode) (b c : Control) (line set : ℕ) (verb : Verb) (element : NewElement) (now : ℕ) (o : Option State) → Grew b c → Grew b (changed mode c line set verb element now o)
+changed_grew mode b c line set verb element now None h = h
+changed_grew mode b c line set verb element now (Some s) h = answered_grew mode b c line set (changed_set verb s element now) h
 
 flushed_grew : (b c : Control) (set : ℕ) (o : Option State) → Grew b c → Grew b (flushed c set o)
 flushed_grew b c set None h = h
@@ -305,7 +306,7 @@ if_grew b true x y p q = p
 if_grew b false x y p q = q
 
 step_grew : (mode : Mode) (b c : Control) (s : Step) → Grew b c → Grew b (step mode c s)
-step_grew mode b c (Change line set verb parts expiry comment now) h = if_grew b c.failed c _ h (changed_grew mode b c line set verb parts expiry comment now (slice_get c.sets set) h)
+step_grew mode b c (Change line set verb element now) h = if_grew b c.failed c _ h (changed_grew mode b c line set verb element now (slice_get c.sets set) h)
 step_grew mode b c (Flush line set now) h = if_grew b c.failed c _ h (flushed_grew b c set (slice_get c.sets set) h)
 step_grew mode b c (Commit now) h = if_grew b c.failed _ (committed c now) h (starts_more c.committed b.committed _ h)
 step_grew mode b c Abort h = h

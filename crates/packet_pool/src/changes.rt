@@ -7,22 +7,20 @@ ghost use Rattle.packet_pool.specs.Running.{HasCome};
 
 use gen_publish::Control;
 use pipapo_image::ChangeError;
-use set_model::{Comment, Memory, Parts, Verb, Why};
+use set_model::{Memory, NewElement, Parts, Verb, Why};
 
 fn add(
     control: &mut Control,
     set: u32,
-    parts: &Parts,
-    expiry: Option<u64>,
-    comment: &Comment,
+    element: &NewElement,
     now: u64,
 ) -> Result<Option<Why>, Memory>
     requires set { set < length control.old.work.sets }
-    requires fits { FitsSet control.old.work set parts.now }
+    requires fits { FitsSet control.old.work set element.now.parts }
     ensures others { control.new ≡ record control.old { work = control.new.work } }
-    ensures change { IfOk result (λ why. IsChange (λ s t. HasCome (as_added (added_to s parts.now expiry comment.now now)) why t) control.old.work set control.new.work) }
+    ensures change { IfOk result (λ why. IsChange (λ s t. HasCome (as_added (added_to s element.now now)) why t) control.old.work set control.new.work) }
 {
-    match control.insert(set, parts, expiry, comment, now) {
+    match control.insert(set, element, now) {
         Ok(_) => Ok(None),
         Err(ChangeError::Refused(why)) => Ok(Some(why)),
         Err(ChangeError::Memory) => Err(Memory),
@@ -32,17 +30,15 @@ fn add(
 fn create(
     control: &mut Control,
     set: u32,
-    parts: &Parts,
-    expiry: Option<u64>,
-    comment: &Comment,
+    element: &NewElement,
     now: u64,
 ) -> Result<Option<Why>, Memory>
     requires set { set < length control.old.work.sets }
-    requires fits { FitsSet control.old.work set parts.now }
+    requires fits { FitsSet control.old.work set element.now.parts }
     ensures others { control.new ≡ record control.old { work = control.new.work } }
-    ensures change { IfOk result (λ why. IsChange (λ s t. HasCome (as_created s (added_to s parts.now expiry comment.now now)) why t) control.old.work set control.new.work) }
+    ensures change { IfOk result (λ why. IsChange (λ s t. HasCome (as_created s (added_to s element.now now)) why t) control.old.work set control.new.work) }
 {
-    match control.create(set, parts, expiry, comment, now) {
+    match control.create(set, element, now) {
         Ok(_) => Ok(None),
         Err(ChangeError::Refused(why)) => Ok(Some(why)),
         Err(ChangeError::Memory) => Err(Memory),
@@ -72,25 +68,23 @@ fn destroy(control: &mut Control, set: u32, parts: &Parts, now: u64) -> Result<O
     }
 }
 
-/// Changes an element of a set, or says why not. `expiry` and `now` are in milliseconds.
+/// Changes an element of a set, or says why not. `now` is in milliseconds.
 pub(crate) fn change(
     control: &mut Control,
     set: u32,
     verb: Verb,
-    parts: &Parts,
-    expiry: Option<u64>,
-    comment: &Comment,
+    element: &NewElement,
     now: u64,
 ) -> Result<Option<Why>, Memory>
     requires set { set < length control.old.work.sets }
-    requires fits { FitsSet control.old.work set parts.now }
+    requires fits { FitsSet control.old.work set element.now.parts }
     ensures others { control.new ≡ record control.old { work = control.new.work } }
-    ensures change { IfOk result (λ why. IsChange (λ s t. HasCome (changed_set verb s parts.now expiry comment.now now) why t) control.old.work set control.new.work) }
+    ensures change { IfOk result (λ why. IsChange (λ s t. HasCome (changed_set verb s element.now now) why t) control.old.work set control.new.work) }
 {
     match verb {
-        Verb::Add => add(control, set, parts, expiry, comment, now),
-        Verb::Create => create(control, set, parts, expiry, comment, now),
-        Verb::Delete => delete(control, set, parts, now),
-        Verb::Destroy => destroy(control, set, parts, now),
+        Verb::Add => add(control, set, element, now),
+        Verb::Create => create(control, set, element, now),
+        Verb::Delete => delete(control, set, &element.parts, now),
+        Verb::Destroy => destroy(control, set, &element.parts, now),
     }
 }

@@ -1,9 +1,12 @@
-/// What is told of each section of a run, and of each packet and each commit of a section, as it comes. A test holds threads
+/// What is told of each section of a run, and of each step, packet and commit of a section, as it comes. A test holds threads
 /// by it, and a program tells a person how far it is.
 pub trait Gate: Sync {
-    /// Comes before each section of a run: its number, that of the last section, and how many packets it has. It may be
-    /// left out.
+    /// Comes before each section of a run, and where control threads do sections before each transaction of one: its
+    /// number, that of the last section, and how many packets it has. It may be left out.
     fn section(&self, _number: u64, _last: u64, _packets: u64) {}
+
+    /// Comes before each step of a section. It may be left out.
+    fn step(&self) {}
 
     /// Comes before a thread enters for a packet.
     fn before(&self, thread: u32, packet: u64);

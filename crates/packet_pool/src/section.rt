@@ -12,7 +12,7 @@ use crate::filing::file;
 use crate::gate::Gate;
 use crate::judge::Judge;
 use crate::readers::{hand_out, meet_all, take_back};
-use crate::steps::run_beside;
+use crate::steps::run_steps;
 use crate::traffic::Traffic;
 use crate::worker::{Worker, work_all};
 use gen_publish::{Control, Reader};
@@ -48,7 +48,7 @@ fn beside<R: Threads + Sync, J: Judge, G: Gate>(
     ensures workers { IfOk result (λ r. AllWorked (J.verdict traffic.now.judge.now) traffic.now.packets.now traffic.now.first workers.items r.1.items) }
 {
     if steps.len() == 0 || workers.is_empty() {
-        let events = run_beside(alloc, control, steps, keep_going, traffic.gate)?;
+        let events = run_steps(alloc, control, steps, keep_going, traffic.gate)?;
         let workers = work_all(rt, alloc, counter, workers, traffic)?;
         return Ok((events, workers));
     }
@@ -58,7 +58,7 @@ fn beside<R: Threads + Sync, J: Judge, G: Gate>(
         &mut || -> Result<Events, Memory>
             requires { All (IsRunnableStep control.now.schema) steps.now × HasNumbers control.now steps.now }
             ensures { IfOk result (λ events. Ran keep_going steps.entry.now control.entry.now control.exit.now events) }
-        { run_beside(alloc, control, steps, keep_going, traffic.gate) },
+        { run_steps(alloc, control, steps, keep_going, traffic.gate) },
         &mut || -> Result<Vec<Worker>, Memory>
             requires { IsSync R.row × All (Serves (J.serves traffic.now.judge.now) traffic.now.packets.now) workers.items × All (IsFresh (batches_of (length traffic.now.packets.now)) counter.now.shared.table_id) workers.items × (counter.now.shared.table_id.words ≡ 1) }
             ensures { IfOk result (λ v. AllWorked (J.verdict traffic.entry.now.judge.now) traffic.entry.now.packets.now traffic.entry.now.first workers.entry.items v.items) }

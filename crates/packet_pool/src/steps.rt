@@ -9,9 +9,9 @@ ghost use Rattle.gen_publish.specs.Publish.{Steering};
 ghost use Rattle.packet_pool.specs.Running.{run, GoesOn, Ran, HasNumbers, Breaks, HasBroken, IsSameStart};
 
 use crate::changes::change;
-use crate::gate::{Gate, OpenGate};
+use crate::gate::Gate;
 use gen_publish::Control;
-use set_model::{Comment, Event, Events, Memory, Parts, Step, Steps, Verb, Why};
+use set_model::{Event, Events, Memory, NewElement, Step, Steps, Verb, Why};
 use std::alloc::Global;
 
 /// Tells a refusal, which fails the transaction unless the run keeps going.
@@ -39,20 +39,18 @@ fn try_change(
     line: u64,
     set: u32,
     verb: Verb,
-    parts: &Parts,
-    expiry: Option<u64>,
-    comment: &Comment,
+    element: &NewElement,
     now: u64,
     events: &mut Events,
 ) -> Result<(), Memory>
     requires quiet { failed.old ≡ false }
     requires set { set < length control.old.work.sets }
-    requires fits { FitsSet control.old.work set parts.now }
-    ensures ok { OnOk result (GoesOn (λ c. changed (mode_of keep_going) c line set verb parts.now expiry comment.now now (slice_get c.sets set)) (run control.old failed.old events.old) (run control.new failed.new events.new)) }
+    requires fits { FitsSet control.old.work set element.now.parts }
+    ensures ok { OnOk result (GoesOn (λ c. changed (mode_of keep_going) c line set verb element.now now (slice_get c.sets set)) (run control.old failed.old events.old) (run control.new failed.new events.new)) }
     ensures err { OnErr result (control.new.committed ≡ control.old.committed) }
     ensures kept { OnErr result (IsSameStart control.old control.new) }
 {
-    match change(control, set, verb, parts, expiry, comment, now)? {
+    match change(control, set, verb, element, now)? {
         None => Ok(()),
         Some(why) => refuse(failed, keep_going, line, set, why, events),
     }
@@ -138,9 +136,7 @@ pub fn do_step<G: Gate>(
             line,
             set,
             verb,
-            parts,
-            expiry,
-            comment,
+            element,
             now,
         } => {
             if *failed {
@@ -148,8 +144,7 @@ pub fn do_step<G: Gate>(
             }
             control.known();
             try_change(
-                control, failed, keep_going, *line, *set, *verb, parts, *expiry, comment, *now,
-                events,
+                control, failed, keep_going, *line, *set, *verb, element, *now, events,
             )
         }
         Step::Flush { set, .. } => {
@@ -172,7 +167,7 @@ pub fn do_step<G: Gate>(
 /// # Errors
 ///
 /// `Memory` if there is none left.
-pub(crate) fn run_beside<G: Gate>(
+pub fn run_steps<G: Gate>(
     alloc: Global,
     control: &mut Control,
     steps: &Steps,
@@ -187,26 +182,8 @@ pub(crate) fn run_beside<G: Gate>(
     let mut events = Events::new(alloc);
     let mut failed = false;
     for step in steps.as_slice() {
+        gate.step();
         do_step(control, &mut failed, keep_going, step, &mut events, gate)?;
     }
     Ok(events)
-}
-
-/// Does steps, one after another, from a control whose open transaction has not failed, and tells what comes of them.
-///
-/// # Errors
-///
-/// `Memory` if there is none left.
-pub fn run_steps(
-    alloc: Global,
-    control: &mut Control,
-    steps: &Steps,
-    keep_going: bool,
-) -> Result<Events, Memory>
-    requires steps { All (IsRunnableStep control.old.schema) steps.now }
-    requires numbers { HasNumbers control.old steps.now }
-    ensures ok { IfOk result (λ events. Ran keep_going steps.now control.old control.new events) }
-    ensures err { OnErr result (HasBroken keep_going steps.now control.old control.new) }
-{
-    run_beside(alloc, control, steps, keep_going, &OpenGate)
 }

@@ -7,8 +7,8 @@ ghost use Rattle.packet_pool.specs.Work.{AllReady};
 use crate::{Judge, LookupJudge, OpenGate, run_section, run_steps};
 use gen_publish::{Control, Held, Reader, start};
 use set_model::{
-    Comment, Event, Events, Family, Interval, Key, Kind, Kinds, Line, Memory, Name, Packet,
-    Packets, Parts, Schema, SetDecl, Step, Steps, Verb, Verdict, Why, fits, parts_fit,
+    Comment, Event, Events, Family, Interval, Key, Kind, Kinds, Line, Memory, Name, NewElement,
+    Packet, Packets, Parts, Schema, SetDecl, Step, Steps, Verb, Verdict, Why, fits, parts_fit,
 };
 use std::alloc::Global;
 use std::process::Abort;
@@ -67,9 +67,11 @@ fn addition(alloc: Global, schema: &Schema, low: u128, high: u128) -> Result<Ste
         line: 1,
         set: 0,
         verb: Verb::Add,
-        parts,
-        expiry: None,
-        comment: Comment::new(alloc),
+        element: NewElement {
+            parts,
+            expiry: None,
+            comment: Comment::new(alloc),
+        },
         now: 0,
     })
 }
@@ -223,7 +225,7 @@ fn refusal(alloc: Global, keep_going: bool) -> Result<Events, Memory> {
     steps.push(addition(alloc, &schema, 80, 90)?)?;
     steps.push(Step::Commit { now: 0 })?;
     let (mut control, _readers) = start(alloc, schema, 1)?;
-    run_steps(alloc, &mut control, &steps, keep_going)
+    run_steps(alloc, &mut control, &steps, keep_going, &OpenGate)
 }
 
 const REFUSED: Event = Event::Refused {

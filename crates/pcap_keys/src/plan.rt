@@ -19,7 +19,7 @@ use crate::selector::{Plan, PlanLine, Selector, Selectors, read_selector};
 use set_model::{Kind, Listed, Memory, Schema, SetDecl};
 use set_script::{table_place, used_set};
 use std::alloc::Global;
-use token_forms::{BadToken, ReadError, Reader, Reason, Seen, plain_bad_token_before, short};
+use token_forms::{BadToken, ReadError, Reader, Reason, Seen, plain_bad_token_before};
 
 /// Why a text isn't read as a plan.
 pub type PlanError = ReadError;
@@ -31,13 +31,10 @@ const MOST_LINES: u64 = 4;
 fn selector(reader: &mut Reader, kind: Kind) -> Result<Selector, ReadError>
     ensures { Gives (λ x. x) result reader.new (reading.selector kind reader.old) }
 {
-    match reader.take() {
-        Some(t) if t.is_word() => match read_selector(kind, t.bytes) {
-            Some(selector) => Ok(selector),
-            None => Err(t.refused(&[Reason::TypeWord])),
-        },
-        Some(t) => Err(t.refused(&[Reason::TypeWord])),
-        None => Err(short()),
+    let t = reader.next()?;
+    match read_selector(kind, t.bytes) {
+        Some(selector) if t.is_word() => Ok(selector),
+        _ => Err(t.refused(&[Reason::TypeWord])),
     }
 }
 
@@ -83,10 +80,7 @@ fn all_selectors(reader: &mut Reader, alloc: Global, kinds: &[Kind]) -> Result<S
     ensures { Gives (λ x. x) result reader.new (reading.all_selectors kinds.now reader.old) }
 {
     match kinds {
-        [] => match reader.take() {
-            Some(t) => Err(t.refused(&[])),
-            None => Err(short()),
-        },
+        [] => Err(reader.next()?.refused(&[])),
         [kind, others @ ..] => some_selectors(reader, alloc, *kind, others),
     }
 }
@@ -103,10 +97,7 @@ fn line_at(
     ensures { Gives (λ _. lines.new) result reader.new (reading.line_at schema.now lines.old place reader.old) }
 {
     match schema.get(place) {
-        None => match reader.take() {
-            Some(t) => Err(t.refused(&[])),
-            None => Err(short()),
-        },
+        None => Err(reader.next()?.refused(&[])),
         Some(decl) => {
             let selectors = all_selectors(reader, alloc, decl.kinds.as_slice())?;
             // No memory holds a schema in which a set has a place above 32 bits.
@@ -151,10 +142,7 @@ fn line_if(
     if room {
         set_line(reader, alloc, schema, lines)
     } else {
-        match reader.take() {
-            Some(t) => Err(t.refused(&[])),
-            None => Err(short()),
-        }
+        Err(reader.next()?.refused(&[]))
     }
 }
 
@@ -237,10 +225,7 @@ fn some_lines(reader: &mut Reader, lines: Plan) -> Result<Plan, ReadError>
     ensures { Gives (λ x. x) result reader.new (reading.some_lines lines reader.old) }
 {
     if lines.as_slice().is_empty() {
-        match reader.take() {
-            Some(t) => Err(t.refused(&[])),
-            None => Err(short()),
-        }
+        Err(reader.next()?.refused(&[]))
     } else {
         Ok(lines)
     }

@@ -5,9 +5,9 @@ pub use Rattle.set_model.specs.Expiry
 pub use Rattle.set_model.specs.SetState
 pub use Rattle.set_model.specs.Control
 pub use Rattle.set_model.specs.Runnable
-pub use Rattle.pipapo_image.specs.Found
-pub use Rattle.pipapo_image.specs.Insert
-pub use Rattle.pipapo_image.specs.Remove
+pub use Rattle.pipapo_image.specs.Image.Found
+pub use Rattle.pipapo_image.specs.Image.Insert
+pub use Rattle.pipapo_image.specs.Image.Remove
 pub use Rattle.set_space.specs.Open
 pub use Rattle.set_space.specs.Answers
 pub use Rattle.gen_publish.specs.Publish

@@ -44,9 +44,12 @@
 //!     parts.push(hosts).expect(rt, "memory");
 //!     parts.push(Interval { low, high }).expect(rt, "memory");
 //!     assert!(rt; control.fits(0, &parts));
-//!     let _ = control
-//!         .insert(0, &parts, None, &Comment::new(alloc), 0)
-//!         .expect(rt, "room");
+//!     let element = NewElement {
+//!         parts,
+//!         expiry: None,
+//!         comment: Comment::new(alloc),
+//!     };
+//!     let _ = control.insert(0, &element, 0).expect(rt, "room");
 //! }
 //!
 //! /// Whether a packet to a port of 192.0.2.7 finds an element.
@@ -87,7 +90,8 @@
 pub use gen_publish::{Control, Held, Note, Reader, Receipt, start};
 pub use pipapo_image::{Added, ChangeError};
 pub use set_model::{
-    Comment, Family, Found, Interval, Key, Kind, Kinds, Memory, Name, Parts, Schema, SetDecl, Why,
+    Comment, Family, Found, Interval, Key, Kind, Kinds, Memory, Name, NewElement, Parts, Schema,
+    SetDecl, Why,
 };
 pub use set_space::Generation;
 

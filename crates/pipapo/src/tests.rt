@@ -38,9 +38,12 @@ fn open(rt: &impl Abort, alloc: Global, control: &mut Control, low: u128, high: 
     parts.push(hosts).expect(rt, "memory");
     parts.push(Interval { low, high }).expect(rt, "memory");
     assert!(rt; control.fits(0, &parts));
-    let _ = control
-        .insert(0, &parts, None, &Comment::new(alloc), 0)
-        .expect(rt, "room");
+    let element = NewElement {
+        parts,
+        expiry: None,
+        comment: Comment::new(alloc),
+    };
+    let _ = control.insert(0, &element, 0).expect(rt, "room");
 }
 
 /// Whether a packet to a port of 192.0.2.7 finds an element.
@@ -79,4 +82,31 @@ fn example<R: Threads + Abort + Sync>(rt: &R, alloc: Global) -> (bool, bool) {
 #[test]
 fn packets_beside_a_control(rt: HostRuntime) {
     assert_eq!(rt; example(&rt, rt.alloc()), (true, false));
+}
+
+/// One thread: services are opened, and others taken back. Whether a port is open before the commit
+/// and behind it, and whether one that was taken back is.
+fn in_turn(rt: &impl Abort, alloc: Global) -> (bool, bool, bool) {
+    let schema = services(alloc).expect(rt, "memory");
+    let (mut control, mut readers) = start(alloc, schema, 1).expect(rt, "memory");
+    let reader = readers.pop().expect(rt, "a reader");
+    open(rt, alloc, &mut control, 80, 443);
+    let mut held = reader.enter();
+    let before = is_open(rt, alloc, &mut held, 443);
+    let reader = held.leave();
+    assert!(rt; control.number() == 0);
+    let receipt = control.commit(0).expect(rt, "memory");
+    assert!(rt; receipt.generation == 1);
+    open(rt, alloc, &mut control, 22, 22);
+    control.abort();
+    let mut held = reader.enter();
+    let behind = is_open(rt, alloc, &mut held, 443);
+    let taken_back = is_open(rt, alloc, &mut held, 22);
+    held.leave();
+    (before, behind, taken_back)
+}
+
+#[test]
+fn one_thread_by_itself(rt: HostRuntime) {
+    assert_eq!(rt; in_turn(&rt, rt.alloc()), (false, true, false));
 }

@@ -139,7 +139,7 @@ fn carry_out<R: Threads + Wait + Sync, F: Shelf, K: Sink, N: Notes, G: Gate>(
 /// With `--keep-going` a refused change is skipped, and doesn't fail its transaction. Where the words,
 /// a file or its reading is at fault, one line is written in place of the output. Where a file is at fault or a change was
 /// refused, a person is told more by `notes`, if there is memory for it; neither status nor output hangs on that. The `gate`
-/// is called before and after each lookup and each commit; the program's own does nothing. The status is:
+/// is told of each section, step, lookup and commit; the program tells a person by it how far it is. The status is:
 ///
 /// - 0: the whole output was written, and tells no refusal;
 /// - 1: the whole output was written, and tells that a change was refused;

@@ -9,6 +9,8 @@ mod delivery;
 #[cfg(test)]
 mod desks;
 mod fault;
+#[cfg(test)]
+mod hostile;
 mod meter;
 #[cfg(test)]
 mod metered;

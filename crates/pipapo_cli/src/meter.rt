@@ -138,6 +138,12 @@ impl<C: Clock + Sync, S: Screen + Sync + Drop> Gate for Meter<'_, C, S> {
         }
     }
 
+    fn step(&self) {
+        if let Some(screen) = &self.screen {
+            self.tell(screen);
+        }
+    }
+
     #[inline]
     fn before(&self, _thread: u32, _packet: u64) {}
 

@@ -29,7 +29,7 @@ fn captured(alloc: Global, plan: &Plan, frames: &Frames) -> Result<Keys, Memory>
     Ok(keys)
 }
 
-/// The output of a command's work. The `gate` is called before and after each lookup and each commit.
+/// The output of a command's work. The `gate` is told of each section, step, lookup and commit.
 ///
 /// # Errors
 ///
@@ -51,8 +51,8 @@ pub fn output_of<R: Threads + Wait + Sync, G: Gate>(
             threads,
             keep_going,
         } => transcript(rt, alloc, script, &keys, keep_going, threads, gate),
-        Work::List { script, keep_going } => listing(alloc, script, keep_going),
-        Work::Dump { script, keep_going } => dump(alloc, script, keep_going),
+        Work::List { script, keep_going } => listing(alloc, script, keep_going, gate),
+        Work::Dump { script, keep_going } => dump(alloc, script, keep_going, gate),
         Work::Drill {
             seed,
             count,
@@ -75,6 +75,8 @@ pub fn output_of<R: Threads + Wait + Sync, G: Gate>(
             threads,
             keep_going,
         } => judged(rt, alloc, script, chains, &keys, keep_going, threads, gate),
-        Work::Desk { script, keep_going } => desk(rt, alloc, script, keep_going, &QuietBell),
+        Work::Desk { script, keep_going } => {
+            desk(rt, alloc, script, keep_going, &QuietBell, gate)
+        },
     }
 }

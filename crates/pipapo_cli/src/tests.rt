@@ -17,7 +17,7 @@ const KEYS: &str = "ip filter s 10.0.0.6 . 1024\nip filter s 10.0.0.7 . 1024\n";
 const TRANSCRIPT: &str =
     "commit generation 1 purged 0\npacket 0 thread 0 generation 1 element 1\npacket 1 thread 0 generation 1 none\n";
 
-const RUN: [&str; 3] = ["run", "a.nft", "keys"];
+pub const RUN: [&str; 3] = ["run", "a.nft", "keys"];
 
 const USAGE: &str =
     "pipapo: usage: run SCRIPT KEYS [--threads N] [--keep-going] | list SCRIPT [--keep-going] | dump SCRIPT [--keep-going] | drill SEED COUNT [--threads N] | judge SCRIPT RULES KEYS [--threads N] [--keep-going] | capture SCRIPT PLAN PCAP [--threads N] [--keep-going] | desk SCRIPT [--keep-going]\n";
@@ -59,12 +59,28 @@ pub fn run_noted<R: Threads + Wait + Sync, G: Gate>(
 ) -> Result<(u8, MemSink), Fail>
     requires { shelf.asked ≡ [] }
 {
+    let sink = MemSink::new(alloc, 7, room)?;
+    run_into(rt, alloc, words, shelf, sink, notes, gate)
+}
+
+/// Runs words over a shelf and a sink.
+pub fn run_into<R: Threads + Wait + Sync, G: Gate>(
+    rt: &R,
+    alloc: Global,
+    words: &[&str],
+    shelf: MemShelf,
+    sink: MemSink,
+    notes: &mut MemNotes,
+    gate: &G,
+) -> Result<(u8, MemSink), Fail>
+    requires { shelf.asked ≡ [] }
+{
     let mut shelf = shelf;
+    let mut sink = sink;
     let mut command = Vec::new(alloc);
     for word in words {
         command.push(String::from_str(alloc, word)?)?;
     }
-    let mut sink = MemSink::new(alloc, 7, room)?;
     let status = pipapo(
         rt,
         alloc,
@@ -267,37 +283,6 @@ fn missing_file(rt: HostRuntime) -> Result<(), Fail> {
     let (status, sink) = run_files(&rt, rt.alloc(), Some(SCRIPT.as_bytes()), None, 0, 1000)?;
     assert_eq!(rt; sink.bytes(), b"pipapo: read fault: keys\n".as_slice());
     assert_eq!(rt; status, 5);
-    Ok(())
-}
-
-#[test]
-fn each_call_of_the_shelf_may_fail(rt: HostRuntime) -> Result<(), Fail> {
-    for call in 1..=6u64 {
-        let (status, sink) = run_files(
-            &rt,
-            rt.alloc(),
-            Some(SCRIPT.as_bytes()),
-            Some(KEYS.as_bytes()),
-            call,
-            1000,
-        )?;
-        let line: &[u8] = if call <= 3 {
-            b"pipapo: read fault: a.nft\n"
-        } else {
-            b"pipapo: read fault: keys\n"
-        };
-        assert_eq!(rt; sink.bytes(), line);
-        assert_eq!(rt; status, 5);
-    }
-    let (status, _) = run_files(
-        &rt,
-        rt.alloc(),
-        Some(SCRIPT.as_bytes()),
-        Some(KEYS.as_bytes()),
-        7,
-        1000,
-    )?;
-    assert_eq!(rt; status, 0);
     Ok(())
 }
 

@@ -51,7 +51,7 @@ fn expect_list<R: Threads + Wait + Abort + Sync>(
     expect(rt, alloc, &["list", "a.nft"], script, "", listing, 0)
 }
 
-const TWO_ELEMENTS: &str =
+pub const TWO_ELEMENTS: &str =
     "table ip filter {\n\tset s {\n\t\ttype ipv4_addr . inet_service\n\t\tflags interval\n\t\telements = { 10.0.0.5 . 1024, 192.168.1.0-192.168.2.1 . 2048 }\n\t}\n}\n";
 
 #[test]

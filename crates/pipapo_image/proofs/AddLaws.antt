@@ -1,7 +1,6 @@
--- An addition, by what the lookups of the start key and the end key found.
+-- An addition, by what the lookups of the start key and the end key found, or of the intervals.
 use Rattle.std.proofs.Common.{◌≡◌, refl, sym, ◌∙◌, ap, subst, ℕ, ◌^◌, Bool, true, false, ◌==◌, nat_le, nat_lt, List, [], ◌∷◌, length, Option, Some, None, Result, Ok, Err, arith}
-use Rattle.std.proofs.Math.Path.{fun_ext}
-use Rattle.std.specs.Prelude.{option_map, if◌then◌else◌, IsErrAnd}
+use Rattle.std.specs.Prelude.{option_map, if◌then◌else◌, IsErrAnd, find}
 use Rattle.std.specs.Option.{option_or}
 use Rattle.std.proofs.lemmas.Bool.{and_parts, and_from}
 use Rattle.std.proofs.lemmas.Bool.Decides.{nat_tests}
@@ -10,153 +9,128 @@ use Rattle.std.specs.Global.{Vec}
 use Rattle.set_model.specs.declared.block.Block.{Block}
 use Rattle.set_model.specs.declared.kind.Kind.{Kind}
 use Rattle.set_model.specs.declared.kind.Interval.{Interval}
-use Rattle.set_model.specs.declared.element.Element.{Element}
+use Rattle.set_model.specs.declared.element.NewElement.{NewElement}
 use Rattle.set_model.specs.declared.report.Why.{Why}
-use Rattle.set_model.specs.declared.report.Why.TheVariants.{Overlap, Full, RulesFull}
+use Rattle.set_model.specs.declared.report.Why.TheVariants.{Overlap, Full}
 use Rattle.set_model.specs.Kind.{bits_of}
 use Rattle.set_model.specs.Key.{parts_fit, intervals_fit, key_fits, values_fit, is_good, is_value, start_key, end_key, same_parts}
-use Rattle.set_model.specs.SetState.{State, Added, add, add_by, add_new, add_again, in_the_way, twin, if_same, first, first_sharing, place, answers, is_full, crowded_field}
+use Rattle.set_model.specs.SetState.{State, add, add_by, element_at, same_at, twin_place, place, sharing_place, is_sharing, is_full, crowded_field}
 use Rattle.set_tables.proofs.RowLaws.{find-at, find-none}
-use Rattle.set_tables.specs.Sharing.{is_sharing}
-use Rattle.pipapo_image.specs.Found.{element_at}
 use Rattle.pipapo_image.specs.declared.answers.Added.{Added as Came}
 use Rattle.pipapo_image.specs.declared.answers.ChangeError.{ChangeError}
 use Rattle.pipapo_image.specs.declared.answers.ChangeError.TheVariants as errors
-use Rattle.pipapo_image.specs.declared.decision.Decision.{Decision}
-use Rattle.pipapo_image.specs.declared.decision.Decision.TheVariants.{Adds}
-use Rattle.pipapo_image.specs.Insert.{IsAnswer, said}
-use Rattle.pipapo_image.specs.Decision.{IsDecision, comes, left}
-use Rattle.pipapo_image.specs.Deciding.{IsTest, by_start, by_way, by_twin, same_at, twin_place, at_start}
-use Rattle.pipapo_image.specs.Sharing.{sharing_place}
-
--- the first element, by its place
-first-at : (s : State) (key : List ℕ) (now : ℕ) (o : Option ℕ) → place s key now ≡ o → first s key now ≡ option_map (element_at s) o
-first-at s key now None h = find-none (answers key now) s.elements h
-first-at s key now (Some i) h = find-at (answers key now) s.elements i (record { id = 0; parts = []; expiry = None; comment = [] }) h
+use Rattle.pipapo_image.specs.declared.image.decision.Decision.{Decision}
+use Rattle.pipapo_image.specs.declared.image.decision.Decision.TheVariants.{Adds}
+use Rattle.pipapo_image.specs.Image.Insert.{IsAnswer, said}
+use Rattle.pipapo_image.specs.Image.Decision.{IsDecision, comes, left}
+use Rattle.pipapo_image.specs.Image.Deciding.{IsTest, by_start, by_way, by_twin, by_rules, at_start, add_new, add_again}
 
 -- the first that shares a key, by its place
-pub sharing-at : (s : State) (parts : List Interval) (now : ℕ) (o : Option ℕ) → sharing_place s parts now ≡ o → first_sharing s parts now ≡ option_map (element_at s) o
+pub sharing-at : (s : State) (parts : List Interval) (now : ℕ) (o : Option ℕ) → sharing_place s parts now ≡ o → find (is_sharing parts now) s.elements ≡ option_map (element_at s) o
 sharing-at s parts now None h = find-none (is_sharing parts now) s.elements h
 sharing-at s parts now (Some i) h = find-at (is_sharing parts now) s.elements i (record { id = 0; parts = []; expiry = None; comment = [] }) h
 
-by-way : (s : State) (parts : List Interval) (o : Option ℕ)
-    → option_or (option_map (λ e. Overlap e.id) (option_map (element_at s) o)) (option_or (if is_full s then Some Full else None) (option_map (λ f. RulesFull f) (crowded_field s parts))) ≡ by_way s parts o
+-- ---- the cases of an addition
+-- what refuses a new element, by who is in the way, whether the set is full, and which field is crowded
+abbrev refused_by : State → Option ℕ → Bool → Option ℕ → Option Why
+refused_by s (Some i) full crowded = Some (Overlap (element_at s i).id)
+refused_by s None full crowded = option_or (if full then Some Full else None) (by_rules crowded)
+
+by-way : (s : State) (parts : List Interval) (o : Option ℕ) → refused_by s o (is_full s) (crowded_field s parts) ≡ by_way s parts o
 by-way s parts None = refl
 by-way s parts (Some i) = refl
 
-abbrev refused_by : State → List Interval → Option Element → Option Why
-refused_by s parts o = option_or (option_map (λ e. Overlap e.id) o) (option_or (if is_full s then Some Full else None) (option_map (λ f. RulesFull f) (crowded_field s parts)))
+new-at-end : (s : State) (e : NewElement) (x at_end crowded : Option ℕ) (full : Bool) → add_by s e None x None at_end None full crowded ≡ add_new s e (refused_by s at_end full crowded)
+new-at-end s e x (Some i) crowded full = refl
+new-at-end s e x None crowded true = refl
+new-at-end s e x None (Some f) false = refl
+new-at-end s e x None None false = refl
 
--- where the start key is held by no live element, or by one of other intervals
-abbrev decided : State → List Interval → Option ℕ → List ℕ → ℕ → Option Element → Option Element → Option ℕ → Added × State
-decided s parts x c now at_first at_end o = elim (if_same parts at_first) as (λ _. Added × State) [
-  | Some e ↦ add_again s x o e
-  | None ↦ add_new s parts x c (refused_by s parts (option_or at_first at_end))
-]
+new-apart : (s : State) (e : NewElement) (x sharing crowded : Option ℕ) (full : Bool) → add_by s e None x None None sharing full crowded ≡ add_new s e (refused_by s sharing full crowded)
+new-apart s e x (Some i) crowded full = refl
+new-apart s e x None crowded full = new-at-end s e x None crowded full
 
-by-place : (s : State) (parts : List Interval) (x : Option ℕ) (c : List ℕ) (now : ℕ) (o p : Option ℕ) → place s (end_key parts) now ≡ p
-    → decided s parts x c now (option_map (element_at s) o) (option_map (element_at s) p) o ≡ by_start s parts x c now o
-by-place s parts x c now None p h = ap (add_new s parts x c) (by-way s parts p ∙ ap (by_way s parts) (sym h))
-by-place s parts x c now (Some i) p h = go (same_parts (element_at s i).parts parts) where
-  go : (t : Bool) → (elim (if t then Some (element_at s i) else None) as (λ _. Added × State) [
-    | Some e ↦ add_again s x (Some i) e
-    | None ↦ add_new s parts x c (refused_by s parts (Some (element_at s i)))
-  ]) ≡ at_start s i x t
-  go true = refl
+there-again : (s : State) (e : NewElement) (i : ℕ) (x at_start at_end sharing crowded : Option ℕ) (full : Bool) → add_by s e (Some i) x at_start at_end sharing full crowded ≡ add_again s x i
+there-again s e i None at_start at_end sharing crowded full = refl
+there-again s e i (Some m) at_start at_end sharing crowded full = refl
+
+-- where the sets may share keys, the element that holds the start key decides
+start-decides : (s : State) (e : NewElement) (now : ℕ) (o : Option ℕ)
+    → add_by s e (same_at s e.parts o) e.expiry o (place s (end_key e.parts) now) None (is_full s) (crowded_field s e.parts) ≡ by_start s e now o
+start-decides s e now None =
+    new-at-end s e e.expiry (place s (end_key e.parts) now) (crowded_field s e.parts) (is_full s) ∙ ap (add_new s e) (by-way s e.parts (place s (end_key e.parts) now))
+start-decides s e now (Some i) = go (same_parts (element_at s i).parts e.parts) where
+  go : (t : Bool) → add_by s e (if t then Some i else None) e.expiry (Some i) (place s (end_key e.parts) now) None (is_full s) (crowded_field s e.parts) ≡ at_start s i e.expiry t
+  go true = there-again s e i e.expiry (Some i) (place s (end_key e.parts) now) None (crowded_field s e.parts) (is_full s)
   go false = refl
 
-opened : (s : State) (parts : List Interval) (x : Option ℕ) (c : List ℕ) (now : ℕ) (t : Option Element) → add_by s parts x c now t
-    ≡ (elim t as (λ _. Added × State) [ Some e ↦ add_again s x (place s (start_key parts) now) e | None ↦ add_new s parts x c (refused_by s parts (in_the_way s parts now)) ])
-opened s parts x c now None = refl
-opened s parts x c now (Some e) = refl
+pub add-by : (s : State) (e : NewElement) (now : ℕ) → s.disjoint ≡ false → add s e now ≡ by_start s e now (place s (start_key e.parts) now)
+add-by s e now d =
+    let at_start = place s (start_key e.parts) now in
+    let at_end = place s (end_key e.parts) now in
+    ap (λ t. add_by s e (same_at s e.parts at_start) e.expiry (if t then None else at_start) (if t then None else at_end) (if t then sharing_place s e.parts now else None) (is_full s) (crowded_field s e.parts)) d
+    ∙ start-decides s e now at_start
 
-pub add-by : (s : State) (parts : List Interval) (x : Option ℕ) (c : List ℕ) (now : ℕ) → s.disjoint ≡ false → add s parts x c now ≡ by_start s parts x c now (place s (start_key parts) now)
-add-by s parts x c now d =
-    let o = place s (start_key parts) now in
-    let p = place s (end_key parts) now in
-    let way : in_the_way s parts now ≡ option_or (first s (start_key parts) now) (first s (end_key parts) now) = ap (λ t. if t then first_sharing s parts now else option_or (first s (start_key parts) now) (first s (end_key parts) now)) d in
-    opened s parts x c now (twin s parts now)
-    ∙ ap (λ z. elim (if_same parts (first s (start_key parts) now)) as (λ _. Added × State) [ Some e ↦ add_again s x o e | None ↦ add_new s parts x c (refused_by s parts z) ]) way
-    ∙ ap (λ z. decided s parts x c now z (first s (end_key parts) now) o) (first-at s (start_key parts) now o refl)
-    ∙ ap (λ z. decided s parts x c now (option_map (element_at s) o) z o) (first-at s (end_key parts) now p refl)
-    ∙ by-place s parts x c now o p refl
+-- in a disjoint set, the element that is there already
+twin-decides : (s : State) (e : NewElement) (now : ℕ) (o : Option ℕ)
+    → add_by s e o e.expiry None None (sharing_place s e.parts now) (is_full s) (crowded_field s e.parts) ≡ by_twin s e now o
+twin-decides s e now None =
+    new-apart s e e.expiry (sharing_place s e.parts now) (crowded_field s e.parts) (is_full s) ∙ ap (add_new s e) (by-way s e.parts (sharing_place s e.parts now))
+twin-decides s e now (Some i) = there-again s e i e.expiry None None (sharing_place s e.parts now) (crowded_field s e.parts) (is_full s)
 
--- in a disjoint set
-abbrev decided_apart : State → List Interval → Option ℕ → List ℕ → Option Element → Option Element → Option ℕ → Added × State
-decided_apart s parts x c at_first sharing o = elim (if_same parts at_first) as (λ _. Added × State) [
-  | Some e ↦ add_again s x o e
-  | None ↦ add_new s parts x c (refused_by s parts sharing)
-]
-
-by-twin : (s : State) (parts : List Interval) (x : Option ℕ) (c : List ℕ) (now : ℕ) (o p : Option ℕ) → sharing_place s parts now ≡ p
-    → decided_apart s parts x c (option_map (element_at s) o) (option_map (element_at s) p) o ≡ by_twin s parts x c now (same_at s parts o)
-by-twin s parts x c now None p h = ap (add_new s parts x c) (by-way s parts p ∙ ap (by_way s parts) (sym h))
-by-twin s parts x c now (Some i) p h = go (same_parts (element_at s i).parts parts) where
-  go : (t : Bool) → (elim (if t then Some (element_at s i) else None) as (λ _. Added × State) [
-    | Some e ↦ add_again s x (Some i) e
-    | None ↦ add_new s parts x c (refused_by s parts (option_map (element_at s) p))
-  ]) ≡ by_twin s parts x c now (if t then Some i else None)
-  go true = refl
-  go false = ap (add_new s parts x c) (by-way s parts p ∙ ap (by_way s parts) (sym h))
-
-pub add-apart : (s : State) (parts : List Interval) (x : Option ℕ) (c : List ℕ) (now : ℕ) → s.disjoint ≡ true → add s parts x c now ≡ by_twin s parts x c now (twin_place s parts now)
-add-apart s parts x c now d =
-    let o = place s (start_key parts) now in
-    let p = sharing_place s parts now in
-    let way : in_the_way s parts now ≡ first_sharing s parts now = ap (λ t. if t then first_sharing s parts now else option_or (first s (start_key parts) now) (first s (end_key parts) now)) d in
-    opened s parts x c now (twin s parts now)
-    ∙ ap (λ z. decided_apart s parts x c (first s (start_key parts) now) z o) way
-    ∙ ap (λ z. decided_apart s parts x c z (first_sharing s parts now) o) (first-at s (start_key parts) now o refl)
-    ∙ ap (λ z. decided_apart s parts x c (option_map (element_at s) o) z o) (sharing-at s parts now p refl)
-    ∙ by-twin s parts x c now o p refl
+pub add-apart : (s : State) (e : NewElement) (now : ℕ) → s.disjoint ≡ true → add s e now ≡ by_twin s e now (twin_place s e.parts now)
+add-apart s e now d =
+    let at_start = place s (start_key e.parts) now in
+    let at_end = place s (end_key e.parts) now in
+    ap (λ t. add_by s e (twin_place s e.parts now) e.expiry (if t then None else at_start) (if t then None else at_end) (if t then sharing_place s e.parts now else None) (is_full s) (crowded_field s e.parts)) d
+    ∙ twin-decides s e now (twin_place s e.parts now)
 
 -- ---- what is decided
 -- Where elements may share keys, the places decide.
-pub decision_by : (s : State) (parts : List Interval) (x : Option ℕ) (now : ℕ) (r : Result Decision ChangeError) → s.disjoint ≡ false
-    → IsDecision s parts x (λ c. by_start s parts x c now (place s (start_key parts) now)) r → IsDecision s parts x (λ c. add s parts x c now) r
-decision_by s parts x now r d h = subst (λ z. IsDecision s parts x z r) (fun_ext (λ c. sym (add-by s parts x c now d))) h
+pub decision_by : (s : State) (e : NewElement) (now : ℕ) (r : Result Decision ChangeError) → s.disjoint ≡ false
+    → IsDecision s e (by_start s e now (place s (start_key e.parts) now)) r → IsDecision s e (add s e now) r
+decision_by s e now r d h = subst (λ z. IsDecision s e z r) (sym (add-by s e now d)) h
 
 -- In a disjoint set the place of the element that is there already decides.
-pub decision_apart : (s : State) (parts : List Interval) (x : Option ℕ) (now : ℕ) (r : Result Decision ChangeError) → s.disjoint ≡ true
-    → IsDecision s parts x (λ c. by_twin s parts x c now (twin_place s parts now)) r → IsDecision s parts x (λ c. add s parts x c now) r
-decision_apart s parts x now r d h = subst (λ z. IsDecision s parts x z r) (fun_ext (λ c. sym (add-apart s parts x c now d))) h
+pub decision_apart : (s : State) (e : NewElement) (now : ℕ) (r : Result Decision ChangeError) → s.disjoint ≡ true
+    → IsDecision s e (by_twin s e now (twin_place s e.parts now)) r → IsDecision s e (add s e now) r
+decision_apart s e now r d h = subst (λ z. IsDecision s e z r) (sym (add-apart s e now d)) h
 
 -- The element that is there already, or that none is, decides.
-pub decision_twin : (s : State) (parts : List Interval) (x : Option ℕ) (now : ℕ) (o : Option ℕ) (r : Result Decision ChangeError) → o ≡ twin_place s parts now
-    → IsDecision s parts x (λ c. by_twin s parts x c now o) r → IsDecision s parts x (λ c. by_twin s parts x c now (twin_place s parts now)) r
-decision_twin s parts x now o r at h = subst (λ z. IsDecision s parts x (λ c. by_twin s parts x c now z) r) at h
+pub decision_twin : (s : State) (e : NewElement) (now : ℕ) (o : Option ℕ) (r : Result Decision ChangeError) → o ≡ twin_place s e.parts now
+    → IsDecision s e (by_twin s e now o) r → IsDecision s e (by_twin s e now (twin_place s e.parts now)) r
+decision_twin s e now o r at h = subst (λ z. IsDecision s e (by_twin s e now z) r) at h
 
 -- The element that holds the start key decides.
-pub decision_at : (s : State) (parts : List Interval) (x : Option ℕ) (now i : ℕ) (r : Result Decision ChangeError) → Some i ≡ place s (start_key parts) now
-    → IsDecision s parts x (λ c. at_start s i x (same_parts (element_at s i).parts parts)) r → IsDecision s parts x (λ c. by_start s parts x c now (place s (start_key parts) now)) r
-decision_at s parts x now i r at h = subst (λ o. IsDecision s parts x (λ c. by_start s parts x c now o) r) at h
+pub decision_at : (s : State) (e : NewElement) (now i : ℕ) (r : Result Decision ChangeError) → Some i ≡ place s (start_key e.parts) now
+    → IsDecision s e (at_start s i e.expiry (same_parts (element_at s i).parts e.parts)) r → IsDecision s e (by_start s e now (place s (start_key e.parts) now)) r
+decision_at s e now i r at h = subst (λ o. IsDecision s e (by_start s e now o) r) at h
 
 -- What nothing refuses is new.
-pub adds : (s : State) (parts : List Interval) (x : Option ℕ) (why : Option Why) (columns : Vec (List Block)) → IsTest s parts why (Ok columns) → IsDecision s parts x (λ c. add_new s parts x c why) (Ok (Adds columns))
-adds s parts x why columns h = (h.1, λ c. ap (add_new s parts x c) h.0)
+pub adds : (s : State) (e : NewElement) (why : Option Why) (columns : Vec (List Block)) → IsTest s e.parts why (Ok columns) → IsDecision s e (add_new s e why) (Ok (Adds columns))
+adds s e why columns h = (h.1, ap (add_new s e) h.0)
 
-pub adds_none : (s : State) (parts : List Interval) (x : Option ℕ) (why : Option Why) (e : ChangeError) → IsTest s parts why (Err e) → IsDecision s parts x (λ c. add_new s parts x c why) (Err e)
-adds_none s parts x why (errors.Refused cause) h = λ c. ap (add_new s parts x c) h
-adds_none s parts x why errors.Memory h = tt
+pub adds_none : (s : State) (e : NewElement) (why : Option Why) (error : ChangeError) → IsTest s e.parts why (Err error) → IsDecision s e (add_new s e why) (Err error)
+adds_none s e why (errors.Refused cause) h = ap (add_new s e) h
+adds_none s e why errors.Memory h = tt
 
 pub ruleset decides = (adds, adds_none)
 
 -- ---- what follows of a decision
 -- What is done is the answer.
-pub done : (s t : State) (parts : List Interval) (x : Option ℕ) (c : List ℕ) (now : ℕ) (decision : Decision) (came : Came) → IsDecision s parts x (λ z. add s parts x z now) (Ok decision)
-    → said came ≡ comes decision s.next → t ≡ left s parts x c decision → IsAnswer (add s parts x c now) (Ok came) s t
-done s t parts x c now decision came h a b = (a ∙ ap (λ z. z.0) (sym (h.1 c)), b ∙ ap (λ z. z.1) (sym (h.1 c)))
+pub done : (s t : State) (e : NewElement) (now : ℕ) (decision : Decision) (came : Came) → IsDecision s e (add s e now) (Ok decision)
+    → said came ≡ comes decision s.next → t ≡ left s e decision → IsAnswer (add s e now) (Ok came) s t
+done s t e now decision came h a b = (a ∙ ap (λ z. z.0) (sym h.1), b ∙ ap (λ z. z.1) (sym h.1))
 
 -- What is refused leaves the set.
-refused_as : (s : State) (parts : List Interval) (x : Option ℕ) (c : List ℕ) (now : ℕ) (e : ChangeError) → IsDecision s parts x (λ z. add s parts x z now) (Err e)
-    → IsAnswer (add s parts x c now) (Err e) s s
-refused_as s parts x c now (errors.Refused why) h = (ap (λ z. z.0) (sym (h c)), ap (λ z. z.1) (sym (h c)))
-refused_as s parts x c now errors.Memory h = refl
+refused_as : (s : State) (e : NewElement) (now : ℕ) (error : ChangeError) → IsDecision s e (add s e now) (Err error) → IsAnswer (add s e now) (Err error) s s
+refused_as s e now (errors.Refused why) h = (ap (λ z. z.0) (sym h), ap (λ z. z.1) (sym h))
+refused_as s e now errors.Memory h = refl
 
-pub refused : (s : State) (parts : List Interval) (x : Option ℕ) (c : List ℕ) (now : ℕ) (r : Result Came ChangeError) (e : ChangeError) → IsErrAnd r (λ z. z ≡ e)
-    → IsDecision s parts x (λ z. add s parts x z now) (Err e) → IsAnswer (add s parts x c now) r s s
-refused s parts x c now (Ok came) e is h = absurd is
-refused s parts x c now (Err f) e is h = subst (λ z. IsAnswer (add s parts x c now) (Err z) s s) (sym is) (refused_as s parts x c now e h)
+pub refused : (s : State) (e : NewElement) (now : ℕ) (r : Result Came ChangeError) (error : ChangeError) → IsErrAnd r (λ z. z ≡ error)
+    → IsDecision s e (add s e now) (Err error) → IsAnswer (add s e now) r s s
+refused s e now (Ok came) error is h = absurd is
+refused s e now (Err f) error is h = subst (λ z. IsAnswer (add s e now) (Err z) s s) (sym is) (refused_as s e now error h)
 
 -- ---- the keys of intervals that fit
 lt-from : (m n k : ℕ) → nat_le m n ≡ true → nat_lt n k ≡ true → nat_lt m k ≡ true

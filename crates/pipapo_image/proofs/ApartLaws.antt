@@ -1,7 +1,6 @@
 -- How changes keep the live elements of a disjoint set apart.
 use Rattle.std.proofs.Common.{◌≡◌, refl, sym, ◌∙◌, ap, subst, ℕ, zero, suc, ◌≤◌, Bool, true, false, ◌&&◌, nat_lt, List, [], ◌∷◌, ◌++◌, cond, Option, Some, None, arith, inl, inr}
 use Rattle.std.specs.Prelude.{◌⊎◌, not, filter, find, position, remove, slice_get, option_map, if◌then◌else◌}
-use Rattle.std.specs.Option.{option_or}
 use Rattle.std.specs.List.{list_all}
 use Rattle.std.proofs.lemmas.Bool.{and_parts, and_from}
 use Rattle.std.proofs.lemmas.Bool.Decides.{nat_tests}
@@ -10,13 +9,13 @@ use Rattle.std.proofs.lemmas.List.Quantifiers.{position-Some}
 use Rattle.std.proofs.lemmas.Option.{get_or_from_slice_get}
 use Rattle.set_model.specs.declared.kind.Interval.{Interval}
 use Rattle.set_model.specs.declared.element.Element.{Element}
-use Rattle.set_model.specs.declared.report.Why.{Why}
-use Rattle.set_model.specs.declared.report.Why.TheVariants.{Overlap, Full, RulesFull}
-use Rattle.set_model.specs.Key.{start_key, end_key, parts_share}
+use Rattle.set_model.specs.declared.element.NewElement.{NewElement}
+use Rattle.set_model.specs.Key.{start_key, same_parts, parts_share}
 use Rattle.set_model.specs.Expiry.{lives, live, renewed_element, renewed_at}
-use Rattle.set_model.specs.SetState.{State, shares, answers, holds, first, first_sharing, place, in_the_way, refusal, is_full, crowded_field, twin, with_element, renewed, add, add_by, add_again, add_new, is_exactly, without, removed, purged}
+use Rattle.set_model.specs.SetState.{State, shares, is_sharing, answers, holds, element_at, place, same_at, twin_place, start_in_the_way, end_in_the_way, sharing_in_the_way, sharing_place, is_full, crowded_field, with_element, renewed, add, add_by, removed, exact_place, without_at, purged, empty_set, cleared}
 use Rattle.set_model.specs.Apart.{none_share, IsApart}
-use Rattle.pipapo_image.specs.Apart.{KeepsApart}
+use Rattle.set_tables.proofs.RowLaws.{find-none}
+use Rattle.pipapo_image.specs.Image.Apart.{KeepsApart}
 
 -- ---- fewer elements
 
@@ -89,11 +88,10 @@ set_of s None = s
 set_of s (Some found) = found.1
 
 removed-apart : (s left : State) (parts : List Interval) (now id m : ℕ) → removed s parts now ≡ Some (id, left) → IsApart s m → IsApart left m
-removed-apart s left parts now id m h a = go (find (is_exactly parts now) s.elements) (position (is_exactly parts now) s.elements) h where
-  go : (o : Option Element) (p : Option ℕ) → without s o p ≡ Some (id, left) → IsApart left m
-  go None p h = absurd (cc h)
-  go (Some e) None h = absurd (cc h)
-  go (Some e) (Some i) h = subst (λ z. IsApart z m) (ap (set_of s) h) (λ d. thin-apart (living m s.elements) (living m (remove s.elements i)) (thin-removed m i s.elements) (a d))
+removed-apart s left parts now id m h a = go (exact_place s parts now) h where
+  go : (p : Option ℕ) → option_map {U = ℕ × State} (λ i. ((element_at s i).id, without_at s i)) p ≡ Some (id, left) → IsApart left m
+  go None h = absurd (cc h)
+  go (Some i) h = subst (λ z. IsApart z m) (ap (set_of s) h) (λ d. thin-apart (living m s.elements) (living m (remove s.elements i)) (thin-removed m i s.elements) (a d))
 
 thin-purged : (m now : ℕ) (es : List Element) → Thins (living m es) (living m (living now es))
 thin-purged m now [] = tt
@@ -117,17 +115,22 @@ thin-renewed now (suc i) x (e ∷ es) h =
     subst (λ z. Thins (living now (e ∷ es)) (living now z)) (sym (renewed-next e es i x (slice_get es i)))
     (thin-step (live e now) (live e now) e e (living now es) (living now (renewed_at es i x)) refl (λ g. g) (thin-renewed now i x es h))
 
-renewed-apart : (s : State) (key : List ℕ) (now : ℕ) (x : Option ℕ) → IsApart s now → IsApart (renewed s (place s key now) x) now
-renewed-apart s key now x a = go (place s key now) refl where
-  go : (o : Option ℕ) → place s key now ≡ o → IsApart (renewed s o x) now
-  go None h = a
-  go (Some i) h = λ d.
-      thin-apart (living now s.elements) (living now (renewed_at s.elements i x))
-      (thin-renewed now i x s.elements (λ e at.
-      let found = (position-Some (answers key now) s.elements i e h).1 in
-      let here = subst (λ z. answers key now z ≡ true) (get_or_from_slice_get s.elements i e e at) found in
-      (and_parts (live e now) (holds e key) here).0))
-      (a d)
+renewed-apart : (s : State) (key : List ℕ) (now i : ℕ) (x : Option ℕ) → place s key now ≡ Some i → IsApart s now → IsApart (renewed s i x) now
+renewed-apart s key now i x h a = λ d.
+    thin-apart (living now s.elements) (living now (renewed_at s.elements i x))
+    (thin-renewed now i x s.elements (λ e at.
+    let found = (position-Some (answers key now) s.elements i e h).1 in
+    let here = subst (λ z. answers key now z ≡ true) (get_or_from_slice_get s.elements i e e at) found in
+    (and_parts (live e now) (holds e key) here).0))
+    (a d)
+
+-- the element that is there already holds the start key
+twin-at : (s : State) (parts : List Interval) (o : Option ℕ) (i : ℕ) → same_at s parts o ≡ Some i → o ≡ Some i
+twin-at s parts None i h = absurd (cc h)
+twin-at s parts (Some j) i h = go (same_parts (element_at s j).parts parts) h where
+  go : (t : Bool) → (if t then Some j else None) ≡ Some i → Some j ≡ Some i
+  go true h = h
+  go false h = absurd (cc h)
 
 -- ---- a new element
 none-found : (parts : List Interval) (now : ℕ) (es : List Element) → find (λ e. live e now && shares e parts) es ≡ None → list_all (λ e. not (shares e parts)) (living now es) ≡ true
@@ -158,37 +161,34 @@ apart-pushed b n (x ∷ xs) a h =
     let q = and_parts (not (shares x n.parts)) (list_all (λ x. not (shares x n.parts)) xs) h in
     and_from (list_all (λ d. not (shares x d.parts)) (xs ++ cond b (n ∷ []) [])) (none_share (xs ++ cond b (n ∷ []) [])) (all-pushed (λ d. not (shares x d.parts)) b n xs p.0 q.0) (apart-pushed b n xs p.1 q.1)
 
-nothing-first : (o : Option Element) (rest : Option Why) → option_or (option_map (λ e. Overlap e.id) o) rest ≡ None → o ≡ None
-nothing-first None rest h = refl
-nothing-first (Some e) rest h = absurd (cc h)
+new-apart : (s : State) (e : NewElement) (now : ℕ) → (s.disjoint ≡ true → sharing_place s e.parts now ≡ None) → IsApart s now → IsApart (with_element s e) now
+new-apart s e now h a = λ d.
+    let n : Element = record { id = s.next; parts = e.parts; expiry = e.expiry; comment = e.comment } in
+    ap none_share (filter-append (λ x. live x now) s.elements (n ∷ []))
+    ∙ apart-pushed (lives e.expiry now) n (living now s.elements) (a d) (none-found e.parts now s.elements (find-none (is_sharing e.parts now) s.elements (h d)))
 
-new-apart : (s : State) (parts : List Interval) (x : Option ℕ) (c : List ℕ) (now : ℕ) → refusal s parts now ≡ None → IsApart s now → IsApart (with_element s parts x c) now
-new-apart s parts x c now h a = λ d.
-    let n : Element = record { id = s.next; parts = parts; expiry = x; comment = c } in
-    let way : in_the_way s parts now ≡ first_sharing s parts now = ap (λ t. if t then first_sharing s parts now else option_or (first s (start_key parts) now) (first s (end_key parts) now)) d in
-    let none : first_sharing s parts now ≡ None = sym way ∙ nothing-first (in_the_way s parts now) (option_or (if is_full s then Some Full else None) (option_map (λ f. RulesFull f) (crowded_field s parts))) h in
-    ap none_share (filter-append (λ e. live e now) s.elements (n ∷ []))
-    ∙ apart-pushed (lives x now) n (living now s.elements) (a d) (none-found parts now s.elements none)
+-- case by case
+added-now : (s : State) (e : NewElement) (now : ℕ) → IsApart s now → IsApart (add s e now).1 now
+added-now s e now a = go (twin_place s e.parts now) e.expiry (start_in_the_way s e.parts now) (end_in_the_way s e.parts now) (sharing_in_the_way s e.parts now) (is_full s) (crowded_field s e.parts) refl who where
+  who : s.disjoint ≡ true → sharing_place s e.parts now ≡ sharing_in_the_way s e.parts now
+  who d = sym (ap (λ t. if t then sharing_place s e.parts now else None) d)
 
-added-now : (s : State) (parts : List Interval) (x : Option ℕ) (c : List ℕ) (now : ℕ) → IsApart s now → IsApart (add s parts x c now).1 now
-added-now s parts x c now a = go (twin s parts now) where
-  again : (y : Option ℕ) (e : Element) → IsApart (add_again s y (place s (start_key parts) now) e).1 now
-  again None e = a
-  again (Some t) e = renewed-apart s (start_key parts) now (Some t) a
-
-  fresh : (why : Option Why) → refusal s parts now ≡ why → IsApart (add_new s parts x c why).1 now
-  fresh (Some why) h = a
-  fresh None h = new-apart s parts x c now h a
-
-  go : (t : Option Element) → IsApart (add_by s parts x c now t).1 now
-  go (Some e) = again x e
-  go None = fresh (refusal s parts now) refl
+  go : (twin x at_start at_end sharing : Option ℕ) (full : Bool) (crowded : Option ℕ) → twin_place s e.parts now ≡ twin → (s.disjoint ≡ true → sharing_place s e.parts now ≡ sharing)
+      → IsApart (add_by s e twin x at_start at_end sharing full crowded).1 now
+  go (Some i) None at_start at_end sharing full crowded t h = a
+  go (Some i) (Some m) at_start at_end sharing full crowded t h = renewed-apart s (start_key e.parts) now i (Some m) (twin-at s e.parts (place s (start_key e.parts) now) i t) a
+  go None x (Some i) at_end sharing full crowded t h = a
+  go None x None (Some i) sharing full crowded t h = a
+  go None x None None (Some i) full crowded t h = a
+  go None x None None None true crowded t h = a
+  go None x None None None false (Some f) t h = a
+  go None x None None None false None t h = new-apart s e now h a
 
 pub keeps-apart : KeepsApart
 keeps-apart = record {
   empty = λ kinds size disjoint now d. refl;
   later = later;
-  added = λ s parts x c m now h a. added-now s parts x c now (later s m now h a);
+  added = λ s e m now h a. added-now s e now (later s m now h a);
   removed = removed-apart;
   purged = purged-apart;
   cleared = λ s now d. refl;

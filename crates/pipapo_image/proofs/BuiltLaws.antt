@@ -2,7 +2,7 @@
 use Rattle.std.proofs.Common.{◌≡◌, refl, sym, ◌∙◌, ap, subst, ℕ, ◌+◌, ◌<◌, ◌≤◌, ◌⊎◌, inl, inr, List, [], ◌∷◌, ◌++◌, length, get_or, set, arith, length-set, get_or-set_same, get_or-set_other}
 use Rattle.std.proofs.lemmas.Bool.{cases_lt, cases_eq}
 use Rattle.std.proofs.lemmas.List.{get_or_push, get_or_append_left, length_push, get_or_default}
-use Rattle.pipapo_image.specs.Built.{Built, Passed, Each}
+use Rattle.pipapo_image.specs.Index.Built.{Built, Passed, EachChanged}
 
 pub built-none : {X : Type 0} (P : ℕ → X → Type 0) → Built P [] 0
 built-none P = record { one_each = refl; each = λ k d h. absurd (omega arith) }
@@ -38,11 +38,11 @@ passed-more {X} R old now i y d p h r = record {
       let lt : k < i = omega arith in
       rw (get_or-set_other now i k y e ne) (p.done k e lt l)
 
-pub each-same : {X : Type 0} (R : X → X → Type 0) (xs : List X) → ((x : X) → R x x) → Each R xs xs
+pub each-same : {X : Type 0} (R : X → X → Type 0) (xs : List X) → ((x : X) → R x x) → EachChanged R xs xs
 each-same R xs h = record { len = refl; each = λ k d l. h (get_or xs k d) }
 
-pub each-more : {X : Type 0} (R : X → X → Type 0) (old now : List X) (i : ℕ) (y d : X) → ((a b c : X) → R a b → R b c → R a c) → Each R old now → i < length old → R (get_or now i d) y
-    → Each R old (set now i y)
+pub each-more : {X : Type 0} (R : X → X → Type 0) (old now : List X) (i : ℕ) (y d : X) → ((a b c : X) → R a b → R b c → R a c) → EachChanged R old now → i < length old → R (get_or now i d) y
+    → EachChanged R old (set now i y)
 each-more {X} R old now i y d trans p h r = record { len = length-set now i y ∙ p.len; each = λ k e l. go k e l (cases_eq k i) } where
   inside : i < length now
   inside = let n = p.len in omega arith

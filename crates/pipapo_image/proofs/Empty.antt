@@ -8,7 +8,7 @@ use Rattle.lookup_table.specs.declared.table.FieldTable.{FieldTable}
 use Rattle.lookup_table.specs.Width.{width_of}
 use Rattle.mapping_table.specs.Spared.{Spared}
 use Rattle.set_tables.specs.declared.Span.{Span}
-use Rattle.pipapo_image.specs.Standing.{IsTableOf}
+use Rattle.pipapo_image.specs.Index.Standing.{IsTableOf}
 
 pub width-empty : (kind : Kind) → width_of (bits_of kind) 0 ≡ 8
 width-empty Ipv4 = refl

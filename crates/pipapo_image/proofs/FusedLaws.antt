@@ -24,7 +24,7 @@ use Rattle.set_tables.proofs.RowLaws.{length-refilled}
 use Rattle.fused_lookup.specs.Filled.{Refills}
 use Rattle.fused_lookup.specs.Led.{Leads}
 use Rattle.fused_lookup.proofs.MatchLaws.{length-left, left-at}
-use Rattle.pipapo_image.specs.Walk.{IsWalk}
+use Rattle.pipapo_image.specs.Index.Walk.{IsWalk}
 use Rattle.pipapo_image.proofs.Items.{a-table}
 use Rattle.pipapo_image.proofs.WalkLaws.{first-row, next-row}
 

@@ -18,16 +18,21 @@ use Rattle.set_model.specs.SetState.{blocks_of}
 use Rattle.range_expand.specs.Split.{IsInterval}
 use Rattle.range_expand.proofs.SplitLaws.{blocks-within}
 use Rattle.lookup_table.specs.declared.table.FieldTable.{FieldTable}
+use Rattle.lookup_table.specs.Rules.{IsSameField}
 use Rattle.set_tables.specs.Search.{of_field}
 use Rattle.set_tables.proofs.RowLaws.{find-at, find-none}
 use Rattle.mapping_table.proofs.LedLaws.{position-first, position-nowhere}
-use Rattle.pipapo_image.specs.Grow.{IsColumn, IsKept, counts}
+use Rattle.pipapo_image.specs.Index.Grow.{IsColumn, IsKept, counts}
 
 pub kept-same : (t : FieldTable) → IsKept t t
 kept-same t = record { width = refl; bits = refl; rules = refl; stands = λ blocks s. s }
 
 pub kept-trans : (a b c : FieldTable) → IsKept a b → IsKept b c → IsKept a c
 kept-trans a b c p q = record { width = q.width ∙ p.width; bits = q.bits ∙ p.bits; rules = q.rules ∙ p.rules; stands = λ blocks s. q.stands blocks (p.stands blocks s) }
+
+-- a table of the same field with the same rows
+pub kept-by : (a b : FieldTable) → IsSameField a b → b.rules ≡ a.rules → b.buckets.rows ≡ a.buckets.rows → IsKept a b
+kept-by a b same rules rows = record { width = same.width; bits = same.bits; rules = rules; stands = λ blocks s. rw (same.width, same.bits, rules, rows) s }
 
 -- list f of a list, as the code reads it
 pub list-at : {X : Type 0} (xss : List (List X)) (f : ℕ) (xs : List X) → f < length xss → xs ≡ get_or xss f xs → of_field xss f ≡ xs

@@ -23,10 +23,10 @@ use Rattle.set_tables.specs.Tables.{split, field_spans, last_ends}
 use Rattle.set_tables.specs.Search.{of_field}
 use Rattle.set_tables.proofs.UpdateLaws.{spans-append, ends-append}
 use Rattle.pipapo_image.specs.declared.index.Index.{Index}
-use Rattle.pipapo_image.specs.Built.{Built, Each}
-use Rattle.pipapo_image.specs.Grow.{IsColumn, IsKept, HasSpare, IsOther, IsReady, IsGrown, chosen, counts, new_span, is_over}
-use Rattle.pipapo_image.specs.Changes.{AreColumnsOf, IsSameIndex, IsRoomy, AreReady, IsAppended}
-use Rattle.pipapo_image.specs.Standing.{IsTableOf, AreFieldsOf}
+use Rattle.pipapo_image.specs.Index.Built.{Built, EachChanged}
+use Rattle.pipapo_image.specs.Index.Grow.{IsColumn, IsKept, HasSpare, IsOther, IsReady, IsGrownBy, chosen, counts, new_span, is_over}
+use Rattle.pipapo_image.specs.Index.Changes.{AreColumnsOf, IsSameIndex, IsRoomy, AreReady, IsAppended}
+use Rattle.pipapo_image.specs.Index.Standing.{IsTableOf, AreFieldsOf}
 use Rattle.pipapo_image.specs.Index.{IsIndexOf}
 use Rattle.pipapo_image.specs.Image.{IsImage}
 use Rattle.pipapo_image.proofs.GrowLaws.{count-any}
@@ -99,7 +99,7 @@ columns-of s index parts columns i b room =
           omega arith;
     }
 
-kept-fields : (kinds : List Kind) (es : List Element) (old new : List FieldTable) → AreFieldsOf kinds es old → Each IsKept old new → AreFieldsOf kinds es new
+kept-fields : (kinds : List Kind) (es : List Element) (old new : List FieldTable) → AreFieldsOf kinds es old → EachChanged IsKept old new → AreFieldsOf kinds es new
 kept-fields kinds es old new s k =
     let n = s.one_each in
     record {
@@ -158,7 +158,7 @@ ready s old new parts columns others i b o k r =
 rules-more : (kinds : List Kind) (f : ℕ) (es : List Element) (e : Element) → field_rules kinds f (es ++ e ∷ []) ≡ field_rules kinds f es ++ field_blocks kinds f e.parts
 rules-more kinds f es e = flat_map-append (split kinds f) es (e ∷ []) ∙ ap (λ z. field_rules kinds f es ++ z) (append-nil (split kinds f e))
 
-grown-table : (k : Kind) (rules column : List Block) (t u b : FieldTable) (o : Option FieldTable) → IsTableOf k rules t → IsKept t u → IsOther (length column) t o → IsGrown column (chosen o u) b → IsTableOf k (rules ++ column) b
+grown-table : (k : Kind) (rules column : List Block) (t u b : FieldTable) (o : Option FieldTable) → IsTableOf k rules t → IsKept t u → IsOther (length column) t o → IsGrownBy column (chosen o u) b → IsTableOf k (rules ++ column) b
 grown-table k rules column t u b None s kept other g =
     let n = length-append rules column in
     let m = s.stands.one_each in

@@ -16,15 +16,15 @@ use Rattle.set_tables.specs.Tables.{split}
 use Rattle.set_tables.proofs.UpdateLaws.{length-spans, length-ends}
 use Rattle.set_tables.proofs.SearchLaws.{spans-inside}
 use Rattle.pipapo_image.specs.declared.index.Index.{Index}
-use Rattle.pipapo_image.specs.Walk.{IsKeyOf}
-use Rattle.pipapo_image.specs.Index.{IsShaped, IsIndexOf}
+use Rattle.pipapo_image.specs.Index.Walk.{IsKeyOf}
+use Rattle.pipapo_image.specs.Index.{IsShapedIndex, IsIndexOf}
 use Rattle.pipapo_image.specs.Image.{IsImage}
 
 pub field-rules : (kinds : List Kind) (es : List Element) (index : Index) (f : ℕ) (t : FieldTable) → IsIndexOf kinds es index → f < length kinds
     → length (field_rules kinds f es) ≡ (get_or index.fields f t).rules
 field-rules kinds es index f t i h = (i.fields.each f Ipv4 t h).stands.one_each
 
-pub image-shaped : (kinds : List Kind) (es : List Element) (index : Index) → IsImage kinds es index → IsShaped index
+pub image-shaped : (kinds : List Kind) (es : List Element) (index : Index) → IsImage kinds es index → IsShapedIndex index
 image-shaped kinds es index i =
     let n = i.tables.fields.one_each in
     let m = i.tables.maps.one_fewer in

@@ -11,8 +11,8 @@ use Rattle.set_model.specs.declared.element.Element.{Element}
 use Rattle.set_model.specs.SetState.{field_rules}
 use Rattle.set_tables.specs.declared.Span.{Span}
 use Rattle.set_tables.specs.Tables.{field_spans}
-use Rattle.pipapo_image.specs.Walk.{IsWalk, IsKeyOf}
-use Rattle.pipapo_image.specs.Standing.{AreFieldsOf, AreMapsOf}
+use Rattle.pipapo_image.specs.Index.Walk.{IsWalk, IsKeyOf}
+use Rattle.pipapo_image.specs.Index.Standing.{AreFieldsOf, AreMapsOf}
 
 -- the table of field f stands for the elements' rules there
 pub field-stands : (kinds : List Kind) (es : List Element) (fields : List FieldTable) (f : ℕ) (t : FieldTable) → AreFieldsOf kinds es fields → f < length fields → t ≡ get_or fields f t

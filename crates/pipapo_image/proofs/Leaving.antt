@@ -5,8 +5,8 @@ use Rattle.std.proofs.lemmas.List.{take_more, drop_more, length-take-le, get_or_
 use Rattle.std.proofs.lemmas.List.Edits.{remove-append_right}
 use Rattle.set_model.specs.declared.element.Element.{Element}
 use Rattle.set_model.specs.Expiry.{live}
-use Rattle.set_model.specs.SetState.{State}
-use Rattle.pipapo_image.specs.Remove.{without_at, without_expired_at}
+use Rattle.set_model.specs.SetState.{State, without_at}
+use Rattle.pipapo_image.specs.Image.Remove.{without_expired_at}
 use Rattle.pipapo_image.proofs.Renewal.{no_element}
 
 -- the set without those of its elements from place n on that are expired

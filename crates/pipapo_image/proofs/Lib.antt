@@ -9,6 +9,7 @@ pub mod SharingRows
 pub mod EndLaws
 pub mod ImageGrowth
 pub mod AddLaws
+pub mod AddKeeps
 pub mod ApartLaws
 pub mod Renewal
 pub mod FusedLaws
@@ -17,3 +18,4 @@ pub mod RunLaws
 pub mod Shrinking
 pub mod Purging
 pub mod Leaving
+pub mod ExactLaws

@@ -2,11 +2,10 @@
 use Rattle.std.proofs.Common.{◌≡◌, sym, ℕ, ◌<◌, Bool, List, [], ◌∷◌, length, Option, Some, None}
 use Rattle.std.specs.Prelude.{position, IfSome}
 use Rattle.std.proofs.lemmas.List.Quantifiers.{position-Some}
-use Rattle.set_model.specs.SetState.{State, place, answers}
+use Rattle.set_model.specs.SetState.{State, place, answers, sharing_place, is_sharing}
 use Rattle.set_model.specs.declared.kind.Interval.{Interval}
-use Rattle.set_tables.specs.Sharing.{is_sharing}
-use Rattle.pipapo_image.specs.Found.{IsPlace}
-use Rattle.pipapo_image.specs.Sharing.{IsSharingPlace, sharing_place}
+use Rattle.pipapo_image.specs.Image.Found.{IsPlace}
+use Rattle.pipapo_image.specs.Index.Sharing.{IsSharingPlace}
 
 within-by : {X : Type 0} (p : X → Bool) (xs : List X) (o : Option ℕ) → o ≡ position p xs → IfSome o (λ i. i < length xs)
 within-by p xs None h = tt

@@ -14,7 +14,7 @@ use Rattle.set_model.specs.SetState.{State, field_rules, field_blocks, rules_lim
 use Rattle.set_tables.specs.Tables.{split}
 use Rattle.expiry_scan.specs.Expired.{is_expired}
 use Rattle.pipapo_image.specs.declared.index.Index.{Index}
-use Rattle.pipapo_image.specs.Append.{with_last}
+use Rattle.pipapo_image.specs.Image.Append.{with_last}
 use Rattle.pipapo_image.specs.Image.{IsImage}
 use Rattle.pipapo_image.proofs.GrowLaws.{number-none}
 

@@ -16,7 +16,7 @@ use Rattle.set_tables.specs.Rows.{ends_renewed}
 use Rattle.set_tables.specs.Tables.{split, field_spans, last_ends}
 use Rattle.set_tables.proofs.UpdateLaws.{with_expiry, rules-renewed, spans-renewed, ends-renewed}
 use Rattle.pipapo_image.specs.declared.index.Index.{Index}
-use Rattle.pipapo_image.specs.Standing.{IsTableOf}
+use Rattle.pipapo_image.specs.Index.Standing.{IsTableOf}
 use Rattle.pipapo_image.specs.Image.{IsImage}
 
 abbrev pub no_element : Element

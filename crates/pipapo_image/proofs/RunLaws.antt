@@ -16,7 +16,7 @@ use Rattle.set_tables.specs.declared.Span.{Span}
 use Rattle.set_tables.specs.Tables.{split, field_spans}
 use Rattle.set_tables.proofs.UpdateLaws.{length-spans}
 use Rattle.mapping_table.specs.Spared.{Spared}
-use Rattle.pipapo_image.specs.Runs.{IsRun}
+use Rattle.pipapo_image.specs.Index.Runs.{IsRun}
 use Rattle.pipapo_image.proofs.EndLaws.{rules-front}
 use Rattle.pipapo_image.proofs.GrowLaws.{interval-at, column-of}
 use Rattle.pipapo_image.proofs.ImageUse.{parts-long}

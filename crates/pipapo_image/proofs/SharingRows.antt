@@ -21,9 +21,9 @@ use Rattle.set_tables.proofs.SearchLaws.{row-first, row-next}
 use Rattle.range_expand.specs.Split.{IsInterval}
 use Rattle.set_model.specs.Key.{parts_fit}
 use Rattle.pipapo_image.specs.declared.index.Index.{Index}
-use Rattle.pipapo_image.specs.Standing.{AreFieldsOf}
+use Rattle.pipapo_image.specs.Index.Standing.{AreFieldsOf}
 use Rattle.pipapo_image.specs.Image.{IsImage}
-use Rattle.pipapo_image.specs.Sharing.{AreIntervalsOf}
+use Rattle.pipapo_image.specs.Index.Sharing.{AreIntervalsOf}
 use Rattle.pipapo_image.proofs.ImageUse.{parts-long}
 use Rattle.pipapo_image.proofs.GrowLaws.{interval-at}
 

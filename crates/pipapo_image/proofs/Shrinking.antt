@@ -1,9 +1,10 @@
 -- An image without an element is an image.
 use Rattle.std.proofs.Common.{◌≡◌, refl, sym, ◌∙◌, ap, subst, ℕ, suc, ◌+◌, ◌-◌, ◌<◌, ◌≤◌, true, List, length, take, drop, get_or, Option, Some, None, arith, length-append}
-use Rattle.std.specs.Prelude.{All, remove, position}
+use Rattle.std.specs.Prelude.{All, remove, option_map}
 use Rattle.std.proofs.lemmas.List.{length-take-le, length-drop}
 use Rattle.std.proofs.lemmas.List.Elements.{All-append, All-take, All-drop}
 use Rattle.lookup_table.specs.declared.table.FieldTable.{FieldTable}
+use Rattle.lookup_table.specs.Rules.{IsOwn}
 use Rattle.lookup_table.specs.Width.{width_of}
 use Rattle.set_model.specs.declared.block.Block.{Block}
 use Rattle.set_model.specs.declared.kind.Kind.{Kind}
@@ -11,21 +12,18 @@ use Rattle.set_model.specs.declared.element.Element.{Element}
 use Rattle.set_model.specs.Kind.{bits_of}
 use Rattle.set_model.specs.Key.{parts_fit}
 use Rattle.set_model.specs.declared.kind.Interval.{Interval}
-use Rattle.set_model.specs.SetState.{State, field_rules, is_exactly, removed, without as removal}
-use Rattle.set_tables.proofs.RowLaws.{find-at}
-use Rattle.pipapo_image.specs.Found.{element_at}
-use Rattle.pipapo_image.specs.Remove.{without_at}
+use Rattle.set_model.specs.SetState.{State, field_rules, element_at, exact_place, removed, without_at}
 use Rattle.set_tables.specs.declared.Span.{Span}
 use Rattle.set_tables.specs.Rows.{without, spans_without, ends_without}
 use Rattle.set_tables.specs.Tables.{split, field_spans, last_ends}
 use Rattle.set_tables.proofs.UpdateLaws.{rules-without, spans-without, ends-without, spans-later, ends-later}
 use Rattle.pipapo_image.specs.declared.index.Index.{Index}
-use Rattle.pipapo_image.specs.Grow.{chosen}
-use Rattle.pipapo_image.specs.Standing.{IsTableOf}
+use Rattle.pipapo_image.specs.Index.Grow.{chosen}
+use Rattle.pipapo_image.specs.Index.Standing.{IsTableOf}
 use Rattle.pipapo_image.specs.Index.{IsIndexOf}
 use Rattle.pipapo_image.specs.Image.{IsImage}
-use Rattle.pipapo_image.specs.Runs.{IsRun, AreRuns, run_at}
-use Rattle.pipapo_image.specs.Shrink.{IsOtherWithout, AreOthersWithout, IsShrunk, IsDroppable, IsDropped}
+use Rattle.pipapo_image.specs.Index.Runs.{IsRun, AreRuns, run_at}
+use Rattle.pipapo_image.specs.Index.Shrink.{IsOtherWithout, AreOthersWithout, IsShrunk, OwnsRuns, IsDroppable, IsDropped}
 use Rattle.pipapo_image.proofs.ImageUse.{field-rules, image-shaped}
 use Rattle.pipapo_image.proofs.Items.{a-table}
 use Rattle.pipapo_image.proofs.Renewal.{no_element, apart}
@@ -33,9 +31,14 @@ use Rattle.pipapo_image.proofs.RunLaws.{run-count, run-within}
 
 -- ---- before the change
 -- a table, or the other one in its place, has the rules of the list
-pub chosen-rules : (n : ℕ) (t : FieldTable) (o : Option FieldTable) → IsOtherWithout n t o → (chosen o t).rules ≡ t.rules
-chosen-rules n t None h = refl
-chosen-rules n t (Some u) h = h.rules
+pub chosen-rules : (run : Span) (t : FieldTable) (o : Option FieldTable) → IsOtherWithout run t o → (chosen o t).rules ≡ t.rules
+chosen-rules run t None h = refl
+chosen-rules run t (Some u) h = h.rules
+
+-- it is on pages of its own
+chosen-own : (run : Span) (t : FieldTable) (o : Option FieldTable) → IsOtherWithout run t o → IsOwn run.first t.rules t → IsOwn run.first (chosen o t).rules (chosen o t)
+chosen-own run t None h own = own
+chosen-own run t (Some u) h own = h.own
 
 pub runs-few : (kinds : List Kind) (es : List Element) (index : Index) (i : ℕ) (runs : List Span) → IsIndexOf kinds es index → AreRuns kinds es i runs (length kinds)
     → (f : ℕ) (t : FieldTable) → f < length index.fields → (run_at runs f).first + (run_at runs f).count ≤ (get_or index.fields f t).rules
@@ -47,8 +50,8 @@ runs-few kinds es index i runs is r f t h =
     omega arith
 
 pub droppable : (kinds : List Kind) (es : List Element) (index : Index) (i : ℕ) (runs : List Span) (others : List (Option FieldTable)) → IsImage kinds es index → i < length es
-    → AreRuns kinds es i runs (length kinds) → AreOthersWithout index.fields runs others (length index.fields) → IsDroppable index others runs
-droppable kinds es index i runs others image h r o =
+    → AreRuns kinds es i runs (length kinds) → AreOthersWithout index.fields runs others (length index.fields) → OwnsRuns index runs → IsDroppable index others runs
+droppable kinds es index i runs others image h r o own =
     let n = image.tables.fields.one_each in
     let m = image.tables.maps.one_fewer in
     let some = image.some in
@@ -66,8 +69,9 @@ droppable kinds es index i runs others image h r o =
         one_other = o.one_each;
         within = λ f t l.
             let a = runs-few kinds es index i runs image.tables r f t l in
-            let b = chosen-rules (run_at runs f).count (get_or index.fields f t) (get_or others f None) (o.each f None l t) in
+            let b = chosen-rules (run_at runs f) (get_or index.fields f t) (get_or others f None) (o.each f None l t) in
             omega arith;
+        own = λ f t l. chosen-own (run_at runs f) (get_or index.fields f t) (get_or others f None) (o.each f None l t) (own.fields f t l);
       };
       maps = record {
         one_more = omega arith;
@@ -85,7 +89,9 @@ droppable kinds es index i runs others image h r o =
             rw (image.tables.maps.each f d l, here.begins, count, next)
             (subst (λ z. All (λ s. length (split kinds (suc f) e) ≤ s.first) (drop (length (field_rules kinds f (take i es)) + length (split kinds f e)) (field_spans kinds f z))) (sym whole)
             (spans-later (split kinds f) (split kinds (suc f)) (take i es) (drop (suc i) es) e));
+        own = own.maps;
       };
+      ends_own = own.ends;
       ends_within =
           let t = a-table index.fields (omega arith) in
           let a = runs-few kinds es index i runs image.tables r (length kinds - 1) t (omega arith) in
@@ -109,7 +115,7 @@ length-without xs first n h =
     let c = length-drop (first + n) xs in
     omega arith
 
-shrunk-table : (k : Kind) (rules : List Block) (run : Span) (t b : FieldTable) (o : Option FieldTable) → IsTableOf k rules t → IsOtherWithout run.count t o → IsShrunk run (chosen o t) b
+shrunk-table : (k : Kind) (rules : List Block) (run : Span) (t b : FieldTable) (o : Option FieldTable) → IsTableOf k rules t → IsOtherWithout run t o → IsShrunk run (chosen o t) b
     → IsTableOf k (without rules run.first run.count) b
 shrunk-table k rules run t b None s other g =
     let stands = g.stands rules s.stands in
@@ -213,10 +219,9 @@ shrink kinds es old new i runs others image h r o d =
     }
 
 -- ---- the answer of a deletion
-pub removed-at : (s : State) (parts : List Interval) (now i : ℕ) → position (is_exactly parts now) s.elements ≡ Some i → removed s parts now ≡ Some ((element_at s i).id, without_at s i)
-removed-at s parts now i h =
-    ap (λ z. removal s z (position (is_exactly parts now) s.elements)) (find-at (is_exactly parts now) s.elements i no_element h) ∙ ap (λ z. removal s (Some (element_at s i)) z) h
+pub removed-at : (s : State) (parts : List Interval) (now i : ℕ) → exact_place s parts now ≡ Some i → removed s parts now ≡ Some ((element_at s i).id, without_at s i)
+removed-at s parts now i h = ap (option_map (λ j. ((element_at s j).id, without_at s j))) h
 
 -- so it isn't missing
-pub never_missing : (s : State) (parts : List Interval) (now i : ℕ) → Some i ≡ position (is_exactly parts now) s.elements → removed s parts now ≡ None → ⊥
+pub never_missing : (s : State) (parts : List Interval) (now i : ℕ) → Some i ≡ exact_place s parts now → removed s parts now ≡ None → ⊥
 never_missing s parts now i h none = let one = removed-at s parts now i (sym h) in absurd (cc (one, none))

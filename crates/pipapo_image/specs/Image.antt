@@ -1,4 +1,11 @@
 -- What holds of a set's parts at every moment between calls.
+pub mod Apart
+pub mod Append
+pub mod Deciding
+pub mod Decision
+pub mod Found
+pub mod Insert
+pub mod Remove
 use Rattle.std.specs.Prelude.{◌≡◌, ℕ, ◌<◌, ◌≤◌, true, List, length, All}
 use Rattle.set_model.specs.declared.kind.Kind.{Kind}
 use Rattle.set_model.specs.declared.element.Element.{Element}

@@ -1,16 +1,26 @@
 -- An index: its shape, and the list of elements whose tables it is.
+pub mod Built
+pub mod Changes
+pub mod Copied
+pub mod Grow
+pub mod Room
+pub mod Runs
+pub mod Sharing
+pub mod Shrink
+pub mod Standing
+pub mod Walk
 use Rattle.std.specs.Prelude.{◌≡◌, ◌-◌, List, length, get_or}
 use Rattle.lookup_table.specs.declared.table.FieldTable.{FieldTable}
 use Rattle.set_model.specs.declared.kind.Kind.{Kind}
 use Rattle.set_model.specs.declared.element.Element.{Element}
 use Rattle.set_tables.specs.Tables.{last_ends}
 use Rattle.pipapo_image.specs.declared.index.Index.{Index}
-use Rattle.pipapo_image.specs.Walk.{IsWalk}
-use Rattle.pipapo_image.specs.Standing.{AreFieldsOf, AreMapsOf}
+use Rattle.pipapo_image.specs.Index.Walk.{IsWalk}
+use Rattle.pipapo_image.specs.Index.Standing.{AreFieldsOf, AreMapsOf}
 
 -- An index is shaped: at least one field, one mapping fewer than fields, spans inside the next
 -- field's rules, and one end for each rule of the last.
-pub record IsShaped (index : Index) : Type 0 where
+pub record IsShapedIndex (index : Index) : Type 0 where
   pub walk : IsWalk index.fields index.maps
   pub one_end_each : (t : FieldTable) → length index.ends.items ≡ (get_or index.fields (length index.fields - 1) t).rules
 

@@ -1,10 +1,17 @@
-ghost use Rattle.std.specs.Prelude.{◌≡◌, ◌+◌, ◌≤◌, ◌<◌, true, length, OnOk, OnErr, IfOk, IfSome};
+ghost use Rattle.std.specs.Prelude.{◌≡◌, ◌+◌, ◌≤◌, ◌<◌, true, length, All, OnOk, OnErr, IfOk, IfSome};
 ghost use Rattle.set_model.specs.Key.{key_fits, parts_fit};
-ghost use Rattle.set_model.specs.SetState.{place, empty_set};
-ghost use Rattle.pipapo_image.specs.Found.{found, found_at, element_at, IsPlace};
+ghost use Rattle.set_model.specs.SetState.{place, empty_set, cleared, element_at};
+ghost use Rattle.pipapo_image.specs.Image.Found.{found, found_at, IsPlace};
+
+pub(crate) mod append;
+pub(crate) mod decision;
+pub(crate) mod delete;
+pub(crate) mod insert;
+pub(crate) mod purge;
+pub(crate) mod runs;
 
 use crate::index::Index;
-use crate::scratch::Scratch;
+use crate::index::scratch::Scratch;
 use expiry_scan::TimedElements;
 use set_model::{Duplicate, Found, Key, Kinds, Memory};
 use std::alloc::Global;
@@ -15,17 +22,17 @@ use std::marker::Model;
 #[derive(Drop)]
 pub struct SetImage {
     /// What each field of a key is.
-    pub kinds: Kinds,
+    pub(crate) kinds: Kinds,
     /// How many elements it may have.
-    pub size: Option<u32>,
+    pub(crate) size: Option<u32>,
     /// Whether a common key with a live element refuses an addition. [`crate::apart_law`] says at
     /// which moments no two live elements share a key then.
-    pub disjoint: bool,
+    pub(crate) disjoint: bool,
     /// The tables of the elements.
-    pub index: Index,
-    pub elements: TimedElements,
+    pub(crate) index: Index,
+    pub(crate) elements: TimedElements,
     /// The id of the next new element.
-    pub next: u64,
+    pub(crate) next: u64,
 }
 
 impl Model for SetImage {
@@ -66,6 +73,40 @@ impl SetImage {
         })
     }
 
+    /// A set of the same kinds and size without the elements. Ids go on.
+    ///
+    /// # Errors
+    /// `Memory` if there is none left.
+    pub fn emptied(&self, alloc: Global) -> Result<SetImage, Memory>
+        ensures { IfOk result (λ set. set ≡ cleared self.now) }
+    {
+        let mut image = SetImage::new(alloc, &self.kinds, self.size, self.disjoint)?;
+        image.next = self.next;
+        Ok(image)
+    }
+
+    /// What each field of a key is.
+    pub fn kinds(&self) -> &Kinds
+        ensures { result.now ≡ self.now.kinds }
+    {
+        &self.kinds
+    }
+
+    /// Whether a common key with a live element refuses an addition.
+    pub fn is_disjoint(&self) -> bool
+        ensures { result ≡ self.now.disjoint }
+    {
+        self.disjoint
+    }
+
+    /// The elements in order of insertion. Their intervals fit the kinds.
+    pub fn elements(&self) -> &TimedElements
+        ensures same { result.now ≡ self.now.elements }
+        ensures fit { All (λ e. parts_fit self.now.kinds e.parts ≡ true) self.now.elements }
+    {
+        &self.elements
+    }
+
     /// The set's tables. They are those of its elements at every moment between calls.
     pub fn index(&self) -> &Index
         ensures { IsIndexOf self.now.kinds self.now.elements result.now }
@@ -74,11 +115,11 @@ impl SetImage {
     }
 
     /// The place of the first element that is live at `now` and holds the key.
-    pub(crate) fn place(&self, key: &Key, now: u64, scratch: &mut Scratch) -> Option<u64>
+    pub(crate) fn place(&self, key: &[u128], now: u64, scratch: &mut Scratch) -> Option<u64>
         requires { key_fits self.now.kinds key.now ≡ true }
         ensures { IsPlace self.now key.now now result }
     {
-        self.index.find(key, now, scratch)
+        self.index.find_values(key, now, scratch)
     }
 
     /// The place of that element by the textbook lookup, for those who compare the two.
@@ -95,7 +136,7 @@ impl SetImage {
         requires { key_fits self.now.kinds key.now ≡ true }
         ensures { result ≡ found self.now key.now now }
     {
-        self.found_at(self.place(key, now, scratch))
+        self.found_at(self.place(key.as_slice(), now, scratch))
     }
 
     /// The place and the id of the element at a place.

@@ -9,18 +9,34 @@ ghost use Rattle.lookup_table.specs.Rules.{Stands};
 ghost use Rattle.set_tables.specs.Rows.{matched, led_to};
 ghost use Rattle.set_tables.specs.Core.{row_of};
 ghost use Rattle.set_tables.specs.Search.{key_tests};
-ghost use Rattle.pipapo_image.specs.Room.{HasRoom};
-ghost use Rattle.pipapo_image.specs.Walk.{IsWalk, IsKeyOf};
-ghost use Rattle.pipapo_image.specs.Standing.{IsTableOf, AreFieldsOf, AreMapsOf};
+ghost use Rattle.pipapo_image.specs.Index.Room.{HasRoomForRules};
+ghost use Rattle.pipapo_image.specs.Index.Walk.{IsWalk, IsKeyOf};
+ghost use Rattle.pipapo_image.specs.Index.Standing.{IsTableOf, AreFieldsOf, AreMapsOf};
 
-use crate::fused::fused_walk;
-use crate::per_field::{Fields, Maps};
-use crate::scratch::Scratch;
+pub(crate) mod changes;
+pub(crate) mod columns;
+pub(crate) mod copy;
+pub(crate) mod drops;
+pub(crate) mod fused;
+pub(crate) mod grow;
+pub(crate) mod pages;
+pub(crate) mod place;
+pub(crate) mod scratch;
+pub(crate) mod sharing;
+
+use crate::index::fused::fused_walk;
+use crate::index::scratch::Scratch;
 use bit_rows::BitRow;
 use lookup_table::FieldTable;
 use mapping_table::{EndTable, MapTable};
-use set_model::{Key, Kind, Kinds, Memory};
+use set_model::{Key, Kind, Kinds, Listed, Memory};
 use std::alloc::Global;
+
+/// The lookup table of each field.
+pub type Fields = Listed<FieldTable>;
+
+/// The mapping of each field but the last to the next one.
+pub type Maps = Listed<MapTable>;
 
 /// The tables of a list of elements. It holds no interval.
 #[derive(Drop)]
@@ -34,7 +50,7 @@ pub struct Index {
 }
 
 impl Index {
-    ghost use Rattle.pipapo_image.specs.Index.{IsShaped, IsIndexOf};
+    ghost use Rattle.pipapo_image.specs.Index.{IsShapedIndex, IsIndexOf};
 
     /// The tables of no elements, with a field for each kind.
     ///
@@ -64,7 +80,17 @@ impl Index {
     /// every list of elements whose tables these are. `None` where there is none. It takes no
     /// memory.
     pub fn find(&self, key: &Key, now: u64, scratch: &mut Scratch) -> Option<u64>
-        requires shaped { IsShaped self.now }
+        requires shaped { IsShapedIndex self.now }
+        requires key { IsKeyOf self.now.fields key.now }
+        ensures { (kinds : List OneKind) (es : List Element) → IsIndexOf kinds es self.now → All (λ e. length e.parts ≡ length kinds) es
+            → result ≡ position (answers key.now now) es }
+    {
+        self.find_values(key.as_slice(), now, scratch)
+    }
+
+    /// The same of a key whose values stand in a row.
+    pub(crate) fn find_values(&self, key: &[u128], now: u64, scratch: &mut Scratch) -> Option<u64>
+        requires shaped { IsShapedIndex self.now }
         requires key { IsKeyOf self.now.fields key.now }
         ensures { (kinds : List OneKind) (es : List Element) → IsIndexOf kinds es self.now → All (λ e. length e.parts ≡ length kinds) es
             → result ≡ position (answers key.now now) es }
@@ -72,8 +98,8 @@ impl Index {
         fused_walk(
             self.fields.as_slice(),
             self.maps.as_slice(),
-            self.ends.as_slice(),
-            key.as_slice(),
+            &self.ends,
+            key,
             now,
             &mut scratch.here,
             &mut scratch.beyond,
@@ -83,7 +109,7 @@ impl Index {
     /// The same answer by the textbook: the whole row of a field is matched before the next field's
     /// is refilled. It is there to compare with.
     pub fn find_plain(&self, key: &Key, now: u64, scratch: &mut Scratch) -> Option<u64>
-        requires shaped { IsShaped self.now }
+        requires shaped { IsShapedIndex self.now }
         requires key { IsKeyOf self.now.fields key.now }
         ensures { (kinds : List OneKind) (es : List Element) → IsIndexOf kinds es self.now → All (λ e. length e.parts ≡ length kinds) es
             → result ≡ position (answers key.now now) es }
@@ -126,13 +152,13 @@ fn match_field(table: &FieldTable, value: u128, row: &mut BitRow)
 fn walk(fields: &[FieldTable], maps: &[MapTable], key: &[u128], row: &mut BitRow, next: &mut BitRow)
     requires shaped { IsWalk fields.now maps.now }
     requires key { IsKeyOf fields.now key.now }
-    requires room { HasRoom row.old }
-    requires next_room { HasRoom next.old }
+    requires room { HasRoomForRules row.old }
+    requires next_room { HasRoomForRules next.old }
     ensures row { (kinds : List OneKind) (es : List Element) → AreFieldsOf kinds es fields.now → AreMapsOf kinds es maps.now
         → row.new.bits ≡ row_of kinds es (key_tests key.now) (length maps.now) }
     ensures length { (t : Table) → length row.new.bits ≡ (get_or fields.now (length maps.now) t).rules }
-    ensures room { HasRoom row.new }
-    ensures next_room { HasRoom next.new }
+    ensures room { HasRoomForRules row.new }
+    ensures next_room { HasRoomForRules next.new }
 {
     let first = &fields[0];
     row.fill(first.rules, true);

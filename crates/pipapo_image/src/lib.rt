@@ -6,30 +6,13 @@
 #![tactic(auto)]
 
 mod answers;
-mod append;
-mod changes;
-mod columns;
-mod copy;
-mod decision;
-mod delete;
-mod drops;
-mod fused;
-mod grow;
 mod image;
 mod index;
-mod insert;
 mod laws;
-mod per_field;
-mod place;
-mod purge;
-mod runs;
-mod scratch;
-mod sharing;
 
 pub use answers::{Added, ChangeError};
-pub use decision::Decision;
 pub use image::SetImage;
-pub use index::Index;
+pub use image::decision::Decision;
+pub use index::scratch::Scratch;
+pub use index::{Fields, Index, Maps};
 pub use laws::apart_law;
-pub use per_field::{Fields, Maps, PerField};
-pub use scratch::Scratch;

@@ -1,7 +1,7 @@
 use crate::run::{Fault, new_set};
-use crate::workload::parts_at;
+use crate::workload::element_at;
 use pipapo_image::{Scratch, SetImage};
-use set_model::{Comment, Memory, Parts, parts_fit};
+use set_model::{Memory, NewElement, Parts, parts_fit};
 use std::alloc::Global;
 
 /// A set whose copies are changed.
@@ -23,17 +23,17 @@ pub(crate) fn run(
 ) -> Result<u64, Fault> {
     let fields = kinds.len();
     let count = elements.len() / fields.saturating_mul(4).max(1);
-    let mut full = Full::new(alloc, kinds)?;
+    let mut full = Full::new(alloc, kinds, false)?;
     full.fill(elements, fields, count.saturating_sub(1))?;
-    let parts = parts_at(alloc, elements, fields, place_of(count, change))?;
-    Ok(full.change_copies(&parts, rounds, change)?)
+    let element = element_at(alloc, elements, fields, place_of(count, change), None)?;
+    Ok(full.change_copies(&element, rounds, change)?)
 }
 
 /// How many elements of a workload are kept back, to be added to a disjoint set of the others.
 const KEPT_BACK: usize = 1_000;
 
-/// Builds a set of all elements but the last thousand, makes it disjoint, adds the first `count` of
-/// these, and gives how many elements it has then.
+/// Builds a disjoint set of all elements but the last thousand, adds the first `count` of these, and
+/// gives how many elements it has then.
 pub(crate) fn run_disjoint(
     alloc: Global,
     kinds: &[u32],
@@ -44,11 +44,10 @@ pub(crate) fn run_disjoint(
     let all = elements.len() / fields.saturating_mul(4).max(1);
     let built = all.saturating_sub(KEPT_BACK);
     let last = built.saturating_add(count as usize).min(all);
-    let mut full = Full::new(alloc, kinds)?;
+    let mut full = Full::new(alloc, kinds, true)?;
     full.fill(elements, fields, built)?;
-    full.set.disjoint = true;
     full.add(elements, fields, built, last)?;
-    Ok(full.set.elements.len())
+    Ok(full.set.elements().len())
 }
 
 /// The element that is added, the last one, or deleted, one from the middle.
@@ -61,9 +60,9 @@ fn place_of(count: usize, change: u32) -> usize {
 }
 
 impl Full {
-    fn new(alloc: Global, kinds: &[u32]) -> Result<Full, Fault> {
+    fn new(alloc: Global, kinds: &[u32], disjoint: bool) -> Result<Full, Fault> {
         let scratch = Scratch::new(alloc)?;
-        match new_set(alloc, kinds) {
+        match new_set(alloc, kinds, disjoint) {
             Ok(set) => Ok(Full {
                 set,
                 scratch,
@@ -77,8 +76,8 @@ impl Full {
     fn fill(&mut self, elements: &[u64], fields: usize, count: usize) -> Result<(), Memory> {
         for e in 0..count {
             let expiry = if e % 10 == 0 { Some(1) } else { None };
-            let parts = parts_at(self.alloc, elements, fields, e)?;
-            insert(self.alloc, &mut self.set, &parts, expiry, &mut self.scratch);
+            let element = element_at(self.alloc, elements, fields, e, expiry)?;
+            insert(self.alloc, &mut self.set, &element, &mut self.scratch);
         }
         self.set.settle()
     }
@@ -92,16 +91,21 @@ impl Full {
         to: usize,
     ) -> Result<(), Memory> {
         for e in from..to {
-            let parts = parts_at(self.alloc, elements, fields, e)?;
-            insert(self.alloc, &mut self.set, &parts, None, &mut self.scratch);
+            let element = element_at(self.alloc, elements, fields, e, None)?;
+            insert(self.alloc, &mut self.set, &element, &mut self.scratch);
         }
         Ok(())
     }
 
-    fn change_copies(&mut self, parts: &Parts, rounds: u32, change: u32) -> Result<u64, Memory> {
-        let mut left = self.set.elements.len();
+    fn change_copies(
+        &mut self,
+        element: &NewElement,
+        rounds: u32,
+        change: u32,
+    ) -> Result<u64, Memory> {
+        let mut left = self.set.elements().len();
         for _ in 0..rounds {
-            left = change_copy(self.alloc, &self.set, parts, &mut self.scratch, change)?;
+            left = change_copy(self.alloc, &self.set, element, &mut self.scratch, change)?;
         }
         Ok(left)
     }
@@ -112,35 +116,29 @@ impl Full {
 fn change_copy(
     alloc: Global,
     set: &SetImage,
-    parts: &Parts,
+    element: &NewElement,
     scratch: &mut Scratch,
     change: u32,
 ) -> Result<u64, Memory> {
     let mut copy = set.copy(alloc)?;
     match change {
-        1 => insert(alloc, &mut copy, parts, None, scratch),
-        2 => delete(alloc, &mut copy, parts),
+        1 => insert(alloc, &mut copy, element, scratch),
+        2 => delete(alloc, &mut copy, &element.parts, scratch),
         3 => purge(alloc, &mut copy),
         _ => (),
     }
-    Ok(copy.elements.len())
+    Ok(copy.elements().len())
 }
 
 /// Adds an element at moment 0, where it isn't refused.
-fn insert(
-    alloc: Global,
-    set: &mut SetImage,
-    parts: &Parts,
-    expiry: Option<u64>,
-    scratch: &mut Scratch,
-) {
-    if parts_fit(&set.kinds, parts) {
-        let _ = set.insert(alloc, parts, expiry, &Comment::new(alloc), 0, scratch);
+fn insert(alloc: Global, set: &mut SetImage, element: &NewElement, scratch: &mut Scratch) {
+    if parts_fit(set.kinds(), &element.parts) {
+        let _ = set.insert(alloc, element, 0, scratch);
     }
 }
 
-fn delete(alloc: Global, set: &mut SetImage, parts: &Parts) {
-    let _ = set.delete(alloc, parts, 0);
+fn delete(alloc: Global, set: &mut SetImage, parts: &Parts, scratch: &mut Scratch) {
+    let _ = set.delete(alloc, parts, 0, scratch);
 }
 
 fn purge(alloc: Global, set: &mut SetImage) {

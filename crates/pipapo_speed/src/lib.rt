@@ -52,9 +52,9 @@ pub extern "C" fn pipapo_change(
     }
 }
 
-/// Builds a set of all elements but the last thousand, makes it disjoint, and adds the first `count`
-/// of these to it, where none shares a key with them. It gives how many elements the set has then, and
-/// 0 where there is no memory or the workload is no good. The words are those of `pipapo_run`.
+/// Builds a disjoint set of all elements but the last thousand, and adds the first `count` of these to
+/// it, where none shares a key with them. It gives how many elements the set has then, and 0 where there
+/// is no memory or the workload is no good. The words are those of `pipapo_run`.
 #[unsafe(no_mangle)]
 pub extern "C" fn pipapo_disjoint(
     alloc: Global,

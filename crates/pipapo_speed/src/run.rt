@@ -2,9 +2,9 @@ ghost use Rattle.std.specs.Prelude.{◌≡◌, true, All};
 ghost use Rattle.set_model.specs.Key.{key_fits};
 
 use crate::numbers::word_at;
-use crate::workload::{keys_of, kinds_of, parts_at};
+use crate::workload::{element_at, keys_of, kinds_of};
 use pipapo_image::{Added, ChangeError, Scratch, SetImage};
-use set_model::{Comment, Key, Memory, Parts, parts_fit};
+use set_model::{Key, Memory, NewElement, parts_fit};
 use std::alloc::Global;
 
 /// Why nothing was measured.
@@ -49,7 +49,7 @@ pub(crate) fn run(
 impl Measured {
     fn new(alloc: Global, kinds: &[u32]) -> Result<Measured, Fault> {
         let scratch = Scratch::new(alloc)?;
-        match new_set(alloc, kinds) {
+        match new_set(alloc, kinds, false) {
             Ok(set) => Ok(Measured {
                 set,
                 scratch,
@@ -69,8 +69,8 @@ impl Measured {
     }
 
     fn add_one(&mut self, elements: &[u64], fields: usize, e: usize) -> Result<(), Memory> {
-        let parts = parts_at(self.alloc, elements, fields, e)?;
-        match add(self.alloc, &mut self.set, &parts, &mut self.scratch) {
+        let element = element_at(self.alloc, elements, fields, e, None)?;
+        match add(self.alloc, &mut self.set, &element, &mut self.scratch) {
             Ok(true) => note(&mut self.numbers, e as u64),
             Ok(false) => Ok(()),
             Err(memory) => Err(memory),
@@ -85,7 +85,7 @@ impl Measured {
         textbook: bool,
         answers: &mut [u64],
     ) -> Result<(), Memory> {
-        let keys = keys_of(self.alloc, &self.set.kinds, keys, answers.len())?;
+        let keys = keys_of(self.alloc, self.set.kinds(), keys, answers.len())?;
         let scratch = &mut self.scratch;
         look_up_all(
             &self.set,
@@ -109,12 +109,12 @@ impl Measured {
     }
 }
 
-pub(crate) fn new_set(alloc: Global, kinds: &[u32]) -> Result<SetImage, Fault> {
+pub(crate) fn new_set(alloc: Global, kinds: &[u32], disjoint: bool) -> Result<SetImage, Fault> {
     let kinds = kinds_of(alloc, kinds)?;
     if kinds.len() == 0 || kinds.len() > 16 {
         return Err(Fault::Fields);
     }
-    Ok(SetImage::new(alloc, &kinds, None, false)?)
+    Ok(SetImage::new(alloc, &kinds, None, disjoint)?)
 }
 
 fn note(numbers: &mut Vec<u64>, number: u64) -> Result<(), Memory> {
@@ -126,13 +126,13 @@ fn note(numbers: &mut Vec<u64>, number: u64) -> Result<(), Memory> {
 fn add(
     alloc: Global,
     set: &mut SetImage,
-    parts: &Parts,
+    element: &NewElement,
     scratch: &mut Scratch,
 ) -> Result<bool, Memory> {
-    if !parts_fit(&set.kinds, parts) {
+    if !parts_fit(set.kinds(), &element.parts) {
         return Ok(false);
     }
-    match set.insert(alloc, parts, None, &Comment::new(alloc), 0, scratch) {
+    match set.insert(alloc, element, 0, scratch) {
         Ok(Added::New { .. }) => Ok(true),
         Err(ChangeError::Memory) => Err(Memory),
         _ => Ok(false),
@@ -187,13 +187,12 @@ fn plain_round(set: &SetImage, keys: &[Key], scratch: &mut Scratch, answers: &mu
 
 /// The bytes that the rooms of the buckets, the mappings and the ends take.
 fn table_bytes(set: &SetImage) -> u64 {
-    let index = &set.index;
+    let index = set.index();
     let mut bytes = 0u64;
     for f in 0..index.fields.len() {
         let buckets = &index.fields.at(f).buckets;
-        for j in 0..buckets.len() {
-            bytes = bytes.saturating_add(buckets.at(j).room() as u64 / 8);
-        }
+        let row = buckets.room() as u64 / 8;
+        bytes = bytes.saturating_add(buckets.len().saturating_mul(row));
     }
     for f in 0..index.maps.len() {
         bytes = bytes.saturating_add(index.maps.at(f).len() as u64 * 8);

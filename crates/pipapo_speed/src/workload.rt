@@ -2,7 +2,7 @@ ghost use Rattle.std.specs.Prelude.{◌≡◌, true, List, All, IfOk};
 ghost use Rattle.set_model.specs.Key.{key_fits};
 
 use crate::numbers::value_at;
-use set_model::{Interval, Key, Kind, Kinds, Memory, Parts, fits};
+use set_model::{Comment, Interval, Key, Kind, Kinds, Memory, NewElement, Parts, fits};
 use std::alloc::Global;
 
 fn kind_of(number: u32) -> Kind {
@@ -25,12 +25,7 @@ pub(crate) fn kinds_of(alloc: Global, numbers: &[u32]) -> Result<Kinds, Memory> 
 }
 
 /// The intervals of element `e` of sets of so many fields.
-pub(crate) fn parts_at(
-    alloc: Global,
-    elements: &[u64],
-    fields: usize,
-    e: usize,
-) -> Result<Parts, Memory> {
+fn parts_at(alloc: Global, elements: &[u64], fields: usize, e: usize) -> Result<Parts, Memory> {
     let first = e.saturating_mul(fields).saturating_mul(2);
     let mut parts = Vec::new(alloc);
     for f in 0..fields {
@@ -41,6 +36,21 @@ pub(crate) fn parts_at(
         })?;
     }
     Ok(Parts::from_vec(alloc, parts))
+}
+
+/// Element `e` of sets of so many fields, without a comment.
+pub(crate) fn element_at(
+    alloc: Global,
+    elements: &[u64],
+    fields: usize,
+    e: usize,
+    expiry: Option<u64>,
+) -> Result<NewElement, Memory> {
+    Ok(NewElement {
+        parts: parts_at(alloc, elements, fields, e)?,
+        expiry,
+        comment: Comment::new(alloc),
+    })
 }
 
 fn key_at(alloc: Global, keys: &[u64], fields: usize, k: usize) -> Result<Key, Memory> {

@@ -10,7 +10,7 @@ use crate::workload::Workload;
 use gen_publish::{Control, Reader, start};
 use packet_pool::{LookupJudge, OpenGate, run_section};
 use set_model::{
-    Comment, Duplicate, Family, Key, Kinds, Memory, Name, Packet, Packets, Parts, Schema, SetDecl,
+    Duplicate, Family, Key, Kinds, Memory, Name, NewElement, Packet, Packets, Schema, SetDecl,
     Step, Steps, Verb, fits, parts_fit,
 };
 use std::alloc::Global;
@@ -49,32 +49,30 @@ fn schema_of(alloc: Global, kinds: &Kinds) -> Result<Schema, Memory>
 }
 
 /// The addition of an element.
-fn addition(alloc: Global, schema: &Schema, parts: &Parts) -> Result<Step, Fault>
+fn addition(alloc: Global, schema: &Schema, element: &NewElement) -> Result<Step, Fault>
     requires { length schema.now ≡ 1 }
     ensures { IfOk result (IsRunnableStep schema.now) }
 {
-    if !parts_fit(&schema.at(0).kinds, parts) {
+    if !parts_fit(&schema.at(0).kinds, &element.parts) {
         return Err(Fault::Workload);
     }
     Ok(Step::Change {
         line: 1,
         set: 0,
         verb: Verb::Add,
-        parts: parts.copy(alloc)?,
-        expiry: None,
-        comment: Comment::new(alloc),
+        element: element.copy(alloc)?,
         now: 0,
     })
 }
 
 /// Adds the elements, and commits.
-fn additions(alloc: Global, schema: &Schema, elements: &[Parts]) -> Result<Steps, Fault>
+fn additions(alloc: Global, schema: &Schema, elements: &[NewElement]) -> Result<Steps, Fault>
     requires { length schema.now ≡ 1 }
     ensures { IfOk result (All (IsRunnableStep schema.now)) }
 {
     let mut steps = Steps::new(alloc);
-    for parts in elements {
-        steps.push(addition(alloc, schema, parts)?)?;
+    for element in elements {
+        steps.push(addition(alloc, schema, element)?)?;
     }
     steps.push(Step::Commit { now: 0 })?;
     Ok(steps)

@@ -8,7 +8,7 @@ use crate::course::Course;
 use crate::fault::Fault;
 use crate::workload::Workload;
 use gen_publish::{Control, Reader};
-use set_model::{Comment, Packets, Parts};
+use set_model::{NewElement, Packets};
 use std::alloc::Global;
 use std::rt::Runtime;
 use std::thread::{Threads, join, map_vec};
@@ -31,7 +31,7 @@ pub(crate) fn tell<R: Runtime<A = Global> + Threads + Sync>(
 ) -> Result<(), Fault>
     requires { (0 < threads) × (threads ≤ 16) }
 {
-    let Some(parts) = workload.elements.last() else {
+    let Some(element) = workload.elements.last() else {
         return Err(Fault::Workload);
     };
     let keys = workload.keys.len();
@@ -44,7 +44,7 @@ pub(crate) fn tell<R: Runtime<A = Global> + Threads + Sync>(
         } = Course::new(rt, alloc, workload, threads, keys)?;
         rests = rests.max(look_up_all(rt, readers, &packets)?);
         let course = Course::new(rt, alloc, workload, threads, keys)?;
-        let (lookups, time) = beside(rt, alloc, course, parts)?;
+        let (lookups, time) = beside(rt, alloc, course, element)?;
         commits = commits.max(lookups);
         commit = commit.min(time);
     }
@@ -59,7 +59,7 @@ fn beside<R: Clock + Threads + Sync>(
     rt: &R,
     alloc: Global,
     course: Course,
-    parts: &Parts,
+    element: &NewElement,
 ) -> Result<(u128, u128), Fault>
     requires { IsReady course.control course.readers.items course.packets }
 {
@@ -71,7 +71,7 @@ fn beside<R: Clock + Threads + Sync>(
     let packets = &packets;
     let (time, lookups) = join(
         rt,
-        move || commit_on(rt, alloc, &mut control, parts),
+        move || commit_on(rt, &mut control, element),
         move || -> Result<u128, Fault>
             requires { Serve readers.items packets.now }
         { look_up_all(rt, readers, packets) },
@@ -82,19 +82,18 @@ fn beside<R: Clock + Threads + Sync>(
 /// Takes an element out and puts it back, each with a commit, for as long as a run is. It gives the nanoseconds of one.
 fn commit_on(
     clock: &impl Clock,
-    alloc: Global,
     control: &mut Control,
-    parts: &Parts,
+    element: &NewElement,
 ) -> Result<u128, Fault> {
     let begun = Instant::now(clock)?;
     for commits in 1..u64::MAX {
-        if !control.fits(0, parts) || control.number() >= NUMBERS {
+        if !control.fits(0, &element.parts) || control.number() >= NUMBERS {
             return Err(Fault::Workload);
         }
         if commits % 2 == 1 {
-            let _ = control.delete(0, parts, 0);
+            let _ = control.delete(0, &element.parts, 0);
         } else {
-            let _ = control.insert(0, parts, None, &Comment::new(alloc), 0);
+            let _ = control.insert(0, element, 0);
         }
         control.commit(0)?;
         let time = begun.elapsed(clock)?.as_nanos();

@@ -1,13 +1,13 @@
 //! What `checks/workloads.py` writes.
 use crate::fault::Fault;
-use set_model::{Interval, Key, Kind, Kinds, Parts};
+use set_model::{Comment, Interval, Key, Kind, Kinds, NewElement, Parts};
 use std::alloc::Global;
 
 /// The kinds of a set's fields, its elements, and keys that are looked up.
 #[derive(Drop)]
 pub(crate) struct Workload {
     pub(crate) kinds: Kinds,
-    pub(crate) elements: Vec<Parts>,
+    pub(crate) elements: Vec<NewElement>,
     pub(crate) keys: Vec<Key>,
 }
 
@@ -68,7 +68,11 @@ impl Workload {
                 for word in words {
                     parts.push(interval(word)?)?;
                 }
-                self.elements.push(parts)?;
+                self.elements.push(NewElement {
+                    parts,
+                    expiry: None,
+                    comment: Comment::new(alloc),
+                })?;
             }
             Some("k") => {
                 let mut key = Key::new(alloc);

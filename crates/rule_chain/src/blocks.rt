@@ -16,7 +16,7 @@ use crate::rules::rule;
 use crate::words::{is_a_new_chain, policy_word, rules_word};
 use set_model::{Listed, Memory, SetDecl};
 use std::alloc::Global;
-use token_forms::{ReadError, Reader, Seen, short};
+use token_forms::{ReadError, Reader, Seen};
 
 /// A rule, where there may be one more.
 #[tactic(auto, using(token_forms::proofs::Refusals::refusals), unfolding(crate::specs::RulesReading::rule_if, token_forms::specs::Gives::Refuses))]
@@ -33,10 +33,7 @@ fn rule_if(
     if room {
         rule(reader, alloc, schema, chains, rules)
     } else {
-        match reader.take() {
-            Some(t) => Err(t.refused(&[])),
-            None => Err(short()),
-        }
+        Err(reader.next()?.refused(&[]))
     }
 }
 
@@ -129,10 +126,11 @@ fn all_rules(
 fn new_chain<'a>(reader: &mut Reader<'a>, chains: &[Chain]) -> Result<&'a [u8], ReadError>
     ensures { Gives (λ x. x.now) result reader.new (reading.new_chain chains.now reader.old) }
 {
-    match reader.take() {
-        Some(t) if t.is_word() && is_a_new_chain(chains, t.bytes) => Ok(t.bytes),
-        Some(t) => Err(t.refused(&[])),
-        None => Err(short()),
+    let t = reader.next()?;
+    if t.is_word() && is_a_new_chain(chains, t.bytes) {
+        Ok(t.bytes)
+    } else {
+        Err(t.refused(&[]))
     }
 }
 
@@ -175,13 +173,10 @@ fn chain_block(
 fn policy(reader: &mut Reader) -> Result<bool, ReadError>
     ensures { Gives (λ x. x) result reader.new (reading.policy reader.old) }
 {
-    match reader.take() {
-        Some(t) if t.is_word() => match policy_word(t.bytes) {
-            Some(accept) => Ok(accept),
-            None => Err(t.refused(&[])),
-        },
-        Some(t) => Err(t.refused(&[])),
-        None => Err(short()),
+    let t = reader.next()?;
+    match policy_word(t.bytes) {
+        Some(accept) if t.is_word() => Ok(accept),
+        _ => Err(t.refused(&[])),
     }
 }
 
@@ -211,13 +206,10 @@ fn statement_behind(
 fn first_word(reader: &mut Reader, d: &RulesDraft) -> Result<RulesWord, ReadError>
     ensures { Gives (λ x. x) result reader.new (reading.first_word d.now reader.old) }
 {
-    match reader.take() {
-        Some(t) if t.is_word() => match rules_word(d, t.bytes) {
-            Some(word) => Ok(word),
-            None => Err(t.refused(&[])),
-        },
-        Some(t) => Err(t.refused(&[])),
-        None => Err(short()),
+    let t = reader.next()?;
+    match rules_word(d, t.bytes) {
+        Some(word) if t.is_word() => Ok(word),
+        _ => Err(t.refused(&[])),
     }
 }
 

@@ -17,7 +17,7 @@ use crate::chains::{ChainList, Chains};
 use crate::draft::RulesDraft;
 use set_model::{Duplicate, Memory, Schema, SetDecl};
 use std::alloc::Global;
-use token_forms::{BadToken, ReadError, Reader, plain_bad_token_before, short};
+use token_forms::{BadToken, ReadError, Reader, plain_bad_token_before};
 
 /// Why a text isn't read as a rules file.
 pub type RulesError = ReadError;
@@ -29,10 +29,7 @@ fn finished(reader: &mut Reader, d: RulesDraft) -> Result<(ChainList, bool), Rea
 {
     match d.policy {
         Some(accept) => Ok((d.chains, accept)),
-        None => match reader.take() {
-            Some(t) => Err(t.refused(&[])),
-            None => Err(short()),
-        },
+        None => Err(reader.next()?.refused(&[])),
     }
 }
 

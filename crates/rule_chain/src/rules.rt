@@ -11,7 +11,7 @@ use crate::words::{act_word, place_of_chain, test_word};
 use set_model::{Listed, Memory, SetDecl};
 use set_script::{table_place, used_set};
 use std::alloc::Global;
-use token_forms::{ReadError, Reader, Seen, short};
+use token_forms::{ReadError, Reader, Seen};
 
 /// A place in a list as the types of rules have it. No memory holds a list with a place above 32 bits.
 fn as_place(place: usize) -> Result<u32, Memory>
@@ -28,13 +28,10 @@ fn as_place(place: usize) -> Result<u32, Memory>
 fn inside(reader: &mut Reader, tests: u64) -> Result<bool, ReadError>
     ensures { Gives (λ x. x) result reader.new (reading.inside tests reader.old) }
 {
-    match reader.take() {
-        Some(t) if t.is_word() => match test_word(tests, t.bytes) {
-            Some(inside) => Ok(inside),
-            None => Err(t.refused(&[])),
-        },
-        Some(t) => Err(t.refused(&[])),
-        None => Err(short()),
+    let t = reader.next()?;
+    match test_word(tests, t.bytes) {
+        Some(inside) if t.is_word() => Ok(inside),
+        _ => Err(t.refused(&[])),
     }
 }
 
@@ -87,13 +84,10 @@ fn all_tests(reader: &mut Reader, alloc: Global, schema: &[SetDecl]) -> Result<T
 fn earlier_chain(reader: &mut Reader, chains: &[Chain]) -> Result<usize, ReadError>
     ensures { Gives (λ x. x) result reader.new (reading.earlier_chain chains.now reader.old) }
 {
-    match reader.take() {
-        Some(t) if t.is_word() => match place_of_chain(chains, t.bytes) {
-            Some(place) => Ok(place),
-            None => Err(t.refused(&[])),
-        },
-        Some(t) => Err(t.refused(&[])),
-        None => Err(short()),
+    let t = reader.next()?;
+    match place_of_chain(chains, t.bytes) {
+        Some(place) if t.is_word() => Ok(place),
+        _ => Err(t.refused(&[])),
     }
 }
 
@@ -118,13 +112,10 @@ fn act_behind(reader: &mut Reader, chains: &[Chain], word: ActWord) -> Result<Ac
 fn word_of_act(reader: &mut Reader) -> Result<ActWord, ReadError>
     ensures { Gives (λ x. x) result reader.new (reading.word_of_act reader.old) }
 {
-    match reader.take() {
-        Some(t) if t.is_word() => match act_word(t.bytes) {
-            Some(word) => Ok(word),
-            None => Err(t.refused(&[])),
-        },
-        Some(t) => Err(t.refused(&[])),
-        None => Err(short()),
+    let t = reader.next()?;
+    match act_word(t.bytes) {
+        Some(word) if t.is_word() => Ok(word),
+        _ => Err(t.refused(&[])),
     }
 }
 

@@ -2,7 +2,6 @@
 use Rattle.std.proofs.Common.{option_map, ◌≡◌, refl, sym, ◌∙◌, ap, ℕ, zero, suc, ◌+◌, ◌<◌, ◌≤◌, Bool, true, false, if◌then◌else◌, List, [], ◌∷◌, ◌++◌, length, map, take, fold, Option, Some, None, slice_get, arith, All, add-one}
 use Rattle.std.proofs.lemmas.List.{length-map, length-append}
 use Rattle.std.proofs.lemmas.Option.{slice_get-map, slice_get_within}
-use Rattle.set_model.specs.declared.kind.Interval.{Interval}
 use Rattle.set_model.specs.declared.kind.Kind.{Kind}
 use Rattle.set_model.specs.declared.report.Event.{Event}
 use Rattle.set_model.specs.declared.report.Event.TheVariants as events
@@ -13,6 +12,7 @@ use Rattle.set_model.specs.declared.script.Step.TheVariants.{Change, Flush, Comm
 use Rattle.set_model.specs.declared.script.Verb.{Verb}
 use Rattle.set_model.specs.SetState.{State, purged, cleared, empty_set}
 use Rattle.set_model.specs.Control.{Mode, Strict, KeepGoing, Control, start, step, section, history, with_set, answered, changed, changed_set, flushed, refused, rewound, committed}
+use Rattle.set_model.specs.declared.element.NewElement.{NewElement}
 use Rattle.set_space.specs.Open.{Open}
 use Rattle.set_report.specs.Writes.{NamesSet, AreSetsOf}
 use Rattle.gen_publish.specs.Publish.{kinds_of, declared_kinds}
@@ -42,9 +42,9 @@ module _ (P : Control → Type 0) (mode : Mode) (c : Control) (o : Outcomes P mo
   by_answer line set s (None, t) at alike = o.made set s t at alike
   by_answer line set s (Some why, t) at alike = o.refusing line set why (slice_get_within c.sets set s at)
 
-  by_set : (line set : ℕ) (verb : Verb) (parts : List Interval) (expiry : Option ℕ) (comment : List ℕ) (now : ℕ) (s : Option State) → slice_get c.sets set ≡ s → P (changed mode c line set verb parts expiry comment now s)
-  by_set line set verb parts expiry comment now None at = o.nothing
-  by_set line set verb parts expiry comment now (Some s) at = by_answer line set s (changed_set verb s parts expiry comment now) at (change_alike s parts expiry comment now verb)
+  by_set : (line set : ℕ) (verb : Verb) (element : NewElement) (now : ℕ) (s : Option State) → slice_get c.sets set ≡ s → P (changed mode c line set verb element now s)
+  by_set line set verb element now None at = o.nothing
+  by_set line set verb element now (Some s) at = by_answer line set s (changed_set verb s element now) at (change_alike s element now verb)
 
   by_flush : (set : ℕ) (s : Option State) → slice_get c.sets set ≡ s → P (flushed c set s)
   by_flush set None at = o.nothing
@@ -52,7 +52,7 @@ module _ (P : Control → Type 0) (mode : Mode) (c : Control) (o : Outcomes P mo
 
   -- What holds of each outcome holds behind a step.
   pub by_outcome : (s : Step) → P (step mode c s)
-  by_outcome (Change line set verb parts expiry comment now) = either c.failed c _ o.nothing (by_set line set verb parts expiry comment now (slice_get c.sets set) refl)
+  by_outcome (Change line set verb element now) = either c.failed c _ o.nothing (by_set line set verb element now (slice_get c.sets set) refl)
   by_outcome (Flush line set now) = either c.failed c _ o.nothing (by_flush set (slice_get c.sets set) refl)
   by_outcome (Commit now) = either c.failed _ _ (o.rewinding (events.Dropped c.last.number) (λ n. tt)) (o.committing now)
   by_outcome Abort = o.rewinding (events.Aborted c.last.number) (λ n. tt)

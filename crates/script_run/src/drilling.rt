@@ -42,6 +42,7 @@ fn answer_behind<R: Threads + Sync, G: Gate>(
     if !has_numbers(control, steps) {
         return Err(Memory);
     }
+    gate.section(0, 1, 0);
     let SectionResult { events, .. } = run_section(
         rt,
         alloc,
@@ -58,6 +59,7 @@ fn answer_behind<R: Threads + Sync, G: Gate>(
     if !has_numbers(control, &nothing) {
         return Err(Memory);
     }
+    gate.section(1, 1, packets.len());
     let SectionResult { lines, .. } = run_section(
         rt,
         alloc,

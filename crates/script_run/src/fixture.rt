@@ -3,8 +3,8 @@ ghost use Rattle.std.specs.Prelude.{◌≡◌, false, length, All, IfOk, Some};
 ghost use Rattle.set_model.specs.Runnable.{EndsClosed, HasFields, IsFitting, IsRunnable, IsRunnableStep, opens};
 
 use set_model::{
-    Comment, Family, Interval, Key, Keys, Kind, Kinds, Memory, Name, Packet, Packets, Parts,
-    Schema, Script, Sections, SetDecl, Step, Steps, Verb, fits, parts_fit,
+    Comment, Family, Interval, Key, Keys, Kind, Kinds, Memory, Name, NewElement, Packet, Packets,
+    Parts, Schema, Script, Sections, SetDecl, Step, Steps, Verb, fits, parts_fit,
 };
 use std::alloc::Global;
 
@@ -67,9 +67,11 @@ fn change(
         line,
         set: 0,
         verb,
-        parts,
-        expiry: None,
-        comment: Comment::new(alloc),
+        element: NewElement {
+            parts,
+            expiry: None,
+            comment: Comment::new(alloc),
+        },
         now: 0,
     })
 }

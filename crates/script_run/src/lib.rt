@@ -9,6 +9,8 @@ mod drilling;
 mod fixture;
 mod numbers;
 mod output;
+#[cfg(test)]
+mod sections;
 mod teller;
 mod telling;
 #[cfg(test)]

@@ -165,13 +165,18 @@ fn remarks(alloc: Global, schema: &Schema, events: &Events) -> Result<Output, Me
 /// # Errors
 ///
 /// `Memory` where there is none left.
-pub fn listing(alloc: Global, script: Script, keep_going: bool) -> Result<Output, Memory>
+pub fn listing<G: Gate>(
+    alloc: Global,
+    script: Script,
+    keep_going: bool,
+    gate: &G,
+) -> Result<Output, Memory>
     requires script { IsRunnable script }
     ensures text { IfOk result (λ out. out.text.items ≡ listing_text (mode_of keep_going) script) }
     ensures refused { IfOk result (λ out. out.refused ≡ has_refusal (mode_of keep_going) script) }
 {
     let last = script.last;
-    let whole = Whole::run(alloc, script, keep_going)?;
+    let whole = Whole::run(alloc, script, keep_going, gate)?;
     let control = &whole.control;
     let mut output = remarks(alloc, control.schema(), &whole.events)?;
     write_list(
@@ -188,12 +193,17 @@ pub fn listing(alloc: Global, script: Script, keep_going: bool) -> Result<Output
 /// # Errors
 ///
 /// `Memory` where there is none left.
-pub fn dump(alloc: Global, script: Script, keep_going: bool) -> Result<Output, Memory>
+pub fn dump<G: Gate>(
+    alloc: Global,
+    script: Script,
+    keep_going: bool,
+    gate: &G,
+) -> Result<Output, Memory>
     requires script { IsRunnable script }
     ensures text { IfOk result (λ out. out.text.items ≡ tables_text (mode_of keep_going) script) }
     ensures refused { IfOk result (λ out. out.refused ≡ has_refusal (mode_of keep_going) script) }
 {
-    let whole = Whole::run(alloc, script, keep_going)?;
+    let whole = Whole::run(alloc, script, keep_going, gate)?;
     let control = &whole.control;
     let mut output = remarks(alloc, control.schema(), &whole.events)?;
     write_dump(control.schema(), control.generation(), &mut output.text)?;

@@ -21,11 +21,11 @@ fn run<R: Threads + Sync>(
 }
 
 fn list(alloc: Global, acts: &[&[Act]], keep_going: bool) -> Result<Output, Memory> {
-    listing(alloc, script(alloc, acts)?, keep_going)
+    listing(alloc, script(alloc, acts)?, keep_going, &OpenGate)
 }
 
 fn show(alloc: Global, acts: &[&[Act]], keep_going: bool) -> Result<Output, Memory> {
-    dump(alloc, script(alloc, acts)?, keep_going)
+    dump(alloc, script(alloc, acts)?, keep_going, &OpenGate)
 }
 
 pub fn expect(rt: &impl Abort, output: Output, text: &str, refused: bool) {

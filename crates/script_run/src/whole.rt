@@ -6,7 +6,7 @@ ghost use Rattle.packet_pool.specs.Running.{run, Stands};
 
 use crate::numbers::has_numbers;
 use gen_publish::{Control, start};
-use packet_pool::run_steps;
+use packet_pool::{Gate, run_steps};
 use set_model::{Events, Memory, Script};
 use std::alloc::Global;
 
@@ -29,7 +29,12 @@ fn add_all(events: &mut Events, more: &Events) -> Result<(), Memory>
 
 impl Whole {
     /// Runs all sections of a script, without packets.
-    pub fn run(alloc: Global, script: Script, keep_going: bool) -> Result<Whole, Memory>
+    pub fn run<G: Gate>(
+        alloc: Global,
+        script: Script,
+        keep_going: bool,
+        gate: &G,
+    ) -> Result<Whole, Memory>
         requires script { IsRunnable script }
         ensures ends { IfOk result (λ whole. Stands [] (history (mode_of keep_going) script.schema script.sections) (run whole.control false whole.events)) }
         ensures schema { IfOk result (λ whole. whole.control.schema ≡ script.schema) }
@@ -43,11 +48,15 @@ impl Whole {
         } = script;
         let (mut control, _readers) = start(alloc, schema, 1)?;
         let mut events = Events::new(alloc);
+        let last = sections.len().saturating_sub(1);
+        let mut number = 0;
         'sections: for steps in sections.as_slice() {
+            gate.section(number, last, 0);
+            number = number.saturating_add(1);
             if !has_numbers(&control, steps) {
                 return Err(Memory);
             }
-            let told = run_steps(alloc, &mut control, steps, keep_going)?;
+            let told = run_steps(alloc, &mut control, steps, keep_going, gate)?;
             add_all(&mut events, &told)?;
         }
         Ok(Whole { control, events })

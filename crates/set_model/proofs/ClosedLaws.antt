@@ -12,7 +12,7 @@ commit-ends mode c now = go c.failed refl where
   go false e = rw e refl
 
 last-ends : (mode : Mode) (c : Control) (s : Step) → opens (Some s) ≡ false → (step mode c s).failed ≡ false
-last-ends mode c (Change line set verb parts expiry comment now) e = absurd (cc e)
+last-ends mode c (Change line set verb x now) e = absurd (cc e)
 last-ends mode c (Flush line set now) e = absurd (cc e)
 last-ends mode c (Commit now) e = commit-ends mode c now
 last-ends mode c Abort e = refl

@@ -1,3 +1,4 @@
 pub mod BlockLaws
 pub mod ClosedLaws
 mod Worked
+pub mod LentLaws

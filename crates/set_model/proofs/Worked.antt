@@ -1,10 +1,12 @@
 -- Worked examples of the definitions. They compute: a wrong number here is refused.
-use Rattle.std.specs.Prelude.{◌≡◌, refl, ℕ, zero, suc, ◌+◌, ◌-◌, ◌^◌, List, [], ◌∷◌, map, find, Some, None, Option, Bool, length, true, false, codes}
-use Rattle.std.proofs.Common.{ap}
+use Rattle.std.specs.Prelude.{◌≡◌, refl, ℕ, zero, suc, ◌+◌, ◌-◌, ◌^◌, List, [], ◌∷◌, map, Some, None, Option, Bool, length, true, false, codes}
+use Rattle.std.proofs.Common.{ap, ◌∙◌, arith}
+use Rattle.std.specs.List.{position_or_len}
 use Rattle.std.specs.Fmt.{digits}
 use Rattle.set_model.specs.declared.kind.Kind.TheVariants.{Service}
 use Rattle.set_model.specs.declared.kind.Interval.{Interval}
 use Rattle.set_model.specs.declared.element.Element.{Element}
+use Rattle.set_model.specs.declared.element.NewElement.{NewElement}
 use Rattle.set_model.specs.declared.report.Why.TheVariants.{Overlap, Exists, Missing, Full, RulesFull}
 use Rattle.set_model.specs.declared.report.Event.TheVariants.{Refused, Committed, Aborted, Dropped}
 use Rattle.set_model.specs.declared.report.Line.{Line}
@@ -37,20 +39,24 @@ ids s = map (λ e. e.id) s.elements
 abbrev of_ports : Bool → State
 of_ports disjoint = empty_set (Service ∷ []) None disjoint
 
+-- an element of these intervals without a comment
+abbrev element : List Interval → Option ℕ → NewElement
+element parts expiry = record { parts = parts; expiry = expiry; comment = [] }
+
 -- a set after an addition at moment 0
 abbrev plus : State → List Interval → Option ℕ → State
-plus s parts expiry = (add s parts expiry [] 0).1
+plus s parts expiry = (add s (element parts expiry) 0).1
 
 -- 10-20 and then 5-30: neither end of the second lies in the first, so it is added.
-encloses : (add (plus (of_ports false) (ports 10 20) None) (ports 5 30) None [] 0).0 ≡ New 1
+encloses : (add (plus (of_ports false) (ports 10 20) None) (element (ports 5 30) None) 0).0 ≡ New 1
 encloses = refl
 
 -- 5-30 and then 10-20: the start of the second lies in the first.
-overlaps : (add (plus (of_ports false) (ports 5 30) None) (ports 10 20) None [] 0).0 ≡ IsRefused (Overlap 0)
+overlaps : (add (plus (of_ports false) (ports 5 30) None) (element (ports 10 20) None) 0).0 ≡ IsRefused (Overlap 0)
 overlaps = refl
 
 -- 5-30 and then 1-10: the end of the second lies in the first.
-overlaps_at_end : (add (plus (of_ports false) (ports 5 30) None) (ports 1 10) None [] 0).0 ≡ IsRefused (Overlap 0)
+overlaps_at_end : (add (plus (of_ports false) (ports 5 30) None) (element (ports 1 10) None) 0).0 ≡ IsRefused (Overlap 0)
 overlaps_at_end = refl
 
 -- Between 10-20 and 5-30 the earlier inserted one answers 15, and the other one 25.
@@ -61,20 +67,20 @@ earliest : map (λ key. place two_ranges key 0) ((15 ∷ []) ∷ (7 ∷ []) ∷ 
 earliest = refl
 
 -- The same interval again is there already, and with an expiry it is renewed and keeps its place.
-already : (add two_ranges (ports 5 30) None [] 0).0 ≡ Already 1
+already : (add two_ranges (element (ports 5 30) None) 0).0 ≡ Already 1
 already = refl
 
-renewed : (add (plus two_ranges (port 80) (Some 30000)) (port 80) (Some 50000) [] 20000).0 ≡ Renewed 2
+renewed : (add (plus two_ranges (port 80) (Some 30000)) (element (port 80) (Some 50000)) 20000).0 ≡ Renewed 2
 renewed = refl
 
-renewed_expiry : map (λ e. e.expiry) (add (plus two_ranges (port 80) (Some 30000)) (port 80) (Some 50000) [] 20000).1.elements ≡ None ∷ None ∷ Some 50000 ∷ []
+renewed_expiry : map (λ e. e.expiry) (add (plus two_ranges (port 80) (Some 30000)) (element (port 80) (Some 50000)) 20000).1.elements ≡ None ∷ None ∷ Some 50000 ∷ []
 renewed_expiry = refl
 
 -- An expired element stands in nobody's way, and counts towards the size.
-expired_is_added : (add (plus (of_ports false) (port 80) (Some 30000)) (port 80) None [] 30000).0 ≡ New 1
+expired_is_added : (add (plus (of_ports false) (port 80) (Some 30000)) (element (port 80) None) 30000).0 ≡ New 1
 expired_is_added = refl
 
-full : (add (plus (empty_set (Service ∷ []) (Some 1) false) (port 80) (Some 30000)) (port 81) None [] 30000).0 ≡ IsRefused Full
+full : (add (plus (empty_set (Service ∷ []) (Some 1) false) (port 80) (Some 30000)) (element (port 81) None) 30000).0 ≡ IsRefused Full
 full = refl
 
 -- A field has at most 1,048,576 rules. So many elements of port 80, each expired at once, have one rule each; they stand in
@@ -91,28 +97,33 @@ unfolding expired_from
 expired_rules id zero = refl
 expired_rules id (suc n) = ap suc (expired_rules (id + 1) n)
 
-none_answers : (id n : ℕ) (key : List ℕ) → find (answers key 0) (expired_from id n) ≡ None
+none_answers : (id n : ℕ) (key : List ℕ) → position_or_len (answers key 0) (expired_from id n) ≡ n
 unfolding expired_from
 none_answers id zero key = refl
-none_answers id (suc n) key = none_answers (id + 1) n key
+none_answers id (suc n) key = ap (λ k. 1 + k) (none_answers (id + 1) n key) ∙ omega arith
 
-too_many_rules : (add (expired_ports 1048576) (port 80) None [] 0).0 ≡ IsRefused (RulesFull 0)
-too_many_rules = simp (none_answers, expired_rules) refl
+so_many : (id n : ℕ) → length (expired_from id n) ≡ n
+unfolding expired_from
+so_many id zero = refl
+so_many id (suc n) = ap suc (so_many (id + 1) n)
 
-as_many_as_may_be : (add (expired_ports 1048575) (port 80) None [] 0).0 ≡ New 1048575
-as_many_as_may_be = simp (none_answers, expired_rules) refl
+too_many_rules : (add (expired_ports 1048576) (element (port 80) None) 0).0 ≡ IsRefused (RulesFull 0)
+too_many_rules = simp (none_answers, so_many, expired_rules) refl
+
+as_many_as_may_be : (add (expired_ports 1048575) (element (port 80) None) 0).0 ≡ New 1048575
+as_many_as_may_be = simp (none_answers, so_many, expired_rules) refl
 
 -- In a disjoint set every shared key is refused, and neighbours are not.
-shared_key : (add (plus (of_ports true) (ports 10 20) None) (ports 5 30) None [] 0).0 ≡ IsRefused (Overlap 0)
+shared_key : (add (plus (of_ports true) (ports 10 20) None) (element (ports 5 30) None) 0).0 ≡ IsRefused (Overlap 0)
 shared_key = refl
 
-neighbours : (add (plus (of_ports true) (ports 10 20) None) (ports 5 9) None [] 0).0 ≡ New 1
+neighbours : (add (plus (of_ports true) (ports 10 20) None) (element (ports 5 9) None) 0).0 ≡ New 1
 neighbours = refl
 
 -- A disjoint set of 10-20, which expires at 30,000, and of 5-30, which was added then. From that moment
 -- on they are apart. At an earlier one both are live and share 15.
 abbrev added_behind : State
-added_behind = (add (plus (of_ports true) (ports 10 20) (Some 30000)) (ports 5 30) None [] 30000).1
+added_behind = (add (plus (of_ports true) (ports 10 20) (Some 30000)) (element (ports 5 30) None) 30000).1
 
 apart_from_then_on : map (is_apart added_behind) (30000 ∷ 30001 ∷ []) ≡ true ∷ true ∷ []
 apart_from_then_on = refl
@@ -121,7 +132,7 @@ not_apart_before : is_apart added_behind 29999 ≡ false
 not_apart_before = refl
 
 -- Where moments fall, a renewal at the earlier one keeps both live at the later one too.
-renewed_before : is_apart (add added_behind (ports 10 20) (Some 50000) [] 29999).1 30000 ≡ false
+renewed_before : is_apart (add added_behind (element (ports 10 20) (Some 50000)) 29999).1 30000 ≡ false
 renewed_before = refl
 
 -- An element with an expiry of 30,000 is live at 29,999 and expired at 30,000.
@@ -178,7 +189,7 @@ abbrev one_set : List SetDecl
 one_set = declared_set (codes "p") ∷ []
 
 abbrev added : ℕ → List Interval → Step
-added line parts = Change line 0 Add parts None [] 0
+added line parts = Change line 0 Add (element parts None) 0
 
 -- A refused change ends the transaction in strict mode, and is skipped where it keeps going.
 abbrev overlapping : List Step
@@ -205,14 +216,14 @@ aborted_ids : map ids (history Strict one_set ((added 2 (port 80) ∷ Commit 0 �
 aborted_ids = refl
 
 -- `create` refuses what exists, `delete` what is missing, and `destroy` nothing.
-created_twice : (history Strict one_set ((added 2 (port 80) ∷ Change 3 0 Create (port 80) None [] 0 ∷ Commit 0 ∷ []) ∷ [])).events ≡ Refused 3 0 (Exists 0) ∷ Dropped 0 ∷ []
+created_twice : (history Strict one_set ((added 2 (port 80) ∷ Change 3 0 Create (element (port 80) None) 0 ∷ Commit 0 ∷ []) ∷ [])).events ≡ Refused 3 0 (Exists 0) ∷ Dropped 0 ∷ []
 created_twice = refl
 
-destroyed_and_deleted : (history Strict one_set ((Change 2 0 Destroy (port 80) None [] 0 ∷ Change 3 0 Delete (port 80) None [] 0 ∷ Commit 0 ∷ []) ∷ [])).events ≡ Refused 3 0 Missing ∷ Dropped 0 ∷ []
+destroyed_and_deleted : (history Strict one_set ((Change 2 0 Destroy (element (port 80) None) 0 ∷ Change 3 0 Delete (element (port 80) None) 0 ∷ Commit 0 ∷ []) ∷ [])).events ≡ Refused 3 0 Missing ∷ Dropped 0 ∷ []
 destroyed_and_deleted = refl
 
 -- A commit purges and says how many elements it purged.
-purged_at_commit : (history Strict one_set ((Change 2 0 Add (port 80) (Some 30000) [] 0 ∷ Commit 0 ∷ Change 4 0 Add (port 80) None [] 30000 ∷ Commit 30000 ∷ []) ∷ [])).events
+purged_at_commit : (history Strict one_set ((Change 2 0 Add (element (port 80) (Some 30000)) 0 ∷ Commit 0 ∷ Change 4 0 Add (element (port 80) None) 30000 ∷ Commit 30000 ∷ []) ∷ [])).events
     ≡ Committed 1 0 ∷ Committed 2 1 ∷ []
 purged_at_commit = refl
 
@@ -220,7 +231,7 @@ purged_at_commit = refl
 abbrev two_sets : List SetDecl
 two_sets = declared_set (codes "p") ∷ declared_set (codes "q") ∷ []
 
-other_untouched : map ids (history Strict two_sets ((added 3 (port 80) ∷ Change 4 1 Add (port 6) None [] 0 ∷ Commit 0 ∷ Change 6 0 Delete (port 80) None [] 0 ∷ Commit 0 ∷ []) ∷ [])).last.sets ≡ [] ∷ (0 ∷ []) ∷ []
+other_untouched : map ids (history Strict two_sets ((added 3 (port 80) ∷ Change 4 1 Add (element (port 6) None) 0 ∷ Commit 0 ∷ Change 6 0 Delete (element (port 80) None) 0 ∷ Commit 0 ∷ []) ∷ [])).last.sets ≡ [] ∷ (0 ∷ []) ∷ []
 other_untouched = refl
 
 -- The text of a run: two elements are committed, and of two packets one matches.

@@ -1,7 +1,7 @@
 -- What a script does: generations, transactions, refusals (nft(8): a file is applied in whole transactions).
 use Rattle.std.specs.Prelude.{ℕ, ◌+◌, Bool, true, false, List, [], ◌∷◌, ◌++◌, map, if◌then◌else◌, not, Option, Some, None, slice_get, slice_set, fold, count_by}
 use Rattle.std.specs.List.{sum_by as total_by, list_any}
-use Rattle.set_model.specs.declared.kind.Interval.{Interval}
+use Rattle.set_model.specs.declared.element.NewElement.{NewElement}
 use Rattle.set_model.specs.declared.script.Step.{Step}
 use Rattle.set_model.specs.declared.script.Step.TheVariants.{Change, Flush, Commit, Abort}
 use Rattle.set_model.specs.declared.script.Verb.{Verb}
@@ -13,7 +13,7 @@ use Rattle.set_model.specs.declared.report.Event.TheVariants as events
 use Rattle.set_model.specs.declared.script.SetDecl.{SetDecl}
 use Rattle.set_model.specs.declared.script.Script.{Script}
 use Rattle.set_model.specs.Expiry.{live}
-use Rattle.set_model.specs.SetState.{State, Added, New, Already, Renewed, Refused, add, removed, purged, cleared, empty_set}
+use Rattle.set_model.specs.SetState.{State, Addition, New, Already, Renewed, Refused, add, removed, purged, cleared, empty_set}
 
 -- A committed version of all sets, and its number.
 pub record Generation : Type 0 where
@@ -54,15 +54,15 @@ abbrev pub refused : Mode → Control → ℕ → ℕ → Why → Control
 refused Strict c line set why = record (told c (events.Refused line set why)) { failed = true }
 refused KeepGoing c line set why = told c (events.Refused line set why)
 
--- what an addition is to `add`: refused, or the set that it leaves
-abbrev pub as_added : Added × State → Option Why × State
+-- what an addition is to the verb `add`: refused, or the set that it leaves
+abbrev pub as_added : Addition × State → Option Why × State
 as_added (Refused why, s) = (Some why, s)
 as_added (New id, s) = (None, s)
 as_added (Already id, s) = (None, s)
 as_added (Renewed id, s) = (None, s)
 
 -- what an addition to the set s is to `create`, which refuses elements that exist
-abbrev pub as_created : State → Added × State → Option Why × State
+abbrev pub as_created : State → Addition × State → Option Why × State
 as_created s (Refused why, t) = (Some why, s)
 as_created s (New id, t) = (None, t)
 as_created s (Already id, t) = (Some (causes.Exists id), s)
@@ -79,11 +79,11 @@ as_destroyed s None = (None, s)
 as_destroyed s (Some found) = (None, found.1)
 
 -- The answer to a change of one set: the cause that refuses it or none, and the set that it leaves.
-abbrev pub changed_set : Verb → State → List Interval → Option ℕ → List ℕ → ℕ → Option Why × State
-changed_set verbs.Add s parts expiry comment now = as_added (add s parts expiry comment now)
-changed_set verbs.Create s parts expiry comment now = as_created s (add s parts expiry comment now)
-changed_set verbs.Delete s parts expiry comment now = as_deleted s (removed s parts now)
-changed_set verbs.Destroy s parts expiry comment now = as_destroyed s (removed s parts now)
+abbrev pub changed_set : Verb → State → NewElement → ℕ → Option Why × State
+changed_set verbs.Add s e now = as_added (add s e now)
+changed_set verbs.Create s e now = as_created s (add s e now)
+changed_set verbs.Delete s e now = as_deleted s (removed s e.parts now)
+changed_set verbs.Destroy s e now = as_destroyed s (removed s e.parts now)
 
 abbrev pub with_set : Control → ℕ → State → Control
 with_set c set s = record c { sets = slice_set c.sets set s }
@@ -94,9 +94,9 @@ answered mode c line set (Some why, s) = refused mode c line set why
 answered mode c line set (None, s) = with_set c set s
 
 -- a change of a set that is there
-abbrev pub changed : Mode → Control → ℕ → ℕ → Verb → List Interval → Option ℕ → List ℕ → ℕ → Option State → Control
-changed mode c line set verb parts expiry comment now None = c
-changed mode c line set verb parts expiry comment now (Some s) = answered mode c line set (changed_set verb s parts expiry comment now)
+abbrev pub changed : Mode → Control → ℕ → ℕ → Verb → NewElement → ℕ → Option State → Control
+changed mode c line set verb e now None = c
+changed mode c line set verb e now (Some s) = answered mode c line set (changed_set verb s e now)
 
 abbrev pub flushed : Control → ℕ → Option State → Control
 flushed c set None = c
@@ -122,8 +122,7 @@ rewound c event = record (told c event) { sets = c.last.sets; failed = false }
 
 -- One step of a script. A failed transaction does nothing until its end, which drops it.
 abbrev pub step : Mode → Control → Step → Control
-step mode c (Change line set verb parts expiry comment now) =
-    if c.failed then c else changed mode c line set verb parts expiry comment now (slice_get c.sets set)
+step mode c (Change line set verb e now) = if c.failed then c else changed mode c line set verb e now (slice_get c.sets set)
 step mode c (Flush line set now) = if c.failed then c else flushed c set (slice_get c.sets set)
 step mode c (Commit now) = if c.failed then rewound c (events.Dropped c.last.number) else committed c now
 step mode c Abort = rewound c (events.Aborted c.last.number)

@@ -1,4 +1,5 @@
 pub mod Contents
+pub mod Lent
 pub mod Kind
 pub mod Key
 pub mod Blocks

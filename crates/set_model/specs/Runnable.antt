@@ -14,7 +14,7 @@ pub record HasFields (d : SetDecl) : Type 0 where
 
 -- A change and a flush are of a declared set, and a change's intervals fit the set's kinds.
 abbrev pub IsRunnableStep : List SetDecl → Step → Type 0
-IsRunnableStep schema (Change line set verb parts expiry comment now) = (d : SetDecl) × (slice_get schema set ≡ Some d) × IsTrue (parts_fit d.kinds parts)
+IsRunnableStep schema (Change line set verb e now) = (d : SetDecl) × (slice_get schema set ≡ Some d) × IsTrue (parts_fit d.kinds e.parts)
 IsRunnableStep schema (Flush line set now) = (d : SetDecl) × (slice_get schema set ≡ Some d)
 IsRunnableStep schema (Commit now) = Unit {0}
 IsRunnableStep schema Abort = Unit {0}
@@ -22,7 +22,7 @@ IsRunnableStep schema Abort = Unit {0}
 -- A change or a flush leaves its transaction open; a commit and an abort end it.
 abbrev pub opens : Option Step → Bool
 opens None = false
-opens (Some (Change line set verb parts expiry comment now)) = true
+opens (Some (Change line set verb e now)) = true
 opens (Some (Flush line set now)) = true
 opens (Some (Commit now)) = false
 opens (Some Abort) = false

@@ -1,11 +1,12 @@
 -- A set by the list of its elements: what a lookup finds, and what changes the list.
-use Rattle.std.specs.Prelude.{ℕ, ◌+◌, ◌-◌, ◌^◌, Bool, false, ◌&&◌, ◌||◌, nat_lt, nat_le, ◌==◌, List, [], ◌∷◌, ◌++◌, length, if◌then◌else◌, Option, Some, None, filter, find, position, option_map, slice_get}
-use Rattle.std.specs.Option.{option_or, option_map_or}
+use Rattle.std.specs.Prelude.{ℕ, ◌+◌, ◌-◌, ◌^◌, Bool, true, false, ◌&&◌, ◌||◌, nat_lt, nat_le, ◌==◌, List, [], ◌∷◌, ◌++◌, length, if◌then◌else◌, Option, Some, None, filter, find, position, option_map, slice_get, get_or}
+use Rattle.std.specs.Option.{option_map_or}
 use Rattle.std.specs.List.{remove, flat_map, range_with_len}
 use Rattle.set_model.specs.declared.kind.Kind.{Kind}
 use Rattle.set_model.specs.declared.kind.Interval.{Interval}
 use Rattle.set_model.specs.declared.block.Block.{Block}
 use Rattle.set_model.specs.declared.element.Element.{Element}
+use Rattle.set_model.specs.declared.element.NewElement.{NewElement}
 use Rattle.set_model.specs.declared.report.Why.{Why}
 use Rattle.set_model.specs.declared.report.Why.TheVariants.{Overlap, Full, RulesFull}
 use Rattle.set_model.specs.Kind.{bits_of}
@@ -41,13 +42,21 @@ first s key now = find (answers key now) s.elements
 abbrev pub place : State → List ℕ → ℕ → Option ℕ
 place s key now = position (answers key now) s.elements
 
+-- The element at a place of the list. Past the list's end, where nobody asks, it is one of no intervals.
+abbrev pub element_at : State → ℕ → Element
+element_at s i = get_or s.elements i (record { id = 0; parts = []; expiry = None; comment = [] })
+
 -- An element shares a key with intervals: some key lies in both.
 abbrev pub shares : Element → List Interval → Bool
 shares e parts = parts_share e.parts parts
 
--- The first live element that shares a key with the intervals.
-abbrev pub first_sharing : State → List Interval → ℕ → Option Element
-first_sharing s parts now = find (λ e. live e now && shares e parts) s.elements
+-- An element stands in the way of intervals at a moment: it is live then and shares a key with them.
+abbrev pub is_sharing : List Interval → ℕ → Element → Bool
+is_sharing parts now e = live e now && shares e parts
+
+-- the place of the first such element
+abbrev pub sharing_place : State → List Interval → ℕ → Option ℕ
+sharing_place s parts now = position (is_sharing parts now) s.elements
 
 -- At most so many rules stand in a field.
 abbrev pub rules_limit : ℕ
@@ -79,80 +88,79 @@ crowded_field s parts = find (is_crowded s parts) (range_with_len 0 (length s.ki
 abbrev pub is_full : State → Bool
 is_full s = option_map_or (λ size. nat_le size (length s.elements)) s.size false || (s.next == 2 ^ 64 - 1)
 
--- The element that stands in the way of intervals. In a disjoint set it is the first that shares a
--- key. Else it is the one that holds the start key, or the one that holds the end key: no other
--- overlap is looked for.
-abbrev pub in_the_way : State → List Interval → ℕ → Option Element
-in_the_way s parts now =
-    if s.disjoint
-    then first_sharing s parts now
-    else option_or (first s (start_key parts) now) (first s (end_key parts) now)
+-- a place, where the element there has these intervals
+abbrev pub same_at : State → List Interval → Option ℕ → Option ℕ
+same_at s parts None = None
+same_at s parts (Some i) = if same_parts (element_at s i).parts parts then Some i else None
 
--- Why new intervals are refused: an overlap, then a full set, then a field with too many rules.
-abbrev pub refusal : State → List Interval → ℕ → Option Why
-refusal s parts now =
-    option_or (option_map (λ e. Overlap e.id) (in_the_way s parts now))
-    (option_or (if is_full s then Some Full else None)
-    (option_map (λ f. RulesFull f) (crowded_field s parts)))
+-- The place of the element that is there already: the first live one that holds the start key, where it
+-- has the same intervals.
+abbrev pub twin_place : State → List Interval → ℕ → Option ℕ
+twin_place s parts now = same_at s parts (place s (start_key parts) now)
 
--- an element where it has these intervals
-abbrev pub if_same : List Interval → Option Element → Option Element
-if_same parts None = None
-if_same parts (Some e) = if same_parts e.parts parts then Some e else None
+-- In a set that isn't disjoint two elements can stand in the way of intervals, the one that holds their
+-- start key and the one that holds their end key: no other overlap is looked for.
+abbrev pub start_in_the_way : State → List Interval → ℕ → Option ℕ
+start_in_the_way s parts now = if s.disjoint then None else place s (start_key parts) now
 
--- The element that is there already: the first live one that holds the start key, where it has the
--- same intervals.
-abbrev pub twin : State → List Interval → ℕ → Option Element
-twin s parts now = if_same parts (first s (start_key parts) now)
+abbrev pub end_in_the_way : State → List Interval → ℕ → Option ℕ
+end_in_the_way s parts now = if s.disjoint then None else place s (end_key parts) now
+
+-- In a disjoint set it is the first that shares any key.
+abbrev pub sharing_in_the_way : State → List Interval → ℕ → Option ℕ
+sharing_in_the_way s parts now = if s.disjoint then sharing_place s parts now else None
 
 -- the set with a new element at the end of its list
-abbrev pub with_element : State → List Interval → Option ℕ → List ℕ → State
-with_element s parts expiry comment =
-    record s { elements = s.elements ++ record { id = s.next; parts = parts; expiry = expiry; comment = comment } ∷ []; next = s.next + 1 }
+abbrev pub with_element : State → NewElement → State
+with_element s e =
+    record s { elements = s.elements ++ record { id = s.next; parts = e.parts; expiry = e.expiry; comment = e.comment } ∷ []; next = s.next + 1 }
 
 -- the set with another expiry of the element at a place
-abbrev pub renewed : State → Option ℕ → Option ℕ → State
-renewed s None expiry = s
-renewed s (Some i) expiry = record s { elements = renewed_at s.elements i expiry }
+abbrev pub renewed : State → ℕ → Option ℕ → State
+renewed s i expiry = record s { elements = renewed_at s.elements i expiry }
 
-pub data Added : Type 0 where
-  New : ℕ → Added
-  Already : ℕ → Added
-  Renewed : ℕ → Added
-  Refused : Why → Added
+-- What comes of an addition.
+pub data Addition : Type 0 where
+  New : ℕ → Addition
+  Already : ℕ → Addition
+  Renewed : ℕ → Addition
+  Refused : Why → Addition
 
--- what comes of intervals that are not there yet
-abbrev pub add_new : State → List Interval → Option ℕ → List ℕ → Option Why → Added × State
-add_new s parts expiry comment (Some why) = (Refused why, s)
-add_new s parts expiry comment None = (New s.next, with_element s parts expiry comment)
+-- What comes of an addition and the set that it leaves, in eight cases, by the first that applies: the
+-- element is there already, and has no expiry or a new one; one that holds the start key is in the way,
+-- or one that holds the end key, or in a disjoint set one that shares any key; the set is full; a field
+-- has no room for the rules; or the element is new, and stands at the end.
+abbrev pub add_by : State → NewElement → (twin expiry at_start at_end sharing : Option ℕ) → (full : Bool) → (crowded : Option ℕ) → Addition × State
+add_by s e (Some i) None at_start at_end sharing full crowded = (Already (element_at s i).id, s)
+add_by s e (Some i) (Some moment) at_start at_end sharing full crowded = (Renewed (element_at s i).id, renewed s i (Some moment))
+add_by s e None expiry (Some i) at_end sharing full crowded = (Refused (Overlap (element_at s i).id), s)
+add_by s e None expiry None (Some i) sharing full crowded = (Refused (Overlap (element_at s i).id), s)
+add_by s e None expiry None None (Some i) full crowded = (Refused (Overlap (element_at s i).id), s)
+add_by s e None expiry None None None true crowded = (Refused Full, s)
+add_by s e None expiry None None None false (Some f) = (Refused (RulesFull f), s)
+add_by s e None expiry None None None false None = (New s.next, with_element s e)
 
--- what comes of intervals that are there: a new expiry renews the element
-abbrev pub add_again : State → Option ℕ → Option ℕ → Element → Added × State
-add_again s None i e = (Already e.id, s)
-add_again s (Some expiry) i e = (Renewed e.id, renewed s i (Some expiry))
-
-abbrev pub add_by : State → List Interval → Option ℕ → List ℕ → ℕ → Option Element → Added × State
-add_by s parts expiry comment now (Some e) = add_again s expiry (place s (start_key parts) now) e
-add_by s parts expiry comment now None = add_new s parts expiry comment (refusal s parts now)
-
--- The answer to an addition, and the set that it leaves (the kernel's insertion into such a set):
--- the same intervals are there already, or renewed; else a cause refuses them; else the new element
--- stands at the end.
-abbrev pub add : State → List Interval → Option ℕ → List ℕ → ℕ → Added × State
-add s parts expiry comment now = add_by s parts expiry comment now (twin s parts now)
+-- The answer to an addition, and the set that it leaves (the kernel's insertion into such a set).
+abbrev pub add : State → NewElement → ℕ → Addition × State
+add s e now =
+    add_by s e (twin_place s e.parts now) e.expiry (start_in_the_way s e.parts now) (end_in_the_way s e.parts now) (sharing_in_the_way s e.parts now)
+    (is_full s) (crowded_field s e.parts)
 
 -- An element is live and has exactly these intervals.
 abbrev pub is_exactly : List Interval → ℕ → Element → Bool
 is_exactly parts now e = live e now && same_parts e.parts parts
 
-abbrev pub without : State → Option Element → Option ℕ → Option (ℕ × State)
-without s (Some e) (Some i) = Some (e.id, record s { elements = remove s.elements i })
-without s (Some e) None = None
-without s None i = None
+-- the place of the first such element
+abbrev pub exact_place : State → List Interval → ℕ → Option ℕ
+exact_place s parts now = position (is_exactly parts now) s.elements
+
+-- the set without the element at a place
+abbrev pub without_at : State → ℕ → State
+without_at s i = record s { elements = remove s.elements i }
 
 -- The id of the first live element of exactly these intervals, and the set without it.
 abbrev pub removed : State → List Interval → ℕ → Option (ℕ × State)
-removed s parts now = without s (find (is_exactly parts now) s.elements) (position (is_exactly parts now) s.elements)
+removed s parts now = option_map (λ i. ((element_at s i).id, without_at s i)) (exact_place s parts now)
 
 -- The set with the elements that are live, in their order.
 abbrev pub purged : State → ℕ → State

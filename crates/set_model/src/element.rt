@@ -1,5 +1,5 @@
 ghost use Rattle.std.specs.Prelude.{◌≡◌, ◌<◌, length, slice_get, Some, slice_set};
-ghost use Rattle.set_model.specs.Expiry.{renewed_at};
+ghost use Rattle.set_model.specs.Expiry.{lives, renewed_at};
 
 use crate::kind::Interval;
 use crate::listed::{Duplicate, Listed};
@@ -33,6 +33,38 @@ impl Duplicate for Element {
             expiry: self.expiry,
             comment: self.comment.copy(alloc)?,
         })
+    }
+}
+
+/// An element that is to be added, as yet without an id.
+#[derive(Drop)]
+pub struct NewElement {
+    pub parts: Parts,
+    /// The moment, in milliseconds, from which on it is expired; `None` where it never is.
+    pub expiry: Option<u64>,
+    /// Kept and printed, and no part of matching.
+    pub comment: Comment,
+}
+
+impl Duplicate for NewElement {
+    fn copy(&self, alloc: Global) -> Result<Self, Memory> {
+        Ok(NewElement {
+            parts: self.parts.copy(alloc)?,
+            expiry: self.expiry,
+            comment: self.comment.copy(alloc)?,
+        })
+    }
+}
+
+/// Whether an expiry has not come at a moment, both in milliseconds: there is none, or the moment
+/// is before it.
+#[inline(always)]
+pub fn is_live(expiry: Option<u64>, now: u64) -> bool
+    ensures { result ≡ lives expiry now }
+{
+    match expiry {
+        None => true,
+        Some(moment) => now < moment,
     }
 }
 

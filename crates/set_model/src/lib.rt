@@ -15,7 +15,7 @@ mod script;
 mod shared;
 
 pub use block::Block;
-pub use element::{Comment, Element, Elements, Parts};
+pub use element::{Comment, Element, Elements, NewElement, Parts, is_live};
 pub use fitting::{fits, is_below, parts_fit};
 pub use kind::{Interval, Key, Kind, Kinds};
 pub use listed::{Duplicate, Listed};

@@ -24,6 +24,9 @@ impl<T> Model for Listed<T> {
 }
 
 impl<T> Listed<T> {
+    ghost use Rattle.std.specs.Borrow.{sem};
+    ghost use Rattle.set_model.specs.Lent.{LendsItems};
+
     /// The empty list. It takes no memory.
     pub fn new(alloc: Global) -> Self
         ensures { result ≡ [] }
@@ -41,6 +44,7 @@ impl<T> Listed<T> {
     }
 
     /// How many items there are.
+    #[inline(always)]
     pub fn len(&self) -> u64
         ensures { result ≡ length self.now }
     {
@@ -48,6 +52,7 @@ impl<T> Listed<T> {
     }
 
     /// The item at place `i`.
+    #[inline(always)]
     pub fn at(&self, i: u64) -> &T
         requires { i < length self.now }
         ensures { slice_get self.now i ≡ Some result.now }
@@ -56,10 +61,20 @@ impl<T> Listed<T> {
     }
 
     /// The items in a row.
+    #[inline(always)]
     pub fn as_slice(&self) -> &[T]
         ensures { result.now ≡ self.now }
     {
         self.items.as_slice()
+    }
+
+    /// The items in a row, to be changed in place.
+    #[inline(always)]
+    pub fn as_mut_slice(&mut self) -> &mut [T]
+        ensures value { result.now ≡ self.old }
+        ensures* writes_back { sem 𝓛 (LendsItems T.row self.entry result) }
+    {
+        self.items.as_mut_slice()
     }
 
     /// Adds an item at the end. After `Memory` the list is as it was.

@@ -1,4 +1,4 @@
-use crate::element::{Comment, Parts};
+use crate::element::NewElement;
 use crate::kind::Kinds;
 use crate::listed::{Duplicate, Listed};
 use crate::memory::Memory;
@@ -70,9 +70,7 @@ pub enum Step {
         line: u64,
         set: u32,
         verb: Verb,
-        parts: Parts,
-        expiry: Option<u64>,
-        comment: Comment,
+        element: NewElement,
         now: u64,
     },
     Flush {
@@ -93,17 +91,13 @@ impl Duplicate for Step {
                 line,
                 set,
                 verb,
-                parts,
-                expiry,
-                comment,
+                element,
                 now,
             } => Step::Change {
                 line: *line,
                 set: *set,
                 verb: *verb,
-                parts: parts.copy(alloc)?,
-                expiry: *expiry,
-                comment: comment.copy(alloc)?,
+                element: element.copy(alloc)?,
                 now: *now,
             },
             Step::Flush { line, set, now } => Step::Flush {

@@ -7,7 +7,7 @@ use Rattle.std.proofs.lemmas.Option.{get_or_from_slice_get}
 use Rattle.std.proofs.lemmas.Slice.Eq.{slice_eq-Decides}
 use Rattle.bit_rows.specs.Row.{Row}
 use Rattle.set_report.specs.DumpText.{Run, same_bit, same_bitmap, with_bucket, runs_from, is_any_set, run_text, runs_text}
-use Rattle.set_report.specs.DumpBuckets.{bits_at, bitmaps_at}
+use Rattle.set_report.specs.DumpBuckets.{bits_at, bitmaps_of}
 
 bit-Decides : (x y : Bool) → Decides (same_bit x y) (x ≡ y)
 bit-Decides true true = (λ e. refl, λ e. refl)
@@ -113,19 +113,13 @@ runs-cons g run runs = by (is_any_set run.bitmap) where
   by false = refl
 
 -- what is left of a group's lines: those of the first run, and then the others
-pub lines-more : (g : ℕ) (rows : List Row) (first from count len : ℕ) (row : Row) → 0 < len → from + len ≤ count → slice_get rows (first + from) ≡ Some row
-    → ((k : ℕ) → k < len → bits_at rows (first + from + k) ≡ bits_at rows (first + from))
-    → (first + from + len < first + count → bits_at rows (first + from + len) ≡ bits_at rows (first + from) → ⊥)
-    → runs_text g (runs_from from (bitmaps_at rows first from (count - from)))
-    ≡ runs_text g (record { from = from; to = from + len - 1; bitmap = row.bits } ∷ []) ++ runs_text g (runs_from (from + len) (bitmaps_at rows first (from + len) (count - (from + len))))
-lines-more g rows first from count len row some within at same other =
-    let f : ℕ → List Bool = λ w. bits_at rows (first + w) in
-    let end : first + (from + len) ≡ first + from + len = omega arith in
-    let runs : runs_from from (bitmaps_at rows first from (count - from))
-    ≡ record { from = from; to = from + len - 1; bitmap = bits_at rows (first + from) } ∷ runs_from (from + len) (bitmaps_at rows first (from + len) (count - (from + len)))
-    = run_of_len f len from count some within
-    (λ j h. let place : first + (from + j) ≡ first + from + j = omega arith in ap (bits_at rows) place ∙ same j h)
-    (λ h e. other (omega arith) (ap (bits_at rows) (sym end) ∙ e)) in
-    ap (runs_text g) runs
-    ∙ runs-cons g (record { from = from; to = from + len - 1; bitmap = bits_at rows (first + from) }) (runs_from (from + len) (bitmaps_at rows first (from + len) (count - (from + len))))
-    ∙ ap (λ bits. runs_text g (record { from = from; to = from + len - 1; bitmap = bits } ∷ []) ++ runs_text g (runs_from (from + len) (bitmaps_at rows first (from + len) (count - (from + len))))) (at-bits rows (first + from) row at)
+pub lines-more : (g : ℕ) (rows : List Row) (from count len : ℕ) (row : Row) → 0 < len → from + len ≤ count → slice_get rows from ≡ Some row
+    → ((k : ℕ) → k < len → bits_at rows (from + k) ≡ bits_at rows from)
+    → (from + len < count → bits_at rows (from + len) ≡ bits_at rows from → ⊥)
+    → runs_text g (runs_from from (bitmaps_of rows from (count - from)))
+    ≡ runs_text g (record { from = from; to = from + len - 1; bitmap = row.bits } ∷ []) ++ runs_text g (runs_from (from + len) (bitmaps_of rows (from + len) (count - (from + len))))
+lines-more g rows from count len row some within at same other =
+    let rest = runs_from (from + len) (bitmaps_of rows (from + len) (count - (from + len))) in
+    ap (runs_text g) (run_of_len (bits_at rows) len from count some within same other)
+    ∙ runs-cons g (record { from = from; to = from + len - 1; bitmap = bits_at rows from }) rest
+    ∙ ap (λ bits. runs_text g (record { from = from; to = from + len - 1; bitmap = bits } ∷ []) ++ runs_text g rest) (at-bits rows from row at)

@@ -15,7 +15,7 @@ use Rattle.lookup_table.proofs.RuleLaws.{place-within}
 use Rattle.mapping_table.specs.Spared.{Spared}
 use Rattle.pipapo_image.specs.declared.index.Index.{Index}
 use Rattle.pipapo_image.specs.Index.{IsIndexOf}
-use Rattle.pipapo_image.specs.Standing.{IsTableOf}
+use Rattle.pipapo_image.specs.Index.Standing.{IsTableOf}
 use Rattle.set_model.specs.declared.block.Block.{Block}
 use Rattle.set_model.specs.declared.element.Element.{Element}
 use Rattle.set_model.specs.declared.kind.Kind.{Kind}
@@ -28,7 +28,7 @@ use Rattle.set_report.specs.DumpBuckets.{bits_at, bitmaps_at, buckets_text, all_
 
 -- ---- what is the same at each number
 
-map-same : {X : Type 0} (f g : ℕ → X) (a n : ℕ) → ((k : ℕ) → a ≤ k → k < a + n → f k ≡ g k) → map f (range_with_len a n) ≡ map g (range_with_len a n)
+pub map-same : {X : Type 0} (f g : ℕ → X) (a n : ℕ) → ((k : ℕ) → a ≤ k → k < a + n → f k ≡ g k) → map f (range_with_len a n) ≡ map g (range_with_len a n)
 map-same f g a zero same = refl
 map-same f g a (suc n) same = ap (λ x. x ∷ map f (range_with_len (a + 1) n)) (same a (omega arith) (omega arith)) ∙ ap (λ xs. g a ∷ xs) (map-same f g (a + 1) n (λ k h l. same k (omega arith) (omega arith)))
 
@@ -39,23 +39,23 @@ texts-same f g a (suc n) same = ap (λ x. x ++ flat_map f (range_with_len (a + 1
 -- ---- the buckets of a table
 
 module _ (t : FieldTable) (rules : List Block) (stands : Stands t rules) where
-  bucket-bits : (g v : ℕ) → g < t.bits / t.width → v < 2 ^ t.width → bits_at t.buckets (bucket_place t.width g v) ≡ map (λ rule. agrees t.width t.bits rule g v) rules
+  bucket-bits : (g v : ℕ) → g < t.bits / t.width → v < 2 ^ t.width → bits_at t.buckets.rows (bucket_place t.width g v) ≡ map (λ rule. agrees t.width t.bits rule g v) rules
   unfolding cell
   bucket-bits g v h k =
       let place = bucket_place t.width g v in
-      let inside : place < length t.buckets = place-within t.width t.bits t.rules g v t.buckets t.shaped h k in
-      let long : length (bits_at t.buckets place) ≡ t.rules = All-get_or (λ row. length row.bits ≡ t.rules) t.buckets place _ inside t.shaped.rows in
-      ext_get_or false (bits_at t.buckets place) (map (λ rule. agrees t.width t.bits rule g v) rules)
+      let inside : place < length t.buckets.rows = place-within t.width t.bits t.rules g v t.buckets.rows t.shaped h k in
+      let long : length (bits_at t.buckets.rows place) ≡ t.rules = All-get_or (λ row. length row.bits ≡ t.rules) t.buckets.rows place _ inside t.shaped.rows in
+      ext_get_or false (bits_at t.buckets.rows place) (map (λ rule. agrees t.width t.bits rule g v) rules)
       (long ∙ sym stands.one_each ∙ sym (length-map rules (λ rule. agrees t.width t.bits rule g v)))
       (λ r l.
       let below : r < t.rules = omega (arith, long) in
       let listed : r < length rules = omega (arith, stands.one_each) in
       stands.bucket g v r h k below ∙ sym (get_or-map (λ rule. agrees t.width t.bits rule g v) rules r _ false listed))
 
-  group-bits : (g : ℕ) → g < t.bits / t.width → bitmaps_at t.buckets (bucket_place t.width g 0) 0 (2 ^ t.width) ≡ bitmaps t.width t.bits rules g
-  group-bits g h = map-same (λ w. bits_at t.buckets (bucket_place t.width g 0 + w)) (λ v. map (λ rule. agrees t.width t.bits rule g v) rules) 0 (2 ^ t.width) (λ v l k.
+  group-bits : (g : ℕ) → g < t.bits / t.width → bitmaps_at t.buckets.rows (bucket_place t.width g 0) 0 (2 ^ t.width) ≡ bitmaps t.width t.bits rules g
+  group-bits g h = map-same (λ w. bits_at t.buckets.rows (bucket_place t.width g 0 + w)) (λ v. map (λ rule. agrees t.width t.bits rule g v) rules) 0 (2 ^ t.width) (λ v l k.
       let place : bucket_place t.width g 0 + v ≡ bucket_place t.width g v = omega arith in
-      ap (bits_at t.buckets) place ∙ bucket-bits g v h (omega arith))
+      ap (bits_at t.buckets.rows) place ∙ bucket-bits g v h (omega arith))
 
   pub groups-are : all_buckets_text t ≡ groups_text t.width t.bits rules
   groups-are = texts-same (buckets_text t) (λ g. runs_text g (runs_from 0 (bitmaps t.width t.bits rules g))) 0 (t.bits / t.width) (λ g l k. ap (λ bs. runs_text g (runs_from 0 bs)) (group-bits g (omega arith)))

@@ -7,6 +7,7 @@ mod DumpRuns
 mod DumpBits
 mod DumpLines
 mod DumpTables
+mod DumpGroups
 mod SetLaws
 mod SummaryWorked
 mod SummaryLaws

@@ -11,7 +11,9 @@ use Rattle.set_report.specs.SummaryText.{summary_text}
 
 -- A set of two ports and an empty one.
 abbrev two_ports : State
-two_ports = with_element (with_element (empty_set (Service ∷ []) None false) ((record { low = 80; high = 80 }) ∷ []) None []) ((record { low = 443; high = 443 }) ∷ []) None []
+two_ports =
+    with_element (with_element (empty_set (Service ∷ []) None false) (record { parts = (record { low = 80; high = 80 }) ∷ []; expiry = None; comment = [] }))
+    (record { parts = (record { low = 443; high = 443 }) ∷ []; expiry = None; comment = [] })
 
 abbrev last : Generation
 last = record { number = 3; sets = two_ports ∷ empty_set (Service ∷ []) None false ∷ [] }

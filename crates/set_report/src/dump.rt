@@ -73,8 +73,8 @@ fn write_spans(map: &MapTable, out: &mut Vec<u8>) -> Result<(), Memory>
     ensures ok { OnOk result (out.new.items ≡ out.old.items ++ flat_map span_text map.now.items) }
     ensures err { OnErr result (AppendsPart out.old.items out.new.items (flat_map span_text map.now.items)) }
 {
-    for span in map.as_slice() {
-        write_span(span, out)?;
+    'rules: for i in 0..map.len() {
+        write_span(map.at(i), out)?;
     }
     Ok(())
 }
@@ -84,8 +84,8 @@ fn write_ends(ends: &EndTable, out: &mut Vec<u8>) -> Result<(), Memory>
     ensures ok { OnOk result (out.new.items ≡ out.old.items ++ flat_map end_text ends.now.items) }
     ensures err { OnErr result (AppendsPart out.old.items out.new.items (flat_map end_text ends.now.items)) }
 {
-    for end in ends.as_slice() {
-        write_end(end, out)?;
+    'rules: for i in 0..ends.len() {
+        write_end(ends.at(i), out)?;
     }
     Ok(())
 }
@@ -130,8 +130,9 @@ fn write_fields(set: &SetImage, out: &mut Vec<u8>) -> Result<(), Memory>
     ensures ok { OnOk result (out.new.items ≡ out.old.items ++ flat_map (field_text set.now.kinds set.now.elements) (enumerate_from 0 set.now.kinds)) }
     ensures err { OnErr result (AppendsPart out.old.items out.new.items (flat_map (field_text set.now.kinds set.now.elements) (enumerate_from 0 set.now.kinds))) }
 {
-    'fields: for f in 0..set.kinds.len() {
-        write_field(set, f, *set.kinds.at(f), out)?;
+    let kinds = set.kinds();
+    'fields: for f in 0..kinds.len() {
+        write_field(set, f, *kinds.at(f), out)?;
     }
     Ok(())
 }

@@ -199,14 +199,6 @@ fn write_timeout(timeout: Option<u64>, out: &mut Vec<u8>) -> Result<(), Memory>
     }
 }
 
-/// The elements of a set. Their intervals fit its kinds.
-fn elements_of(image: &SetImage) -> &TimedElements
-    ensures same { result.now ≡ image.now.elements }
-    ensures fit { All (λ e. parts_fit image.now.kinds e.parts ≡ true) image.now.elements }
-{
-    &image.elements
-}
-
 /// Appends the items of a set.
 fn write_items(set: &SetDecl, image: &SetImage, now: u64, out: &mut Vec<u8>) -> Result<(), Memory>
     requires { image.now.kinds ≡ set.now.kinds }
@@ -217,7 +209,7 @@ fn write_items(set: &SetDecl, image: &SetImage, now: u64, out: &mut Vec<u8>) -> 
     write_size(set.size, out)?;
     write_flags(set, out)?;
     write_timeout(set.timeout, out)?;
-    write_elements(set, now, elements_of(image), out)
+    write_elements(set, now, image.elements(), out)
 }
 
 /// Appends a set.

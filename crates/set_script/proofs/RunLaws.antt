@@ -68,7 +68,7 @@ all_are wide (kind ∷ ks) ts p (first, x, y, e, (t, et, given), (parts, x2, y2,
 
 -- A step of sets of these kinds: a change or a flush is of one of them.
 IsOf : List (List Kind) → Step → Type 0
-IsOf sets (Change line set verb parts expiry comment now) = (ks : List Kind) × (slice_get sets set ≡ Some ks) × AreParts ks parts
+IsOf sets (Change line set verb e now) = (ks : List Kind) × (slice_get sets set ≡ Some ks) × AreParts ks e.parts
 IsOf sets (Flush line set now) = (ks : List Kind) × (slice_get sets set ≡ Some ks)
 IsOf sets (Commit now) = Unit {0}
 IsOf sets Abort = Unit {0}
@@ -88,7 +88,7 @@ last_there (a ∷ xs) y = last_there xs y
 
 step_stays : (sets : List (List Kind)) (ks : List Kind) (s : Step) → IsOf sets s → IsOf (sets ++ ks ∷ []) s
 unfolding IsOf
-step_stays sets ks (Change line set verb parts expiry comment now) k = (k.0, still_there sets ks set k.0 k.1, k.2)
+step_stays sets ks (Change line set verb e now) k = (k.0, still_there sets ks set k.0 k.1, k.2)
 step_stays sets ks (Flush line set now) k = (k.0, still_there sets ks set k.0 k.1)
 step_stays sets ks (Commit now) k = tt
 step_stays sets ks Abort k = tt
@@ -342,9 +342,9 @@ fits_set ks parts k = let e = eq-eqb _ _ k.lengths in let f = k.fit in rw (e, f)
 
 runs : (schema : List SetDecl) (s : Step) → IsOf (kinds_of schema) s → IsRunnableStep schema s
 unfolding IsOf
-runs schema (Change line set verb parts expiry comment now) k =
+runs schema (Change line set verb e now) k =
     let found = set_of_kinds schema set k.0 k.1 in
-    (found.0, found.1, fits_set found.0.kinds parts (subst (λ (z : List Kind). AreParts z parts) (sym found.2) k.2))
+    (found.0, found.1, fits_set found.0.kinds e.parts (subst (λ (z : List Kind). AreParts z e.parts) (sym found.2) k.2))
 runs schema (Flush line set now) k = let found = set_of_kinds schema set k.0 k.1 in (found.0, found.1)
 runs schema (Commit now) k = tt
 runs schema Abort k = tt

@@ -2,6 +2,7 @@
 use Rattle.std.specs.Prelude.{ℕ, ◌+◌, List, [], ◌∷◌, ◌++◌, length, Bool, true, false, nat_lt, Option, Some, None, cond}
 use Rattle.set_model.specs.declared.kind.Kind.{Kind}
 use Rattle.set_model.specs.declared.kind.Interval.{Interval}
+use Rattle.set_model.specs.declared.element.NewElement.{NewElement}
 use Rattle.set_model.specs.declared.script.Family.{Family}
 use Rattle.set_model.specs.declared.script.SetDecl.{SetDecl}
 use Rattle.set_model.specs.declared.script.Verb.{Verb}
@@ -103,10 +104,12 @@ adds verbs.Destroy = false
 -- The change of an element of the set `s`: with an expiry and a comment where it is added.
 abbrev pub change : Target → SetDecl → ℕ → List Interval → Options → Step
 change target s line parts o =
-    steps.Change line target.set target.verb parts
-    (cond (adds target.verb) (expiry target.now s.timeout o) None)
-    (cond (adds target.verb) (comment_of o.comment) [])
-    target.now
+    let e : NewElement = record {
+      parts = parts;
+      expiry = cond (adds target.verb) (expiry target.now s.timeout o) None;
+      comment = cond (adds target.verb) (comment_of o.comment) [];
+    } in
+    steps.Change line target.set target.verb e target.now
 
 -- the steps of the section, with those that a list adds
 abbrev pub with_steps : Draft → List Step → Draft

@@ -11,21 +11,18 @@ use crate::draft::{Options, Target};
 use crate::parts::all_parts;
 use crate::values;
 use crate::words::{OptionWord, option_word_of};
-use set_model::{Comment, Memory, Parts, SetDecl, Step, Steps, Verb};
+use set_model::{Comment, Memory, NewElement, Parts, SetDecl, Step, Steps, Verb};
 use std::alloc::Global;
-use token_forms::{ReadError, Reader, Seen, short};
+use token_forms::{ReadError, Reader, Seen};
 
 #[tactic(auto, unfolding(token_forms::specs::Gives::Refuses))]
 fn option_word(reader: &mut Reader, timed: bool, o: &Options) -> Result<OptionWord, ReadError>
     ensures { Gives (λ x. x) result reader.new (reading.option_word timed o.now reader.old) }
 {
-    match reader.take() {
-        Some(t) if t.is_word() => match option_word_of(timed, o, t.bytes) {
-            Some(word) => Ok(word),
-            None => Err(t.refused(&[])),
-        },
-        Some(t) => Err(t.refused(&[])),
-        None => Err(short()),
+    let t = reader.next()?;
+    match option_word_of(timed, o, t.bytes) {
+        Some(word) if t.is_word() => Ok(word),
+        _ => Err(t.refused(&[])),
     }
 }
 
@@ -215,9 +212,11 @@ fn change_of(
         line,
         set: target.set,
         verb: target.verb,
-        parts,
-        expiry,
-        comment,
+        element: NewElement {
+            parts,
+            expiry,
+            comment,
+        },
         now: target.now,
     })
 }

@@ -1,12 +1,12 @@
-ghost use Rattle.std.specs.Prelude.{◌≡◌};
+ghost use Rattle.std.specs.Prelude.{◌≡◌, ◌∷◌, [], IfOk};
 ghost use Rattle.token_forms.specs.Gives.{Gives};
 ghost use Rattle.set_script.specs.ScriptReading as reading;
 ghost use Rattle.set_script.specs.Values.{part_of};
 
 use addr_text::read_interval;
-use set_model::{Interval, Kind, Parts};
+use set_model::{Interval, Kind, Memory, Parts};
 use std::alloc::Global;
-use token_forms::{ReadError, Reader, Reason, short};
+use token_forms::{ReadError, Reader, Reason};
 
 /// The interval of a text, which has one value unless it may be wide.
 fn read_part(wide: bool, kind: Kind, text: &[u8]) -> Option<Interval>
@@ -23,13 +23,10 @@ fn read_part(wide: bool, kind: Kind, text: &[u8]) -> Option<Interval>
 fn first_part(reader: &mut Reader, wide: bool, kind: Kind) -> Result<(u64, Interval), ReadError>
     ensures { Gives (λ x. (x.0, x.1)) result reader.new (reading.first_part wide kind reader.old) }
 {
-    match reader.take() {
-        Some(t) if t.is_word() => match read_part(wide, kind, t.bytes) {
-            Some(part) => Ok((t.line, part)),
-            None => Err(t.refused(&[Reason::Value])),
-        },
-        Some(t) => Err(t.refused(&[Reason::Value])),
-        None => Err(short()),
+    let t = reader.next()?;
+    match read_part(wide, kind, t.bytes) {
+        Some(part) if t.is_word() => Ok((t.line, part)),
+        _ => Err(t.refused(&[Reason::Value])),
     }
 }
 
@@ -37,13 +34,10 @@ fn first_part(reader: &mut Reader, wide: bool, kind: Kind) -> Result<(u64, Inter
 fn part(reader: &mut Reader, wide: bool, kind: Kind) -> Result<Interval, ReadError>
     ensures { Gives (λ x. x) result reader.new (reading.part wide kind reader.old) }
 {
-    match reader.take() {
-        Some(t) if t.is_word() => match read_part(wide, kind, t.bytes) {
-            Some(part) => Ok(part),
-            None => Err(t.refused(&[Reason::Value])),
-        },
-        Some(t) => Err(t.refused(&[Reason::Value])),
-        None => Err(short()),
+    let t = reader.next()?;
+    match read_part(wide, kind, t.bytes) {
+        Some(part) if t.is_word() => Ok(part),
+        _ => Err(t.refused(&[Reason::Value])),
     }
 }
 
@@ -70,6 +64,15 @@ fn more_parts(
     }
 }
 
+/// A list that begins with an interval, and has room for so many more and no further.
+fn begun(alloc: Global, first: Interval, more: usize) -> Result<Parts, Memory>
+    ensures { IfOk result (λ parts. parts ≡ first ∷ []) }
+{
+    let mut items = Vec::with_capacity(alloc, more.saturating_add(1))?;
+    items.push(first)?;
+    Ok(Parts::from_vec(alloc, items))
+}
+
 #[tactic(auto, using(token_forms::proofs::Refusals::refusals))]
 fn some_parts(
     reader: &mut Reader,
@@ -81,8 +84,7 @@ fn some_parts(
     ensures { Gives (λ x. (x.0, x.1)) result reader.new (reading.some_parts wide kind others.now reader.old) }
 {
     let (line, first) = first_part(reader, wide, kind)?;
-    let mut parts = Parts::new(alloc);
-    parts.push(first)?;
+    let mut parts = begun(alloc, first, others.len())?;
     more_parts(reader, wide, others, &mut parts)?;
     Ok((line, parts))
 }
@@ -98,10 +100,7 @@ pub fn all_parts(
     ensures { Gives (λ x. (x.0, x.1)) result reader.new (reading.all_parts wide kinds.now reader.old) }
 {
     match kinds {
-        [] => match reader.take() {
-            Some(t) => Err(t.refused(&[])),
-            None => Err(short()),
-        },
+        [] => Err(reader.next()?.refused(&[])),
         [kind, others @ ..] => some_parts(reader, alloc, wide, *kind, others),
     }
 }

@@ -5,7 +5,7 @@ ghost use Rattle.set_script.specs.ScriptReading as reading;
 
 use crate::words::read_family;
 use set_model::{Family, SetDecl};
-use token_forms::{ReadError, Reader, Reason, short};
+use token_forms::{ReadError, Reader, Reason};
 
 fn number_of_family(family: Family) -> u8
     ensures { result ≡ family_number family }
@@ -75,12 +75,9 @@ pub fn used_set(
     ensures gives { Gives (λ x. x) result reader.new (reading.used_set schema.now (family, table.now) reader.old) }
     ensures within { IfOk result (λ place. place < length schema.now) }
 {
-    match reader.take() {
-        Some(t) if t.is_word() => match place_of_set(schema, family, table, t.bytes) {
-            Some(place) => Ok(place),
-            None => Err(t.refused(&[Reason::Set])),
-        },
-        Some(t) => Err(t.refused(&[Reason::Set])),
-        None => Err(short()),
+    let t = reader.next()?;
+    match place_of_set(schema, family, table, t.bytes) {
+        Some(place) if t.is_word() => Ok(place),
+        _ => Err(t.refused(&[Reason::Set])),
     }
 }

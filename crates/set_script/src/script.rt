@@ -20,7 +20,7 @@ use crate::values;
 use crate::words::{AddWord, FirstWord, FlushWord, add_word_of, first_word_of, flush_word_of};
 use set_model::{Memory, Script, SetDecl, Step, Steps, Verb};
 use std::alloc::Global;
-use token_forms::{BadToken, ReadError, Reader, bad_token_before, short};
+use token_forms::{BadToken, ReadError, Reader, bad_token_before};
 
 /// Why a text isn't read as a script.
 pub type ScriptError = ReadError;
@@ -29,13 +29,10 @@ pub type ScriptError = ReadError;
 fn add_word(reader: &mut Reader) -> Result<AddWord, ReadError>
     ensures { Gives (λ x. x) result reader.new (reading.add_word reader.old) }
 {
-    match reader.take() {
-        Some(t) if t.is_word() => match add_word_of(t.bytes) {
-            Some(word) => Ok(word),
-            None => Err(t.refused(&[])),
-        },
-        Some(t) => Err(t.refused(&[])),
-        None => Err(short()),
+    let t = reader.next()?;
+    match add_word_of(t.bytes) {
+        Some(word) if t.is_word() => Ok(word),
+        _ => Err(t.refused(&[])),
     }
 }
 
@@ -51,10 +48,7 @@ fn list_at(
     ensures { Gives (λ _. steps.new) result reader.new (reading.list_at target schema.now steps.old reader.old) }
 {
     match schema.get(target.set as usize) {
-        None => match reader.take() {
-            Some(t) => Err(t.refused(&[])),
-            None => Err(short()),
-        },
+        None => Err(reader.next()?.refused(&[])),
         Some(decl) => list(reader, alloc, target, decl, steps),
     }
 }
@@ -117,13 +111,10 @@ fn element_changes(
 fn flush_word(reader: &mut Reader, begun: bool) -> Result<FlushWord, ReadError>
     ensures { Gives (λ x. x) result reader.new (reading.flush_word begun reader.old) }
 {
-    match reader.take() {
-        Some(t) if t.is_word() => match flush_word_of(begun, t.bytes) {
-            Some(word) => Ok(word),
-            None => Err(t.refused(&[])),
-        },
-        Some(t) => Err(t.refused(&[])),
-        None => Err(short()),
+    let t = reader.next()?;
+    match flush_word_of(begun, t.bytes) {
+        Some(word) if t.is_word() => Ok(word),
+        _ => Err(t.refused(&[])),
     }
 }
 
@@ -190,13 +181,10 @@ fn statement_behind(
 fn first_word(reader: &mut Reader) -> Result<(u64, FirstWord), ReadError>
     ensures { Gives (λ x. (x.0, x.1)) result reader.new (reading.first_word reader.old) }
 {
-    match reader.take() {
-        Some(t) if t.is_word() => match first_word_of(t.bytes) {
-            Some(word) => Ok((t.line, word)),
-            None => Err(t.refused(&[])),
-        },
-        Some(t) => Err(t.refused(&[])),
-        None => Err(short()),
+    let t = reader.next()?;
+    match first_word_of(t.bytes) {
+        Some(word) if t.is_word() => Ok((t.line, word)),
+        _ => Err(t.refused(&[])),
     }
 }
 

@@ -21,7 +21,7 @@ use crate::values;
 use crate::words::{Flag, ItemWord, flag_of_word, is_a_policy, item_word_of, read_kind_behind};
 use set_model::{Family, Kind, Kinds, Listed, Steps};
 use std::alloc::Global;
-use token_forms::{ReadError, Reader, Reason, Seen, is_a_name, short};
+use token_forms::{ReadError, Reader, Reason, Seen, is_a_name};
 
 /// Whether a set of that name may be declared here.
 fn is_declarable(d: &Draft, family: Family, table: &[u8], name: &[u8]) -> bool
@@ -45,10 +45,11 @@ pub fn new_set<'a>(
     ensures gives { Gives (λ x. x.now) result reader.new (reading.new_set d.now (family, table.now) reader.old) }
     ensures room { OnOk result (length d.now.schema < most_sets) }
 {
-    match reader.take() {
-        Some(t) if t.is_word() && is_declarable(d, family, table, t.bytes) => Ok(t.bytes),
-        Some(t) => Err(t.refused(&[Reason::Set])),
-        None => Err(short()),
+    let t = reader.next()?;
+    if t.is_word() && is_declarable(d, family, table, t.bytes) {
+        Ok(t.bytes)
+    } else {
+        Err(t.refused(&[Reason::Set]))
     }
 }
 
@@ -57,13 +58,10 @@ pub fn new_set<'a>(
 fn kind_word(reader: &mut Reader, kinds: &[Kind]) -> Result<Kind, ReadError>
     ensures { Gives (λ x. x) result reader.new (reading.kind_word kinds.now reader.old) }
 {
-    match reader.take() {
-        Some(t) if t.is_word() => match read_kind_behind(kinds, t.bytes) {
-            Some(kind) => Ok(kind),
-            None => Err(t.refused(&[Reason::TypeWord])),
-        },
-        Some(t) => Err(t.refused(&[Reason::TypeWord])),
-        None => Err(short()),
+    let t = reader.next()?;
+    match read_kind_behind(kinds, t.bytes) {
+        Some(kind) if t.is_word() => Ok(kind),
+        _ => Err(t.refused(&[Reason::TypeWord])),
     }
 }
 
@@ -122,13 +120,10 @@ fn type_item(reader: &mut Reader, alloc: Global) -> Result<Kinds, ReadError>
 fn item_word(reader: &mut Reader, b: &Declaration) -> Result<ItemWord, ReadError>
     ensures { Gives (λ x. x) result reader.new (reading.item_word b.now reader.old) }
 {
-    match reader.take() {
-        Some(t) if t.is_word() => match item_word_of(b, t.bytes) {
-            Some(word) => Ok(word),
-            None => Err(t.refused(&[])),
-        },
-        Some(t) => Err(t.refused(&[])),
-        None => Err(short()),
+    let t = reader.next()?;
+    match item_word_of(b, t.bytes) {
+        Some(word) if t.is_word() => Ok(word),
+        _ => Err(t.refused(&[])),
     }
 }
 
@@ -136,13 +131,10 @@ fn item_word(reader: &mut Reader, b: &Declaration) -> Result<ItemWord, ReadError
 fn flag_word(reader: &mut Reader, b: &Declaration) -> Result<Flag, ReadError>
     ensures { Gives (λ x. x) result reader.new (reading.flag_word b.now reader.old) }
 {
-    match reader.take() {
-        Some(t) if t.is_word() => match flag_of_word(b, t.bytes) {
-            Some(flag) => Ok(flag),
-            None => Err(t.refused(&[])),
-        },
-        Some(t) => Err(t.refused(&[])),
-        None => Err(short()),
+    let t = reader.next()?;
+    match flag_of_word(b, t.bytes) {
+        Some(flag) if t.is_word() => Ok(flag),
+        _ => Err(t.refused(&[])),
     }
 }
 
@@ -211,10 +203,11 @@ fn flags_behind(reader: &mut Reader, b: &mut Declaration) -> Result<(), ReadErro
 fn policy(reader: &mut Reader) -> Result<(), ReadError>
     ensures { Gives (λ x. x) result reader.new (reading.policy reader.old) }
 {
-    match reader.take() {
-        Some(t) if t.is_word() && is_a_policy(t.bytes) => Ok(()),
-        Some(t) => Err(t.refused(&[])),
-        None => Err(short()),
+    let t = reader.next()?;
+    if t.is_word() && is_a_policy(t.bytes) {
+        Ok(())
+    } else {
+        Err(t.refused(&[]))
     }
 }
 

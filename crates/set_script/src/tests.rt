@@ -1,5 +1,5 @@
 use crate::{TokenKind, Tokens, read_script};
-use set_model::{Family, Interval, Kind, Script, Step, Verb};
+use set_model::{Family, Interval, Kind, NewElement, Script, Step, Verb};
 use std::alloc::{AllocError, Global};
 use std::test::Fail;
 
@@ -39,10 +39,12 @@ fn two_single_values(rt: HostRuntime) -> Result<(), Fail> {
                     line: 3,
                     set: 0,
                     verb: Verb::Add,
-                    parts,
-                    expiry: None,
+                    element: NewElement {
+                        parts,
+                        expiry: None,
+                        ..
+                    },
                     now: 0,
-                    ..
                 },
                 Step::Commit { now: 0 },
             ] => {
@@ -121,7 +123,7 @@ fn first_set(script: &Script) -> (&[Kind], bool) {
 /// The line and the lows of the change at a place of section 0.
 fn change_at(script: &Script, place: usize) -> Option<(u64, &[Interval])> {
     match script.sections.as_slice().first()?.as_slice().get(place)? {
-        Step::Change { line, parts, .. } => Some((*line, parts.as_slice())),
+        Step::Change { line, element, .. } => Some((*line, element.parts.as_slice())),
         _ => None,
     }
 }
@@ -239,12 +241,11 @@ fn types_have_64_bytes(rt: HostRuntime) -> Result<(), Fail> {
 fn change_made(script: &Script, place: usize) -> Option<(Option<u64>, &[u8], Verb, u64)> {
     match script.sections.as_slice().first()?.as_slice().get(place)? {
         Step::Change {
-            expiry,
-            comment,
+            element,
             verb,
             now,
             ..
-        } => Some((*expiry, comment.as_slice(), *verb, *now)),
+        } => Some((element.expiry, element.comment.as_slice(), *verb, *now)),
         _ => None,
     }
 }

@@ -4,7 +4,7 @@ ghost use Rattle.set_script.specs.ScriptReading as reading;
 ghost use Rattle.set_script.specs.Values.{life_of, moment_of, size_of};
 
 use addr_text::{read_number, read_time};
-use token_forms::{ReadError, Reader, Reason, short};
+use token_forms::{ReadError, Reader, Reason};
 
 /// The last moment that a text may name, in milliseconds.
 const LAST_MOMENT: u64 = 1_000_000_000_000_000;
@@ -46,13 +46,10 @@ fn read_size(text: &[u8]) -> Option<u32>
 pub fn time(reader: &mut Reader) -> Result<u64, ReadError>
     ensures { Gives (λ x. x) result reader.new (reading.time reader.old) }
 {
-    match reader.take() {
-        Some(t) if t.is_word() => match read_time(t.bytes) {
-            Ok(time) => Ok(time),
-            Err(_) => Err(t.refused(&[Reason::Time])),
-        },
-        Some(t) => Err(t.refused(&[Reason::Time])),
-        None => Err(short()),
+    let t = reader.next()?;
+    match read_time(t.bytes) {
+        Ok(time) if t.is_word() => Ok(time),
+        _ => Err(t.refused(&[Reason::Time])),
     }
 }
 
@@ -61,13 +58,10 @@ pub fn time(reader: &mut Reader) -> Result<u64, ReadError>
 pub fn life(reader: &mut Reader) -> Result<u64, ReadError>
     ensures { Gives (λ x. x) result reader.new (reading.life_word reader.old) }
 {
-    match reader.take() {
-        Some(t) if t.is_word() => match read_life(t.bytes) {
-            Some(time) => Ok(time),
-            None => Err(t.refused(&[Reason::Time])),
-        },
-        Some(t) => Err(t.refused(&[Reason::Time])),
-        None => Err(short()),
+    let t = reader.next()?;
+    match read_life(t.bytes) {
+        Some(time) if t.is_word() => Ok(time),
+        _ => Err(t.refused(&[Reason::Time])),
     }
 }
 
@@ -76,13 +70,10 @@ pub fn life(reader: &mut Reader) -> Result<u64, ReadError>
 pub fn moment(reader: &mut Reader, before: u64) -> Result<u64, ReadError>
     ensures { Gives (λ x. x) result reader.new (reading.moment_word before reader.old) }
 {
-    match reader.take() {
-        Some(t) if t.is_word() => match read_moment(before, t.bytes) {
-            Some(moment) => Ok(moment),
-            None => Err(t.refused(&[Reason::Moment])),
-        },
-        Some(t) => Err(t.refused(&[Reason::Moment])),
-        None => Err(short()),
+    let t = reader.next()?;
+    match read_moment(before, t.bytes) {
+        Some(moment) if t.is_word() => Ok(moment),
+        _ => Err(t.refused(&[Reason::Moment])),
     }
 }
 
@@ -91,12 +82,9 @@ pub fn moment(reader: &mut Reader, before: u64) -> Result<u64, ReadError>
 pub fn size(reader: &mut Reader) -> Result<u32, ReadError>
     ensures { Gives (λ x. x) result reader.new (reading.size_word reader.old) }
 {
-    match reader.take() {
-        Some(t) if t.is_word() => match read_size(t.bytes) {
-            Some(size) => Ok(size),
-            None => Err(t.refused(&[Reason::Number])),
-        },
-        Some(t) => Err(t.refused(&[Reason::Number])),
-        None => Err(short()),
+    let t = reader.next()?;
+    match read_size(t.bytes) {
+        Some(size) if t.is_word() => Ok(size),
+        _ => Err(t.refused(&[Reason::Number])),
     }
 }

@@ -1,15 +1,15 @@
 -- What creations, destructions and flushes of one set answer, and the set that they leave.
 use Rattle.std.specs.Prelude.{◌≡◌, ℕ, length, Option, Some, None, Result, Ok, Err}
 use Rattle.set_model.specs.declared.memory.Memory.{Memory as NoMemory}
-use Rattle.set_model.specs.SetState.{State, Added, cleared}
-use Rattle.set_model.specs.SetState.Added.{New}
+use Rattle.set_model.specs.SetState.{State, Addition, cleared}
+use Rattle.set_model.specs.SetState.Addition.{New}
 use Rattle.set_model.specs.Control.{as_created}
 use Rattle.pipapo_image.specs.declared.answers.ChangeError.{ChangeError}
 use Rattle.pipapo_image.specs.declared.answers.ChangeError.TheVariants.{Refused, Memory}
 
 -- What comes of an addition, and the set that it leaves, to a creation: a new element is created, and
 -- what refuses a creation refuses it (one that is there already or would be renewed exists).
-abbrev pub IsCreation : Added × State → Result ℕ ChangeError → State → State → Type 0
+abbrev pub IsCreation : Addition × State → Result ℕ ChangeError → State → State → Type 0
 IsCreation added (Ok id) old new = (added.0 ≡ New id) × (new ≡ added.1)
 IsCreation added (Err (Refused why)) old new = ((as_created old added).0 ≡ Some why) × (new ≡ old)
 IsCreation added (Err Memory) old new = new ≡ old

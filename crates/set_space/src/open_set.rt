@@ -1,17 +1,16 @@
 ghost use Rattle.std.specs.Prelude.{◌≡◌, ◌<◌, true, None, Ok, [], length, count_by, IfOk, IfErr, OnErr};
 ghost use Rattle.std.specs.Arc.{arc_value};
 ghost use Rattle.set_model.specs.Key.{parts_fit};
-ghost use Rattle.set_model.specs.SetState.{State, add, removed, purged, cleared};
+ghost use Rattle.set_model.specs.SetState.{State, add, removed, purged, cleared, element_at, without_at};
 ghost use Rattle.expiry_scan.specs.Expired.{is_expired};
-ghost use Rattle.pipapo_image.specs.Found.{element_at};
-ghost use Rattle.pipapo_image.specs.Insert.{IsAnswer, said};
-ghost use Rattle.pipapo_image.specs.Decision.{CanBeDone, comes, left};
-ghost use Rattle.pipapo_image.specs.Remove.{IsRemoval, without_at};
+ghost use Rattle.pipapo_image.specs.Image.Insert.{IsAnswer, said};
+ghost use Rattle.pipapo_image.specs.Image.Decision.{CanBeDone, comes, left};
+ghost use Rattle.pipapo_image.specs.Image.Remove.{IsRemoval};
 ghost use Rattle.set_space.specs.OpenSets.{open_state, IsPurgedAnew};
 ghost use Rattle.set_space.specs.Answers.{IsCreation};
 
 use pipapo_image::{Added, ChangeError, Decision, Scratch, SetImage};
-use set_model::{Comment, Memory, Parts, Why};
+use set_model::{Memory, NewElement, Parts, Why};
 use std::alloc::Global;
 use std::mem;
 use std::sync::Arc;
@@ -25,15 +24,6 @@ pub(crate) enum OpenSet {
     Changed(SetImage),
     /// It was changed, and is shared with a generation that was sealed.
     Sealed(Arc<SetImage, Global>),
-}
-
-/// A set without its elements, whose ids go on.
-fn emptied(alloc: Global, set: &SetImage) -> Result<SetImage, Memory>
-    ensures { IfOk result (λ image. image ≡ cleared set.now) }
-{
-    let mut image = SetImage::new(alloc, &set.kinds, set.size, set.disjoint)?;
-    image.next = set.next;
-    Ok(image)
 }
 
 /// A changed set, for generations to share and copies to share its elements. Where memory is missing it
@@ -69,18 +59,16 @@ impl OpenSet {
         &mut self,
         alloc: Global,
         base: &SetImage,
-        parts: &Parts,
-        expiry: Option<u64>,
-        comment: &Comment,
+        element: &NewElement,
         now: u64,
         scratch: &mut Scratch,
     ) -> Result<Added, ChangeError>
-        requires { parts_fit (open_state self.old base.now).kinds parts.now ≡ true }
-        ensures { IsAnswer (add (open_state self.old base.now) parts.now expiry comment.now now) result (open_state self.old base.now) (open_state self.new base.now) }
+        requires { parts_fit (open_state self.old base.now).kinds element.now.parts ≡ true }
+        ensures { IsAnswer (add (open_state self.old base.now) element.now now) result (open_state self.old base.now) (open_state self.new base.now) }
     {
         let set = self.image(base);
-        let decision = set.decide(alloc, parts, expiry, now, scratch)?;
-        let came = self.carry_out(alloc, base, decision, parts, expiry, comment)?;
+        let decision = set.decide(alloc, element, now, scratch)?;
+        let came = self.carry_out(alloc, base, decision, element)?;
         Ok(came)
     }
 
@@ -89,21 +77,19 @@ impl OpenSet {
         &mut self,
         alloc: Global,
         base: &SetImage,
-        parts: &Parts,
-        expiry: Option<u64>,
-        comment: &Comment,
+        element: &NewElement,
         now: u64,
         scratch: &mut Scratch,
     ) -> Result<u64, ChangeError>
-        requires { parts_fit (open_state self.old base.now).kinds parts.now ≡ true }
-        ensures { IsCreation (add (open_state self.old base.now) parts.now expiry comment.now now) result (open_state self.old base.now) (open_state self.new base.now) }
+        requires { parts_fit (open_state self.old base.now).kinds element.now.parts ≡ true }
+        ensures { IsCreation (add (open_state self.old base.now) element.now now) result (open_state self.old base.now) (open_state self.new base.now) }
     {
         let set = self.image(base);
-        let decision = set.decide(alloc, parts, expiry, now, scratch)?;
+        let decision = set.decide(alloc, element, now, scratch)?;
         if let Some(id) = decision.existing() {
             return Err(ChangeError::Refused(Why::Exists { id }));
         }
-        match self.carry_out(alloc, base, decision, parts, expiry, comment)? {
+        match self.carry_out(alloc, base, decision, element)? {
             Added::New { id } => Ok(id),
             Added::Already { .. } | Added::Renewed { .. } => unreachable!(),
         }
@@ -116,24 +102,22 @@ impl OpenSet {
         alloc: Global,
         base: &SetImage,
         decision: Decision,
-        parts: &Parts,
-        expiry: Option<u64>,
-        comment: &Comment,
+        element: &NewElement,
     ) -> Result<Added, Memory>
-        requires fit { parts_fit (open_state self.old base.now).kinds parts.now ≡ true }
-        requires can { CanBeDone (open_state self.old base.now) parts.now decision }
+        requires fit { parts_fit (open_state self.old base.now).kinds element.now.parts ≡ true }
+        requires can { CanBeDone (open_state self.old base.now) element.now.parts decision }
         ensures came { IfOk result (λ came. said came ≡ comes decision (open_state self.old base.now).next) }
-        ensures left { IfOk result (λ _. open_state self.new base.now ≡ left (open_state self.old base.now) parts.now expiry comment.now decision) }
+        ensures left { IfOk result (λ _. open_state self.new base.now ≡ left (open_state self.old base.now) element.now decision) }
         ensures err { OnErr result (open_state self.new base.now ≡ open_state self.old base.now) }
     {
         if let OpenSet::Changed(image) = self {
-            return image.carry_out(alloc, decision, parts, expiry, comment);
+            return image.carry_out(alloc, decision, element);
         }
         if let Decision::Stays { id } = decision {
             return Ok(Added::Already { id });
         }
         let mut image = self.image(base).copy(alloc)?;
-        let came = image.carry_out(alloc, decision, parts, expiry, comment)?;
+        let came = image.carry_out(alloc, decision, element)?;
         *self = OpenSet::Changed(image);
         Ok(came)
     }
@@ -145,11 +129,12 @@ impl OpenSet {
         base: &SetImage,
         parts: &Parts,
         now: u64,
+        scratch: &mut Scratch,
     ) -> Result<u64, ChangeError>
         ensures removal { IsRemoval (removed (open_state self.old base.now) parts.now now) result (open_state self.old base.now) (open_state self.new base.now) }
         ensures missing { removed (open_state self.old base.now) parts.now now ≡ None → result ≡ Err (ChangeError.Refused Why.Missing) }
     {
-        match self.image(base).find_exact(parts, now) {
+        match self.image(base).find_exact(parts, now, scratch) {
             None => Err(ChangeError::Refused(Why::Missing)),
             Some(found) => Ok(self.remove_at(alloc, base, found.place)?),
         }
@@ -180,11 +165,11 @@ impl OpenSet {
         ensures empty { (open_state self.old base.now).elements ≡ [] → (result ≡ Ok 0) × (self.new ≡ self.old) }
     {
         let set = self.image(base);
-        let count = set.elements.len();
+        let count = set.elements().len();
         if count == 0 {
             return Ok(0);
         }
-        let image = emptied(alloc, set)?;
+        let image = set.emptied(alloc)?;
         *self = OpenSet::Changed(image);
         Ok(count)
     }
@@ -247,7 +232,7 @@ fn purged_anew(alloc: Global, set: &SetImage, now: u64) -> Result<Option<(SetIma
     ensures none { count_by (is_expired now) set.now.elements ≡ 0 → result ≡ Ok None }
     ensures some { IfOk result (λ anew. IsPurgedAnew set.now now anew) }
 {
-    let count = set.elements.count_expired(now);
+    let count = set.elements().count_expired(now);
     if count == 0 {
         return Ok(None);
     }

@@ -4,7 +4,8 @@ ghost use Rattle.set_space.specs.Open.{CanBeBuilt};
 use crate::{Generation, Work};
 use pipapo_image::{Added, ChangeError};
 use set_model::{
-    Comment, Family, Interval, Kind, Kinds, Memory, Name, Parts, Schema, SetDecl, Why, parts_fit,
+    Comment, Family, Interval, Kind, Kinds, Memory, Name, NewElement, Parts, Schema, SetDecl, Why,
+    parts_fit,
 };
 use std::alloc::Global;
 use std::process::Abort;
@@ -56,6 +57,15 @@ fn port(alloc: Global, number: u128) -> Result<Parts, Memory> {
     ports(alloc, number, number)
 }
 
+/// A new element of these intervals, without a comment.
+fn element(alloc: Global, parts: Parts, expiry: Option<u64>) -> NewElement {
+    NewElement {
+        parts,
+        expiry,
+        comment: Comment::new(alloc),
+    }
+}
+
 /// Inserts a port that expires at a moment. Its id, if it is new.
 fn inserted(
     rt: &impl Abort,
@@ -64,10 +74,10 @@ fn inserted(
     set: u32,
     expiry: Option<u64>,
 ) -> Result<Option<u64>, Memory> {
-    let parts = port(alloc, 80)?;
+    let element = element(alloc, port(alloc, 80)?, expiry);
     assert!(rt; u64::from(set) < work.len());
-    assert!(rt; parts_fit(&work.set(set).kinds, &parts));
-    match work.insert(set, &parts, expiry, &Comment::new(alloc), 0) {
+    assert!(rt; parts_fit(work.set(set).kinds(), &element.parts));
+    match work.insert(set, &element, 0) {
         Ok(Added::New { id }) => Ok(Some(id)),
         _ => Ok(None),
     }
@@ -75,10 +85,10 @@ fn inserted(
 
 /// Whether ports 80 and 81 in one interval are refused in set 0.
 fn is_range_refused(rt: &impl Abort, alloc: Global, work: &mut Work) -> Result<bool, Memory> {
-    let parts = ports(alloc, 80, 81)?;
+    let element = element(alloc, ports(alloc, 80, 81)?, None);
     assert!(rt; 0 < work.len());
-    assert!(rt; parts_fit(&work.set(0).kinds, &parts));
-    let answer = work.insert(0, &parts, None, &Comment::new(alloc), 0);
+    assert!(rt; parts_fit(work.set(0).kinds(), &element.parts));
+    let answer = work.insert(0, &element, 0);
     Ok(answer == Err(ChangeError::Refused(Why::Overlap { id: 0 })))
 }
 
@@ -89,10 +99,10 @@ fn created(
     work: &mut Work,
     now: u64,
 ) -> Result<Option<u64>, Memory> {
-    let parts = port(alloc, 80)?;
+    let element = element(alloc, port(alloc, 80)?, None);
     assert!(rt; 0 < work.len());
-    assert!(rt; parts_fit(&work.set(0).kinds, &parts));
-    match work.create(0, &parts, None, &Comment::new(alloc), now) {
+    assert!(rt; parts_fit(work.set(0).kinds(), &element.parts));
+    match work.create(0, &element, now) {
         Ok(id) => Ok(Some(id)),
         Err(_) => Ok(None),
     }
@@ -138,7 +148,7 @@ fn sealed(
 /// How many elements a set has, with the open changes.
 fn count(rt: &impl Abort, work: &Work, set: u32) -> u64 {
     assert!(rt; u64::from(set) < work.len());
-    work.set(set).elements.len()
+    work.set(set).elements().len()
 }
 
 /// How many generations and works share a set of a generation.

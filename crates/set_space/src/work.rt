@@ -2,8 +2,8 @@ ghost use Rattle.std.specs.Prelude.{◌≡◌, ◌<◌, ◌^◌, length, map, sl
 ghost use Rattle.std.specs.Arc.{arc_value};
 ghost use Rattle.set_model.specs.SetState.{add, removed, purged, cleared};
 ghost use Rattle.set_model.specs.Control.{expired_count};
-ghost use Rattle.pipapo_image.specs.Insert.{IsAnswer};
-ghost use Rattle.pipapo_image.specs.Remove.{IsRemoval};
+ghost use Rattle.pipapo_image.specs.Image.Insert.{IsAnswer};
+ghost use Rattle.pipapo_image.specs.Image.Remove.{IsRemoval};
 ghost use Rattle.set_space.specs.Open.{opened, sealed, FitsSet, Lacks, IsEmptyAt, IsChange};
 ghost use Rattle.set_space.specs.Answers.{IsCreation, IsDestruction, IsFlush};
 ghost use Rattle.set_space.specs.OpenSets.{open_states, IsSealed};
@@ -12,7 +12,7 @@ use crate::generation::Generation;
 use crate::open_set::OpenSet;
 use crate::sets::Sets;
 use pipapo_image::{Added, ChangeError, Scratch, SetImage};
-use set_model::{Comment, Memory, Parts, Why};
+use set_model::{Memory, NewElement, Parts, Why};
 use std::alloc::Global;
 use std::marker::Model;
 use std::sync::Arc;
@@ -152,34 +152,19 @@ impl Work {
         self.sets[set as usize].image(base)
     }
 
-    /// Inserts into a set. `expiry` and `now` are in milliseconds.
+    /// Inserts into a set. `now` is in milliseconds.
     ///
     /// # Errors
     ///
     /// As of an insertion into the set's image. Each leaves the work as it was.
-    pub fn insert(
-        &mut self,
-        set: u32,
-        parts: &Parts,
-        expiry: Option<u64>,
-        comment: &Comment,
-        now: u64,
-    ) -> Result<Added, ChangeError>
+    pub fn insert(&mut self, set: u32, element: &NewElement, now: u64) -> Result<Added, ChangeError>
         requires set { set < length self.old.sets }
-        requires fits { FitsSet self.old set parts.now }
-        ensures change { IsChange (λ s t. IsAnswer (add s parts.now expiry comment.now now) result s t) self.old set self.new }
+        requires fits { FitsSet self.old set element.now.parts }
+        ensures change { IsChange (λ s t. IsAnswer (add s element.now now) result s t) self.old set self.new }
         ensures refused { OnErr result (self.new ≡ self.old) }
     {
         let base = self.base.set(set);
-        self.sets[set as usize].insert(
-            self.alloc,
-            base,
-            parts,
-            expiry,
-            comment,
-            now,
-            &mut self.scratch,
-        )
+        self.sets[set as usize].insert(self.alloc, base, element, now, &mut self.scratch)
     }
 
     /// Inserts into a set where no live element of the same intervals is there.
@@ -188,29 +173,14 @@ impl Work {
     ///
     /// `Exists` if one is there, also where a new expiry is handed in; the set stays. Then as of an
     /// insertion. Each leaves the work as it was.
-    pub fn create(
-        &mut self,
-        set: u32,
-        parts: &Parts,
-        expiry: Option<u64>,
-        comment: &Comment,
-        now: u64,
-    ) -> Result<u64, ChangeError>
+    pub fn create(&mut self, set: u32, element: &NewElement, now: u64) -> Result<u64, ChangeError>
         requires set { set < length self.old.sets }
-        requires fits { FitsSet self.old set parts.now }
-        ensures change { IsChange (λ s t. IsCreation (add s parts.now expiry comment.now now) result s t) self.old set self.new }
+        requires fits { FitsSet self.old set element.now.parts }
+        ensures change { IsChange (λ s t. IsCreation (add s element.now now) result s t) self.old set self.new }
         ensures refused { OnErr result (self.new ≡ self.old) }
     {
         let base = self.base.set(set);
-        self.sets[set as usize].create(
-            self.alloc,
-            base,
-            parts,
-            expiry,
-            comment,
-            now,
-            &mut self.scratch,
-        )
+        self.sets[set as usize].create(self.alloc, base, element, now, &mut self.scratch)
     }
 
     /// Takes the first live element of exactly these intervals out of a set, and answers its id.
@@ -226,7 +196,7 @@ impl Work {
         ensures refused { OnErr result (self.new ≡ self.old) }
     {
         let base = self.base.set(set);
-        self.sets[set as usize].delete(self.alloc, base, parts, now)
+        self.sets[set as usize].delete(self.alloc, base, parts, now, &mut self.scratch)
     }
 
     /// As `delete`, and `None` where there is no such element, which takes no memory.

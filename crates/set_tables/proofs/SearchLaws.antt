@@ -20,7 +20,7 @@ use Rattle.set_tables.specs.declared.Span.{Span}
 use Rattle.set_tables.specs.Core.{hits, held, holds_at, part_contains, passed, row_of, key_row}
 use Rattle.set_tables.specs.Rows.{matched, refilled, led_to}
 use Rattle.set_tables.specs.Tables.{tables, split, spans, field_spans, last_ends}
-use Rattle.set_tables.specs.Search.{of_field, key_tests, row_behind, searched, IsShaped}
+use Rattle.set_tables.specs.Search.{of_field, key_tests, row_behind, searched, AreShaped}
 use Rattle.set_tables.proofs.RowLaws.{marks-all, marks-matched, hits-refilled, hits-led, position-cons}
 use Rattle.set_tables.proofs.UpdateLaws.{length-spans, length-ends}
 use Rattle.set_tables.proofs.CoverLaw.{blocks-cover}
@@ -153,7 +153,7 @@ spans-inside here next from top (e ∷ es) h =
     (spans-inside here next (from + length (next e)) top es (omega arith))
 
 pub tables-shaped : (kinds : List Kind) (es : List Element) → 1 ≤ length kinds → ((f : ℕ) → f < length kinds → length (field_rules kinds f es) ≤ rules_limit)
-    → IsShaped (tables kinds es)
+    → AreShaped (tables kinds es)
 tables-shaped kinds es h few =
     let n : length (tables kinds es).rules ≡ length kinds = length-map-range_with_len (λ f. field_rules kinds f es) 0 (length kinds) in
     let m : length (tables kinds es).maps ≡ length kinds - 1 = length-map-range_with_len (λ f. field_spans kinds f es) 0 (length kinds - 1) in

@@ -17,7 +17,7 @@ use Rattle.set_model.specs.Kind.{bits_of}
 use Rattle.set_model.specs.Expiry.{live}
 use Rattle.set_model.specs.Key.{parts_fit, intervals_fit, is_good, is_value, parts_share}
 use Rattle.set_model.specs.Blocks.{free_bits, blocks}
-use Rattle.set_model.specs.SetState.{blocks_of}
+use Rattle.set_model.specs.SetState.{blocks_of, is_sharing}
 use Rattle.set_model.proofs.BlockLaws.{blocks-first, blocks-none}
 use Rattle.range_expand.proofs.FirstBlock.{first-within}
 use Rattle.set_tables.specs.Core.{passed}
@@ -25,7 +25,7 @@ use Rattle.set_tables.specs.Rows.{led_to}
 use Rattle.set_tables.specs.Core.{row_of}
 use Rattle.set_tables.specs.Tables.{tables, split, last_ends}
 use Rattle.set_tables.specs.Search.{searched}
-use Rattle.set_tables.specs.Sharing.{shares_some, share_tests, is_sharing}
+use Rattle.set_tables.specs.Sharing.{shares_some, share_tests}
 use Rattle.set_tables.proofs.SearchLaws.{search-passed, position-same, row-led}
 
 -- ---- one interval

@@ -6,12 +6,12 @@ use Rattle.set_model.specs.declared.kind.Interval.{Interval}
 use Rattle.set_model.specs.declared.element.Element.{Element}
 use Rattle.set_model.specs.declared.block.Block.{Block}
 use Rattle.set_model.specs.Key.{parts_fit}
-use Rattle.set_model.specs.SetState.{answers}
+use Rattle.set_model.specs.SetState.{answers, is_sharing}
 use Rattle.set_model.specs.Blocks.{blocks, holds_value}
 use Rattle.set_tables.specs.Tables.{tables}
 use Rattle.set_tables.specs.Search.{searched, row_behind, key_tests}
 use Rattle.set_tables.specs.Core.{row_of, key_row}
-use Rattle.set_tables.specs.Sharing.{shares_some, share_tests, is_sharing}
+use Rattle.set_tables.specs.Sharing.{shares_some, share_tests}
 
 -- Some block of an interval's split holds a value exactly where the interval does.
 abbrev pub BlocksCover : Type 0

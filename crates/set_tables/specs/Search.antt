@@ -28,7 +28,7 @@ searched tests t now = led_to t.ends (row_behind tests t.rules t.maps (length t.
 
 -- Tables are shaped: one list of spans fewer than of rules, one span for each rule, which lies
 -- inside the next field's rules, one end for each rule of the last field, and not too many rules.
-pub record IsShaped (t : Tables) : Type 0 where
+pub record AreShaped (t : Tables) : Type 0 where
   pub one_fewer : length t.maps + 1 ≡ length t.rules
   pub one_each : (f : ℕ) → f < length t.maps → length (of_field t.maps f) ≡ length (of_field t.rules f)
   pub inside : (f : ℕ) → f < length t.maps → All (λ s. s.first + s.count ≤ length (of_field t.rules (suc f))) (of_field t.maps f)

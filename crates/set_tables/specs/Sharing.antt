@@ -1,12 +1,10 @@
 -- The walk by intervals, in place of a key: which rules share a value with one of their blocks.
-use Rattle.std.specs.Prelude.{ℕ, Bool, ◌&&◌, List}
+use Rattle.std.specs.Prelude.{ℕ, Bool, List}
 use Rattle.std.specs.List.{list_any}
 use Rattle.set_model.specs.declared.kind.Kind.{Kind}
 use Rattle.set_model.specs.declared.kind.Interval.{Interval}
-use Rattle.set_model.specs.declared.element.Element.{Element}
 use Rattle.set_model.specs.declared.block.Block.{Block}
-use Rattle.set_model.specs.Expiry.{live}
-use Rattle.set_model.specs.SetState.{shares, field_blocks}
+use Rattle.set_model.specs.SetState.{field_blocks}
 use Rattle.field_groups.specs.Groups.{share_value}
 
 -- A block shares a value with some block of a list.
@@ -16,7 +14,3 @@ shares_some blocks b = list_any (λ other. share_value b other) blocks
 -- a test of blocks for each field: the block shares a value with some block of the interval there
 abbrev pub share_tests : List Kind → List Interval → ℕ → Block → Bool
 share_tests kinds parts f b = shares_some (field_blocks kinds f parts) b
-
--- An element stands in the way of intervals at a moment: it is live then and shares a key with them.
-abbrev pub is_sharing : List Interval → ℕ → Element → Bool
-is_sharing parts now e = live e now && shares e parts

@@ -1,12 +1,14 @@
 -- The items of whole pages, one after the other, and of the last page behind them; and whose the pages are.
-use Rattle.std.proofs.Common.{◌≡◌, refl, sym, ◌∙◌, ap, ℕ, zero, suc, ◌+◌, ◌-◌, ◌*◌, ◌/◌, ◌%◌, ◌<◌, ◌≤◌, List, [], ◌∷◌, ◌++◌, length, get_or, map, true, All, arith, length-append, append_assoc, slice_get, Some, flat_map}
+use Rattle.std.proofs.Common.{◌≡◌, refl, sym, ◌∙◌, ap, ℕ, zero, suc, ◌+◌, ◌-◌, ◌*◌, ◌/◌, ◌%◌, ◌<◌, ◌≤◌, List, [], ◌∷◌, ◌++◌, length, get_or, map, true, false, All, take, drop, arith, length-append, append_assoc, slice_get, Some, flat_map, ◌⊎◌, inl, inr}
 use Rattle.std.specs.Prelude.{insert, remove}
+use Rattle.std.proofs.lemmas.Bool.{cases_lt}
 use Rattle.std.proofs.Math.ListN.{set}
-use Rattle.std.proofs.lemmas.List.{get_or_append_left, get_or-append_right, set-append_left, set-append_right}
+use Rattle.std.proofs.lemmas.List.{get_or_append_left, get_or-append_right, set-append_left, set-append_right, take-append-le, take-append-drop, take_all}
+use Rattle.std.proofs.Math.Seq.{take-append-add}
 use Rattle.std.proofs.lemmas.List.Edits.{insert-append_left, insert-append_right, length-remove}
 use Rattle.std.proofs.lemmas.List.Elements.{All-nil, All-cons, All-head, All-tail}
 use Rattle.std.proofs.lemmas.Option.{slice_get_read, slice_get_within, get_or_from_slice_get}
-use Rattle.shared_pages.specs.Paged.{PageOf, items_in, owns_of, IsWhole, IsPaged, AreOwn}
+use Rattle.shared_pages.specs.Paged.{PageOf, items_in, owns_of, IsWhole, IsPaged, AreOwn, AreCommon}
 
 module _ {X : Type 0} where
   -- ---- one page first
@@ -148,7 +150,7 @@ module _ {X : Type 0} where
 
   -- ---- whose the pages are
 
-  kept-own : (pages : List (PageOf X)) (p : ℕ) (n : PageOf X) → n.own ≡ true → (k : ℕ) → get_or (owns_of pages) k true ≡ true → get_or (owns_of (set pages p n)) k true ≡ true
+  pub kept-own : (pages : List (PageOf X)) (p : ℕ) (n : PageOf X) → n.own ≡ true → (k : ℕ) → get_or (owns_of pages) k true ≡ true → get_or (owns_of (set pages p n)) k true ≡ true
   kept-own [] p n e k h = h
   kept-own (l ∷ ls) zero n e zero h = e
   kept-own (l ∷ ls) zero n e (suc k) h = h
@@ -168,6 +170,18 @@ module _ {X : Type 0} where
   own-so-far (l ∷ ls) from (suc p) n h e before zero f g = before zero f (omega arith)
   own-so-far (l ∷ ls) from (suc p) n h e before (suc j) f g =
       own-so-far ls (from - 1) p n (omega arith) e (λ k a b. before (suc k) (omega arith) (omega arith)) j (omega arith) (omega arith)
+
+  pub common-none : (pages : List (PageOf X)) → AreCommon 0 pages
+  common-none pages = record { common = λ k h. absurd (omega arith) }
+
+  pub common-so-far : (pages : List (PageOf X)) (p : ℕ) (n : PageOf X) → p < length pages → n.own ≡ false → AreCommon p pages → AreCommon (p + 1) (set pages p n)
+  common-so-far pages p n h e before = record { common = λ k l. go pages p k h l (λ j m. before.common j m) } where
+    go : (pages : List (PageOf X)) (p k : ℕ) → p < length pages → k < p + 1 → ((j : ℕ) → j < p → get_or (owns_of pages) j false ≡ false) → get_or (owns_of (set pages p n)) k false ≡ false
+    go [] p k h l so_far = absurd (omega arith)
+    go (m ∷ ms) zero zero h l so_far = e
+    go (m ∷ ms) zero (suc k) h l so_far = absurd (omega arith)
+    go (m ∷ ms) (suc p) zero h l so_far = so_far 0 (omega arith)
+    go (m ∷ ms) (suc p) (suc k) h l so_far = go ms p k (omega arith) (omega arith) (λ j a. so_far (suc j) (omega arith))
 
   pub own-stays : (pages : List (PageOf X)) (from p : ℕ) (n : PageOf X) → n.own ≡ true → AreOwn from pages → AreOwn from (set pages p n)
   own-stays pages from p n e own = record { own = λ k h. kept-own pages p n e k (own.own k h) }
@@ -246,3 +260,58 @@ module _ {X : Type 0} where
       All-cons IsWhole n ls (record { whole = omega arith }) (All-tail IsWhole l ls whole)
   still-whole (l ∷ ls) (suc p) k m n c x whole h at e r =
       All-cons IsWhole l (set ls p n) (All-head IsWhole l ls whole) (still-whole ls p k m n c x (All-tail IsWhole l ls whole) (omega arith) at e r)
+
+  -- ---- a page is made whole, and a part of the list is left
+
+  pub sealed : (pages : List (PageOf X)) (page : PageOf X) (last : List X) → page.items ≡ take 512 last → items_in (pages ++ page ∷ []) (drop 512 last) ≡ items_in pages last
+  sealed pages page last e =
+      one-more pages page (drop 512 last) ∙ ap (λ xs. items_in pages xs ++ drop 512 last) e
+      ∙ append_assoc (flat_map (λ m. m.items) pages) (take 512 last) (drop 512 last) ∙ ap (λ xs. flat_map (λ m. m.items) pages ++ xs) (take-append-drop 512 last)
+
+  pub cut-last : (pages : List (PageOf X)) (last : List X) (n : ℕ) → All IsWhole pages → 512 * length pages ≤ n → items_in pages (take (n - 512 * length pages) last) ≡ take n (items_in pages last)
+  cut-last [] last n whole h = let e : n - 512 * length {A = PageOf X} [] ≡ n = omega arith in ap (λ j. take j last) e
+  cut-last (l ∷ ls) last n whole h =
+      let w : length l.items ≡ 512 = (All-head IsWhole l ls whole).whole in
+      let e : n - 512 * length (l ∷ ls) ≡ (n - 512) - 512 * length ls = omega arith in
+      let f : length l.items + (n - 512) ≡ n = omega arith in
+      ap (λ j. items_in (l ∷ ls) (take j last)) e ∙ first l ls (take ((n - 512) - 512 * length ls) last)
+      ∙ ap (λ xs. l.items ++ xs) (cut-last ls last (n - 512) (All-tail IsWhole l ls whole) (omega arith))
+      ∙ sym (take-append-add l.items (items_in ls last) (n - 512)) ∙ ap (λ j. take j (l.items ++ items_in ls last)) f ∙ ap (λ xs. take n xs) (sym (first l ls last))
+
+  pub cut-page : (pages : List (PageOf X)) (last : List X) (p n : ℕ) (m : PageOf X) → All IsWhole pages → p < length pages → m ≡ get_or pages p m → n ≤ 512 * p + 512
+      → take n (items_in (take p pages) m.items) ≡ take n (items_in pages last)
+  cut-page [] last p n m whole h at k = absurd (omega arith)
+  cut-page (l ∷ ls) last zero n m whole h at k =
+      let w : length l.items ≡ 512 = (All-head IsWhole l ls whole).whole in
+      ap (λ page. take n page.items) at ∙ sym (take-append-le n l.items (items_in ls last) (omega arith)) ∙ ap (λ xs. take n xs) (sym (first l ls last))
+  cut-page (l ∷ ls) last (suc p) n m whole h at k = go (cut-page ls last p (n - 512) m (All-tail IsWhole l ls whole) (omega arith) at (omega arith)) (cases_lt n 512) where
+    w : length l.items ≡ 512
+    w = (All-head IsWhole l ls whole).whole
+
+    go : take (n - 512) (items_in (take p ls) m.items) ≡ take (n - 512) (items_in ls last) → (n < 512) ⊎ (512 ≤ n) → take n (items_in (l ∷ take p ls) m.items) ≡ take n (items_in (l ∷ ls) last)
+    go later (inl b) =
+        ap (λ xs. take n xs) (first l (take p ls) m.items) ∙ take-append-le n l.items (items_in (take p ls) m.items) (omega (arith, w))
+        ∙ sym (take-append-le n l.items (items_in ls last) (omega (arith, w))) ∙ ap (λ xs. take n xs) (sym (first l ls last))
+    go later (inr b) =
+        let f : length l.items + (n - 512) ≡ n = omega (arith, w) in
+        ap (λ xs. take n xs) (first l (take p ls) m.items) ∙ ap (λ j. take j (l.items ++ items_in (take p ls) m.items)) (sym f)
+        ∙ take-append-add l.items (items_in (take p ls) m.items) (n - 512)
+        ∙ ap (λ xs. l.items ++ xs) later
+        ∙ sym (take-append-add l.items (items_in ls last) (n - 512)) ∙ ap (λ j. take j (l.items ++ items_in ls last)) f ∙ ap (λ xs. take n xs) (sym (first l ls last))
+
+  pub own-pushed : (pages : List (PageOf X)) (page : PageOf X) → page.own ≡ true → (k : ℕ) → get_or (owns_of pages) k true ≡ true → get_or (owns_of (pages ++ page ∷ [])) k true ≡ true
+  own-pushed [] page e zero h = e
+  own-pushed [] page e (suc k) h = refl
+  own-pushed (l ∷ ls) page e zero h = h
+  own-pushed (l ∷ ls) page e (suc k) h = own-pushed ls page e k h
+
+  pub own-front : (pages : List (PageOf X)) (p k : ℕ) → get_or (owns_of pages) k true ≡ true → get_or (owns_of (take p pages)) k true ≡ true
+  own-front pages zero k h = refl
+  own-front [] (suc p) k h = refl
+  own-front (l ∷ ls) (suc p) zero h = h
+  own-front (l ∷ ls) (suc p) (suc k) h = own-front ls p k h
+
+  pub own-same : (pages : List (PageOf X)) (p : ℕ) (m n : PageOf X) → m ≡ get_or pages p m → n.own ≡ m.own → owns_of (set pages p n) ≡ owns_of pages
+  own-same [] p m n at e = refl
+  own-same (l ∷ ls) zero m n at e = ap (λ o. o ∷ owns_of ls) (e ∙ ap (λ z. z.own) at)
+  own-same (l ∷ ls) (suc p) m n at e = ap (λ os. l.own ∷ os) (own-same ls p m n at e)

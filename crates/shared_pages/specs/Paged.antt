@@ -1,5 +1,5 @@
 -- A list in pages.
-use Rattle.std.specs.Prelude.{◌≡◌, ℕ, ◌+◌, ◌*◌, ◌≤◌, List, ◌++◌, Bool, true, length, get_or, map, All, flat_map}
+use Rattle.std.specs.Prelude.{◌≡◌, ℕ, ◌+◌, ◌*◌, ◌<◌, ◌≤◌, List, ◌++◌, Bool, true, false, length, get_or, map, All, flat_map}
 
 -- what a contract sees of a page: its items, and whether they are this page's alone
 pub record PageOf (X : Type 0) : Type 0 where
@@ -17,6 +17,10 @@ owns_of pages = map (λ page. page.own) pages
 -- The pages from this one on are the list's own.
 pub record AreOwn {X : Type 0} (from : ℕ) (pages : List (PageOf X)) : Type 0 where
   pub own : (k : ℕ) → from ≤ k → get_or (owns_of pages) k true ≡ true
+
+-- The first n pages are common.
+pub record AreCommon {X : Type 0} (n : ℕ) (pages : List (PageOf X)) : Type 0 where
+  pub common : (k : ℕ) → k < n → get_or (owns_of pages) k false ≡ false
 
 -- a whole page
 pub record IsWhole {X : Type 0} (page : PageOf X) : Type 0 where

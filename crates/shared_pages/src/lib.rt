@@ -6,10 +6,13 @@
 
 mod page;
 mod pages;
+mod plain;
 #[cfg(test)]
 mod tests;
 
-pub use pages::Pages;
+pub use page::Page;
+pub use pages::{Pages, settle_pages as settle_plain_pages};
+pub use plain::{copy_plain_pages, own_plain_pages};
 
 /// How many items a page has.
-const PAGE: usize = 512;
+pub const PAGE: usize = 512;

@@ -1,5 +1,5 @@
-ghost use Rattle.std.specs.Prelude.{◌≡◌, ◌<◌, true, [], ◌∷◌, ◌++◌, length, IfOk, OnOk, OnErr, slice_get, slice_set, remove, Some};
-ghost use Rattle.shared_pages.specs.Contents.{items_of};
+ghost use Rattle.std.specs.Prelude.{◌≡◌, ◌<◌, true, false, [], ◌∷◌, ◌++◌, length, IfOk, OnOk, OnErr, slice_get, slice_set, remove, Some};
+ghost use Rattle.shared_pages.specs.Contents.{items_of, is_own};
 
 use crate::PAGE;
 use set_model::{Duplicate, Memory};
@@ -44,7 +44,8 @@ fn copied<T: Duplicate + Drop>(alloc: Global, items: &[T]) -> Result<Vec<T>, Mem
 
 /// The items in a place that copies can share. After `Memory` they stay where they are.
 fn settled<T: Drop>(alloc: Global, items: Vec<T>) -> (Contents<T>, Result<(), Memory>)
-    ensures { items_of result.0 ≡ items.items }
+    ensures items { items_of result.0 ≡ items.items }
+    ensures common { OnOk result.1 (is_own result.0 ≡ false) }
 {
     match Arc::new(alloc, items) {
         Ok(common) => (Contents::Common(common), Ok(())),
@@ -107,6 +108,25 @@ impl<T> Page<T> {
     }
 }
 
+impl<T: Drop> Page<T> {
+    /// Lets copies share the items from now on. No item is copied.
+    ///
+    /// # Errors
+    /// `Memory` if there is none left. The items are as they were.
+    pub fn settle(&mut self, alloc: Global) -> Result<(), Memory>
+        ensures items { self.new.items ≡ self.old.items }
+        ensures common { OnOk result (self.new.own ≡ false) }
+    {
+        if let Contents::Own(items) = &mut self.contents {
+            let own = mem::replace(items, Vec::new(alloc));
+            let (contents, done) = settled(alloc, own);
+            self.contents = contents;
+            return done;
+        }
+        Ok(())
+    }
+}
+
 impl<T: Duplicate + Drop> Page<T> {
     /// Makes the items this page's own: they are copied where others may share them.
     ///
@@ -161,22 +181,6 @@ impl<T: Duplicate + Drop> Page<T> {
         Ok(())
     }
 
-    /// Lets copies share the items from now on. No item is copied.
-    ///
-    /// # Errors
-    /// `Memory` if there is none left. The items are as they were.
-    pub fn settle(&mut self, alloc: Global) -> Result<(), Memory>
-        ensures { self.new.items ≡ self.old.items }
-    {
-        if let Contents::Own(items) = &mut self.contents {
-            let own = mem::replace(items, Vec::new(alloc));
-            let (contents, done) = settled(alloc, own);
-            self.contents = contents;
-            return done;
-        }
-        Ok(())
-    }
-
     /// The same items once more: one count where they are common, and item by item where they are
     /// the page's own.
     pub fn copy(&self, alloc: Global) -> Result<Self, Memory>
@@ -184,6 +188,74 @@ impl<T: Duplicate + Drop> Page<T> {
     {
         let contents = match &self.contents {
             Contents::Own(items) => Contents::Own(copied(alloc, items.as_slice())?),
+            Contents::Common(items) => Contents::Common(Arc::try_clone(items)?),
+        };
+        Ok(Page { contents })
+    }
+}
+
+// Plain items are copied in one piece.
+impl<T: Copy + Drop> Page<T> {
+    /// A page of its own items. It takes no memory.
+    pub fn from_vec(items: Vec<T>) -> Self
+        ensures items { result.items ≡ items.items }
+        ensures own { result.own ≡ true }
+    {
+        Page {
+            contents: Contents::Own(items),
+        }
+    }
+
+    /// Hands the page's own items out. It takes no memory.
+    pub fn into_vec(self) -> Vec<T>
+        requires { self.own ≡ true }
+        ensures { result.items ≡ self.items }
+    {
+        let Page { contents } = self;
+        match contents {
+            Contents::Own(items) => items,
+            Contents::Common(_) => unreachable!(),
+        }
+    }
+
+    /// Writes over item `i` of the page's own items. It takes no memory.
+    #[inline(always)]
+    pub fn put(&mut self, i: usize, item: T)
+        requires own { self.old.own ≡ true }
+        requires place { i < length self.old.items }
+        ensures items { self.new.items ≡ slice_set self.old.items i item }
+        ensures own { self.new.own ≡ true }
+    {
+        match &mut self.contents {
+            Contents::Own(items) => items[i] = item,
+            Contents::Common(_) => unreachable!(),
+        }
+    }
+
+    /// Makes the items this page's own: they are copied where others may share them.
+    ///
+    /// # Errors
+    /// `Memory` if there is none left. The page is as it was.
+    pub fn own_plain(&mut self, alloc: Global) -> Result<(), Memory>
+        ensures items { self.new.items ≡ self.old.items }
+        ensures own { OnOk result (self.new.own ≡ true) }
+        ensures err { OnErr result (self.new ≡ self.old) }
+    {
+        if let Contents::Own(_) = &self.contents {
+            return Ok(());
+        }
+        let items = Vec::from_slice(alloc, self.as_slice())?;
+        self.contents = Contents::Own(items);
+        Ok(())
+    }
+
+    /// The same items once more: one count where they are common, and in one piece where they are the
+    /// page's own.
+    pub fn copy_plain(&self, alloc: Global) -> Result<Self, Memory>
+        ensures { IfOk result (λ other. other ≡ self.now) }
+    {
+        let contents = match &self.contents {
+            Contents::Own(items) => Contents::Own(Vec::from_slice(alloc, items.as_slice())?),
             Contents::Common(items) => Contents::Common(Arc::try_clone(items)?),
         };
         Ok(Page { contents })

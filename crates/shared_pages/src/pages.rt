@@ -1,5 +1,5 @@
 ghost use Rattle.std.specs.Prelude.{◌≡◌, ◌<◌, ◌≤◌, ◌+◌, ◌*◌, ◌/◌, [], ◌∷◌, ◌++◌, true, length, map, All, IfOk, OnOk, OnErr, slice_get, slice_set, insert, remove, max, Some};
-ghost use Rattle.shared_pages.specs.Paged.{items_in, owns_of, AreOwn, IsWhole};
+ghost use Rattle.shared_pages.specs.Paged.{items_in, owns_of, AreOwn, AreCommon, IsWhole};
 
 use crate::PAGE;
 use crate::page::Page;
@@ -195,8 +195,12 @@ fn own_pages<T: Duplicate + Drop>(
 }
 
 /// Lets copies share the pages.
-fn settle_pages<T: Duplicate + Drop>(alloc: Global, pages: &mut Vec<Page<T>>) -> Result<(), Memory>
+///
+/// # Errors
+/// `Memory` if there is none left. The items are as they were.
+pub fn settle_pages<T: Drop>(alloc: Global, pages: &mut Vec<Page<T>>) -> Result<(), Memory>
     ensures items { map (λ page. page.items) pages.new.items ≡ map (λ page. page.items) pages.old.items }
+    ensures common { OnOk result (AreCommon (length pages.new.items) pages.new.items) }
 {
     'pages: for k in 0..pages.len() {
         let page = &mut pages[k];

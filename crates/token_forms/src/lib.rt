@@ -13,7 +13,7 @@ mod token;
 mod tokens;
 
 pub use bad_token::{BadToken, bad_token_before, plain_bad_token_before};
-pub use error::{ReadError, short};
+pub use error::ReadError;
 pub use reader::{Reader, is_a_name};
 pub use seen::Seen;
 pub use token::{Reason, Token, TokenKind};

@@ -1,4 +1,6 @@
-ghost use Rattle.std.specs.Prelude.{◌≡◌, ◌∷◌, [], IsNone, IfSome};
+ghost use Rattle.std.specs.Prelude.{◌≡◌, ◌∷◌, [], IsNone, IfSome, IfOk, IfErr, OnErr};
+ghost use Rattle.token_forms.specs.declared.token.Reason.TheVariants.{Statement};
+ghost use Rattle.token_forms.specs.declared.error.ReadError.TheVariants.{Bad};
 ghost use Rattle.token_forms.specs.TextTokens.{text_tokens, plain_tokens, tokens_by, is_change_word};
 ghost use Rattle.token_forms.specs.View.{lexeme_of};
 ghost use Rattle.token_forms.specs.Words.{inside_quotes, is_name, separates, breaks_off};
@@ -118,15 +120,31 @@ impl<'a> Reader<'a> {
         }
     }
 
+    /// Takes the next token, where a form asks for one.
+    ///
+    /// # Errors
+    /// The error of a text that is too short, behind the end.
+    pub fn next(&mut self) -> Result<Seen<'a>, ReadError>
+        ensures some { IfOk result (λ t. self.old ≡ lexeme_of t ∷ self.new) }
+        ensures none { IfErr result (λ e. e ≡ Bad 0 Statement) }
+        ensures end { OnErr result ((self.old ≡ []) × (self.new ≡ [])) }
+    {
+        match self.take() {
+            Some(t) => Ok(t),
+            None => Err(short()),
+        }
+    }
+
     /// Reads this word.
     #[tactic(auto, unfolding(crate::specs::Gives::Refuses))]
     pub fn word(&mut self, text: &[u8]) -> Result<(), ReadError>
         ensures { Gives (λ x. x) result self.new (reading.word text.now self.old) }
     {
-        match self.take() {
-            Some(t) if t.is_word() && t.bytes == text => Ok(()),
-            Some(t) => Err(t.refused(&[])),
-            None => Err(short()),
+        let t = self.next()?;
+        if t.is_word() && t.bytes == text {
+            Ok(())
+        } else {
+            Err(t.refused(&[]))
         }
     }
 
@@ -135,10 +153,11 @@ impl<'a> Reader<'a> {
     pub fn name(&mut self) -> Result<&'a [u8], ReadError>
         ensures { Gives (λ x. x.now) result self.new (reading.name self.old) }
     {
-        match self.take() {
-            Some(t) if t.is_word() && is_a_name(t.bytes) => Ok(t.bytes),
-            Some(t) => Err(t.refused(&[])),
-            None => Err(short()),
+        let t = self.next()?;
+        if t.is_word() && is_a_name(t.bytes) {
+            Ok(t.bytes)
+        } else {
+            Err(t.refused(&[]))
         }
     }
 
@@ -147,10 +166,11 @@ impl<'a> Reader<'a> {
     pub fn mark(&mut self, byte: u8) -> Result<(), ReadError>
         ensures { Gives (λ x. x) result self.new (reading.mark byte self.old) }
     {
-        match self.take() {
-            Some(t) if t.is_mark(byte) => Ok(()),
-            Some(t) => Err(t.refused(&[])),
-            None => Err(short()),
+        let t = self.next()?;
+        if t.is_mark(byte) {
+            Ok(())
+        } else {
+            Err(t.refused(&[]))
         }
     }
 
@@ -159,10 +179,11 @@ impl<'a> Reader<'a> {
     pub fn text(&mut self) -> Result<&'a [u8], ReadError>
         ensures { Gives (λ x. x.now) result self.new (reading.text self.old) }
     {
-        match self.take() {
-            Some(t) if matches!(t.kind, TokenKind::Text) => Ok(inside(t.bytes)),
-            Some(t) => Err(t.refused(&[])),
-            None => Err(short()),
+        let t = self.next()?;
+        if matches!(t.kind, TokenKind::Text) {
+            Ok(inside(t.bytes))
+        } else {
+            Err(t.refused(&[]))
         }
     }
 
@@ -171,10 +192,11 @@ impl<'a> Reader<'a> {
     pub fn the_end(&mut self) -> Result<(), ReadError>
         ensures { Gives (λ x. x) result self.new (reading.the_end self.old) }
     {
-        match self.take() {
-            Some(t) if matches!(t.kind, TokenKind::End) => Ok(()),
-            Some(t) => Err(t.refused(&[])),
-            None => Err(short()),
+        let t = self.next()?;
+        if matches!(t.kind, TokenKind::End) {
+            Ok(())
+        } else {
+            Err(t.refused(&[]))
         }
     }
 
@@ -183,10 +205,11 @@ impl<'a> Reader<'a> {
     pub fn separator(&mut self) -> Result<(), ReadError>
         ensures { Gives (λ x. x) result self.new (reading.passed separates self.old) }
     {
-        match self.take() {
-            Some(t) if t.is_separator() => Ok(()),
-            Some(t) => Err(t.refused(&[])),
-            None => Err(short()),
+        let t = self.next()?;
+        if t.is_separator() {
+            Ok(())
+        } else {
+            Err(t.refused(&[]))
         }
     }
 
@@ -195,10 +218,11 @@ impl<'a> Reader<'a> {
     pub fn line_break(&mut self) -> Result<(), ReadError>
         ensures { Gives (λ x. x) result self.new (reading.passed breaks_off self.old) }
     {
-        match self.take() {
-            Some(t) if t.is_break() => Ok(()),
-            Some(t) => Err(t.refused(&[])),
-            None => Err(short()),
+        let t = self.next()?;
+        if t.is_break() {
+            Ok(())
+        } else {
+            Err(t.refused(&[]))
         }
     }
 

@@ -1,5 +1,5 @@
 -- Lines of marks.
-use Rattle.std.proofs.Common.{◌≡◌, refl, sym, ◌∙◌, ap, ℕ, suc, ◌+◌, ◌-◌, ◌*◌, ◌%◌, ◌^◌, ◌<◌, ◌≤◌, ◌⊎◌, inl, inr, Bool, true, false, ◌&&◌, ◌||◌, not, ◌==◌, nat_le, nat_lt, List, length, arith, bit_or, bit_and}
+use Rattle.std.proofs.Common.{◌≡◌, refl, sym, ◌∙◌, ap, ℕ, suc, ◌+◌, ◌-◌, ◌*◌, ◌/◌, ◌%◌, ◌^◌, ◌<◌, ◌≤◌, ◌⊎◌, inl, inr, Bool, true, false, ◌&&◌, ◌||◌, not, ◌==◌, nat_le, nat_lt, List, length, arith, bit_or, bit_and}
 use Rattle.std.specs.Prelude.{slice_index}
 use Rattle.std.proofs.Math.ListN.{set, length-set}
 use Rattle.std.proofs.lemmas.List.{get_or-set_same, get_or-set_other}
@@ -7,7 +7,7 @@ use Rattle.std.proofs.lemmas.Bool.{cases_lt, lt-ltb, le-ltb}
 use Rattle.std.proofs.lemmas.Bool.Decides.{nat_tests}
 use Rattle.std.proofs.Math.Bool.{and-true, and-false}
 use Rattle.bit_rows.specs.Row.{bit}
-use Rattle.bit_rows.proofs.Bits.{bit-or, bit-and, bit-shl, bit-zero, bit-ones, bit-low_ones}
+use Rattle.bit_rows.proofs.Bits.{bit-or, bit-and, bit-shl, bit-shr, bit-zero, bit-ones, bit-low_ones}
 use Rattle.set_model.specs.declared.block.Block.{Block}
 use Rattle.field_groups.specs.Groups.{every, group, agrees, fixed, first_agreeing, agreeing_count}
 use Rattle.field_groups.proofs.RunLaws.{agrees-run}
@@ -80,6 +80,9 @@ marks-on s marks from k i low h on so_far = bit-or marks (1 * 2 ^ k % 2 ^ 64) i 
       ∙ sym (ap (λ t. (t && nat_lt i (k + 1)) && s i) (leb from i (omega arith)) ∙ ap (λ t. t && s i) (lt-ltb i (k + 1) (omega arith)) ∙ ap s e ∙ on)
   go (inr other) = or-unset (bit marks i) (bit (1 * 2 ^ k % 2 ^ 64) i) (unset other) ∙ so_far ∙ ap (λ t. t && s i) (same-test from k i other)
 
+pub marks-eight : (s : ℕ → Bool) (i : ℕ) → marks_to s 0 8 i ≡ (nat_lt i 8 && s i)
+marks-eight s i = ap (λ t. (t && nat_lt i 8) && s i) (leb 0 i (omega arith))
+
 pub shares : (word : ℕ) → (word ≡ 0 → ⊥) → not (word == 0) ≡ true
 shares word some = grind (arith, nat_tests, some)
 
@@ -97,29 +100,61 @@ share-bit a b k x y = shares (bit_and a b) (λ none. go (sym (bit-zero k) ∙ sy
 
 -- ---- one line
 
-pub line-marked : (old upper lower : List ℕ) (line first from before marks : ℕ) → line < length old → before ≡ bit_and (slice_index old line) (1 * 2 ^ from % 2 ^ 64 - 1) → from < 64
-    → ((k : ℕ) → k < 64 → bit marks k ≡ (nat_le from k && share (slice_index upper (first + k)) (slice_index lower (first + k))))
-    → IsMarked line first from upper lower old (set old line (bit_or before marks))
-line-marked old upper lower line first from before marks h e small new = record {
-  long = length-set old line (bit_or before marks);
-  others = λ i out. other i out (same_or_not i line);
-  kept = λ k l.
-      here k ∙ ap (λ t. bit before k || t) (new k (omega arith) ∙ ap (λ t. t && share (slice_index upper (first + k)) (slice_index lower (first + k))) (not-leb from k l))
-      ∙ or-unset (bit before k) false refl ∙ was k ∙ ap (λ t. bit (slice_index old line) k && t) (lt-ltb k from l) ∙ and-true (bit (slice_index old line) k);
-  marks = λ k l m.
-      here k ∙ ap (λ t. t || bit marks k) (was k ∙ ap (λ t. bit (slice_index old line) k && t) (le-ltb k from l) ∙ and-false (bit (slice_index old line) k))
-      ∙ new k m ∙ ap (λ t. t && share (slice_index upper (first + k)) (slice_index lower (first + k))) (leb from k l);
+-- a word whose eight bits from `first` on are made anew
+pub eight-bits : (word first marks i : ℕ) → first + 8 ≤ 64 → i < 64
+    → bit (bit_or (bit_and word (1 * 2 ^ first % 2 ^ 64 - 1)) (bit_or (word / 2 ^ first / 2 ^ 8 * 2 ^ 8 % 2 ^ 64) marks * 2 ^ first % 2 ^ 64)) i
+    ≡ ((bit word i && nat_lt i first) || (nat_le first i && ((nat_le 8 (i - first) && bit word (first + (8 + (i - first - 8)))) || bit marks (i - first))))
+eight-bits word first marks i h l =
+    bit-or (bit_and word (1 * 2 ^ first % 2 ^ 64 - 1)) (bit_or (word / 2 ^ first / 2 ^ 8 * 2 ^ 8 % 2 ^ 64) marks * 2 ^ first % 2 ^ 64) i
+    ∙ ap (λ t. t || bit (bit_or (word / 2 ^ first / 2 ^ 8 * 2 ^ 8 % 2 ^ 64) marks * 2 ^ first % 2 ^ 64) i)
+    (bit-and word (1 * 2 ^ first % 2 ^ 64 - 1) i ∙ ap (λ t. bit word i && t) (bit-low_ones first i (omega arith)))
+    ∙ ap (λ t. (bit word i && nat_lt i first) || t)
+    (bit-shl (bit_or (word / 2 ^ first / 2 ^ 8 * 2 ^ 8 % 2 ^ 64) marks) first i l
+    ∙ ap (λ t. nat_le first i && t) (bit-or (word / 2 ^ first / 2 ^ 8 * 2 ^ 8 % 2 ^ 64) marks (i - first)
+    ∙ ap (λ t. t || bit marks (i - first))
+    (bit-shl (word / 2 ^ first / 2 ^ 8) 8 (i - first) (omega arith)
+    ∙ ap (λ t. nat_le 8 (i - first) && t) (bit-shr (word / 2 ^ first) 8 (i - first - 8) ∙ bit-shr word first (8 + (i - first - 8))))))
+
+eight-below : (word first marks i : ℕ) → first + 8 ≤ 64 → i < first → bit (bit_or (bit_and word (1 * 2 ^ first % 2 ^ 64 - 1)) (bit_or (word / 2 ^ first / 2 ^ 8 * 2 ^ 8 % 2 ^ 64) marks * 2 ^ first % 2 ^ 64)) i ≡ bit word i
+eight-below word first marks i h l =
+    eight-bits word first marks i h (omega arith)
+    ∙ ap (λ t. (bit word i && t) || (nat_le first i && ((nat_le 8 (i - first) && bit word (first + (8 + (i - first - 8)))) || bit marks (i - first)))) (lt-ltb i first l)
+    ∙ ap (λ t. (bit word i && true) || (t && ((nat_le 8 (i - first) && bit word (first + (8 + (i - first - 8)))) || bit marks (i - first)))) (not-leb first i l)
+    ∙ or-unset (bit word i && true) false refl ∙ and-true (bit word i)
+
+eight-here : (word first marks k : ℕ) → first + 8 ≤ 64 → k < 8 → bit (bit_or (bit_and word (1 * 2 ^ first % 2 ^ 64 - 1)) (bit_or (word / 2 ^ first / 2 ^ 8 * 2 ^ 8 % 2 ^ 64) marks * 2 ^ first % 2 ^ 64)) (first + k) ≡ bit marks k
+eight-here word first marks k h l =
+    let e : first + k - first ≡ k = omega arith in
+    eight-bits word first marks (first + k) h (omega arith)
+    ∙ ap (λ t. (bit word (first + k) && t) || (nat_le first (first + k) && ((nat_le 8 (first + k - first) && bit word (first + (8 + (first + k - first - 8)))) || bit marks (first + k - first)))) (le-ltb (first + k) first (omega arith))
+    ∙ ap (λ t. t || (nat_le first (first + k) && ((nat_le 8 (first + k - first) && bit word (first + (8 + (first + k - first - 8)))) || bit marks (first + k - first)))) (and-false (bit word (first + k)))
+    ∙ ap (λ t. t && ((nat_le 8 (first + k - first) && bit word (first + (8 + (first + k - first - 8)))) || bit marks (first + k - first))) (leb first (first + k) (omega arith))
+    ∙ ap (λ t. (t && bit word (first + (8 + (first + k - first - 8)))) || bit marks (first + k - first)) (not-leb 8 (first + k - first) (omega arith))
+    ∙ ap (bit marks) e
+
+eight-above : (word first marks i : ℕ) → first + 8 ≤ i → i < 64 → bit marks (i - first) ≡ false → bit (bit_or (bit_and word (1 * 2 ^ first % 2 ^ 64 - 1)) (bit_or (word / 2 ^ first / 2 ^ 8 * 2 ^ 8 % 2 ^ 64) marks * 2 ^ first % 2 ^ 64)) i ≡ bit word i
+eight-above word first marks i low high small =
+    let e : first + (8 + (i - first - 8)) ≡ i = omega arith in
+    eight-bits word first marks i (omega arith) high
+    ∙ ap (λ t. (bit word i && t) || (nat_le first i && ((nat_le 8 (i - first) && bit word (first + (8 + (i - first - 8)))) || bit marks (i - first)))) (le-ltb i first (omega arith))
+    ∙ ap (λ t. t || (nat_le first i && ((nat_le 8 (i - first) && bit word (first + (8 + (i - first - 8)))) || bit marks (i - first)))) (and-false (bit word i))
+    ∙ ap (λ t. t && ((nat_le 8 (i - first) && bit word (first + (8 + (i - first - 8)))) || bit marks (i - first))) (leb first i (omega arith))
+    ∙ ap (λ t. (t && bit word (first + (8 + (i - first - 8)))) || bit marks (i - first)) (leb 8 (i - first) (omega arith))
+    ∙ or-unset (bit word (first + (8 + (i - first - 8)))) (bit marks (i - first)) small
+    ∙ ap (bit word) e
+
+pub line-marked : (old : List ℕ) (line first marks : ℕ) → line < length old → first + 8 ≤ 64 → ((k : ℕ) → 8 ≤ k → k < 64 → bit marks k ≡ false)
+    → IsMarked line first marks old (set old line (bit_or (bit_and (slice_index old line) (1 * 2 ^ first % 2 ^ 64 - 1)) (bit_or (slice_index old line / 2 ^ first / 2 ^ 8 * 2 ^ 8 % 2 ^ 64) marks * 2 ^ first % 2 ^ 64)))
+line-marked old line first marks h within small = record {
+  long = length-set old line _;
+  others = λ i out. get_or-set_other old line i _ 0 out;
+  below = λ k l. here k ∙ eight-below (slice_index old line) first marks k within l;
+  above = λ k l m. here k ∙ eight-above (slice_index old line) first marks k l m (small (k - first) (omega arith) (omega arith));
+  here = λ k l. here (first + k) ∙ eight-here (slice_index old line) first marks k within l;
 } where
-  here : (k : ℕ) → bit (slice_index (set old line (bit_or before marks)) line) k ≡ (bit before k || bit marks k)
-  here k = ap (λ x. bit x k) (get_or-set_same old line (bit_or before marks) 0 h) ∙ bit-or before marks k
-
-  was : (k : ℕ) → bit before k ≡ (bit (slice_index old line) k && nat_lt k from)
-  was k = ap (λ x. bit x k) e ∙ bit-and (slice_index old line) (1 * 2 ^ from % 2 ^ 64 - 1) k ∙ ap (λ t. bit (slice_index old line) k && t) (bit-low_ones from k small)
-
-  other : (i : ℕ) → (i ≡ line → ⊥) → (i ≡ line) ⊎ ((i < line) ⊎ (line < i)) → slice_index (set old line (bit_or before marks)) i ≡ slice_index old i
-  other i out (inl same) = absurd (out same)
-  other i out (inr (inl l)) = get_or-set_other old line i (bit_or before marks) 0 (omega arith)
-  other i out (inr (inr l)) = get_or-set_other old line i (bit_or before marks) 0 (omega arith)
+  here : (k : ℕ) → bit (slice_index (set old line (bit_or (bit_and (slice_index old line) (1 * 2 ^ first % 2 ^ 64 - 1)) (bit_or (slice_index old line / 2 ^ first / 2 ^ 8 * 2 ^ 8 % 2 ^ 64) marks * 2 ^ first % 2 ^ 64))) line) k
+      ≡ bit (bit_or (bit_and (slice_index old line) (1 * 2 ^ first % 2 ^ 64 - 1)) (bit_or (slice_index old line / 2 ^ first / 2 ^ 8 * 2 ^ 8 % 2 ^ 64) marks * 2 ^ first % 2 ^ 64)) k
+  here k = ap (λ x. bit x k) (get_or-set_same old line _ 0 h)
 
 -- ---- a block's lines
 

@@ -15,13 +15,14 @@ share a b = not (bit_and a b == 0)
 pub record IsPage (bits : ℕ) (page : List ℕ) : Type 0 where
   pub long : length page ≡ bits / 8 * 256
 
--- The line is made anew from mark `from` on: a word is marked where the two rows share a bit of it. The
--- marks before it, and the other lines, are as they were.
-pub record IsMarked (line first from : ℕ) (upper lower old new : List ℕ) : Type 0 where
+-- The line's marks of the eight words from word `first` on are made anew. The other marks, and the other
+-- lines, are as they were.
+pub record IsMarked (line first marks : ℕ) (old new : List ℕ) : Type 0 where
   pub long : length new ≡ length old
   pub others : (i : ℕ) → (i ≡ line → ⊥) → slice_index new i ≡ slice_index old i
-  pub kept : (k : ℕ) → k < from → bit (slice_index new line) k ≡ bit (slice_index old line) k
-  pub marks : (k : ℕ) → from ≤ k → k < 64 → bit (slice_index new line) k ≡ share (slice_index upper (first + k)) (slice_index lower (first + k))
+  pub below : (k : ℕ) → k < first → bit (slice_index new line) k ≡ bit (slice_index old line) k
+  pub above : (k : ℕ) → first + 8 ≤ k → k < 64 → bit (slice_index new line) k ≡ bit (slice_index old line) k
+  pub here : (k : ℕ) → k < 8 → bit (slice_index new line) (first + k) ≡ bit marks k
 
 -- what is set stays set
 pub record Keeps (old new : List ℕ) : Type 0 where

@@ -4,8 +4,12 @@
 //! A lookup ANDs one line of marks for each byte of its key, and visits only the words that are left.
 //! They are candidates: a word in which some rule agrees with each byte, but no rule with all of them,
 //! is one too. No word with a rule that holds the key is left out.
+//!
+//! The marks of 64 words of rules are a page of words that copies share: a line for each byte of a
+//! field's value and each of the byte's 256 values, line `g * 256 + v` for value `v` of byte `g`. Bit
+//! `k` of a line stands for word `k`.
 #![tactic(auto)]
 
-mod page;
+mod marks;
 
-pub use page::{Page, copy_pages};
+pub use marks::{candidates, mark_block, mark_line, new_page, shared_words};

@@ -1,14 +1,15 @@
 // The buckets of a field's table, as lines of runs with the same bitmap.
-ghost use Rattle.std.specs.Prelude.{◌≡◌, ℕ, ◌+◌, ◌/◌, ◌^◌, ◌<◌, ◌≤◌, [], ◌∷◌, ◌++◌, length, OnOk, OnErr};
+ghost use Rattle.std.specs.Prelude.{◌≡◌, ℕ, ◌+◌, ◌/◌, ◌^◌, ◌<◌, ◌≤◌, [], ◌∷◌, ◌++◌, length, slice_get, Some, IfOk, OnOk, OnErr};
 ghost use Rattle.set_model.specs.Text.{line_feed};
 ghost use Rattle.set_report.specs.DumpText.{bitmap_text, run_text, runs_from, runs_text};
-ghost use Rattle.set_report.specs.DumpBuckets.{bits_at, bitmaps_at, buckets_text, all_buckets_text};
+ghost use Rattle.set_report.specs.DumpBuckets.{bits_at, bitmaps_of, bitmaps_at, AreRowsFrom, buckets_text, all_buckets_text};
 ghost use Rattle.text_pieces.specs.Appends.{AppendsPart};
 
 use super::bitmap::{is_any_set, is_same, write_bitmap};
 use bit_rows::BitRow;
-use lookup_table::{FieldTable, Rows};
+use lookup_table::{FieldTable, Lines};
 use set_model::Memory;
+use std::alloc::Global;
 use text_pieces::Piece::{Number, Word};
 use text_pieces::append_pieces;
 
@@ -60,9 +61,17 @@ fn write_run_if_any_set(
     }
 }
 
+/// Row `i`.
+fn row_at(rows: &[BitRow], i: u64) -> &BitRow
+    requires { i < length rows.now }
+    ensures { slice_get rows.now i ≡ Some result.now }
+{
+    &rows[i as usize]
+}
+
 /// How many of the buckets from place `from` up to `to` have the bitmap of the first one, before the
 /// first one that doesn't.
-fn run_len(rows: &Rows, from: u64, to: u64) -> u64
+fn run_len(rows: &[BitRow], from: u64, to: u64) -> u64
     requires some { from < to }
     requires within { to ≤ length rows.now }
     requires long { (j : ℕ) → j < length rows.now → length (bits_at rows.now j) ≡ length (bits_at rows.now from) }
@@ -71,30 +80,62 @@ fn run_len(rows: &Rows, from: u64, to: u64) -> u64
     ensures same { (k : ℕ) → k < result → bits_at rows.now (from + k) ≡ bits_at rows.now from }
     ensures other { from + result < to → bits_at rows.now (from + result) ≡ bits_at rows.now from → ⊥ }
 {
-    let first = rows.at(from);
+    let first = row_at(rows, from);
     for n in 1..to - from {
-        if !is_same(first, rows.at(from + n)) {
+        let row = row_at(rows, from + n);
+        if !is_same(first, row) {
             return n;
         }
     }
     to - from
 }
 
-/// Appends the lines of the `count` buckets of group `g`, the first of which stands at place `first`.
-fn write_runs(rows: &Rows, g: u32, first: u64, count: u64, out: &mut Vec<u8>) -> Result<(), Memory>
-    requires within { first + count ≤ length rows.now }
-    requires few { first + count < 2 ^ 64 }
-    requires long { (i j : ℕ) → i < length rows.now → j < length rows.now → length (bits_at rows.now j) ≡ length (bits_at rows.now i) }
-    ensures ok { OnOk result (out.new.items ≡ out.old.items ++ runs_text g (runs_from 0 (bitmaps_at rows.now first 0 count))) }
-    ensures err { OnErr result (AppendsPart out.old.items out.new.items (runs_text g (runs_from 0 (bitmaps_at rows.now first 0 count)))) }
+/// Appends the lines of the buckets of group `g`.
+fn write_runs(rows: &[BitRow], g: u32, out: &mut Vec<u8>) -> Result<(), Memory>
+    requires { (i j : ℕ) → i < length rows.now → j < length rows.now → length (bits_at rows.now j) ≡ length (bits_at rows.now i) }
+    ensures ok { OnOk result (out.new.items ≡ out.old.items ++ runs_text g (runs_from 0 (bitmaps_of rows.now 0 (length rows.now)))) }
+    ensures err { OnErr result (AppendsPart out.old.items out.new.items (runs_text g (runs_from 0 (bitmaps_of rows.now 0 (length rows.now))))) }
 {
+    let count = rows.len() as u64;
     let mut from = 0;
     'runs: while from < count {
-        let len = run_len(rows, first + from, first + count);
-        write_run_if_any_set(g, from, from + len - 1, rows.at(first + from), out)?;
+        let len = run_len(rows, from, count);
+        let row = row_at(rows, from);
+        write_run_if_any_set(g, from, from + len - 1, row, out)?;
         from += len;
     }
     Ok(())
+}
+
+/// So many rows: those of the buckets from place `first` on.
+fn rows_from(alloc: Global, buckets: &Lines, first: u64, count: u64) -> Result<Vec<BitRow>, Memory>
+    requires within { first + count ≤ length buckets.now.rows }
+    requires few { first + count < 2 ^ 64 }
+    ensures { IfOk result (λ rows. AreRowsFrom buckets.now.rows first count rows.items) }
+{
+    let mut rows = Vec::new(alloc);
+    'rows: for v in 0..count {
+        rows.push(buckets.row(alloc, first + v)?)?;
+    }
+    Ok(rows)
+}
+
+/// Appends the lines of the `count` buckets of group `g`, the first of which stands at place `first`.
+fn write_lines(
+    buckets: &Lines,
+    g: u32,
+    first: u64,
+    count: u64,
+    out: &mut Vec<u8>,
+) -> Result<(), Memory>
+    requires within { first + count ≤ length buckets.now.rows }
+    requires few { first + count < 2 ^ 64 }
+    requires long { (i j : ℕ) → i < length buckets.now.rows → j < length buckets.now.rows → length (bits_at buckets.now.rows j) ≡ length (bits_at buckets.now.rows i) }
+    ensures ok { OnOk result (out.new.items ≡ out.old.items ++ runs_text g (runs_from 0 (bitmaps_at buckets.now.rows first 0 count))) }
+    ensures err { OnErr result (AppendsPart out.old.items out.new.items (runs_text g (runs_from 0 (bitmaps_at buckets.now.rows first 0 count)))) }
+{
+    let rows = rows_from(*out.allocator(), buckets, first, count)?;
+    write_runs(rows.as_slice(), g, out)
 }
 
 /// Appends the lines of group `g`.
@@ -104,7 +145,7 @@ fn write_group(table: &FieldTable, g: u32, out: &mut Vec<u8>) -> Result<(), Memo
     ensures err { OnErr result (AppendsPart out.old.items out.new.items (buckets_text table.now g)) }
 {
     let first = u64::from(g) << table.width;
-    write_runs(&table.buckets, g, first, 1u64 << table.width, out)
+    write_lines(&table.buckets, g, first, 1u64 << table.width, out)
 }
 
 /// Appends the lines of a table's buckets, group by group.

@@ -5,7 +5,8 @@ use crate::dump::{write_dump, write_table, write_tables};
 use lookup_table::FieldTable;
 use pipapo_image::{Scratch, SetImage};
 use set_model::{
-    Block, Comment, Family, Interval, Kind, Kinds, Memory, Name, Parts, Schema, SetDecl, parts_fit,
+    Block, Comment, Family, Interval, Kind, Kinds, Memory, Name, NewElement, Parts, Schema,
+    SetDecl, parts_fit,
 };
 use set_space::Generation;
 use std::alloc::Global;
@@ -38,10 +39,14 @@ fn add(
     set: &mut SetImage,
     parts: &[Interval],
 ) -> Result<(), Memory> {
-    let parts = Parts::from_vec(alloc, Vec::from_slice(alloc, parts)?);
-    assert!(rt; parts_fit(&set.kinds, &parts));
+    let element = NewElement {
+        parts: Parts::from_vec(alloc, Vec::from_slice(alloc, parts)?),
+        expiry: None,
+        comment: Comment::new(alloc),
+    };
+    assert!(rt; parts_fit(set.kinds(), &element.parts));
     let mut scratch = Scratch::new(alloc)?;
-    let answer = set.insert(alloc, &parts, None, &Comment::new(alloc), 0, &mut scratch);
+    let answer = set.insert(alloc, &element, 0, &mut scratch);
     assert!(rt; answer.is_ok());
     Ok(())
 }

@@ -4,7 +4,8 @@ ghost use Rattle.set_space.specs.Open.{CanBeBuilt};
 use crate::list::{write_list, write_set};
 use pipapo_image::{Scratch, SetImage};
 use set_model::{
-    Comment, Family, Interval, Kind, Kinds, Memory, Name, Parts, Schema, SetDecl, parts_fit,
+    Comment, Family, Interval, Kind, Kinds, Memory, Name, NewElement, Parts, Schema, SetDecl,
+    parts_fit,
 };
 use set_space::Generation;
 use std::alloc::Global;
@@ -45,6 +46,20 @@ fn range(low: u128, high: u128) -> Interval {
     Interval { low, high }
 }
 
+/// A new element of these intervals and this comment.
+fn element(
+    alloc: Global,
+    parts: &[Interval],
+    expiry: Option<u64>,
+    comment: &[u8],
+) -> Result<NewElement, Memory> {
+    Ok(NewElement {
+        parts: Parts::from_vec(alloc, Vec::from_slice(alloc, parts)?),
+        expiry,
+        comment: Comment::from_vec(alloc, Vec::from_slice(alloc, comment)?),
+    })
+}
+
 /// Adds an element to a set.
 fn add(
     rt: &impl Abort,
@@ -56,11 +71,10 @@ fn add(
 ) -> Result<(), Memory>
     ensures { set.new.kinds ≡ set.old.kinds }
 {
-    let parts = Parts::from_vec(alloc, Vec::from_slice(alloc, parts)?);
-    let comment = Comment::from_vec(alloc, Vec::from_slice(alloc, comment)?);
+    let element = element(alloc, parts, expiry, comment)?;
     let mut scratch = Scratch::new(alloc)?;
-    assert!(rt; parts_fit(&set.kinds, &parts));
-    let answer = set.insert(alloc, &parts, expiry, &comment, 0, &mut scratch);
+    assert!(rt; parts_fit(set.kinds(), &element.parts));
+    let answer = set.insert(alloc, &element, 0, &mut scratch);
     assert!(rt; answer.is_ok());
     Ok(())
 }

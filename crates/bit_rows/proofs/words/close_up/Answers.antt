@@ -1,4 +1,4 @@
-use Rattle.std.proofs.Common.{◌≡◌, ℕ, ◌∙◌, ap, ◌+◌, ◌*◌, ◌/◌, ◌%◌, length-set, arith}
+use Rattle.std.proofs.Common.{◌≡◌, ℕ, ◌∙◌, ap, ◌+◌, ◌*◌, ◌/◌, ◌%◌, length-set, arith, rules}
 use Rattle.bit_rows.specs.Words.{place}
 use Rattle.bit_rows.proofs.Places.{closed-start, closed-more}
 use Rattle.bit_rows.proofs.words.close_up.Goals as goal
@@ -12,4 +12,4 @@ whole-preserved c = closed-more _ _ _ _ _ _ (omega arith) (omega (arith, length-
     c.word_within.ensures k h ∙ ap (place c.whole.words) e)
 
 pub last-preserved : goal.last-preserved
-last-preserved c = closed-more _ _ _ _ _ _ (omega arith) (omega (arith, length-set {A = ℕ})) c.last.invariant c.word_from.ensures
+last-preserved c = closed-more _ _ _ _ _ _ (omega arith) (omega (arith, length-set {A = ℕ})) c.last.invariant (λ k h. let moved = c.word_from.ensures k h in search rules)

@@ -15,10 +15,10 @@ use Rattle.desk_run.proofs.Telling.{log_named, sets_declared, tells, told_named}
 use Rattle.desk_run.proofs.whole.desk.Goals as goal
 
 pub run_first-requires-clause-steps : goal.run_first-requires-clause-steps
-run_first-requires-clause-steps g c = subst (All (IsRunnableStep c.args.script.schema)) (sym c.take_first-first.ensures.first) (All-section (IsRunnableStep c.args.script.schema) c.args.script.sections 0 c.requires.script.steps)
+run_first-requires-clause-steps g c κs within = subst (All (IsRunnableStep c.args.script.schema)) (sym c.take_first-first.ensures.first) (All-section (IsRunnableStep c.args.script.schema) c.args.script.sections 0 c.requires.script.steps)
 
 pub run_first-requires-clause-closed : goal.run_first-requires-clause-closed
-run_first-requires-clause-closed g c = subst EndsClosed (sym c.take_first-first.ensures.first) (closed-at c.args.script.sections 0 c.requires.script.closed)
+run_first-requires-clause-closed g c κs within = subst EndsClosed (sym c.take_first-first.ensures.first) (closed-at c.args.script.sections 0 c.requires.script.closed)
 
 pub run_later-requires-clause-few : goal.run_later-requires-clause-few
 run_later-requires-clause-few g c κs within = let rest = ap length c.take_first-first.ensures.others in let size = length-drop 1 c.args.script.sections in let most = c.requires.clerks in omega (arith, rest, size, most)

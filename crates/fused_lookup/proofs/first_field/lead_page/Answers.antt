@@ -9,16 +9,16 @@ use Rattle.fused_lookup.specs.Led.{LeadsNowhere}
 use Rattle.fused_lookup.proofs.LedLaws.{nowhere-skip}
 use Rattle.fused_lookup.proofs.MatchLaws.{length-left, has-rules}
 use Rattle.fused_lookup.proofs.SieveLaws.{word-matched, none-matched}
-use Rattle.fused_lookup.proofs.CandidateLaws.{none-between, have-words}
+use Rattle.fused_lookup.proofs.CandidateLaws.{none-between}
 use Rattle.fused_lookup.proofs.first_field.lead_page.Goals as goal
 
-pub match_at-word-requires-clause-words : goal.match_at-word-requires-clause-words
-match_at-word-requires-clause-words c =
+pub match_at-word-requires-clause-word : goal.match_at-word-requires-clause-word
+match_at-word-requires-clause-word c =
     let next : IsNextBit c.candidates-candidates.result c.words.from c.in-Some.k = c.in-Some.ensures in
-    have-words c.args.table.now c.args.value (64 * c.args.p + c.in-Some.k) _ _ _ _ c.requires.four (c.candidates-candidates.ensures.within c.in-Some.k next.within next.set)
+    c.candidates-candidates.ensures.within c.in-Some.k next.within next.set
 
 pub first_live-requires : goal.first_live-requires
-first_live-requires c = has-rules (length c.args.ends.now) (64 * c.args.p + c.in-Some.k) c.match_at-word.result (λ k h p. c.match_at-word.ensures.past k h (omega (arith, c.requires.rules)))
+first_live-requires c = has-rules (length c.args.ends.now.items) (64 * c.args.p + c.in-Some.k) c.match_at-word.result (λ k h p. c.match_at-word.ensures.past k h (omega (arith, c.requires.rules)))
 
 pub returns-in-Some-first_live : goal.returns-in-Some-first_live
 returns-in-Some-first_live c = λ blocks s before.
@@ -27,9 +27,9 @@ returns-in-Some-first_live c = λ blocks s before.
     let ones = length-replicate c.args.table.now.rules true in
     let n = s.one_each in
     let m = matched test blocks (replicate c.args.table.now.rules true) in
-    let long : length m ≡ length c.args.ends.now = length-left test blocks (replicate c.args.table.now.rules true) (omega arith) ∙ n ∙ sym c.requires.rules in
+    let long : length m ≡ length c.args.ends.now.items = length-left test blocks (replicate c.args.table.now.rules true) (omega arith) ∙ n ∙ sym c.requires.rules in
     let high : c.in-Some.k < 64 = next.within in
-    let skipped = nowhere-skip c.args.ends.now m c.args.now (64 * (64 * c.args.p + c.words.from)) (64 * (64 * c.args.p + c.in-Some.k)) long
+    let skipped = nowhere-skip c.args.ends.now.items m c.args.now (64 * (64 * c.args.p + c.words.from)) (64 * (64 * c.args.p + c.in-Some.k)) long
     (none-matched c.args.table.now c.args.value blocks _ _ s (none-between c.args.table.now c.args.value c.args.p c.candidates-candidates.result c.words.from c.in-Some.k c.candidates-candidates.ensures.none (omega arith) next.least))
     (c.words.invariant.nowhere blocks s before) in
     let word = word-matched c.args.table.now test blocks (64 * c.args.p + c.in-Some.k) c.match_at-word.result s (c.match_at-word.ensures.held blocks s) c.match_at-word.ensures.past in
@@ -44,14 +44,14 @@ words-preserved c = record {
       let ones = length-replicate c.args.table.now.rules true in
       let n = s.one_each in
       let m = matched test blocks (replicate c.args.table.now.rules true) in
-      let long : length m ≡ length c.args.ends.now = length-left test blocks (replicate c.args.table.now.rules true) (omega arith) ∙ n ∙ sym c.requires.rules in
+      let long : length m ≡ length c.args.ends.now.items = length-left test blocks (replicate c.args.table.now.rules true) (omega arith) ∙ n ∙ sym c.requires.rules in
       let high : c.in-Some.k < 64 = next.within in
-      let skipped = nowhere-skip c.args.ends.now m c.args.now (64 * (64 * c.args.p + c.words.from)) (64 * (64 * c.args.p + c.in-Some.k)) long
+      let skipped = nowhere-skip c.args.ends.now.items m c.args.now (64 * (64 * c.args.p + c.words.from)) (64 * (64 * c.args.p + c.in-Some.k)) long
       (none-matched c.args.table.now c.args.value blocks _ _ s (none-between c.args.table.now c.args.value c.args.p c.candidates-candidates.result c.words.from c.in-Some.k c.candidates-candidates.ensures.none (omega arith) next.least))
       (c.words.invariant.nowhere blocks s before) in
       let word = word-matched c.args.table.now test blocks (64 * c.args.p + c.in-Some.k) c.match_at-word.result s (c.match_at-word.ensures.held blocks s) c.match_at-word.ensures.past in
       let up : 64 * c.args.p + c.in-Some.k + 1 ≡ 64 * c.args.p + (c.in-Some.k + 1) = omega arith in
-      subst (λ z. LeadsNowhere c.args.ends.now m c.args.now (64 * z)) up (c.in_default-first_live.ensures m long word skipped);
+      subst (λ z. LeadsNowhere c.args.ends.now.items m c.args.now (64 * z)) up (c.in_default-first_live.ensures m long word skipped);
 }
 
 pub returns : goal.returns
@@ -61,9 +61,9 @@ returns c = λ blocks s before.
     let ones = length-replicate c.args.table.now.rules true in
     let n = s.one_each in
     let m = matched test blocks (replicate c.args.table.now.rules true) in
-    let long : length m ≡ length c.args.ends.now = length-left test blocks (replicate c.args.table.now.rules true) (omega arith) ∙ n ∙ sym c.requires.rules in
+    let long : length m ≡ length c.args.ends.now.items = length-left test blocks (replicate c.args.table.now.rules true) (omega arith) ∙ n ∙ sym c.requires.rules in
     let up : 64 * c.args.p + 64 ≡ 64 * (c.args.p + 1) = omega arith in
-    subst (λ z. LeadsNowhere c.args.ends.now m c.args.now (64 * z)) up
-    (nowhere-skip c.args.ends.now m c.args.now (64 * (64 * c.args.p + c.words.from)) (64 * (64 * c.args.p + 64)) long
+    subst (λ z. LeadsNowhere c.args.ends.now.items m c.args.now (64 * z)) up
+    (nowhere-skip c.args.ends.now.items m c.args.now (64 * (64 * c.args.p + c.words.from)) (64 * (64 * c.args.p + 64)) long
     (none-matched c.args.table.now c.args.value blocks _ _ s (none-between c.args.table.now c.args.value c.args.p c.candidates-candidates.result c.words.from 64 c.candidates-candidates.ensures.none (omega arith) c.in_default.ensures))
     (c.words.invariant.nowhere blocks s before))

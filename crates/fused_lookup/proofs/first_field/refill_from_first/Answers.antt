@@ -31,6 +31,6 @@ returns-clause-refilled c = λ blocks s.
     let ones = length-replicate c.args.table.now.rules true in
     let n = s.one_each in
     let m = matched test blocks (replicate c.args.table.now.rules true) in
-    let long : length m ≡ length c.args.spans.now = length-left test blocks (replicate c.args.table.now.rules true) (omega arith) ∙ n ∙ sym c.requires.rules in
-    let past : length c.args.spans.now ≤ 64 * (64 * c.pages.p) = omega (arith, c.requires.rules, c.div_ceil-p-end.ensures) in
-    filled-all c.args.spans.now m (64 * (64 * c.pages.p)) c.pages.next.bits long past (c.pages.invariant.filled blocks s (filled-none c.args.spans.now m c.args.next.now.bits c.requires.clear))
+    let long : length m ≡ length c.args.spans.now.items = length-left test blocks (replicate c.args.table.now.rules true) (omega arith) ∙ n ∙ sym c.requires.rules in
+    let past : length c.args.spans.now.items ≤ 64 * (64 * c.pages.p) = omega (arith, c.requires.rules, c.div_ceil-p-end.ensures) in
+    filled-all c.args.spans.now.items m (64 * (64 * c.pages.p)) c.pages.next.bits long past (c.pages.invariant.filled blocks s (filled-none c.args.spans.now.items m c.args.next.now.bits c.requires.clear))

@@ -13,9 +13,9 @@ words-init c = record {
       let test : Block → Bool = λ rule. holds_value rule c.args.value in
       let n = s.one_each in
       let room : length blocks ≤ length c.args.row.now.bits = omega (arith, c.requires.room) in
-      let long : length (matched test blocks c.args.row.now.bits) ≡ length c.args.ends.now = length-left test blocks c.args.row.now.bits room ∙ n ∙ sym c.requires.rules in
-      nowhere-skip c.args.ends.now (matched test blocks c.args.row.now.bits) c.args.now 0 (64 * c.args.window.first) long
-      (λ k low high. left-below test blocks c.args.row.now.bits c.args.window room c.requires.window k high) (nowhere-none c.args.ends.now (matched test blocks c.args.row.now.bits) c.args.now);
+      let long : length (matched test blocks c.args.row.now.bits) ≡ length c.args.ends.now.items = length-left test blocks c.args.row.now.bits room ∙ n ∙ sym c.requires.rules in
+      nowhere-skip c.args.ends.now.items (matched test blocks c.args.row.now.bits) c.args.now 0 (64 * c.args.window.first) long
+      (λ k low high. left-below test blocks c.args.row.now.bits c.args.window room c.requires.window k high) (nowhere-none c.args.ends.now.items (matched test blocks c.args.row.now.bits) c.args.now);
   spare = refl;
 }
 
@@ -37,8 +37,8 @@ returns-clause-led c = λ blocks s.
     let n = s.one_each in
     let m = matched test blocks c.args.row.now.bits in
     let room : length blocks ≤ length c.args.row.now.bits = omega (arith, c.requires.room) in
-    let long : length (matched test blocks c.args.row.now.bits) ≡ length c.args.ends.now = length-left test blocks c.args.row.now.bits room ∙ n ∙ sym c.requires.rules in
-    led-all c.args.ends.now m c.args.now (64 * c.words.i) c.words.found long
+    let long : length (matched test blocks c.args.row.now.bits) ≡ length c.args.ends.now.items = length-left test blocks c.args.row.now.bits room ∙ n ∙ sym c.requires.rules in
+    led-all c.args.ends.now.items m c.args.now (64 * c.words.i) c.words.found long
     (λ k low. left-above test blocks c.args.row.now.bits c.args.window room c.requires.window k (omega arith)) (c.words.invariant.led blocks s)
 
 pub returns-clause-clear : goal.returns-clause-clear

@@ -10,6 +10,6 @@ use Rattle.fused_lookup.proofs.later_field.lead_from.Given as goal
 abbrev pub invariant-words : goal.invariant-words
 invariant-words l = record {
   taken : IsTaken l.i l.fn.row.bits l.row.bits;
-  led : (blocks : List Block) → Stands l.table blocks → IsLed l.ends (matched (λ rule. holds_value rule l.value) blocks l.fn.row.bits) l.now (64 * l.i) l.found;
+  led : (blocks : List Block) → Stands l.table blocks → IsLed l.ends.items (matched (λ rule. holds_value rule l.value) blocks l.fn.row.bits) l.now (64 * l.i) l.found;
   spare : l.row.spare ≡ l.fn.row.spare;
 }

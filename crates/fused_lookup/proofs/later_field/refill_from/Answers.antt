@@ -13,9 +13,9 @@ words-init c = record {
       let test : Block → Bool = λ rule. holds_value rule c.args.value in
       let n = s.one_each in
       let room : length blocks ≤ length c.args.row.now.bits = omega (arith, c.requires.room) in
-      let long : length (matched test blocks c.args.row.now.bits) ≡ length c.args.spans.now = length-left test blocks c.args.row.now.bits room ∙ n ∙ sym c.requires.rules in
-      filled-skip c.args.spans.now (matched test blocks c.args.row.now.bits) 0 (64 * c.args.window.first) c.args.next.now.bits long (omega arith)
-      (λ k low high. left-below test blocks c.args.row.now.bits c.args.window room c.requires.window k high) (filled-none c.args.spans.now (matched test blocks c.args.row.now.bits) c.args.next.now.bits c.requires.clear);
+      let long : length (matched test blocks c.args.row.now.bits) ≡ length c.args.spans.now.items = length-left test blocks c.args.row.now.bits room ∙ n ∙ sym c.requires.rules in
+      filled-skip c.args.spans.now.items (matched test blocks c.args.row.now.bits) 0 (64 * c.args.window.first) c.args.next.now.bits long (omega arith)
+      (λ k low high. left-below test blocks c.args.row.now.bits c.args.window room c.requires.window k high) (filled-none c.args.spans.now.items (matched test blocks c.args.row.now.bits) c.args.next.now.bits c.requires.clear);
   window = clear-window c.args.next.now.bits c.none-reached.result c.none-reached.ensures c.requires.clear;
   spare = refl;
   next_len = refl;
@@ -26,7 +26,7 @@ pub take_word-left-requires : goal.take_word-left-requires
 take_word-left-requires c = omega (arith, c.requires.window.within, c.words.invariant.taken.long)
 
 pub refill_on-reached-requires-clause-inside : goal.refill_on-reached-requires-clause-inside
-refill_on-reached-requires-clause-inside c = inside-more c.args.spans.now (length c.args.next.now.bits) (length c.words.next.bits) c.words.invariant.next_len c.requires.inside
+refill_on-reached-requires-clause-inside c = inside-more c.args.spans.now.items (length c.args.next.now.bits) (length c.words.next.bits) c.words.invariant.next_len c.requires.inside
 
 pub words-preserved : goal.words-preserved
 words-preserved c = record {
@@ -46,10 +46,10 @@ returns-clause-refilled c = λ blocks s.
     let n = s.one_each in
     let m = matched test blocks c.args.row.now.bits in
     let room : length blocks ≤ length c.args.row.now.bits = omega (arith, c.requires.room) in
-    let long : length (matched test blocks c.args.row.now.bits) ≡ length c.args.spans.now = length-left test blocks c.args.row.now.bits room ∙ n ∙ sym c.requires.rules in
-    let all = filled-skip c.args.spans.now m (64 * c.words.i) (64 * c.words.i + length c.args.spans.now) c.words.next.bits long (omega arith)
+    let long : length (matched test blocks c.args.row.now.bits) ≡ length c.args.spans.now.items = length-left test blocks c.args.row.now.bits room ∙ n ∙ sym c.requires.rules in
+    let all = filled-skip c.args.spans.now.items m (64 * c.words.i) (64 * c.words.i + length c.args.spans.now.items) c.words.next.bits long (omega arith)
     (λ k low high. left-above test blocks c.args.row.now.bits c.args.window room c.requires.window k (omega arith)) (c.words.invariant.filled blocks s) in
-    filled-all c.args.spans.now m (64 * c.words.i + length c.args.spans.now) c.words.next.bits long (omega arith) all
+    filled-all c.args.spans.now.items m (64 * c.words.i + length c.args.spans.now.items) c.words.next.bits long (omega arith) all
 
 pub returns-clause-clear : goal.returns-clause-clear
 returns-clause-clear c = taken-all c.words.i c.args.row.now.bits c.words.row.bits c.args.window (omega arith) c.requires.window c.words.invariant.taken

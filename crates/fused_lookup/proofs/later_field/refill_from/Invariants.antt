@@ -11,7 +11,7 @@ use Rattle.fused_lookup.proofs.later_field.refill_from.Given as goal
 abbrev pub invariant-words : goal.invariant-words
 invariant-words l = record {
   taken : IsTaken l.i l.fn.row.bits l.row.bits;
-  filled : (blocks : List Block) → Stands l.table blocks → IsFilled l.spans (matched (λ rule. holds_value rule l.value) blocks l.fn.row.bits) (64 * l.i) l.next.bits;
+  filled : (blocks : List Block) → Stands l.table blocks → IsFilled l.spans.items (matched (λ rule. holds_value rule l.value) blocks l.fn.row.bits) (64 * l.i) l.next.bits;
   window : IsWindow l.next.bits l.reached;
   spare : l.row.spare ≡ l.fn.row.spare;
   next_len : length l.next.bits ≡ length l.fn.next.bits;

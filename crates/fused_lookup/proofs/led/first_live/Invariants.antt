@@ -6,7 +6,7 @@ use Rattle.fused_lookup.proofs.led.first_live.Given as goal
 abbrev pub invariant-rules : goal.invariant-rules
 invariant-rules l = record {
   low : l.from ≤ 64;
-  nowhere : (row : List Bool) → length row ≡ length l.ends → IsWordOf row l.i l.word → LeadsNowhere l.ends row l.now (64 * l.i) → LeadsNowhere l.ends row l.now (64 * l.i + l.from);
+  nowhere : (row : List Bool) → length row ≡ length l.ends.items → IsWordOf row l.i l.word → LeadsNowhere l.ends.items row l.now (64 * l.i) → LeadsNowhere l.ends.items row l.now (64 * l.i + l.from);
 }
 
 abbrev pub decreases-rules : goal.decreases-rules

@@ -7,7 +7,7 @@ use Rattle.fused_lookup.proofs.refill.refill_word.Given as goal
 abbrev pub invariant-rules : goal.invariant-rules
 invariant-rules l = record {
   low : l.from ≤ 64;
-  filled : (row : List Bool) → length row ≡ length l.spans → IsWordOf row l.i l.word → IsFilled l.spans row (64 * l.i) l.fn.next.bits → IsFilled l.spans row (64 * l.i + l.from) l.next.bits;
+  filled : (row : List Bool) → length row ≡ length l.spans.items → IsWordOf row l.i l.word → IsFilled l.spans.items row (64 * l.i) l.fn.next.bits → IsFilled l.spans.items row (64 * l.i + l.from) l.next.bits;
   window : IsWindow l.next.bits l.window;
   len : length l.next.bits ≡ length l.fn.next.bits;
   spare : l.next.spare ≡ l.fn.next.spare;

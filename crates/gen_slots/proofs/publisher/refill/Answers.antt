@@ -13,6 +13,7 @@ loop-reader-preserved g c = let took = c.take-value.ensures.value in let inv = c
       table = search rules;
       seat = search rules;
       size = length-set _ _ _ ∙ (length-set _ _ _ ∙ inv.size);
+      room = inv.room;
       left = same_drop_set _ _ _ _ _ c.take-value.result far' far inv.left;
       taken = (
         row.0,

@@ -7,13 +7,13 @@ mark-requires-clause-within c =
     let small : c.groups.g < 2 ^ 32 = omega arith in
     let first = code-first c.args.width c.args.bits c.groups.g _ _ c.args.block c.requires.groups.eight small c.group_mask-base.ensures.base c.group_mask-base.ensures.mask in
     let count = code-count c.args.width c.args.bits c.groups.g _ c.args.block c.requires.groups.eight c.group_mask-base.ensures.mask in
-    omega (arith, first, count, run-within c.args.width c.args.bits c.groups.g c.args.block c.groups.buckets (c.groups.invariant.marked.size.long ∙ c.requires.count) c.groups-test.true)
+    omega (arith, first, count, run-within c.args.width c.args.bits c.groups.g c.args.block c.groups.buckets.rows (c.groups.invariant.marked.size.long ∙ c.requires.count) c.groups-test.true)
 
 pub mark-requires-clause-place : goal.mark-requires-clause-place
-mark-requires-clause-place c = size-lengths (λ n. c.args.r < n) c.args.buckets.now c.groups.buckets c.groups.invariant.marked.size c.requires.place
+mark-requires-clause-place c = size-lengths (λ n. c.args.r < n) c.args.buckets.now.rows c.groups.buckets.rows c.groups.invariant.marked.size c.requires.place
 
 pub groups-init : goal.groups-init
-groups-init c = record { marked = block_marked-none _ _ _ _ _; kept = record { cells = λ j i h. refl } }
+groups-init c = record { marked = block_marked-none _ _ _ _ _; kept = record { cells = λ j i h. refl }; own = refl }
 
 pub groups-preserved : goal.groups-preserved
 groups-preserved c =
@@ -21,8 +21,9 @@ groups-preserved c =
     let first = code-first c.args.width c.args.bits c.groups.g _ _ c.args.block c.requires.groups.eight small c.group_mask-base.ensures.base c.group_mask-base.ensures.mask in
     let count = code-count c.args.width c.args.bits c.groups.g _ c.args.block c.requires.groups.eight c.group_mask-base.ensures.mask in
     record {
-      marked = block_marked-more c.args.width c.args.bits c.groups.g c.args.block c.args.r _ _ c.args.buckets.now c.groups.buckets c.mark.new.self (cc first) (cc (first, count)) c.mark.ensures c.groups.invariant.marked;
-      kept = cells-marked _ _ _ _ _ _ _ (omega arith) c.groups.invariant.kept c.mark.ensures;
+      marked = block_marked-more c.args.width c.args.bits c.groups.g c.args.block c.args.r _ _ c.args.buckets.now.rows c.groups.buckets.rows c.mark.new.self.rows (cc first) (cc (first, count)) c.mark.ensures.rows c.groups.invariant.marked;
+      kept = cells-marked _ _ _ _ _ _ _ (omega arith) c.groups.invariant.kept c.mark.ensures.rows;
+      own = c.mark.ensures.own ∙ c.groups.invariant.own;
     }
 
 pub returns-clause-marked : goal.returns-clause-marked
@@ -33,4 +34,4 @@ returns-clause-marked c =
 pub returns-clause-rules : goal.returns-clause-rules
 returns-clause-rules c = λ before long has.
     let all : c.groups.g ≡ c.args.bits / c.args.width = omega arith in
-    rules-more c.args.width c.args.bits c.args.r c.args.block c.args.buckets.now c.groups.buckets before c.requires.block (rw all at c.groups.invariant.marked) long has
+    rules-more c.args.width c.args.bits c.args.r c.args.block c.args.buckets.now.rows c.groups.buckets.rows before c.requires.block (rw all at c.groups.invariant.marked) long has

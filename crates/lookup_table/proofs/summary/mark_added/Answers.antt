@@ -1,9 +1,9 @@
-use Rattle.std.proofs.Common.{◌<◌, length, arith}
+use Rattle.std.proofs.Common.{◌<◌, ◌∙◌, refl, length, arith}
 use Rattle.lookup_table.proofs.SummaryLaws.{keeps-none, keeps-both, rules-none, rules-more}
 use Rattle.lookup_table.proofs.summary.mark_added.Goals as goal
 
 pub rules-init : goal.rules-init
-rules-init c = record { kept = keeps-none _; pages = c.requires.pages; marked = rules-none _ _ _ _ }
+rules-init c = record { kept = keeps-none _; pages = c.requires.pages; own = refl; marked = rules-none _ _ _ _ }
 
 pub rules-preserved : goal.rules-preserved
 rules-preserved c =
@@ -11,5 +11,6 @@ rules-preserved c =
     record {
       kept = keeps-both _ _ _ c.rules.invariant.kept c.mark_rule.ensures.kept;
       pages = c.mark_rule.ensures.pages;
+      own = c.mark_rule.ensures.own ∙ c.rules.invariant.own;
       marked = rules-more c.args.bits c.args.first c.rules.i _ c.args.added.now c.rules.pages.items _ within c.mark_rule.ensures.kept c.mark_rule.ensures.marked c.rules.invariant.marked;
     }

@@ -1,11 +1,12 @@
-use Rattle.std.specs.Prelude.{All}
-use Rattle.word_summary.specs.Marks.{IsPage}
-use Rattle.lookup_table.specs.Summary.{KeepsMarks, AreRulesMarked}
+use Rattle.std.proofs.Common.{◌≡◌}
+use Rattle.shared_pages.specs.Paged.{owns_of}
+use Rattle.lookup_table.specs.Summary.{ArePages, KeepsMarks, AreRulesMarked}
 use Rattle.lookup_table.proofs.summary.mark_added.Given as goal
 
 abbrev pub invariant-rules : goal.invariant-rules
 invariant-rules l = record {
   kept : KeepsMarks l.initial.pages.items l.pages.items;
-  pages : All (IsPage l.bits) l.pages.items;
+  pages : ArePages l.bits l.pages.items;
+  own : owns_of l.pages.items ≡ owns_of l.initial.pages.items;
   marked : AreRulesMarked l.bits l.first l.i l.added l.pages.items;
 }

@@ -1,5 +1,10 @@
-use Rattle.lookup_table.proofs.SummaryLaws.{PagesDone}
+use Rattle.std.proofs.Common.{◌≡◌, ◌*◌}
+use Rattle.shared_pages.specs.Paged.{owns_of}
+use Rattle.lookup_table.specs.Summary.{IsSummed}
 use Rattle.lookup_table.proofs.summary.renew_pages.Given as goal
 
-abbrev pub invariant-pages : goal.invariant-pages
-invariant-pages l = PagesDone l.width l.bits l.rules l.p l.buckets l.initial.pages.items l.pages.items
+abbrev pub invariant-words : goal.invariant-words
+invariant-words l = record {
+  summed : IsSummed l.width l.bits (512 * l.q) l.buckets.rows l.pages.items;
+  own : owns_of l.pages.items ≡ owns_of l.initial.pages.items;
+}

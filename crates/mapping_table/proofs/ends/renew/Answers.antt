@@ -1,14 +1,8 @@
-use Rattle.std.proofs.Common.{rules, arith, ◌<◌, length, get_or, None}
-use Rattle.std.proofs.lemmas.List.{get_or_default}
-use Rattle.std.proofs.lemmas.List.Edits.{map_over_more}
-use Rattle.set_tables.specs.declared.End.{End}
+use Rattle.std.proofs.Common.{arith}
 use Rattle.set_tables.specs.Rows.{end_renewed}
+use Rattle.mapping_table.proofs.MoveLaws.{passed-all}
 use Rattle.mapping_table.proofs.ends.renew.Goals as goal
 
-pub ends-preserved : goal.ends-preserved
-ends-preserved c =
-    let d : End = record { place = 0; expiry = None } in
-    let i = c.ends.end-index in
-    let within : c.ends.end-index < length c.args.ends.now = omega arith in
-    let inside : c.ends.end-index < length c.ends.ends = omega arith in
-    search (rules, map_over_more (end_renewed c.args.expiry) c.args.ends.now c.ends.ends i (get_or c.ends.ends i d) within c.ends.invariant (get_or_default c.ends.ends i d (get_or c.ends.ends i d) inside))
+pub returns-clause-items : goal.returns-clause-items
+returns-clause-items c =
+    passed-all (end_renewed c.args.expiry) c.args.first c.args.n c.ends.i c.args.ends.now.items c.ends.ends.items (omega arith) c.requires.range c.ends.invariant.items

@@ -9,7 +9,7 @@ use Rattle.packet_pool.proofs.steps.do_step.Goals as goal
 pub try_change-requires-clause-fits : goal.try_change-requires-clause-fits
 try_change-requires-clause-fits g c =
     let asked = subst (IsRunnableStep c.args.control.now.schema) c.in-Change.is c.requires.runnable in
-    step_fits c.args.control.now.schema c.args.control.now.work c.in-Change.set asked.0 c.in-Change.parts c.known.ensures.open_sets asked.1 asked.2
+    step_fits c.args.control.now.schema c.args.control.now.work c.in-Change.set asked.0 c.in-Change.element.parts c.known.ensures.open_sets asked.1 asked.2
 
 pub try_flush-requires : goal.try_flush-requires
 try_flush-requires g c =
@@ -19,7 +19,7 @@ try_flush-requires g c =
 pub returns-else-failed-clause-ok : goal.returns-else-failed-clause-ok
 returns-else-failed-clause-ok g c = rw c.in-Change.is
     (on_ok_weaker c.try_change.result
-    (open_change (mode_of c.args.keep_going) _ _ c.in-Change.line c.in-Change.set c.in-Change.verb c.in-Change.parts c.in-Change.expiry c.in-Change.comment c.in-Change.now c.if-failed.false)
+    (open_change (mode_of c.args.keep_going) _ _ c.in-Change.line c.in-Change.set c.in-Change.verb c.in-Change.element c.in-Change.now c.if-failed.false)
     c.try_change.ensures.ok)
 
 pub returns-else-failed-clause-err : goal.returns-else-failed-clause-err

@@ -5,7 +5,7 @@ use Rattle.bit_rows.specs.Row.{Row}
 use Rattle.set_model.specs.SetState.{field_rules}
 use Rattle.set_model.specs.Blocks.{holds_value}
 use Rattle.set_tables.specs.Rows.{matched}
-use Rattle.pipapo_image.specs.Room.{HasRoom}
+use Rattle.pipapo_image.specs.Index.Room.{HasRoomForRules}
 use Rattle.pipapo_image.proofs.Items.{field-stands, map-spans, inside-row, field-count, key-within}
 use Rattle.pipapo_image.proofs.WalkLaws.{first-row, next-row}
 use Rattle.pipapo_image.proofs.index.walk.Goals as goal
@@ -68,7 +68,7 @@ pub fields-preserved : goal.fields-preserved
 fields-preserved c =
     let g : c.fields.f + 1 < length c.args.fields.now = omega (arith, c.requires.shaped.one_fewer, c.fields-test.true) in
     let long : length c.fill-in-fields.new.self.bits ≡ c.index-fields-f.result.rules = ap length c.fill-in-fields.ensures.bits ∙ length-replicate c.index-fields-f.result.rules false in
-    let P : Row → Type 0 = λ z. HasRoom z in
+    let P : Row → Type 0 = λ z. HasRoomForRules z in
     record {
       row = λ kinds es s m.
           let st = field-stands kinds es c.args.fields.now (c.fields.f + 1) c.index-fields-f.result s g c.index-fields-f.is in

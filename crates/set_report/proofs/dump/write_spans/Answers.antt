@@ -1,11 +1,18 @@
-use Rattle.std.proofs.Common.{subst, flat_map}
+use Rattle.std.proofs.Common.{◌<◌, sym, subst, length, get_or, None, arith}
+use Rattle.std.proofs.lemmas.Option.{get_or_from_slice_get}
+use Rattle.set_tables.specs.declared.Span.{Span}
 use Rattle.set_report.specs.DumpText.{span_text}
 use Rattle.text_pieces.specs.Appends.{AppendsPart}
 use Rattle.text_pieces.proofs.PartLaws.{on_err, item_part_at}
+use Rattle.set_report.proofs.DumpGroups.{item-more}
 use Rattle.set_report.proofs.dump.write_spans.Goals as goal
 
 pub returns-in_err-write_span-clause-err : goal.returns-in_err-write_span-clause-err
 returns-in_err-write_span-clause-err c =
-    on_err c.from_residual.result (subst (λ xs. AppendsPart c.args.out.now.items c.write_span.new.out.items (flat_map span_text xs)) c.as_slice-span-items.ensures
-    (item_part_at span_text c.as_slice-span-items.result.now c.loop-span.span-index _ c.args.out.now.items c.loop-span.out.items c.write_span.new.out.items
-    c.loop-span-test.true c.loop-span.invariant c.in_err-write_span.ensures.err))
+    let d : Span = record { first = 0; count = 0 } in
+    let inside : c.rules.i < length c.args.map.now.items = omega arith in
+    on_err c.from_residual.result (item_part_at span_text c.args.map.now.items c.rules.i d c.args.out.now.items c.rules.out.items c.write_span.new.out.items inside c.rules.invariant
+    (subst (λ x. AppendsPart c.rules.out.items c.write_span.new.out.items (span_text x)) (sym (get_or_from_slice_get c.args.map.now.items c.rules.i c.at.result.now d c.at.ensures)) c.in_err-write_span.ensures.err))
+
+pub rules-preserved : goal.rules-preserved
+rules-preserved c = item-more span_text c.args.map.now.items c.rules.i c.at.result.now c.args.out.now.items c.rules.out.items c.write_span.new.out.items c.at.ensures c.rules.invariant c.in_ok-write_span.ensures.ok

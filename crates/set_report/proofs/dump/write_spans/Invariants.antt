@@ -3,5 +3,5 @@ use Rattle.set_report.specs.DumpText.{span_text}
 use Rattle.set_report.proofs.dump.write_spans.Given as goal
 
 -- the spans so far are appended
-abbrev pub invariant-loop-span : goal.invariant-loop-span
-invariant-loop-span l = l.out.items ≡ l.initial.out.items ++ flat_map span_text (take l.span-index l.span-items)
+abbrev pub invariant-rules : goal.invariant-rules
+invariant-rules l = l.out.items ≡ l.initial.out.items ++ flat_map span_text (take l.i l.map.items)

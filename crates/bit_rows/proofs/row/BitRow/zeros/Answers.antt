@@ -1,12 +1,14 @@
-use Rattle.std.proofs.Common.{◌∙◌, ap}
+use Rattle.std.proofs.Common.{◌∙◌, ap, rules}
 use Rattle.bit_rows.proofs.Rows.{row-zeros, bits-zeros, place-nil}
 use Rattle.bit_rows.proofs.row.BitRow.zeros.Goals as goal
 use Rattle.bit_rows.specs.Words.{place}
 
 pub invariant_of-result : goal.invariant_of-result
 invariant_of-result c =
-    row-zeros _ _ _ c.words_taken.ensures.steps c.words_taken.ensures.small c.words_taken.ensures.within c.in_ok-grow.ensures.length
+    row-zeros _ _ _ c.words_taken.ensures.steps c.words_taken.ensures.small (search rules) c.in_ok-grow.ensures.length
     (λ i. c.in_ok-grow.ensures.places i ∙ ap (λ w. place w i) c.new-words.ensures.items ∙ place-nil i)
 
 pub returns : goal.returns
-returns c = bits-zeros _ _ (λ i. c.in_ok-grow.ensures.places i ∙ ap (λ w. place w i) c.new-words.ensures.items ∙ place-nil i)
+returns c =
+    let none = bits-zeros _ c.args.len (λ i. c.in_ok-grow.ensures.places i ∙ ap (λ w. place w i) c.new-words.ensures.items ∙ place-nil i) in
+    search rules

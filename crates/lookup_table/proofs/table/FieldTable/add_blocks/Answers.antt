@@ -1,12 +1,27 @@
-use Rattle.std.proofs.Common.{◌∙◌, length-append, arith}
+use Rattle.std.proofs.Common.{length, ◌∙◌, length-append, arith}
 use Rattle.lookup_table.proofs.RowsLaws.{raised-rooms, size-rooms}
 use Rattle.lookup_table.proofs.RuleLaws.{raised-shape, raised-rules, sized-shape, rules-stand}
 use Rattle.lookup_table.proofs.MarkLaws.{cells-both}
-use Rattle.lookup_table.proofs.SummaryLaws.{cells-raised, fresh-raised, summed-pages, summed-added, eight-groups}
+use Rattle.lookup_table.proofs.SummaryLaws.{few-rules, cells-raised, fresh-raised, summed-pages, summed-added, eight-groups}
 use Rattle.lookup_table.proofs.table.FieldTable.add_blocks.Goals as goal
 
+pub overflow_cast-count : goal.overflow_cast-count
+overflow_cast-count c = let few = few-rules _ _ _ (length c.args.added.now) _ _ c.args.self.now.shaped c.requires.spare c.room-room.ensures c.room-room.type_inv in omega arith
+
+pub mark_blocks-requires-clause-count : goal.mark_blocks-requires-clause-count
+mark_blocks-requires-clause-count c = few-rules _ _ _ (length c.args.added.now) _ _ c.args.self.now.shaped c.requires.spare c.room-room.ensures c.room-room.type_inv
+
+pub mark_blocks-requires-clause-shape : goal.mark_blocks-requires-clause-shape
+mark_blocks-requires-clause-shape c = raised-shape _ _ _ _ _ _ c.args.self.now.shaped c.raise.ensures.rows
+
+pub overflow_add-self : goal.overflow_add-self
+overflow_add-self c = let few = few-rules _ _ _ (length c.args.added.now) _ _ c.args.self.now.shaped c.requires.spare c.room-room.ensures c.room-room.type_inv in omega arith
+
+pub mark_added-requires-clause-few : goal.mark_added-requires-clause-few
+mark_added-requires-clause-few c = few-rules _ _ _ (length c.args.added.now) _ _ c.args.self.now.shaped c.requires.spare c.room-room.ensures c.room-room.type_inv
+
 pub mark_blocks-requires-clause-fresh : goal.mark_blocks-requires-clause-fresh
-mark_blocks-requires-clause-fresh c = fresh-raised _ _ _ _ _ _ c.args.self.now.shaped c.raise.ensures
+mark_blocks-requires-clause-fresh c = fresh-raised _ _ _ _ _ _ c.args.self.now.shaped c.raise.ensures.rows
 
 pub mark_added-requires-clause-groups : goal.mark_added-requires-clause-groups
 mark_added-requires-clause-groups c = eight-groups _ _ c.args.self.now.shaped.groups
@@ -16,15 +31,15 @@ mark_added-requires-clause-pages c = summed-pages _ _ _ _ _ c.args.self.now.summ
 
 pub invariant_of-self : goal.invariant_of-self
 invariant_of-self c = record {
-  shaped = sized-shape _ _ _ _ _ (raised-shape _ _ _ _ _ _ c.args.self.now.shaped c.raise.ensures) c.mark_blocks.ensures.size;
-  summed = summed-added _ _ _ _ _ _ _ _ _ c.args.self.now.shaped.groups c.args.self.now.summed (cells-both _ _ _ _ (cells-raised _ _ _ _ _ _ c.args.self.now.shaped c.raise.ensures) c.mark_blocks.ensures.kept)
+  shaped = sized-shape _ _ _ _ _ (raised-shape _ _ _ _ _ _ c.args.self.now.shaped c.raise.ensures.rows) c.mark_blocks.ensures.size;
+  summed = summed-added _ _ _ _ _ _ _ _ _ c.args.self.now.shaped.groups c.args.self.now.summed (cells-both _ _ _ _ (cells-raised _ _ _ _ _ _ c.args.self.now.shaped c.raise.ensures.rows) c.mark_blocks.ensures.kept)
       c.mark_blocks.ensures.only c.mark_added.ensures.kept c.mark_added.ensures.marked;
 }
 
 pub returns-clause-room : goal.returns-clause-room
-returns-clause-room c = size-rooms _ _ c.mark_blocks.ensures.size ∙ raised-rooms _ _ _ c.raise.ensures
+returns-clause-room c = size-rooms _ _ c.mark_blocks.ensures.size ∙ raised-rooms _ _ _ c.raise.ensures.rows
 
 pub returns-clause-stands : goal.returns-clause-stands
 returns-clause-stands c = λ blocks stands.
     rules-stand _ _ _ _ _ (omega (arith, length-append blocks c.args.added.now, stands.one_each))
-    (c.mark_blocks.ensures.rules blocks stands.one_each (raised-rules _ _ _ _ _ _ blocks c.args.self.now.shaped c.raise.ensures stands))
+    (c.mark_blocks.ensures.rules blocks stands.one_each (raised-rules _ _ _ _ _ _ blocks c.args.self.now.shaped c.raise.ensures.rows stands))

@@ -1,22 +1,46 @@
-use Rattle.std.proofs.Common.{rules, ◌≤◌, ◌*◌, ◌/◌, arith}
+use Rattle.std.proofs.Common.{rules, ◌≡◌, ◌∙◌, ap, ℕ, ◌+◌, ◌-◌, ◌≤◌, ◌*◌, ◌/◌, ◌++◌, take, drop, length, arith}
+use Rattle.std.proofs.lemmas.List.{take-append-drop}
 use Rattle.lookup_table.specs.Rows.{IsClosedUp, Each}
 use Rattle.lookup_table.proofs.RowsLaws.{closed-rooms}
-use Rattle.lookup_table.proofs.RuleLaws.{closed-stands}
+use Rattle.lookup_table.proofs.RuleLaws.{closed-shape, closed-stands}
 use Rattle.lookup_table.proofs.MarkLaws.{cells-fewer}
-use Rattle.lookup_table.proofs.SummaryLaws.{summed-kept, cells-closed}
+use Rattle.lookup_table.proofs.SummaryLaws.{buckets-some, first-long, closed-room, own-words, summed-kept, summed-weaker, cells-closed}
 use Rattle.lookup_table.proofs.table.FieldTable.drop_rules.Goals as goal
+
+pub returns-then-n-eq0-clause-stands : goal.returns-then-n-eq0-clause-stands
+returns-then-n-eq0-clause-stands c = λ blocks stands.
+    let none : c.args.first + c.args.n ≡ c.args.first = omega (arith, c.if-n-eq0.true) in
+    let same : take c.args.first blocks ++ drop (c.args.first + c.args.n) blocks ≡ blocks = ap (λ k. take c.args.first blocks ++ drop k blocks) none ∙ take-append-drop c.args.first blocks in
+    rw same stands
+
+pub close_up-requires-clause-some : goal.close_up-requires-clause-some
+close_up-requires-clause-some c = buckets-some _ _ _ c.args.self.now.shaped.groups c.args.self.now.shaped.count
+
+pub close_up-requires-clause-own : goal.close_up-requires-clause-own
+close_up-requires-clause-own c = record { each = λ r a b. c.requires.own.rows r a (omega (arith, first-long _ _ _ _ c.args.self.now.shaped)) }
+
+pub renew_pages-requires-clause-words : goal.renew_pages-requires-clause-words
+renew_pages-requires-clause-words c = λ q h. closed-room _ _ _ _ _ (512 * q) _ _ c.args.self.now.shaped c.close_up.ensures.rows (omega (arith, c.div_ceil-end.ensures))
+
+pub renew_pages-requires-clause-own : goal.renew_pages-requires-clause-own
+renew_pages-requires-clause-own c = λ q a b. own-words c.args.self.now.pages.items c.args.first c.args.self.now.rules q c.requires.own.marks (omega (arith, c.requires.within, c.if-n-eq0.false)) a (omega (arith, c.div_ceil-end.ensures))
 
 pub renew_pages-requires-clause-summed : goal.renew_pages-requires-clause-summed
 renew_pages-requires-clause-summed c =
-    let before : 64 * (c.args.first / 64) ≤ c.args.first = omega arith in
-    let within : 64 * (c.args.first / 64) ≤ c.args.self.now.rules = omega arith in
-    let closed : Each (IsClosedUp c.args.first c.args.n) c.args.self.now.buckets c.close_up.new.self = search (rules, c.close_up.ensures) in
-    summed-kept _ _ _ _ _ _ _ within (cells-fewer _ _ _ _ before (cells-closed _ _ _ _ _ _ _ c.requires c.args.self.now.shaped closed)) c.args.self.now.summed
+    let before : 512 * (c.args.first / 512) ≤ c.args.first = omega arith in
+    let within : 512 * (c.args.first / 512) ≤ c.args.self.now.rules = omega (arith, c.requires.within) in
+    summed-kept _ _ _ _ _ _ _ within (cells-fewer _ _ _ _ before (cells-closed _ _ _ _ _ _ _ c.requires.within c.args.self.now.shaped c.close_up.ensures.rows)) c.args.self.now.summed
+
+pub invariant_of-self : goal.invariant_of-self
+invariant_of-self c = record {
+  shaped = closed-shape _ _ _ _ _ _ _ c.requires.within c.args.self.now.shaped c.close_up.ensures.rows;
+  summed = summed-weaker _ _ _ _ _ _ (omega (arith, c.div_ceil-end.ensures)) c.renew_pages.ensures.summed;
+}
 
 pub returns-clause-room : goal.returns-clause-room
-returns-clause-room c = closed-rooms _ _ _ _ c.close_up.ensures
+returns-clause-room c = closed-rooms _ _ _ _ c.close_up.ensures.rows
 
 pub returns-clause-stands : goal.returns-clause-stands
 returns-clause-stands c = λ blocks stands.
-    let closed : Each (IsClosedUp c.args.first c.args.n) c.args.self.now.buckets c.close_up.new.self = search (rules, c.close_up.ensures) in
-    search (rules, closed-stands c.args.self.now.width c.args.self.now.bits c.args.self.now.rules c.args.first c.args.n c.args.self.now.buckets c.close_up.new.self blocks c.requires c.args.self.now.shaped closed stands)
+    let closed : Each (IsClosedUp c.args.first c.args.n) c.args.self.now.buckets.rows c.close_up.new.self.rows = search (rules, c.close_up.ensures.rows) in
+    search (rules, closed-stands c.args.self.now.width c.args.self.now.bits c.args.self.now.rules c.args.first c.args.n c.args.self.now.buckets.rows c.close_up.new.self.rows blocks c.requires.within c.args.self.now.shaped closed stands)

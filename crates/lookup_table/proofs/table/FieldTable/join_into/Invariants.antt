@@ -4,6 +4,6 @@ use Rattle.lookup_table.proofs.table.FieldTable.join_into.Given as goal
 
 abbrev pub invariant-rows : goal.invariant-rows
 invariant-rows l = record {
-  joined : IsJoined l.self.buckets l.start l.step l.i l.self.rules l.row;
+  joined : IsJoined l.self.buckets.rows l.start l.step l.i l.self.rules l.row;
   spare : l.row.spare ≡ l.initial.row.spare;
 }

@@ -3,9 +3,9 @@ use Rattle.lookup_table.specs.declared.table.FieldTable.{FieldTable}
 use Rattle.set_model.specs.SetState.{State}
 use Rattle.set_tables.specs.declared.End.{End}
 use Rattle.set_tables.specs.Search.{of_field}
-use Rattle.pipapo_image.specs.Built.{Built}
-use Rattle.pipapo_image.specs.Grow.{IsOther}
-use Rattle.pipapo_image.specs.Changes.{AreReady, IsAppended}
+use Rattle.pipapo_image.specs.Index.Built.{Built}
+use Rattle.pipapo_image.specs.Index.Grow.{IsOther}
+use Rattle.pipapo_image.specs.Index.Changes.{AreReady, IsAppended}
 use Rattle.pipapo_image.proofs.ImageUse.{image-shaped}
 use Rattle.pipapo_image.proofs.ImageGrowth.{columns-of, image-kept, ready, growth}
 use Rattle.pipapo_image.proofs.image.SetImage.append_element.Goals as goal

@@ -1,6 +1,5 @@
 use Rattle.std.proofs.Common.{sym, ◌∙◌, ap, rules, ℕ, Option, Some}
-use Rattle.set_model.specs.SetState.{State}
-use Rattle.pipapo_image.specs.Remove.{without_at}
+use Rattle.set_model.specs.SetState.{State, without_at}
 use Rattle.pipapo_image.proofs.Shrinking.{removed-at, never_missing}
 use Rattle.pipapo_image.proofs.image.SetImage.delete.Goals as goal
 

@@ -1,35 +1,37 @@
-use Rattle.std.proofs.Common.{rules, ◌≡◌, sym, ◌∙◌, ap, ℕ, ◌<◌, Bool, true, false, cond, nat_lt, List, length, get_or, Option, Some, None, arith}
-use Rattle.std.specs.Prelude.{position}
-use Rattle.std.proofs.lemmas.Bool.Decides.{nat_tests}
-use Rattle.std.proofs.lemmas.List.Sums.{position_or_len_is}
-use Rattle.set_model.specs.SetState.{is_exactly}
-use Rattle.pipapo_image.proofs.Renewal.{no_element}
+use Rattle.std.proofs.Common.{◌≡◌, sym, ◌∙◌, ap, subst, true, false, take}
+use Rattle.std.specs.Prelude.{All}
+use Rattle.set_model.specs.Key.{start_key, key_fits, parts_fit, same_parts}
+use Rattle.set_model.specs.SetState.{element_at, place}
+use Rattle.pipapo_image.proofs.AddLaws.{start-fits}
+use Rattle.pipapo_image.proofs.ExactLaws.{exact-nowhere, exact-unfit, exact-first, none-up-to}
 use Rattle.pipapo_image.proofs.image.SetImage.exact_at.Goals as goal
 
--- the first place at which the test passes, and none where it passes nowhere
-first-passes : {X : Type 0} (p : X → Bool) (xs : List X) (i : ℕ) (d : X) → i < length xs → ((k : ℕ) → k < i → p (get_or xs k d) ≡ false) → p (get_or xs i d) ≡ true → position p xs ≡ Some i
-first-passes p xs i d h before passes =
-    let t : nat_lt i (length xs) ≡ true = grind (arith, nat_tests) in
-    ap (λ n. cond (nat_lt n (length xs)) (Some n) None) (position_or_len_is p xs i d (omega arith) before (λ _. passes)) ∙ ap (λ b. cond b (Some i) None) t
+pub returns-then-not-parts_fit : goal.returns-then-not-parts_fit
+returns-then-not-parts_fit c =
+    let un : parts_fit c.self.inside.kinds c.args.parts.now ≡ false = sym c.if-not-parts_fit.ensures in
+    exact-unfit c.args.self.now c.args.parts.now c.args.now (subst (λ s. All (λ e. parts_fit s.kinds e.parts ≡ true) s.elements) c.self.view_is c.self.invariant.fit)
+    (ap (λ s. parts_fit s.kinds c.args.parts.now) (sym c.self.view_is) ∙ un)
 
-none-passes : {X : Type 0} (p : X → Bool) (xs : List X) (d : X) → ((k : ℕ) → k < length xs → p (get_or xs k d) ≡ false) → position p xs ≡ None
-none-passes p xs d before =
-    let n = length xs in
-    let t : nat_lt n n ≡ false = grind (arith, nat_tests) in
-    ap (λ n. cond (nat_lt n (length xs)) (Some n) None) (position_or_len_is p xs n d (omega arith) before (λ h. absurd (omega arith))) ∙ ap (λ b. cond b (Some n) None) t
+pub place-requires : goal.place-requires
+place-requires c =
+    let fit : parts_fit c.args.self.now.kinds c.args.parts.now ≡ true = ap (λ s. parts_fit s.kinds c.args.parts.now) (sym c.self.view_is) ∙ sym c.if-not-parts_fit.ensures in
+    let key : take c.len.result c.starts-lows.result ≡ start_key c.args.parts.now = ap (λ n. take n c.starts-lows.result) c.len.ensures ∙ c.starts-lows.ensures in
+    subst (λ z. key_fits c.args.self.now.kinds z ≡ true) (sym key) (start-fits c.args.self.now.kinds c.args.parts.now fit)
 
-pub returns-then-is_exactly_at : goal.returns-then-is_exactly_at
-returns-then-is_exactly_at c =
-    let e = ap (λ s. length s.elements) c.self.view_is in
-    record {
-      value = sym (first-passes (is_exactly c.args.parts.now c.args.now) c.args.self.now.elements c.places.i no_element (omega arith) c.places.invariant (sym c.is_exactly_at.ensures ∙ c.if-is_exactly_at.true));
-      within = omega arith;
-    }
+pub exact_behind-requires-clause-none : goal.exact_behind-requires-clause-none
+exact_behind-requires-clause-none c =
+    let fit : parts_fit c.args.self.now.kinds c.args.parts.now ≡ true = ap (λ s. parts_fit s.kinds c.args.parts.now) (sym c.self.view_is) ∙ sym c.if-not-parts_fit.ensures in
+    let key : take c.len.result c.starts-lows.result ≡ start_key c.args.parts.now = ap (λ n. take n c.starts-lows.result) c.len.ensures ∙ c.starts-lows.ensures in
+    none-up-to c.args.self.now c.args.parts.now c.args.now c.in-Some.i fit (sym c.in-Some.is ∙ c.place.ensures.value ∙ ap (λ z. place c.args.self.now z c.args.now) key) (sym c.has_parts.ensures ∙ c.if-has_parts.false)
 
-pub returns : goal.returns
-returns c =
-    let e = ap (λ s. length s.elements) c.self.view_is in
-    record {
-      value = sym (none-passes (is_exactly c.args.parts.now c.args.now) c.args.self.now.elements no_element (λ k h. c.places.invariant k (omega arith)));
-      within = search rules;
-    }
+pub returns-in-Some : goal.returns-in-Some
+returns-in-Some c =
+    let fit : parts_fit c.args.self.now.kinds c.args.parts.now ≡ true = ap (λ s. parts_fit s.kinds c.args.parts.now) (sym c.self.view_is) ∙ sym c.if-not-parts_fit.ensures in
+    let key : take c.len.result c.starts-lows.result ≡ start_key c.args.parts.now = ap (λ n. take n c.starts-lows.result) c.len.ensures ∙ c.starts-lows.ensures in
+    exact-first c.args.self.now c.args.parts.now c.args.now c.in-Some.i fit (sym c.in-Some.is ∙ c.place.ensures.value ∙ ap (λ z. place c.args.self.now z c.args.now) key) (sym c.has_parts.ensures ∙ c.if-has_parts.true)
+
+pub returns-in-None : goal.returns-in-None
+returns-in-None c =
+    let fit : parts_fit c.args.self.now.kinds c.args.parts.now ≡ true = ap (λ s. parts_fit s.kinds c.args.parts.now) (sym c.self.view_is) ∙ sym c.if-not-parts_fit.ensures in
+    let key : take c.len.result c.starts-lows.result ≡ start_key c.args.parts.now = ap (λ n. take n c.starts-lows.result) c.len.ensures ∙ c.starts-lows.ensures in
+    exact-nowhere c.args.self.now c.args.parts.now c.args.now fit (sym c.in-None.is ∙ c.place.ensures.value ∙ ap (λ z. place c.args.self.now z c.args.now) key)

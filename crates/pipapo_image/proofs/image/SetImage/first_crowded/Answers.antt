@@ -2,8 +2,8 @@ use Rattle.std.proofs.Common.{◌∙◌, ap, arith, length}
 use Rattle.set_model.specs.SetState.{State, crowded_field}
 use Rattle.std.specs.Prelude.{find}
 use Rattle.std.specs.List.{range_with_len}
-use Rattle.pipapo_image.specs.Built.{Built}
-use Rattle.pipapo_image.specs.Grow.{IsColumn, counts, is_over}
+use Rattle.pipapo_image.specs.Index.Built.{Built}
+use Rattle.pipapo_image.specs.Index.Grow.{IsColumn, counts, is_over}
 use Rattle.pipapo_image.proofs.ImageUse.{image-shaped}
 use Rattle.pipapo_image.proofs.ImageGrowth.{crowded-same}
 use Rattle.pipapo_image.proofs.image.SetImage.first_crowded.Goals as goal

@@ -2,8 +2,8 @@ use Rattle.std.proofs.Common.{refl, sym, ◌∙◌, ap, Option, Some, None, ◌�
 use Rattle.std.specs.Prelude.{option_map}
 use Rattle.set_model.specs.declared.packet.Found.{Found}
 use Rattle.set_model.specs.declared.element.Element.{Element}
-use Rattle.set_model.specs.SetState.{State}
-use Rattle.pipapo_image.specs.Found.{found_at, element_at}
+use Rattle.set_model.specs.SetState.{State, element_at}
+use Rattle.pipapo_image.specs.Image.Found.{found_at}
 use Rattle.pipapo_image.proofs.AddLaws.{sharing-at}
 use Rattle.pipapo_image.proofs.image.SetImage.first_sharing.Goals as goal
 

@@ -2,7 +2,7 @@ use Rattle.std.proofs.Common.{◌≡◌, ◌<◌, sym, ◌∙◌, ap, subst, len
 use Rattle.std.proofs.lemmas.Option.{get_or_from_slice_get}
 use Rattle.set_model.specs.Expiry.{live}
 use Rattle.set_model.specs.SetState.{crowded_field}
-use Rattle.pipapo_image.specs.Append.{with_last}
+use Rattle.pipapo_image.specs.Image.Append.{with_last}
 use Rattle.pipapo_image.specs.Image.{IsImage}
 use Rattle.pipapo_image.proofs.Purging.{room-kept, not-expired, is-gone, one-kept, one-gone}
 use Rattle.pipapo_image.proofs.image.SetImage.made_anew.Goals.{then-not-expired+in_ok-append_copy, else-not-expired}

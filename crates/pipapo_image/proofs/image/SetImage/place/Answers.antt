@@ -5,16 +5,16 @@ use Rattle.pipapo_image.proofs.ImageUse.{image-shaped, key-of, all-long}
 use Rattle.pipapo_image.proofs.Places.{is-place}
 use Rattle.pipapo_image.proofs.image.SetImage.place.Goals as goal
 
-pub find-requires-clause-shaped : goal.find-requires-clause-shaped
-find-requires-clause-shaped c = image-shaped c.self.inside.kinds c.self.inside.elements c.self.inside.index c.self.invariant
+pub find_values-requires-clause-shaped : goal.find_values-requires-clause-shaped
+find_values-requires-clause-shaped c = image-shaped c.self.inside.kinds c.self.inside.elements c.self.inside.index c.self.invariant
 
-pub find-requires-clause-key : goal.find-requires-clause-key
-find-requires-clause-key c =
+pub find_values-requires-clause-key : goal.find_values-requires-clause-key
+find_values-requires-clause-key c =
     key-of c.self.inside.kinds c.self.inside.elements c.self.inside.index c.args.key.now c.self.invariant
     (ap (λ s. key_fits s.kinds c.args.key.now) c.self.view_is ∙ c.requires)
 
 pub returns : goal.returns
 returns c =
-    is-place c.args.self.now c.args.key.now c.args.now c.find.result
-    (c.find.ensures c.self.inside.kinds c.self.inside.elements c.self.invariant.tables (all-long c.self.inside.kinds c.self.inside.elements c.self.invariant.fit)
+    is-place c.args.self.now c.args.key.now c.args.now c.find_values.result
+    (c.find_values.ensures c.self.inside.kinds c.self.inside.elements c.self.invariant.tables (all-long c.self.inside.kinds c.self.inside.elements c.self.invariant.fit)
     ∙ ap (λ s. place s c.args.key.now c.args.now) c.self.view_is)

@@ -1,10 +1,10 @@
 use Rattle.std.proofs.Common.{◌≡◌, ◌+◌, ◌-◌, sym, ◌∙◌, ap, subst, arith, [], ◌∷◌, ◌++◌}
 use Rattle.set_tables.specs.declared.Span.{Span}
 use Rattle.set_tables.specs.Tables.{split}
-use Rattle.pipapo_image.specs.Built.{Built}
+use Rattle.pipapo_image.specs.Index.Built.{Built}
 use Rattle.pipapo_image.specs.Image.{IsImage}
-use Rattle.pipapo_image.specs.Runs.{IsRun}
-use Rattle.pipapo_image.specs.Standing.{AreMapsOf}
+use Rattle.pipapo_image.specs.Index.Runs.{IsRun}
+use Rattle.pipapo_image.specs.Index.Standing.{AreMapsOf}
 use Rattle.pipapo_image.proofs.BuiltLaws.{built-none, built-more}
 use Rattle.pipapo_image.proofs.Items.{map-spans}
 use Rattle.pipapo_image.proofs.Renewal.{no_element, rules-next}

@@ -1,5 +1,5 @@
 use Rattle.std.proofs.Common.{◌+◌}
-use Rattle.pipapo_image.specs.Runs.{AreRuns, IsRun}
+use Rattle.pipapo_image.specs.Index.Runs.{AreRuns, IsRun}
 use Rattle.pipapo_image.proofs.image.SetImage.runs.Given as goal
 
 abbrev pub invariant-maps : goal.invariant-maps

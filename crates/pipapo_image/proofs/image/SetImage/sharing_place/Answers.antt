@@ -1,6 +1,6 @@
 use Rattle.std.proofs.Common.{◌∙◌, ap, ◌≡◌, true}
 use Rattle.set_model.specs.Key.{parts_fit}
-use Rattle.pipapo_image.specs.Sharing.{sharing_place}
+use Rattle.set_model.specs.SetState.{sharing_place}
 use Rattle.pipapo_image.proofs.ImageUse.{image-shaped}
 use Rattle.pipapo_image.proofs.Places.{is-sharing-place}
 use Rattle.pipapo_image.proofs.SharingRows.{intervals-of}

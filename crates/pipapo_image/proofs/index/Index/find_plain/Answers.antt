@@ -7,8 +7,8 @@ use Rattle.set_tables.specs.Core.{row_of}
 use Rattle.set_tables.specs.Tables.{last_ends}
 use Rattle.set_tables.specs.Search.{key_tests}
 use Rattle.set_tables.proofs.SearchLaws.{led-finds}
-use Rattle.pipapo_image.specs.Walk.{IsWalk, IsKeyOf}
-use Rattle.pipapo_image.specs.Standing.{AreFieldsOf, AreMapsOf}
+use Rattle.pipapo_image.specs.Index.Walk.{IsWalk, IsKeyOf}
+use Rattle.pipapo_image.specs.Index.Standing.{AreFieldsOf, AreMapsOf}
 use Rattle.pipapo_image.proofs.Items.{a-table}
 use Rattle.pipapo_image.proofs.index.Index.find_plain.Goals as goal
 

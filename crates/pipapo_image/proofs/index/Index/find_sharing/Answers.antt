@@ -4,7 +4,7 @@ use Rattle.set_tables.specs.Core.{row_of}
 use Rattle.set_tables.specs.Sharing.{share_tests}
 use Rattle.set_tables.specs.Tables.{last_ends}
 use Rattle.set_tables.proofs.SharingLaws.{led-shares}
-use Rattle.pipapo_image.specs.Standing.{AreFieldsOf, AreMapsOf}
+use Rattle.pipapo_image.specs.Index.Standing.{AreFieldsOf, AreMapsOf}
 use Rattle.pipapo_image.proofs.Items.{a-table}
 use Rattle.pipapo_image.proofs.index.Index.find_sharing.Goals as goal
 

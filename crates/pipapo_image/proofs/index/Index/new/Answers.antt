@@ -1,7 +1,7 @@
 use Rattle.std.proofs.Common.{◌≡◌, ◌+◌, ◌-◌, ◌<◌, sym, ◌∙◌, ap, subst, arith, length, []}
 use Rattle.std.proofs.lemmas.List.{get_or_default}
-use Rattle.pipapo_image.specs.Built.{Built}
-use Rattle.pipapo_image.specs.Standing.{IsTableOf}
+use Rattle.pipapo_image.specs.Index.Built.{Built}
+use Rattle.pipapo_image.specs.Index.Standing.{IsTableOf}
 use Rattle.pipapo_image.proofs.BuiltLaws.{built-none, built-more}
 use Rattle.pipapo_image.proofs.Empty.{IsEmptyTable, IsEmptyMap}
 use Rattle.pipapo_image.proofs.index.Index.new.Goals.{then-len-gt0+in_ok-push, else-len-gt0}

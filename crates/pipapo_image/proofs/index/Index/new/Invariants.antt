@@ -1,5 +1,5 @@
 use Rattle.std.proofs.Common.{◌-◌}
-use Rattle.pipapo_image.specs.Built.{Built}
+use Rattle.pipapo_image.specs.Index.Built.{Built}
 use Rattle.pipapo_image.proofs.Empty.{IsEmptyTable, IsEmptyMap}
 use Rattle.pipapo_image.proofs.index.Index.new.Given as goal
 

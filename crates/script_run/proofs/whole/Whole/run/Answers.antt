@@ -9,18 +9,18 @@ use Rattle.script_run.proofs.TranscriptLaws.{events_declared, sets_declared, sta
 use Rattle.script_run.proofs.whole.Whole.run.Goals as goal
 
 pub sections-init : goal.sections-init
-sections-init c = let e = c.in_ok-control.ensures.control in record {
+sections-init g c = let e = c.in_ok-control.ensures.control in record {
   stands = subst (λ (z : List Event). Stands [] (start c.args.script.schema) (run c.in_ok-control.control false z)) (sym c.new-events.ensures) (start_stands c.args.script.schema c.in_ok-control.control e.2 e.3);
   schema_is = e.0;
 }
 
 pub run_steps-requires-clause-steps : goal.run_steps-requires-clause-steps
-run_steps-requires-clause-steps c =
+run_steps-requires-clause-steps g c κs within =
     subst (λ (s : List SetDecl). All (IsRunnableStep s) c.steps-item.result) (sym c.sections.invariant.schema_is)
     (of-place (All (IsRunnableStep c.args.script.schema)) c.as_slice-steps-items.result.now c.args.script.sections c.sections.steps-index c.steps-item.result c.as_slice-steps-items.ensures c.sections-test.true c.steps-item.is c.requires.script.steps)
 
 pub sections-preserved : goal.sections-preserved
-sections-preserved c = record {
+sections-preserved g c = record {
   stands = next_stands c.args.keep_going c.args.script.schema c.as_slice-steps-items.result.now c.sections.steps-index c.steps-item.result c.sections.control c.run_steps.new.control c.sections.events c.in_ok-told.told c.add_all.new.events
       c.sections-test.true c.steps-item.is
       (of-place EndsClosed c.as_slice-steps-items.result.now c.args.script.sections c.sections.steps-index c.steps-item.result c.as_slice-steps-items.ensures c.sections-test.true c.steps-item.is c.requires.script.closed)
@@ -29,7 +29,7 @@ sections-preserved c = record {
 }
 
 pub returns-clause-named : goal.returns-clause-named
-returns-clause-named c = events_declared (mode_of c.args.keep_going) c.args.script.schema (take c.sections.steps-index c.as_slice-steps-items.result.now) c.sections.control c.sections.events c.sections.invariant.stands
+returns-clause-named g c = events_declared (mode_of c.args.keep_going) c.args.script.schema (take c.sections.steps-index c.as_slice-steps-items.result.now) c.sections.control c.sections.events c.sections.invariant.stands
 
 pub returns-clause-sets : goal.returns-clause-sets
-returns-clause-sets c = sets_declared (mode_of c.args.keep_going) c.args.script.schema (take c.sections.steps-index c.as_slice-steps-items.result.now) c.sections.control c.sections.events c.sections.invariant.stands
+returns-clause-sets g c = sets_declared (mode_of c.args.keep_going) c.args.script.schema (take c.sections.steps-index c.as_slice-steps-items.result.now) c.sections.control c.sections.events c.sections.invariant.stands

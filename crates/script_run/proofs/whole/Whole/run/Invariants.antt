@@ -5,7 +5,7 @@ use Rattle.script_run.proofs.whole.Whole.run.Given as goal
 
 -- the sections so far are done
 abbrev pub invariant-sections : goal.invariant-sections
-invariant-sections l = record {
+invariant-sections g l = record {
   stands : Stands [] (history (mode_of l.keep_going) l.fn.script.schema (take l.steps-index l.steps-items)) (run l.control false l.events);
   schema_is : l.control.schema ≡ l.fn.script.schema;
 }

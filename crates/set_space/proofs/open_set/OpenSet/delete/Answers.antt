@@ -1,7 +1,6 @@
 use Rattle.std.proofs.Common.{sym, ◌∙◌, ap, ℕ, Option, Some}
-use Rattle.set_model.specs.SetState.{State}
-use Rattle.pipapo_image.specs.Found.{exactly_found}
-use Rattle.pipapo_image.specs.Remove.{without_at}
+use Rattle.set_model.specs.SetState.{State, without_at}
+use Rattle.pipapo_image.specs.Image.Found.{exactly_found}
 use Rattle.set_space.specs.OpenSets.{open_state}
 use Rattle.set_space.proofs.Refusals.{found_removed, is_there}
 use Rattle.set_space.proofs.open_set.OpenSet.delete.Goals as goal

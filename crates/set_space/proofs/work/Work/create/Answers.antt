@@ -27,7 +27,7 @@ pub returns-clause-change : goal.returns-clause-change
 returns-clause-change c =
     let within = open-within (arc_value c.self.inside.base) c.self.inside.sets.items c.args.set c.args.self.now c.self.view_is c.self.invariant c.requires.set in
     let base = base-at (arc_value c.self.inside.base) c.deref.result.now c.args.set c.set-base.result.now c.deref.ensures c.set-base.ensures in
-    one-changed (λ s t. IsCreation (add s c.args.parts.now c.args.expiry c.args.comment.now c.args.now) c.create.result s t) (arc_value c.self.inside.base) c.self.inside.sets.items c.args.set c.index_mut.result.now c.create.new.self c.set-base.result.now c.args.self.now
+    one-changed (λ s t. IsCreation (add s c.args.element.now c.args.now) c.create.result s t) (arc_value c.self.inside.base) c.self.inside.sets.items c.args.set c.index_mut.result.now c.create.new.self c.set-base.result.now c.args.self.now
     c.self.view_is within c.index_mut.ensures.value base c.create.ensures
 
 pub returns-clause-refused : goal.returns-clause-refused

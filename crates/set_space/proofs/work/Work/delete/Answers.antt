@@ -2,7 +2,7 @@ use Rattle.std.proofs.Common.{arith}
 use Rattle.std.specs.Arc.{arc_value}
 use Rattle.std.proofs.lemmas.Result.{on_err_weaker}
 use Rattle.set_model.specs.SetState.{removed}
-use Rattle.pipapo_image.specs.Remove.{IsRemoval}
+use Rattle.pipapo_image.specs.Image.Remove.{IsRemoval}
 use Rattle.set_space.proofs.Refusals.{removal_err}
 use Rattle.set_space.specs.OpenSets.{open_state}
 use Rattle.set_space.proofs.SetsLaws.{set-within, open-within, base-at, work-at, one-changed, none-changed}

@@ -2,7 +2,7 @@ use Rattle.std.proofs.Common.{arith}
 use Rattle.std.specs.Arc.{arc_value}
 use Rattle.std.proofs.lemmas.Result.{on_err_weaker}
 use Rattle.set_model.specs.SetState.{add}
-use Rattle.pipapo_image.specs.Insert.{IsAnswer}
+use Rattle.pipapo_image.specs.Image.Insert.{IsAnswer}
 use Rattle.set_space.proofs.Refusals.{insertion_err}
 use Rattle.set_space.specs.OpenSets.{open_state}
 use Rattle.set_space.proofs.SetsLaws.{set-within, open-within, base-at, work-at, one-changed, none-changed}
@@ -27,7 +27,7 @@ pub returns-clause-change : goal.returns-clause-change
 returns-clause-change c =
     let within = open-within (arc_value c.self.inside.base) c.self.inside.sets.items c.args.set c.args.self.now c.self.view_is c.self.invariant c.requires.set in
     let base = base-at (arc_value c.self.inside.base) c.deref.result.now c.args.set c.set-base.result.now c.deref.ensures c.set-base.ensures in
-    one-changed (λ s t. IsAnswer (add s c.args.parts.now c.args.expiry c.args.comment.now c.args.now) c.insert.result s t) (arc_value c.self.inside.base) c.self.inside.sets.items c.args.set c.index_mut.result.now c.insert.new.self c.set-base.result.now c.args.self.now
+    one-changed (λ s t. IsAnswer (add s c.args.element.now c.args.now) c.insert.result s t) (arc_value c.self.inside.base) c.self.inside.sets.items c.args.set c.index_mut.result.now c.insert.new.self c.set-base.result.now c.args.self.now
     c.self.view_is within c.index_mut.ensures.value base c.insert.ensures
 
 pub returns-clause-refused : goal.returns-clause-refused
@@ -37,4 +37,4 @@ returns-clause-refused c =
     on_err_weaker c.insert.result
     (λ same. none-changed (arc_value c.self.inside.base) c.self.inside.sets.items c.args.set c.index_mut.result.now c.insert.new.self c.set-base.result.now c.args.self.now
     c.self.view_is within c.index_mut.ensures.value base same)
-    (insertion_err (open_state c.index_mut.result.now c.set-base.result.now) (open_state c.insert.new.self c.set-base.result.now) c.args.parts.now c.args.expiry c.args.comment.now c.args.now c.insert.result c.insert.ensures)
+    (insertion_err (open_state c.index_mut.result.now c.set-base.result.now) (open_state c.insert.new.self c.set-base.result.now) c.args.element.now c.args.now c.insert.result c.insert.ensures)

@@ -1,0 +1,17 @@
+use Rattle.std.proofs.Common.{◌≡◌, refl, sym, ◌∙◌, ap, ℕ, ◌+◌, ◌-◌, ◌*◌, ◌/◌, ◌%◌, ◌^◌, ◌<◌, ◌≤◌, ◌&&◌, ◌||◌, [], All, List, length, get_or, arith, true, false, subst}
+use Rattle.bit_rows.specs.Row.{Row, at, bit}
+use Rattle.shared_pages.specs.Paged.{PageOf, owns_of}
+use Rattle.lookup_table.specs.Table.{bucket_at, cell}
+use Rattle.lookup_table.specs.Lines.{Lined, OwnsPlaces}
+use Rattle.lookup_table.proofs.LineLaws.{room-page, page-cells}
+use Rattle.lookup_table.proofs.lines.Lines.page.Goals as goal
+
+pub index-requires : goal.index-requires
+index-requires c =
+    let h = room-page c.self.inside.pages.items c.self.inside.len c.self.inside.count (512 * c.args.p) c.self.invariant.within (rw (← ap (λ (v : Lined). v.rows) c.self.view_is) at c.requires) in
+    omega arith
+
+pub returns : goal.returns
+returns c =
+    let h = room-page c.self.inside.pages.items c.self.inside.len c.self.inside.count (512 * c.args.p) c.self.invariant.within (rw (← ap (λ (v : Lined). v.rows) c.self.view_is) at c.requires) in
+    rw (← ap (λ (v : Lined). v.rows) c.self.view_is) (page-cells c.self.inside.pages.items c.self.inside.len c.self.inside.count c.args.p c.index.result.now c.as_slice.result.now c.self.invariant (omega arith) c.index.ensures c.as_slice.ensures)

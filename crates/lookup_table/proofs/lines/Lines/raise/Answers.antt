@@ -1,0 +1,34 @@
+use Rattle.std.proofs.Common.{◌≡◌, refl, sym, ◌∙◌, ap, ℕ, ◌+◌, ◌-◌, ◌*◌, ◌/◌, ◌%◌, ◌^◌, ◌<◌, ◌≤◌, ◌&&◌, ◌||◌, [], All, List, length, get_or, arith, true, false, subst}
+use Rattle.bit_rows.specs.Row.{Row, at, bit}
+use Rattle.shared_pages.specs.Paged.{PageOf, owns_of}
+use Rattle.lookup_table.specs.Table.{bucket_at, cell}
+use Rattle.lookup_table.specs.Lines.{Lined, OwnsPlaces}
+use Rattle.lookup_table.proofs.LineLaws.{rows-length, raise-room, raised}
+use Rattle.lookup_table.proofs.lines.Lines.raise.Goals as goal
+
+pub overflow_add-self : goal.overflow_add-self
+overflow_add-self c =
+    let e = ap (λ (v : Lined). v.rows) c.self.view_is in
+    let n = rows-length c.self.inside.pages.items c.self.inside.len c.self.inside.count in
+    let m = ap length e in
+    let r = raise-room c.self.inside.pages.items c.self.inside.len c.self.inside.count c.args.n (omega arith) (rw (← e) at c.requires.room) in
+    let s = c.self.invariant.small in
+    let w = c.self.invariant.within in
+    omega arith
+
+pub invariant_of-self : goal.invariant_of-self
+invariant_of-self c =
+    let e = ap (λ (v : Lined). v.rows) c.self.view_is in
+    let n = rows-length c.self.inside.pages.items c.self.inside.len c.self.inside.count in
+    let m = ap length e in
+    let r = raise-room c.self.inside.pages.items c.self.inside.len c.self.inside.count c.args.n (omega arith) (rw (← e) at c.requires.room) in
+    let w = c.self.invariant.within in
+    record { each = c.self.invariant.each; within = omega arith; small = c.self.invariant.small; few = c.self.invariant.few; past = λ j r h l. c.self.invariant.past j r h (omega arith) }
+
+pub returns-clause-rows : goal.returns-clause-rows
+returns-clause-rows c =
+    let e = ap (λ (v : Lined). v.rows) c.self.view_is in
+    let n = rows-length c.self.inside.pages.items c.self.inside.len c.self.inside.count in
+    let m = ap length e in
+    let r = raise-room c.self.inside.pages.items c.self.inside.len c.self.inside.count c.args.n (omega arith) (rw (← e) at c.requires.room) in
+    rw (← e) (raised c.self.inside.pages.items c.self.inside.len c.self.inside.count c.args.n c.self.invariant r)

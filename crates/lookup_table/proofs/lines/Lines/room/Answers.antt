@@ -1,0 +1,6 @@
+use Rattle.std.proofs.Common.{◌≡◌, refl, sym, ◌∙◌, ap, ℕ, ◌+◌, ◌-◌, ◌*◌, ◌/◌, ◌%◌, ◌^◌, ◌<◌, ◌≤◌, All, length, get_or, arith, true, false}
+use Rattle.lookup_table.proofs.LineLaws.{rows-rooms}
+use Rattle.lookup_table.proofs.lines.Lines.room.Goals as goal
+
+pub returns : goal.returns
+returns c = rw (← ap (λ v. v.rows) c.self.view_is) (rows-rooms c.self.inside.pages.items c.self.inside.len c.self.inside.count _ c.self.invariant.within (omega arith))

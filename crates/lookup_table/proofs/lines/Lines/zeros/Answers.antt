@@ -1,0 +1,23 @@
+use Rattle.std.proofs.Common.{◌≡◌, refl, sym, ◌∙◌, ap, ℕ, ◌+◌, ◌-◌, ◌*◌, ◌/◌, ◌%◌, ◌^◌, ◌<◌, ◌≤◌, ◌&&◌, ◌||◌, [], All, List, length, get_or, replicate, arith, true, false, subst}
+use Rattle.bit_rows.specs.Row.{Row, at, bit, either}
+use Rattle.shared_pages.specs.Paged.{PageOf, owns_of}
+use Rattle.lookup_table.specs.Table.{bucket_at, cell}
+use Rattle.lookup_table.specs.Lines.{Lined, OwnsPlaces}
+use Rattle.lookup_table.proofs.LineLaws.{rows-length, lines-zero, rows-zero}
+use Rattle.lookup_table.proofs.lines.Lines.zeros.Goals as goal
+
+pub invariant_of-result : goal.invariant_of-result
+invariant_of-result c =
+    let none : 512 * length c.new-pages.result.items < 2 ^ 32 = omega (arith, ap length c.new-pages.ensures.items) in
+    lines-zero _ _ _ _ c.new-pages.ensures.items c.add_pages.ensures.more c.requires (omega (arith, c.in_ok-add_pages.ensures.room, c.div_ceil.ensures)) (c.add_pages.ensures.small none)
+
+pub returns-clause-long : goal.returns-clause-long
+returns-clause-long c = rows-length _ _ _
+
+pub returns-clause-zeros : goal.returns-clause-zeros
+returns-clause-zeros c = rows-zero _ _ _ _ c.new-pages.ensures.items c.add_pages.ensures.more
+
+pub returns-clause-own : goal.returns-clause-own
+returns-clause-own c = record {
+  each = λ r a b. c.in_ok-add_pages.ensures.own.own (r / 512) (omega (arith, ap length c.new-pages.ensures.items)) (omega (arith, c.in_ok-add_pages.ensures.room, c.div_ceil.ensures));
+}

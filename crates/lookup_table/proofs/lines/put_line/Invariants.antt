@@ -1,0 +1,5 @@
+use Rattle.lookup_table.proofs.WriteLaws.{LinePut}
+use Rattle.lookup_table.proofs.lines.put_line.Given as goal
+
+abbrev pub invariant-words : goal.invariant-words
+invariant-words l = LinePut l.count l.j l.i l.row.bits l.initial.pages.items l.pages.items

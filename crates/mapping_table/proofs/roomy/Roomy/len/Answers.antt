@@ -1,0 +1,9 @@
+use Rattle.std.proofs.Common.{rules, ◌≡◌, refl, sym, ◌∙◌, ap, ℕ, ◌+◌, ◌-◌, ◌*◌, ◌/◌, ◌%◌, ◌<◌, ◌≤◌, [], ◌∷◌, ◌++◌, length, get_or, map, take, drop, true, All, arith}
+use Rattle.shared_pages.proofs.PageLaws.{items-length, read-page, read-last, set-page, last-set, one-more, copied, copied-length, copied-whole, own-read, own-same, sealed, cut-last, cut-page, own-pushed, own-front}
+use Rattle.mapping_table.proofs.roomy.Roomy.len.Goals as goal
+
+pub returns : goal.returns
+returns g c =
+    let len = items-length c.self.inside.whole.items c.self.inside.rest.items c.self.invariant.whole in
+    let e = ap (λ v. length v.items) c.self.view_is in
+    omega arith

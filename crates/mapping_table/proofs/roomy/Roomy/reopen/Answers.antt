@@ -1,0 +1,21 @@
+use Rattle.std.proofs.Common.{rules, ◌≡◌, refl, sym, ◌∙◌, ap, ℕ, ◌+◌, ◌-◌, ◌*◌, ◌/◌, ◌<◌, ◌≤◌, length, get_or, map, take, true, arith}
+use Rattle.shared_pages.proofs.PageLaws.{cut-last, cut-page, own-front}
+use Rattle.std.proofs.lemmas.List.{take-set}
+use Rattle.shared_pages.specs.Paged.{items_in, owns_of}
+use Rattle.mapping_table.proofs.roomy.Roomy.reopen.Goals as goal
+
+pub returns-clause-items : goal.returns-clause-items
+returns-clause-items g c =
+    let count = c.args.len / 512 in
+    let front : c.truncate.new.self.items ≡ take (c.args.len / 512) c.self.inside.whole.items = c.truncate.ensures.items ∙ take-set c.self.inside.whole.items count _ in
+    let last : c.into_vec.result.items ≡ c.index_mut-page.result.now.items = c.into_vec.ensures ∙ ap (λ page. page.items) c.replace-open.ensures.value in
+    ap (λ pages. take c.args.len (items_in pages c.into_vec.result.items)) front ∙ ap (λ t. take c.args.len (items_in (take count c.self.inside.whole.items) t)) last
+    ∙ cut-page c.self.inside.whole.items c.self.inside.rest.items count c.args.len c.index_mut-page.result.now c.self.invariant.whole (omega arith) c.index_mut-page.ensures.value (omega arith)
+    ∙ ap (λ v. take c.args.len v.items) c.self.view_is
+
+pub returns-clause-own : goal.returns-clause-own
+returns-clause-own g c =
+    let count = c.args.len / 512 in
+    let front : c.truncate.new.self.items ≡ take (c.args.len / 512) c.self.inside.whole.items = c.truncate.ensures.items ∙ take-set c.self.inside.whole.items count _ in
+    let e = ap (λ v. v.own) c.self.view_is in
+    record { own = λ i h. ap (λ pages. get_or (owns_of pages) (i / 512) true) front ∙ own-front c.self.inside.whole.items count (i / 512) (ap (λ os. get_or os (i / 512) true) e ∙ h) }

@@ -1,0 +1,125 @@
+-- The first element of exactly these intervals, by the first one that holds their start key.
+use Rattle.std.proofs.Common.{◌≡◌, refl, sym, ◌∙◌, ap, subst, ℕ, ◌+◌, ◌<◌, ◌≤◌, ◌⊎◌, inl, inr, Bool, true, false, ◌&&◌, List, [], ◌∷◌, length, get_or, map, zip, Option, Some, None, nat_le, nat_lt, arith}
+use Rattle.std.specs.Prelude.{All, ◌==◌, position, IfSome}
+use Rattle.std.specs.List.{list_all}
+use Rattle.std.proofs.lemmas.Bool.{and_parts, and_from, cases_lt}
+use Rattle.std.proofs.lemmas.Bool.Decides.{nat_tests}
+use Rattle.std.proofs.lemmas.List.Elements.{All-get_or}
+use Rattle.std.proofs.lemmas.List.Quantifiers.{position-Some}
+use Rattle.mapping_table.proofs.LedLaws.{position-first, position-nowhere}
+use Rattle.set_tables.proofs.RowLaws.{position-none}
+use Rattle.set_model.specs.declared.kind.Kind.{Kind}
+use Rattle.set_model.specs.declared.kind.Interval.{Interval}
+use Rattle.set_model.specs.declared.element.Element.{Element}
+use Rattle.set_model.specs.Expiry.{live}
+use Rattle.set_model.specs.Key.{parts_fit, intervals_fit, is_good, is_value, contains, parts_hold, same_parts, start_key}
+use Rattle.set_model.specs.SetState.{State, answers, holds, place, is_exactly, element_at}
+use Rattle.pipapo_image.specs.Image.Remove.{IsExactPlace}
+use Rattle.pipapo_image.proofs.Renewal.{no_element}
+
+same-low : (xl pl : ℕ) → (xl == pl) ≡ true → nat_le xl pl ≡ true
+same-low xl pl a = grind (arith, nat_tests)
+
+below-same : (xh ph pl : ℕ) → (xh == ph) ≡ true → nat_le pl ph ≡ true → nat_le pl xh ≡ true
+below-same xh ph pl a b = grind (arith, nat_tests)
+
+-- the same intervals as good ones hold the lows of these
+same-hold : (kinds : List Kind) (xs ps : List Interval) → length kinds ≡ length ps → intervals_fit kinds ps ≡ true → list_all (λ p. (p.0.low == p.1.low) && (p.0.high == p.1.high)) (zip xs ps) ≡ true
+    → parts_hold xs (start_key ps) ≡ true
+same-hold kinds [] ps n fit same = refl
+same-hold kinds (x ∷ xs) [] n fit same = refl
+same-hold [] (x ∷ xs) (p ∷ ps) n fit same = absurd (omega arith)
+same-hold (k ∷ kinds) (x ∷ xs) (p ∷ ps) n fit same =
+    let a = and_parts (is_good k p) (intervals_fit kinds ps) fit in
+    let b = and_parts (nat_le p.low p.high) (is_value k p.high) a.0 in
+    let s = and_parts ((x.low == p.low) && (x.high == p.high)) (list_all (λ p. (p.0.low == p.1.low) && (p.0.high == p.1.high)) (zip xs ps)) same in
+    let t = and_parts (x.low == p.low) (x.high == p.high) s.0 in
+    and_from (contains x p.low) (parts_hold xs (start_key ps)) (and_from (nat_le x.low p.low) (nat_le p.low x.high) (same-low x.low p.low t.0) (below-same x.high p.high p.low t.1 b.0))
+    (same-hold kinds xs ps (omega arith) a.1 s.1)
+
+pub parts-long : (kinds : List Kind) (parts : List Interval) → parts_fit kinds parts ≡ true → length kinds ≡ length parts
+parts-long kinds parts h = let a = (and_parts (length kinds == length parts) (intervals_fit kinds parts) h).0 in grind (arith, nat_tests)
+
+-- an element of exactly these intervals holds the key with which they start
+exact-holds : (kinds : List Kind) (parts : List Interval) (now : ℕ) (e : Element) → parts_fit kinds parts ≡ true → is_exactly parts now e ≡ true → answers (start_key parts) now e ≡ true
+exact-holds kinds parts now e fit is =
+    let a = and_parts (length kinds == length parts) (intervals_fit kinds parts) fit in
+    let b = and_parts (live e now) (same_parts e.parts parts) is in
+    let c = and_parts (length e.parts == length parts) (list_all (λ p. (p.0.low == p.1.low) && (p.0.high == p.1.high)) (zip e.parts parts)) b.1 in
+    and_from (live e now) (holds e (start_key parts)) b.0 (same-hold kinds e.parts parts (parts-long kinds parts fit) a.1 c.1)
+
+not-exact : (kinds : List Kind) (parts : List Interval) (now : ℕ) (e : Element) → parts_fit kinds parts ≡ true → answers (start_key parts) now e ≡ false → is_exactly parts now e ≡ false
+not-exact kinds parts now e fit un = go (is_exactly parts now e) refl where
+  go : (b : Bool) → is_exactly parts now e ≡ b → b ≡ false
+  go false h = refl
+  go true h = absurd (cc (exact-holds kinds parts now e fit h, un))
+
+-- none holds the start key
+pub exact-nowhere : (s : State) (parts : List Interval) (now : ℕ) → parts_fit s.kinds parts ≡ true → None ≡ place s (start_key parts) now → IsExactPlace s parts now None
+exact-nowhere s parts now fit h = record {
+  value = position-nowhere (is_exactly parts now) s.elements no_element
+      (λ k l. not-exact s.kinds parts now (get_or s.elements k no_element) fit (position-none (answers (start_key parts) now) s.elements k no_element (sym h) l));
+  within = tt;
+}
+
+-- The first that holds it has these intervals, or has others, and then none before it or it itself has these.
+pub none-before : (s : State) (parts : List Interval) (now i : ℕ) → parts_fit s.kinds parts ≡ true → Some i ≡ place s (start_key parts) now
+    → (k : ℕ) → k < i → is_exactly parts now (element_at s k) ≡ false
+none-before s parts now i fit h k l =
+    not-exact s.kinds parts now (element_at s k) fit ((position-Some (answers (start_key parts) now) s.elements i no_element (sym h)).2 k l)
+
+pub none-up-to : (s : State) (parts : List Interval) (now i : ℕ) → parts_fit s.kinds parts ≡ true → Some i ≡ place s (start_key parts) now → same_parts (element_at s i).parts parts ≡ false
+    → (k : ℕ) → k < i + 1 → is_exactly parts now (element_at s k) ≡ false
+none-up-to s parts now i fit h other k l = go (cases_lt k i) where
+  un : (b : Bool) → (b && same_parts (element_at s i).parts parts) ≡ false
+  un true = other
+  un false = refl
+
+  go : (k < i) ⊎ (i ≤ k) → is_exactly parts now (element_at s k) ≡ false
+  go (inl b) = none-before s parts now i fit h k b
+  go (inr b) = let same : k ≡ i = omega arith in ap (λ j. is_exactly parts now (element_at s j)) same ∙ un (live (element_at s i) now)
+
+pub exact-first : (s : State) (parts : List Interval) (now i : ℕ) → parts_fit s.kinds parts ≡ true → Some i ≡ place s (start_key parts) now → same_parts (element_at s i).parts parts ≡ true
+    → IsExactPlace s parts now (Some i)
+exact-first s parts now i fit h same =
+    let found = position-Some (answers (start_key parts) now) s.elements i no_element (sym h) in
+    let alive = and_parts (live (element_at s i) now) (holds (element_at s i) (start_key parts)) found.1 in
+    record {
+      value = position-first (is_exactly parts now) s.elements i no_element found.0 (none-before s parts now i fit h) (and_from (live (element_at s i) now) (same_parts (element_at s i).parts parts) alive.0 same);
+      within = found.0;
+    }
+
+-- Intervals that don't fit are those of no element.
+same-fit : (kinds : List Kind) (xs ps : List Interval) → length kinds ≡ length xs → length xs ≡ length ps → intervals_fit kinds xs ≡ true
+    → list_all (λ p. (p.0.low == p.1.low) && (p.0.high == p.1.high)) (zip xs ps) ≡ true → intervals_fit kinds ps ≡ true
+same-fit [] xs ps n m fit same = refl
+same-fit (k ∷ kinds) [] ps n m fit same = absurd (omega arith)
+same-fit (k ∷ kinds) (x ∷ xs) [] n m fit same = absurd (omega arith)
+same-fit (k ∷ kinds) (x ∷ xs) (p ∷ ps) n m fit same =
+    let a = and_parts (is_good k x) (intervals_fit kinds xs) fit in
+    let b = and_parts (nat_le x.low x.high) (is_value k x.high) a.0 in
+    let s = and_parts ((x.low == p.low) && (x.high == p.high)) (list_all (λ p. (p.0.low == p.1.low) && (p.0.high == p.1.high)) (zip xs ps)) same in
+    let t = and_parts (x.low == p.low) (x.high == p.high) s.0 in
+    let low : x.low ≡ p.low = grind (arith, nat_tests, t.0) in
+    let high : x.high ≡ p.high = grind (arith, nat_tests, t.1) in
+    and_from (is_good k p) (intervals_fit kinds ps)
+    (and_from (nat_le p.low p.high) (is_value k p.high) (ap (λ z. nat_le z p.high) (sym low) ∙ ap (λ z. nat_le x.low z) (sym high) ∙ b.0) (ap (is_value k) (sym high) ∙ b.1))
+    (same-fit kinds xs ps (omega arith) (omega arith) a.1 s.1)
+
+pub exact-unfit : (s : State) (parts : List Interval) (now : ℕ) → All (λ e. parts_fit s.kinds e.parts ≡ true) s.elements → parts_fit s.kinds parts ≡ false → IsExactPlace s parts now None
+exact-unfit s parts now fit un = record {
+  value = position-nowhere (is_exactly parts now) s.elements no_element (λ k l. go k l (is_exactly parts now (get_or s.elements k no_element)) refl);
+  within = tt;
+} where
+  go : (k : ℕ) → k < length s.elements → (b : Bool) → is_exactly parts now (get_or s.elements k no_element) ≡ b → b ≡ false
+  go k l false h = refl
+  go k l true h =
+      let e = get_or s.elements k no_element in
+      let f : parts_fit s.kinds e.parts ≡ true = All-get_or (λ e. parts_fit s.kinds e.parts ≡ true) s.elements k no_element l fit in
+      let a = and_parts (length s.kinds == length e.parts) (intervals_fit s.kinds e.parts) f in
+      let b = and_parts (live e now) (same_parts e.parts parts) h in
+      let c = and_parts (length e.parts == length parts) (list_all (λ p. (p.0.low == p.1.low) && (p.0.high == p.1.high)) (zip e.parts parts)) b.1 in
+      let n : length s.kinds ≡ length e.parts = parts-long s.kinds e.parts f in
+      let m : length e.parts ≡ length parts = grind (arith, nat_tests, c.0) in
+      let r : (length s.kinds == length parts) ≡ true = grind (arith, nat_tests, n, m) in
+      absurd (cc (and_from (length s.kinds == length parts) (intervals_fit s.kinds parts) r (same-fit s.kinds e.parts parts n m a.1 c.1), un))

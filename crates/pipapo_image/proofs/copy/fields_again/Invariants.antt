@@ -1,5 +1,0 @@
-use Rattle.pipapo_image.specs.Copied.{AreFieldsAgain}
-use Rattle.pipapo_image.proofs.copy.fields_again.Given as goal
-
-abbrev pub invariant-fields : goal.invariant-fields
-invariant-fields l = AreFieldsAgain l.fields l.others l.f

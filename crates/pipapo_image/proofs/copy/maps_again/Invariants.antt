@@ -1,5 +1,0 @@
-use Rattle.pipapo_image.specs.Copied.{AreMapsAgain}
-use Rattle.pipapo_image.proofs.copy.maps_again.Given as goal
-
-abbrev pub invariant-maps : goal.invariant-maps
-invariant-maps l = AreMapsAgain l.maps l.others l.f

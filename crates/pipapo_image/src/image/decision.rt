@@ -1,0 +1,318 @@
+ghost use Rattle.std.specs.Prelude.{◌≡◌, ◌-◌, ◌<◌, ◌^◌, ◌==◌, ◌&&◌, true, false, List, length, IfOk, Some, Ok};
+ghost use Rattle.std.specs.List.{list_all, zip};
+ghost use Rattle.set_model.specs.Key.{parts_fit, start_key, end_key, same_parts};
+ghost use Rattle.set_model.specs.SetState.{add, element_at, place, twin_place, sharing_place, is_full, crowded_field};
+ghost use Rattle.pipapo_image.specs.Index.Built.{Built};
+ghost use Rattle.pipapo_image.specs.Index.Grow.{IsColumn};
+ghost use Rattle.pipapo_image.specs.Image.Found.{IsPlace};
+ghost use Rattle.pipapo_image.specs.Image.Decision.{IsDecision};
+ghost use Rattle.pipapo_image.specs.Image.Deciding.{IsTest, IsTwinPlace, by_start, by_twin, by_way, by_size, by_rules, at_start, add_again};
+
+use crate::answers::ChangeError;
+use crate::image::SetImage;
+use crate::index::columns::{columns, crowded_field};
+use crate::index::scratch::Scratch;
+use set_model::{Block, Interval, Key, Listed, Memory, NewElement, Parts, Why};
+use std::alloc::Global;
+
+/// What an insertion does, where nothing refuses it.
+#[derive(Drop)]
+pub enum Decision {
+    /// The element of the same intervals stays as it is.
+    Stays { id: u64 },
+    /// The element of the same intervals, at this place, gets another expiry.
+    Renews { place: u64, id: u64 },
+    /// A new element is added, with these rules.
+    Adds { columns: Vec<Listed<Block>> },
+}
+
+impl Decision {
+    ghost use Rattle.pipapo_image.specs.Image.Decision.{existing};
+
+    /// The id of the element of the same intervals that is there already. `None` where a new one is
+    /// added.
+    pub fn existing(&self) -> Option<u64>
+        ensures { result ≡ existing self.now }
+    {
+        match self {
+            Decision::Stays { id } => Some(*id),
+            Decision::Renews { id, .. } => Some(*id),
+            Decision::Adds { .. } => None,
+        }
+    }
+}
+
+/// Whether two lists have the same intervals.
+pub(crate) fn is_same(a: &[Interval], b: &[Interval]) -> bool
+    ensures { result ≡ same_parts a.now b.now }
+{
+    a.len() == b.len() && all_same(a, b)
+}
+
+fn all_same(a: &[Interval], b: &[Interval]) -> bool
+    ensures { result ≡ list_all (λ p. (p.0.low == p.1.low) && (p.0.high == p.1.high)) (zip a.now b.now) }
+{
+    a.iter()
+        .zip(b.iter())
+        .all(|(x, y)| x.low == y.low && x.high == y.high)
+}
+
+fn lows(alloc: Global, parts: &Parts) -> Result<Key, Memory>
+    ensures { IfOk result (λ key. key ≡ start_key parts.now) }
+{
+    let mut key = Listed::new(alloc);
+    'parts: for part in parts.as_slice() {
+        key.push(part.low)?;
+    }
+    Ok(key)
+}
+
+fn highs(alloc: Global, parts: &Parts) -> Result<Key, Memory>
+    ensures { IfOk result (λ key. key ≡ end_key parts.now) }
+{
+    let mut key = Listed::new(alloc);
+    'parts: for part in parts.as_slice() {
+        key.push(part.high)?;
+    }
+    Ok(key)
+}
+
+impl SetImage {
+    /// Decides what an insertion of this element does. The set stays as it is. `now` is in
+    /// milliseconds.
+    ///
+    /// # Errors
+    /// As of an insertion.
+    pub fn decide(
+        &self,
+        alloc: Global,
+        element: &NewElement,
+        now: u64,
+        scratch: &mut Scratch,
+    ) -> Result<Decision, ChangeError>
+        requires { parts_fit self.now.kinds element.now.parts ≡ true }
+        ensures { IsDecision self.now element.now (add self.now element.now now) result }
+    {
+        if self.disjoint {
+            self.decide_apart(alloc, element, now, scratch)
+        } else {
+            self.decide_overlapping(alloc, element, now, scratch)
+        }
+    }
+
+    /// Decides where no two live elements may share a key.
+    #[tactic(auto, using(crate::proofs::AddLaws::decides))]
+    fn decide_apart(
+        &self,
+        alloc: Global,
+        element: &NewElement,
+        now: u64,
+        scratch: &mut Scratch,
+    ) -> Result<Decision, ChangeError>
+        requires { parts_fit self.now.kinds element.now.parts ≡ true }
+        ensures { IsDecision self.now element.now (by_twin self.now element.now now (twin_place self.now element.now.parts now)) result }
+    {
+        match self.twin_place(alloc, &element.parts, now, scratch)? {
+            Some(i) => Ok(self.decide_again(i, element)),
+            None => Ok(Decision::Adds {
+                columns: self.columns_unshared(alloc, &element.parts, now, scratch)?,
+            }),
+        }
+    }
+
+    /// Decides where elements may share keys.
+    #[tactic(auto, using(crate::proofs::AddLaws::decides))]
+    fn decide_overlapping(
+        &self,
+        alloc: Global,
+        element: &NewElement,
+        now: u64,
+        scratch: &mut Scratch,
+    ) -> Result<Decision, ChangeError>
+        requires { parts_fit self.now.kinds element.now.parts ≡ true }
+        ensures { IsDecision self.now element.now (by_start self.now element.now now (place self.now (start_key element.now.parts) now)) result }
+    {
+        match self.start_place(alloc, &element.parts, now, scratch)? {
+            Some(i) => self.decide_at(i, element),
+            None => Ok(Decision::Adds {
+                columns: self.columns_apart(alloc, &element.parts, now, scratch)?,
+            }),
+        }
+    }
+
+    /// The place of the element that is there already: the first live one that holds the start key,
+    /// where it has the same intervals.
+    fn twin_place(
+        &self,
+        alloc: Global,
+        parts: &Parts,
+        now: u64,
+        scratch: &mut Scratch,
+    ) -> Result<Option<u64>, Memory>
+        requires { parts_fit self.now.kinds parts.now ≡ true }
+        ensures { IfOk result (IsTwinPlace self.now parts.now now) }
+    {
+        match self.start_place(alloc, parts, now, scratch)? {
+            Some(i) if self.has_parts(i, parts) => Ok(Some(i)),
+            _ => Ok(None),
+        }
+    }
+
+    /// Whether the element at place `i` has these intervals.
+    pub(crate) fn has_parts(&self, i: u64, parts: &Parts) -> bool
+        requires { i < length self.now.elements }
+        ensures { result ≡ same_parts (element_at self.now i).parts parts.now }
+    {
+        is_same(self.elements.at(i).parts.as_slice(), parts.as_slice())
+    }
+
+    /// The place of the first live element that holds the start key.
+    fn start_place(
+        &self,
+        alloc: Global,
+        parts: &Parts,
+        now: u64,
+        scratch: &mut Scratch,
+    ) -> Result<Option<u64>, Memory>
+        requires { parts_fit self.now.kinds parts.now ≡ true }
+        ensures { IfOk result (IsPlace self.now (start_key parts.now) now) }
+    {
+        let key = lows(alloc, parts)?;
+        Ok(self.place(key.as_slice(), now, scratch))
+    }
+
+    /// The place of the first live element that holds the end key.
+    fn end_place(
+        &self,
+        alloc: Global,
+        parts: &Parts,
+        now: u64,
+        scratch: &mut Scratch,
+    ) -> Result<Option<u64>, Memory>
+        requires { parts_fit self.now.kinds parts.now ≡ true }
+        ensures { IfOk result (IsPlace self.now (end_key parts.now) now) }
+    {
+        let key = highs(alloc, parts)?;
+        Ok(self.place(key.as_slice(), now, scratch))
+    }
+
+    fn id_at(&self, i: u64) -> u64
+        requires { i < length self.now.elements }
+        ensures { result ≡ (element_at self.now i).id }
+    {
+        self.elements.at(i).id
+    }
+
+    /// Decides where the element at place `i` holds the start key.
+    fn decide_at(&self, i: u64, element: &NewElement) -> Result<Decision, ChangeError>
+        requires { i < length self.now.elements }
+        ensures { IsDecision self.now element.now (at_start self.now i element.now.expiry (same_parts (element_at self.now i).parts element.now.parts)) result }
+    {
+        if self.has_parts(i, &element.parts) {
+            Ok(self.decide_again(i, element))
+        } else {
+            Err(ChangeError::Refused(Why::Overlap { id: self.id_at(i) }))
+        }
+    }
+
+    /// What an insertion of an element of the intervals of the one at place `i` does.
+    fn decide_again(&self, i: u64, element: &NewElement) -> Decision
+        requires { i < length self.now.elements }
+        ensures { IsDecision self.now element.now (add_again self.now element.now.expiry i) (Ok result) }
+    {
+        let id = self.id_at(i);
+        if element.expiry.is_none() {
+            Decision::Stays { id }
+        } else {
+            Decision::Renews { place: i, id }
+        }
+    }
+
+    /// The rules of a new element, where no live element holds the start key.
+    fn columns_apart(
+        &self,
+        alloc: Global,
+        parts: &Parts,
+        now: u64,
+        scratch: &mut Scratch,
+    ) -> Result<Vec<Listed<Block>>, ChangeError>
+        requires { parts_fit self.now.kinds parts.now ≡ true }
+        ensures { IsTest self.now parts.now (by_way self.now parts.now (place self.now (end_key parts.now) now)) result }
+    {
+        match self.end_place(alloc, parts, now, scratch)? {
+            Some(i) => Err(ChangeError::Refused(Why::Overlap { id: self.id_at(i) })),
+            None => self.columns_within(alloc, parts),
+        }
+    }
+
+    /// The rules of a new element, where no element has the same intervals.
+    fn columns_unshared(
+        &self,
+        alloc: Global,
+        parts: &Parts,
+        now: u64,
+        scratch: &mut Scratch,
+    ) -> Result<Vec<Listed<Block>>, ChangeError>
+        requires { parts_fit self.now.kinds parts.now ≡ true }
+        ensures { IsTest self.now parts.now (by_way self.now parts.now (sharing_place self.now parts.now now)) result }
+    {
+        match self.sharing_place(parts, now, scratch) {
+            Some(i) => Err(ChangeError::Refused(Why::Overlap { id: self.id_at(i) })),
+            None => self.columns_within(alloc, parts),
+        }
+    }
+
+    /// The rules of a new element, where nothing overlaps.
+    fn columns_within(
+        &self,
+        alloc: Global,
+        parts: &Parts,
+    ) -> Result<Vec<Listed<Block>>, ChangeError>
+        requires { parts_fit self.now.kinds parts.now ≡ true }
+        ensures { IsTest self.now parts.now (by_size self.now parts.now (is_full self.now)) result }
+    {
+        if self.is_full() {
+            Err(ChangeError::Refused(Why::Full))
+        } else {
+            self.columns_uncrowded(alloc, parts)
+        }
+    }
+
+    /// Whether the set may have no further element.
+    fn is_full(&self) -> bool
+        ensures full { result ≡ is_full self.now }
+        ensures next { result ≡ false → self.now.next < 2 ^ 64 - 1 }
+    {
+        let many = match self.size {
+            Some(size) => size as u64 <= self.elements.len(),
+            None => false,
+        };
+        many || self.next == u64::MAX
+    }
+
+    /// The rules of a new element, where no field gets too many.
+    fn columns_uncrowded(
+        &self,
+        alloc: Global,
+        parts: &Parts,
+    ) -> Result<Vec<Listed<Block>>, ChangeError>
+        requires fit { parts_fit self.now.kinds parts.now ≡ true }
+        requires next { self.now.next < 2 ^ 64 - 1 }
+        ensures { IsTest self.now parts.now (by_rules (crowded_field self.now parts.now)) result }
+    {
+        let columns = columns(alloc, &self.kinds, parts)?;
+        match self.first_crowded(&columns, parts) {
+            Some(field) => Err(ChangeError::Refused(Why::RulesFull { field })),
+            None => Ok(columns),
+        }
+    }
+
+    /// The first field that would have too many rules.
+    fn first_crowded(&self, columns: &[Listed<Block>], parts: &Parts) -> Option<u32>
+        requires { Built (IsColumn self.now.kinds parts.now) columns.now (length self.now.kinds) }
+        ensures { result ≡ crowded_field self.now parts.now }
+    {
+        let _ = parts;
+        crowded_field(self.index.fields.as_slice(), columns)
+    }
+}

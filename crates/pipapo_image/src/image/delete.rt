@@ -1,0 +1,114 @@
+ghost use Rattle.std.specs.Prelude.{◌≡◌, ℕ, ◌+◌, ◌≤◌, ◌<◌, false, length, take, OnErr, IfOk};
+ghost use Rattle.set_model.specs.Key.{start_key};
+ghost use Rattle.set_model.specs.SetState.{is_exactly, removed, element_at, without_at};
+ghost use Rattle.pipapo_image.specs.Image.Found.{exactly_found};
+ghost use Rattle.pipapo_image.specs.Image.Remove.{IsRemoval, IsExactPlace};
+
+use crate::answers::ChangeError;
+use crate::image::SetImage;
+use crate::index::scratch::Scratch;
+use set_model::{Found, Memory, Parts, Why, is_live, parts_fit};
+use std::alloc::Global;
+
+/// The key with which intervals start, and zeros behind it.
+fn starts(parts: &Parts) -> [u128; 16]
+    requires { length parts.now ≤ 16 }
+    ensures { take (length parts.now) result ≡ start_key parts.now }
+{
+    let mut lows = [0; 16];
+    'fields: for f in 0..parts.len() {
+        lows[f as usize] = parts.at(f).low;
+    }
+    lows
+}
+
+impl SetImage {
+    /// The first element that is live at `now`, in milliseconds, and has exactly these intervals.
+    /// `None` where there is none. It takes no memory.
+    pub fn find_exact(&self, parts: &Parts, now: u64, scratch: &mut Scratch) -> Option<Found>
+        ensures { result ≡ exactly_found self.now parts.now now }
+    {
+        self.found_at(self.exact_at(parts, now, scratch))
+    }
+
+    /// Takes the first element out that is live at `now`, in milliseconds, and has exactly these
+    /// intervals, and answers its id. The rules of the later elements close up.
+    ///
+    /// # Errors
+    /// `Missing` exactly if there is no such element, also where an expired one has these intervals.
+    /// `Memory` if there is none left. Each leaves the set as it was.
+    #[tactic(auto, using(crate::proofs::Shrinking::never_missing))]
+    pub fn delete(
+        &mut self,
+        alloc: Global,
+        parts: &Parts,
+        now: u64,
+        scratch: &mut Scratch,
+    ) -> Result<u64, ChangeError>
+        ensures removal { IsRemoval (removed self.old parts.now now) result self.old self.new }
+        ensures missing { removed self.old parts.now now ≡ None → result ≡ Err (ChangeError.Refused Why.Missing) }
+    {
+        match self.exact_at(parts, now, scratch) {
+            None => Err(ChangeError::Refused(Why::Missing)),
+            Some(i) => Ok(self.remove_at(alloc, i)?),
+        }
+    }
+
+    /// The place of the first element that is live and has exactly these intervals: the first live one
+    /// that holds their start key, or a later one where that has other intervals.
+    fn exact_at(&self, parts: &Parts, now: u64, scratch: &mut Scratch) -> Option<u64>
+        ensures { IsExactPlace self.now parts.now now result }
+    {
+        if !parts_fit(&self.kinds, parts) {
+            return None;
+        }
+        let lows = starts(parts);
+        let key = &lows[..parts.len() as usize];
+        match self.place(key, now, scratch) {
+            Some(i) if self.has_parts(i, parts) => Some(i),
+            Some(i) => self.exact_behind(i, parts, now),
+            None => None,
+        }
+    }
+
+    /// The place of the first element that is live and has exactly these intervals, where none has up to
+    /// place `i`.
+    fn exact_behind(&self, i: u64, parts: &Parts, now: u64) -> Option<u64>
+        requires place { i < length self.now.elements }
+        requires none { (k : ℕ) → k < i + 1 → is_exactly parts.now now (element_at self.now k) ≡ false }
+        ensures { IsExactPlace self.now parts.now now result }
+    {
+        let _elements = self.elements.len();
+        'places: for k in i + 1..self.elements.len() {
+            if self.is_exactly_at(k, parts, now) {
+                return Some(k);
+            }
+        }
+        None
+    }
+
+    /// Whether the element at place `i` is live and has exactly these intervals.
+    fn is_exactly_at(&self, i: u64, parts: &Parts, now: u64) -> bool
+        requires { i < length self.now.elements }
+        ensures { result ≡ is_exactly parts.now now (element_at self.now i) }
+    {
+        is_live(self.elements.at(i).expiry, now) && self.has_parts(i, parts)
+    }
+
+    /// Takes the element at place `i` out, and answers its id. The rules of the later elements close up.
+    ///
+    /// # Errors
+    /// `Memory` if there is none left, all of which is taken before the first change. The set is as it was.
+    pub fn remove_at(&mut self, alloc: Global, i: u64) -> Result<u64, Memory>
+        requires { i < length self.old.elements }
+        ensures ok { IfOk result (λ id. (id ≡ (element_at self.old i).id) × (self.new ≡ without_at self.old i)) }
+        ensures err { OnErr result (self.new ≡ self.old) }
+    {
+        let runs = self.runs(alloc, i)?;
+        let mut others = self.index.prepare_without(alloc, runs.as_slice())?;
+        let element = self.elements.remove(i)?;
+        self.index
+            .drop_element(others.as_mut_slice(), runs.as_slice());
+        Ok(element.id)
+    }
+}

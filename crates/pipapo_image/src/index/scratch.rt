@@ -1,0 +1,66 @@
+ghost use Rattle.std.specs.Prelude.{◌≡◌, ◌+◌, ◌≤◌, length, IfOk};
+ghost use Rattle.pipapo_image.specs.Index.Room.{HasRoomForRules, IsBlank};
+
+use bit_rows::BitRow;
+use set_model::Memory;
+use std::alloc::Global;
+use std::marker::Model;
+
+/// The most rules that a field has.
+pub(crate) const MOST_RULES: u32 = 1_048_576;
+
+/// The rows that a lookup works in, with room for as many rules as a field can have. One is made for
+/// many lookups; what it holds between two of them is of no account.
+#[derive(Drop)]
+pub struct Scratch {
+    pub(crate) row: BitRow,
+    pub(crate) next: BitRow,
+    pub(crate) rest: BitRow,
+    pub(crate) sum: BitRow,
+    // Two rows between fields, blank between lookups.
+    pub(crate) here: BitRow,
+    pub(crate) beyond: BitRow,
+}
+
+impl Model for Scratch {
+    ghost use Rattle.std.specs.Prelude.{ℕ};
+    ghost use Rattle.set_model.specs.SetState.{rules_limit};
+    ghost use Rattle.pipapo_image.specs.Index.Room.{HasRoomForRules, IsBlank};
+
+    ghost Value = { ℕ };
+
+    ghost view = { λ a. rules_limit };
+
+    ghost invariant = { λ a. HasRoomForRules a.row × HasRoomForRules a.next × HasRoomForRules a.rest × HasRoomForRules a.sum × IsBlank a.here × IsBlank a.beyond };
+}
+
+impl Scratch {
+    /// Takes the rows' room: 768 KiB in all.
+    ///
+    /// # Errors
+    /// `Memory` if there is none left.
+    pub fn new(alloc: Global) -> Result<Scratch, Memory> {
+        Ok(Scratch {
+            row: roomy_row(alloc)?,
+            next: roomy_row(alloc)?,
+            rest: roomy_row(alloc)?,
+            sum: roomy_row(alloc)?,
+            here: blank_row(alloc)?,
+            beyond: blank_row(alloc)?,
+        })
+    }
+}
+
+fn roomy_row(alloc: Global) -> Result<BitRow, Memory>
+    ensures { IfOk result (λ row. HasRoomForRules row) }
+{
+    let row = BitRow::zeros(alloc, MOST_RULES)?;
+    Ok(row)
+}
+
+fn blank_row(alloc: Global) -> Result<BitRow, Memory>
+    ensures { IfOk result (λ row. IsBlank row) }
+{
+    let row = BitRow::zeros(alloc, MOST_RULES)?;
+    Ok(row)
+}

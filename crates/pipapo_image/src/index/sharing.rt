@@ -1,0 +1,174 @@
+ghost use Rattle.std.specs.Prelude.{◌≡◌, ◌+◌, ◌≤◌, ◌<◌, true, List, ℕ, length, position, All, get_or, option_map, find};
+ghost use Rattle.bit_rows.specs.Row.{at};
+ghost use Rattle.lookup_table.specs.declared.table.FieldTable.{FieldTable as Table};
+ghost use Rattle.lookup_table.specs.Rules.{Stands};
+ghost use Rattle.lookup_table.specs.Table.{block_at};
+ghost use Rattle.range_expand.specs.Split.{IsInterval};
+ghost use Rattle.set_model.specs.declared.kind.Kind.{Kind as OneKind};
+ghost use Rattle.set_model.specs.declared.element.Element.{Element};
+ghost use Rattle.set_model.specs.declared.block.Block.{Block};
+ghost use Rattle.set_model.specs.Blocks.{blocks, IsWithin};
+ghost use Rattle.set_model.specs.Key.{parts_fit};
+ghost use Rattle.set_model.specs.SetState.{rules_limit, is_sharing};
+ghost use Rattle.set_tables.specs.Rows.{matched};
+ghost use Rattle.set_tables.specs.Core.{row_of};
+ghost use Rattle.set_tables.specs.Sharing.{shares_some, share_tests};
+ghost use Rattle.pipapo_image.specs.Index.Room.{HasRoomForRules};
+ghost use Rattle.pipapo_image.specs.Index.Walk.{IsWalk};
+ghost use Rattle.pipapo_image.specs.Index.Standing.{AreFieldsOf, AreMapsOf};
+ghost use Rattle.pipapo_image.specs.Index.Sharing.{AreIntervalsOf, IsSharingPlace, sharing_found};
+
+use crate::image::SetImage;
+use crate::index::scratch::Scratch;
+use crate::index::{Index, led};
+use bit_rows::BitRow;
+use lookup_table::FieldTable;
+use mapping_table::MapTable;
+use range_expand::Blocks;
+use set_model::{Found, Interval, Parts};
+
+impl Index {
+    ghost use Rattle.pipapo_image.specs.Index.{IsShapedIndex, IsIndexOf};
+
+    /// The place of the first element that is live at `now`, in milliseconds, and shares a key with
+    /// the intervals, in every list of elements whose tables these are. `None` where there is none.
+    /// It looks at rules alone: no interval is compared. It takes no memory.
+    pub fn find_sharing(&self, parts: &Parts, now: u64, scratch: &mut Scratch) -> Option<u64>
+        requires shaped { IsShapedIndex self.now }
+        requires parts { AreIntervalsOf self.now.fields parts.now }
+        ensures { (kinds : List OneKind) (es : List Element) → IsIndexOf kinds es self.now → parts_fit kinds parts.now ≡ true
+            → All (λ e. parts_fit kinds e.parts ≡ true) es → result ≡ position (is_sharing parts.now now) es }
+    {
+        let row = &mut scratch.row;
+        share_walk(
+            self.fields.as_slice(),
+            self.maps.as_slice(),
+            parts.as_slice(),
+            row,
+            &mut scratch.next,
+            &mut scratch.rest,
+            &mut scratch.sum,
+        );
+        led(&self.ends, row, now)
+    }
+}
+
+impl SetImage {
+    /// The first element of the list that is live at `now`, in milliseconds, and shares a key with
+    /// the intervals. `None` where there is none. It is found in the tables alone, and takes no
+    /// memory.
+    pub fn first_sharing(&self, parts: &Parts, now: u64, scratch: &mut Scratch) -> Option<Found>
+        requires { parts_fit self.now.kinds parts.now ≡ true }
+        ensures found { result ≡ sharing_found self.now parts.now now }
+        ensures first { option_map (λ found. found.id) result ≡ option_map (λ e. e.id) (find (is_sharing parts.now now) self.now.elements) }
+    {
+        self.found_at(self.sharing_place(parts, now, scratch))
+    }
+
+    /// The place of the first live element that shares a key with the intervals.
+    pub(crate) fn sharing_place(
+        &self,
+        parts: &Parts,
+        now: u64,
+        scratch: &mut Scratch,
+    ) -> Option<u64>
+        requires { parts_fit self.now.kinds parts.now ≡ true }
+        ensures { IsSharingPlace self.now parts.now now result }
+    {
+        self.index.find_sharing(parts, now, scratch)
+    }
+}
+
+/// Leaves in `row` the rules of the last field that share a value with the interval there and that
+/// such rules of the fields before lead to. The other rows are written over.
+fn share_walk(
+    fields: &[FieldTable],
+    maps: &[MapTable],
+    parts: &[Interval],
+    row: &mut BitRow,
+    next: &mut BitRow,
+    rest: &mut BitRow,
+    sum: &mut BitRow,
+)
+    requires shaped { IsWalk fields.now maps.now }
+    requires parts { AreIntervalsOf fields.now parts.now }
+    requires room { HasRoomForRules row.old }
+    requires next_room { HasRoomForRules next.old }
+    requires rest_room { HasRoomForRules rest.old }
+    requires sum_room { HasRoomForRules sum.old }
+    ensures row { (kinds : List OneKind) (es : List Element) → AreFieldsOf kinds es fields.now → AreMapsOf kinds es maps.now
+        → row.new.bits ≡ row_of kinds es (share_tests kinds parts.now) (length maps.now) }
+    ensures length { (t : Table) → length row.new.bits ≡ (get_or fields.now (length maps.now) t).rules }
+    ensures room { HasRoomForRules row.new }
+    ensures next_room { HasRoomForRules next.new }
+    ensures rest_room { HasRoomForRules rest.new }
+    ensures sum_room { HasRoomForRules sum.new }
+{
+    let first = &fields[0];
+    row.fill(first.rules, true);
+    share_field(first, parts[0], row, next, rest, sum);
+    'fields: for f in 0..maps.len() {
+        let map = &maps[f];
+        let field = &fields[f + 1];
+        next.fill(field.rules, false);
+        map.refill(row, next);
+        share_field(field, parts[f + 1], next, row, rest, sum);
+        std::mem::swap(row, next);
+    }
+}
+
+/// Leaves bit `r` of the row set where rule `r`'s block shares a value with the interval. The other
+/// rows are written over.
+fn share_field(
+    table: &FieldTable,
+    part: Interval,
+    row: &mut BitRow,
+    one: &mut BitRow,
+    rest: &mut BitRow,
+    sum: &mut BitRow,
+)
+    requires few { table.now.rules ≤ rules_limit }
+    requires interval { IsInterval part.low part.high table.now.bits }
+    requires length { length row.old.bits ≡ table.now.rules }
+    requires one_room { HasRoomForRules one.old }
+    requires rest_room { HasRoomForRules rest.old }
+    requires sum_room { HasRoomForRules sum.old }
+    ensures bits { (rules : List Block) → Stands table.now rules → row.new.bits ≡ matched (shares_some (blocks part.low part.high table.now.bits)) rules row.old.bits }
+    ensures length { length row.new.bits ≡ length row.old.bits }
+    ensures spare { row.new.spare ≡ row.old.spare }
+    ensures one_room { HasRoomForRules one.new }
+    ensures rest_room { HasRoomForRules rest.new }
+    ensures sum_room { HasRoomForRules sum.new }
+{
+    let split = Blocks::new(part.low, part.high, table.bits);
+    share_blocks(table, split, one, rest, sum);
+    row.and_from(sum);
+}
+
+/// Leaves bit `r` of `sum` set where rule `r`'s block shares a value with one of these blocks. The
+/// other rows are written over.
+fn share_blocks(
+    table: &FieldTable,
+    split: Blocks,
+    one: &mut BitRow,
+    rest: &mut BitRow,
+    sum: &mut BitRow,
+)
+    requires few { table.now.rules ≤ rules_limit }
+    requires within { All (IsWithin table.now.bits) split }
+    requires one_room { HasRoomForRules one.old }
+    requires rest_room { HasRoomForRules rest.old }
+    requires sum_room { HasRoomForRules sum.old }
+    ensures shared { (rules : List Block) → Stands table.now rules → (r : ℕ) → r < table.now.rules → at sum.new.bits r ≡ shares_some split (block_at rules r) }
+    ensures length { length sum.new.bits ≡ table.now.rules }
+    ensures one_room { HasRoomForRules one.new }
+    ensures rest_room { HasRoomForRules rest.new }
+    ensures sum_room { HasRoomForRules sum.new }
+{
+    sum.fill(table.rules, false);
+    'split_blocks: for block in split {
+        one.fill(table.rules, true);
+        table.share_into(block, one, rest);
+        sum.or_from(one);
+    }
+}

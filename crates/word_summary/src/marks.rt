@@ -1,0 +1,109 @@
+ghost use Rattle.std.specs.Prelude.{◌≡◌, ℕ, ◌+◌, ◌-◌, ◌*◌, ◌/◌, ◌^◌, ◌<◌, ◌≤◌, ◌&&◌, true, false, nat_lt, length, slice_index, replicate, IfOk};
+ghost use Rattle.bit_rows.specs.Row.{bit};
+ghost use Rattle.field_groups.specs.Groups.{IsWidth};
+ghost use Rattle.word_summary.specs.Marks.{share, IsPage, IsMarked, Keeps, IsBlockMarked, is_candidate};
+ghost use Rattle.set_model.specs.Blocks.{IsWithin};
+
+use field_groups::{group_mask, group_value};
+use set_model::{Block, Memory};
+use shared_pages::Page;
+use std::alloc::Global;
+
+/// A page without marks, of a field of `bits` bits.
+///
+/// # Errors
+/// `Memory` if there is none left.
+pub fn new_page(alloc: Global, bits: u32) -> Result<Page<u64>, Memory>
+    requires { IsWidth 8 bits }
+    ensures lines { IfOk result (λ page. page.items ≡ replicate (bits / 8 * 256) 0) }
+    ensures own { IfOk result (λ page. page.own ≡ true) }
+{
+    let mut lines = Vec::new(alloc);
+    lines.resize(bits as usize / 8 * 256, 0u64)?;
+    Ok(Page::from_vec(lines))
+}
+
+/// The words that may have a rule which holds the value: those that are marked for each of its bytes.
+/// Bit 0 stands for the first.
+#[inline(always)]
+pub fn candidates(lines: &[u64], value: u128, bits: u32) -> u64
+    requires groups { IsWidth 8 bits }
+    requires page { IsPage bits lines.now }
+    requires value { value < 2 ^ bits }
+    ensures { (k : ℕ) → k < 64 → bit result k ≡ is_candidate bits lines.now value k }
+{
+    let mut left = u64::MAX;
+    'groups: for g in 0..bits / 8 {
+        let v = group_value(value, 8, bits, g);
+        left &= lines[g as usize * 256 + v as usize];
+    }
+    left
+}
+
+/// Which of the eight words of two lines of a page have a bit in common. Bit 0 stands for the first.
+#[inline(always)]
+pub fn shared_words(words: &[u64], upper: usize, lower: usize) -> u64
+    requires upper { upper * 8 + 8 ≤ length words.now }
+    requires lower { lower * 8 + 8 ≤ length words.now }
+    requires few { length words.now < 2 ^ 40 }
+    ensures { (w : ℕ) → w < 64 → bit result w ≡ (nat_lt w 8 && share (slice_index words.now (upper * 8 + w)) (slice_index words.now (lower * 8 + w))) }
+{
+    let mut marks = 0;
+    'words: for w in 0..8 {
+        if words[upper * 8 + w] & words[lower * 8 + w] != 0 {
+            marks |= 1u64 << w;
+        }
+    }
+    marks
+}
+
+/// Makes a line's marks of the eight words from word `8 * eight` on anew. Bit 0 of `marks` stands for
+/// the first of them.
+#[inline(always)]
+pub fn mark_line(page: &mut Page<u64>, line: usize, eight: u32, marks: u64)
+    requires own { page.old.own ≡ true }
+    requires line { line < length page.old.items }
+    requires eight { eight < 8 }
+    requires marks { (k : ℕ) → 8 ≤ k → k < 64 → bit marks k ≡ false }
+    ensures own { page.new.own ≡ true }
+    ensures marked { IsMarked line (8 * eight) marks page.old.items page.new.items }
+{
+    let before = page.as_slice()[line];
+    let first = 8 * eight;
+    let low = before & ((1u64 << first) - 1);
+    let high = before >> first >> 8 << 8;
+    page.put(line, low | (high | marks) << first);
+}
+
+/// Marks word `k` in each line whose value agrees with the block: for each byte a run of lines.
+pub fn mark_block(page: &mut Page<u64>, block: Block, bits: u32, k: u32)
+    requires own { page.old.own ≡ true }
+    requires groups { IsWidth 8 bits }
+    requires page { IsPage bits page.old.items }
+    requires word { k < 64 }
+    requires block { IsWithin bits block }
+    ensures own { page.new.own ≡ true }
+    ensures marked { IsBlockMarked bits block k page.old.items page.new.items }
+{
+    'groups: for g in 0..bits / 8 {
+        let (base, mask) = group_mask(block, 8, bits, g);
+        let first = g as usize * 256 + (base & mask) as usize;
+        mark_run(page, first, first + 256 - mask as usize, k);
+    }
+}
+
+/// Sets bit `k` of the lines from `first` up to `last`.
+#[inline(always)]
+fn mark_run(page: &mut Page<u64>, first: usize, last: usize, k: u32)
+    requires own { page.old.own ≡ true }
+    requires lines { last ≤ length page.old.items }
+    requires word { k < 64 }
+    ensures own { page.new.own ≡ true }
+    ensures kept { Keeps page.old.items page.new.items }
+    ensures set { (j : ℕ) → first ≤ j → j < last → bit (slice_index page.new.items j) k ≡ true }
+{
+    'lines: for j in first..last {
+        let marks = page.as_slice()[j];
+        page.put(j, marks | 1u64 << k);
+    }
+}
