@@ -59,12 +59,62 @@ def purges(count):
         yield "commit"
 
 
+def short_lives(count):
+    """Elements that live for a second, each added and committed at a moment of its own beside a tenth as many that stay."""
+    yield from addresses(",timeout", count // 10)
+    for n in range(count):
+        yield f"at {100 * (n + 1)}"
+        yield f"add element ip t s {{ 11.{n >> 16 & 255}.{n >> 8 & 255}.{n & 255} . 1 timeout 1s }}"
+        yield "commit"
+
+
+def deletions(count):
+    """So many elements, and one transaction that deletes them all, the first first."""
+    yield from addresses("", count)
+    for n in range(count):
+        yield f"delete element ip t s {{ 10.{n >> 16 & 255}.{n >> 8 & 255}.{n & 255} . {1024 + n % 1000} }}"
+    yield "commit"
+
+
+def missing(count):
+    """So many elements, and as many destructions of elements that aren't there."""
+    yield from addresses("", count)
+    for n in range(count):
+        yield f"destroy element ip t s {{ 12.{n >> 16 & 255}.{n >> 8 & 255}.{n & 255} . 1 }}"
+    yield "commit"
+
+
+def expired(count):
+    """So many elements, each of which encloses those before it, and all of which expire at the moment 1000."""
+    yield "add set ip t p { type inet_service ; flags interval,timeout ; timeout 1s ; }"
+    for n in range(1, count + 1):
+        yield f"add element ip t p {{ {30000 - n}-{30000 + n} }}"
+
+
+def short_elements(count):
+    """One statement of so many elements, all of them the same port."""
+    yield "add set ip t p { type inet_service ; }"
+    yield "add element ip t p { " + ",".join(["1"] * count) + " }"
+
+
+def packets_behind(count):
+    """So many packets that all of these elements hold, at a moment when they are expired."""
+    yield "at 5000"
+    for _ in range(count):
+        yield "ip t p 30000"
+
+
 ROWS = [
-    # what a script does, its lines by a number, the smaller number
-    ("commits beside elements without lives", without_lives, 50000),
-    ("commits beside elements whose lives are far off", lives_far_off, 50000),
-    ("flushes of an empty set", empty_flushes, 50000),
-    ("commits that purge one of the elements each", purges, 5000),
+    # what a script does, its lines by a number, the smaller number, and how many packets there are behind it
+    ("commits beside elements without lives", without_lives, 50000, 0),
+    ("commits beside elements whose lives are far off", lives_far_off, 50000, 0),
+    ("flushes of an empty set", empty_flushes, 50000, 0),
+    ("commits that purge one of the elements each", purges, 5000, 0),
+    ("additions with a short life, one commit each", short_lives, 5000, 0),
+    ("deletions of all elements, the first first", deletions, 10000, 0),
+    ("destructions of missing elements", missing, 20000, 0),
+    ("a thousand packets that expired elements hold", expired, 7000, 1000),
+    ("short elements in one statement", short_elements, 500000, 0),
 ]
 
 
@@ -80,13 +130,13 @@ def spent(program, words):
     return after.ru_utime + after.ru_stime - before.ru_utime - before.ru_stime
 
 
-def least(program, folder, lines):
-    """The least processor time of a few runs of a script without packets."""
+def least(program, folder, lines, packets):
+    """The least processor time of a few runs of a script with so many packets."""
     script, keys = os.path.join(folder, "script"), os.path.join(folder, "keys")
     with open(script, "w") as file:
         file.writelines(line + "\n" for line in lines)
-    with open(keys, "w"):
-        pass
+    with open(keys, "w") as file:
+        file.writelines(line + "\n" for line in packets_behind(packets) if packets)
     return min(spent(program, ["run", script, keys]) for _ in range(RUNS))
 
 
@@ -94,8 +144,9 @@ def main():
     program = sys.argv[1]
     bad = 0
     with tempfile.TemporaryDirectory() as folder:
-        for name, maker, count in ROWS:
-            ratio = least(program, folder, maker(TIMES * count)) / max(least(program, folder, maker(count)), 0.001)
+        for name, maker, count, packets in ROWS:
+            more, less = (least(program, folder, maker(times * count), packets) for times in (TIMES, 1))
+            ratio = more / max(less, 0.001)
             grows = ratio > MOST
             bad += grows
             print(f"{name}: {TIMES * count} take {ratio:.1f} times as long as {count}{', too many' if grows else ''}")

@@ -1,7 +1,7 @@
 -- What each change of the words makes of the row.
 use Rattle.std.proofs.Common.{◌≡◌, refl, sym, ◌∙◌, ap, ℕ, zero, suc, ◌+◌, ◌-◌, ◌*◌, ◌/◌, ◌%◌, ◌^◌, ◌<◌, ◌≤◌, ◌⊎◌, Bool, true, false, cond, not, ◌&&◌, ◌||◌, nat_lt, List, [], ◌∷◌, ◌++◌, map, length, get_or, take, drop, replicate, zip, arith, inl, inr}
 use Rattle.std.proofs.lemmas.Bool.{cases_lt, cond-true, cond-false, lt-ltb}
-use Rattle.std.proofs.lemmas.List.{get_or_past, length-map, length-append, length-take, length-drop, length-replicate, take_all, get_or_append_left, get_or-append_right, get_or-replicate, get_or-take, get_or-drop, get_or_push, length_push}
+use Rattle.std.proofs.lemmas.List.{get_or_past, length-map, length-append, length-take, length-drop, length-replicate, get_or_append_left, get_or-append_right, get_or-replicate, get_or-take, get_or-drop, get_or_push, length_push}
 use Rattle.std.proofs.lemmas.Slice.Zip.{length-zip}
 use Rattle.bit_rows.specs.Row.{bit, at, both, either, with_run, without_run, lies, IsNextSet, IsCleared, IsPut, IsSpelling}
 use Rattle.bit_rows.specs.Words.{place, bits_of, IsRow, IsClearFrom, IsNextPlace}
@@ -30,20 +30,17 @@ bits-zeros new len clear = bits-same new len (replicate len false) (length-repli
 pub place-nil : (i : ℕ) → place [] i ≡ false
 place-nil i = place-past [] i (omega arith)
 
-grown-word : (old : List ℕ) (m k : ℕ) → length old ≤ m → get_or (take m old ++ replicate (m - length old) 0) k 0 ≡ get_or old k 0
-grown-word old m k h = rw (take_all m old h) (go (cases_lt k (length old)) (cases_lt (k - length old) (m - length old))) where
-  go : (k < length old) ⊎ (length old ≤ k) → (k - length old < m - length old) ⊎ (m - length old ≤ k - length old) → get_or (old ++ replicate (m - length old) 0) k 0 ≡ get_or old k 0
-  go (inl l) b = get_or_append_left old (replicate (m - length old) 0) 0 k l
-  go (inr l) (inl b) =
-      get_or-append_right old (replicate (m - length old) 0) (length old) k 0 refl l ∙ get_or-replicate (m - length old) (k - length old) 0 0 b
-      ∙ sym (get_or_past old k 0 l)
+grown-word : (old : List ℕ) (n k : ℕ) → get_or (old ++ replicate n 0) k 0 ≡ get_or old k 0
+grown-word old n k = go (cases_lt k (length old)) (cases_lt (k - length old) n) where
+  go : (k < length old) ⊎ (length old ≤ k) → (k - length old < n) ⊎ (n ≤ k - length old) → get_or (old ++ replicate n 0) k 0 ≡ get_or old k 0
+  go (inl l) b = get_or_append_left old (replicate n 0) 0 k l
+  go (inr l) (inl b) = get_or-append_right old (replicate n 0) (length old) k 0 refl l ∙ get_or-replicate n (k - length old) 0 0 b ∙ sym (get_or_past old k 0 l)
   go (inr l) (inr b) =
-      get_or-append_right old (replicate (m - length old) 0) (length old) k 0 refl l ∙ get_or_past (replicate (m - length old) 0) (k - length old) 0 (rw length-replicate b)
-      ∙ sym (get_or_past old k 0 l)
+      get_or-append_right old (replicate n 0) (length old) k 0 refl l ∙ get_or_past (replicate n 0) (k - length old) 0 (rw length-replicate b) ∙ sym (get_or_past old k 0 l)
 
-pub grown-place : (old new : List ℕ) (m : ℕ) → new ≡ take m old ++ replicate (m - length old) 0 → length old ≤ m → (i : ℕ) → place new i ≡ place old i
-grown-place old new m e h i =
-    place-is new i ∙ ap (λ words. bit (get_or words (i / 64) 0) (i % 64)) e ∙ ap (λ w. bit w (i % 64)) (grown-word old m (i / 64) h) ∙ sym (place-is old i)
+pub grown-place : (old new : List ℕ) (n : ℕ) → new ≡ old ++ replicate n 0 → (i : ℕ) → place new i ≡ place old i
+grown-place old new n e i =
+    place-is new i ∙ ap (λ words. bit (get_or words (i / 64) 0) (i % 64)) e ∙ ap (λ w. bit w (i % 64)) (grown-word old n (i / 64)) ∙ sym (place-is old i)
 
 -- the same places
 pub bits-like : (old new : List ℕ) (len : ℕ) → ((i : ℕ) → place new i ≡ place old i) → bits_of new len ≡ bits_of old len

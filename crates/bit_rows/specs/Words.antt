@@ -26,6 +26,11 @@ pub record IsRow (words : List ℕ) (len : ℕ) : Type 0 where
   pub within : len ≤ 64 * length words
   pub clear : IsClearFrom words len
 
+-- These words keep a row of len places, and no memory is taken but for them.
+pub record IsStored (words : List ℕ) (len capacity : ℕ) : Type 0 where
+  pub row : IsRow words len
+  pub full : capacity ≡ length words
+
 -- r is the least set place over the words, from `from` up to `end`
 pub record IsNextPlace (words : List ℕ) (from end r : ℕ) : Type 0 where
   pub from_on : from ≤ r

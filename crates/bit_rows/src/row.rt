@@ -1,6 +1,6 @@
-ghost use Rattle.std.specs.Prelude.{◌≡◌, ℕ, ◌+◌, ◌-◌, ◌*◌, ◌%◌, ◌^◌, ◌<◌, ◌≤◌, false, [], ◌∷◌, ◌++◌, length, replicate, cond, IfOk, OnOk, OnErr, MatchOption};
+ghost use Rattle.std.specs.Prelude.{◌≡◌, ℕ, ◌+◌, ◌-◌, ◌*◌, ◌%◌, ◌^◌, ◌<◌, ◌≤◌, false, [], ◌∷◌, ◌++◌, length, replicate, cond, vec_capacity, IfOk, OnOk, OnErr, MatchOption};
 ghost use Rattle.bit_rows.specs.Row.{Row, at, both, either, with_run, without_run, bit, IsNextSet, IsCleared, IsPut, IsSpelling};
-ghost use Rattle.bit_rows.specs.Words.{bits_of, room_of, IsRow};
+ghost use Rattle.bit_rows.specs.Words.{bits_of, room_of, IsStored};
 
 use crate::{storage, words};
 use set_model::Memory;
@@ -25,7 +25,7 @@ impl Model for BitRow {
       spare = room_of (length r.words.items) - r.len;
     } };
 
-    ghost invariant = { λ r. IsRow r.words.items r.len };
+    ghost invariant = { λ r. IsStored r.words.items r.len (vec_capacity r.words) };
 }
 
 /// How many words are taken for so many places: a multiple of eight.
@@ -252,7 +252,7 @@ impl BitRow {
     pub fn copy(&self, alloc: Global) -> Result<BitRow, Memory>
         ensures { IfOk result (λ row. row ≡ self.now) }
     {
-        let words = Vec::from_slice(alloc, self.words.as_slice())?;
+        let words = storage::copy(alloc, &self.words)?;
         Ok(BitRow {
             words,
             len: self.len,

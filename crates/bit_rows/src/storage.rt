@@ -1,25 +1,46 @@
 // The functions on words, over the vector that keeps a row.
-ghost use Rattle.std.specs.Prelude.{◌≡◌, ℕ, ◌+◌, ◌-◌, ◌*◌, ◌^◌, ◌<◌, ◌≤◌, false, cond, ◌&&◌, ◌||◌, nat_lt, length, slice_index, OnOk, OnErr};
+ghost use Rattle.std.specs.Prelude.{◌≡◌, ℕ, ◌+◌, ◌-◌, ◌*◌, ◌^◌, ◌<◌, ◌≤◌, false, cond, ◌&&◌, ◌||◌, nat_lt, length, slice_index, vec_capacity, IfOk, OnOk, OnErr};
 ghost use Rattle.bit_rows.specs.Row.{bit, lies};
 ghost use Rattle.bit_rows.specs.Words.{place};
 
 use crate::words;
 use set_model::Memory;
+use std::alloc::Global;
 
-/// Adds words that are 0, up to `n` words.
+/// Adds words that are 0, up to `n` words, and takes memory for no more.
 ///
 /// # Errors
 /// `Memory` if there is none left. The words are as they were.
-#[inline(always)]
 #[tactic(auto, using(crate::proofs::Rows::grown))]
 pub(crate) fn grow(words: &mut Vec<u64>, n: usize) -> Result<(), Memory>
-    requires { length words.old.items ≤ n }
+    requires more { length words.old.items ≤ n }
+    requires full { vec_capacity words.old ≡ length words.old.items }
     ensures length { OnOk result (length words.new.items ≡ n) }
     ensures places { OnOk result ((i : ℕ) → place words.new.items i ≡ place words.old.items i) }
     ensures err { OnErr result (words.new.items ≡ words.old.items) }
+    ensures full { vec_capacity words.new ≡ length words.new.items }
 {
-    words.resize(n, 0)?;
+    let added = n - words.len();
+    words.reserve_exact(added)?;
+    'words: for _ in 0..added {
+        words.push_reserved(0);
+    }
     Ok(())
+}
+
+/// The same words once more, in as much memory.
+///
+/// # Errors
+/// `Memory` if there is none left.
+pub(crate) fn copy(alloc: Global, words: &[u64]) -> Result<Vec<u64>, Memory>
+    ensures items { IfOk result (λ copied. copied.items ≡ words.now) }
+    ensures full { IfOk result (λ copied. vec_capacity copied ≡ length words.now) }
+{
+    let mut copied = Vec::with_capacity(alloc, words.len())?;
+    'words: for word in words {
+        copied.push_reserved(*word);
+    }
+    Ok(copied)
 }
 
 /// Sets the places from `from` up to `to` if `bit` is set.
@@ -28,6 +49,7 @@ pub(crate) fn set_places(words: &mut Vec<u64>, from: usize, to: usize, bit: bool
     requires order { from ≤ to }
     requires within { to ≤ 64 * length words.old.items }
     ensures length { length words.new.items ≡ length words.old.items }
+    ensures room { vec_capacity words.new ≡ vec_capacity words.old }
     ensures places { (i : ℕ) → place words.new.items i
         ≡ (place words.old.items i || (bit && lies from to i)) }
 {
@@ -42,6 +64,7 @@ pub(crate) fn clear_words(words: &mut Vec<u64>, from: usize, to: usize)
     requires order { from ≤ to }
     requires within { to ≤ length words.old.items }
     ensures length { length words.new.items ≡ length words.old.items }
+    ensures room { vec_capacity words.new ≡ vec_capacity words.old }
     ensures places { (i : ℕ) → place words.new.items i
         ≡ cond (lies (64 * from) (64 * to) i) false (place words.old.items i) }
 {
@@ -54,6 +77,7 @@ pub(crate) fn take_word(words: &mut Vec<u64>, w: usize) -> u64
     requires { w < length words.old.items }
     ensures word { result ≡ slice_index words.old.items w }
     ensures length { length words.new.items ≡ length words.old.items }
+    ensures room { vec_capacity words.new ≡ vec_capacity words.old }
     ensures places { (i : ℕ) → place words.new.items i
         ≡ cond (lies (64 * w) (64 * (w + 1)) i) false (place words.old.items i) }
 {
@@ -65,6 +89,7 @@ pub(crate) fn take_word(words: &mut Vec<u64>, w: usize) -> u64
 pub(crate) fn put_word(words: &mut Vec<u64>, w: usize, word: u64)
     requires { w < length words.old.items }
     ensures length { length words.new.items ≡ length words.old.items }
+    ensures room { vec_capacity words.new ≡ vec_capacity words.old }
     ensures places { (i : ℕ) → place words.new.items i
         ≡ cond (lies (64 * w) (64 * (w + 1)) i) (bit word (i - 64 * w)) (place words.old.items i) }
 {
@@ -77,6 +102,7 @@ pub(crate) fn and_words(words: &mut Vec<u64>, other: &[u64], n: usize)
     requires here { n ≤ length words.old.items }
     requires there { n ≤ length other.now }
     ensures length { length words.new.items ≡ length words.old.items }
+    ensures room { vec_capacity words.new ≡ vec_capacity words.old }
     ensures places { (i : ℕ) → place words.new.items i
         ≡ cond (nat_lt i (64 * n)) (place words.old.items i && place other.now i) (place words.old.items i) }
 {
@@ -89,6 +115,7 @@ pub(crate) fn or_words(words: &mut Vec<u64>, other: &[u64], n: usize)
     requires here { n ≤ length words.old.items }
     requires there { n ≤ length other.now }
     ensures length { length words.new.items ≡ length words.old.items }
+    ensures room { vec_capacity words.new ≡ vec_capacity words.old }
     ensures places { (i : ℕ) → place words.new.items i
         ≡ cond (nat_lt i (64 * n)) (place words.old.items i || place other.now i) (place words.old.items i) }
 {
@@ -103,6 +130,7 @@ pub(crate) fn close_up(words: &mut Vec<u64>, from: usize, n: usize, used: usize)
     requires small { n < 2 ^ 32 }
     requires words { length words.old.items ≤ 2 ^ 26 }
     ensures length { length words.new.items ≡ length words.old.items }
+    ensures room { vec_capacity words.new ≡ vec_capacity words.old }
     ensures places { (i : ℕ) → place words.new.items i
         ≡ cond (lies from (64 * used) i) (place words.old.items (i + n)) (place words.old.items i) }
 {

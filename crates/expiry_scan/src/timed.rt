@@ -17,6 +17,8 @@ pub struct TimedElements {
     /// In milliseconds. It may be before the soonest expiry: a removal leaves it, and a renewal
     /// never raises it.
     soonest: u64,
+    /// Whether it may be: where an element that had the soonest expiry left, or got another one.
+    is_early: bool,
 }
 
 impl Model for TimedElements {
@@ -81,6 +83,7 @@ impl TimedElements {
         TimedElements {
             items: Pages::new(alloc),
             soonest: u64::MAX,
+            is_early: false,
         }
     }
 
@@ -123,6 +126,7 @@ impl TimedElements {
         ensures err { OnErr result (self.new ≡ self.old) }
     {
         let element = self.items.remove(i)?;
+        self.is_early |= end_of(element.expiry) <= self.soonest;
         Ok(element)
     }
 
@@ -136,8 +140,10 @@ impl TimedElements {
         ensures ok { OnOk result (self.new ≡ renewed_at self.old i expiry) }
         ensures err { OnErr result (self.new ≡ self.old) }
     {
+        let leaving = end_of(self.at(i).expiry);
         let element = renewed(alloc, self.items.at(i), expiry)?;
         self.items.set(i, element)?;
+        self.is_early |= leaving <= self.soonest;
         self.soonest = self.soonest.min(end_of(expiry));
         Ok(())
     }
@@ -153,11 +159,15 @@ impl TimedElements {
         count_expired(&self.items, now)
     }
 
-    /// Looks for the soonest expiry anew, which is the moment beside the elements from then on.
+    /// Lets the moment beside the elements be the soonest expiry, which is looked for anew only where
+    /// an element that had it left, or got another one.
     pub fn find_soonest(&mut self)
         ensures { self.new ≡ self.old }
     {
-        self.soonest = soonest_end(&self.items);
+        if self.is_early {
+            self.soonest = soonest_end(&self.items);
+            self.is_early = false;
+        }
     }
 
     /// Lets copies share the elements from now on. No element is copied.
@@ -177,6 +187,7 @@ impl Duplicate for TimedElements {
         Ok(TimedElements {
             items: self.items.copy(alloc)?,
             soonest: self.soonest,
+            is_early: self.is_early,
         })
     }
 }
@@ -206,6 +217,7 @@ mod tests {
         elements.find_soonest();
         elements.settle()?;
         assert_eq!(rt; elements.soonest, 30);
+        assert!(rt; !elements.is_early);
         assert_eq!(rt; elements.count_expired(30), 1);
         Ok(())
     }

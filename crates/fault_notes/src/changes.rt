@@ -28,12 +28,13 @@ fn is_set(decl: &SetDecl, words: SetWords<'_>) -> bool {
         && decl.name.as_slice() == words.name
 }
 
-/// The place of a set among those declared.
-pub(crate) fn set_place(schema: &Schema, words: SetWords<'_>) -> Option<usize> {
-    schema
+/// The number of a set among those declared.
+pub(crate) fn set_number(schema: &Schema, words: SetWords<'_>) -> Option<u32> {
+    let place = schema
         .as_slice()
         .iter()
-        .position(|decl| is_set(decl, words))
+        .position(|decl| is_set(decl, words))?;
+    u32::try_from(place).ok()
 }
 
 fn is_verb(cause: Cause, verb: Verb) -> bool {
@@ -81,7 +82,7 @@ fn may_refuse(cause: Cause, is_disjoint: bool, older: &[Interval], newer: &[Inte
 fn changes_of<'a>(
     alloc: Global,
     script: &'a Script,
-    set: usize,
+    set: u32,
     refused: Refused<'_>,
 ) -> Result<Vec<Change<'a>>, Memory> {
     let mut found = Vec::new(alloc);
@@ -103,7 +104,7 @@ fn changes_of<'a>(
 }
 
 /// A step as a change of that set.
-fn change_of(step: &Step, place: u64, set: usize) -> Option<Change<'_>> {
+fn change_of(step: &Step, place: u64, set: u32) -> Option<Change<'_>> {
     match step {
         Step::Change {
             line,
@@ -111,7 +112,7 @@ fn change_of(step: &Step, place: u64, set: usize) -> Option<Change<'_>> {
             verb,
             element,
             ..
-        } if *other as usize == set => Some(Change {
+        } if *other == set => Some(Change {
             place,
             line: *line,
             verb: *verb,
@@ -124,7 +125,7 @@ fn change_of(step: &Step, place: u64, set: usize) -> Option<Change<'_>> {
 /// The earlier additions that may be the element in a change's way: the first, and whether it is the only one.
 fn olders_of<'a>(
     script: &'a Script,
-    set: usize,
+    set: u32,
     is_disjoint: bool,
     cause: Cause,
     newer: Change<'_>,
@@ -154,7 +155,7 @@ fn olders_of<'a>(
 pub(crate) fn spoken_of<'a>(
     alloc: Global,
     script: &'a Script,
-    set: usize,
+    set: u32,
     is_disjoint: bool,
     refused: Refused<'_>,
 ) -> Result<Spoken<'a>, Memory> {

@@ -2,7 +2,7 @@
 ghost use Rattle.std.specs.Prelude.{◌≡◌};
 ghost use Rattle.set_model.specs.Key.{is_good as good};
 
-use crate::changes::{Change, set_place, spoken_of};
+use crate::changes::{Change, set_number, spoken_of};
 use crate::note::Note;
 use crate::refused::{Cause, Refused, next_line, refused_by, without_mark};
 use crate::source::last_line;
@@ -120,10 +120,10 @@ fn add_refusal(
     told: Told<'_>,
     refused: Refused<'_>,
 ) -> Result<(), Memory> {
-    let Some(set) = set_place(&told.script.schema, refused.set) else {
+    let Some(set) = set_number(&told.script.schema, refused.set) else {
         return Ok(());
     };
-    let Some(decl) = told.script.schema.as_slice().get(set) else {
+    let Some(decl) = told.script.schema.as_slice().get(set as usize) else {
         return Ok(());
     };
     let kinds = decl.kinds.as_slice();

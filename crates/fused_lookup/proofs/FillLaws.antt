@@ -1,5 +1,5 @@
 -- The next field's row, rule by rule and word by word.
-use Rattle.std.proofs.Common.{◌≡◌, refl, sym, ◌∙◌, ap, ℕ, zero, suc, ◌+◌, ◌-◌, ◌*◌, ◌<◌, ◌≤◌, ◌⊎◌, inl, inr, Bool, true, false, ◌||◌, List, length, get_or, arith, add-zero}
+use Rattle.std.proofs.Common.{◌≡◌, refl, sym, ◌∙◌, ap, ℕ, zero, suc, ◌+◌, ◌-◌, ◌*◌, ◌<◌, ◌≤◌, ◌⊎◌, inl, inr, Bool, true, false, List, length, get_or, arith, add-zero}
 use Rattle.std.specs.Prelude.{All}
 use Rattle.std.specs.List.{zip, list_any}
 use Rattle.std.proofs.lemmas.Bool.{cases_lt}
@@ -8,14 +8,11 @@ use Rattle.std.proofs.lemmas.List.FromFn.{fill_by_all}
 use Rattle.std.proofs.lemmas.Slice.Zip.{length-zip}
 use Rattle.bit_rows.specs.Row.{at, with_run, bit}
 use Rattle.bit_rows.proofs.Rows.{at-run}
-use Rattle.bit_rows.proofs.Tests.{by-run, or-false}
 use Rattle.set_tables.specs.declared.Span.{Span}
 use Rattle.set_tables.specs.Rows.{reaches, reached, refilled}
 use Rattle.mapping_table.proofs.Refill.{refill-set, refill-kept}
-use Rattle.fused_lookup.specs.declared.window.Window.{Window}
 use Rattle.fused_lookup.specs.Words.{IsWordOf, IsNextBit}
 use Rattle.fused_lookup.specs.Filled.{IsClear, IsFilled, reached_by}
-use Rattle.fused_lookup.specs.Window.{IsWindow, IsWidened}
 
 -- a span without rules, as a default
 abbrev pub no_span : Span
@@ -93,22 +90,6 @@ filled-rest spans row i word from next long is low none filled =
 -- all rules
 pub filled-all : (spans : List Span) (row : List Bool) (n : ℕ) (next : List Bool) → length row ≡ length spans → length spans ≤ n → IsFilled spans row n next → next ≡ refilled spans row (length next)
 filled-all spans row n next long past filled = fill_by_all (reached spans row) next (length next) false refl (λ r l. filled.places r ∙ past-all spans row n r long past)
-
--- the window of a row with a run of places more
-pub window-run : (old new : List Bool) (w v : Window) (from n : ℕ) → from + n ≤ length old → new ≡ with_run old from n → length new ≡ length old → IsWidened w from n v → IsWindow old w → IsWindow new v
-window-run old new w v from n inside made long wide is = record {
-  below = λ i h. unset i (is.below i (let a = wide.first in omega arith)) (λ p q. let some : 0 < n = omega arith in let b = wide.low some in omega arith);
-  above = λ i h. unset i (is.above i (let a = wide.end in omega arith)) (λ p q. let some : 0 < n = omega arith in let b = wide.high some in omega arith);
-  within = let a = wide.least in let b = is.within in omega arith;
-} where
-  unset : (i : ℕ) → at old i ≡ false → (from ≤ i → i < from + n → ⊥) → at new i ≡ false
-  unset i none out =
-      let same : (at old i || false) ≡ false = or-false (at old i) false refl ∙ none in
-      ap (λ xs. at xs i) made ∙ at-run old from n i inside ∙ by-run from (from + n) i (λ t. (at old i || t) ≡ false) (λ p q. absurd (out p q)) (λ p. same) (λ p. same)
-
--- a row that is clear has any window without words
-pub clear-window : (bits : List Bool) (w : Window) → w.end ≡ 0 → IsClear bits → IsWindow bits w
-clear-window bits w none clear = record { below = λ i h. clear.places i; above = λ i h. clear.places i; within = omega arith }
 
 pub inside-more : (spans : List Span) (n m : ℕ) → m ≡ n → All (λ s. s.first + s.count ≤ n) spans → All (λ s. s.first + s.count ≤ m) spans
 inside-more spans n m e inside = rw e inside

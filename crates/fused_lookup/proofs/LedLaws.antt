@@ -1,15 +1,18 @@
 -- The first live end, rule by rule and word by word.
-use Rattle.std.proofs.Common.{◌≡◌, sym, ◌∙◌, ap, ℕ, ◌+◌, ◌-◌, ◌*◌, ◌<◌, ◌≤◌, ◌⊎◌, inl, inr, Bool, true, false, List, length, get_or, Option, Some, None, arith}
+use Rattle.std.proofs.Common.{◌≡◌, refl, sym, ◌∙◌, ap, ℕ, ◌+◌, ◌-◌, ◌*◌, ◌<◌, ◌≤◌, ◌⊎◌, inl, inr, Bool, true, false, ◌&&◌, List, length, get_or, Option, Some, None, All, arith, add-zero}
 use Rattle.std.specs.List.{zip}
 use Rattle.std.proofs.lemmas.Bool.{cases_lt}
 use Rattle.std.proofs.lemmas.List.{get_or_past, get_or_default}
-use Rattle.std.proofs.lemmas.Slice.Zip.{length-zip}
+use Rattle.std.proofs.lemmas.Slice.Zip.{length-zip, get_or-zip}
 use Rattle.bit_rows.specs.Row.{at, bit}
+use Rattle.bit_rows.proofs.Bits.{bit-zero}
 use Rattle.set_model.specs.Expiry.{lives}
 use Rattle.set_tables.specs.declared.End.{End}
 use Rattle.set_tables.specs.Rows.{is_led, led_to}
 use Rattle.set_tables.proofs.RowLaws.{led-some, led-none}
+use Rattle.mapping_table.specs.Spared.{word_of}
 use Rattle.mapping_table.proofs.LedLaws.{no_end, position-first, position-nowhere, led-there, skipped}
+use Rattle.mapping_table.proofs.LatestLaws.{word-each}
 use Rattle.fused_lookup.specs.Words.{IsWordOf, IsNextBit}
 use Rattle.fused_lookup.specs.Led.{LeadsNowhere, IsLed}
 
@@ -60,6 +63,28 @@ nowhere-rest ends row now i word from long is none so_far = nowhere-skip ends ro
       let e : 64 * i + (p - 64 * i) ≡ p = omega arith in
       ap (at row) (sym e) ∙ sym (is.bits (p - 64 * i) (omega arith)) ∙ none (p - 64 * i) (omega arith) (omega arith)
 
+-- a word of which no rule is matched
+pub nowhere-zero : (ends : List End) (row : List Bool) (now i word : ℕ) → length row ≡ length ends → IsWordOf row i word → word ≡ 0 → LeadsNowhere ends row now (64 * i) → LeadsNowhere ends row now (64 * (i + 1))
+nowhere-zero ends row now i word long is zero so_far = nowhere-rest ends row now i word 0 long is (λ k a b. ap (λ x. bit x k) zero ∙ bit-zero k) (rw (add-zero (64 * i)) so_far)
+
+and-false : (b : Bool) → (b && false) ≡ false
+and-false true = refl
+and-false false = refl
+
+-- a word whose ends are all expired
+pub nowhere-expired : (ends : List End) (row : List Bool) (now i : ℕ) → length row ≡ length ends → All (λ e. lives e.expiry now ≡ false) (word_of i ends) → LeadsNowhere ends row now (64 * i)
+    → LeadsNowhere ends row now (64 * (i + 1))
+nowhere-expired ends row now i long expired so_far = record { none = λ k h. go k h (cases_lt k (64 * i)) (cases_lt k (length ends)) } where
+  go : (k : ℕ) → k < 64 * (i + 1) → (k < 64 * i) ⊎ (64 * i ≤ k) → (k < length ends) ⊎ (length ends ≤ k) → is_led now (get_or (zip ends row) k no_end) ≡ false
+  go k h (inl l) a = so_far.none k l
+  go k h (inr l) (inl a) =
+      let short : k < length row = omega arith in
+      let dead = word-each (λ e. lives e.expiry now ≡ false) ends i k some_end expired (omega arith) a in
+      ap (is_led now) (get_or-zip ends row k no_end a short) ∙ ap (λ t. get_or row k false && t) dead ∙ and-false (get_or row k false)
+  go k h (inr l) (inr a) =
+      let m = length-zip ends row in
+      ap (is_led now) (get_or_past (zip ends row) k no_end (omega arith))
+
 default-same : (ends : List End) (k : ℕ) → k < length ends → get_or ends k (get_or ends k some_end) ≡ get_or ends k some_end
 default-same ends k within = get_or_default ends k (get_or ends k some_end) some_end within
 
@@ -78,6 +103,12 @@ pub nowhere-all : (ends : List End) (row : List Bool) (now n : ℕ) → length r
 nowhere-all ends row now n long past none =
     let m = length-zip ends row in
     sym (led-none ends row now (sym (position-nowhere (is_led now) (zip ends row) no_end (λ k h. none.none k (omega arith)))))
+
+-- rules that aren't matched lead nowhere new
+pub led-skip : (ends : List End) (row : List Bool) (now a b : ℕ) (found : Option ℕ) → length row ≡ length ends → ((k : ℕ) → a ≤ k → k < b → at row k ≡ false) → IsLed ends row now a found
+    → IsLed ends row now b found
+led-skip ends row now a b (Some place) long unset is = is
+led-skip ends row now a b None long unset is = nowhere-skip ends row now a b long unset is
 
 -- behind word by word: no rule from n on is matched
 pub led-all : (ends : List End) (row : List Bool) (now n : ℕ) (found : Option ℕ) → length row ≡ length ends → ((k : ℕ) → n ≤ k → at row k ≡ false) → IsLed ends row now n found → found ≡ led_to ends row now

@@ -4,3 +4,4 @@ pub mod LedLaws
 pub mod MatchLaws
 pub mod SieveLaws
 pub mod CandidateLaws
+pub mod WindowLaws

@@ -69,12 +69,9 @@ ones-at (suc n) (suc r) h = let l : r < n = omega arith in ones-at n r l
 pub ones-left : (n i : ℕ) → IsLeft n (replicate n true) i (2 ^ 64 - 1)
 ones-left n i = record { bits = λ k h l. bit-ones 64 k ∙ lt-ltb k 64 h ∙ sym (ones-at n (64 * i + k) l) }
 
--- rules outside the window of a row are not left
+-- rules before the window of a row are not left
 pub left-below : (test : Block → Bool) (blocks : List Block) (row : List Bool) (w : Window) → length blocks ≤ length row → IsWindow row w → (k : ℕ) → k < 64 * w.first → at (matched test blocks row) k ≡ false
 left-below test blocks row w room is k h = left-unset test blocks row k room (is.below k h)
-
-pub left-above : (test : Block → Bool) (blocks : List Block) (row : List Bool) (w : Window) → length blocks ≤ length row → IsWindow row w → (k : ℕ) → 64 * w.end ≤ k → at (matched test blocks row) k ≡ false
-left-above test blocks row w room is k h = left-unset test blocks row k room (is.above k h)
 
 -- the row of a walk through a window: clear before word i, and as it was from there on
 pub record IsTaken (i : ℕ) (old now : List Bool) : Type 0 where
@@ -96,11 +93,18 @@ taken-more i old now next so_far cleared = record {
   clear p h (inl l) = and-left (at now p) (not (lies (64 * i) (64 * (i + 1)) p)) (so_far.before p l)
   clear p h (inr l) = and-false (at now p) (not (lies (64 * i) (64 * (i + 1)) p)) (ap not (lies-in (64 * i) (64 * (i + 1)) p l h))
 
-pub taken-all : (i : ℕ) (old now : List Bool) (w : Window) → w.end ≤ i → IsWindow old w → IsTaken i old now → IsClear now
-taken-all i old now w past is taken = record { places = λ p. go p (cases_lt p (64 * i)) } where
+-- words in which nothing is set can be skipped
+pub taken-skip : (i j : ℕ) (old now : List Bool) → i ≤ j → ((p : ℕ) → 64 * i ≤ p → p < 64 * j → at old p ≡ false) → IsTaken i old now → IsTaken j old now
+taken-skip i j old now order unset taken = record { long = taken.long; before = λ p h. go p h (cases_lt p (64 * i)); behind = λ p h. taken.behind p (omega arith) } where
+  go : (p : ℕ) → p < 64 * j → (p < 64 * i) ⊎ (64 * i ≤ p) → at now p ≡ false
+  go p h (inl l) = taken.before p l
+  go p h (inr l) = taken.behind p l ∙ unset p l h
+
+pub taken-all : (i : ℕ) (old now : List Bool) → ((p : ℕ) → 64 * i ≤ p → at old p ≡ false) → IsTaken i old now → IsClear now
+taken-all i old now unset taken = record { places = λ p. go p (cases_lt p (64 * i)) } where
   go : (p : ℕ) → (p < 64 * i) ⊎ (64 * i ≤ p) → at now p ≡ false
   go p (inl l) = taken.before p l
-  go p (inr l) = taken.behind p l ∙ is.above p (omega arith)
+  go p (inr l) = taken.behind p l ∙ unset p l
 
 -- a word that is taken out
 pub taken-left : (n i word : ℕ) (old now : List Bool) → IsTaken i old now → ((k : ℕ) → k < 64 → bit word k ≡ at now (64 * i + k)) → IsLeft n old i word

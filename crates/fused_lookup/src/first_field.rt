@@ -33,10 +33,43 @@ pub fn refill_from_first(
 {
     let buckets = last_four(table, value);
     let mut reached = Window::none();
-    'pages: for p in 0..table.rules.div_ceil(4096) {
-        reached = refill_page(table, spans, value, buckets, p, next, reached);
+    'tops: for q in 0..table.rules.div_ceil(262_144) {
+        reached = refill_pages(table, spans, value, buckets, q, next, reached);
     }
     reached
+}
+
+/// Sets what the matched rules of the 64 pages from page `64 * q` on map to.
+#[inline(always)]
+fn refill_pages(
+    table: &FieldTable,
+    spans: &MapTable,
+    value: u128,
+    buckets: LastFour,
+    q: u32,
+    next: &mut BitRow,
+    window: Window,
+) -> Window
+    requires value { value < 2 ^ table.now.bits }
+    requires rules { length spans.now.items ≡ table.now.rules }
+    requires inside { All (λ s. s.first + s.count ≤ length next.old.bits) spans.now.items }
+    requires four { AreLastFour table.now value buckets }
+    requires top { 262144 * q < table.now.rules }
+    requires window { IsWindow next.old.bits window }
+    ensures filled { RefillsWords table.now spans.now.items (λ rule. holds_value rule value) (64 * (64 * q)) (64 * (64 * (q + 1))) next.old.bits next.new.bits }
+    ensures window { IsWindow next.new.bits result }
+    ensures len { length next.new.bits ≡ length next.old.bits }
+    ensures spare { next.new.spare ≡ next.old.spare }
+{
+    let _rules = table.rules;
+    let candidates = table.candidate_pages(value, q);
+    let mut window = window;
+    let mut from = 0;
+    'pages: while let Some(k) = next_bit(candidates, from) {
+        window = refill_page(table, spans, value, buckets, 64 * q + k, next, window);
+        from = k + 1;
+    }
+    window
 }
 
 /// Sets what the matched rules of the 64 words from word `64 * p` on map to.
@@ -82,10 +115,38 @@ pub fn lead_from_first(table: &FieldTable, ends: &EndTable, value: u128, now: u6
     ensures { Leads table.now ends.now.items (λ rule. holds_value rule value) (replicate table.now.rules true) now result }
 {
     let buckets = last_four(table, value);
-    'pages: for p in 0..table.rules.div_ceil(4096) {
-        if let Some(place) = lead_page(table, ends, value, buckets, p, now) {
+    'tops: for q in 0..table.rules.div_ceil(262_144) {
+        if let Some(place) = lead_pages(table, ends, value, buckets, q, now) {
             return Some(place);
         }
+    }
+    None
+}
+
+/// The place that the matched rules of the 64 pages from page `64 * q` on lead to.
+#[inline(always)]
+fn lead_pages(
+    table: &FieldTable,
+    ends: &EndTable,
+    value: u128,
+    buckets: LastFour,
+    q: u32,
+    now: u64,
+) -> Option<u64>
+    requires value { value < 2 ^ table.now.bits }
+    requires rules { length ends.now.items ≡ table.now.rules }
+    requires four { AreLastFour table.now value buckets }
+    requires top { 262144 * q < table.now.rules }
+    ensures { LeadsWords table.now ends.now.items (λ rule. holds_value rule value) (64 * (64 * q)) (64 * (64 * (q + 1))) now result }
+{
+    let _rules = table.rules;
+    let candidates = table.candidate_pages(value, q);
+    let mut from = 0;
+    'pages: while let Some(k) = next_bit(candidates, from) {
+        if let Some(place) = lead_page(table, ends, value, buckets, 64 * q + k, now) {
+            return Some(place);
+        }
+        from = k + 1;
     }
     None
 }

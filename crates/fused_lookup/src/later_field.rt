@@ -35,10 +35,13 @@ pub fn refill_from(
     ensures next_len { length next.new.bits ≡ length next.old.bits }
     ensures next_spare { next.new.spare ≡ next.old.spare }
 {
+    let _len = row.len();
     let mut reached = Window::none();
-    'words: for i in window.first..window.end {
+    let mut from = window.first;
+    'words: while let Some(i) = window.next_word(from) {
         let left = row.take_word(i);
         reached = refill_on(table, spans, value, i, left, next, reached);
+        from = i + 1;
     }
     reached
 }
@@ -63,10 +66,13 @@ pub fn lead_from(
     ensures len { length row.new.bits ≡ length row.old.bits }
     ensures spare { row.new.spare ≡ row.old.spare }
 {
+    let _len = row.len();
     let mut found = None;
-    'words: for i in window.first..window.end {
+    let mut from = window.first;
+    'words: while let Some(i) = window.next_word(from) {
         let left = row.take_word(i);
         found = led_on(found, table, ends, value, i, left, now);
+        from = i + 1;
     }
     found
 }

@@ -15,10 +15,13 @@ pub(crate) fn first_live(ends: &EndTable, i: u32, word: u64, now: u64) -> Option
     requires { HasRules (length ends.now.items) i word }
     ensures { LeadsWord ends.now.items i word now result }
 {
-    let _rules = ends.len();
+    if word == 0 || ends.is_word_expired(i, now) {
+        return None;
+    }
+    let word_ends = ends.word(i);
     let mut from = 0;
     'rules: while let Some(k) = next_bit(word, from) {
-        let end = ends.at(64 * i + k);
+        let end = word_ends[k as usize];
         if is_live(end.expiry, now) {
             return Some(end.place);
         }

@@ -29,11 +29,11 @@ pub(crate) fn refill_word(
     ensures spare { next.new.spare ≡ next.old.spare }
 {
     let _len = next.len();
-    let _rules = spans.len();
+    let word_spans = spans.word(i);
     let mut window = window;
     let mut from = 0;
     'rules: while let Some(k) = next_bit(word, from) {
-        let span = spans.at(64 * i + k);
+        let span = word_spans[k as usize];
         next.set_range(span.first, span.count);
         window = window.widened(span.first, span.count);
         from = k + 1;

@@ -1,11 +1,13 @@
-ghost use Rattle.std.specs.Prelude.{◌≡◌, ◌+◌, ◌<◌, ◌^◌};
-ghost use Rattle.fused_lookup.specs.Window.{IsWidened};
+ghost use Rattle.std.specs.Prelude.{◌≡◌, ◌+◌, ◌<◌, ◌^◌, MatchOption};
+ghost use Rattle.fused_lookup.specs.Window.{is_touched, HasBlocks, IsWidened, IsNextWord, AreUntouched};
 
-/// The words of a row in which places may be set: those from word `first` up to word `end`.
+/// The words of a row in which places may be set: those from word `first` up to word `end` that lie
+/// in a touched block of eight words. Bit k of `touched` stands for block k and each 64th after it.
 #[derive(Clone, Copy, Debug, PartialEq, Eq)]
 pub struct Window {
     pub first: u32,
     pub end: u32,
+    pub touched: u64,
 }
 
 impl Window {
@@ -17,6 +19,7 @@ impl Window {
         Window {
             first: u32::MAX,
             end: 0,
+            touched: 0,
         }
     }
 
@@ -32,6 +35,43 @@ impl Window {
         Window {
             first: self.first.min(from / 64),
             end: self.end.max((from + n - 1) / 64 + 1),
+            touched: with_blocks(self.touched, from / 512, (from + n - 1) / 512 + 1),
         }
     }
+
+    /// Whether word `i` lies in a touched block.
+    #[inline(always)]
+    fn is_touched(self, i: u32) -> bool
+        ensures { result ≡ is_touched self i }
+    {
+        self.touched >> (i / 8 % 64) & 1 == 1
+    }
+
+    /// The first touched word of the window that is not below `from`, if there is one.
+    #[inline(always)]
+    pub(crate) fn next_word(self, from: u32) -> Option<u32>
+        requires { self.end + 8 < 2 ^ 32 }
+        ensures { MatchOption result (AreUntouched self from self.end) (IsNextWord self from) }
+    {
+        let mut i = from;
+        'passed: while i < self.end {
+            if self.is_touched(i) {
+                return Some(i);
+            }
+            i = (i / 8 + 1) * 8;
+        }
+        None
+    }
+}
+
+/// Touches the blocks from block `first` up to block `end` too.
+#[inline(always)]
+fn with_blocks(touched: u64, first: u32, end: u32) -> u64
+    ensures { HasBlocks touched first end result }
+{
+    let mut touched = touched;
+    'numbers: for b in first..end {
+        touched |= 1u64 << (b % 64);
+    }
+    touched
 }

@@ -1,9 +1,9 @@
-// Sets about as large as a step of their summary: a word of 64 rules, a step of room, a page of words.
-// Copies of them live on beside each other.
+// Sets about as large as a step of their tables and summary: a word of 64 rules, a page of 512, a page of
+// marks for 4,096, and 32,768, above which a second level stands. Copies of them live on beside each other.
 use crate::examples::{adds, finds};
 use crate::sets::Trial;
-use pipapo_image::Added;
-use set_model::{Interval, Kind};
+use pipapo_image::{Added, SetImage};
+use set_model::{Interval, Kind, Memory};
 use std::alloc::Global;
 use std::mem::swap;
 use std::process::Abort;
@@ -46,14 +46,23 @@ fn delete_address(rt: &impl Abort, trial: &mut Trial, n: u64) {
     assert!(rt; gone == Ok(n));
 }
 
-/// Takes the expired addresses out, and looks up all.
+/// Lets the first address live on, takes the expired ones out, and looks up all.
 fn purge_addresses(rt: &impl Abort, trial: &mut Trial, n: u64) {
+    let renewed = Ok(Added::Renewed { id: 0 });
+    adds(rt, trial, address(0), address(0), Some(LATER + 1), renewed);
     let gone = trial.set.purge(trial.alloc, LATER);
-    assert!(rt; gone == Ok(n.div_ceil(3)));
+    assert!(rt; gone == Ok(n.div_ceil(3).saturating_sub(1)));
     for i in 0..n {
-        let id = if expiry(i).is_some() { None } else { Some(i) };
+        let is_gone = i > 0 && expiry(i).is_some();
+        let id = if is_gone { None } else { Some(i) };
         finds(rt, trial, address(i), LATER, id);
     }
+}
+
+/// A copy of the set, with which it shares its pages.
+fn copy(trial: &mut Trial) -> Result<SetImage, Memory> {
+    trial.set.settle()?;
+    trial.set.copy(trial.alloc)
 }
 
 /// Adds `n` addresses, copies the set, and takes one of them out of the copy and the expired ones out of
@@ -61,10 +70,10 @@ fn purge_addresses(rt: &impl Abort, trial: &mut Trial, n: u64) {
 fn check(rt: &impl Abort, trial: &mut Trial, n: u64) -> Result<(), Fail> {
     let last = n.saturating_sub(1);
     add_addresses(rt, trial, 0, last);
-    let mut before = trial.set.copy(trial.alloc)?;
+    let mut before = copy(trial)?;
     add_addresses(rt, trial, last, n);
     find_addresses(rt, trial, n, None);
-    let mut other = trial.set.copy(trial.alloc)?;
+    let mut other = copy(trial)?;
     purge_addresses(rt, trial, n);
     swap(&mut trial.set, &mut other);
     delete_address(rt, trial, n / 2);
@@ -95,4 +104,9 @@ fn steps_of_words(rt: HostRuntime) -> Result<(), Fail> {
 #[test]
 fn steps_of_pages(rt: HostRuntime) -> Result<(), Fail> {
     check_sizes(&rt, rt.alloc(), Kind::Mark, &[4_096, 4_097])
+}
+
+#[test]
+fn steps_of_the_second_level(rt: HostRuntime) -> Result<(), Fail> {
+    check_sizes(&rt, rt.alloc(), Kind::Ipv4, &[32_768, 32_769])
 }

@@ -148,11 +148,11 @@ impl Draft {
         1_000 + self.random.below(1_000_000)
     }
 
-    fn put_place(&mut self, verb: &str, set: u64) -> Result<(), Memory> {
+    fn put_place(&mut self, verb: &str, set: u32) -> Result<(), Memory> {
         self.put(verb)?;
         self.put(if set % 3 == 0 { " inet" } else { " ip6" })?;
-        self.put_number(" t", set % 2)?;
-        self.put_number(" s", set)
+        self.put_number(" t", u64::from(set % 2))?;
+        self.put_number(" s", u64::from(set))
     }
 
     fn put_options(&mut self, shape: Shape) -> Result<(), Memory> {
@@ -181,7 +181,7 @@ impl Draft {
         self.put_options(shape)
     }
 
-    fn put_elements(&mut self, set: u64, shape: Shape) -> Result<(), Memory> {
+    fn put_elements(&mut self, set: u32, shape: Shape) -> Result<(), Memory> {
         self.put_place("add element", set)?;
         self.put(" { ")?;
         for element in 0..self.random.below(12) {
@@ -202,7 +202,7 @@ impl Draft {
         }
     }
 
-    fn put_set(&mut self, set: u64, shape: Shape) -> Result<(), Memory> {
+    fn put_set(&mut self, set: u32, shape: Shape) -> Result<(), Memory> {
         self.put_place("add set", set)?;
         self.put(" { ")?;
         self.put_type(shape)?;
@@ -210,7 +210,7 @@ impl Draft {
     }
 
     fn put_sets(&mut self) -> Result<(), Memory> {
-        for set in 0..self.random.below(5) {
+        for set in 0..self.random.below(5) as u32 {
             let shape = self.shape();
             self.put_set(set, shape)?;
             self.put_elements(set, shape)?;

@@ -9,3 +9,4 @@ pub mod NarrowLaws
 pub mod SummaryLaws
 pub mod LineLaws
 pub mod WriteLaws
+pub mod TopLaws

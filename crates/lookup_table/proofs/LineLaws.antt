@@ -1,10 +1,9 @@
 -- Rows in pages of lines of eight words.
-use Rattle.std.proofs.Common.{◌≡◌, refl, sym, ◌∙◌, ap, ℕ, zero, suc, ◌+◌, ◌-◌, ◌*◌, ◌/◌, ◌%◌, ◌^◌, ◌<◌, ◌≤◌, ◌⊎◌, inl, inr, [], ◌∷◌, ◌++◌, Bool, true, false, ◌&&◌, ◌||◌, ◌==◌, nat_le, nat_lt, List, length, get_or, map, replicate, set, arith, All, bit_or, subst}
+use Rattle.std.proofs.Common.{◌≡◌, refl, sym, ◌∙◌, ap, ℕ, zero, suc, ◌+◌, ◌-◌, ◌*◌, ◌/◌, ◌%◌, ◌^◌, ◌<◌, ◌≤◌, ◌⊎◌, inl, inr, [], ◌∷◌, ◌++◌, Bool, true, false, ◌&&◌, ◌||◌, ◌==◌, nat_le, List, length, get_or, map, replicate, set, arith, All, bit_or, subst}
 use Rattle.std.specs.Prelude.{slice_index}
-use Rattle.std.specs.List.{range_with_len}
 use Rattle.std.proofs.lemmas.Bool.{cases_lt, cases_eq, lt-ltb, le-ltb, le-leb, lt-leb, eq-eqb, ne_eqb}
-use Rattle.std.proofs.lemmas.List.{get_or-set_same, get_or-set_other, length-set, get_or_default, get_or_append_left, get_or-append_right, get_or_past, ext_get_or, length-replicate, length-append, get_or-replicate, get_or_push, set-get_or, length-map, get_or-map}
-use Rattle.std.proofs.lemmas.List.Elements.{All-get_or, All-from_get_or, All-set, All-nil, All-cons, All-head, All-tail, All-push}
+use Rattle.std.proofs.lemmas.List.{get_or-set_same, get_or-set_other, length-set, get_or_default, get_or_append_left, get_or-append_right, get_or_past, ext_get_or, length-replicate, length-append, get_or-replicate, get_or_push, length-map, get_or-map}
+use Rattle.std.proofs.lemmas.List.Elements.{All-get_or, All-from_get_or, All-set, All-nil, All-push}
 use Rattle.std.proofs.lemmas.List.FromFn.{length-map-range_with_len, get_or-map-range_with_len}
 use Rattle.std.proofs.Math.Bool.{and-false, or-false, and_assoc}
 use Rattle.bit_rows.specs.Row.{Row, at, bit, lies}
@@ -13,8 +12,8 @@ use Rattle.bit_rows.proofs.Tests.{lies-in, lies-below, lies-above, lies-join}
 use Rattle.shared_pages.specs.Paged.{PageOf, owns_of, AreCommon}
 use Rattle.shared_pages.proofs.PageLaws.{copied-length}
 use Rattle.lookup_table.specs.Table.{bucket_at, cell}
-use Rattle.lookup_table.specs.Rows.{Each, IsRaised, IsMarked, IsSameSize, IsGrown}
-use Rattle.lookup_table.specs.Lines.{Lined, words_at, AreOwned, line_bit, line, rows_of, IsPageOf, AreLines, HasLine, AreMarked, IsMore, IsPage, IsWithinRoom, OwnsPlaces, IsCommon}
+use Rattle.lookup_table.specs.Rows.{Each, IsRaised, IsMarked, IsGrown}
+use Rattle.lookup_table.specs.Lines.{words_at, AreOwned, line_bit, line, rows_of, IsPageOf, AreLines, HasLine, AreMarked, IsMore, IsPage, IsWithinRoom, OwnsPlaces, IsCommon}
 use Rattle.lookup_table.proofs.RowsLaws.{cell-is, All-bucket, bucket-All}
 
 -- ---- rows
@@ -80,6 +79,19 @@ joined-line pages j from k low high v fits a b h e = e ∙ go (cases_lt (from % 
       ap (λ t. t || (nat_le 64 (from % 64 + k) && bit high (from % 64 + k - 64))) (bit-above low (from % 64 + k) fits l)
       ∙ ap (λ t. t && bit high (from % 64 + k - 64)) (le-leb 64 (from % 64 + k) l)
       ∙ ap (λ w. bit w (from % 64 + k - 64)) b ∙ sym (word-read pages j (from / 64 + 1) (from % 64 + k - 64) (omega arith)) ∙ ap (line_bit pages j) at
+
+-- the 64 places that stand fewer than 64 places behind those of a word, where the next word is in the same line
+pub joined-near : (pages : List (PageOf ℕ)) (p x n k low high v : ℕ) → low < 2 ^ 64 → low ≡ slice_index (words_at pages p) x → high ≡ slice_index (words_at pages p) (x + 1) → n < 64 → x % 8 + 1 < 8 → k < 64
+    → bit v k ≡ (bit low (n + k) || (nat_le 64 (n + k) && bit high (n + k - 64))) → bit v k ≡ line_bit pages (x / 8) (64 * (p * 8 + x % 8) + n + k)
+joined-near pages p x n k low high v fits a b few near h e = go (64 * (p * 8 + x % 8) + n) refl where
+  go : (from : ℕ) → from ≡ 64 * (p * 8 + x % 8) + n → bit v k ≡ line_bit pages (x / 8) (from + k)
+  go from at =
+      let page : from / 64 / 8 ≡ p = omega arith in
+      let word : x / 8 * 8 + from / 64 % 8 ≡ x = omega arith in
+      let next_page : (from / 64 + 1) / 8 ≡ p = omega arith in
+      let next : x / 8 * 8 + (from / 64 + 1) % 8 ≡ x + 1 = omega arith in
+      let by : from % 64 ≡ n = omega arith in
+      joined-line pages (x / 8) from k low high v fits (rw (page, word) a) (rw (next_page, next) b) h (rw by e)
 
 -- the words of a page
 pub bit-length : (pages : List (PageOf ℕ)) (count p : ℕ) → All (IsPageOf count) pages → p < length pages → length (words_at pages p) ≡ count * 8

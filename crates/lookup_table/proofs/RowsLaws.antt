@@ -1,5 +1,5 @@
 -- Changes of rows, one by one.
-use Rattle.std.proofs.Common.{◌≡◌, refl, sym, ◌∙◌, ap, subst, ℕ, zero, suc, ◌+◌, ◌<◌, ◌≤◌, [], ◌∷◌, ◌++◌, Bool, false, List, length, get_or, replicate, arith, All, Some, slice_get}
+use Rattle.std.proofs.Common.{◌≡◌, refl, sym, ◌∙◌, ap, subst, ℕ, zero, suc, ◌+◌, ◌<◌, ◌≤◌, [], ◌∷◌, ◌++◌, Bool, false, List, length, replicate, arith, All, Some, slice_get}
 use Rattle.std.proofs.lemmas.List.{length-map, get_or-map, ext_get_or, length-append, length-replicate}
 use Rattle.std.proofs.lemmas.List.Elements.{All-get_or, All-from_get_or}
 use Rattle.std.proofs.lemmas.Option.{slice_get-get_or}

@@ -1,9 +1,9 @@
 -- The summary of a table as it is made, and what it leaves out.
-use Rattle.std.proofs.Common.{◌≡◌, refl, sym, ◌∙◌, ap, subst, ℕ, zero, suc, ◌+◌, ◌-◌, All, ◌*◌, ◌/◌, ◌%◌, ◌^◌, ◌<◌, ◌≤◌, ◌⊎◌, inl, inr, Bool, true, false, ◌&&◌, nat_lt, List, [], ◌∷◌, ◌++◌, length, get_or, map, take, drop, replicate, set, arith, Some, slice_get, bit_and}
+use Rattle.std.proofs.Common.{◌≡◌, refl, sym, ◌∙◌, ap, subst, ℕ, zero, suc, ◌+◌, ◌-◌, All, ◌*◌, ◌/◌, ◌%◌, ◌^◌, ◌<◌, ◌≤◌, ◌⊎◌, inl, inr, Bool, true, false, ◌&&◌, nat_lt, List, [], ◌∷◌, ◌++◌, length, get_or, map, take, drop, replicate, set, arith, bit_and}
 use Rattle.std.specs.Prelude.{slice_index}
 use Rattle.std.proofs.lemmas.Bool.{cases_lt, cases_eq, lt-ltb, le-ltb, ltb-true}
 use Rattle.std.proofs.lemmas.List.{get_or_past, get_or_append_left, get_or_push, length_push, length-replicate, get_or-take, length-take, get_or-set_same, get_or-set_other, length-set, get_or_default, get_or-append_right, get_or-replicate}
-use Rattle.std.proofs.lemmas.List.Elements.{All-get_or, All-from_get_or}
+use Rattle.std.proofs.lemmas.List.Elements.{All-get_or}
 use Rattle.std.proofs.lemmas.Bool.{and_parts}
 use Rattle.set_model.specs.declared.block.Block.{Block}
 use Rattle.set_model.specs.Blocks.{holds_value, IsWithin}
@@ -18,10 +18,10 @@ use Rattle.word_summary.proofs.MarkLaws.{share-bit}
 use Rattle.lookup_table.specs.Table.{bucket_at, cell, IsShaped, block_at, StandsFor}
 use Rattle.lookup_table.specs.Lines.{words_at, IsPage, IsWithinRoom}
 use Rattle.lookup_table.specs.Rows.{Each, IsRaised, IsClosedUp, IsGrown, KeepsCells, IsFresh, HasOnly}
-use Rattle.lookup_table.specs.Summary.{upper_place, lower_place, agrees_at, HasMarks, ArePages, IsSummed, KeepsMarks, IsRuleMarked, AreRulesMarked}
+use Rattle.lookup_table.specs.Summary.{upper_place, lower_place, agrees_at, HasMarks, ArePages, IsSummed, KeepsMarks, IsMarkSet, AreRulesMarked}
 use Rattle.shared_pages.proofs.PageLaws.{copied-length}
 use Rattle.lookup_table.proofs.LineLaws.{same-words}
-use Rattle.lookup_table.proofs.RowsLaws.{cell-is, cell-read, All-bucket}
+use Rattle.lookup_table.proofs.RowsLaws.{cell-is, All-bucket}
 
 pub same-lt : (a b c d : ℕ) → (a < b → c < d) → (c < d → a < b) → nat_lt a b ≡ nat_lt c d
 same-lt a b c d there back = go (cases_lt a b) (cases_lt c d) where
@@ -119,10 +119,10 @@ rule-room width bits rules r buckets shape h = record {
 -- The first j lines of a page have the marks of the rules up to rule 512 * (q + 1), and the others are as they were.
 pub record LinesDone (width bits q j : ℕ) (buckets : List Row) (old page : List ℕ) : Type 0 where
   pub long : length page ≡ bits / 8 * 256
-  pub done : (i r : ℕ) → i < j → r / 4096 ≡ q / 8 → r < 512 * (q + 1) → agrees_at width buckets i r ≡ true → bit (slice_index page i) (r / 64 % 64) ≡ true
+  pub done : (i r : ℕ) → i < j → r / 64 / 64 ≡ q / 8 → r < 512 * (q + 1) → agrees_at width buckets i r ≡ true → bit (slice_index page i) (r / 64 % 64) ≡ true
   pub rest : (i : ℕ) → j ≤ i → slice_index page i ≡ slice_index old i
 
-pub lines-none : (width bits q n : ℕ) (buckets : List Row) (page : List ℕ) → HasMarks width bits n buckets (q / 8) page → LinesDone width bits q 0 buckets page page
+pub lines-none : (width bits q n : ℕ) (buckets : List Row) (page : List ℕ) → HasMarks 64 width bits n buckets (q / 8) page → LinesDone width bits q 0 buckets page page
 lines-none width bits q n buckets page has = record { long = has.long; done = λ i r h e m a. absurd (omega arith); rest = λ i h. refl }
 
 -- a rule that two rows have is seen in the words that they share
@@ -137,13 +137,13 @@ shared-rule buckets q upper lower r words page high low e both =
 
 pub lines-more : (width bits q j marks : ℕ) (buckets : List Row) (words old page new : List ℕ) → j < bits / 8 * 256 → IsPage buckets q words → upper_place width j < length buckets → lower_place width j < length buckets
     → ((w : ℕ) → w < 64 → bit marks w ≡ (nat_lt w 8 && share (slice_index words (upper_place width j * 8 + w)) (slice_index words (lower_place width j * 8 + w))))
-    → HasMarks width bits (512 * q) buckets (q / 8) old → IsMarked j (8 * (q % 8)) marks page new → LinesDone width bits q j buckets old page → LinesDone width bits q (j + 1) buckets old new
+    → HasMarks 64 width bits (512 * q) buckets (q / 8) old → IsMarked j (8 * (q % 8)) 8 marks page new → LinesDone width bits q j buckets old page → LinesDone width bits q (j + 1) buckets old new
 lines-more width bits q j marks buckets words old page new h is upper lower made has marked so_far = record {
   long = marked.long ∙ so_far.long;
   done = λ i r l e m agree. go i r l e m agree (cases_eq i j);
   rest = λ i l. marked.others i (λ e. absurd (omega arith)) ∙ so_far.rest i (omega arith);
 } where
-  here : (r : ℕ) → r / 4096 ≡ q / 8 → r < 512 * (q + 1) → agrees_at width buckets j r ≡ true → (r < 512 * q) ⊎ (512 * q ≤ r) → bit (slice_index new j) (r / 64 % 64) ≡ true
+  here : (r : ℕ) → r / 64 / 64 ≡ q / 8 → r < 512 * (q + 1) → agrees_at width buckets j r ≡ true → (r < 512 * q) ⊎ (512 * q ≤ r) → bit (slice_index new j) (r / 64 % 64) ≡ true
   here r e m agree (inl l) =
       marked.below (r / 64 % 64) (omega arith) ∙ ap (λ x. bit x (r / 64 % 64)) (so_far.rest j (omega arith)) ∙ has.marks j r h l e agree
   here r e m agree (inr l) =
@@ -153,7 +153,7 @@ lines-more width bits q j marks buckets words old page new h is upper lower made
       ∙ ap (λ t. t && share (slice_index words (upper_place width j * 8 + r % 512 / 64)) (slice_index words (lower_place width j * 8 + r % 512 / 64))) (lt-ltb (r % 512 / 64) 8 (omega arith))
       ∙ shared-rule buckets q (upper_place width j) (lower_place width j) r words is upper lower there agree
 
-  go : (i r : ℕ) → i < j + 1 → r / 4096 ≡ q / 8 → r < 512 * (q + 1) → agrees_at width buckets i r ≡ true → (i ≡ j) ⊎ (i ≡ j → ⊥) → bit (slice_index new i) (r / 64 % 64) ≡ true
+  go : (i r : ℕ) → i < j + 1 → r / 64 / 64 ≡ q / 8 → r < 512 * (q + 1) → agrees_at width buckets i r ≡ true → (i ≡ j) ⊎ (i ≡ j → ⊥) → bit (slice_index new i) (r / 64 % 64) ≡ true
   go i r l e m agree (inl same) =
       let agree_j : agrees_at width buckets j r ≡ true = subst (λ x. agrees_at width buckets x r ≡ true) same agree in
       ap (λ x. bit (slice_index new x) (r / 64 % 64)) same ∙ here r e m agree_j (cases_lt r (512 * q))
@@ -161,84 +161,84 @@ lines-more width bits q j marks buckets words old page new h is upper lower made
     before : i < j + 1 → (i ≡ j → ⊥) → i < j
     before a b = omega arith
 
-pub lines-all : (width bits q j : ℕ) (buckets : List Row) (old page : List ℕ) → bits / 8 * 256 ≤ j → LinesDone width bits q j buckets old page → HasMarks width bits (512 * (q + 1)) buckets (q / 8) page
+pub lines-all : (width bits q j : ℕ) (buckets : List Row) (old page : List ℕ) → bits / 8 * 256 ≤ j → LinesDone width bits q j buckets old page → HasMarks 64 width bits (512 * (q + 1)) buckets (q / 8) page
 lines-all width bits q j buckets old page le so_far = record { long = so_far.long; marks = λ i r h l e agree. so_far.done i r (omega arith) e l agree }
 
 -- ---- pages
 
-pub marks-weaker : (width bits n m p : ℕ) (buckets : List Row) (page : List ℕ) → ((r : ℕ) → r < m → r / 4096 ≡ p → r < n) → HasMarks width bits n buckets p page → HasMarks width bits m buckets p page
-marks-weaker width bits n m p buckets page within has = record { long = has.long; marks = λ j r h l e agree. has.marks j r h (within r l e) e agree }
+pub marks-weaker : (unit width bits n m p : ℕ) (buckets : List Row) (page : List ℕ) → ((r : ℕ) → r < m → r / unit / 64 ≡ p → r < n) → HasMarks unit width bits n buckets p page → HasMarks unit width bits m buckets p page
+marks-weaker unit width bits n m p buckets page within has = record { long = has.long; marks = λ j r h l e agree. has.marks j r h (within r l e) e agree }
 
 -- a page without marks, for no rules
-pub no-marks : (width bits n p : ℕ) (buckets : List Row) (page : List ℕ) → page ≡ replicate (bits / 8 * 256) 0 → n ≤ 4096 * p → HasMarks width bits n buckets p page
-no-marks width bits n p buckets page e le = record { long = ap length e ∙ length-replicate (bits / 8 * 256) 0; marks = λ j r h l same agree. absurd (omega arith) }
+pub no-marks : (unit width bits n p : ℕ) (buckets : List Row) (page : List ℕ) → page ≡ replicate (bits / 8 * 256) 0 → ((r : ℕ) → r < n → r / unit / 64 ≡ p → ⊥) → HasMarks unit width bits n buckets p page
+no-marks unit width bits n p buckets page e none = record { long = ap length e ∙ length-replicate (bits / 8 * 256) 0; marks = λ j r h l same agree. absurd (none r l same) }
 
 -- rules that are behind a page, or before it, are none of its
-pub summed-weaker : (width bits n m : ℕ) (buckets : List Row) (pages : List (PageOf ℕ)) → m ≤ n → IsSummed width bits n buckets pages → IsSummed width bits m buckets pages
-summed-weaker width bits n m buckets pages le summed = record { few = summed.few; each = λ p h. marks-weaker width bits n m p buckets (words_at pages p) (λ r a e. omega arith) (summed.each p h) }
+pub summed-weaker : (unit width bits n m : ℕ) (buckets : List Row) (pages : List (PageOf ℕ)) → m ≤ n → IsSummed unit width bits n buckets pages → IsSummed unit width bits m buckets pages
+summed-weaker unit width bits n m buckets pages le summed = record { few = summed.few; each = λ p h. marks-weaker unit width bits n m p buckets (words_at pages p) (λ r a e. omega arith) (summed.each p h) }
 
 -- eight words more, in the page that has them
-pub summed-more : (width bits q : ℕ) (buckets : List Row) (pages : List (PageOf ℕ)) (page : PageOf ℕ) → q / 8 < length pages → HasMarks width bits (512 * (q + 1)) buckets (q / 8) page.items
-    → IsSummed width bits (512 * q) buckets pages → IsSummed width bits (512 * (q + 1)) buckets (set pages (q / 8) page)
+pub summed-more : (width bits q : ℕ) (buckets : List Row) (pages : List (PageOf ℕ)) (page : PageOf ℕ) → q / 8 < length pages → HasMarks 64 width bits (512 * (q + 1)) buckets (q / 8) page.items
+    → IsSummed 64 width bits (512 * q) buckets pages → IsSummed 64 width bits (512 * (q + 1)) buckets (set pages (q / 8) page)
 summed-more width bits q buckets pages page h has summed = record {
   few = let f = summed.few in omega (arith, length-set pages (q / 8) page);
   each = λ p l. go p (omega (arith, length-set pages (q / 8) page)) (cases_eq p (q / 8));
 } where
-  go : (p : ℕ) → p < length pages → (p ≡ q / 8) ⊎ (p ≡ q / 8 → ⊥) → HasMarks width bits (512 * (q + 1)) buckets p (words_at (set pages (q / 8) page) p)
+  go : (p : ℕ) → p < length pages → (p ≡ q / 8) ⊎ (p ≡ q / 8 → ⊥) → HasMarks 64 width bits (512 * (q + 1)) buckets p (words_at (set pages (q / 8) page) p)
   go p l (inl e) =
       let same : words_at (set pages (q / 8) page) p ≡ page.items = ap (words_at (set pages (q / 8) page)) e ∙ ap (λ (m : PageOf ℕ). m.items) (get_or-set_same pages (q / 8) page _ h) in
-      subst (HasMarks width bits (512 * (q + 1)) buckets p) (sym same) (subst (λ x. HasMarks width bits (512 * (q + 1)) buckets x page.items) (sym e) has)
+      subst (HasMarks 64 width bits (512 * (q + 1)) buckets p) (sym same) (subst (λ x. HasMarks 64 width bits (512 * (q + 1)) buckets x page.items) (sym e) has)
   go p l (inr e) =
-      subst (HasMarks width bits (512 * (q + 1)) buckets p) (sym (ap (λ (m : PageOf ℕ). m.items) (get_or-set_other pages (q / 8) p page _ e)))
-      (marks-weaker width bits (512 * q) (512 * (q + 1)) p buckets (words_at pages p) (λ r a b. omega arith) (summed.each p l))
+      subst (HasMarks 64 width bits (512 * (q + 1)) buckets p) (sym (ap (λ (m : PageOf ℕ). m.items) (get_or-set_other pages (q / 8) p page _ e)))
+      (marks-weaker 64 width bits (512 * q) (512 * (q + 1)) p buckets (words_at pages p) (λ r a b. omega arith) (summed.each p l))
 
 -- eight words for which there is no page
-pub summed-past : (width bits q : ℕ) (buckets : List Row) (pages : List (PageOf ℕ)) → length pages ≤ q / 8 → IsSummed width bits (512 * q) buckets pages → IsSummed width bits (512 * (q + 1)) buckets pages
+pub summed-past : (width bits q : ℕ) (buckets : List Row) (pages : List (PageOf ℕ)) → length pages ≤ q / 8 → IsSummed 64 width bits (512 * q) buckets pages → IsSummed 64 width bits (512 * (q + 1)) buckets pages
 summed-past width bits q buckets pages past summed = record {
   few = summed.few;
-  each = λ p h. marks-weaker width bits (512 * q) (512 * (q + 1)) p buckets (words_at pages p) (λ r a b. omega arith) (summed.each p h);
+  each = λ p h. marks-weaker 64 width bits (512 * q) (512 * (q + 1)) p buckets (words_at pages p) (λ r a b. omega arith) (summed.each p h);
 }
 
-pub pages-push : (width bits n : ℕ) (buckets : List Row) (pages : List (PageOf ℕ)) (page : PageOf ℕ) → length pages < 2 ^ 26 → HasMarks width bits n buckets (length pages) page.items → IsSummed width bits n buckets pages
-    → IsSummed width bits n buckets (pages ++ page ∷ [])
-pages-push width bits n buckets pages page small has summed = record {
+pub pages-push : (unit width bits n : ℕ) (buckets : List Row) (pages : List (PageOf ℕ)) (page : PageOf ℕ) → length pages < 2 ^ 26 → HasMarks unit width bits n buckets (length pages) page.items → IsSummed unit width bits n buckets pages
+    → IsSummed unit width bits n buckets (pages ++ page ∷ [])
+pages-push unit width bits n buckets pages page small has summed = record {
   few = omega (arith, length_push pages page);
   each = λ q h. go q h (cases_lt q (length pages));
 } where
-  go : (q : ℕ) → q < length (pages ++ page ∷ []) → (q < length pages) ⊎ (length pages ≤ q) → HasMarks width bits n buckets q (words_at (pages ++ page ∷ []) q)
-  go q h (inl l) = subst (HasMarks width bits n buckets q) (sym (ap (λ (m : PageOf ℕ). m.items) (get_or_append_left pages (page ∷ []) _ q l))) (summed.each q l)
+  go : (q : ℕ) → q < length (pages ++ page ∷ []) → (q < length pages) ⊎ (length pages ≤ q) → HasMarks unit width bits n buckets q (words_at (pages ++ page ∷ []) q)
+  go q h (inl l) = subst (HasMarks unit width bits n buckets q) (sym (ap (λ (m : PageOf ℕ). m.items) (get_or_append_left pages (page ∷ []) _ q l))) (summed.each q l)
   go q h (inr l) =
       let e : length pages ≡ q = omega (arith, length_push pages page) in
-      subst (HasMarks width bits n buckets q) (sym (ap (λ (m : PageOf ℕ). m.items) (get_or_push pages page _ q e))) (subst (λ x. HasMarks width bits n buckets x page.items) e has)
+      subst (HasMarks unit width bits n buckets q) (sym (ap (λ (m : PageOf ℕ). m.items) (get_or_push pages page _ q e))) (subst (λ x. HasMarks unit width bits n buckets x page.items) e has)
 
 -- a page that is read
-pub page-marks : (width bits n p : ℕ) (buckets : List Row) (pages : List (PageOf ℕ)) (page : PageOf ℕ) → IsSummed width bits n buckets pages → p < length pages → page ≡ get_or pages p page → HasMarks width bits n buckets p page.items
-page-marks width bits n p buckets pages page summed h e = subst (HasMarks width bits n buckets p) (sym (ap (λ (m : PageOf ℕ). m.items) (e ∙ get_or_default pages p page _ h))) (summed.each p h)
+pub page-marks : (unit width bits n p : ℕ) (buckets : List Row) (pages : List (PageOf ℕ)) (page : PageOf ℕ) → IsSummed unit width bits n buckets pages → p < length pages → page ≡ get_or pages p page → HasMarks unit width bits n buckets p page.items
+page-marks unit width bits n p buckets pages page summed h e = subst (HasMarks unit width bits n buckets p) (sym (ap (λ (m : PageOf ℕ). m.items) (e ∙ get_or_default pages p page _ h))) (summed.each p h)
 
-pub summed-none : (width bits n : ℕ) (buckets : List Row) (pages : List (PageOf ℕ)) → pages ≡ [] → IsSummed width bits n buckets pages
-summed-none width bits n buckets pages e = record { few = let l = ap length e in omega arith; each = λ p h. absurd (omega (arith, ap length e)) }
+pub summed-none : (unit width bits n : ℕ) (buckets : List Row) (pages : List (PageOf ℕ)) → pages ≡ [] → IsSummed unit width bits n buckets pages
+summed-none unit width bits n buckets pages e = record { few = let l = ap length e in omega arith; each = λ p h. absurd (omega (arith, ap length e)) }
 
 -- the same pages, whosever they are
-pub summed-same : (width bits n : ℕ) (buckets : List Row) (pages new : List (PageOf ℕ)) → map (λ page. page.items) new ≡ map (λ page. page.items) pages → IsSummed width bits n buckets pages → IsSummed width bits n buckets new
-summed-same width bits n buckets pages new same summed =
+pub summed-same : (unit width bits n : ℕ) (buckets : List Row) (pages new : List (PageOf ℕ)) → map (λ page. page.items) new ≡ map (λ page. page.items) pages → IsSummed unit width bits n buckets pages → IsSummed unit width bits n buckets new
+summed-same unit width bits n buckets pages new same summed =
     let l = copied-length new pages same in
     record {
       few = let f = summed.few in omega arith;
-      each = λ p h. subst (HasMarks width bits n buckets p) (sym (same-words pages new same p)) (summed.each p (omega arith));
+      each = λ p h. subst (HasMarks unit width bits n buckets p) (sym (same-words pages new same p)) (summed.each p (omega arith));
     }
 
 -- ---- a table that changes
 
 -- the marks of rules that stay
-pub summed-kept : (width bits n m : ℕ) (old new : List Row) (pages : List (PageOf ℕ)) → m ≤ n → KeepsCells m old new → IsSummed width bits n old pages → IsSummed width bits m new pages
-summed-kept width bits n m old new pages le kept summed = record {
+pub summed-kept : (unit width bits n m : ℕ) (old new : List Row) (pages : List (PageOf ℕ)) → m ≤ n → KeepsCells m old new → IsSummed unit width bits n old pages → IsSummed unit width bits m new pages
+summed-kept unit width bits n m old new pages le kept summed = record {
   few = summed.few;
   each = λ p h. one p (summed.each p h);
 } where
   two : (a b c d : Bool) → a ≡ b → c ≡ d → (a && c) ≡ (b && d)
   two a b c d x y = cc
 
-  one : (p : ℕ) → HasMarks width bits n old p (words_at pages p) → HasMarks width bits m new p (words_at pages p)
+  one : (p : ℕ) → HasMarks unit width bits n old p (words_at pages p) → HasMarks unit width bits m new p (words_at pages p)
   one p has = record {
     long = has.long;
     marks = λ j r h l e agree.
@@ -318,12 +318,12 @@ every-weaker p q (suc n) each h =
 pub eight-groups : (width bits : ℕ) → IsWidth width bits → IsWidth 8 bits
 eight-groups width bits w = record { fours = refl; four = omega arith; eight = omega arith; bytes = w.bytes; some = w.some; most = w.most }
 
--- a rule that holds the value is in a word that is marked for each of its bytes
-pub holds-marked : (width bits rules p value r : ℕ) (buckets : List Row) (page : List ℕ) (blocks : List Block) → IsWidth width bits → value < 2 ^ bits → StandsFor width bits rules buckets blocks
-    → HasMarks width bits rules buckets p page → r < rules → r / 4096 ≡ p → holds_value (block_at blocks r) value ≡ true → is_candidate bits page value (r / 64 % 64) ≡ true
-holds-marked width bits rules p value r buckets page blocks w small stands has h e holds =
+-- a rule that holds the value has a mark for each of its bytes
+pub holds-marked : (unit width bits rules p value r : ℕ) (buckets : List Row) (page : List ℕ) (blocks : List Block) → IsWidth width bits → value < 2 ^ bits → StandsFor width bits rules buckets blocks
+    → HasMarks unit width bits rules buckets p page → r < rules → r / unit / 64 ≡ p → holds_value (block_at blocks r) value ≡ true → is_candidate bits page value (r / unit % 64) ≡ true
+holds-marked unit width bits rules p value r buckets page blocks w small stands has h e holds =
     let fits : IsWithin bits (block_at blocks r) = All-get_or (IsWithin bits) blocks r (record { base = 0; free_bits = 0 }) (let s = stands.one_each in omega arith) stands.within in
-    every-weaker (λ g. agrees 8 bits (block_at blocks r) g (group 8 bits g value)) (λ g. bit (slice_index page (g * 256 + group 8 bits g value)) (r / 64 % 64)) (bits / 8)
+    every-weaker (λ g. agrees 8 bits (block_at blocks r) g (group 8 bits g value)) (λ g. bit (slice_index page (g * 256 + group 8 bits g value)) (r / unit % 64)) (bits / 8)
     (λ g l agree.
     let v = group-below 8 bits g value in
     has.marks (g * 2 ^ 8 + group 8 bits g value) r (omega (arith, v)) h e (agrees-at width bits rules g (group 8 bits g value) r buckets blocks w stands l v h ∙ agree))
@@ -333,24 +333,23 @@ not-true : (b : Bool) → (b ≡ true → ⊥) → b ≡ false
 not-true true h = absurd (h refl)
 not-true false h = refl
 
--- so one that isn't marked holds none
-pub leaves-none : (width bits rules p value r k candidates words marked : ℕ) (buckets : List Row) (page : List ℕ) (blocks : List Block) → IsWidth width bits → value < 2 ^ bits
-    → StandsFor width bits rules buckets blocks → HasMarks width bits rules buckets p page
-    → bit candidates k ≡ (bit words k && bit marked k) → bit words k ≡ nat_lt (64 * (64 * p + k)) rules → bit marked k ≡ is_candidate bits page value k
-    → k < 64 → bit candidates k ≡ false → r < rules → r / 64 ≡ 64 * p + k → holds_value (block_at blocks r) value ≡ false
-leaves-none width bits rules p value r k candidates words marked buckets page blocks w small stands has both all mark l unset h at_word = not-true _ no where
+-- so one without a mark holds none
+pub leaves-none : (unit width bits rules p value r k candidates words marked : ℕ) (buckets : List Row) (page : List ℕ) (blocks : List Block) → IsWidth width bits → value < 2 ^ bits
+    → StandsFor width bits rules buckets blocks → HasMarks unit width bits rules buckets p page
+    → bit candidates k ≡ (bit words k && bit marked k) → bit words k ≡ true → (is_candidate bits page value k ≡ true → bit marked k ≡ true)
+    → k < 64 → bit candidates k ≡ false → r < rules → r / unit ≡ 64 * p + k → holds_value (block_at blocks r) value ≡ false
+leaves-none unit width bits rules p value r k candidates words marked buckets page blocks w small stands has both there mark l unset h at_word = not-true _ no where
   no : holds_value (block_at blocks r) value ≡ true → ⊥
   no holds =
-      let here : r / 64 % 64 ≡ k = omega arith in
-      let page_of : r / 4096 ≡ p = omega arith in
-      let one : is_candidate bits page value k ≡ true = subst (λ x. is_candidate bits page value x ≡ true) here (holds-marked width bits rules p value r buckets page blocks w small stands has h page_of holds) in
-      let there : nat_lt (64 * (64 * p + k)) rules ≡ true = lt-ltb (64 * (64 * p + k)) rules (omega arith) in
-      let a : (bit words k && bit marked k) ≡ true = ap (λ t. t && bit marked k) (all ∙ there) ∙ mark ∙ one in
+      let here : r / unit % 64 ≡ k = rw at_word (omega arith) in
+      let page_of : r / unit / 64 ≡ p = rw at_word (omega arith) in
+      let one : is_candidate bits page value k ≡ true = subst (λ x. is_candidate bits page value x ≡ true) here (holds-marked unit width bits rules p value r buckets page blocks w small stands has h page_of holds) in
+      let a : (bit words k && bit marked k) ≡ true = ap (λ t. t && bit marked k) there ∙ mark one in
       let b : false ≡ true = sym unset ∙ both ∙ a in
       absurd (cc b)
 
-pub words-within : (rules p k words marked : ℕ) → bit words k ≡ nat_lt (64 * (64 * p + k)) rules → bit (bit_and words marked) k ≡ true → 64 * (64 * p + k) < rules
-words-within rules p k words marked all set = ltb-true (64 * (64 * p + k)) rules (sym all ∙ (and_parts (bit words k) (bit marked k) (sym (bit-and words marked k) ∙ set)).0)
+pub words-within : (n rules k words marked : ℕ) → bit words k ≡ nat_lt n rules → bit (bit_and words marked) k ≡ true → n < rules
+words-within n rules k words marked all set = ltb-true n rules (sym all ∙ (and_parts (bit words k) (bit marked k) (sym (bit-and words marked k) ∙ set)).0)
 
 -- ---- rules that are added
 
@@ -364,8 +363,8 @@ keeps-both old pages new first second = record {
   marks = λ p j i h. second.marks p j i (first.marks p j i h);
 }
 
-pub no-page : (bits r : ℕ) (block : Block) (pages : List (PageOf ℕ)) → length pages ≤ r / 4096 → IsRuleMarked bits block r pages
-no-page bits r block pages past = record { set = λ g v h k a inside. absurd (omega arith) }
+pub no-page : (bits m : ℕ) (block : Block) (pages : List (PageOf ℕ)) → length pages ≤ m / 64 → IsMarkSet bits block m pages
+no-page bits m block pages past = record { set = λ g v h k a inside. absurd (omega arith) }
 
 -- a page that is marked
 pub keeps-page : (bits k p : ℕ) (block : Block) (pages : List (PageOf ℕ)) (page new : PageOf ℕ) → p < length pages → page ≡ get_or pages p page → IsBlockMarked bits block k page.items new.items → KeepsMarks pages (set pages p new)
@@ -391,11 +390,11 @@ keeps-page bits k p block pages page new h e marked = record {
   marks q j i m (inl same) = ap (λ x. bit (slice_index x j) i) (there q same) ∙ marked.kept.marks j i (ap (λ x. bit (slice_index x j) i) (sym (before q same)) ∙ m)
   marks q j i m (inr differs) = ap (λ x. bit (slice_index x j) i) (other q differs) ∙ m
 
-pub page-marked : (bits r p : ℕ) (block : Block) (pages : List (PageOf ℕ)) (page new : PageOf ℕ) → p ≡ r / 4096 → p < length pages → IsBlockMarked bits block (r / 64 % 64) page.items new.items → IsRuleMarked bits block r (set pages p new)
-page-marked bits r p block pages page new e h marked = record {
+pub page-marked : (bits m p : ℕ) (block : Block) (pages : List (PageOf ℕ)) (page new : PageOf ℕ) → p ≡ m / 64 → p < length pages → IsBlockMarked bits block (m % 64) page.items new.items → IsMarkSet bits block m (set pages p new)
+page-marked bits m p block pages page new e h marked = record {
   set = λ g v a b agree inside.
-      let there : words_at (set pages p new) (r / 4096) ≡ new.items = ap (words_at (set pages p new)) (sym e) ∙ ap (λ (m : PageOf ℕ). m.items) (get_or-set_same pages p new _ h) in
-      ap (λ x. bit (slice_index x (g * 256 + v)) (r / 64 % 64)) there ∙ marked.set g v a b agree;
+      let there : words_at (set pages p new) (m / 64) ≡ new.items = ap (words_at (set pages p new)) (sym e) ∙ ap (λ (m : PageOf ℕ). m.items) (get_or-set_same pages p new _ h) in
+      ap (λ x. bit (slice_index x (g * 256 + v)) (m % 64)) there ∙ marked.set g v a b agree;
 }
 
 pub pages-page : (bits : ℕ) (old new : List (PageOf ℕ)) → KeepsMarks old new → ArePages bits old → ArePages bits new
@@ -404,25 +403,25 @@ pages-page bits old new kept are = record { each = λ p h. let l = kept.long in 
 pub page-is : (bits : ℕ) (pages : List (PageOf ℕ)) (p : ℕ) (page : PageOf ℕ) → p < length pages → page ≡ get_or pages p page → ArePages bits pages → IsPage8 bits page.items
 page-is bits pages p page h e are = subst (IsPage8 bits) (sym (ap (λ (m : PageOf ℕ). m.items) (e ∙ get_or_default pages p page _ h))) (are.each p h)
 
-pub rules-none : (bits first : ℕ) (blocks : List Block) (pages : List (PageOf ℕ)) → AreRulesMarked bits first 0 blocks pages
-rules-none bits first blocks pages = record { each = λ i h. absurd (omega arith) }
+pub rules-none : (unit bits first : ℕ) (blocks : List Block) (pages : List (PageOf ℕ)) → AreRulesMarked unit bits first 0 blocks pages
+rules-none unit bits first blocks pages = record { each = λ i h. absurd (omega arith) }
 
-pub rules-more : (bits first n : ℕ) (d : Block) (blocks : List Block) (pages new : List (PageOf ℕ)) → n < length blocks → KeepsMarks pages new → IsRuleMarked bits (get_or blocks n d) (first + n) new
-    → AreRulesMarked bits first n blocks pages → AreRulesMarked bits first (n + 1) blocks new
-rules-more bits first n d blocks pages new within kept marked so_far = record { each = λ i h. go i h (cases_eq i n) } where
+pub rules-more : (unit bits first n : ℕ) (d : Block) (blocks : List Block) (pages new : List (PageOf ℕ)) → n < length blocks → KeepsMarks pages new → IsMarkSet bits (get_or blocks n d) ((first + n) / unit) new
+    → AreRulesMarked unit bits first n blocks pages → AreRulesMarked unit bits first (n + 1) blocks new
+rules-more unit bits first n d blocks pages new within kept marked so_far = record { each = λ i h. go i h (cases_eq i n) } where
   same : get_or blocks n d ≡ block_at blocks n
   same = get_or_default blocks n d (record { base = 0; free_bits = 0 }) within
 
-  go : (i : ℕ) → i < n + 1 → (i ≡ n) ⊎ (i ≡ n → ⊥) → IsRuleMarked bits (block_at blocks i) (first + i) new
-  go i h (inl e) = subst (λ x. IsRuleMarked bits (block_at blocks x) (first + x) new) (sym e) (subst (λ b. IsRuleMarked bits b (first + n) new) same marked)
+  go : (i : ℕ) → i < n + 1 → (i ≡ n) ⊎ (i ≡ n → ⊥) → IsMarkSet bits (block_at blocks i) ((first + i) / unit) new
+  go i h (inl e) = subst (λ x. IsMarkSet bits (block_at blocks x) ((first + x) / unit) new) (sym e) (subst (λ b. IsMarkSet bits b ((first + n) / unit) new) same marked)
   go i h (inr e) = record {
-    set = λ g v a b agree inside. kept.marks ((first + i) / 4096) (g * 256 + v) ((first + i) / 64 % 64) ((so_far.each i (before h e)).set g v a b agree (let l = kept.long in omega arith));
+    set = λ g v a b agree inside. kept.marks ((first + i) / unit / 64) (g * 256 + v) ((first + i) / unit % 64) ((so_far.each i (before h e)).set g v a b agree (let l = kept.long in omega arith));
   } where
     before : i < n + 1 → (i ≡ n → ⊥) → i < n
     before a b = omega arith
 
-pub summed-pages : (width bits n : ℕ) (buckets : List Row) (pages : List (PageOf ℕ)) → IsSummed width bits n buckets pages → ArePages bits pages
-summed-pages width bits n buckets pages summed = record { each = λ p h. record { long = (summed.each p h).long } }
+pub summed-pages : (unit width bits n : ℕ) (buckets : List Row) (pages : List (PageOf ℕ)) → IsSummed unit width bits n buckets pages → ArePages bits pages
+summed-pages unit width bits n buckets pages summed = record { each = λ p h. record { long = (summed.each p h).long } }
 
 -- no rule of raised rows is set
 pub fresh-raised : (width bits rules n : ℕ) (old new : List Row) → IsShaped width bits rules old → Each (IsRaised n) old new → IsFresh rules new
@@ -464,25 +463,25 @@ new-agrees width bits first n j r blocks new w only h low agree = go (eight-or-f
   go (inr e) = narrow (subst (λ x. HasOnly x bits first n blocks new) e only) (subst (λ x. agrees_at x new j r ≡ true) e agree)
 
 -- the summary with the rules that are added
-pub summed-added : (width bits first n : ℕ) (blocks : List Block) (old new : List Row) (pages marked : List (PageOf ℕ)) → IsWidth width bits → IsSummed width bits first old pages → KeepsCells first old new
-    → HasOnly width bits first n blocks new → KeepsMarks pages marked → AreRulesMarked bits first n blocks marked → IsSummed width bits (first + n) new marked
-summed-added width bits first n blocks old new pages marked w summed cells only kept rules = record {
+pub summed-added : (unit width bits first n : ℕ) (blocks : List Block) (old new : List Row) (pages marked : List (PageOf ℕ)) → IsWidth width bits → IsSummed unit width bits first old pages → KeepsCells first old new
+    → HasOnly width bits first n blocks new → KeepsMarks pages marked → AreRulesMarked unit bits first n blocks marked → IsSummed unit width bits (first + n) new marked
+summed-added unit width bits first n blocks old new pages marked w summed cells only kept rules = record {
   few = let l = kept.long in let f = summed.few in omega arith;
   each = λ p h. let l = kept.long in one p h (summed.each p (omega arith));
 } where
   two : (a b c d : Bool) → a ≡ b → c ≡ d → (a && c) ≡ (b && d)
   two a b c d x y = cc
 
-  one : (p : ℕ) → p < length marked → HasMarks width bits first old p (words_at pages p) → HasMarks width bits (first + n) new p (words_at marked p)
+  one : (p : ℕ) → p < length marked → HasMarks unit width bits first old p (words_at pages p) → HasMarks unit width bits (first + n) new p (words_at marked p)
   one p h has = record { long = kept.sizes p ∙ has.long; marks = λ j r a b e agree. go j r a b e agree (cases_lt r first) } where
-    go : (j r : ℕ) → j < bits / 8 * 256 → r < first + n → r / 4096 ≡ p → agrees_at width new j r ≡ true → (r < first) ⊎ (first ≤ r) → bit (slice_index (words_at marked p) j) (r / 64 % 64) ≡ true
+    go : (j r : ℕ) → j < bits / 8 * 256 → r < first + n → r / unit / 64 ≡ p → agrees_at width new j r ≡ true → (r < first) ⊎ (first ≤ r) → bit (slice_index (words_at marked p) j) (r / unit % 64) ≡ true
     go j r a b e agree (inl l) =
-        kept.marks p j (r / 64 % 64) (has.marks j r a l e (sym (two _ _ _ _ (cells.cells (upper_place width j) r l) (cells.cells (lower_place width j) r l)) ∙ agree))
+        kept.marks p j (r / unit % 64) (has.marks j r a l e (sym (two _ _ _ _ (cells.cells (upper_place width j) r l) (cells.cells (lower_place width j) r l)) ∙ agree))
     go j r a b e agree (inr l) =
         let i : first + (r - first) ≡ r = omega arith in
         let whole : j / 256 * 256 + j % 256 ≡ j = omega arith in
-        let inside : (first + (r - first)) / 4096 < length marked = rw (i, e) h in
+        let inside : (first + (r - first)) / unit / 64 < length marked = rw (i, e) h in
         let set = (rules.each (r - first) (omega arith)).set (j / 256) (j % 256) (omega arith) (omega arith) (new-agrees width bits first n j r blocks new w only a l agree) inside in
-        ap (λ x. bit (slice_index (words_at marked p) x) (r / 64 % 64)) (sym whole)
-        ∙ ap (λ x. bit (slice_index (words_at marked x) (j / 256 * 256 + j % 256)) (r / 64 % 64)) (sym e)
-        ∙ ap (λ x. bit (slice_index (words_at marked (x / 4096)) (j / 256 * 256 + j % 256)) (x / 64 % 64)) (sym i) ∙ set
+        ap (λ x. bit (slice_index (words_at marked p) x) (r / unit % 64)) (sym whole)
+        ∙ ap (λ x. bit (slice_index (words_at marked x) (j / 256 * 256 + j % 256)) (r / unit % 64)) (sym e)
+        ∙ ap (λ x. bit (slice_index (words_at marked (x / unit / 64)) (j / 256 * 256 + j % 256)) (x / unit % 64)) (sym i) ∙ set

@@ -1,5 +1,5 @@
 -- Words of pages that are written over one by one, and what becomes of the rows.
-use Rattle.std.proofs.Common.{◌≡◌, refl, sym, ◌∙◌, ap, ℕ, zero, suc, ◌+◌, ◌-◌, ◌*◌, ◌/◌, ◌%◌, ◌<◌, ◌≤◌, ◌⊎◌, inl, inr, [], ◌∷◌, ◌++◌, Bool, true, false, cond, ◌&&◌, ◌||◌, nat_le, nat_lt, List, length, get_or, take, drop, set, replicate, arith}
+use Rattle.std.proofs.Common.{◌≡◌, refl, sym, ◌∙◌, ap, ℕ, zero, suc, ◌+◌, ◌-◌, ◌*◌, ◌/◌, ◌%◌, ◌<◌, ◌≤◌, ◌⊎◌, inl, inr, [], ◌∷◌, Bool, true, false, cond, ◌&&◌, ◌||◌, nat_lt, List, length, get_or, take, drop, set, replicate, arith}
 use Rattle.std.specs.Prelude.{slice_index}
 use Rattle.std.proofs.lemmas.Bool.{cases_lt, cases_eq, lt-ltb, le-ltb, le-leb, lt-leb, cond-true, cond-false}
 use Rattle.std.proofs.lemmas.List.{get_or-set_same, get_or-set_other, length-set, get_or_default, get_or_past, ext_get_or, length-append, length-take, length-drop, length-replicate, get_or-replicate}
@@ -7,8 +7,8 @@ use Rattle.bit_rows.specs.Row.{Row, at, bit, both, either, without_run, IsPut as
 use Rattle.bit_rows.proofs.Rows.{at-both, length-both, at-either, length-either}
 use Rattle.shared_pages.specs.Paged.{PageOf, owns_of}
 use Rattle.lookup_table.specs.Table.{bucket_at, cell}
-use Rattle.lookup_table.specs.Rows.{Each, IsClosedUp, IsSameSize, IsPut}
-use Rattle.lookup_table.specs.Lines.{words_at, line_bit, line, rows_of, IsPageOf, AreLines, HasLine, IsAlike, IsWritten, IsLinePut, closed_bit, IsWordClosed, AreClosed}
+use Rattle.lookup_table.specs.Rows.{Each, IsClosedUp, IsPut}
+use Rattle.lookup_table.specs.Lines.{words_at, line_bit, line, rows_of, AreLines, HasLine, IsAlike, IsWritten, IsLinePut, closed_bit, IsWordClosed, AreClosed}
 use Rattle.lookup_table.proofs.LineLaws.{own-there, rows-length, row-at, line-length, line-spare, line-within, bit-read, word-read, sized-lines, bits-equal}
 use Rattle.lookup_table.proofs.RowsLaws.{cell-is}
 use Rattle.lookup_table.proofs.RuleLaws.{at-without}
@@ -205,7 +205,7 @@ word-before pages first n p x h = record {
 }
 
 pub word-closed : (first n p x before moved word low : ℕ) (old new : List (PageOf ℕ)) → IsWritten p x word old new → first / 64 ≤ p * 8 + x % 8 → low ≡ first - 64 * (p * 8 + x % 8)
-    → before ≡ slice_index (words_at old ((p * 8 + x % 8) / 8)) (x / 8 * 8 + (p * 8 + x % 8) % 8)
+    → before ≡ slice_index (words_at old p) x
     → ((k : ℕ) → k < 64 → bit moved k ≡ line_bit old (x / 8) (64 * (p * 8 + x % 8) + n + k)) → ((k : ℕ) → k < 64 → bit word k ≡ cond (nat_lt k low) (bit before k) (bit moved k)) → IsWordClosed first n p x old new
 word-closed first n p x before moved word low old new w above e was reads made = record {
   alike = w.alike;
@@ -215,7 +215,10 @@ word-closed first n p x before moved word low old new w above e was reads made =
   go : (k : ℕ) → k < 64 → (64 * (p * 8 + x % 8) + k < first) ⊎ (first ≤ 64 * (p * 8 + x % 8) + k) → cond (nat_lt k low) (bit before k) (bit moved k) ≡ closed_bit old first n (x / 8) (512 * p + 64 * (x % 8) + k)
   go k h (inl l) =
       let i : 64 * (p * 8 + x % 8) + k ≡ 512 * p + 64 * (x % 8) + k = omega arith in
-      cond-true _ (bit before k) (bit moved k) (lt-ltb k low (omega arith)) ∙ ap (λ v. bit v k) was ∙ sym (word-read old (x / 8) (p * 8 + x % 8) k h) ∙ ap (line_bit old (x / 8)) i
+      let page : (p * 8 + x % 8) / 8 ≡ p = omega arith in
+      let word_is : x / 8 * 8 + (p * 8 + x % 8) % 8 ≡ x = omega arith in
+      let there : before ≡ slice_index (words_at old ((p * 8 + x % 8) / 8)) (x / 8 * 8 + (p * 8 + x % 8) % 8) = rw (page, word_is) was in
+      cond-true _ (bit before k) (bit moved k) (lt-ltb k low (omega arith)) ∙ ap (λ v. bit v k) there ∙ sym (word-read old (x / 8) (p * 8 + x % 8) k h) ∙ ap (line_bit old (x / 8)) i
       ∙ sym (closed-before old first n (x / 8) (512 * p + 64 * (x % 8) + k) (omega arith))
   go k h (inr l) =
       let i : 64 * (p * 8 + x % 8) + n + k ≡ 512 * p + 64 * (x % 8) + k + n = omega arith in

@@ -7,7 +7,7 @@ use Rattle.lookup_table.specs.declared.table.FieldTable.{FieldTable}
 use Rattle.lookup_table.specs.Table.{block_at}
 use Rattle.lookup_table.specs.Rules.{Stands}
 
--- A word of rules, of the 64 from word 64 * p on, that is no candidate has no rule which holds the value.
-abbrev pub LeavesNone : FieldTable → ℕ → ℕ → ℕ → Type 0
-LeavesNone t value p candidates = (blocks : List Block) → Stands t blocks
-    → (k r : ℕ) → k < 64 → bit candidates k ≡ false → r < t.rules → r / 64 ≡ 64 * p + k → holds_value (block_at blocks r) value ≡ false
+-- Words of `unit` rules, of the 64 from word 64 * p on, that are no candidates have no rule which holds the value.
+abbrev pub LeavesNone : FieldTable → ℕ → ℕ → ℕ → ℕ → Type 0
+LeavesNone t value unit p candidates = (blocks : List Block) → Stands t blocks
+    → (k r : ℕ) → k < 64 → bit candidates k ≡ false → r < t.rules → r / unit ≡ 64 * p + k → holds_value (block_at blocks r) value ≡ false

@@ -1,5 +1,5 @@
 -- Buckets in pages of 512 rules that copies share.
-use Rattle.std.specs.Prelude.{◌≡◌, ℕ, ◌+◌, ◌-◌, ◌*◌, ◌/◌, ◌%◌, ◌^◌, ◌<◌, ◌≤◌, Bool, true, false, cond, ◌&&◌, ◌||◌, ◌==◌, nat_le, nat_lt, List, [], length, get_or, map, replicate, slice_index, All}
+use Rattle.std.specs.Prelude.{◌≡◌, ℕ, ◌+◌, ◌-◌, ◌*◌, ◌/◌, ◌%◌, ◌^◌, ◌<◌, ◌≤◌, Bool, true, false, cond, ◌&&◌, ◌||◌, ◌==◌, nat_le, List, [], length, get_or, map, slice_index, All}
 use Rattle.std.specs.List.{range_with_len}
 use Rattle.bit_rows.specs.Row.{Row, at, bit, lies}
 use Rattle.shared_pages.specs.Paged.{PageOf, owns_of}

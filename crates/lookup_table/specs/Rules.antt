@@ -21,16 +21,19 @@ pub record IsSameField (old new : FieldTable) : Type 0 where
 pub record IsOwn (from to : ℕ) (t : FieldTable) : Type 0 where
   pub rows : (r : ℕ) → from ≤ r → r < to → get_or t.buckets.own (r / 512) true ≡ true
   pub marks : (r : ℕ) → from ≤ r → r < to → get_or (owns_of t.pages.items) (r / 4096) true ≡ true
+  pub tops : (r : ℕ) → from ≤ r → r < to → get_or (owns_of t.tops.items) (r / 262144) true ≡ true
 
 -- No page is the table's own: a copy takes a count for each.
 pub record IsShared (t : FieldTable) : Type 0 where
   pub rows : IsCommon t.buckets.own
   pub marks : IsCommon (owns_of t.pages.items)
+  pub tops : IsCommon (owns_of t.tops.items)
 
 -- A page is the new table's own where it was the old one's.
 pub record IsAsOwn (old new : FieldTable) : Type 0 where
   pub rows : new.buckets.own ≡ old.buckets.own
   pub marks : owns_of new.pages.items ≡ owns_of old.pages.items
+  pub tops : owns_of new.tops.items ≡ owns_of old.tops.items
 
 -- The new table stands for each list of blocks that the old one stands for.
 abbrev pub KeepsRules : FieldTable → FieldTable → Type 0

@@ -1,4 +1,5 @@
--- The summary of a table: for each value of each byte, the words of 64 rules with one that agrees.
+-- The summary of a table: for each value of each byte, the words of 64 rules with one that agrees, and the
+-- pages of 64 words with one that does.
 use Rattle.std.specs.Prelude.{◌≡◌, ℕ, ◌+◌, ◌*◌, ◌/◌, ◌%◌, ◌^◌, ◌<◌, ◌≤◌, Bool, true, cond, ◌&&◌, ◌==◌, List, length, slice_index}
 use Rattle.set_model.specs.declared.block.Block.{Block}
 use Rattle.bit_rows.specs.Row.{Row, bit}
@@ -20,19 +21,19 @@ lower_place width j = cond (width == 8) j (bucket_place 4 (2 * (j / 2 ^ 8) + 1) 
 abbrev pub agrees_at : ℕ → List Row → ℕ → ℕ → Bool
 agrees_at width buckets j r = cell buckets (upper_place width j) r && cell buckets (lower_place width j) r
 
--- Page p, of the words from word 64 * p on, has a mark for each rule below n in each line with which the rule agrees.
-pub record HasMarks (width bits n : ℕ) (buckets : List Row) (p : ℕ) (page : List ℕ) : Type 0 where
+-- Page p of marks, each of which stands for `unit` rules, has one for each rule below n in each line with which the rule agrees.
+pub record HasMarks (unit width bits n : ℕ) (buckets : List Row) (p : ℕ) (page : List ℕ) : Type 0 where
   pub long : length page ≡ bits / 8 * 256
-  pub marks : (j r : ℕ) → j < bits / 8 * 256 → r < n → r / 4096 ≡ p → agrees_at width buckets j r ≡ true → bit (slice_index page j) (r / 64 % 64) ≡ true
+  pub marks : (j r : ℕ) → j < bits / 8 * 256 → r < n → r / unit / 64 ≡ p → agrees_at width buckets j r ≡ true → bit (slice_index page j) (r / unit % 64) ≡ true
 
 -- Each page has one line for each byte and value.
 pub record ArePages (bits : ℕ) (pages : List (PageOf ℕ)) : Type 0 where
   pub each : (p : ℕ) → p < length pages → IsPage bits (words_at pages p)
 
 -- Each page has the marks of the first n rules. Of the rules behind the last page nothing is said.
-pub record IsSummed (width bits n : ℕ) (buckets : List Row) (pages : List (PageOf ℕ)) : Type 0 where
+pub record IsSummed (unit width bits n : ℕ) (buckets : List Row) (pages : List (PageOf ℕ)) : Type 0 where
   pub few : length pages ≤ 2 ^ 26
-  pub each : (p : ℕ) → p < length pages → HasMarks width bits n buckets p (words_at pages p)
+  pub each : (p : ℕ) → p < length pages → HasMarks unit width bits n buckets p (words_at pages p)
 
 -- What is marked stays marked.
 pub record KeepsMarks (old new : List (PageOf ℕ)) : Type 0 where
@@ -40,10 +41,30 @@ pub record KeepsMarks (old new : List (PageOf ℕ)) : Type 0 where
   pub sizes : (p : ℕ) → length (words_at new p) ≡ length (words_at old p)
   pub marks : (p j i : ℕ) → bit (slice_index (words_at old p) j) i ≡ true → bit (slice_index (words_at new p) j) i ≡ true
 
--- Rule r is marked in each line whose value agrees with the block, where there is its page.
-pub record IsRuleMarked (bits : ℕ) (block : Block) (r : ℕ) (pages : List (PageOf ℕ)) : Type 0 where
-  pub set : (g v : ℕ) → g < bits / 8 → v < 256 → agrees 8 bits block g v ≡ true → r / 4096 < length pages → bit (slice_index (words_at pages (r / 4096)) (g * 256 + v)) (r / 64 % 64) ≡ true
+-- Mark m is set in each line whose value agrees with the block, where there is its page.
+pub record IsMarkSet (bits : ℕ) (block : Block) (m : ℕ) (pages : List (PageOf ℕ)) : Type 0 where
+  pub set : (g v : ℕ) → g < bits / 8 → v < 256 → agrees 8 bits block g v ≡ true → m / 64 < length pages → bit (slice_index (words_at pages (m / 64)) (g * 256 + v)) (m % 64) ≡ true
 
--- So are the n rules of the first n blocks, from rule `first` on.
-pub record AreRulesMarked (bits first n : ℕ) (blocks : List Block) (pages : List (PageOf ℕ)) : Type 0 where
-  pub each : (i : ℕ) → i < n → IsRuleMarked bits (block_at blocks i) (first + i) pages
+-- So are the marks of the n rules of the first n blocks, from rule `first` on.
+pub record AreRulesMarked (unit bits first n : ℕ) (blocks : List Block) (pages : List (PageOf ℕ)) : Type 0 where
+  pub each : (i : ℕ) → i < n → IsMarkSet bits (block_at blocks i) ((first + i) / unit) pages
+
+-- A top has the mark of page p in each line in which the page has one, or in all lines where the page isn't
+-- there. The marks of the other pages stand.
+pub record IsRenewed (p : ℕ) (pages : List (PageOf ℕ)) (old new : List ℕ) : Type 0 where
+  pub long : length new ≡ length old
+  pub mark : (j i : ℕ) → j < length new → i < 64 → (p < length pages → bit (slice_index (words_at pages p) j) i ≡ true) → bit (slice_index new j) (p % 64) ≡ true
+  pub others : (j k : ℕ) → k < 64 → (k ≡ p % 64 → ⊥) → bit (slice_index old j) k ≡ true → bit (slice_index new j) k ≡ true
+
+-- The tops have the marks of the pages from page `from` up to page `to` in each line in which the page has
+-- one, and of a page that isn't there in all lines. The marks of the pages before them stand.
+pub record AreRenewed (from to : ℕ) (pages old new : List (PageOf ℕ)) : Type 0 where
+  pub long : length new ≡ length old
+  pub sizes : (q : ℕ) → length (words_at new q) ≡ length (words_at old q)
+  pub marks : (p j i : ℕ) → from ≤ p → p < to → p / 64 < length new → j < length (words_at new (p / 64)) → i < 64 → (p < length pages → bit (slice_index (words_at pages p) j) i ≡ true)
+      → bit (slice_index (words_at new (p / 64)) j) (p % 64) ≡ true
+  pub before : (p j : ℕ) → p < from → bit (slice_index (words_at old (p / 64)) j) (p % 64) ≡ true → bit (slice_index (words_at new (p / 64)) j) (p % 64) ≡ true
+
+-- Where the pages have the marks of all rules, the new tops have them as the old ones do.
+abbrev pub KeepsTops : ℕ → ℕ → List (PageOf ℕ) → List (PageOf ℕ) → List (PageOf ℕ) → Type 0
+KeepsTops bits rules pages old new = (width : ℕ) (buckets : List Row) → IsSummed 64 width bits rules buckets pages → IsSummed 4096 width bits rules buckets old → IsSummed 4096 width bits rules buckets new

@@ -12,6 +12,7 @@ mod summary;
 mod table;
 #[cfg(test)]
 mod tests;
+mod tops;
 mod widths;
 
 pub use laws::held_by_buckets;

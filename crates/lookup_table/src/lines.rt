@@ -308,8 +308,18 @@ fn word_of(pages: &[Page<u64>], j: usize, i: usize) -> u64
     if page >= pages.len() {
         return 0;
     }
-    let page = &pages[page];
-    page.as_slice()[j * WORDS + i % WORDS]
+    word_at(pages, page, j * WORDS + i % WORDS)
+}
+
+/// Word `x` of page `p`.
+#[inline(always)]
+fn word_at(pages: &[Page<u64>], p: usize, x: usize) -> u64
+    requires page { p < length pages.now }
+    requires word { x < length (words_at pages.now p) }
+    ensures { result ≡ slice_index (words_at pages.now p) x }
+{
+    let page = &pages[p];
+    page.as_slice()[x]
 }
 
 /// Writes over word `x` of page `p`, which is the list's own.
@@ -400,14 +410,31 @@ fn close_word(pages: &mut Vec<Page<u64>>, p: usize, x: usize, first: usize, n: u
     requires own { get_or (owns_of pages.old.items) p true ≡ true }
     ensures { IsWordClosed first n p x pages.old.items pages.new.items }
 {
-    let (j, i) = (x / WORDS, p * WORDS + x % WORDS);
+    let i = p * WORDS + x % WORDS;
     if i < first / 64 {
         return;
     }
-    let before = word_of(pages.as_slice(), j, i);
-    let moved = word_from(pages.as_slice(), j, 64 * i + n);
+    let before = word_at(pages.as_slice(), p, x);
+    let moved = moved_word(pages.as_slice(), p, x, n);
     let low = first.saturating_sub(64 * i);
     write_word(pages, p, x, merged(before, moved, low as u32));
+}
+
+/// The 64 places of the line of word `x` of page `p` that stand `n` places behind those of this word.
+#[inline(always)]
+fn moved_word(pages: &[Page<u64>], p: usize, x: usize, n: usize) -> u64
+    requires line { HasLine (x / 8) pages.now }
+    requires page { p < length pages.now }
+    requires small { 512 * length pages.now < 2 ^ 32 }
+    requires places { n < 2 ^ 32 }
+    requires word { x < 2 ^ 32 }
+    ensures { (k : ℕ) → k < 64 → bit result k ≡ line_bit pages.now (x / 8) (64 * (p * 8 + x % 8) + n + k) }
+{
+    if n < 64 && x % WORDS + 1 < WORDS {
+        joined(word_at(pages, p, x), word_at(pages, p, x + 1), n as u32)
+    } else {
+        word_from(pages, x / WORDS, 64 * (p * WORDS + x % WORDS) + n)
+    }
 }
 
 /// The 64 places of line `j` from place `from` on.

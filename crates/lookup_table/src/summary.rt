@@ -2,7 +2,7 @@ ghost use Rattle.std.specs.Prelude.{◌≡◌, ℕ, ◌+◌, ◌*◌, ◌/◌, �
 ghost use Rattle.bit_rows.specs.Row.{bit};
 ghost use Rattle.lookup_table.specs.Table.{IsShaped};
 ghost use Rattle.lookup_table.specs.Lines.{IsWithinRoom};
-ghost use Rattle.lookup_table.specs.Summary.{upper_place, lower_place, HasMarks, ArePages, IsSummed, KeepsMarks, IsRuleMarked, AreRulesMarked};
+ghost use Rattle.lookup_table.specs.Summary.{upper_place, lower_place, HasMarks, ArePages, IsSummed, KeepsMarks, IsMarkSet, AreRulesMarked};
 ghost use Rattle.set_model.specs.Blocks.{IsWithin};
 ghost use Rattle.field_groups.specs.Groups.{IsWidth};
 ghost use Rattle.shared_pages.specs.Paged.{owns_of};
@@ -37,15 +37,15 @@ fn renew_words(page: &mut Page<u64>, buckets: &Lines, width: u32, bits: u32, q: 
     requires count { length buckets.now.rows ≡ bits / width * 2 ^ width }
     requires words { IsWithinRoom (512 * q) buckets.now.rows }
     requires own { page.old.own ≡ true }
-    requires marks { HasMarks width bits (512 * q) buckets.now.rows (q / 8) page.old.items }
-    ensures marks { HasMarks width bits (512 * (q + 1)) buckets.now.rows (q / 8) page.new.items }
+    requires marks { HasMarks 64 width bits (512 * q) buckets.now.rows (q / 8) page.old.items }
+    ensures marks { HasMarks 64 width bits (512 * (q + 1)) buckets.now.rows (q / 8) page.new.items }
     ensures own { page.new.own ≡ true }
 {
     let words = buckets.page(q);
     'lines: for j in 0..bits / 8 * 256 {
         let (upper, lower) = line_places(width, j as u64);
         let marks = shared_words(words, upper as usize, lower as usize);
-        mark_line(page, j as usize, q % 8, marks);
+        mark_line(page, j as usize, 8 * (q % 8), 8, marks);
     }
 }
 
@@ -64,8 +64,8 @@ pub(crate) fn renew_pages(
     requires order { from ≤ end }
     requires words { (q : ℕ) → q < end → IsWithinRoom (512 * q) buckets.now.rows }
     requires own { (q : ℕ) → from ≤ q → q < end → get_or (owns_of pages.old.items) (q / 8) true ≡ true }
-    requires summed { IsSummed width bits (512 * from) buckets.now.rows pages.old.items }
-    ensures summed { IsSummed width bits (512 * end) buckets.now.rows pages.new.items }
+    requires summed { IsSummed 64 width bits (512 * from) buckets.now.rows pages.old.items }
+    ensures summed { IsSummed 64 width bits (512 * end) buckets.now.rows pages.new.items }
     ensures own { owns_of pages.new.items ≡ owns_of pages.old.items }
 {
     'words: for q in from..end {
@@ -79,8 +79,8 @@ fn renew_at(pages: &mut Vec<Page<u64>>, buckets: &Lines, width: u32, bits: u32, 
     requires count { length buckets.now.rows ≡ bits / width * 2 ^ width }
     requires words { IsWithinRoom (512 * q) buckets.now.rows }
     requires own { get_or (owns_of pages.old.items) (q / 8) true ≡ true }
-    requires summed { IsSummed width bits (512 * q) buckets.now.rows pages.old.items }
-    ensures summed { IsSummed width bits (512 * (q + 1)) buckets.now.rows pages.new.items }
+    requires summed { IsSummed 64 width bits (512 * q) buckets.now.rows pages.old.items }
+    ensures summed { IsSummed 64 width bits (512 * (q + 1)) buckets.now.rows pages.new.items }
     ensures own { owns_of pages.new.items ≡ owns_of pages.old.items }
 {
     let p = q as usize / 8;
@@ -91,39 +91,47 @@ fn renew_at(pages: &mut Vec<Page<u64>>, buckets: &Lines, width: u32, bits: u32, 
     renew_words(page, buckets, width, bits, q);
 }
 
-/// Marks the rules of these blocks, from rule `first` on, where there are pages for them.
-pub(crate) fn mark_added(pages: &mut Vec<Page<u64>>, added: &[Block], bits: u32, first: u32)
+/// Marks the rules of these blocks, from rule `first` on, where there are pages for them. A mark stands
+/// for `unit` rules.
+pub(crate) fn mark_added(
+    pages: &mut Vec<Page<u64>>,
+    added: &[Block],
+    bits: u32,
+    first: u32,
+    unit: u32,
+)
     requires groups { IsWidth 8 bits }
     requires pages { ArePages bits pages.old.items }
     requires few { first + length added.now < 2 ^ 32 }
-    requires own { (r : ℕ) → first ≤ r → r < first + length added.now → get_or (owns_of pages.old.items) (r / 4096) true ≡ true }
+    requires unit { 1 ≤ unit }
+    requires own { (r : ℕ) → first ≤ r → r < first + length added.now → get_or (owns_of pages.old.items) (r / unit / 64) true ≡ true }
     requires within { All (IsWithin bits) added.now }
     ensures kept { KeepsMarks pages.old.items pages.new.items }
-    ensures marked { AreRulesMarked bits first (length added.now) added.now pages.new.items }
+    ensures marked { AreRulesMarked unit bits first (length added.now) added.now pages.new.items }
     ensures own { owns_of pages.new.items ≡ owns_of pages.old.items }
 {
     'rules: for (i, block) in added.iter().enumerate() {
-        mark_rule(pages, *block, bits, first + i as u32);
+        set_mark(pages, *block, bits, (first + i as u32) / unit);
     }
 }
 
-/// Marks a rule in each line whose value agrees with its block, if there is a page for it.
-fn mark_rule(pages: &mut Vec<Page<u64>>, block: Block, bits: u32, r: u32)
+/// Sets mark `m` in each line whose value agrees with the block, if there is a page for it.
+fn set_mark(pages: &mut Vec<Page<u64>>, block: Block, bits: u32, m: u32)
     requires groups { IsWidth 8 bits }
     requires pages { ArePages bits pages.old.items }
-    requires own { get_or (owns_of pages.old.items) (r / 4096) true ≡ true }
+    requires own { get_or (owns_of pages.old.items) (m / 64) true ≡ true }
     requires block { IsWithin bits block }
     ensures kept { KeepsMarks pages.old.items pages.new.items }
     ensures pages { ArePages bits pages.new.items }
-    ensures marked { IsRuleMarked bits block r pages.new.items }
+    ensures marked { IsMarkSet bits block m pages.new.items }
     ensures own { owns_of pages.new.items ≡ owns_of pages.old.items }
 {
-    let p = r as usize / 4096;
+    let p = m as usize / 64;
     if p >= pages.len() {
         return;
     }
     let page = &mut pages[p];
-    mark_block(page, block, bits, r / 64 % 64);
+    mark_block(page, block, bits, m % 64);
 }
 
 /// Page `p` of a summary, with the marks of all its rules.
@@ -137,7 +145,7 @@ fn summed_page(
 ) -> Result<Page<u64>, Memory>
     requires shape { IsShaped width bits rules buckets.now.rows }
     requires page { p < 2 ^ 26 }
-    ensures { IfOk result (λ page. HasMarks width bits rules buckets.now.rows p page.items) }
+    ensures { IfOk result (λ page. HasMarks 64 width bits rules buckets.now.rows p page.items) }
 {
     let mut page = new_page(alloc, bits)?;
     'words: for q in 8 * p..rules.div_ceil(512).min(8 * p + 8) {
@@ -161,8 +169,8 @@ pub(crate) fn add_pages(
 ) -> Result<(), Memory>
     requires shape { IsShaped width bits rules buckets.now.rows }
     requires few { n ≤ 2 ^ 26 }
-    requires summed { IsSummed width bits rules buckets.now.rows pages.old.items }
-    ensures { IsSummed width bits rules buckets.now.rows pages.new.items }
+    requires summed { IsSummed 64 width bits rules buckets.now.rows pages.old.items }
+    ensures { IsSummed 64 width bits rules buckets.now.rows pages.new.items }
 {
     'pages: for p in pages.len()..n as usize {
         pages.push(summed_page(alloc, buckets, width, bits, rules, p as u32)?)?;

@@ -4,6 +4,7 @@ ghost use Rattle.lookup_table.specs.Summary.{IsSummed};
 use crate::lines::Lines;
 use crate::marks::mark_blocks;
 use crate::summary::{add_pages, mark_added, pages_for, renew_pages, words_of};
+use crate::tops::{RULES_WITHOUT_TOPS, add_tops, renew_tops, tops_for};
 use crate::widths::halves_of;
 use bit_rows::BitRow;
 use field_groups::{group_mask, group_value};
@@ -21,7 +22,8 @@ use word_summary::candidates;
 ///
 /// A table that is summed has a summary above its rules: a page of marks for each 4,096 of them, once
 /// there are more than 64. `candidates` reads it. The summary is made from the buckets, and is the same
-/// at either width.
+/// at either width. Above 32,768 rules the pages have tops, one for each 64 of them, which
+/// `candidate_pages` reads.
 ///
 /// The buckets lie in pages of 512 rules, and the summary in those of 4,096, which copies share once the
 /// table was settled. A change is made on pages that are the table's own: [`FieldTable::reserve`] and
@@ -34,8 +36,10 @@ pub struct FieldTable {
     pub buckets: Lines,
     pub is_summed: bool,
     pub pages: Vec<Page<u64>>,
+    pub tops: Vec<Page<u64>>,
     pub ghost shaped: { IsShaped width bits rules buckets.rows },
-    pub ghost summed: { IsSummed width bits rules buckets.rows pages.items },
+    pub ghost summed: { IsSummed 64 width bits rules buckets.rows pages.items },
+    pub ghost topped: { IsSummed 4096 width bits rules buckets.rows tops.items },
 }
 
 impl FieldTable {
@@ -71,6 +75,7 @@ impl FieldTable {
             buckets,
             is_summed: false,
             pages: Vec::new(alloc),
+            tops: Vec::new(alloc),
         })
     }
 
@@ -132,8 +137,12 @@ impl FieldTable {
         ensures own { OnOk result (IsOwn self.old.rules (self.old.rules + n) self.new) }
     {
         self.buckets.reserve(n)?;
-        self.take_pages(pages_for(self.is_summed, self.rules + n))?;
-        self.own_summary(self.rules, self.rules + n)
+        let end = self.rules + n;
+        self.take_pages(
+            pages_for(self.is_summed, end),
+            tops_for(self.is_summed, end),
+        )?;
+        self.own_summary(self.rules, end)
     }
 
     /// Makes the pages of the rules from `first` on, and of the summary above them, the table's own.
@@ -159,26 +168,46 @@ impl FieldTable {
         ensures rules { self.new.rules ≡ self.old.rules }
         ensures buckets { self.new.buckets ≡ self.old.buckets }
         ensures own { OnOk result ((r : ℕ) → from ≤ r → r < to → get_or (owns_of self.new.pages.items) (r / 4096) true ≡ true) }
+        ensures tops { OnOk result ((r : ℕ) → from ≤ r → r < to → get_or (owns_of self.new.tops.items) (r / 262144) true ≡ true) }
     {
         let alloc = *self.pages.allocator();
         let end = self.pages.len().min(to.div_ceil(4096) as usize);
         own_plain_pages(alloc, &mut self.pages, from as usize / 4096, end)?;
+        let end = self.tops.len().min(to.div_ceil(262_144) as usize);
+        own_plain_pages(alloc, &mut self.tops, from as usize / 262_144, end)?;
         Ok(())
     }
 
-    /// Takes pages of the summary, up to `n` pages.
+    /// Takes pages of the summary, up to `pages` pages of marks and `tops` tops above them.
     ///
     /// # Errors
     /// `Memory` if there is none left. The table is as it was, or has some of the pages.
-    fn take_pages(&mut self, n: u32) -> Result<(), Memory>
-        requires { n ≤ 2 ^ 26 }
+    fn take_pages(&mut self, pages: u32, tops: u32) -> Result<(), Memory>
+        requires pages { pages ≤ 2 ^ 26 }
+        requires tops { tops ≤ 2 ^ 26 }
         ensures same { IsSameField self.old self.new }
         ensures rules { self.new.rules ≡ self.old.rules }
         ensures buckets { self.new.buckets ≡ self.old.buckets }
     {
         let alloc = *self.pages.allocator();
         let (width, bits, rules) = (self.width, self.bits, self.rules);
-        add_pages(alloc, &mut self.pages, n, &self.buckets, width, bits, rules)
+        add_pages(
+            alloc,
+            &mut self.pages,
+            pages,
+            &self.buckets,
+            width,
+            bits,
+            rules,
+        )?;
+        add_tops(
+            alloc,
+            &mut self.tops,
+            tops,
+            self.pages.as_slice(),
+            bits,
+            rules,
+        )
     }
 
     /// Adds a rule with the next number, for which there is room in each bucket.
@@ -213,7 +242,8 @@ impl FieldTable {
         self.buckets.raise(count);
         mark_blocks(&mut self.buckets, added, self.width, self.bits, before);
         self.rules += count;
-        mark_added(&mut self.pages, added, self.bits, before);
+        mark_added(&mut self.pages, added, self.bits, before, 64);
+        mark_added(&mut self.tops, added, self.bits, before, 4096);
     }
 
     /// Takes the `n` rules from `first` on out. The later rules close up, on pages that are the table's
@@ -241,6 +271,13 @@ impl FieldTable {
             first / 512,
             end,
         );
+        renew_tops(
+            &mut self.tops,
+            self.pages.as_slice(),
+            self.bits,
+            first / 4096,
+            end.div_ceil(8),
+        );
     }
 
     /// Leaves bit `r` of the row set where rule `r`'s block holds the value.
@@ -261,13 +298,32 @@ impl FieldTable {
     #[inline(always)]
     pub fn candidates(&self, value: u128, p: u32) -> u64
         requires value { value < 2 ^ self.now.bits }
-        ensures none { LeavesNone self.now value p result }
+        ensures none { LeavesNone self.now value 64 p result }
         ensures within { (k : ℕ) → k < 64 → bit result k ≡ true → 64 * (64 * p + k) < self.now.rules }
     {
         let words = words_of(self.rules, p);
         match self.pages.get(p as usize) {
             Some(page) => words & candidates(page.as_slice(), value, self.bits),
             None => words,
+        }
+    }
+
+    /// The pages of 4,096 rules, of the 64 from page `64 * q` on, that may have a rule whose block holds the
+    /// value. Bit 0 stands for the first. In a table without tops they are all that have rules.
+    #[inline(always)]
+    pub fn candidate_pages(&self, value: u128, q: u32) -> u64
+        requires value { value < 2 ^ self.now.bits }
+        ensures none { LeavesNone self.now value 4096 q result }
+        ensures within { (k : ℕ) → k < 64 → bit result k ≡ true → 4096 * (64 * q + k) < self.now.rules }
+    {
+        // A page is to its words what a word is to its rules.
+        let pages = words_of(self.rules.div_ceil(64), q);
+        if self.rules <= RULES_WITHOUT_TOPS {
+            return pages;
+        }
+        match self.tops.get(q as usize) {
+            Some(top) => pages & candidates(top.as_slice(), value, self.bits),
+            None => pages,
         }
     }
 
@@ -393,8 +449,9 @@ impl FieldTable {
             buckets,
             is_summed: self.is_summed,
             pages: Vec::new(alloc),
+            tops: Vec::new(alloc),
         };
-        table.take_pages(self.pages.len() as u32)?;
+        table.take_pages(self.pages.len() as u32, self.tops.len() as u32)?;
         Ok(table)
     }
 
@@ -431,8 +488,9 @@ impl FieldTable {
             buckets,
             is_summed: self.is_summed,
             pages: Vec::new(alloc),
+            tops: Vec::new(alloc),
         };
-        table.take_pages(self.pages.len() as u32)?;
+        table.take_pages(self.pages.len() as u32, self.tops.len() as u32)?;
         Ok(table)
     }
 
@@ -462,6 +520,7 @@ impl FieldTable {
         self.buckets.settle()?;
         let alloc = *self.pages.allocator();
         settle_plain_pages(alloc, &mut self.pages)?;
+        settle_plain_pages(alloc, &mut self.tops)?;
         Ok(())
     }
 
@@ -477,6 +536,7 @@ impl FieldTable {
     {
         let buckets = self.buckets.copy(alloc)?;
         let pages = copy_plain_pages(alloc, self.pages.as_slice())?;
+        let tops = copy_plain_pages(alloc, self.tops.as_slice())?;
         Ok(FieldTable {
             width: self.width,
             bits: self.bits,
@@ -484,6 +544,7 @@ impl FieldTable {
             buckets,
             is_summed: self.is_summed,
             pages,
+            tops,
         })
     }
 }

@@ -217,7 +217,7 @@ fn hosts(rt: &impl Abort, alloc: Global, n: u32) -> Result<FieldTable, Fail> {
     let mut table = FieldTable::new(alloc, 32)?;
     table.set_summed(true);
     for i in 0..n {
-        assert!(rt; table.bits == 32 && table.rules < 4096 && i < 4096);
+        assert!(rt; table.bits == 32 && table.rules < 65_536 && i < 65_536);
         table.reserve(1)?;
         table.add_block(block(rt, 32, 0x0A00_0000 + i, 0));
     }
@@ -259,6 +259,25 @@ fn copies_live_on_beside_each_other(rt: HostRuntime) -> Result<(), Fail> {
             [n].as_slice()
         );
     }
+    Ok(())
+}
+
+#[test]
+fn tops_tell_which_pages_may_match(rt: HostRuntime) -> Result<(), Fail> {
+    let mut table = hosts(&rt, rt.alloc(), 33_000)?;
+    assert!(rt; table.bits == 32 && table.rules == 33_000);
+    // 10.0.128.132 is rule 32,900, of page 8.
+    assert_eq!(rt; table.candidate_pages(0x0A00_8084, 0), 1 << 8);
+    assert_eq!(rt; table.candidate_pages(0x0A00_FF84, 0), 0);
+
+    // It becomes rule 32,700, of page 7.
+    table.own_from(0)?;
+    table.drop_rules(0, 200);
+    assert_eq!(rt; table.candidate_pages(0x0A00_8084, 0), 1 << 7);
+
+    let narrow = table.with_width(rt.alloc(), 4)?;
+    assert!(rt; narrow.bits == 32);
+    assert_eq!(rt; narrow.candidate_pages(0x0A00_8084, 0), 1 << 7);
     Ok(())
 }
 

@@ -1,8 +1,11 @@
-ghost use Rattle.std.specs.Prelude.{◌≡◌, ◌+◌, ◌<◌, ◌≤◌, ◌^◌, ◌&&◌, [], ◌∷◌, ◌++◌, length, slice_get, Some, IfOk, OnOk, All, take, drop, map, position};
+ghost use Rattle.std.specs.Prelude.{◌≡◌, ◌+◌, ◌<◌, ◌≤◌, ◌^◌, ◌&&◌, [], ◌∷◌, ◌++◌, length, slice_get, Some, false, IfOk, OnOk, All, take, drop, map, position};
+ghost use Rattle.std.specs.Bool.{OnTrue};
 ghost use Rattle.std.specs.List.{zip};
+ghost use Rattle.set_model.specs.Expiry.{lives};
 ghost use Rattle.set_tables.specs.Rows.{ends_without, ends_renewed, lowered_place, end_renewed, is_led};
-ghost use Rattle.mapping_table.specs.Spared.{OwnsRange, OwnsFrom, KeepsOwn, IsMoved};
+ghost use Rattle.mapping_table.specs.Spared.{word_of, OwnsRange, OwnsFrom, KeepsOwn, IsMoved};
 
+use crate::latest::{find_latest, is_past, moment_of, raise, raise_word};
 use crate::roomy::Roomy;
 use bit_rows::BitRow;
 use set_model::{Memory, is_live};
@@ -16,15 +19,23 @@ use std::marker::Model;
 #[derive(Drop)]
 pub struct EndTable {
     ends: Roomy<End>,
+    /// For each word of 64 rules a moment, in milliseconds, by which all its ends are expired, or
+    /// `u64::MAX` where one has no expiry. It may be later than the latest expiry, and `u64::MAX` where
+    /// each has one: a renewal never lowers it.
+    latest: Vec<u64>,
 }
 
 impl Model for EndTable {
     ghost use Rattle.set_tables.specs.declared.End.{End};
+    ghost use Rattle.std.specs.Vec.{vec_capacity};
     ghost use Rattle.mapping_table.specs.Spared.{Spared};
+    ghost use Rattle.mapping_table.specs.Latest.{AreTimed};
 
     ghost Value = { Spared End };
 
     ghost view = { λ a. a.ends };
+
+    ghost invariant = { λ a. AreTimed a.ends a.latest.items (vec_capacity a.latest) };
 }
 
 impl EndTable {
@@ -35,6 +46,7 @@ impl EndTable {
     {
         EndTable {
             ends: Roomy::new(alloc),
+            latest: Vec::new(alloc),
         }
     }
 
@@ -54,6 +66,14 @@ impl EndTable {
         self.ends.at(i)
     }
 
+    /// The ends of the rules of word `w`, the 64 from rule `64 * w` on, as far as there are any.
+    #[inline(always)]
+    pub fn word(&self, w: u32) -> &[End]
+        ensures { result.now ≡ word_of w self.now.items }
+    {
+        self.ends.word(w)
+    }
+
     /// Takes room for `n` rules more.
     ///
     /// # Errors
@@ -65,6 +85,8 @@ impl EndTable {
         ensures kept { self.old.spare ≤ self.new.spare }
         ensures own { KeepsOwn self.old self.new }
     {
+        let words = (self.ends.len() as usize + n as usize).div_ceil(64);
+        self.latest.reserve(words - self.latest.len())?;
         self.ends.reserve(n)
     }
 
@@ -75,7 +97,22 @@ impl EndTable {
         ensures spare { self.new.spare + 1 ≡ self.old.spare }
         ensures own { self.new.own ≡ self.old.own }
     {
+        let word = self.ends.len() as usize / 64;
+        raise_word(&mut self.latest, word, moment_of(item.expiry));
         self.ends.push(item);
+    }
+
+    /// Whether all ends of word `w`, those of the rules from `64 * w` to `64 * w + 63`, are known to be
+    /// expired at `now`, in milliseconds, with no look at any of them. Where they aren't known to be,
+    /// they still may be expired: a renewal by an earlier expiry isn't told.
+    #[inline(always)]
+    pub fn is_word_expired(&self, w: u32, now: u64) -> bool
+        ensures { OnTrue result (All (λ e. lives e.expiry now ≡ false) (word_of w self.now.items)) }
+    {
+        match self.latest.get(w as usize) {
+            Some(latest) => is_past(*latest, now),
+            None => false,
+        }
     }
 
     /// The lowest matched rule whose expiry is none or later than `now`, in milliseconds.
@@ -124,6 +161,7 @@ impl EndTable {
         close_up(&mut self.ends, first, n);
         let len = self.ends.len();
         self.ends.truncate(len - n);
+        find_latest(&self.ends, &mut self.latest, first / 64);
     }
 
     /// Gives the `n` ends from `first` on another expiry. It takes no memory.
@@ -135,6 +173,9 @@ impl EndTable {
         ensures own { self.new.own ≡ self.old.own }
     {
         renew(&mut self.ends, first, n, expiry);
+        let from = first as usize / 64;
+        let to = (first as usize + n as usize).div_ceil(64);
+        raise(&mut self.latest, from, to, moment_of(expiry));
     }
 
     /// Lets copies share the pages from now on. No page is copied.
@@ -155,9 +196,9 @@ impl EndTable {
     pub fn copy(&self, alloc: Global) -> Result<EndTable, Memory>
         ensures { IfOk result (λ other. other.items ≡ self.now.items) }
     {
-        Ok(EndTable {
-            ends: self.ends.copy(alloc)?,
-        })
+        let ends = self.ends.copy(alloc)?;
+        let latest = Vec::from_slice(alloc, self.latest.as_slice())?;
+        Ok(EndTable { ends, latest })
     }
 }
 
@@ -196,7 +237,7 @@ fn close_up(ends: &mut Roomy<End>, first: u32, n: u32)
 fn renew(ends: &mut Roomy<End>, first: u32, n: u32, expiry: Option<u64>)
     requires range { first + n ≤ length ends.old.items }
     requires own { OwnsRange first n ends.old }
-    ensures items { ends.new.items ≡ ends_renewed ends.old.items first n expiry }
+    ensures items { IsMoved (end_renewed expiry) first 0 (first + n) ends.old.items ends.new.items }
     ensures spare { ends.new.spare ≡ ends.old.spare }
     ensures own { ends.new.own ≡ ends.old.own }
 {

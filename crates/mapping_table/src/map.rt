@@ -1,6 +1,6 @@
 ghost use Rattle.std.specs.Prelude.{◌≡◌, ◌+◌, ◌<◌, ◌≤◌, ◌^◌, [], ◌∷◌, ◌++◌, length, replicate, slice_get, Some, false, IfOk, OnOk, All, drop};
 ghost use Rattle.set_tables.specs.Rows.{refilled, spans_without, lowered};
-ghost use Rattle.mapping_table.specs.Spared.{OwnsFrom, KeepsOwn, IsMoved};
+ghost use Rattle.mapping_table.specs.Spared.{word_of, OwnsFrom, KeepsOwn, IsMoved};
 
 use crate::roomy::Roomy;
 use bit_rows::BitRow;
@@ -50,6 +50,14 @@ impl MapTable {
         ensures { slice_get self.now.items i ≡ Some result.now }
     {
         self.spans.at(i)
+    }
+
+    /// The spans of the rules of word `w`, the 64 from rule `64 * w` on, as far as there are any.
+    #[inline(always)]
+    pub fn word(&self, w: u32) -> &[Span]
+        ensures { result.now ≡ word_of w self.now.items }
+    {
+        self.spans.word(w)
     }
 
     /// Takes room for `n` rules more.

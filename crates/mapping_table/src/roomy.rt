@@ -1,6 +1,6 @@
-ghost use Rattle.std.specs.Prelude.{◌≡◌, ◌+◌, ◌/◌, ◌<◌, ◌≤◌, ◌^◌, [], ◌∷◌, ◌++◌, length, IfOk, OnOk, slice_get, slice_set, Some, take, drop, true};
+ghost use Rattle.std.specs.Prelude.{◌≡◌, ◌+◌, ◌/◌, ◌<◌, ◌≤◌, ◌^◌, [], ◌∷◌, ◌++◌, length, max, IfOk, OnOk, slice_get, slice_set, Some, take, drop, true};
 ghost use Rattle.std.specs.Vec.{vec_capacity};
-ghost use Rattle.mapping_table.specs.Spared.{OwnsRange, OwnsFrom, KeepsOwn};
+ghost use Rattle.mapping_table.specs.Spared.{word_of, OwnsRange, OwnsFrom, KeepsOwn};
 
 use set_model::Memory;
 use shared_pages::{PAGE, Page, copy_plain_pages, own_plain_pages, settle_plain_pages};
@@ -67,6 +67,22 @@ impl<T> Roomy<T> {
         }
     }
 
+    /// The items of word `w`, the 64 from place `64 * w` on, as far as there are any. They stand in one
+    /// page, or all of them behind the whole pages.
+    #[inline(always)]
+    pub(crate) fn word(&self, w: u32) -> &[T]
+        ensures { result.now ≡ word_of w self.now.items }
+    {
+        let first = 64 * w as usize;
+        let page = first / PAGE;
+        if page < self.whole.len() {
+            let items = &self.whole[page];
+            word_from(items.as_slice(), first % PAGE)
+        } else {
+            word_from(self.rest.as_slice(), first - PAGE * self.whole.len())
+        }
+    }
+
     /// Adds an item at the end. There is room for it.
     pub(crate) fn push(&mut self, item: T)
         requires { 1 ≤ self.old.spare }
@@ -85,6 +101,7 @@ impl<T: Copy + Drop> Roomy<T> {
         ensures items { self.new.items ≡ self.old.items }
         ensures ok { OnOk result (n ≤ self.new.spare) }
         ensures kept { self.old.spare ≤ self.new.spare }
+        ensures most { self.new.spare ≤ max self.old.spare n }
         ensures own { KeepsOwn self.old self.new }
     {
         self.turn_page()?;
@@ -97,6 +114,7 @@ impl<T: Copy + Drop> Roomy<T> {
         ensures items { self.new.items ≡ self.old.items }
         ensures ok { OnOk result (n ≤ self.new.spare) }
         ensures kept { self.old.spare ≤ self.new.spare }
+        ensures most { self.new.spare ≤ max self.old.spare n }
         ensures own { self.new.own ≡ self.old.own }
     {
         self.rest.reserve(n as usize)?;
@@ -170,6 +188,7 @@ impl<T: Copy + Drop> Roomy<T> {
         requires place { len ≤ length self.old.items }
         requires own { OwnsFrom len self.old }
         ensures items { self.new.items ≡ take len self.old.items }
+        ensures room { length self.new.items + self.new.spare ≤ length self.old.items + self.old.spare }
         ensures own { KeepsOwn self.old self.new }
     {
         self.reopen(len);
@@ -181,6 +200,7 @@ impl<T: Copy + Drop> Roomy<T> {
     fn reopen(&mut self, len: u32)
         requires own { OwnsRange len 1 self.old }
         ensures items { take len self.new.items ≡ take len self.old.items }
+        ensures room { length self.new.items + self.new.spare ≤ length self.old.items + self.old.spare }
         ensures behind { length self.new.own ≤ len / 512 }
         ensures own { KeepsOwn self.old self.new }
     {
@@ -206,7 +226,8 @@ impl<T: Copy + Drop> Roomy<T> {
 
     /// The same items once more: one count for each whole page that was settled.
     pub(crate) fn copy(&self, alloc: Global) -> Result<Roomy<T>, Memory>
-        ensures { IfOk result (λ other. other.items ≡ self.now.items) }
+        ensures items { IfOk result (λ other. other.items ≡ self.now.items) }
+        ensures spare { IfOk result (λ other. other.spare ≡ 0) }
     {
         let _room = self.room;
         let whole = copy_plain_pages(alloc, self.whole.as_slice())?;
@@ -219,6 +240,15 @@ impl<T: Copy + Drop> Roomy<T> {
             alloc,
         })
     }
+}
+
+/// The 64 items from place `first` on, as far as there are any.
+#[inline(always)]
+fn word_from<T>(items: &[T], first: usize) -> &[T]
+    ensures { result.now ≡ take 64 (drop first items.now) }
+{
+    let rest = &items[first.min(items.len())..];
+    &rest[..rest.len().min(64)]
 }
 
 /// A page of the first 512 items.

@@ -22,7 +22,7 @@ use Rattle.pipapo_image.proofs.GrowLaws.{number-none}
 abbrev pub kept : State → ℕ → ℕ → State
 kept s now n = record s { elements = filter (λ e. live e now) (take n s.elements); next = 0 }
 
-filter-fewer : (here : Element → List Block) (p : Element → Bool) (es : List Element) → length (flat_map here (filter p es)) ≤ length (flat_map here es)
+pub filter-fewer : (here : Element → List Block) (p : Element → Bool) (es : List Element) → length (flat_map here (filter p es)) ≤ length (flat_map here es)
 filter-fewer here p [] = omega arith
 filter-fewer here p (e ∷ es) = go (p e) (filter-fewer here p es) where
   go : (t : Bool) → length (flat_map here (filter p es)) ≤ length (flat_map here es) → length (flat_map here (cond t (e ∷ filter p es) (filter p es))) ≤ length (here e ++ flat_map here es)

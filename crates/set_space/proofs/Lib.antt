@@ -1,2 +1,5 @@
+pub mod KeptItems
+pub mod KeptSets
+pub mod OpenLaws
 pub mod Refusals
 pub mod SetsLaws

@@ -1,58 +1,54 @@
 -- A refused addition leaves the set; what exists is no new element.
-use Rattle.std.proofs.Common.{◌≡◌, refl, sym, ◌∙◌, ap, subst, ℕ, List, Option, Some, None, Result, Ok, Err, OnErr, IfOk, length}
+use Rattle.std.proofs.Common.{◌≡◌, sym, ◌∙◌, ap, subst, ℕ, Bool, Option, Some, Result, Ok, Err, OnErr, IfOk, length}
 use Rattle.std.specs.Prelude.{IsErrAnd}
-use Rattle.set_model.specs.declared.kind.Interval.{Interval}
 use Rattle.set_model.specs.declared.element.NewElement.{NewElement}
 use Rattle.set_model.specs.declared.memory.Memory.{Memory as NoMemory}
-use Rattle.set_model.specs.declared.packet.Found.{Found}
-use Rattle.set_model.specs.declared.report.Why.{Why}
 use Rattle.set_model.specs.declared.report.Why.TheVariants.{Exists}
-use Rattle.set_model.specs.SetState.{State, Addition, add, removed, exact_place, element_at, without_at, cleared}
+use Rattle.set_model.specs.SetState.{State, Addition, add, cleared}
 use Rattle.set_model.specs.Control.{as_created}
 use Rattle.pipapo_image.specs.declared.answers.Added.{Added as Came}
 use Rattle.pipapo_image.specs.declared.answers.ChangeError.{ChangeError}
 use Rattle.pipapo_image.specs.declared.answers.ChangeError.TheVariants as errors
 use Rattle.pipapo_image.specs.declared.image.decision.Decision.{Decision}
 use Rattle.pipapo_image.specs.declared.image.decision.Decision.TheVariants.{Stays, Renews, Adds}
-use Rattle.pipapo_image.specs.Image.Decision.{IsDecision, existing}
-use Rattle.pipapo_image.specs.Image.Found.{found_at, exactly_found}
-use Rattle.pipapo_image.specs.Image.Insert.{IsAnswer}
+use Rattle.pipapo_image.specs.Image.Decision.{comes, left, existing}
+use Rattle.pipapo_image.specs.Image.Insert.{IsAnswer, said}
 use Rattle.pipapo_image.specs.Image.Remove.{IsRemoval}
 use Rattle.pipapo_image.proofs.AddKeeps.{add_keeps}
-use Rattle.pipapo_image.proofs.Shrinking.{removed-at, never_missing}
+use Rattle.set_space.specs.OpenImage.{undeleted, IsOpenDecision}
 use Rattle.set_space.specs.Answers.{IsCreation, IsFlush}
 
 -- ---- of a decision
--- What refuses an addition refuses a creation.
-pub creation_refused : (s : State) (e : NewElement) (now : ℕ) (r : Result ℕ ChangeError) (error : ChangeError) → IsErrAnd r (λ z. z ≡ error)
-    → IsDecision s e (add s e now) (Err error) → IsCreation (add s e now) r s s
-creation_refused s e now (Ok id) error is h = absurd is
-creation_refused s e now (Err f) error is h = subst (λ z. IsCreation (add s e now) (Err z) s s) (sym is) (as_refused error h) where
-  as_refused : (error : ChangeError) → IsDecision s e (add s e now) (Err error) → IsCreation (add s e now) (Err error) s s
-  as_refused (errors.Refused why) h = (ap (λ z. (as_created s z).0) h, refl)
-  as_refused errors.Memory h = refl
+module _ (d : Bool) (image s : State) (e : NewElement) (now : ℕ) where
+  -- What refuses an addition refuses a creation.
+  pub creation_refused : (r : Result ℕ ChangeError) (error : ChangeError) → IsErrAnd r (λ z. z ≡ error) → undeleted d image ≡ s
+      → IsOpenDecision d image e (add s e now) (Err error) → IsCreation (add s e now) r s (undeleted d image)
+  creation_refused (Ok id) error is same h = absurd is
+  creation_refused (Err f) error is same h = subst (λ z. IsCreation (add s e now) (Err z) s (undeleted d image)) (sym is) (as_refused error h) where
+    as_refused : (error : ChangeError) → IsOpenDecision d image e (add s e now) (Err error) → IsCreation (add s e now) (Err error) s (undeleted d image)
+    as_refused (errors.Refused why) h = (ap (λ z. (as_created s z).0) h, same)
+    as_refused errors.Memory h = same
 
--- An element that is there already refuses a creation.
-pub creation_exists : (s : State) (e : NewElement) (now id : ℕ) (d : Decision) → IsDecision s e (add s e now) (Ok d) → Some id ≡ existing d
-    → IsCreation (add s e now) (Err (errors.Refused (Exists id))) s s
-creation_exists s e now id (Stays i) h is = (ap (λ z. (as_created s z).0) h.1 ∙ cc is, refl)
-creation_exists s e now id (Renews p i) h is = (ap (λ z. (as_created s z).0) h.1 ∙ cc is, refl)
-creation_exists s e now id (Adds columns) h is = absurd (cc is)
+  -- An element that is there already refuses a creation.
+  pub creation_exists : (id : ℕ) (decision : Decision) → undeleted d image ≡ s → IsOpenDecision d image e (add s e now) (Ok decision) → Some id ≡ existing decision
+      → IsCreation (add s e now) (Err (errors.Refused (Exists id))) s (undeleted d image)
+  creation_exists id (Stays i) same h is = (ap (λ z. (as_created s z).0) h.1 ∙ cc is, same)
+  creation_exists id (Renews p i) same h is = (ap (λ z. (as_created s z).0) h.1 ∙ cc is, same)
+  creation_exists id (Adds columns) same h is = absurd (cc is)
 
--- ---- of a removal
--- An element that is found stands at its place and isn't missing.
-module _ (s : State) (parts : List Interval) (now : ℕ) (f : Found) where
-  at_place : Some f ≡ exactly_found s parts now → Some f.place ≡ exact_place s parts now
-  at_place h = go (exact_place s parts now) h where
-    go : (o : Option ℕ) → Some f ≡ found_at s o → Some f.place ≡ o
-    go None h = absurd (cc h)
-    go (Some i) h = let is : f ≡ record { place = i; id = (element_at s i).id } = cc h in ap (λ (g : Found). Some g.place) is
+  -- What is refused leaves the set.
+  pub insertion_refused : (r : Result Came ChangeError) (error : ChangeError) → IsErrAnd r (λ z. z ≡ error) → undeleted d image ≡ s
+      → IsOpenDecision d image e (add s e now) (Err error) → IsAnswer (add s e now) r s (undeleted d image)
+  insertion_refused (Ok came) error is same h = absurd is
+  insertion_refused (Err f) error is same h = subst (λ z. IsAnswer (add s e now) (Err z) s (undeleted d image)) (sym is) (as_refused error h) where
+    as_refused : (error : ChangeError) → IsOpenDecision d image e (add s e now) (Err error) → IsAnswer (add s e now) (Err error) s (undeleted d image)
+    as_refused (errors.Refused why) h = (ap (λ z. z.0) (sym h), ap (λ z. z.1) (sym h))
+    as_refused errors.Memory h = same
 
-  pub is_there : Some f ≡ exactly_found s parts now → removed s parts now ≡ None → ⊥
-  is_there h none = never_missing s parts now f.place (at_place h) none
-
-  pub found_removed : Some f ≡ exactly_found s parts now → removed s parts now ≡ Some ((element_at s f.place).id, without_at s f.place)
-  found_removed h = removed-at s parts now f.place (sym (at_place h))
+  -- What is done is the answer.
+  pub insertion_done : (t : State) (decision : Decision) (came : Came) → IsOpenDecision d image e (add s e now) (Ok decision)
+      → said came ≡ comes decision image.next → t ≡ undeleted d (left image e decision) → IsAnswer (add s e now) (Ok came) s t
+  insertion_done t decision came h a b = (a ∙ ap (λ z. z.0) (sym h.1), b ∙ ap (λ z. z.1) (sym h.1))
 
 -- ---- a refused change leaves the set
 pub insertion_err : (s t : State) (e : NewElement) (now : ℕ) (r : Result Came ChangeError) → IsAnswer (add s e now) r s t → OnErr r (t ≡ s)

@@ -1,14 +1,17 @@
 -- The states of the sets of a work, where one of them changes or all changes are taken back.
-use Rattle.std.proofs.Common.{◌≡◌, refl, sym, ◌∙◌, ap, subst, ℕ, zero, suc, ◌+◌, ◌<◌, ◌≤◌, List, [], ◌∷◌, ◌++◌, length, take, map, get_or, slice_get, slice_set, Some, not, count_by, arith, add-one}
+use Rattle.std.proofs.Common.{◌≡◌, refl, sym, ◌∙◌, ap, subst, ℕ, zero, suc, ◌+◌, ◌<◌, ◌≤◌, List, [], ◌∷◌, ◌++◌, length, take, map, get_or, slice_get, slice_set, Some, Bool, true, not, count_by, arith, add-one}
+use Rattle.std.specs.Prelude.{IsTrue, ◌↔◌}
 use Rattle.std.proofs.lemmas.List.{map-append, take_all}
 use Rattle.std.proofs.lemmas.List.Sums.{fold-append}
+use Rattle.set_model.specs.declared.kind.Interval.{Interval}
+use Rattle.set_model.specs.Key.{parts_fit}
 use Rattle.set_model.specs.SetState.{State, purged}
 use Rattle.set_model.specs.Expiry.{live}
 use Rattle.set_model.specs.Control.{Generation, expired_count}
 use Rattle.set_space.specs.declared.open_set.OpenSet.{OpenSet}
 use Rattle.set_space.specs.declared.open_set.OpenSet.TheVariants.{Unchanged}
 use Rattle.set_space.specs.OpenSets.{open_state, open_states, IsSealed}
-use Rattle.set_space.specs.Open.{Open, with_set, IsChange}
+use Rattle.set_space.specs.Open.{Open, FitsSet, with_set, IsChange}
 
 module _ {X : Type 0} where
   pub set-same : (xs : List X) (i : ℕ) (x : X) → slice_get xs i ≡ Some x → slice_set xs i x ≡ xs
@@ -129,3 +132,10 @@ work-long g d os w is long same =
 pub work-at : (g : Generation) (os : List OpenSet) (i : ℕ) (o : OpenSet) (b : State) (w : Open) → record { base = g; sets = open_states os g.sets } ≡ w
     → i < length os → o ≡ get_or os i o → slice_get g.sets i ≡ Some b → slice_get w.sets i ≡ Some (open_state o b)
 work-at g os i o b w is h e base = ap (λ (z : Open). slice_get z.sets i) (sym is) ∙ open-at os g.sets i o b h e base
+
+-- Intervals fit the set at a place exactly where they fit the kinds of its state.
+pub fits_at : (w : Open) (i : ℕ) (s : State) (parts : List Interval) (b : Bool) → slice_get w.sets i ≡ Some s → b ≡ parts_fit s.kinds parts → IsTrue b ↔ FitsSet w i parts
+fits_at w i s parts b at test = (
+  λ fit t there. let same : s ≡ t = cc (sym at ∙ there) in subst (λ (z : State). parts_fit z.kinds parts ≡ true) same (sym test ∙ fit),
+  λ fit. test ∙ fit s at,
+)

@@ -1,3 +1,4 @@
 pub mod Open
+pub mod OpenImage
 pub mod OpenSets
 pub mod Answers

@@ -4,6 +4,7 @@
 #![tactic(auto)]
 
 mod generation;
+mod open_image;
 mod open_set;
 mod sets;
 mod work;

@@ -5,7 +5,6 @@ use crate::{Generation, Work};
 use pipapo_image::{Added, ChangeError};
 use set_model::{
     Comment, Family, Interval, Kind, Kinds, Memory, Name, NewElement, Parts, Schema, SetDecl, Why,
-    parts_fit,
 };
 use std::alloc::Global;
 use std::process::Abort;
@@ -13,7 +12,7 @@ use std::sync::Arc;
 use std::test::Fail;
 
 /// A set of ports whose elements may expire.
-fn port_set(alloc: Global) -> Result<SetDecl, Memory>
+fn port_set(alloc: Global, size: Option<u32>) -> Result<SetDecl, Memory>
     ensures { IfOk result CanBeBuilt }
 {
     let mut kinds = Kinds::new(alloc);
@@ -27,16 +26,17 @@ fn port_set(alloc: Global) -> Result<SetDecl, Memory>
         timed: true,
         disjoint: false,
         timeout: None,
-        size: None,
+        size,
     })
 }
 
+/// Two sets, the second of at most 600 elements.
 fn two_sets(alloc: Global) -> Result<Schema, Memory>
     ensures { IfOk result (All CanBeBuilt) }
 {
     let mut schema = Schema::new(alloc);
-    schema.push(port_set(alloc)?)?;
-    schema.push(port_set(alloc)?)?;
+    schema.push(port_set(alloc, None)?)?;
+    schema.push(port_set(alloc, Some(600))?)?;
     Ok(schema)
 }
 
@@ -76,7 +76,7 @@ fn inserted(
 ) -> Result<Option<u64>, Memory> {
     let element = element(alloc, port(alloc, 80)?, expiry);
     assert!(rt; u64::from(set) < work.len());
-    assert!(rt; parts_fit(work.set(set).kinds(), &element.parts));
+    assert!(rt; work.fits(set, &element.parts));
     match work.insert(set, &element, 0) {
         Ok(Added::New { id }) => Ok(Some(id)),
         _ => Ok(None),
@@ -87,7 +87,7 @@ fn inserted(
 fn is_range_refused(rt: &impl Abort, alloc: Global, work: &mut Work) -> Result<bool, Memory> {
     let element = element(alloc, ports(alloc, 80, 81)?, None);
     assert!(rt; 0 < work.len());
-    assert!(rt; parts_fit(work.set(0).kinds(), &element.parts));
+    assert!(rt; work.fits(0, &element.parts));
     let answer = work.insert(0, &element, 0);
     Ok(answer == Err(ChangeError::Refused(Why::Overlap { id: 0 })))
 }
@@ -101,7 +101,7 @@ fn created(
 ) -> Result<Option<u64>, Memory> {
     let element = element(alloc, port(alloc, 80)?, None);
     assert!(rt; 0 < work.len());
-    assert!(rt; parts_fit(work.set(0).kinds(), &element.parts));
+    assert!(rt; work.fits(0, &element.parts));
     match work.create(0, &element, now) {
         Ok(id) => Ok(Some(id)),
         Err(_) => Ok(None),
@@ -145,10 +145,11 @@ fn sealed(
     work.seal(now)
 }
 
-/// How many elements a set has, with the open changes.
-fn count(rt: &impl Abort, work: &Work, set: u32) -> u64 {
-    assert!(rt; u64::from(set) < work.len());
-    work.set(set).elements().len()
+/// How many elements a set has, with the open changes, of which none expires at moment 0.
+fn count(rt: &impl Abort, work: &mut Work, set: u64) -> Result<u64, Memory> {
+    let (generation, _) = sealed(rt, work, 0)?;
+    assert!(rt; set < generation.sets.len());
+    Ok(generation.sets.at(set).elements().len())
 }
 
 /// How many generations and works share a set of a generation.
@@ -167,7 +168,7 @@ fn what_is_expired_is_created_anew_and_purged(rt: HostRuntime) -> Result<(), Fai
     let (generation, purged) = sealed(&rt, &mut work, 30_000)?;
     assert_eq!(rt; purged, 1);
     assert_eq!(rt; generation.number, 1);
-    assert_eq!(rt; count(&rt, &work, 0), 2);
+    assert_eq!(rt; count(&rt, &mut work, 0)?, 2);
     Ok(())
 }
 
@@ -188,8 +189,8 @@ fn an_abort_restores_all_sets(rt: HostRuntime) -> Result<(), Fail> {
     assert!(rt; inserted(&rt, alloc, &mut work, 0, None)? == Some(0));
     assert!(rt; inserted(&rt, alloc, &mut work, 1, None)? == Some(0));
     work.abort();
-    assert_eq!(rt; count(&rt, &work, 0), 0);
-    assert_eq!(rt; count(&rt, &work, 1), 0);
+    assert_eq!(rt; count(&rt, &mut work, 0)?, 0);
+    assert_eq!(rt; count(&rt, &mut work, 1)?, 0);
     Ok(())
 }
 

@@ -1,4 +1,4 @@
-ghost use Rattle.std.specs.Prelude.{◌≡◌, ◌<◌, ◌^◌, length, map, slice_get, Some, IfOk, OnErr};
+ghost use Rattle.std.specs.Prelude.{◌≡◌, ◌<◌, ◌^◌, ◌↔◌, IsTrue, length, map, IfOk, OnErr};
 ghost use Rattle.std.specs.Arc.{arc_value};
 ghost use Rattle.set_model.specs.SetState.{add, removed, purged, cleared};
 ghost use Rattle.set_model.specs.Control.{expired_count};
@@ -143,13 +143,14 @@ impl Work {
         self.base.len()
     }
 
-    /// A set as it stands with the open changes.
-    pub fn set(&self, set: u32) -> &SetImage
+    /// Whether these intervals may be handed to `insert` and `create`: there is one interval per field, of
+    /// its kind.
+    pub fn fits(&self, set: u32, parts: &Parts) -> bool
         requires { set < length self.now.sets }
-        ensures { slice_get self.now.sets set ≡ Some result.now }
+        ensures { IsTrue result ↔ FitsSet self.now set parts.now }
     {
         let base = self.base.set(set);
-        self.sets[set as usize].image(base)
+        self.sets[set as usize].fits(base, parts)
     }
 
     /// Inserts into a set. `now` is in milliseconds.

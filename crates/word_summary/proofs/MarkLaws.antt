@@ -1,18 +1,22 @@
 -- Lines of marks.
-use Rattle.std.proofs.Common.{◌≡◌, refl, sym, ◌∙◌, ap, ℕ, suc, ◌+◌, ◌-◌, ◌*◌, ◌/◌, ◌%◌, ◌^◌, ◌<◌, ◌≤◌, ◌⊎◌, inl, inr, Bool, true, false, ◌&&◌, ◌||◌, not, ◌==◌, nat_le, nat_lt, List, length, arith, bit_or, bit_and}
+use Rattle.std.proofs.Common.{◌≡◌, refl, sym, ◌∙◌, ap, ℕ, zero, suc, ◌+◌, ◌-◌, ◌*◌, ◌/◌, ◌%◌, ◌^◌, ◌<◌, ◌≤◌, ◌⊎◌, inl, inr, Bool, true, false, ◌&&◌, ◌||◌, not, ◌==◌, nat_le, nat_lt, List, length, arith, bit_or, bit_and}
 use Rattle.std.specs.Prelude.{slice_index}
+use mir.Val.{bool_byte}
 use Rattle.std.proofs.Math.ListN.{set, length-set}
 use Rattle.std.proofs.lemmas.List.{get_or-set_same, get_or-set_other}
 use Rattle.std.proofs.lemmas.Bool.{cases_lt, lt-ltb, le-ltb}
 use Rattle.std.proofs.lemmas.Bool.Decides.{nat_tests}
 use Rattle.std.proofs.Math.Bool.{and-true, and-false}
+use Rattle.std.proofs.Math.Nat.{mod-lt}
+use Rattle.std.proofs.lemmas.Nat.{div-add-mod', pow_pos}
+use Rattle.std.proofs.lemmas.Nat.Bits.{bit_at_cat_low, bit_at_cat_high}
 use Rattle.bit_rows.specs.Row.{bit}
 use Rattle.bit_rows.proofs.Bits.{bit-or, bit-and, bit-shl, bit-shr, bit-zero, bit-ones, bit-low_ones}
 use Rattle.set_model.specs.declared.block.Block.{Block}
 use Rattle.field_groups.specs.Groups.{every, group, agrees, fixed, first_agreeing, agreeing_count}
 use Rattle.field_groups.proofs.RunLaws.{agrees-run}
 use Rattle.std.proofs.lemmas.Bool.{and_parts, leb-true, ltb-true}
-use Rattle.word_summary.specs.Marks.{share, IsMarked, Keeps}
+use Rattle.word_summary.specs.Marks.{share, IsMarked, IsPageMarked, Keeps, is_candidate, IsSingle, AreCandidates}
 
 -- ---- one mark
 
@@ -100,61 +104,94 @@ share-bit a b k x y = shares (bit_and a b) (λ none. go (sym (bit-zero k) ∙ sy
 
 -- ---- one line
 
--- a word whose eight bits from `first` on are made anew
-pub eight-bits : (word first marks i : ℕ) → first + 8 ≤ 64 → i < 64
-    → bit (bit_or (bit_and word (1 * 2 ^ first % 2 ^ 64 - 1)) (bit_or (word / 2 ^ first / 2 ^ 8 * 2 ^ 8 % 2 ^ 64) marks * 2 ^ first % 2 ^ 64)) i
-    ≡ ((bit word i && nat_lt i first) || (nat_le first i && ((nat_le 8 (i - first) && bit word (first + (8 + (i - first - 8)))) || bit marks (i - first))))
-eight-bits word first marks i h l =
-    bit-or (bit_and word (1 * 2 ^ first % 2 ^ 64 - 1)) (bit_or (word / 2 ^ first / 2 ^ 8 * 2 ^ 8 % 2 ^ 64) marks * 2 ^ first % 2 ^ 64) i
-    ∙ ap (λ t. t || bit (bit_or (word / 2 ^ first / 2 ^ 8 * 2 ^ 8 % 2 ^ 64) marks * 2 ^ first % 2 ^ 64) i)
+-- a word whose n bits from `first` on are made anew
+pub run-bits : (word first n marks i : ℕ) → first < 64 → first + n ≤ 64 → i < 64
+    → bit (bit_or (bit_and word (1 * 2 ^ first % 2 ^ 64 - 1)) (bit_or (word / 2 ^ first / 2 ^ n * 2 ^ n % 2 ^ 64) marks * 2 ^ first % 2 ^ 64)) i
+    ≡ ((bit word i && nat_lt i first) || (nat_le first i && ((nat_le n (i - first) && bit word (first + (n + (i - first - n)))) || bit marks (i - first))))
+run-bits word first n marks i low h l =
+    bit-or (bit_and word (1 * 2 ^ first % 2 ^ 64 - 1)) (bit_or (word / 2 ^ first / 2 ^ n * 2 ^ n % 2 ^ 64) marks * 2 ^ first % 2 ^ 64) i
+    ∙ ap (λ t. t || bit (bit_or (word / 2 ^ first / 2 ^ n * 2 ^ n % 2 ^ 64) marks * 2 ^ first % 2 ^ 64) i)
     (bit-and word (1 * 2 ^ first % 2 ^ 64 - 1) i ∙ ap (λ t. bit word i && t) (bit-low_ones first i (omega arith)))
     ∙ ap (λ t. (bit word i && nat_lt i first) || t)
-    (bit-shl (bit_or (word / 2 ^ first / 2 ^ 8 * 2 ^ 8 % 2 ^ 64) marks) first i l
-    ∙ ap (λ t. nat_le first i && t) (bit-or (word / 2 ^ first / 2 ^ 8 * 2 ^ 8 % 2 ^ 64) marks (i - first)
+    (bit-shl (bit_or (word / 2 ^ first / 2 ^ n * 2 ^ n % 2 ^ 64) marks) first i l
+    ∙ ap (λ t. nat_le first i && t) (bit-or (word / 2 ^ first / 2 ^ n * 2 ^ n % 2 ^ 64) marks (i - first)
     ∙ ap (λ t. t || bit marks (i - first))
-    (bit-shl (word / 2 ^ first / 2 ^ 8) 8 (i - first) (omega arith)
-    ∙ ap (λ t. nat_le 8 (i - first) && t) (bit-shr (word / 2 ^ first) 8 (i - first - 8) ∙ bit-shr word first (8 + (i - first - 8))))))
+    (bit-shl (word / 2 ^ first / 2 ^ n) n (i - first) (omega arith)
+    ∙ ap (λ t. nat_le n (i - first) && t) (bit-shr (word / 2 ^ first) n (i - first - n) ∙ bit-shr word first (n + (i - first - n))))))
 
-eight-below : (word first marks i : ℕ) → first + 8 ≤ 64 → i < first → bit (bit_or (bit_and word (1 * 2 ^ first % 2 ^ 64 - 1)) (bit_or (word / 2 ^ first / 2 ^ 8 * 2 ^ 8 % 2 ^ 64) marks * 2 ^ first % 2 ^ 64)) i ≡ bit word i
-eight-below word first marks i h l =
-    eight-bits word first marks i h (omega arith)
-    ∙ ap (λ t. (bit word i && t) || (nat_le first i && ((nat_le 8 (i - first) && bit word (first + (8 + (i - first - 8)))) || bit marks (i - first)))) (lt-ltb i first l)
-    ∙ ap (λ t. (bit word i && true) || (t && ((nat_le 8 (i - first) && bit word (first + (8 + (i - first - 8)))) || bit marks (i - first)))) (not-leb first i l)
+run-below : (word first n marks i : ℕ) → first < 64 → first + n ≤ 64 → i < first → bit (bit_or (bit_and word (1 * 2 ^ first % 2 ^ 64 - 1)) (bit_or (word / 2 ^ first / 2 ^ n * 2 ^ n % 2 ^ 64) marks * 2 ^ first % 2 ^ 64)) i ≡ bit word i
+run-below word first n marks i low h l =
+    run-bits word first n marks i low h (omega arith)
+    ∙ ap (λ t. (bit word i && t) || (nat_le first i && ((nat_le n (i - first) && bit word (first + (n + (i - first - n)))) || bit marks (i - first)))) (lt-ltb i first l)
+    ∙ ap (λ t. (bit word i && true) || (t && ((nat_le n (i - first) && bit word (first + (n + (i - first - n)))) || bit marks (i - first)))) (not-leb first i l)
     ∙ or-unset (bit word i && true) false refl ∙ and-true (bit word i)
 
-eight-here : (word first marks k : ℕ) → first + 8 ≤ 64 → k < 8 → bit (bit_or (bit_and word (1 * 2 ^ first % 2 ^ 64 - 1)) (bit_or (word / 2 ^ first / 2 ^ 8 * 2 ^ 8 % 2 ^ 64) marks * 2 ^ first % 2 ^ 64)) (first + k) ≡ bit marks k
-eight-here word first marks k h l =
+run-here : (word first n marks k : ℕ) → first + n ≤ 64 → k < n → bit (bit_or (bit_and word (1 * 2 ^ first % 2 ^ 64 - 1)) (bit_or (word / 2 ^ first / 2 ^ n * 2 ^ n % 2 ^ 64) marks * 2 ^ first % 2 ^ 64)) (first + k) ≡ bit marks k
+run-here word first n marks k h l =
     let e : first + k - first ≡ k = omega arith in
-    eight-bits word first marks (first + k) h (omega arith)
-    ∙ ap (λ t. (bit word (first + k) && t) || (nat_le first (first + k) && ((nat_le 8 (first + k - first) && bit word (first + (8 + (first + k - first - 8)))) || bit marks (first + k - first)))) (le-ltb (first + k) first (omega arith))
-    ∙ ap (λ t. t || (nat_le first (first + k) && ((nat_le 8 (first + k - first) && bit word (first + (8 + (first + k - first - 8)))) || bit marks (first + k - first)))) (and-false (bit word (first + k)))
-    ∙ ap (λ t. t && ((nat_le 8 (first + k - first) && bit word (first + (8 + (first + k - first - 8)))) || bit marks (first + k - first))) (leb first (first + k) (omega arith))
-    ∙ ap (λ t. (t && bit word (first + (8 + (first + k - first - 8)))) || bit marks (first + k - first)) (not-leb 8 (first + k - first) (omega arith))
+    run-bits word first n marks (first + k) (omega arith) h (omega arith)
+    ∙ ap (λ t. (bit word (first + k) && t) || (nat_le first (first + k) && ((nat_le n (first + k - first) && bit word (first + (n + (first + k - first - n)))) || bit marks (first + k - first)))) (le-ltb (first + k) first (omega arith))
+    ∙ ap (λ t. t || (nat_le first (first + k) && ((nat_le n (first + k - first) && bit word (first + (n + (first + k - first - n)))) || bit marks (first + k - first)))) (and-false (bit word (first + k)))
+    ∙ ap (λ t. t && ((nat_le n (first + k - first) && bit word (first + (n + (first + k - first - n)))) || bit marks (first + k - first))) (leb first (first + k) (omega arith))
+    ∙ ap (λ t. (t && bit word (first + (n + (first + k - first - n)))) || bit marks (first + k - first)) (not-leb n (first + k - first) (omega arith))
     ∙ ap (bit marks) e
 
-eight-above : (word first marks i : ℕ) → first + 8 ≤ i → i < 64 → bit marks (i - first) ≡ false → bit (bit_or (bit_and word (1 * 2 ^ first % 2 ^ 64 - 1)) (bit_or (word / 2 ^ first / 2 ^ 8 * 2 ^ 8 % 2 ^ 64) marks * 2 ^ first % 2 ^ 64)) i ≡ bit word i
-eight-above word first marks i low high small =
-    let e : first + (8 + (i - first - 8)) ≡ i = omega arith in
-    eight-bits word first marks i (omega arith) high
-    ∙ ap (λ t. (bit word i && t) || (nat_le first i && ((nat_le 8 (i - first) && bit word (first + (8 + (i - first - 8)))) || bit marks (i - first)))) (le-ltb i first (omega arith))
-    ∙ ap (λ t. t || (nat_le first i && ((nat_le 8 (i - first) && bit word (first + (8 + (i - first - 8)))) || bit marks (i - first)))) (and-false (bit word i))
-    ∙ ap (λ t. t && ((nat_le 8 (i - first) && bit word (first + (8 + (i - first - 8)))) || bit marks (i - first))) (leb first i (omega arith))
-    ∙ ap (λ t. (t && bit word (first + (8 + (i - first - 8)))) || bit marks (i - first)) (leb 8 (i - first) (omega arith))
-    ∙ or-unset (bit word (first + (8 + (i - first - 8)))) (bit marks (i - first)) small
+run-above : (word first n marks i : ℕ) → first + n ≤ i → i < 64 → bit marks (i - first) ≡ false → bit (bit_or (bit_and word (1 * 2 ^ first % 2 ^ 64 - 1)) (bit_or (word / 2 ^ first / 2 ^ n * 2 ^ n % 2 ^ 64) marks * 2 ^ first % 2 ^ 64)) i ≡ bit word i
+run-above word first n marks i low high small =
+    let e : first + (n + (i - first - n)) ≡ i = omega arith in
+    run-bits word first n marks i (omega arith) (omega arith) high
+    ∙ ap (λ t. (bit word i && t) || (nat_le first i && ((nat_le n (i - first) && bit word (first + (n + (i - first - n)))) || bit marks (i - first)))) (le-ltb i first (omega arith))
+    ∙ ap (λ t. t || (nat_le first i && ((nat_le n (i - first) && bit word (first + (n + (i - first - n)))) || bit marks (i - first)))) (and-false (bit word i))
+    ∙ ap (λ t. t && ((nat_le n (i - first) && bit word (first + (n + (i - first - n)))) || bit marks (i - first))) (leb first i (omega arith))
+    ∙ ap (λ t. (t && bit word (first + (n + (i - first - n)))) || bit marks (i - first)) (leb n (i - first) (omega arith))
+    ∙ or-unset (bit word (first + (n + (i - first - n)))) (bit marks (i - first)) small
     ∙ ap (bit word) e
 
-pub line-marked : (old : List ℕ) (line first marks : ℕ) → line < length old → first + 8 ≤ 64 → ((k : ℕ) → 8 ≤ k → k < 64 → bit marks k ≡ false)
-    → IsMarked line first marks old (set old line (bit_or (bit_and (slice_index old line) (1 * 2 ^ first % 2 ^ 64 - 1)) (bit_or (slice_index old line / 2 ^ first / 2 ^ 8 * 2 ^ 8 % 2 ^ 64) marks * 2 ^ first % 2 ^ 64)))
-line-marked old line first marks h within small = record {
+pub line-marked : (old : List ℕ) (line first n marks : ℕ) → line < length old → first < 64 → first + n ≤ 64 → ((k : ℕ) → n ≤ k → k < 64 → bit marks k ≡ false)
+    → IsMarked line first n marks old (set old line (bit_or (bit_and (slice_index old line) (1 * 2 ^ first % 2 ^ 64 - 1)) (bit_or (slice_index old line / 2 ^ first / 2 ^ n * 2 ^ n % 2 ^ 64) marks * 2 ^ first % 2 ^ 64)))
+line-marked old line first n marks h low within small = record {
   long = length-set old line _;
   others = λ i out. get_or-set_other old line i _ 0 out;
-  below = λ k l. here k ∙ eight-below (slice_index old line) first marks k within l;
-  above = λ k l m. here k ∙ eight-above (slice_index old line) first marks k l m (small (k - first) (omega arith) (omega arith));
-  here = λ k l. here (first + k) ∙ eight-here (slice_index old line) first marks k within l;
+  below = λ k l. here k ∙ run-below (slice_index old line) first n marks k low within l;
+  above = λ k l m. here k ∙ run-above (slice_index old line) first n marks k l m (small (k - first) (omega arith) (omega arith));
+  here = λ k l. here (first + k) ∙ run-here (slice_index old line) first n marks k within l;
 } where
-  here : (k : ℕ) → bit (slice_index (set old line (bit_or (bit_and (slice_index old line) (1 * 2 ^ first % 2 ^ 64 - 1)) (bit_or (slice_index old line / 2 ^ first / 2 ^ 8 * 2 ^ 8 % 2 ^ 64) marks * 2 ^ first % 2 ^ 64))) line) k
-      ≡ bit (bit_or (bit_and (slice_index old line) (1 * 2 ^ first % 2 ^ 64 - 1)) (bit_or (slice_index old line / 2 ^ first / 2 ^ 8 * 2 ^ 8 % 2 ^ 64) marks * 2 ^ first % 2 ^ 64)) k
+  here : (k : ℕ) → bit (slice_index (set old line (bit_or (bit_and (slice_index old line) (1 * 2 ^ first % 2 ^ 64 - 1)) (bit_or (slice_index old line / 2 ^ first / 2 ^ n * 2 ^ n % 2 ^ 64) marks * 2 ^ first % 2 ^ 64))) line) k
+      ≡ bit (bit_or (bit_and (slice_index old line) (1 * 2 ^ first % 2 ^ 64 - 1)) (bit_or (slice_index old line / 2 ^ first / 2 ^ n * 2 ^ n % 2 ^ 64) marks * 2 ^ first % 2 ^ 64)) k
   here k = ap (λ x. bit x k) (get_or-set_same old line _ 0 h)
+
+-- ---- a page's mark
+
+-- whether a line has a mark, as a word
+pub one-mark : (some : Bool) (i : ℕ) → bit (bool_byte some) i ≡ (nat_lt i 1 && some)
+one-mark true i = bit-ones 1 i ∙ sym (and-true (nat_lt i 1))
+one-mark false i = bit-zero i ∙ sym (and-false (nat_lt i 1))
+
+pub page-none : (k : ℕ) (lines old : List ℕ) → IsPageMarked k 0 lines old old
+page-none k lines old = record { long = refl; here = λ j h. absurd (omega arith); others = λ j i h differs. refl }
+
+pub page-more : (k j mark : ℕ) (lines old top new : List ℕ) → bit mark 0 ≡ not (slice_index lines j == 0) → IsMarked j k 1 mark top new → IsPageMarked k j lines old top → IsPageMarked k (j + 1) lines old new
+page-more k j mark lines old top new is marked so_far = record {
+  long = marked.long ∙ so_far.long;
+  here = λ i h. here i h (same_or_not i j);
+  others = λ i m h differs. others i m h differs (same_or_not i j) (same_or_not m k);
+} where
+  here : (i : ℕ) → i < j + 1 → (i ≡ j) ⊎ ((i < j) ⊎ (j < i)) → bit (slice_index new i) k ≡ not (slice_index lines i == 0)
+  here i h (inl e) =
+      let at : k + 0 ≡ k = omega arith in
+      ap (λ x. bit (slice_index new x) k) e ∙ ap (bit (slice_index new j)) (sym at) ∙ marked.here 0 (omega arith) ∙ is ∙ ap (λ x. not (slice_index lines x == 0)) (sym e)
+  here i h (inr (inl l)) = ap (λ x. bit x k) (marked.others i (λ e. absurd (omega arith))) ∙ so_far.here i l
+  here i h (inr (inr l)) = absurd (omega arith)
+
+  line : (m : ℕ) → m < 64 → (m ≡ k → ⊥) → (m ≡ k) ⊎ ((m < k) ⊎ (k < m)) → bit (slice_index new j) m ≡ bit (slice_index top j) m
+  line m h differs (inl e) = absurd (differs e)
+  line m h differs (inr (inl l)) = marked.below m l
+  line m h differs (inr (inr l)) = marked.above m (omega arith) h
+
+  others : (i m : ℕ) → m < 64 → (m ≡ k → ⊥) → (i ≡ j) ⊎ ((i < j) ⊎ (j < i)) → (m ≡ k) ⊎ ((m < k) ⊎ (k < m)) → bit (slice_index new i) m ≡ bit (slice_index old i) m
+  others i m h differs (inl e) where_m = ap (λ x. bit (slice_index new x) m) e ∙ line m h differs where_m ∙ ap (λ x. bit (slice_index top x) m) (sym e) ∙ so_far.others i m h differs
+  others i m h differs (inr (inl l)) where_m = ap (λ x. bit x m) (marked.others i (λ e. absurd (omega arith))) ∙ so_far.others i m h differs
+  others i m h differs (inr (inr l)) where_m = ap (λ x. bit x m) (marked.others i (λ e. absurd (omega arith))) ∙ so_far.others i m h differs
 
 -- ---- a block's lines
 
@@ -197,12 +234,90 @@ run-lines bits n base mask v block e f h a =
 
 -- ---- candidates
 
--- one byte more
-pub groups-more : (lines : List ℕ) (value bits g left v : ℕ) → v ≡ group 8 bits g value
-    → ((k : ℕ) → k < 64 → bit left k ≡ every (λ g. bit (slice_index lines (g * 256 + group 8 bits g value)) k) g)
-    → (k : ℕ) → k < 64 → bit (bit_and left (slice_index lines (g * 256 + v))) k ≡ every (λ g. bit (slice_index lines (g * 256 + group 8 bits g value)) k) (g + 1)
-groups-more lines value bits g left v e so_far k h =
-    let more : g + 1 ≡ suc g = omega arith in
-    bit-and left (slice_index lines (g * 256 + v)) k ∙ ap (λ t. t && bit (slice_index lines (g * 256 + v)) k) (so_far k h)
-    ∙ ap (λ n. every (λ g. bit (slice_index lines (g * 256 + group 8 bits g value)) k) g && bit (slice_index lines (g * 256 + n)) k) e
-    ∙ ap (every (λ g. bit (slice_index lines (g * 256 + group 8 bits g value)) k)) (sym more)
+every-at : (p : ℕ → Bool) (n g : ℕ) → g < n → every p n ≡ true → p g ≡ true
+every-at p zero g h all = absurd (omega arith)
+every-at p (suc n) g h all = go (cases_lt g n) (λ l. every-at p n g l (and_parts (every p n) (p n) all).0) where
+  go : (g < n) ⊎ (n ≤ g) → (g < n → p g ≡ true) → p g ≡ true
+  go (inl l) before = before l
+  go (inr l) before = let e : g ≡ n = omega arith in ap p e ∙ (and_parts (every p n) (p n) all).1
+
+every-from : (p : ℕ → Bool) (n : ℕ) → ((g : ℕ) → g < n → p g ≡ true) → every p n ≡ true
+every-from p zero each = refl
+every-from p (suc n) each = and-true-both (every p n) (p n) (every-from p n (λ g h. each g (omega arith))) (each n (omega arith))
+
+-- What is left behind byte n: each candidate, and words that are marked for each byte from byte n on.
+pub record AreLeft (bits n : ℕ) (page : List ℕ) (value left : ℕ) : Type 0 where
+  pub all : (k : ℕ) → k < 64 → is_candidate bits page value k ≡ true → bit left k ≡ true
+  pub marked : (k g : ℕ) → k < 64 → n ≤ g → g < bits / 8 → bit left k ≡ true → bit (slice_index page (g * 256 + group 8 bits g value)) k ≡ true
+
+pub left-none : (bits n : ℕ) (page : List ℕ) (value : ℕ) → bits / 8 ≤ n → AreLeft bits n page value (2 ^ 64 - 1)
+left-none bits n page value past = record { all = λ k h c. bit-ones 64 k ∙ lt-ltb k 64 h; marked = λ k g h low l set. absurd (omega arith) }
+
+pub left-more : (bits n g v : ℕ) (page : List ℕ) (value left : ℕ) → g + 1 ≡ n → g < bits / 8 → v ≡ group 8 bits g value → AreLeft bits n page value left → AreLeft bits g page value (bit_and left (slice_index page (g * 256 + v)))
+left-more bits n g v page value left next within is so_far = record {
+  all = λ k h c.
+      bit-and left (slice_index page (g * 256 + v)) k
+      ∙ and-true-both (bit left k) (bit (slice_index page (g * 256 + v)) k) (so_far.all k h c) (ap (λ x. bit (slice_index page (g * 256 + x)) k) is ∙ every-at (λ i. bit (slice_index page (i * 256 + group 8 bits i value)) k) (bits / 8) g within c);
+  marked = λ k i h low l set.
+      let parts = and_parts (bit left k) (bit (slice_index page (g * 256 + v)) k) (sym (bit-and left (slice_index page (g * 256 + v)) k) ∙ set) in
+      one k i h low l parts.0 parts.1 (cases_lt g i);
+} where
+  one : (k i : ℕ) → k < 64 → g ≤ i → i < bits / 8 → bit left k ≡ true → bit (slice_index page (g * 256 + v)) k ≡ true → (g < i) ⊎ (i ≤ g) → bit (slice_index page (i * 256 + group 8 bits i value)) k ≡ true
+  one k i h low l before here (inl m) = so_far.marked k i h (omega arith) l before
+  one k i h low l before here (inr m) =
+      let e : i ≡ g = omega arith in
+      ap (λ x. bit (slice_index page (x * 256 + group 8 bits x value)) k) e ∙ ap (λ x. bit (slice_index page (g * 256 + x)) k) (sym is) ∙ here
+
+-- all bytes
+pub left-all : (bits : ℕ) (page : List ℕ) (value left : ℕ) → AreLeft bits 0 page value left → AreCandidates bits page value left
+left-all bits page value left so_far = record {
+  all = so_far.all;
+  two = λ j k order h a b. and-true-both _ _ (one j (omega arith) a) (one k h b);
+} where
+  one : (k : ℕ) → k < 64 → bit left k ≡ true → is_candidate bits page value k ≡ true
+  one k h set = every-from (λ g. bit (slice_index page (g * 256 + group 8 bits g value)) k) (bits / 8) (λ g l. so_far.marked k g h (omega arith) l set)
+
+-- one word at most
+pub left-single : (bits n : ℕ) (page : List ℕ) (value left : ℕ) → IsSingle left → AreLeft bits n page value left → AreCandidates bits page value left
+left-single bits n page value left single so_far = record { all = so_far.all; two = λ j k order h a b. absurd (single.one j k order a b) }
+
+low-bit : (a n r k : ℕ) → k < n → bit (a * 2 ^ n + r) k ≡ bit r k
+unfolding bit
+low-bit a n r k h = ap (λ x. x == 1) (bit_at_cat_low a n r k h)
+
+high-bit : (a n r : ℕ) → r < 2 ^ n → bit (a * 2 ^ n + r) n ≡ bit a 0
+unfolding bit
+high-bit a n r h = let e : n - n ≡ 0 = omega arith in ap (λ x. x == 1) (bit_at_cat_high a n r n h (omega arith)) ∙ ap (bit a) e
+
+unset : (k : ℕ) → bit 0 k ≡ true → ⊥
+unset k set = go (sym (bit-zero k) ∙ set) where
+  go : false ≡ true → ⊥
+  go e = absurd (cc e)
+
+-- the number one below a word has the word's bits above its lowest one
+one-less : (word j k : ℕ) → j < k → bit word j ≡ true → bit (word - 1) k ≡ bit word k
+one-less word j k order set = go (cases_lt 0 (word % 2 ^ k)) where
+  whole : word / 2 ^ k * 2 ^ k + word % 2 ^ k ≡ word
+  whole = div-add-mod' word (2 ^ k)
+
+  small : word % 2 ^ k < 2 ^ k
+  small = mod-lt word (pow_pos k)
+
+  go : (0 < word % 2 ^ k) ⊎ (word % 2 ^ k ≤ 0) → bit (word - 1) k ≡ bit word k
+  go (inl some) =
+      let less : word / 2 ^ k * 2 ^ k + (word % 2 ^ k - 1) ≡ word - 1 = omega (arith, whole, some) in
+      ap (λ n. bit n k) (sym less) ∙ high-bit (word / 2 ^ k) k (word % 2 ^ k - 1) (omega (arith, small)) ∙ sym (high-bit (word / 2 ^ k) k (word % 2 ^ k) small) ∙ ap (λ n. bit n k) whole
+  go (inr none) =
+      let empty : word % 2 ^ k ≡ 0 = omega (arith, none) in
+      absurd (unset j (ap (λ n. bit n j) (sym empty) ∙ sym (low-bit (word / 2 ^ k) k (word % 2 ^ k) j order) ∙ ap (λ n. bit n j) whole ∙ set))
+
+pub no-word : (word : ℕ) → (word == 0) ≡ true → word ≡ 0
+no-word word none = grind (arith, nat_tests, none)
+
+pub single : (word less : ℕ) → (1 ≤ word → less ≡ word - 1) → bit_and word less ≡ 0 → IsSingle word
+single word less is none = record { one = λ j k order a b. unset k (ap (λ n. bit n k) (sym none) ∙ bit-and word less k ∙ and-true-both (bit word k) (bit less k) b (ap (λ n. bit n k) (is (some j a)) ∙ one-less word j k order a ∙ b)) } where
+  some : (j : ℕ) → bit word j ≡ true → 1 ≤ word
+  some j a = go (cases_lt 0 word) where
+    go : (0 < word) ⊎ (word ≤ 0) → 1 ≤ word
+    go (inl l) = l
+    go (inr l) = let empty : word ≡ 0 = omega arith in absurd (unset j (ap (λ n. bit n j) (sym empty) ∙ a))

@@ -1,7 +1,7 @@
 ghost use Rattle.std.specs.Prelude.{◌≡◌, ℕ, ◌+◌, ◌-◌, ◌*◌, ◌/◌, ◌^◌, ◌<◌, ◌≤◌, ◌&&◌, true, false, nat_lt, length, slice_index, replicate, IfOk};
 ghost use Rattle.bit_rows.specs.Row.{bit};
 ghost use Rattle.field_groups.specs.Groups.{IsWidth};
-ghost use Rattle.word_summary.specs.Marks.{share, IsPage, IsMarked, Keeps, IsBlockMarked, is_candidate};
+ghost use Rattle.word_summary.specs.Marks.{share, IsPage, IsMarked, IsPageMarked, Keeps, IsBlockMarked, IsSingle, AreCandidates};
 ghost use Rattle.set_model.specs.Blocks.{IsWithin};
 
 use field_groups::{group_mask, group_value};
@@ -23,21 +23,36 @@ pub fn new_page(alloc: Global, bits: u32) -> Result<Page<u64>, Memory>
     Ok(Page::from_vec(lines))
 }
 
-/// The words that may have a rule which holds the value: those that are marked for each of its bytes.
-/// Bit 0 stands for the first.
+/// The words that may have a rule which holds the value: those that are marked for each of its bytes, or
+/// one word at most. Bit 0 stands for the first.
 #[inline(always)]
 pub fn candidates(lines: &[u64], value: u128, bits: u32) -> u64
     requires groups { IsWidth 8 bits }
     requires page { IsPage bits lines.now }
     requires value { value < 2 ^ bits }
-    ensures { (k : ℕ) → k < 64 → bit result k ≡ is_candidate bits lines.now value k }
+    ensures { AreCandidates bits lines.now value result }
 {
+    // The last bytes tell most rules apart.
+    let bytes = bits / 8;
     let mut left = u64::MAX;
-    'groups: for g in 0..bits / 8 {
+    'bytes: for i in 0..bytes {
+        let g = bytes - 1 - i;
         let v = group_value(value, 8, bits, g);
         left &= lines[g as usize * 256 + v as usize];
+        if is_enough(i, left) {
+            return left;
+        }
     }
     left
+}
+
+/// Whether a look at more bytes than those up to the `i`-th pays no more: at most one word is left. In four
+/// bytes there is no stop, where a wrong guess of it costs more than the bytes.
+#[inline(always)]
+fn is_enough(i: u32, left: u64) -> bool
+    ensures { result ≡ true → IsSingle left }
+{
+    i >= 3 && left & left.wrapping_sub(1) == 0
 }
 
 /// Which of the eight words of two lines of a page have a bit in common. Bit 0 stands for the first.
@@ -57,22 +72,36 @@ pub fn shared_words(words: &[u64], upper: usize, lower: usize) -> u64
     marks
 }
 
-/// Makes a line's marks of the eight words from word `8 * eight` on anew. Bit 0 of `marks` stands for
-/// the first of them.
+/// Makes a line's `n` marks from mark `first` on anew. Bit 0 of `marks` stands for the first of them.
 #[inline(always)]
-pub fn mark_line(page: &mut Page<u64>, line: usize, eight: u32, marks: u64)
+pub fn mark_line(page: &mut Page<u64>, line: usize, first: u32, n: u32, marks: u64)
     requires own { page.old.own ≡ true }
     requires line { line < length page.old.items }
-    requires eight { eight < 8 }
-    requires marks { (k : ℕ) → 8 ≤ k → k < 64 → bit marks k ≡ false }
+    requires first { first < 64 }
+    requires few { n < 64 }
+    requires within { first + n ≤ 64 }
+    requires marks { (k : ℕ) → n ≤ k → k < 64 → bit marks k ≡ false }
     ensures own { page.new.own ≡ true }
-    ensures marked { IsMarked line (8 * eight) marks page.old.items page.new.items }
+    ensures marked { IsMarked line first n marks page.old.items page.new.items }
 {
     let before = page.as_slice()[line];
-    let first = 8 * eight;
     let low = before & ((1u64 << first) - 1);
-    let high = before >> first >> 8 << 8;
+    let high = before >> first >> n << n;
     page.put(line, low | (high | marks) << first);
+}
+
+/// Makes mark `k` of each line of a top anew, where `lines` are those of the page that it stands for: it
+/// is set where the page has a mark in the line.
+pub fn mark_page(top: &mut Page<u64>, lines: &[u64], k: u32)
+    requires own { top.old.own ≡ true }
+    requires lines { length lines.now ≡ length top.old.items }
+    requires page { k < 64 }
+    ensures own { top.new.own ≡ true }
+    ensures marked { IsPageMarked k (length lines.now) lines.now top.old.items top.new.items }
+{
+    'lines: for j in 0..lines.len() {
+        mark_line(top, j, k, 1, (lines[j] != 0) as u64);
+    }
 }
 
 /// Marks word `k` in each line whose value agrees with the block: for each byte a run of lines.
@@ -92,9 +121,9 @@ pub fn mark_block(page: &mut Page<u64>, block: Block, bits: u32, k: u32)
     }
 }
 
-/// Sets bit `k` of the lines from `first` up to `last`.
+/// Sets mark `k` of the lines from `first` up to `last`.
 #[inline(always)]
-fn mark_run(page: &mut Page<u64>, first: usize, last: usize, k: u32)
+pub fn mark_run(page: &mut Page<u64>, first: usize, last: usize, k: u32)
     requires own { page.old.own ≡ true }
     requires lines { last ≤ length page.old.items }
     requires word { k < 64 }

@@ -65,8 +65,12 @@ impl SetImage {
         }
     }
 
-    /// Gives the element at place `i` another expiry. All memory is taken before the first change.
-    fn renew(&mut self, alloc: Global, i: u64, expiry: Option<u64>) -> Result<(), Memory>
+    /// Gives the element at place `i` another expiry, in milliseconds. All memory is taken before the
+    /// first change.
+    ///
+    /// # Errors
+    /// `Memory` if there is none left. The set is as it was.
+    pub fn renew(&mut self, alloc: Global, i: u64, expiry: Option<u64>) -> Result<(), Memory>
         requires { i < length self.old.elements }
         ensures ok { OnOk result (self.new ≡ renewed self.old i expiry) }
         ensures err { OnErr result (self.new ≡ self.old) }

@@ -15,5 +15,5 @@ returns c = λ blocks s.
     let n = s.one_each in
     let m = matched test blocks (replicate c.args.table.now.rules true) in
     let long : length m ≡ length c.args.ends.now.items = length-left test blocks (replicate c.args.table.now.rules true) (omega arith) ∙ n ∙ sym c.requires.rules in
-    let past : length c.args.ends.now.items ≤ 64 * (64 * c.pages.p) = omega (arith, c.requires.rules, c.div_ceil-p-end.ensures) in
-    nowhere-all c.args.ends.now.items m c.args.now (64 * (64 * c.pages.p)) long past (c.pages.invariant blocks s (nowhere-none c.args.ends.now.items m c.args.now))
+    let past : length c.args.ends.now.items ≤ 64 * (64 * (64 * c.tops.q)) = omega (arith, c.requires.rules, c.div_ceil-q-end.ensures) in
+    nowhere-all c.args.ends.now.items m c.args.now (64 * (64 * (64 * c.tops.q))) long past (c.tops.invariant blocks s (nowhere-none c.args.ends.now.items m c.args.now))

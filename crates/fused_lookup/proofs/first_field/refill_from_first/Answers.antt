@@ -4,25 +4,26 @@ use Rattle.std.proofs.lemmas.List.{length-replicate}
 use Rattle.set_model.specs.declared.block.Block.{Block}
 use Rattle.set_model.specs.Blocks.{holds_value}
 use Rattle.set_tables.specs.Rows.{matched}
-use Rattle.fused_lookup.proofs.FillLaws.{filled-none, filled-all, clear-window}
+use Rattle.fused_lookup.proofs.FillLaws.{filled-none, filled-all}
 use Rattle.fused_lookup.proofs.MatchLaws.{length-left}
+use Rattle.fused_lookup.proofs.WindowLaws.{clear-window}
 use Rattle.fused_lookup.proofs.first_field.refill_from_first.Goals as goal
 
-pub pages-init : goal.pages-init
-pages-init c = record {
+pub tops-init : goal.tops-init
+tops-init c = record {
   filled = λ blocks s before. before;
   window = clear-window c.args.next.now.bits c.none-reached.result c.none-reached.ensures c.requires.clear;
   len = refl;
   spare = refl;
 }
 
-pub pages-preserved : goal.pages-preserved
-pages-preserved c =
+pub tops-preserved : goal.tops-preserved
+tops-preserved c =
     record {
-      filled = λ blocks s before. c.refill_page-reached.ensures.filled blocks s (c.pages.invariant.filled blocks s before);
-      window = c.refill_page-reached.ensures.window;
-      len = c.refill_page-reached.ensures.len ∙ c.pages.invariant.len;
-      spare = c.refill_page-reached.ensures.spare ∙ c.pages.invariant.spare;
+      filled = λ blocks s before. c.refill_pages-reached.ensures.filled blocks s (c.tops.invariant.filled blocks s before);
+      window = c.refill_pages-reached.ensures.window;
+      len = c.refill_pages-reached.ensures.len ∙ c.tops.invariant.len;
+      spare = c.refill_pages-reached.ensures.spare ∙ c.tops.invariant.spare;
     }
 
 pub returns-clause-refilled : goal.returns-clause-refilled
@@ -32,5 +33,5 @@ returns-clause-refilled c = λ blocks s.
     let n = s.one_each in
     let m = matched test blocks (replicate c.args.table.now.rules true) in
     let long : length m ≡ length c.args.spans.now.items = length-left test blocks (replicate c.args.table.now.rules true) (omega arith) ∙ n ∙ sym c.requires.rules in
-    let past : length c.args.spans.now.items ≤ 64 * (64 * c.pages.p) = omega (arith, c.requires.rules, c.div_ceil-p-end.ensures) in
-    filled-all c.args.spans.now.items m (64 * (64 * c.pages.p)) c.pages.next.bits long past (c.pages.invariant.filled blocks s (filled-none c.args.spans.now.items m c.args.next.now.bits c.requires.clear))
+    let past : length c.args.spans.now.items ≤ 64 * (64 * (64 * c.tops.q)) = omega (arith, c.requires.rules, c.div_ceil-q-end.ensures) in
+    filled-all c.args.spans.now.items m (64 * (64 * (64 * c.tops.q))) c.tops.next.bits long past (c.tops.invariant.filled blocks s (filled-none c.args.spans.now.items m c.args.next.now.bits c.requires.clear))

@@ -1,7 +1,6 @@
 use Rattle.std.proofs.Common.{ℕ, sym, ◌+◌, ◌≡◌, ◌<◌, ◌≤◌, ◌*◌, ◌^◌, ◌∙◌, ◌⊎◌, inl, inr, ap, length, subst, arith}
 use Rattle.std.proofs.lemmas.Bool.{cases_lt}
 use Rattle.std.proofs.lemmas.List.{length_push}
-use Rattle.shared_pages.specs.Paged.{PageOf}
 use Rattle.lookup_table.specs.Lines.{AreOwned}
 use Rattle.lookup_table.proofs.LineLaws.{owned-none, more-none, more-both, more-page, owned-push}
 use Rattle.lookup_table.proofs.lines.add_pages.Goals as goal

@@ -1,4 +1,4 @@
-use Rattle.std.proofs.Common.{◌≡◌, ◌∙◌, ap, ◌<◌, ◌*◌, ◌/◌, length, get_or, true, arith}
+use Rattle.std.proofs.Common.{◌≡◌, ◌∙◌, ap, ◌/◌, get_or, true, arith}
 use Rattle.lookup_table.proofs.LineLaws.{page-line}
 use Rattle.lookup_table.proofs.WriteLaws.{alike-line, closed-none, closed-word, closed-page}
 use Rattle.lookup_table.proofs.lines.close_pages.Goals as goal

@@ -9,8 +9,8 @@ returns-then-i-first c = word-before c.args.pages.now.items c.args.first c.args.
 
 pub returns : goal.returns
 returns c =
-    word-closed c.args.first c.args.n c.args.p c.args.x c.word_of-before.result c.word_from-moved.result c.merged.result c.saturating_sub-low.result c.args.pages.now.items c.write_word.new.pages.items
+    word-closed c.args.first c.args.n c.args.p c.args.x c.word_at-before.result c.moved_word-moved.result c.merged.result c.saturating_sub-low.result c.args.pages.now.items c.write_word.new.pages.items
     c.write_word.ensures (omega (arith, c.if-i-first.false)) c.saturating_sub-low.ensures
-    (c.word_of-before.ensures ∙ ap (λ ps. slice_index (words_at ps ((c.args.p * 8 + c.args.x % 8) / 8)) (c.args.x / 8 * 8 + (c.args.p * 8 + c.args.x % 8) % 8)) c.as_slice.ensures.value)
-    (λ k h. c.word_from-moved.ensures k h ∙ ap (λ ps. line_bit ps (c.args.x / 8) (64 * (c.args.p * 8 + c.args.x % 8) + c.args.n + k)) c.as_slice-2.ensures.value)
+    (c.word_at-before.ensures ∙ ap (λ ps. slice_index (words_at ps c.args.p) c.args.x) c.as_slice.ensures.value)
+    (λ k h. c.moved_word-moved.ensures k h ∙ ap (λ ps. line_bit ps (c.args.x / 8) (64 * (c.args.p * 8 + c.args.x % 8) + c.args.n + k)) c.as_slice-2.ensures.value)
     c.merged.ensures

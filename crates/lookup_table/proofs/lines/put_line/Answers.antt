@@ -1,4 +1,4 @@
-use Rattle.std.proofs.Common.{◌∙◌, ap, ◌<◌, ◌≡◌, ◌*◌, ◌/◌, ◌%◌, ◌+◌, length, get_or, true, arith}
+use Rattle.std.proofs.Common.{◌∙◌, ap, ◌<◌, ◌≡◌, ◌*◌, ◌/◌, length, get_or, true, arith}
 use Rattle.lookup_table.specs.Lines.{words_at}
 use Rattle.lookup_table.proofs.LineLaws.{bit-length}
 use Rattle.lookup_table.proofs.WriteLaws.{put-none, put-more, put-all}

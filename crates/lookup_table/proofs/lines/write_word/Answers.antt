@@ -1,4 +1,4 @@
-use Rattle.std.proofs.Common.{◌∙◌, ap, sym, length, arith, subst, ◌<◌, ℕ}
+use Rattle.std.proofs.Common.{◌∙◌, ap, sym, length, subst, ◌<◌, ℕ}
 use Rattle.std.proofs.lemmas.List.{get_or_default}
 use Rattle.shared_pages.specs.Paged.{PageOf}
 use Rattle.lookup_table.proofs.WriteLaws.{written, own-page}

@@ -3,14 +3,14 @@ use Rattle.lookup_table.proofs.SummaryLaws.{keeps-none, keeps-both, rules-none, 
 use Rattle.lookup_table.proofs.summary.mark_added.Goals as goal
 
 pub rules-init : goal.rules-init
-rules-init c = record { kept = keeps-none _; pages = c.requires.pages; own = refl; marked = rules-none _ _ _ _ }
+rules-init c = record { kept = keeps-none _; pages = c.requires.pages; own = refl; marked = rules-none _ _ _ _ _ }
 
 pub rules-preserved : goal.rules-preserved
 rules-preserved c =
     let within : c.rules.i < length c.args.added.now = omega arith in
     record {
-      kept = keeps-both _ _ _ c.rules.invariant.kept c.mark_rule.ensures.kept;
-      pages = c.mark_rule.ensures.pages;
-      own = c.mark_rule.ensures.own ∙ c.rules.invariant.own;
-      marked = rules-more c.args.bits c.args.first c.rules.i _ c.args.added.now c.rules.pages.items _ within c.mark_rule.ensures.kept c.mark_rule.ensures.marked c.rules.invariant.marked;
+      kept = keeps-both _ _ _ c.rules.invariant.kept c.set_mark.ensures.kept;
+      pages = c.set_mark.ensures.pages;
+      own = c.set_mark.ensures.own ∙ c.rules.invariant.own;
+      marked = rules-more c.args.unit c.args.bits c.args.first c.rules.i _ c.args.added.now c.rules.pages.items _ within c.set_mark.ensures.kept c.set_mark.ensures.marked c.rules.invariant.marked;
     }

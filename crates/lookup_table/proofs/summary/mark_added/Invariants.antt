@@ -8,5 +8,5 @@ invariant-rules l = record {
   kept : KeepsMarks l.initial.pages.items l.pages.items;
   pages : ArePages l.bits l.pages.items;
   own : owns_of l.pages.items ≡ owns_of l.initial.pages.items;
-  marked : AreRulesMarked l.bits l.first l.i l.added l.pages.items;
+  marked : AreRulesMarked l.unit l.bits l.first l.i l.added l.pages.items;
 }

@@ -5,6 +5,6 @@ use Rattle.lookup_table.proofs.summary.renew_pages.Given as goal
 
 abbrev pub invariant-words : goal.invariant-words
 invariant-words l = record {
-  summed : IsSummed l.width l.bits (512 * l.q) l.buckets.rows l.pages.items;
+  summed : IsSummed 64 l.width l.bits (512 * l.q) l.buckets.rows l.pages.items;
   own : owns_of l.pages.items ≡ owns_of l.initial.pages.items;
 }

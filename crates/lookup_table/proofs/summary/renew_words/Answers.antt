@@ -1,9 +1,8 @@
-use Rattle.std.proofs.Common.{◌≡◌, ◌∙◌, ap, ℕ, ◌+◌, ◌*◌, ◌<◌, ◌&&◌, nat_lt, length, arith}
+use Rattle.std.proofs.Common.{◌∙◌, ap, ◌+◌, ◌*◌, ◌&&◌, nat_lt, arith}
 use Rattle.std.specs.Prelude.{slice_index}
 use Rattle.std.proofs.lemmas.Bool.{le-ltb}
-use Rattle.bit_rows.specs.Row.{bit}
 use Rattle.word_summary.specs.Marks.{share}
-use Rattle.lookup_table.specs.Summary.{upper_place, lower_place}
+use Rattle.lookup_table.specs.Summary.{upper_place}
 use Rattle.lookup_table.proofs.SummaryLaws.{upper-within, lower-within, buckets-few, lines-none, lines-more, lines-all}
 use Rattle.lookup_table.proofs.summary.renew_words.Goals as goal
 

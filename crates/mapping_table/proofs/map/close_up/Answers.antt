@@ -1,9 +1,9 @@
-use Rattle.std.proofs.Common.{◌≡◌, refl, sym, ◌∙◌, ap, ℕ, ◌+◌, ◌-◌, length, get_or, drop, None, arith, length-drop}
+use Rattle.std.proofs.Common.{◌≡◌, refl, sym, ◌∙◌, ap, ◌+◌, ◌-◌, get_or, arith, length-drop}
 use Rattle.std.proofs.lemmas.List.{get_or-drop}
 use Rattle.std.proofs.lemmas.Option.{get_or_from_slice_get}
 use Rattle.set_tables.specs.declared.Span.{Span}
 use Rattle.set_tables.specs.Rows.{lowered}
-use Rattle.mapping_table.proofs.MoveLaws.{moved-none, moved-more}
+use Rattle.mapping_table.proofs.MoveLaws.{moved-more}
 use Rattle.mapping_table.proofs.map.close_up.Goals as goal
 
 pub overflow_sub-span : goal.overflow_sub-span

@@ -1,5 +1,4 @@
 use Rattle.std.proofs.Common.{◌≡◌, ◌<◌, ◌%◌, ◌^◌, ◌*◌, ◌∙◌, ap, arith, length, get_or, bit_or, set}
-use Rattle.shared_pages.specs.Paged.{PageOf}
 use Rattle.word_summary.proofs.MarkLaws.{keeps-none, keeps-both, keeps-set, set-there, same-line}
 use Rattle.word_summary.proofs.marks.mark_run.Goals as goal
 

@@ -7,5 +7,5 @@ use Rattle.bit_rows.proofs.row.BitRow.push_zeros.Goals as goal
 pub returns-clause-bits : goal.returns-clause-bits
 returns-clause-bits c =
     let e : bits_of c.self.inside.words.items c.self.inside.len ≡ c.args.self.now.bits = ap (λ (r : Row). r.bits) c.self.view_is in
-    let more = bits-push_zeros _ _ c.args.n c.self.invariant.clear in
+    let more = bits-push_zeros _ _ c.args.n c.self.invariant.row.clear in
     cc

@@ -4,9 +4,11 @@ use Rattle.bit_rows.proofs.row.BitRow.zeros.Goals as goal
 use Rattle.bit_rows.specs.Words.{place}
 
 pub invariant_of-result : goal.invariant_of-result
-invariant_of-result c =
-    row-zeros _ _ _ c.words_taken.ensures.steps c.words_taken.ensures.small (search rules) c.in_ok-grow.ensures.length
-    (λ i. c.in_ok-grow.ensures.places i ∙ ap (λ w. place w i) c.new-words.ensures.items ∙ place-nil i)
+invariant_of-result c = record {
+  row = row-zeros _ _ _ c.words_taken.ensures.steps c.words_taken.ensures.small (search rules) c.in_ok-grow.ensures.length
+      (λ i. c.in_ok-grow.ensures.places i ∙ ap (λ w. place w i) c.new-words.ensures.items ∙ place-nil i);
+  full = let full = c.in_ok-grow.ensures.full in search rules;
+}
 
 pub returns : goal.returns
 returns c =

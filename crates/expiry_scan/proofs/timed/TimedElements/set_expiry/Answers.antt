@@ -9,5 +9,5 @@ pub invariant_of-self-2 : goal.invariant_of-self-2
 invariant_of-self-2 c =
     let es = c.self.inside.items in
     let least = one_renewed es c.args.i c.args.expiry in
-    let same : c.set.new.self ≡ renewed_at es c.args.i c.args.expiry = c.in_ok-set.ensures.ok ∙ ap (λ e. slice_set es c.args.i e) c.in_ok-element.ensures ∙ sym (ap (renewed_element es c.args.i c.args.expiry) c.at.ensures) in
+    let same : c.set.new.self ≡ renewed_at es c.args.i c.args.expiry = c.in_ok-set.ensures.ok ∙ ap (λ e. slice_set es c.args.i e) c.in_ok-element.ensures ∙ sym (ap (renewed_element es c.args.i c.args.expiry) c.at-2.ensures) in
     subst (λ (z : List Element). c.min-self-inside.result ≤ soonest_end z) (sym same) (omega (arith, least, c.self.invariant, c.min-self-inside.ensures, c.end_of.ensures))

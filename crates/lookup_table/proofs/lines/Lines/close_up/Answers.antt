@@ -1,7 +1,6 @@
-use Rattle.std.proofs.Common.{◌≡◌, refl, sym, ◌∙◌, ap, ℕ, ◌+◌, ◌-◌, ◌*◌, ◌/◌, ◌%◌, ◌^◌, ◌<◌, ◌≤◌, ◌&&◌, ◌||◌, [], All, List, length, get_or, arith, true, false, subst}
-use Rattle.bit_rows.specs.Row.{Row, at, bit}
-use Rattle.shared_pages.specs.Paged.{PageOf, owns_of}
-use Rattle.lookup_table.specs.Table.{bucket_at, cell}
+use Rattle.std.proofs.Common.{◌≡◌, sym, ◌∙◌, ap, ℕ, ◌+◌, length, arith, subst}
+use Rattle.shared_pages.specs.Paged.{owns_of}
+use Rattle.lookup_table.specs.Table.{bucket_at}
 use Rattle.lookup_table.specs.Lines.{Lined, OwnsPlaces}
 use Rattle.lookup_table.proofs.LineLaws.{rows-length, first-within, first-length, owned-from}
 use Rattle.lookup_table.proofs.WriteLaws.{closed-lines, closed-rows}

@@ -1,4 +1,4 @@
-use Rattle.std.proofs.Common.{◌≡◌, refl, sym, ◌∙◌, ap, ℕ, ◌+◌, ◌-◌, ◌*◌, ◌/◌, ◌%◌, ◌^◌, ◌<◌, ◌≤◌, All, length, get_or, arith, true, false}
+use Rattle.std.proofs.Common.{sym, ◌∙◌, ap, length}
 use Rattle.lookup_table.proofs.LineLaws.{rows-length}
 use Rattle.lookup_table.proofs.lines.Lines.len.Goals as goal
 

@@ -1,8 +1,5 @@
-use Rattle.std.proofs.Common.{◌≡◌, refl, sym, ◌∙◌, ap, ℕ, ◌+◌, ◌-◌, ◌*◌, ◌/◌, ◌%◌, ◌^◌, ◌<◌, ◌≤◌, ◌&&◌, ◌||◌, [], All, List, length, get_or, arith, true, false, subst}
-use Rattle.bit_rows.specs.Row.{Row, at, bit}
-use Rattle.shared_pages.specs.Paged.{PageOf, owns_of}
-use Rattle.lookup_table.specs.Table.{bucket_at, cell}
-use Rattle.lookup_table.specs.Lines.{Lined, OwnsPlaces}
+use Rattle.std.proofs.Common.{sym, ◌∙◌, ap, ◌/◌, length, get_or, arith, true}
+use Rattle.lookup_table.specs.Lines.{Lined}
 use Rattle.lookup_table.proofs.LineLaws.{rows-length, page-long, lines-kept, rows-marked, place-within}
 use Rattle.lookup_table.proofs.WriteLaws.{owns-same, own-page}
 use Rattle.lookup_table.proofs.lines.Lines.mark.Goals as goal

@@ -1,11 +1,9 @@
-use Rattle.std.proofs.Common.{◌≡◌, refl, sym, ◌∙◌, ap, ℕ, ◌+◌, ◌-◌, ◌*◌, ◌/◌, ◌%◌, ◌^◌, ◌<◌, ◌≤◌, ◌&&◌, ◌||◌, [], All, List, length, get_or, replicate, arith, true, false, subst}
-use Rattle.bit_rows.specs.Row.{Row, at, bit, either}
-use Rattle.shared_pages.specs.Paged.{PageOf, owns_of}
-use Rattle.lookup_table.specs.Table.{bucket_at, cell}
-use Rattle.lookup_table.specs.Lines.{Lined, OwnsPlaces}
+use Rattle.std.proofs.Common.{refl, ◌∙◌, ap, ◌+◌, ◌*◌, ◌||◌, arith, false}
+use Rattle.bit_rows.specs.Row.{bit}
+use Rattle.lookup_table.specs.Table.{bucket_at}
 use Rattle.std.proofs.lemmas.List.{get_or_past}
-use Rattle.bit_rows.proofs.Bits.{bit-and, bit-or}
-use Rattle.bit_rows.proofs.Tests.{both-same, either-same}
+use Rattle.bit_rows.proofs.Bits.{bit-or}
+use Rattle.bit_rows.proofs.Tests.{either-same}
 use Rattle.lookup_table.proofs.WriteLaws.{merged-none, merged-more, merged-either, cell-bit}
 use Rattle.lookup_table.proofs.lines.Lines.or_into.Goals as goal
 

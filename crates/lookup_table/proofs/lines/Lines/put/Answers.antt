@@ -1,8 +1,6 @@
-use Rattle.std.proofs.Common.{◌≡◌, refl, sym, ◌∙◌, ap, ℕ, ◌+◌, ◌-◌, ◌*◌, ◌/◌, ◌%◌, ◌^◌, ◌<◌, ◌≤◌, ◌&&◌, ◌||◌, [], All, List, length, get_or, arith, true, false, subst}
-use Rattle.bit_rows.specs.Row.{Row, at, bit}
-use Rattle.shared_pages.specs.Paged.{PageOf, owns_of}
-use Rattle.lookup_table.specs.Table.{bucket_at, cell}
-use Rattle.lookup_table.specs.Lines.{Lined, OwnsPlaces}
+use Rattle.std.proofs.Common.{◌≡◌, sym, ◌∙◌, ap, ◌*◌, ◌/◌, ◌<◌, length, get_or, arith, true}
+use Rattle.lookup_table.specs.Table.{bucket_at}
+use Rattle.lookup_table.specs.Lines.{Lined}
 use Rattle.lookup_table.proofs.LineLaws.{rows-length, row-length}
 use Rattle.lookup_table.proofs.WriteLaws.{put-lines, put-rows}
 use Rattle.lookup_table.proofs.lines.Lines.put.Goals as goal

@@ -1,8 +1,6 @@
-use Rattle.std.proofs.Common.{◌≡◌, refl, sym, ◌∙◌, ap, ℕ, ◌+◌, ◌-◌, ◌*◌, ◌/◌, ◌%◌, ◌^◌, ◌<◌, ◌≤◌, ◌&&◌, ◌||◌, [], All, List, length, get_or, replicate, arith, true, false, subst}
-use Rattle.bit_rows.specs.Row.{Row, at, bit, either}
-use Rattle.shared_pages.specs.Paged.{PageOf, owns_of}
-use Rattle.lookup_table.specs.Table.{bucket_at, cell}
-use Rattle.lookup_table.specs.Lines.{Lined, OwnsPlaces}
+use Rattle.std.proofs.Common.{◌≡◌, sym, ◌∙◌, ap, ◌+◌, length, arith}
+use Rattle.lookup_table.specs.Table.{bucket_at}
+use Rattle.lookup_table.specs.Lines.{Lined}
 use Rattle.lookup_table.proofs.LineLaws.{rows-length, first-length, lines-more_pages, rows-grown, rows-room, owns-places}
 use Rattle.lookup_table.proofs.lines.Lines.reserve.Goals as goal
 

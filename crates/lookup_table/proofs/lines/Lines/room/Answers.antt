@@ -1,4 +1,4 @@
-use Rattle.std.proofs.Common.{◌≡◌, refl, sym, ◌∙◌, ap, ℕ, ◌+◌, ◌-◌, ◌*◌, ◌/◌, ◌%◌, ◌^◌, ◌<◌, ◌≤◌, All, length, get_or, arith, true, false}
+use Rattle.std.proofs.Common.{ap, arith}
 use Rattle.lookup_table.proofs.LineLaws.{rows-rooms}
 use Rattle.lookup_table.proofs.lines.Lines.room.Goals as goal
 

@@ -1,8 +1,7 @@
-use Rattle.std.proofs.Common.{◌≡◌, refl, sym, ◌∙◌, ap, ℕ, ◌+◌, ◌-◌, ◌*◌, ◌/◌, ◌%◌, ◌^◌, ◌<◌, ◌≤◌, ◌&&◌, ◌||◌, [], All, List, length, get_or, replicate, arith, true, false, subst}
-use Rattle.bit_rows.specs.Row.{Row, at, bit, either}
-use Rattle.shared_pages.specs.Paged.{PageOf, owns_of}
-use Rattle.lookup_table.specs.Table.{bucket_at, cell}
-use Rattle.lookup_table.specs.Lines.{Lined, OwnsPlaces}
+use Rattle.std.proofs.Common.{◌≡◌, sym, ◌∙◌, ap, length, replicate, arith, false}
+use Rattle.bit_rows.specs.Row.{either}
+use Rattle.lookup_table.specs.Table.{bucket_at}
+use Rattle.lookup_table.specs.Lines.{Lined}
 use Rattle.std.proofs.lemmas.List.{length-replicate}
 use Rattle.lookup_table.proofs.LineLaws.{rows-length, row-length}
 use Rattle.lookup_table.proofs.WriteLaws.{either-zeros}

@@ -1,8 +1,6 @@
-use Rattle.std.proofs.Common.{◌≡◌, refl, sym, ◌∙◌, ap, ℕ, ◌+◌, ◌-◌, ◌*◌, ◌/◌, ◌%◌, ◌^◌, ◌<◌, ◌≤◌, ◌&&◌, ◌||◌, [], All, List, length, get_or, arith, true, false, subst}
-use Rattle.bit_rows.specs.Row.{Row, at, bit}
-use Rattle.shared_pages.specs.Paged.{PageOf, owns_of}
-use Rattle.lookup_table.specs.Table.{bucket_at, cell}
-use Rattle.lookup_table.specs.Lines.{Lined, OwnsPlaces}
+use Rattle.std.proofs.Common.{sym, ◌∙◌, ap, ◌+◌, ◌*◌, ◌/◌, ◌%◌, length, arith, subst}
+use Rattle.lookup_table.specs.Table.{cell}
+use Rattle.lookup_table.specs.Lines.{Lined}
 use Rattle.std.specs.Prelude.{slice_index}
 use Rattle.lookup_table.specs.Lines.{words_at, HasLine}
 use Rattle.lookup_table.proofs.LineLaws.{rows-length, page-line, word-cell}

@@ -1,4 +1,5 @@
-use Rattle.std.proofs.Common.{length, ◌∙◌, length-append, arith}
+use Rattle.std.proofs.Common.{◌≡◌, ◌/◌, length, get_or, true, ap, ◌∙◌, length-append, arith}
+use Rattle.shared_pages.specs.Paged.{owns_of}
 use Rattle.lookup_table.proofs.RowsLaws.{raised-rooms, size-rooms}
 use Rattle.lookup_table.proofs.RuleLaws.{raised-shape, raised-rules, sized-shape, rules-stand}
 use Rattle.lookup_table.proofs.MarkLaws.{cells-both}
@@ -20,6 +21,19 @@ overflow_add-self c = let few = few-rules _ _ _ (length c.args.added.now) _ _ c.
 pub mark_added-requires-clause-few : goal.mark_added-requires-clause-few
 mark_added-requires-clause-few c = few-rules _ _ _ (length c.args.added.now) _ _ c.args.self.now.shaped c.requires.spare c.room-room.ensures c.room-room.type_inv
 
+pub mark_added-requires-2-clause-few : goal.mark_added-requires-2-clause-few
+mark_added-requires-2-clause-few c = few-rules _ _ _ (length c.args.added.now) _ _ c.args.self.now.shaped c.requires.spare c.room-room.ensures c.room-room.type_inv
+
+pub mark_added-requires-clause-own : goal.mark_added-requires-clause-own
+mark_added-requires-clause-own c = λ r low high.
+    let page : r / 64 / 64 ≡ r / 4096 = omega arith in
+    ap (λ p. get_or (owns_of c.args.self.now.pages.items) p true) page ∙ c.requires.own.marks r low high
+
+pub mark_added-requires-2-clause-own : goal.mark_added-requires-2-clause-own
+mark_added-requires-2-clause-own c = λ r low high.
+    let top : r / 4096 / 64 ≡ r / 262144 = omega arith in
+    ap (λ q. get_or (owns_of c.args.self.now.tops.items) q true) top ∙ c.requires.own.tops r low high
+
 pub mark_blocks-requires-clause-fresh : goal.mark_blocks-requires-clause-fresh
 mark_blocks-requires-clause-fresh c = fresh-raised _ _ _ _ _ _ c.args.self.now.shaped c.raise.ensures.rows
 
@@ -27,13 +41,15 @@ pub mark_added-requires-clause-groups : goal.mark_added-requires-clause-groups
 mark_added-requires-clause-groups c = eight-groups _ _ c.args.self.now.shaped.groups
 
 pub mark_added-requires-clause-pages : goal.mark_added-requires-clause-pages
-mark_added-requires-clause-pages c = summed-pages _ _ _ _ _ c.args.self.now.summed
+mark_added-requires-clause-pages c = summed-pages _ _ _ _ _ _ c.args.self.now.summed
 
 pub invariant_of-self : goal.invariant_of-self
 invariant_of-self c = record {
   shaped = sized-shape _ _ _ _ _ (raised-shape _ _ _ _ _ _ c.args.self.now.shaped c.raise.ensures.rows) c.mark_blocks.ensures.size;
-  summed = summed-added _ _ _ _ _ _ _ _ _ c.args.self.now.shaped.groups c.args.self.now.summed (cells-both _ _ _ _ (cells-raised _ _ _ _ _ _ c.args.self.now.shaped c.raise.ensures.rows) c.mark_blocks.ensures.kept)
+  summed = summed-added _ _ _ _ _ _ _ _ _ _ c.args.self.now.shaped.groups c.args.self.now.summed (cells-both _ _ _ _ (cells-raised _ _ _ _ _ _ c.args.self.now.shaped c.raise.ensures.rows) c.mark_blocks.ensures.kept)
       c.mark_blocks.ensures.only c.mark_added.ensures.kept c.mark_added.ensures.marked;
+  topped = summed-added _ _ _ _ _ _ _ _ _ _ c.args.self.now.shaped.groups c.args.self.now.topped (cells-both _ _ _ _ (cells-raised _ _ _ _ _ _ c.args.self.now.shaped c.raise.ensures.rows) c.mark_blocks.ensures.kept)
+      c.mark_blocks.ensures.only c.mark_added-2.ensures.kept c.mark_added-2.ensures.marked;
 }
 
 pub returns-clause-room : goal.returns-clause-room

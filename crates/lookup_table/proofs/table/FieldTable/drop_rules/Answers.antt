@@ -1,10 +1,11 @@
-use Rattle.std.proofs.Common.{rules, ◌≡◌, ◌∙◌, ap, ℕ, ◌+◌, ◌-◌, ◌≤◌, ◌*◌, ◌/◌, ◌++◌, take, drop, length, arith}
+use Rattle.std.proofs.Common.{rules, ◌≡◌, ◌∙◌, ap, ◌+◌, ◌≤◌, ◌*◌, ◌/◌, ◌++◌, take, drop, arith}
 use Rattle.std.proofs.lemmas.List.{take-append-drop}
 use Rattle.lookup_table.specs.Rows.{IsClosedUp, Each}
 use Rattle.lookup_table.proofs.RowsLaws.{closed-rooms}
 use Rattle.lookup_table.proofs.RuleLaws.{closed-shape, closed-stands}
 use Rattle.lookup_table.proofs.MarkLaws.{cells-fewer}
-use Rattle.lookup_table.proofs.SummaryLaws.{buckets-some, first-long, closed-room, own-words, summed-kept, summed-weaker, cells-closed}
+use Rattle.lookup_table.proofs.SummaryLaws.{buckets-some, first-long, closed-room, own-words, summed-kept, summed-weaker, summed-pages, cells-closed}
+use Rattle.lookup_table.proofs.TopLaws.{own-tops, summed-renewed}
 use Rattle.lookup_table.proofs.table.FieldTable.drop_rules.Goals as goal
 
 pub returns-then-n-eq0-clause-stands : goal.returns-then-n-eq0-clause-stands
@@ -29,12 +30,29 @@ pub renew_pages-requires-clause-summed : goal.renew_pages-requires-clause-summed
 renew_pages-requires-clause-summed c =
     let before : 512 * (c.args.first / 512) ≤ c.args.first = omega arith in
     let within : 512 * (c.args.first / 512) ≤ c.args.self.now.rules = omega (arith, c.requires.within) in
-    summed-kept _ _ _ _ _ _ _ within (cells-fewer _ _ _ _ before (cells-closed _ _ _ _ _ _ _ c.requires.within c.args.self.now.shaped c.close_up.ensures.rows)) c.args.self.now.summed
+    summed-kept _ _ _ _ _ _ _ _ within (cells-fewer _ _ _ _ before (cells-closed _ _ _ _ _ _ _ c.requires.within c.args.self.now.shaped c.close_up.ensures.rows)) c.args.self.now.summed
+
+pub renew_tops-requires-clause-order : goal.renew_tops-requires-clause-order
+renew_tops-requires-clause-order c = omega (arith, c.div_ceil-end.ensures, c.div_ceil.ensures, c.requires.within, c.if-n-eq0.false)
+
+pub renew_tops-requires-clause-pages : goal.renew_tops-requires-clause-pages
+renew_tops-requires-clause-pages c = rw c.as_slice.ensures.value (summed-pages _ _ _ _ _ _ c.renew_pages.ensures.summed)
+
+pub renew_tops-requires-clause-tops : goal.renew_tops-requires-clause-tops
+renew_tops-requires-clause-tops c = summed-pages _ _ _ _ _ _ c.args.self.now.topped
+
+pub renew_tops-requires-clause-own : goal.renew_tops-requires-clause-own
+renew_tops-requires-clause-own c = λ p a b. own-tops c.args.self.now.tops.items c.args.first c.args.self.now.rules p c.requires.own.tops (omega (arith, c.requires.within, c.if-n-eq0.false)) a (omega (arith, c.div_ceil-end.ensures, c.div_ceil.ensures))
 
 pub invariant_of-self : goal.invariant_of-self
 invariant_of-self c = record {
   shaped = closed-shape _ _ _ _ _ _ _ c.requires.within c.args.self.now.shaped c.close_up.ensures.rows;
-  summed = summed-weaker _ _ _ _ _ _ (omega (arith, c.div_ceil-end.ensures)) c.renew_pages.ensures.summed;
+  summed = summed-weaker _ _ _ _ _ _ _ (omega (arith, c.div_ceil-end.ensures)) c.renew_pages.ensures.summed;
+  topped =
+      let before : 4096 * (c.args.first / 4096) ≤ c.args.first = omega arith in
+      let within : 4096 * (c.args.first / 4096) ≤ c.args.self.now.rules = omega (arith, c.requires.within) in
+      summed-renewed _ _ _ (4096 * (c.args.first / 4096)) _ _ _ _ _ _ (omega (arith, c.div_ceil-end.ensures, c.div_ceil.ensures)) (λ r h l. omega arith) (summed-weaker _ _ _ _ _ _ _ (omega (arith, c.div_ceil-end.ensures)) c.renew_pages.ensures.summed)
+      (summed-kept _ _ _ _ _ _ _ _ within (cells-fewer _ _ _ _ before (cells-closed _ _ _ _ _ _ _ c.requires.within c.args.self.now.shaped c.close_up.ensures.rows)) c.args.self.now.topped) (rw c.as_slice.ensures.value at c.renew_tops.ensures.renewed);
 }
 
 pub returns-clause-room : goal.returns-clause-room

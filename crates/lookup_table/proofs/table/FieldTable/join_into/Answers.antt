@@ -1,7 +1,6 @@
-use Rattle.std.proofs.Common.{rules, ◌≡◌, refl, sym, ◌∙◌, ap, subst, ℕ, ◌+◌, ◌-◌, ◌*◌, ◌/◌, ◌%◌, ◌^◌, ◌<◌, ◌≤◌, ◌++◌, All, List, length, length-append, get_or, replicate, true, arith}
+use Rattle.std.proofs.Common.{◌≡◌, refl, sym, ◌∙◌, ◌+◌, ◌-◌, ◌*◌, ◌<◌, ◌≤◌, length, arith}
 use Rattle.std.proofs.Math.Nat.{mul-le-mul_right}
 use Rattle.bit_rows.specs.Row.{Row}
-use Rattle.lookup_table.specs.Table.{bucket_at}
 use Rattle.lookup_table.proofs.RowsLaws.{All-bucket, bucket-found}
 use Rattle.lookup_table.proofs.ShareLaws.{joined-none, joined-more}
 use Rattle.lookup_table.proofs.table.FieldTable.join_into.Goals as goal

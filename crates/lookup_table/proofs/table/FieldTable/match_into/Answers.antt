@@ -1,4 +1,4 @@
-use Rattle.std.proofs.Common.{rules, ◌≡◌, refl, sym, ◌∙◌, ap, subst, ℕ, ◌+◌, ◌-◌, ◌*◌, ◌/◌, ◌%◌, ◌^◌, ◌<◌, ◌≤◌, ◌++◌, All, List, length, length-append, get_or, replicate, true, arith}
+use Rattle.std.proofs.Common.{◌≡◌, sym, ◌∙◌, ap, subst, ℕ, ◌/◌, ◌<◌, length, arith}
 use Rattle.bit_rows.specs.Row.{Row, both}
 use Rattle.field_groups.specs.Groups.{group}
 use Rattle.lookup_table.specs.Table.{bucket_at, bucket_place}

@@ -1,5 +1,5 @@
-use Rattle.std.proofs.Common.{rules, ◌≡◌, refl, sym, ◌∙◌, ap, subst, ℕ, ◌+◌, ◌-◌, ◌*◌, ◌/◌, ◌%◌, ◌^◌, ◌<◌, ◌≤◌, ◌++◌, All, List, length, length-append, get_or, replicate, true, arith}
-use Rattle.bit_rows.specs.Row.{Row, bit}
+use Rattle.std.proofs.Common.{◌≡◌, ◌∙◌, ap, subst, ℕ, ◌+◌, ◌*◌, ◌/◌, ◌%◌, ◌<◌, length, arith}
+use Rattle.bit_rows.specs.Row.{Row}
 use Rattle.bit_rows.proofs.Bits.{bit-zero}
 use Rattle.field_groups.specs.Groups.{group}
 use Rattle.lookup_table.specs.Table.{bucket_at, bucket_place, cell}

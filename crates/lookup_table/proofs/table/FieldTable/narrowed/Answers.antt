@@ -1,4 +1,4 @@
-use Rattle.std.proofs.Common.{rules, ◌≡◌, refl, sym, ◌∙◌, ap, subst, ℕ, ◌+◌, ◌-◌, ◌*◌, ◌/◌, ◌%◌, ◌^◌, ◌<◌, ◌≤◌, ◌++◌, All, List, length, length-append, get_or, replicate, true, arith}
+use Rattle.std.proofs.Common.{◌≡◌, sym, subst, ℕ, ◌*◌, ◌/◌, arith}
 use Rattle.field_groups.specs.Groups.{IsWidth}
 use Rattle.lookup_table.specs.Table.{IsShaped}
 use Rattle.lookup_table.specs.Lines.{OwnsPlaces}
@@ -20,7 +20,7 @@ pub invariant_of-table : goal.invariant_of-table
 invariant_of-table c =
     let shape : IsShaped 8 c.args.self.now.bits c.args.self.now.rules c.args.self.now.buckets.rows =
     subst (λ (w : ℕ). IsShaped w c.args.self.now.bits c.args.self.now.rules c.args.self.now.buckets.rows) c.requires c.args.self.now.shaped in
-    record { shaped = narrow-shape _ _ _ _ _ shape c.rows.invariant.made; summed = summed-none _ _ _ _ _ c.new.ensures.items }
+    record { shaped = narrow-shape _ _ _ _ _ shape c.rows.invariant.made; summed = summed-none _ _ _ _ _ _ c.new.ensures.items; topped = summed-none _ _ _ _ _ _ c.new-2.ensures.items }
 
 pub returns-clause-stands : goal.returns-clause-stands
 returns-clause-stands c = λ blocks stands.

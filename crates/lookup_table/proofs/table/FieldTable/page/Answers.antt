@@ -1,4 +1,4 @@
-use Rattle.std.proofs.Common.{◌*◌, ◌/◌, ◌<◌, arith}
+use Rattle.std.proofs.Common.{◌*◌, ◌/◌, arith}
 use Rattle.lookup_table.proofs.SummaryLaws.{rule-room}
 use Rattle.lookup_table.proofs.table.FieldTable.page.Goals as goal
 

@@ -1,4 +1,4 @@
-use Rattle.std.proofs.Common.{◌≡◌, ◌<◌, ◌^◌, ◌∙◌, ap, length, arith}
+use Rattle.std.proofs.Common.{◌<◌, ◌^◌, arith}
 use Rattle.field_groups.proofs.GroupLaws.{group-below}
 use Rattle.lookup_table.proofs.RuleLaws.{place-within}
 use Rattle.lookup_table.proofs.MarkLaws.{code-place}

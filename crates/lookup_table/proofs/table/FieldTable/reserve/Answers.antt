@@ -15,7 +15,8 @@ returns-in_err-reserve-clause-stands c = λ blocks stands. grown-stands _ _ _ _ 
 pub invariant_of-self : goal.invariant_of-self
 invariant_of-self c = record {
   shaped = grown-shape _ _ _ _ _ c.args.self.now.shaped c.reserve.ensures.grown;
-  summed = summed-kept _ _ _ _ _ _ _ (omega arith) (cells-grown _ _ _ c.reserve.ensures.grown) c.args.self.now.summed;
+  summed = summed-kept _ _ _ _ _ _ _ _ (omega arith) (cells-grown _ _ _ c.reserve.ensures.grown) c.args.self.now.summed;
+  topped = summed-kept _ _ _ _ _ _ _ _ (omega arith) (cells-grown _ _ _ c.reserve.ensures.grown) c.args.self.now.topped;
 }
 
 pub returns-in_err-take_pages-clause-bits : goal.returns-in_err-take_pages-clause-bits

@@ -1,6 +1,5 @@
-use Rattle.std.proofs.Common.{rules, ◌≡◌, refl, sym, ◌∙◌, ap, subst, ℕ, ◌+◌, ◌-◌, ◌*◌, ◌/◌, ◌%◌, ◌^◌, ◌<◌, ◌≤◌, ◌++◌, All, List, length, length-append, get_or, replicate, true, arith}
+use Rattle.std.proofs.Common.{◌≡◌, ◌*◌, ◌/◌, length, arith}
 use Rattle.bit_rows.specs.Row.{Row}
-use Rattle.lookup_table.specs.Table.{bucket_at, bucket_place}
 use Rattle.lookup_table.proofs.RowsLaws.{All-bucket}
 use Rattle.lookup_table.proofs.WideLaws.{wide-is}
 use Rattle.lookup_table.proofs.table.FieldTable.wide_bucket.Goals as goal

@@ -1,5 +1,5 @@
-use Rattle.std.proofs.Common.{rules, ◌≡◌, refl, sym, ◌∙◌, ap, ℕ, ◌+◌, ◌-◌, ◌*◌, ◌/◌, ◌%◌, ◌<◌, ◌≤◌, [], ◌∷◌, ◌++◌, length, get_or, map, take, drop, true, All, arith}
-use Rattle.shared_pages.proofs.PageLaws.{items-length, read-page, read-last, set-page, last-set, one-more, copied, copied-length, copied-whole, own-read, own-same, sealed, cut-last, cut-page, own-pushed, own-front}
+use Rattle.std.proofs.Common.{refl, ◌∙◌, ap, ◌-◌, ◌*◌, ◌%◌, length, get_or, arith}
+use Rattle.shared_pages.proofs.PageLaws.{items-length, read-page, read-last}
 use Rattle.std.proofs.lemmas.Option.{slice_get_read}
 use Rattle.mapping_table.proofs.roomy.Roomy.at.Goals as goal
 

@@ -1,5 +1,5 @@
-use Rattle.std.proofs.Common.{rules, ◌≡◌, refl, sym, ◌∙◌, ap, ℕ, ◌+◌, ◌-◌, ◌*◌, ◌/◌, ◌%◌, ◌<◌, ◌≤◌, [], ◌∷◌, ◌++◌, length, get_or, map, take, drop, true, All, arith}
-use Rattle.shared_pages.proofs.PageLaws.{items-length, read-page, read-last, set-page, last-set, one-more, copied, copied-length, copied-whole, own-read, own-same, sealed, cut-last, cut-page, own-pushed, own-front}
+use Rattle.std.proofs.Common.{◌∙◌, ap, map, arith}
+use Rattle.shared_pages.proofs.PageLaws.{copied, copied-length, copied-whole}
 use Rattle.shared_pages.specs.Paged.{items_in}
 use Rattle.mapping_table.proofs.roomy.Roomy.copy.Goals as goal
 
@@ -9,8 +9,8 @@ invariant_of-result g c =
     let len = copied-length c.in_ok-whole.whole.items c.self.inside.whole.items same in
     record { whole = copied-whole c.in_ok-whole.whole.items c.self.inside.whole.items same c.self.invariant.whole; within = omega arith; held = omega arith; counted = omega (arith, c.in_ok-rest.ensures.len) }
 
-pub returns : goal.returns
-returns g c =
+pub returns-clause-items : goal.returns-clause-items
+returns-clause-items g c =
     let same = ap (λ xs. map (λ page. page.items) xs) (c.in_ok-whole.ensures ∙ c.as_slice.ensures.value) in
     ap (λ t. items_in c.in_ok-whole.whole.items t) (c.in_ok-rest.ensures.items ∙ c.as_slice-2.ensures.value)
     ∙ copied c.in_ok-whole.whole.items c.self.inside.whole.items c.self.inside.rest.items same ∙ ap (λ v. v.items) c.self.view_is

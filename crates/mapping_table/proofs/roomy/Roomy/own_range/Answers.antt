@@ -1,5 +1,5 @@
-use Rattle.std.proofs.Common.{rules, ◌≡◌, refl, sym, ◌∙◌, ap, ℕ, ◌+◌, ◌-◌, ◌*◌, ◌/◌, ◌%◌, ◌<◌, ◌≤◌, [], ◌∷◌, ◌++◌, length, get_or, map, take, drop, true, All, arith}
-use Rattle.shared_pages.proofs.PageLaws.{items-length, read-page, read-last, set-page, last-set, one-more, copied, copied-length, copied-whole, own-read, own-same, sealed, cut-last, cut-page, own-pushed, own-front}
+use Rattle.std.proofs.Common.{◌∙◌, ap, arith}
+use Rattle.shared_pages.proofs.PageLaws.{copied, copied-length, copied-whole}
 use Rattle.mapping_table.proofs.roomy.Roomy.own_range.Goals as goal
 
 pub invariant_of-self : goal.invariant_of-self

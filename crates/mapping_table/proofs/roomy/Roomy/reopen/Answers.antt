@@ -1,7 +1,8 @@
-use Rattle.std.proofs.Common.{rules, ◌≡◌, refl, sym, ◌∙◌, ap, ℕ, ◌+◌, ◌-◌, ◌*◌, ◌/◌, ◌<◌, ◌≤◌, length, get_or, map, take, true, arith}
-use Rattle.shared_pages.proofs.PageLaws.{cut-last, cut-page, own-front}
-use Rattle.std.proofs.lemmas.List.{take-set}
-use Rattle.shared_pages.specs.Paged.{items_in, owns_of}
+use Rattle.std.proofs.Common.{◌≡◌, ◌∙◌, ap, ◌+◌, ◌/◌, length, get_or, take, true, arith}
+use Rattle.shared_pages.proofs.PageLaws.{items-length, cut-page, own-front}
+use Rattle.std.proofs.lemmas.List.{take-set, length-take}
+use Rattle.std.proofs.lemmas.List.Elements.{All-take}
+use Rattle.shared_pages.specs.Paged.{items_in, owns_of, IsWhole}
 use Rattle.mapping_table.proofs.roomy.Roomy.reopen.Goals as goal
 
 pub returns-clause-items : goal.returns-clause-items
@@ -19,3 +20,17 @@ returns-clause-own g c =
     let front : c.truncate.new.self.items ≡ take (c.args.len / 512) c.self.inside.whole.items = c.truncate.ensures.items ∙ take-set c.self.inside.whole.items count _ in
     let e = ap (λ v. v.own) c.self.view_is in
     record { own = λ i h. ap (λ pages. get_or (owns_of pages) (i / 512) true) front ∙ own-front c.self.inside.whole.items count (i / 512) (ap (λ os. get_or os (i / 512) true) e ∙ h) }
+
+pub returns-clause-room : goal.returns-clause-room
+returns-clause-room g c =
+    let count = c.args.len / 512 in
+    let page = c.index_mut-page.result.now in
+    let front : c.truncate.new.self.items ≡ take (c.args.len / 512) c.self.inside.whole.items = c.truncate.ensures.items ∙ take-set c.self.inside.whole.items count _ in
+    let last : c.into_vec.result.items ≡ page.items = c.into_vec.ensures ∙ ap (λ page. page.items) c.replace-open.ensures.value in
+    let whole : length page.items ≡ 512 = ap (λ page. length page.items) c.index_mut-page.ensures.value ∙ (c.self.invariant.whole count page (omega arith)).whole in
+    let before = items-length c.self.inside.whole.items c.self.inside.rest.items c.self.invariant.whole in
+    let after = items-length (take count c.self.inside.whole.items) c.into_vec.result.items (All-take IsWhole count c.self.inside.whole.items c.self.invariant.whole) in
+    let fewer = length-take count c.self.inside.whole.items in
+    let stood = ap (λ v. length v.items + v.spare) c.self.view_is in
+    let same = ap (λ pages. length (items_in pages c.into_vec.result.items)) front in
+    omega (arith, ap length last)

@@ -1,5 +1,5 @@
-use Rattle.std.proofs.Common.{rules, ◌≡◌, refl, sym, ◌∙◌, ap, ℕ, ◌+◌, ◌-◌, ◌*◌, ◌/◌, ◌%◌, ◌<◌, ◌≤◌, [], ◌∷◌, ◌++◌, length, get_or, map, take, drop, true, All, arith}
-use Rattle.shared_pages.proofs.PageLaws.{items-length, read-page, read-last, set-page, last-set, one-more, copied, copied-length, copied-whole, own-read, own-same, sealed, cut-last, cut-page, own-pushed, own-front}
+use Rattle.std.proofs.Common.{◌≡◌, sym, ◌∙◌, ap, ◌-◌, ◌*◌, ◌/◌, ◌%◌, length, get_or, true, arith}
+use Rattle.shared_pages.proofs.PageLaws.{items-length, set-page, last-set, own-read, own-same}
 use Rattle.std.proofs.Math.ListN.{set}
 use Rattle.shared_pages.specs.Paged.{items_in}
 use Rattle.mapping_table.proofs.roomy.Roomy.set.Goals as goal

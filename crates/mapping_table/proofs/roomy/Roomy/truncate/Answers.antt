@@ -1,6 +1,6 @@
-use Rattle.std.proofs.Common.{rules, ◌≡◌, refl, sym, ◌∙◌, ap, ℕ, ◌+◌, ◌-◌, ◌*◌, ◌/◌, ◌<◌, ◌≤◌, length, get_or, map, take, true, arith}
-use Rattle.shared_pages.proofs.PageLaws.{cut-last, cut-page, own-front}
-use Rattle.shared_pages.specs.Paged.{items_in, owns_of}
+use Rattle.std.proofs.Common.{◌∙◌, ap, ◌-◌, ◌*◌, ◌≤◌, length, take, arith}
+use Rattle.shared_pages.proofs.PageLaws.{cut-last}
+use Rattle.shared_pages.specs.Paged.{items_in}
 use Rattle.std.proofs.lemmas.List.{length-map}
 use Rattle.mapping_table.proofs.roomy.Roomy.truncate.Goals as goal
 

@@ -1,5 +1,5 @@
-use Rattle.std.proofs.Common.{rules, ◌≡◌, refl, sym, ◌∙◌, ap, ℕ, ◌+◌, ◌-◌, ◌*◌, ◌/◌, ◌%◌, ◌<◌, ◌≤◌, [], ◌∷◌, ◌++◌, length, get_or, map, take, drop, true, All, arith}
-use Rattle.shared_pages.proofs.PageLaws.{items-length, read-page, read-last, set-page, last-set, one-more, copied, copied-length, copied-whole, own-read, own-same, sealed, cut-last, cut-page, own-pushed, own-front}
+use Rattle.std.proofs.Common.{◌≡◌, ◌∙◌, ap, ◌+◌, ◌/◌, [], ◌∷◌, ◌++◌, length, get_or, take, true, arith}
+use Rattle.shared_pages.proofs.PageLaws.{sealed, own-pushed}
 use Rattle.std.proofs.lemmas.List.{length-append, length-drop, length-take-le}
 use Rattle.std.proofs.lemmas.List.Elements.{All-push}
 use Rattle.shared_pages.specs.Paged.{items_in, owns_of, IsWhole}

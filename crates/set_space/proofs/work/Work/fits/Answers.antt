@@ -1,7 +1,8 @@
-use Rattle.std.proofs.Common.{◌∙◌, sym, ap, Some, arith}
+use Rattle.std.proofs.Common.{arith}
 use Rattle.std.specs.Arc.{arc_value}
-use Rattle.set_space.proofs.SetsLaws.{set-within, open-within, base-at, work-at}
-use Rattle.set_space.proofs.work.Work.set.Goals as goal
+use Rattle.set_space.specs.OpenSets.{open_state}
+use Rattle.set_space.proofs.SetsLaws.{set-within, open-within, base-at, work-at, fits_at}
+use Rattle.set_space.proofs.work.Work.fits.Goals as goal
 
 pub set-base-requires : goal.set-base-requires
 set-base-requires c = set-within (arc_value c.self.inside.base) c.deref.result.now c.self.inside.sets.items c.args.set c.args.self.now c.self.view_is c.self.invariant c.deref.ensures c.requires
@@ -15,5 +16,6 @@ pub returns : goal.returns
 returns c =
     let within = open-within (arc_value c.self.inside.base) c.self.inside.sets.items c.args.set c.args.self.now c.self.view_is c.self.invariant c.requires in
     let base = base-at (arc_value c.self.inside.base) c.deref.result.now c.args.set c.set-base.result.now c.deref.ensures c.set-base.ensures in
-    work-at (arc_value c.self.inside.base) c.self.inside.sets.items c.args.set c.index.result.now c.set-base.result.now c.args.self.now c.self.view_is within c.index.ensures base
-    ∙ ap Some (sym c.image.ensures)
+    fits_at c.args.self.now c.args.set (open_state c.index.result.now c.set-base.result.now) c.args.parts.now c.fits.result
+    (work-at (arc_value c.self.inside.base) c.self.inside.sets.items c.args.set c.index.result.now c.set-base.result.now c.args.self.now c.self.view_is within c.index.ensures base)
+    c.fits.ensures

@@ -1,0 +1,10 @@
+use Rattle.std.proofs.Common.{◌≡◌, ◌≤◌, length}
+use Rattle.lookup_table.specs.Summary.{ArePages, KeepsTops}
+use Rattle.lookup_table.proofs.tops.add_tops.Given as goal
+
+abbrev pub invariant-tops : goal.invariant-tops
+invariant-tops l = record {
+  long : length l.initial.tops.items ≤ l.n → length l.tops.items ≡ l.q;
+  tops : ArePages l.bits l.tops.items;
+  kept : KeepsTops l.bits l.rules l.pages l.initial.tops.items l.tops.items;
+}
