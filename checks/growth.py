@@ -59,9 +59,28 @@ def purges(count):
         yield "commit"
 
 
+def deleted_in_turn(count):
+    """So many elements, and a commit that deletes the first of them for each."""
+    yield from addresses("", count)
+    for n in range(count):
+        yield f"delete element ip t s {{ 10.{n >> 16 & 255}.{n >> 8 & 255}.{n & 255} . {1024 + n % 1000} }}"
+        yield "commit"
+
+
+def purged_in_turn(count):
+    """So many elements, each of which expires a second behind the one before it, and a commit at the moment of each."""
+    yield "add set ip t s { type ipv4_addr . inet_service ; flags interval,timeout ; }"
+    for n in range(count):
+        yield f"add element ip t s {{ 10.{n >> 16 & 255}.{n >> 8 & 255}.{n & 255} . {1024 + n % 1000} timeout {n + 1}s }}"
+    yield "commit"
+    for n in range(count):
+        yield f"at {1000 * (n + 1)}"
+        yield "commit"
+
+
 def short_lives(count):
-    """Elements that live for a second, each added and committed at a moment of its own beside a tenth as many that stay."""
-    yield from addresses(",timeout", count // 10)
+    """Elements that live for a second, each added and committed at a moment of its own beside five hundred that stay."""
+    yield from addresses(",timeout", 500)
     for n in range(count):
         yield f"at {100 * (n + 1)}"
         yield f"add element ip t s {{ 11.{n >> 16 & 255}.{n >> 8 & 255}.{n & 255} . 1 timeout 1s }}"
@@ -110,6 +129,8 @@ ROWS = [
     ("commits beside elements whose lives are far off", lives_far_off, 50000, 0),
     ("flushes of an empty set", empty_flushes, 50000, 0),
     ("commits that purge one of the elements each", purges, 5000, 0),
+    ("commits each of which deletes the first of the elements", deleted_in_turn, 2000, 0),
+    ("commits each of which purges the first of the elements", purged_in_turn, 2000, 0),
     ("additions with a short life, one commit each", short_lives, 5000, 0),
     ("deletions of all elements, the first first", deletions, 10000, 0),
     ("destructions of missing elements", missing, 20000, 0),

@@ -1,1 +1,2 @@
-pub mod SoonestLaws
+pub mod EndLaws
+pub mod PlaceLaws

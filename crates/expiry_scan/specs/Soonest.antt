@@ -1,12 +1,31 @@
--- The soonest expiry of a list of elements.
-use Rattle.std.specs.Prelude.{ℕ, ◌-◌, ◌^◌, min, List, [], ◌∷◌, unwrap_or}
+-- Moments before which no element of a page is expired.
+use Rattle.std.specs.Prelude.{◌≡◌, ℕ, ◌+◌, ◌-◌, ◌*◌, ◌^◌, ◌<◌, ◌≤◌, false, if◌then◌else◌, Option, Some, List, length, slice_get, unwrap_or}
 use Rattle.set_model.specs.declared.element.Element.{Element}
+use Rattle.expiry_scan.specs.declared.page_ends.PageEnds.{PageEnds}
+use Rattle.expiry_scan.specs.Expired.{is_expired, stays, is_leaving}
 
--- the moment from which on an element is expired; the last moment there is where it never is
-abbrev pub end_of : Element → ℕ
-end_of e = unwrap_or e.expiry (2 ^ 64 - 1)
+-- the moment from which on an element that stays is expired; the last moment there is where it never is or has left
+abbrev pub end_of : Option ℕ → Element → ℕ
+end_of passed e = if stays passed e then unwrap_or e.expiry (2 ^ 64 - 1) else 2 ^ 64 - 1
 
--- The soonest of all elements' ends: at no moment before it an element is expired.
-abbrev pub soonest_end : List Element → ℕ
-soonest_end [] = 2 ^ 64 - 1
-soonest_end (e ∷ es) = min (end_of e) (soonest_end es)
+-- At no moment before the one of these the element is expired, and at none before the other it stays and is expired.
+abbrev pub AreEndsOf : Option ℕ → Element → PageEnds → Type 0
+AreEndsOf passed e ends = ((now : ℕ) → now < ends.all → is_expired now e ≡ false) × ((now : ℕ) → now < ends.staying → is_leaving passed now e ≡ false)
+
+-- These are such moments of each element of a page of 512.
+abbrev pub ArePageEnds : Option ℕ → List Element → ℕ → PageEnds → Type 0
+ArePageEnds passed elements page ends = (k : ℕ) (e : Element) → k < 512 → slice_get elements (512 * page + k) ≡ Some e → AreEndsOf passed e ends
+
+-- The first pages of a list, or all, have such moments beside them.
+abbrev pub AreEnds : Option ℕ → List Element → List PageEnds → Type 0
+AreEnds passed elements pages = (512 * length pages < length elements + 512)
+    × ((page : ℕ) (ends : PageEnds) → slice_get pages page ≡ Some ends → ArePageEnds passed elements page ends)
+
+-- No element of a page stays and is expired now.
+abbrev pub IsQuiet : Option ℕ → ℕ → List Element → ℕ → Type 0
+IsQuiet passed now elements page = (k : ℕ) (e : Element) → k < 512 → slice_get elements (512 * page + k) ≡ Some e → is_leaving passed now e ≡ false
+
+-- Two lists of elements differ at one place alone, where the other list may have an element more.
+abbrev pub DifferAt : ℕ → List Element → List Element → Type 0
+DifferAt i elements others = (length elements ≤ length others)
+    × ((k : ℕ) (e : Element) → slice_get others k ≡ Some e → (k ≡ i → ⊥) → slice_get elements k ≡ Some e)

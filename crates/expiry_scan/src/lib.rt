@@ -5,6 +5,7 @@ ghost use Rattle.std.specs.Prelude.{◌≡◌, ◌<◌, not, length, IfSome, pos
 ghost use Rattle.set_model.specs.Expiry.{lives};
 ghost use Rattle.expiry_scan.specs.Expired.{is_expired, next_place};
 
+mod page_ends;
 mod timed;
 
 use set_model::{Element, Elements, is_live};

@@ -1,69 +1,37 @@
-ghost use Rattle.std.specs.Prelude.{◌≡◌, ◌<◌, ◌^◌, ◌-◌, [], ◌∷◌, ◌++◌, length, remove, slice_get, Some, count_by, unwrap_or, IfOk, OnOk, OnErr};
+ghost use Rattle.std.specs.Prelude.{◌≡◌, ◌<◌, ℕ, true, List, Option, [], ◌∷◌, ◌++◌, length, remove, slice_get, Some, count_by, IfOk, OnOk, OnErr};
+ghost use Rattle.set_model.specs.declared.element.Element.{Element};
 ghost use Rattle.set_model.specs.Expiry.{renewed_at};
-ghost use Rattle.expiry_scan.specs.Expired.{is_expired};
-ghost use Rattle.expiry_scan.specs.Soonest.{soonest_end};
+ghost use Rattle.expiry_scan.specs.Expired.{is_expired, is_leaving, places_expired};
+ghost use Rattle.expiry_scan.specs.Soonest.{IsQuiet, DifferAt, AreEnds};
 
-use crate::expired;
+use crate::page_ends::{self, PageEnds, UNKNOWN};
 use set_model::{Duplicate, Element, Memory};
-use shared_pages::Pages;
+use shared_pages::{PAGE, Pages};
 use std::alloc::Global;
 use std::marker::Model;
 
-/// The elements of a set, in order of insertion, beside a moment before which none of them is
-/// expired, in pages that copies share. Contracts see the list.
+/// The elements of a set, in order of insertion, in pages that copies share. Beside each page stand
+/// moments before which none of its elements is expired, so that whoever looks for expired elements
+/// passes over it. Contracts see the list.
 #[derive(Drop)]
 pub struct TimedElements {
     items: Pages<Element>,
-    /// In milliseconds. It may be before the soonest expiry: a removal leaves it, and a renewal
-    /// never raises it.
-    soonest: u64,
-    /// Whether it may be: where an element that had the soonest expiry left, or got another one.
-    is_early: bool,
+    /// Of the first pages, up to one that wasn't looked at since elements came or closed up.
+    ends: Vec<PageEnds>,
+    /// Elements that are expired at this moment don't stay.
+    passed: Option<u64>,
 }
 
 impl Model for TimedElements {
-    ghost use Rattle.std.specs.Prelude.{◌≤◌, List};
+    ghost use Rattle.std.specs.Prelude.{List};
     ghost use Rattle.set_model.specs.declared.element.Element.{Element};
-    ghost use Rattle.expiry_scan.specs.Soonest.{soonest_end};
+    ghost use Rattle.expiry_scan.specs.Soonest.{AreEnds};
 
     ghost Value = { List Element };
 
     ghost view = { λ a. a.items };
 
-    ghost invariant = { λ a. a.soonest ≤ soonest_end a.items };
-}
-
-/// The moment that an expiry stands for: the last one there is where there is none.
-fn end_of(expiry: Option<u64>) -> u64
-    ensures { result ≡ unwrap_or expiry (2 ^ 64 - 1) }
-{
-    expiry.unwrap_or(u64::MAX)
-}
-
-/// The soonest expiry of the elements, in milliseconds.
-fn soonest_end(elements: &Pages<Element>) -> u64
-    ensures { result ≡ soonest_end elements.now }
-{
-    let mut soonest = u64::MAX;
-    'elements: for i in 0..elements.len() {
-        let element = elements.at(i);
-        soonest = soonest.min(end_of(element.expiry));
-    }
-    soonest
-}
-
-/// How many of the elements are expired at `now`.
-fn count_expired(elements: &Pages<Element>, now: u64) -> u64
-    ensures { result ≡ count_by (is_expired now) elements.now }
-{
-    let mut count = 0;
-    'elements: for i in 0..elements.len() {
-        let element = elements.at(i);
-        if expired(element.expiry, now) {
-            count += 1;
-        }
-    }
-    count
+    ghost invariant = { λ a. AreEnds a.passed a.items a.ends.items };
 }
 
 /// An element with another expiry. It shares its intervals and its comment.
@@ -75,6 +43,16 @@ fn renewed(alloc: Global, element: &Element, expiry: Option<u64>) -> Result<Elem
     Ok(other)
 }
 
+/// Lets the ends of the page of place `i` be unknown.
+fn forget(ends: &mut Vec<PageEnds>, i: u64)
+    ensures { (passed : Option ℕ) (elements others : List Element) → AreEnds passed elements ends.old.items → DifferAt i elements others → AreEnds passed others ends.new.items }
+{
+    let page = i as usize / PAGE;
+    if page < ends.len() {
+        ends[page] = UNKNOWN;
+    }
+}
+
 impl TimedElements {
     /// No elements. It takes no memory.
     pub fn new(alloc: Global) -> TimedElements
@@ -82,8 +60,8 @@ impl TimedElements {
     {
         TimedElements {
             items: Pages::new(alloc),
-            soonest: u64::MAX,
-            is_early: false,
+            ends: Vec::new(alloc),
+            passed: None,
         }
     }
 
@@ -103,14 +81,13 @@ impl TimedElements {
     }
 
     /// Adds an element at the end. After `Memory` the list is as it was.
-    #[tactic(auto, using(crate::proofs::SoonestLaws::one_more))]
     pub fn push(&mut self, element: Element) -> Result<(), Memory>
         ensures ok { OnOk result (self.new ≡ self.old ++ element ∷ []) }
         ensures err { OnErr result (self.new ≡ self.old) }
     {
-        let soonest = self.soonest.min(end_of(element.expiry));
+        let i = self.items.len();
         self.items.push(element)?;
-        self.soonest = soonest;
+        forget(&mut self.ends, i);
         Ok(())
     }
 
@@ -118,7 +95,6 @@ impl TimedElements {
     ///
     /// # Errors
     /// `Memory` if there is none left. The list is as it was.
-    #[tactic(auto, using(crate::proofs::SoonestLaws::one_less))]
     pub fn remove(&mut self, i: u64) -> Result<Element, Memory>
         requires { i < length self.old }
         ensures item { IfOk result (λ element. slice_get self.old i ≡ Some element) }
@@ -126,7 +102,7 @@ impl TimedElements {
         ensures err { OnErr result (self.new ≡ self.old) }
     {
         let element = self.items.remove(i)?;
-        self.is_early |= end_of(element.expiry) <= self.soonest;
+        self.ends.truncate(i as usize / PAGE);
         Ok(element)
     }
 
@@ -134,40 +110,78 @@ impl TimedElements {
     ///
     /// # Errors
     /// `Memory` if there is none left. The list is as it was.
-    #[tactic(auto, using(crate::proofs::SoonestLaws::one_renewed))]
     pub fn set_expiry(&mut self, alloc: Global, i: u64, expiry: Option<u64>) -> Result<(), Memory>
         requires { i < length self.old }
         ensures ok { OnOk result (self.new ≡ renewed_at self.old i expiry) }
         ensures err { OnErr result (self.new ≡ self.old) }
     {
-        let leaving = end_of(self.at(i).expiry);
         let element = renewed(alloc, self.items.at(i), expiry)?;
         self.items.set(i, element)?;
-        self.is_early |= leaving <= self.soonest;
-        self.soonest = self.soonest.min(end_of(expiry));
+        forget(&mut self.ends, i);
         Ok(())
     }
 
-    /// How many elements are expired at `now`, in milliseconds. Before the moment that stands beside
-    /// them none is looked at.
+    /// Whether the moments beside a page tell that no element of it stays and is expired at `now`.
+    fn is_quiet(&self, page: u64, passed: Option<u64>, now: u64) -> bool
+        ensures { result ≡ true → IsQuiet passed now self.now page }
+    {
+        match self.ends.get(page as usize) {
+            None => false,
+            Some(ends) => {
+                now < ends.all || (now < ends.staying && page_ends::is_by(self.passed, passed))
+            }
+        }
+    }
+
+    /// How many elements are expired at `now`, in milliseconds.
     pub fn count_expired(&self, now: u64) -> u64
         ensures { result ≡ count_by (is_expired now) self.now }
     {
-        if now < self.soonest {
-            return 0;
-        }
-        count_expired(&self.items, now)
+        self.count_leaving(None, now)
     }
 
-    /// Lets the moment beside the elements be the soonest expiry, which is looked for anew only where
-    /// an element that had it left, or got another one.
-    pub fn find_soonest(&mut self)
+    /// How many elements of a set that those have left which were expired at `passed` are expired at `now`, both in
+    /// milliseconds. Elements of a page whose moments haven't come aren't looked at.
+    pub fn count_leaving(&self, passed: Option<u64>, now: u64) -> u64
+        ensures { result ≡ count_by (is_leaving passed now) self.now }
+    {
+        let mut count = 0;
+        'pages: for page in 0..page_ends::pages_of(&self.items) {
+            if !self.is_quiet(page, passed, now) {
+                count += page_ends::count_in(&self.items, page, passed, now);
+            }
+        }
+        count
+    }
+
+    /// The places of the elements that are expired at `now`, in milliseconds, the lowest first. Elements of a
+    /// page whose moments haven't come aren't looked at.
+    ///
+    /// # Errors
+    /// `Memory` if there is none left.
+    pub fn expired_places(&self, alloc: Global, now: u64) -> Result<Vec<u64>, Memory>
+        ensures { IfOk result (λ places. places.items ≡ places_expired now self.now) }
+    {
+        let mut places = Vec::new(alloc);
+        'pages: for page in 0..page_ends::pages_of(&self.items) {
+            if !self.is_quiet(page, None, now) {
+                page_ends::push_places(&mut places, &self.items, page, now)?;
+            }
+        }
+        Ok(places)
+    }
+
+    /// Lets the moments beside each page be the soonest expiries of its elements and of those that aren't expired at
+    /// `passed`. They are looked for anew only where the page changed or an element left it.
+    pub fn find_soonest(&mut self, passed: Option<u64>)
         ensures { self.new ≡ self.old }
     {
-        if self.is_early {
-            self.soonest = soonest_end(&self.items);
-            self.is_early = false;
+        if !page_ends::is_by(self.passed, passed) {
+            self.ends.clear();
         }
+        page_ends::find_again(&self.items, &mut self.ends, passed);
+        page_ends::find_rest(&self.items, &mut self.ends, passed);
+        self.passed = passed;
     }
 
     /// Lets copies share the elements from now on. No element is copied.
@@ -186,8 +200,8 @@ impl Duplicate for TimedElements {
     fn copy(&self, alloc: Global) -> Result<Self, Memory> {
         Ok(TimedElements {
             items: self.items.copy(alloc)?,
-            soonest: self.soonest,
-            is_early: self.is_early,
+            ends: Vec::from_slice(alloc, self.ends.as_slice())?,
+            passed: self.passed,
         })
     }
 }
@@ -198,27 +212,89 @@ mod tests {
     use crate::tests::element;
     use std::test::Fail;
 
-    #[test]
-    fn the_moment_falls_with_an_expiry_and_is_found_anew(rt: HostRuntime) -> Result<(), Fail> {
-        let alloc = rt.alloc();
+    /// The moments beside a page.
+    fn moments(elements: &TimedElements, page: usize) -> Option<(u64, u64)> {
+        match elements.ends.get(page) {
+            None => None,
+            Some(ends) => Some((ends.all, ends.staying)),
+        }
+    }
+
+    /// Three elements, of which two expire.
+    fn three(alloc: Global) -> Result<TimedElements, Memory> {
         let mut elements = TimedElements::new(alloc);
         elements.push(element(alloc, 0, None)?)?;
-        assert_eq!(rt; elements.soonest, u64::MAX);
         elements.push(element(alloc, 1, Some(30))?)?;
         elements.push(element(alloc, 2, Some(20))?)?;
-        assert_eq!(rt; elements.soonest, 20);
+        Ok(elements)
+    }
+
+    #[test]
+    fn the_moments_of_a_page_are_its_soonest_expiries(rt: HostRuntime) -> Result<(), Fail> {
+        let alloc = rt.alloc();
+        let mut elements = three(alloc)?;
+        assert!(rt; moments(&elements, 0).is_none());
+        assert_eq!(rt; elements.count_expired(20), 1);
+        elements.find_soonest(None);
+        assert!(rt; moments(&elements, 0) == Some((20, 20)));
+        assert!(rt; moments(&elements, 1).is_none());
+        assert!(rt; moments(&elements.copy(alloc)?, 0) == Some((20, 20)));
+        assert_eq!(rt; elements.count_expired(19), 0);
+        assert_eq!(rt; elements.count_expired(30), 2);
+        Ok(())
+    }
+
+    #[test]
+    fn a_page_that_changed_is_looked_at_again(rt: HostRuntime) -> Result<(), Fail> {
+        let alloc = rt.alloc();
+        let mut elements = three(alloc)?;
+        elements.find_soonest(None);
+        assert_eq!(rt; elements.len(), 3);
         elements.set_expiry(alloc, 0, Some(10))?;
-        assert_eq!(rt; elements.soonest, 10);
-        elements.set_expiry(alloc, 0, None)?;
-        let taken = elements.remove(2)?;
-        assert_eq!(rt; taken.id, 2);
-        assert_eq!(rt; elements.count_expired(29), 0);
-        assert_eq!(rt; elements.copy(alloc)?.soonest, 10);
-        elements.find_soonest();
-        elements.settle()?;
-        assert_eq!(rt; elements.soonest, 30);
-        assert!(rt; !elements.is_early);
-        assert_eq!(rt; elements.count_expired(30), 1);
+        assert!(rt; moments(&elements, 0) == Some((0, 0)));
+        assert_eq!(rt; elements.count_expired(10), 1);
+        elements.find_soonest(None);
+        assert!(rt; moments(&elements, 0) == Some((10, 10)));
+        assert_eq!(rt; elements.len(), 3);
+        let taken = elements.remove(0)?;
+        assert_eq!(rt; taken.id, 0);
+        assert!(rt; moments(&elements, 0).is_none());
+        elements.find_soonest(None);
+        assert!(rt; moments(&elements, 0) == Some((20, 20)));
+        Ok(())
+    }
+
+    #[test]
+    fn those_that_left_have_no_part_in_the_moment(rt: HostRuntime) -> Result<(), Fail> {
+        let alloc = rt.alloc();
+        let mut elements = three(alloc)?;
+        elements.find_soonest(Some(20));
+        assert!(rt; moments(&elements, 0) == Some((20, 30)));
+        assert_eq!(rt; elements.count_leaving(Some(20), 29), 0);
+        assert_eq!(rt; elements.count_leaving(Some(20), 30), 1);
+        assert_eq!(rt; elements.count_leaving(Some(10), 29), 1);
+        assert_eq!(rt; elements.count_leaving(None, 30), 2);
+        elements.find_soonest(None);
+        assert!(rt; moments(&elements, 0) == Some((20, 20)));
+        Ok(())
+    }
+
+    #[test]
+    fn places_are_found_in_each_page(rt: HostRuntime) -> Result<(), Fail> {
+        let alloc = rt.alloc();
+        let mut elements = TimedElements::new(alloc);
+        for id in 0..1100u64 {
+            let expiry = if id % 500 == 11 { Some(id) } else { None };
+            elements.push(element(alloc, id, expiry)?)?;
+        }
+        elements.find_soonest(None);
+        assert!(rt; moments(&elements, 0) == Some((11, 11)));
+        assert!(rt; moments(&elements, 1) == Some((1011, 1011)));
+        assert!(rt; moments(&elements, 2) == Some((u64::MAX, u64::MAX)));
+        let places = elements.expired_places(alloc, 511)?;
+        assert!(rt; places.as_slice() == [11, 511].as_slice());
+        assert_eq!(rt; elements.expired_places(alloc, 1011)?.len(), 3);
+        assert_eq!(rt; elements.count_leaving(Some(11), 1011), 2);
         Ok(())
     }
 }

@@ -19,7 +19,7 @@ use lookup_table::FieldTable;
 use mapping_table::{EndTable, MapTable};
 use pipapo_image::{Index, SetImage};
 use set_model::{Kind, Memory, Schema, SetDecl};
-use set_space::Generation;
+use set_space::{Generation, KeptSet};
 use set_tables::{End, Span};
 use text_pieces::Piece::{Number, Set, Word};
 use text_pieces::append_pieces;
@@ -146,6 +146,15 @@ fn write_tables(declared: &SetDecl, set: &SetImage, out: &mut Vec<u8>) -> Result
     write_fields(set, out)
 }
 
+/// Appends the tables of a set of a generation.
+fn write_kept_tables(declared: &SetDecl, set: &KeptSet, out: &mut Vec<u8>) -> Result<(), Memory>
+    ensures ok { OnOk result (out.new.items ≡ out.old.items ++ tables_text declared.now set.now) }
+    ensures err { OnErr result (AppendsPart out.old.items out.new.items (tables_text declared.now set.now)) }
+{
+    let image = set.closed_up(*out.allocator())?;
+    write_tables(declared, &image, out)
+}
+
 /// Appends the tables of the declared sets as they stand in a generation, for those who look at what
 /// lookups read. For each field there is a line for each longest run of neighbouring buckets with the
 /// same bitmap that isn't all zeros, as `row 3 6-255 02`, and then one line per rule: `map` and the
@@ -160,7 +169,7 @@ pub fn write_dump(schema: &Schema, generation: &Generation, out: &mut Vec<u8>) -
     ensures err { OnErr result (AppendsPart out.old.items out.new.items (dump_text schema.now generation.now.sets)) }
 {
     'sets: for i in 0..schema.len() {
-        write_tables(schema.at(i), generation.sets.at(i), out)?;
+        write_kept_tables(schema.at(i), generation.sets.at(i), out)?;
     }
     Ok(())
 }

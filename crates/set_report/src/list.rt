@@ -17,7 +17,7 @@ use addr_text::write_interval;
 use expiry_scan::TimedElements;
 use pipapo_image::SetImage;
 use set_model::{Element, Interval, Kind, Memory, Schema, SetDecl};
-use set_space::Generation;
+use set_space::{Generation, KeptSet};
 use text_pieces::Piece::{Number, Time, Word};
 use text_pieces::{Piece, append_pieces, family_word};
 
@@ -226,6 +226,21 @@ fn write_set(set: &SetDecl, image: &SetImage, now: u64, out: &mut Vec<u8>) -> Re
     write(&[Word(b"\t}\n")], out)
 }
 
+/// Appends a set of a generation.
+fn write_kept_set(
+    declared: &SetDecl,
+    set: &KeptSet,
+    now: u64,
+    out: &mut Vec<u8>,
+) -> Result<(), Memory>
+    requires { set.now.kinds ≡ declared.now.kinds }
+    ensures ok { OnOk result (out.new.items ≡ out.old.items ++ set_block now (declared.now, set.now)) }
+    ensures kept { Keeps out.old.items out.new.items }
+{
+    let image = set.closed_up(*out.allocator())?;
+    write_set(declared, &image, now, out)
+}
+
 /// Whether two sets stand in one table.
 fn is_same_table(one: &SetDecl, other: &SetDecl) -> bool
     ensures { result ≡ same_table one.now other.now }
@@ -253,7 +268,7 @@ fn write_sets(
             continue;
         }
         write(&[Word(separator)], out)?;
-        write_set(set, generation.sets.at(place), now, out)?;
+        write_kept_set(set, generation.sets.at(place), now, out)?;
         separator = b"\n";
     }
     Ok(())

@@ -15,7 +15,7 @@ fn count_elements(sets: &Sets) -> u128
 {
     let mut count = 0u128;
     'sets: for i in 0..sets.len() {
-        count += u128::from(sets.at(i).elements().len());
+        count += u128::from(sets.at(i).len());
     }
     count
 }

@@ -1,5 +1,5 @@
 -- A list without the items that fail a test: the first that passes another one, and what changes in it.
-use Rattle.std.proofs.Common.{◌≡◌, refl, sym, ◌∙◌, ap, ℕ, zero, suc, ◌+◌, ◌<◌, Bool, true, false, cond, List, [], ◌∷◌, length, take, get_or, slice_set, Option, Some, None, arith}
+use Rattle.std.proofs.Common.{◌≡◌, refl, sym, ◌∙◌, ap, ℕ, zero, suc, ◌+◌, ◌<◌, Bool, true, false, ◌&&◌, cond, List, [], ◌∷◌, length, take, get_or, slice_set, Option, Some, None, arith}
 use Rattle.std.specs.Prelude.{filter, position, remove, option_map}
 use Rattle.std.proofs.lemmas.List.Sums.{length-filter, count_by-le-length}
 use Rattle.set_tables.proofs.RowLaws.{position-cons}
@@ -71,28 +71,36 @@ module _ {X : Type 0} (q : X → Bool) where
       let a = whole-rest x xs h in
       ap (λ t. cond t (x ∷ filter q (remove xs i)) (filter q (remove xs i))) a.0 ∙ ap (λ z. x ∷ z) (remove-whole xs i a.1)
 
-  -- The first item that passes a test which those that are left out fail is the same one.
-  pub position-kept : (p : X → Bool) → ((x : X) → p x ≡ true → q x ≡ true) → (xs : List X) → position p (filter q xs) ≡ option_map (moved q xs) (position p xs)
-  position-kept p sub [] = refl
-  position-kept p sub (x ∷ xs) =
-      first (q x) ∙ ap (λ o. cond (q x) (cond (p x) (Some 0) (option_map (λ i. 1 + i) o)) o) (position-kept p sub xs)
-      ∙ by-tests (q x) (p x) (position p xs) (sub x) ∙ behind (p x) (position p xs) ∙ ap (option_map (moved q (x ∷ xs))) (sym (position-cons p x xs)) where
+  -- The first item that passes one test, of those that pass the other, is the first that passes both.
+  pub position-both : (both p : X → Bool) → ((x : X) → both x ≡ (q x && p x)) → (xs : List X) → position p (filter q xs) ≡ option_map (moved q xs) (position both xs)
+  position-both both p each [] = refl
+  position-both both p each (x ∷ xs) =
+      first (q x) ∙ ap (λ o. cond (q x) (cond (p x) (Some 0) (option_map (λ i. 1 + i) o)) o) (position-both both p each xs)
+      ∙ by-tests (q x) (p x) (position both xs) ∙ ap (λ v. cond v (Some 0) (option_map (λ i. length (cond (q x) (x ∷ filter q (take i xs)) (filter q (take i xs)))) (position both xs))) (sym (each x))
+      ∙ behind (both x) (position both xs) ∙ ap (option_map (moved q (x ∷ xs))) (sym (position-cons both x xs)) where
         first : (t : Bool) → position p (cond t (x ∷ filter q xs) (filter q xs))
             ≡ cond t (cond (p x) (Some 0) (option_map (λ i. 1 + i) (position p (filter q xs)))) (position p (filter q xs))
         first true = position-cons p x (filter q xs)
         first false = refl
 
-        by-tests : (t u : Bool) (o : Option ℕ) → (u ≡ true → t ≡ true)
+        by-tests : (t u : Bool) (o : Option ℕ)
             → cond t (cond u (Some 0) (option_map (λ i. 1 + i) (option_map (moved q xs) o))) (option_map (moved q xs) o)
-            ≡ cond u (Some 0) (option_map (λ i. length (cond t (x ∷ filter q (take i xs)) (filter q (take i xs)))) o)
-        by-tests true true o s = refl
-        by-tests true false None s = refl
-        by-tests true false (Some i) s = ap Some (omega arith)
-        by-tests false true o s = absurd (cc (s refl))
-        by-tests false false o s = refl
+            ≡ cond (t && u) (Some 0) (option_map (λ i. length (cond t (x ∷ filter q (take i xs)) (filter q (take i xs)))) o)
+        by-tests true true o = refl
+        by-tests true false None = refl
+        by-tests true false (Some i) = ap Some (omega arith)
+        by-tests false u o = refl
 
         behind : (u : Bool) (o : Option ℕ) → cond u (Some 0) (option_map (λ i. length (cond (q x) (x ∷ filter q (take i xs)) (filter q (take i xs)))) o)
             ≡ option_map (moved q (x ∷ xs)) (cond u (Some 0) (option_map (λ i. 1 + i) o))
         behind true o = refl
         behind false None = refl
         behind false (Some i) = let n : suc i ≡ 1 + i = omega arith in ap (λ k. Some (moved q (x ∷ xs) k)) n
+
+  -- What passes one test and then another passes both.
+  pub filter-both : (both p : X → Bool) → ((x : X) → both x ≡ (q x && p x)) → (xs : List X) → filter p (filter q xs) ≡ filter both xs
+  filter-both both p each [] = refl
+  filter-both both p each (x ∷ xs) = go (q x) (filter-both both p each xs) ∙ ap (λ v. cond v (x ∷ filter both xs) (filter both xs)) (sym (each x)) where
+    go : (t : Bool) → filter p (filter q xs) ≡ filter both xs → filter p (cond t (x ∷ filter q xs) (filter q xs)) ≡ cond (t && p x) (x ∷ filter both xs) (filter both xs)
+    go true ih = ap (λ z. cond (p x) (x ∷ z) z) ih
+    go false ih = ih

@@ -1,5 +1,6 @@
 pub mod KeptItems
 pub mod KeptSets
-pub mod OpenLaws
+pub mod GapLaws
+pub mod LazyLaws
 pub mod Refusals
 pub mod SetsLaws

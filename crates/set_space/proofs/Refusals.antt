@@ -1,5 +1,5 @@
 -- A refused addition leaves the set; what exists is no new element.
-use Rattle.std.proofs.Common.{◌≡◌, sym, ◌∙◌, ap, subst, ℕ, Bool, Option, Some, Result, Ok, Err, OnErr, IfOk, length}
+use Rattle.std.proofs.Common.{◌≡◌, sym, ◌∙◌, ap, subst, ℕ, Option, Some, Result, Ok, Err, OnErr, IfOk, length}
 use Rattle.std.specs.Prelude.{IsErrAnd}
 use Rattle.set_model.specs.declared.element.NewElement.{NewElement}
 use Rattle.set_model.specs.declared.memory.Memory.{Memory as NoMemory}
@@ -15,39 +15,39 @@ use Rattle.pipapo_image.specs.Image.Decision.{comes, left, existing}
 use Rattle.pipapo_image.specs.Image.Insert.{IsAnswer, said}
 use Rattle.pipapo_image.specs.Image.Remove.{IsRemoval}
 use Rattle.pipapo_image.proofs.AddKeeps.{add_keeps}
-use Rattle.set_space.specs.OpenImage.{undeleted, IsOpenDecision}
+use Rattle.set_space.specs.LazyImage.{staying, IsLazyDecision}
 use Rattle.set_space.specs.Answers.{IsCreation, IsFlush}
 
 -- ---- of a decision
-module _ (d : Bool) (image s : State) (e : NewElement) (now : ℕ) where
+module _ (p : Option ℕ) (image s : State) (e : NewElement) (now : ℕ) where
   -- What refuses an addition refuses a creation.
-  pub creation_refused : (r : Result ℕ ChangeError) (error : ChangeError) → IsErrAnd r (λ z. z ≡ error) → undeleted d image ≡ s
-      → IsOpenDecision d image e (add s e now) (Err error) → IsCreation (add s e now) r s (undeleted d image)
+  pub creation_refused : (r : Result ℕ ChangeError) (error : ChangeError) → IsErrAnd r (λ z. z ≡ error) → staying p image ≡ s
+      → IsLazyDecision p image e (add s e now) (Err error) → IsCreation (add s e now) r s (staying p image)
   creation_refused (Ok id) error is same h = absurd is
-  creation_refused (Err f) error is same h = subst (λ z. IsCreation (add s e now) (Err z) s (undeleted d image)) (sym is) (as_refused error h) where
-    as_refused : (error : ChangeError) → IsOpenDecision d image e (add s e now) (Err error) → IsCreation (add s e now) (Err error) s (undeleted d image)
+  creation_refused (Err f) error is same h = subst (λ z. IsCreation (add s e now) (Err z) s (staying p image)) (sym is) (as_refused error h) where
+    as_refused : (error : ChangeError) → IsLazyDecision p image e (add s e now) (Err error) → IsCreation (add s e now) (Err error) s (staying p image)
     as_refused (errors.Refused why) h = (ap (λ z. (as_created s z).0) h, same)
     as_refused errors.Memory h = same
 
   -- An element that is there already refuses a creation.
-  pub creation_exists : (id : ℕ) (decision : Decision) → undeleted d image ≡ s → IsOpenDecision d image e (add s e now) (Ok decision) → Some id ≡ existing decision
-      → IsCreation (add s e now) (Err (errors.Refused (Exists id))) s (undeleted d image)
+  pub creation_exists : (id : ℕ) (decision : Decision) → staying p image ≡ s → IsLazyDecision p image e (add s e now) (Ok decision) → Some id ≡ existing decision
+      → IsCreation (add s e now) (Err (errors.Refused (Exists id))) s (staying p image)
   creation_exists id (Stays i) same h is = (ap (λ z. (as_created s z).0) h.1 ∙ cc is, same)
   creation_exists id (Renews p i) same h is = (ap (λ z. (as_created s z).0) h.1 ∙ cc is, same)
   creation_exists id (Adds columns) same h is = absurd (cc is)
 
   -- What is refused leaves the set.
-  pub insertion_refused : (r : Result Came ChangeError) (error : ChangeError) → IsErrAnd r (λ z. z ≡ error) → undeleted d image ≡ s
-      → IsOpenDecision d image e (add s e now) (Err error) → IsAnswer (add s e now) r s (undeleted d image)
+  pub insertion_refused : (r : Result Came ChangeError) (error : ChangeError) → IsErrAnd r (λ z. z ≡ error) → staying p image ≡ s
+      → IsLazyDecision p image e (add s e now) (Err error) → IsAnswer (add s e now) r s (staying p image)
   insertion_refused (Ok came) error is same h = absurd is
-  insertion_refused (Err f) error is same h = subst (λ z. IsAnswer (add s e now) (Err z) s (undeleted d image)) (sym is) (as_refused error h) where
-    as_refused : (error : ChangeError) → IsOpenDecision d image e (add s e now) (Err error) → IsAnswer (add s e now) (Err error) s (undeleted d image)
+  insertion_refused (Err f) error is same h = subst (λ z. IsAnswer (add s e now) (Err z) s (staying p image)) (sym is) (as_refused error h) where
+    as_refused : (error : ChangeError) → IsLazyDecision p image e (add s e now) (Err error) → IsAnswer (add s e now) (Err error) s (staying p image)
     as_refused (errors.Refused why) h = (ap (λ z. z.0) (sym h), ap (λ z. z.1) (sym h))
     as_refused errors.Memory h = same
 
   -- What is done is the answer.
-  pub insertion_done : (t : State) (decision : Decision) (came : Came) → IsOpenDecision d image e (add s e now) (Ok decision)
-      → said came ≡ comes decision image.next → t ≡ undeleted d (left image e decision) → IsAnswer (add s e now) (Ok came) s t
+  pub insertion_done : (t : State) (decision : Decision) (came : Came) → IsLazyDecision p image e (add s e now) (Ok decision)
+      → said came ≡ comes decision image.next → t ≡ staying p (left image e decision) → IsAnswer (add s e now) (Ok came) s t
   insertion_done t decision came h a b = (a ∙ ap (λ z. z.0) (sym h.1), b ∙ ap (λ z. z.1) (sym h.1))
 
 -- ---- a refused change leaves the set

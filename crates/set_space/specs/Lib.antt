@@ -1,4 +1,6 @@
 pub mod Open
-pub mod OpenImage
+pub mod LazyImage
+pub mod KeptSet
 pub mod OpenSets
 pub mod Answers
+pub mod Copies

@@ -1,28 +1,18 @@
 -- What the sets of a work stand for, beside those of its base.
-use Rattle.std.specs.Prelude.{◌≡◌, ℕ, Bool, false, List, [], ◌∷◌, Option, Some, None, not, count_by, slice_get}
+use Rattle.std.specs.Prelude.{◌≡◌, ℕ, List, [], ◌∷◌, Option, Some, None, not, count_by, slice_get}
 use Rattle.std.specs.Arc.{arc_value}
 use Rattle.set_model.specs.SetState.{State, purged}
 use Rattle.set_model.specs.Expiry.{live}
 use Rattle.expiry_scan.specs.Expired.{is_expired}
-use Rattle.set_space.specs.OpenImage.{undeleted}
+use Rattle.set_space.specs.LazyImage.{set_of}
 use Rattle.set_space.specs.declared.open_set.OpenSet.{OpenSet}
 use Rattle.set_space.specs.declared.open_set.OpenSet.TheVariants.{Unchanged, Changed, Sealed}
 
--- the image of an open set, by that of the base
-abbrev pub image_of : OpenSet → State → State
-image_of Unchanged base = base
-image_of (Changed changed) base = changed.image
-image_of (Sealed shared) base = arc_value shared
-
--- Elements that were deleted may stand in its image.
-abbrev pub has_deleted : OpenSet → Bool
-has_deleted Unchanged = false
-has_deleted (Changed changed) = changed.has_deleted
-has_deleted (Sealed shared) = false
-
--- the state of an open set, by that of the base: its image without the deleted elements
+-- the state of an open set, by that of the base
 abbrev pub open_state : OpenSet → State → State
-open_state o base = undeleted (has_deleted o) (image_of o base)
+open_state Unchanged base = base
+open_state (Changed changed) base = set_of changed
+open_state (Sealed shared) base = arc_value shared
 
 -- the states of all sets
 abbrev pub open_states : List OpenSet → List State → List State

@@ -4,8 +4,8 @@ ghost use Rattle.set_model.specs.SetState.{empty_set};
 ghost use Rattle.set_model.specs.Control.{first_generation};
 ghost use Rattle.set_space.specs.Open.{CanBeBuilt};
 
+use crate::kept_set::KeptSet;
 use crate::sets::Sets;
-use pipapo_image::SetImage;
 use set_model::{Memory, Schema, SetDecl};
 use std::alloc::Global;
 use std::marker::Model;
@@ -27,12 +27,12 @@ impl Model for Generation {
 }
 
 /// A declared set, without elements.
-fn empty_set(alloc: Global, set: &SetDecl) -> Result<Arc<SetImage, Global>, Memory>
+fn empty_set(alloc: Global, set: &SetDecl) -> Result<Arc<KeptSet, Global>, Memory>
     requires { CanBeBuilt set.now }
-    ensures { IfOk result (λ image. arc_value image ≡ empty_set set.now.kinds set.now.size set.now.disjoint) }
+    ensures { IfOk result (λ kept. arc_value kept ≡ empty_set set.now.kinds set.now.size set.now.disjoint) }
 {
-    let image = SetImage::new(alloc, &set.kinds, set.size, set.disjoint)?;
-    Ok(Arc::new(alloc, image)?)
+    let kept = KeptSet::new(alloc, &set.kinds, set.size, set.disjoint)?;
+    Ok(Arc::new(alloc, kept)?)
 }
 
 fn empty_sets(alloc: Global, schema: &Schema) -> Result<Sets, Memory>
@@ -60,7 +60,7 @@ impl Generation {
         Ok(Generation { number: 0, sets })
     }
     /// The set at a place.
-    pub(crate) fn set(&self, set: u32) -> &SetImage
+    pub(crate) fn set(&self, set: u32) -> &KeptSet
         requires { set < length self.now.sets }
         ensures { slice_get self.now.sets set ≡ Some result.now }
     {
@@ -68,7 +68,7 @@ impl Generation {
     }
 
     /// The shared set at a place.
-    pub(crate) fn shared(&self, set: u64) -> &Arc<SetImage, Global>
+    pub(crate) fn shared(&self, set: u64) -> &Arc<KeptSet, Global>
         requires { set < length self.now.sets }
         ensures { slice_get self.now.sets set ≡ Some (arc_value result.now) }
     {

@@ -4,12 +4,14 @@
 #![tactic(auto)]
 
 mod generation;
-mod open_image;
+mod kept_set;
+mod lazy_image;
 mod open_set;
 mod sets;
 mod work;
 
 pub use generation::Generation;
+pub use kept_set::KeptSet;
 pub use sets::Sets;
 pub use work::Work;
 

@@ -1,17 +1,18 @@
-ghost use Rattle.std.specs.Prelude.{◌≡◌, ◌<◌, true, false, None, Ok, [], length, count_by, IfOk, IfErr, OnOk, OnErr};
+ghost use Rattle.std.specs.Prelude.{◌≡◌, true, None, Ok, Err, [], length, count_by, IfOk, IfErr, OnErr};
 ghost use Rattle.std.specs.Arc.{arc_value};
 ghost use Rattle.set_model.specs.Key.{parts_fit};
-ghost use Rattle.set_model.specs.SetState.{State, add, removed, purged, cleared, element_at, without_at};
+ghost use Rattle.set_model.specs.SetState.{State, add, removed, purged, cleared};
 ghost use Rattle.expiry_scan.specs.Expired.{is_expired};
-ghost use Rattle.pipapo_image.specs.Image.Insert.{IsAnswer, said};
-ghost use Rattle.pipapo_image.specs.Image.Decision.{CanBeDone, comes, left};
+ghost use Rattle.pipapo_image.specs.Image.Insert.{IsAnswer};
 ghost use Rattle.pipapo_image.specs.Image.Remove.{IsRemoval};
-ghost use Rattle.set_space.specs.OpenImage.{undeleted, IsOpenDecision};
-ghost use Rattle.set_space.specs.OpenSets.{image_of, has_deleted, open_state, IsPurgedAnew};
+ghost use Rattle.set_space.specs.Copies.{copied};
+ghost use Rattle.set_space.specs.LazyImage.{set_of};
+ghost use Rattle.set_space.specs.OpenSets.{open_state, IsPurgedAnew};
 ghost use Rattle.set_space.specs.Answers.{IsCreation};
 
-use crate::open_image::OpenImage;
-use pipapo_image::{Added, ChangeError, Decision, Scratch, SetImage};
+use crate::kept_set::KeptSet;
+use crate::lazy_image::LazyImage;
+use pipapo_image::{Added, ChangeError, Scratch};
 use set_model::{Memory, NewElement, Parts, Why, parts_fit};
 use std::alloc::Global;
 use std::mem;
@@ -23,62 +24,69 @@ pub(crate) enum OpenSet {
     /// It is the base's.
     Unchanged,
     /// It was changed, and is this work's alone.
-    Changed(OpenImage),
+    Changed(LazyImage),
     /// It was changed, and is shared with a generation that was sealed.
-    Sealed(Arc<SetImage, Global>),
+    Sealed(Arc<KeptSet, Global>),
 }
 
-/// A changed set, for generations to share and copies to share its elements. Where memory is missing it
-/// comes back as it was.
-fn settled(alloc: Global, mut image: SetImage) -> Result<Arc<SetImage, Global>, SetImage>
-    ensures ok { IfOk result (λ shared. arc_value shared ≡ image) }
-    ensures err { IfErr result (λ same. same ≡ image) }
+/// A changed set, for generations to share. Where memory is missing the same set comes back.
+fn settled(alloc: Global, lazy: LazyImage) -> Result<Arc<KeptSet, Global>, LazyImage>
+    ensures ok { IfOk result (λ shared. arc_value shared ≡ set_of lazy) }
+    ensures err { IfErr result (λ same. set_of same ≡ set_of lazy) }
 {
-    image.find_soonest();
-    if image.settle().is_err() {
-        return Err(image);
-    }
-    match Arc::new(alloc, image) {
-        Ok(shared) => Ok(shared),
-        Err(failed) => Err(failed.value),
+    match KeptSet::of(alloc, lazy) {
+        Ok(kept) => match Arc::new(alloc, kept) {
+            Ok(shared) => Ok(shared),
+            Err(failed) => Err(failed.value.into_lazy()),
+        },
+        Err(same) => Err(same),
     }
 }
 
 impl OpenSet {
-    /// The set as it stands, but for deleted elements that may stand in it yet.
-    fn image<'a>(&'a self, base: &'a SetImage) -> &'a SetImage
-        ensures { result.now ≡ image_of self.now base.now }
+    /// The image by which the set is kept.
+    fn lazy<'a>(&'a self, base: &'a KeptSet) -> &'a LazyImage
+        ensures { set_of result.now ≡ open_state self.now base.now }
     {
         match self {
-            OpenSet::Unchanged => base,
-            OpenSet::Changed(changed) => &changed.image,
-            OpenSet::Sealed(image) => image,
+            OpenSet::Unchanged => base.lazy(),
+            OpenSet::Changed(changed) => changed,
+            OpenSet::Sealed(kept) => kept.lazy(),
         }
     }
 
     /// How many elements the set has.
-    fn len(&self, base: &SetImage) -> u64
+    fn len(&self, base: &KeptSet) -> u64
         ensures { result ≡ length (open_state self.now base.now).elements }
     {
         match self {
-            OpenSet::Unchanged => base.elements().len(),
+            OpenSet::Unchanged => base.len(),
             OpenSet::Changed(changed) => changed.len(),
-            OpenSet::Sealed(image) => image.elements().len(),
+            OpenSet::Sealed(kept) => kept.len(),
         }
     }
 
     /// Whether intervals fit the set's kinds.
-    pub(crate) fn fits(&self, base: &SetImage, parts: &Parts) -> bool
+    pub(crate) fn fits(&self, base: &KeptSet, parts: &Parts) -> bool
         ensures { result ≡ parts_fit (open_state self.now base.now).kinds parts.now }
     {
-        parts_fit(self.image(base).kinds(), parts)
+        parts_fit(self.lazy(base).kinds(), parts)
     }
 
-    /// Inserts into the set.
+    /// Goes on with a copy, where there is one.
+    fn take(&mut self, copy: Option<LazyImage>)
+        ensures { (base : State) → open_state self.new base ≡ copied copy (open_state self.old base) }
+    {
+        if let Some(changed) = copy {
+            *self = OpenSet::Changed(changed);
+        }
+    }
+
+    /// Inserts into the set. One that isn't this work's alone is copied where something changes.
     pub(crate) fn insert(
         &mut self,
         alloc: Global,
-        base: &SetImage,
+        base: &KeptSet,
         element: &NewElement,
         now: u64,
         scratch: &mut Scratch,
@@ -86,16 +94,20 @@ impl OpenSet {
         requires { parts_fit (open_state self.old base.now).kinds element.now.parts ≡ true }
         ensures { IsAnswer (add (open_state self.old base.now) element.now now) result (open_state self.old base.now) (open_state self.new base.now) }
     {
-        let decision = self.decide(alloc, base, element, now, scratch)?;
-        let came = self.carry_out(alloc, base, decision, element)?;
-        Ok(came)
+        if let OpenSet::Changed(changed) = self {
+            return changed.insert(alloc, element, now, scratch);
+        }
+        let (came, copy) = self.lazy(base).inserted(alloc, element, now, scratch)?;
+        self.take(copy);
+        came
     }
 
-    /// Inserts into the set where no live element of the same intervals is there.
+    /// Inserts into the set where no live element of the same intervals is there. One that isn't this
+    /// work's alone is copied where something changes.
     pub(crate) fn create(
         &mut self,
         alloc: Global,
-        base: &SetImage,
+        base: &KeptSet,
         element: &NewElement,
         now: u64,
         scratch: &mut Scratch,
@@ -103,68 +115,20 @@ impl OpenSet {
         requires { parts_fit (open_state self.old base.now).kinds element.now.parts ≡ true }
         ensures { IsCreation (add (open_state self.old base.now) element.now now) result (open_state self.old base.now) (open_state self.new base.now) }
     {
-        let decision = self.decide(alloc, base, element, now, scratch)?;
-        if let Some(id) = decision.existing() {
-            return Err(ChangeError::Refused(Why::Exists { id }));
-        }
-        match self.carry_out(alloc, base, decision, element)? {
-            Added::New { id } => Ok(id),
-            Added::Already { .. } | Added::Renewed { .. } => unreachable!(),
-        }
-    }
-
-    /// Decides what an insertion of this element does to the image. The set is as it was.
-    fn decide(
-        &mut self,
-        alloc: Global,
-        base: &SetImage,
-        element: &NewElement,
-        now: u64,
-        scratch: &mut Scratch,
-    ) -> Result<Decision, ChangeError>
-        requires { parts_fit (image_of self.old base.now).kinds element.now.parts ≡ true }
-        ensures same { open_state self.new base.now ≡ open_state self.old base.now }
-        ensures decided { IsOpenDecision (has_deleted self.new) (image_of self.new base.now) element.now (add (open_state self.old base.now) element.now now) result }
-    {
-        match self {
-            OpenSet::Unchanged => base.decide(alloc, element, now, scratch),
-            OpenSet::Changed(changed) => changed.decide(alloc, element, now, scratch),
-            OpenSet::Sealed(image) => image.decide(alloc, element, now, scratch),
-        }
-    }
-
-    /// Does what was decided of the image; a set that isn't this work's alone is copied where something
-    /// changes.
-    fn carry_out(
-        &mut self,
-        alloc: Global,
-        base: &SetImage,
-        decision: Decision,
-        element: &NewElement,
-    ) -> Result<Added, Memory>
-        requires fit { parts_fit (image_of self.old base.now).kinds element.now.parts ≡ true }
-        requires can { CanBeDone (image_of self.old base.now) element.now.parts decision }
-        ensures came { IfOk result (λ came. said came ≡ comes decision (image_of self.old base.now).next) }
-        ensures left { IfOk result (λ _. open_state self.new base.now ≡ undeleted (has_deleted self.old) (left (image_of self.old base.now) element.now decision)) }
-        ensures err { OnErr result (open_state self.new base.now ≡ open_state self.old base.now) }
-    {
         if let OpenSet::Changed(changed) = self {
-            return changed.image.carry_out(alloc, decision, element);
+            return changed.create(alloc, element, now, scratch);
         }
-        if let Decision::Stays { id } = decision {
-            return Ok(Added::Already { id });
-        }
-        let mut image = self.image(base).copy(alloc)?;
-        let came = image.carry_out(alloc, decision, element)?;
-        *self = OpenSet::Changed(OpenImage::new(image));
-        Ok(came)
+        let (came, copy) = self.lazy(base).created(alloc, element, now, scratch)?;
+        self.take(copy);
+        came
     }
 
-    /// Takes the first live element of exactly these intervals out.
+    /// Takes the first live element of exactly these intervals out. A set that isn't this work's alone is
+    /// copied.
     pub(crate) fn delete(
         &mut self,
         alloc: Global,
-        base: &SetImage,
+        base: &KeptSet,
         parts: &Parts,
         now: u64,
         scratch: &mut Scratch,
@@ -172,32 +136,17 @@ impl OpenSet {
         ensures removal { IsRemoval (removed (open_state self.old base.now) parts.now now) result (open_state self.old base.now) (open_state self.new base.now) }
         ensures missing { removed (open_state self.old base.now) parts.now now ≡ None → result ≡ Err (ChangeError.Refused Why.Missing) }
     {
-        match self.image(base).find_exact(parts, now, scratch) {
-            None => Err(ChangeError::Refused(Why::Missing)),
-            Some(found) => Ok(self.remove_at(alloc, base, found.place)?),
-        }
-    }
-
-    /// Takes the element at place `i` of the image out of the set, and answers its id; a set that isn't
-    /// this work's alone is copied.
-    fn remove_at(&mut self, alloc: Global, base: &SetImage, i: u64) -> Result<u64, Memory>
-        requires { i < length (image_of self.old base.now).elements }
-        ensures id { IfOk result (λ id. id ≡ (element_at (image_of self.old base.now) i).id) }
-        ensures left { IfOk result (λ _. open_state self.new base.now ≡ undeleted (has_deleted self.old) (without_at (image_of self.old base.now) i)) }
-        ensures err { OnErr result (open_state self.new base.now ≡ open_state self.old base.now) }
-    {
         if let OpenSet::Changed(changed) = self {
-            return changed.remove_at(alloc, i);
+            return changed.delete(alloc, parts, now, scratch);
         }
-        let mut changed = OpenImage::new(self.image(base).copy(alloc)?);
-        let id = changed.remove_at(alloc, i)?;
+        let (id, changed) = self.lazy(base).without(alloc, parts, now, scratch)?;
         *self = OpenSet::Changed(changed);
         Ok(id)
     }
 
     /// Takes all elements out, and answers how many there were. A set without elements stays as it is,
     /// shared where it was.
-    pub(crate) fn flush(&mut self, alloc: Global, base: &SetImage) -> Result<u64, Memory>
+    pub(crate) fn flush(&mut self, alloc: Global, base: &KeptSet) -> Result<u64, Memory>
         ensures ok { IfOk result (λ n. (n ≡ length (open_state self.old base.now).elements) × (open_state self.new base.now ≡ cleared (open_state self.old base.now))) }
         ensures err { OnErr result (open_state self.new base.now ≡ open_state self.old base.now) }
         ensures empty { (open_state self.old base.now).elements ≡ [] → (result ≡ Ok 0) × (self.new ≡ self.old) }
@@ -206,49 +155,49 @@ impl OpenSet {
         if count == 0 {
             return Ok(0);
         }
-        let image = self.image(base).emptied(alloc)?;
-        *self = OpenSet::Changed(OpenImage::new(image));
+        let emptied = self.lazy(base).emptied(alloc)?;
+        *self = OpenSet::Changed(emptied);
         Ok(count)
     }
 
-    /// Takes deleted elements out of the image, where some stand in it.
-    fn close_up(&mut self, alloc: Global) -> Result<(), Memory>
-        ensures same { (base : State) → open_state self.new base ≡ open_state self.old base }
-        ensures ok { OnOk result (has_deleted self.new ≡ false) }
+    /// Readies a changed set: its rule numbers close up where many elements left it, and its soonest expiry
+    /// is found.
+    fn ready(&mut self, alloc: Global) -> Result<(), Memory>
+        ensures { (base : State) → open_state self.new base ≡ open_state self.old base }
     {
         if let OpenSet::Changed(changed) = self {
-            changed.close_up(alloc)?;
+            changed.close_gaps(alloc)?;
+            changed.find_soonest();
         }
         Ok(())
     }
 
     /// Keeps a set that was shared, and shares it once more.
-    fn keep(&mut self, image: Arc<SetImage, Global>) -> Result<Arc<SetImage, Global>, Memory>
-        ensures kept { (base : State) → open_state self.new base ≡ arc_value image }
-        ensures shared { IfOk result (λ other. arc_value other ≡ arc_value image) }
+    fn keep(&mut self, kept: Arc<KeptSet, Global>) -> Result<Arc<KeptSet, Global>, Memory>
+        ensures kept { (base : State) → open_state self.new base ≡ arc_value kept }
+        ensures shared { IfOk result (λ other. arc_value other ≡ arc_value kept) }
     {
-        let other = Arc::try_clone(&image);
-        *self = OpenSet::Sealed(image);
+        let other = Arc::try_clone(&kept);
+        *self = OpenSet::Sealed(kept);
         Ok(other?)
     }
 
-    /// The set as it stands, where no deleted element is in its image, shared and not copied.
+    /// The set as it stands, shared and not copied.
     fn share(
         &mut self,
         alloc: Global,
-        base: &Arc<SetImage, Global>,
-    ) -> Result<Arc<SetImage, Global>, Memory>
-        requires { has_deleted self.old ≡ false }
+        base: &Arc<KeptSet, Global>,
+    ) -> Result<Arc<KeptSet, Global>, Memory>
         ensures same { open_state self.new (arc_value base.now) ≡ open_state self.old (arc_value base.now) }
-        ensures shared { IfOk result (λ image. arc_value image ≡ open_state self.old (arc_value base.now)) }
+        ensures shared { IfOk result (λ kept. arc_value kept ≡ open_state self.old (arc_value base.now)) }
     {
         match mem::replace(self, OpenSet::Unchanged) {
             OpenSet::Unchanged => Ok(Arc::try_clone(base)?),
-            OpenSet::Sealed(image) => self.keep(image),
-            OpenSet::Changed(changed) => match settled(alloc, changed.image) {
-                Ok(image) => self.keep(image),
-                Err(image) => {
-                    *self = OpenSet::Changed(OpenImage::new(image));
+            OpenSet::Sealed(kept) => self.keep(kept),
+            OpenSet::Changed(changed) => match settled(alloc, changed) {
+                Ok(kept) => self.keep(kept),
+                Err(same) => {
+                    *self = OpenSet::Changed(same);
                     Err(Memory)
                 }
             },
@@ -262,15 +211,15 @@ impl OpenSet {
     pub(crate) fn seal(
         &mut self,
         alloc: Global,
-        base: &Arc<SetImage, Global>,
+        base: &Arc<KeptSet, Global>,
         now: u64,
-    ) -> Result<(Arc<SetImage, Global>, u64), Memory>
+    ) -> Result<(Arc<KeptSet, Global>, u64), Memory>
         ensures same { open_state self.new (arc_value base.now) ≡ open_state self.old (arc_value base.now) }
         ensures sealed { IfOk result (λ r. (arc_value r.0 ≡ purged (open_state self.old (arc_value base.now)) now) × (r.1 ≡ count_by (is_expired now) (open_state self.old (arc_value base.now)).elements)) }
     {
-        self.close_up(alloc)?;
-        match purged_anew(alloc, self.image(base), now)? {
-            Some((image, count)) => Ok((Arc::new(alloc, image)?, count)),
+        self.ready(alloc)?;
+        match purged_anew(alloc, self.lazy(base), now)? {
+            Some((kept, count)) => Ok((Arc::new(alloc, kept)?, count)),
             None => Ok((self.share(alloc, base)?, 0)),
         }
     }
@@ -278,15 +227,17 @@ impl OpenSet {
 
 /// A set without the elements that are expired at `now`, and how many these are. `None` where none
 /// is expired, so that the set can be shared; nothing is made anew then.
-fn purged_anew(alloc: Global, set: &SetImage, now: u64) -> Result<Option<(SetImage, u64)>, Memory>
-    ensures none { count_by (is_expired now) set.now.elements ≡ 0 → result ≡ Ok None }
-    ensures some { IfOk result (λ anew. IsPurgedAnew set.now now anew) }
+fn purged_anew(alloc: Global, lazy: &LazyImage, now: u64) -> Result<Option<(KeptSet, u64)>, Memory>
+    ensures none { count_by (is_expired now) (set_of lazy.now).elements ≡ 0 → result ≡ Ok None }
+    ensures some { IfOk result (λ anew. IsPurgedAnew (set_of lazy.now) now anew) }
 {
-    let count = set.elements().count_expired(now);
+    let count = lazy.count_expired(now);
     if count == 0 {
         return Ok(None);
     }
-    let mut image = set.live_part(alloc, now)?;
-    image.settle()?;
-    Ok(Some((image, count)))
+    let rest = lazy.without_expired(alloc, now, count)?;
+    match KeptSet::of(alloc, rest) {
+        Ok(kept) => Ok(Some((kept, count))),
+        Err(_) => Err(Memory),
+    }
 }

@@ -1,7 +1,7 @@
 ghost use Rattle.std.specs.Prelude.{◌≡◌, ◌<◌, ◌++◌, ◌∷◌, [], length, slice_get, Some, IfOk, OnOk};
 ghost use Rattle.std.specs.Arc.{arc_value};
 
-use pipapo_image::SetImage;
+use crate::kept_set::KeptSet;
 use set_model::Memory;
 use std::alloc::Global;
 use std::marker::Model;
@@ -11,7 +11,7 @@ use std::sync::Arc;
 /// Contracts see it as the list of the sets' states.
 #[derive(Drop)]
 pub struct Sets {
-    pub(crate) items: Vec<Arc<SetImage, Global>>,
+    pub(crate) items: Vec<Arc<KeptSet, Global>>,
 }
 
 impl Model for Sets {
@@ -42,7 +42,7 @@ impl Sets {
     }
 
     /// The set at place `i`.
-    pub fn at(&self, i: u64) -> &SetImage
+    pub fn at(&self, i: u64) -> &KeptSet
         requires { i < length self.now }
         ensures { slice_get self.now i ≡ Some result.now }
     {
@@ -50,7 +50,7 @@ impl Sets {
     }
 
     /// The shared set at place `i`.
-    pub(crate) fn shared(&self, i: u64) -> &Arc<SetImage, Global>
+    pub(crate) fn shared(&self, i: u64) -> &Arc<KeptSet, Global>
         requires { i < length self.now }
         ensures { slice_get self.now i ≡ Some (arc_value result.now) }
     {
@@ -62,7 +62,7 @@ impl Sets {
     /// # Errors
     ///
     /// `Memory` if there is none left.
-    pub(crate) fn push(&mut self, set: Arc<SetImage, Global>) -> Result<(), Memory>
+    pub(crate) fn push(&mut self, set: Arc<KeptSet, Global>) -> Result<(), Memory>
         ensures { OnOk result (self.new ≡ self.old ++ arc_value set ∷ []) }
     {
         self.items.push(set)?;

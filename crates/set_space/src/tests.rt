@@ -149,7 +149,7 @@ fn sealed(
 fn count(rt: &impl Abort, work: &mut Work, set: u64) -> Result<u64, Memory> {
     let (generation, _) = sealed(rt, work, 0)?;
     assert!(rt; set < generation.sets.len());
-    Ok(generation.sets.at(set).elements().len())
+    Ok(generation.sets.at(set).len())
 }
 
 /// How many generations and works share a set of a generation.

@@ -9,9 +9,10 @@ ghost use Rattle.set_space.specs.Answers.{IsCreation, IsDestruction, IsFlush};
 ghost use Rattle.set_space.specs.OpenSets.{open_states, IsSealed};
 
 use crate::generation::Generation;
+use crate::kept_set::KeptSet;
 use crate::open_set::OpenSet;
 use crate::sets::Sets;
-use pipapo_image::{Added, ChangeError, Scratch, SetImage};
+use pipapo_image::{Added, ChangeError, Scratch};
 use set_model::{Memory, NewElement, Parts, Why};
 use std::alloc::Global;
 use std::marker::Model;
@@ -74,7 +75,7 @@ fn seal_at(
     base: &Generation,
     set: usize,
     now: u64,
-) -> Result<(Arc<SetImage, Global>, u64), Memory>
+) -> Result<(Arc<KeptSet, Global>, u64), Memory>
     requires long { length sets.old ≡ length base.now.sets }
     requires within { set < length sets.old }
     ensures long { length sets.new ≡ length sets.old }

@@ -279,7 +279,7 @@ impl SetImage {
     }
 
     /// Whether the set may have no further element.
-    fn is_full(&self) -> bool
+    pub fn is_full(&self) -> bool
         ensures full { result ≡ is_full self.now }
         ensures next { result ≡ false → self.now.next < 2 ^ 64 - 1 }
     {

@@ -61,7 +61,7 @@ impl SetImage {
         'places: for k in 0..count {
             kept.remove_expired_at(alloc, count - 1 - k, now)?;
         }
-        kept.find_soonest();
+        kept.find_soonest(None);
         Ok(kept)
     }
 
@@ -91,12 +91,12 @@ impl SetImage {
         Ok(kept)
     }
 
-    /// Looks for the soonest expiry anew, which a deletion or a renewal may have made a later one. Before
-    /// it no call looks for expired elements.
-    pub fn find_soonest(&mut self)
+    /// Looks for the soonest expiry of the elements that aren't expired at `passed` anew, which a deletion or a renewal
+    /// may have made a later one. Before it no call that is told of `passed` looks for expired elements.
+    pub fn find_soonest(&mut self, passed: Option<u64>)
         ensures { self.new ≡ self.old }
     {
-        self.elements.find_soonest();
+        self.elements.find_soonest(passed);
     }
 
     /// Lets copies share the elements and the tables from now on. None of them is copied.

@@ -10,18 +10,18 @@ pub sets-init : goal.sets-init
 unfolding dump_text
 sets-init c = begun c.args.out.now.items _
 
-pub returns-in_err-write_tables-clause-err : goal.returns-in_err-write_tables-clause-err
-returns-in_err-write_tables-clause-err c =
+pub returns-in_err-write_kept_tables-clause-err : goal.returns-in_err-write_kept_tables-clause-err
+returns-in_err-write_kept_tables-clause-err c =
     let at : slice_get c.args.generation.now.sets c.sets.i ≡ Some c.at-in-sets.result.now = cc (ap (λ (z : Generation). slice_get z.sets c.sets.i) c.generation.view_is, c.at-in-sets.ensures) in
-    on_err c.from_residual.result (broken c.args.out.now.items c.sets.out.items c.write_tables.new.out.items _ _ _
+    on_err c.from_residual.result (broken c.args.out.now.items c.sets.out.items c.write_kept_tables.new.out.items _ _ _
     (subst (λ t. Leaves c.args.out.now.items c.sets.out.items (dump_text c.args.schema.now c.args.generation.now.sets) t)
     (paired-more (λ set. tables_text set.0 set.1) c.args.schema.now c.args.generation.now.sets c.sets.i c.at.result.now c.at-in-sets.result.now c.at.ensures at) c.sets.invariant)
-    c.in_err-write_tables.ensures.err)
+    c.in_err-write_kept_tables.ensures.err)
 
 pub sets-preserved : goal.sets-preserved
 sets-preserved c =
     let at : slice_get c.args.generation.now.sets c.sets.i ≡ Some c.at-in-sets.result.now = cc (ap (λ (z : Generation). slice_get z.sets c.sets.i) c.generation.view_is, c.at-in-sets.ensures) in
-    further c.args.out.now.items c.sets.out.items c.write_tables.new.out.items _ _ _
+    further c.args.out.now.items c.sets.out.items c.write_kept_tables.new.out.items _ _ _
     (subst (λ t. Leaves c.args.out.now.items c.sets.out.items (dump_text c.args.schema.now c.args.generation.now.sets) t)
     (paired-more (λ set. tables_text set.0 set.1) c.args.schema.now c.args.generation.now.sets c.sets.i c.at.result.now c.at-in-sets.result.now c.at.ensures at) c.sets.invariant)
-    c.in_ok-write_tables.ensures.ok
+    c.in_ok-write_kept_tables.ensures.ok

@@ -16,7 +16,7 @@ sets-preserved c =
     let same = sym c.is_same_table.ensures ∙ c.if-not-is_same_table.false in
     let image : slice_get c.args.generation.now.sets c.sets.place ≡ Some c.at.result.now = subst (λ (g : Generation). slice_get g.sets c.sets.place ≡ Some c.at.result.now) c.generation.view_is c.at.ensures in
     joins_set (set_block c.args.now) (codes "\n") c.args.first.now c.at-set.result.now c.at.result.now c.args.schema.now c.args.generation.now.sets c.sets.place _ _ _ _ c.at-set.ensures image same c.sets.invariant
-    (two_writes _ _ _ _ _ c.in_ok-write.ensures.ok c.in_ok-write_set.ensures.ok)
+    (two_writes _ _ _ _ _ c.in_ok-write.ensures.ok c.in_ok-write_kept_set.ensures.ok)
 
 pub returns-clause-ok : goal.returns-clause-ok
 returns-clause-ok c =

@@ -1,0 +1,15 @@
+use Rattle.std.proofs.Common.{rules}
+use Rattle.set_space.specs.LazyImage.{staying, set_of}
+use Rattle.set_space.proofs.Refusals.{insertion_refused, insertion_done}
+use Rattle.set_space.proofs.lazy_image.LazyImage.insert.Goals as goal
+
+pub returns-in_err-decision : goal.returns-in_err-decision
+returns-in_err-decision c =
+    insertion_refused c.decide.new.self.passed c.decide.new.self.image (set_of c.args.self.now) c.args.element.now c.args.now
+    c.from_residual.result c.in_err-decision.field-0.0 c.from_residual.ensures.1 c.in_err-decision.ensures.same (search (rules, c.in_err-decision.ensures.decided))
+
+pub returns : goal.returns
+returns c =
+    insertion_done c.decide.new.self.passed c.decide.new.self.image (set_of c.args.self.now) c.args.element.now c.args.now
+    (staying c.decide.new.self.passed c.carry_out.new.self) c.in_ok-decision.decision c.in_ok-came.came (search (rules, c.in_ok-decision.ensures.decided))
+    (search (rules, c.in_ok-came.ensures.came)) (search (rules, c.in_ok-came.ensures.left))

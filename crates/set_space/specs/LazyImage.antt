@@ -1,0 +1,46 @@
+-- A set by its image, in which elements that left the set may stand yet.
+use Rattle.std.specs.Prelude.{◌≡◌, ℕ, max, Bool, true, false, not, ◌||◌, Option, Some, None, Result, Ok, Err}
+use Rattle.set_model.specs.declared.element.NewElement.{NewElement}
+use Rattle.set_model.specs.declared.report.Why.TheVariants.{Full, RulesFull}
+use Rattle.set_model.specs.Expiry.{lives}
+use Rattle.set_model.specs.SetState.{State, Addition, purged}
+use Rattle.set_model.specs.SetState.Addition.{Refused}
+use Rattle.pipapo_image.specs.declared.answers.ChangeError.{ChangeError}
+use Rattle.pipapo_image.specs.declared.answers.ChangeError.TheVariants as errors
+use Rattle.pipapo_image.specs.declared.image.decision.Decision.{Decision}
+use Rattle.pipapo_image.specs.Image.Decision.{CanBeDone, comes, left}
+use Rattle.set_space.specs.declared.lazy_image.LazyImage.{LazyImage}
+
+-- A set by its image, in which elements that left it may stand yet: the set has those that are live at
+-- the moment by which they left.
+abbrev pub staying : Option ℕ → State → State
+staying None image = image
+staying (Some m) image = purged image m
+
+-- the set that a lazy image stands for
+abbrev pub set_of : LazyImage → State
+set_of lazy = staying lazy.passed lazy.image
+
+-- the moment at which the image answers what the set answers at `now`
+abbrev pub moment : Option ℕ → ℕ → ℕ
+moment None now = now
+moment (Some m) now = max m now
+
+-- The set's size or a field's rules refuse the element.
+abbrev pub is_at_limit : Result Decision ChangeError → Bool
+is_at_limit (Err (errors.Refused Full)) = true
+is_at_limit (Err (errors.Refused (RulesFull f))) = true
+is_at_limit r = false
+
+-- What the image decides of an element with this expiry needn't hold of the set: the element would be
+-- taken for one that left, or a limit refuses it, which counts those that left.
+abbrev pub wants_room : Option ℕ → Option ℕ → Result Decision ChangeError → Bool
+wants_room None expiry r = false
+wants_room (Some m) expiry r = not (lives expiry m) || is_at_limit r
+
+-- This is to be done to the image, and the set without the elements that left answers so; or it is a
+-- refusal; or there was no memory.
+abbrev pub IsLazyDecision : Option ℕ → State → NewElement → Addition × State → Result Decision ChangeError → Type 0
+IsLazyDecision passed image e answer (Ok decision) = CanBeDone image e.parts decision × (answer ≡ (comes decision image.next, staying passed (left image e decision)))
+IsLazyDecision passed image e answer (Err (errors.Refused why)) = answer ≡ (Refused why, staying passed image)
+IsLazyDecision passed image e answer (Err errors.Memory) = Unit

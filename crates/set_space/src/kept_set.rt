@@ -1,0 +1,162 @@
+ghost use Rattle.std.specs.Prelude.{◌≡◌, ◌≤◌, ℕ, Option, true, length, IfOk, IfErr};
+ghost use Rattle.set_model.specs.Key.{key_fits};
+ghost use Rattle.set_model.specs.SetState.{State, empty_set};
+ghost use Rattle.pipapo_image.specs.Image.Found.{found};
+ghost use Rattle.set_space.specs.LazyImage.{set_of};
+ghost use Rattle.set_space.specs.KeptSet.{gap_places, gaps_before};
+
+use crate::lazy_image::LazyImage;
+use pipapo_image::{Scratch, SetImage};
+use set_model::{Found, Key, Kinds, Memory};
+use std::alloc::Global;
+use std::marker::Model;
+
+/// A set of a generation, shared by all generations in which it is the same. Contracts see its state.
+#[derive(Drop)]
+pub struct KeptSet {
+    lazy: LazyImage,
+    /// The places in the image of the elements that left, the lowest first.
+    gaps: Vec<u64>,
+}
+
+impl Model for KeptSet {
+    ghost use Rattle.std.specs.Prelude.{◌≡◌};
+    ghost use Rattle.set_model.specs.SetState.{State};
+    ghost use Rattle.set_space.specs.LazyImage.{set_of};
+    ghost use Rattle.set_space.specs.KeptSet.{gap_places};
+
+    ghost Value = { State };
+
+    ghost view = { λ a. set_of a.lazy };
+
+    ghost invariant = { λ a. a.gaps.items ≡ gap_places a.lazy.passed a.lazy.image };
+}
+
+/// The places in an image of the elements that left by a moment, the lowest first.
+fn gaps_of(alloc: Global, image: &SetImage, passed: Option<u64>) -> Result<Vec<u64>, Memory>
+    ensures { IfOk result (λ gaps. gaps.items ≡ gap_places passed image.now) }
+{
+    match passed {
+        None => Ok(Vec::new(alloc)),
+        Some(moment) => image.elements().expired_places(alloc, moment),
+    }
+}
+
+/// How many gaps stand before a place of the image whose gaps they are.
+#[inline]
+fn gaps_before(gaps: &[u64], place: u64) -> u64
+    ensures { (passed : Option ℕ) (image : State) → gaps.now ≡ gap_places passed image → place ≤ length image.elements
+        → result ≡ gaps_before passed image place }
+{
+    gaps.partition_point(|gap| *gap < place) as u64
+}
+
+/// Lets copies share an image from now on, and finds its gaps.
+fn settled(alloc: Global, lazy: &mut LazyImage) -> Result<Vec<u64>, Memory>
+    ensures same { set_of lazy.new ≡ set_of lazy.old }
+    ensures gaps { IfOk result (λ gaps. gaps.items ≡ gap_places lazy.new.passed lazy.new.image) }
+{
+    lazy.find_soonest();
+    lazy.image.settle()?;
+    gaps_of(alloc, &lazy.image, lazy.passed)
+}
+
+impl KeptSet {
+    /// A set of 1 to 16 fields without elements.
+    ///
+    /// # Errors
+    /// `Memory` if there is none left.
+    pub(crate) fn new(
+        alloc: Global,
+        kinds: &Kinds,
+        size: Option<u32>,
+        disjoint: bool,
+    ) -> Result<KeptSet, Memory>
+        requires some { 1 ≤ length kinds.now }
+        requires few { length kinds.now ≤ 16 }
+        ensures { IfOk result (λ set. set ≡ empty_set kinds.now size disjoint) }
+    {
+        Ok(KeptSet {
+            lazy: LazyImage::new(SetImage::new(alloc, kinds, size, disjoint)?),
+            gaps: Vec::new(alloc),
+        })
+    }
+
+    /// A changed set, for generations to share and copies to share its elements. Where memory is
+    /// missing the same set comes back.
+    pub(crate) fn of(alloc: Global, mut lazy: LazyImage) -> Result<KeptSet, LazyImage>
+        ensures ok { IfOk result (λ kept. kept ≡ set_of lazy) }
+        ensures err { IfErr result (λ same. set_of same ≡ set_of lazy) }
+    {
+        match settled(alloc, &mut lazy) {
+            Ok(gaps) => Ok(KeptSet { lazy, gaps }),
+            Err(_) => Err(lazy),
+        }
+    }
+
+    /// What each field of a key is.
+    pub fn kinds(&self) -> &Kinds
+        ensures { result.now ≡ self.now.kinds }
+    {
+        self.lazy.image.kinds()
+    }
+
+    /// Whether a common key with a live element refuses an addition.
+    pub fn is_disjoint(&self) -> bool
+        ensures { result ≡ self.now.disjoint }
+    {
+        self.lazy.image.is_disjoint()
+    }
+
+    /// How many elements the set has.
+    pub fn len(&self) -> u64
+        ensures { result ≡ length self.now.elements }
+    {
+        self.lazy.image.elements().len() - self.gaps.len() as u64
+    }
+
+    /// The first element of the set's list that is live at `now`, in milliseconds, and holds the key.
+    /// `None` where there is none. It takes no memory.
+    pub fn find(&self, key: &Key, now: u64, scratch: &mut Scratch) -> Option<Found>
+        requires { key_fits self.now.kinds key.now ≡ true }
+        ensures { result ≡ found self.now key.now now }
+    {
+        match self.lazy.image.find(key, self.lazy.moment(now), scratch) {
+            None => None,
+            Some(found) => Some(Found {
+                place: found.place - gaps_before(self.gaps.as_slice(), found.place),
+                id: found.id,
+            }),
+        }
+    }
+
+    /// The image of the set's elements alone, by which listings and dumps go.
+    ///
+    /// # Errors
+    /// `Memory` if there is none left.
+    pub fn closed_up(&self, alloc: Global) -> Result<SetImage, Memory>
+        ensures { IfOk result (λ image. image ≡ self.now) }
+    {
+        match self.lazy.passed {
+            None => self.lazy.image.copy(alloc),
+            Some(moment) => self.lazy.image.live_part(alloc, moment),
+        }
+    }
+
+    /// The image by which the set was kept.
+    pub(crate) fn into_lazy(self) -> LazyImage
+        ensures { set_of result ≡ self }
+    {
+        self.lazy
+    }
+
+    /// The image by which the set is kept.
+    pub(crate) fn lazy(&self) -> &LazyImage
+        ensures { set_of result.now ≡ self.now }
+    {
+        &self.lazy
+    }
+}
+
+#[cfg(test)]
+mod tests;

@@ -1,0 +1,103 @@
+use super::KeptSet;
+use crate::lazy_image::LazyImage;
+use pipapo_image::{Added, Scratch, SetImage};
+use set_model::{
+    Comment, Found, Interval, Key, Kind, Kinds, Memory, NewElement, Parts, fits, parts_fit,
+};
+use std::alloc::Global;
+use std::process::Abort;
+use std::test::Fail;
+
+/// A port with an expiry.
+fn port(alloc: Global, number: u64, expiry: Option<u64>) -> Result<NewElement, Memory> {
+    let number = u128::from(number);
+    let mut parts = Parts::new(alloc);
+    parts.push(Interval {
+        low: number,
+        high: number,
+    })?;
+    Ok(NewElement {
+        parts,
+        expiry,
+        comment: Comment::new(alloc),
+    })
+}
+
+/// Ports 0 to 4, of which 1 and 3 expire at moment 10.
+fn five_ports(rt: &impl Abort, alloc: Global) -> Result<SetImage, Memory> {
+    let mut kinds = Kinds::new(alloc);
+    kinds.push(Kind::Service)?;
+    let mut image = SetImage::new(alloc, &kinds, None, false)?;
+    let mut scratch = Scratch::new(alloc)?;
+    for number in 0..5 {
+        let expiry = if number % 2 == 1 { Some(10) } else { None };
+        let element = port(alloc, number, expiry)?;
+        assert!(rt; parts_fit(image.kinds(), &element.parts));
+        let came = image.insert(alloc, &element, 0, &mut scratch);
+        assert!(rt; came == Ok(Added::New { id: number }));
+    }
+    Ok(image)
+}
+
+/// The set of these ports that have not left by a moment.
+fn kept(rt: &impl Abort, alloc: Global, passed: Option<u64>) -> Result<KeptSet, Memory> {
+    let mut lazy = LazyImage::new(five_ports(rt, alloc)?);
+    lazy.passed = passed;
+    match KeptSet::of(alloc, lazy) {
+        Ok(set) => Ok(set),
+        Err(_) => Err(Memory),
+    }
+}
+
+/// The place and the id of a port's element at a moment.
+fn found(
+    rt: &impl Abort,
+    alloc: Global,
+    set: &KeptSet,
+    number: u128,
+    now: u64,
+) -> Result<Option<(u64, u64)>, Memory> {
+    let mut key = Key::new(alloc);
+    key.push(number)?;
+    assert!(rt; fits(set.kinds(), &key));
+    match set.find(&key, now, &mut Scratch::new(alloc)?) {
+        None => Ok(None),
+        Some(Found { place, id }) => Ok(Some((place, id))),
+    }
+}
+
+#[test]
+fn places_are_those_in_the_list_of_what_stays(rt: HostRuntime) -> Result<(), Fail> {
+    let alloc = rt.alloc();
+    let set = kept(&rt, alloc, Some(10))?;
+    assert_eq!(rt; set.len(), 3);
+    assert!(rt; found(&rt, alloc, &set, 0, 0)? == Some((0, 0)));
+    assert!(rt; found(&rt, alloc, &set, 1, 0)?.is_none());
+    assert!(rt; found(&rt, alloc, &set, 2, 0)? == Some((1, 2)));
+    assert!(rt; found(&rt, alloc, &set, 4, 20)? == Some((2, 4)));
+    Ok(())
+}
+
+#[test]
+fn a_set_that_no_element_left_is_its_image(rt: HostRuntime) -> Result<(), Fail> {
+    let alloc = rt.alloc();
+    let set = kept(&rt, alloc, None)?;
+    assert_eq!(rt; set.len(), 5);
+    assert!(rt; found(&rt, alloc, &set, 1, 9)? == Some((1, 1)));
+    assert!(rt; found(&rt, alloc, &set, 1, 10)?.is_none());
+    assert!(rt; found(&rt, alloc, &set, 4, 10)? == Some((4, 4)));
+    Ok(())
+}
+
+#[test]
+fn a_closed_up_image_has_what_stays_alone(rt: HostRuntime) -> Result<(), Fail> {
+    let alloc = rt.alloc();
+    let set = kept(&rt, alloc, Some(10))?;
+    assert!(rt; !set.is_disjoint());
+    let image = set.closed_up(alloc)?;
+    let elements = image.elements();
+    assert_eq!(rt; elements.len(), 3);
+    assert!(rt; elements.len() > 1);
+    assert_eq!(rt; elements.at(1).id, 2);
+    Ok(())
+}

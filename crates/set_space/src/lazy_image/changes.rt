@@ -1,0 +1,215 @@
+ghost use Rattle.std.specs.Prelude.{◌≡◌, ◌<◌, true, false, None, length, unwrap_or, IfOk, IfSome, OnOk, OnErr};
+ghost use Rattle.set_model.specs.Key.{parts_fit};
+ghost use Rattle.set_model.specs.SetState.{add, removed, element_at, purged, without_at};
+ghost use Rattle.pipapo_image.specs.Image.Insert.{IsAnswer};
+ghost use Rattle.pipapo_image.specs.Image.Remove.{IsRemoval};
+ghost use Rattle.set_space.specs.LazyImage.{staying, set_of, is_at_limit, wants_room, IsLazyDecision};
+ghost use Rattle.set_space.specs.Answers.{IsCreation};
+
+use crate::lazy_image::LazyImage;
+use pipapo_image::{Added, ChangeError, Decision, Scratch};
+use set_model::{Memory, NewElement, Parts, Why, is_live};
+use std::alloc::Global;
+
+/// How many elements lie in a page. Behind one of so many last elements little closes up.
+const PAGE: u64 = 512;
+
+/// Whether the set's size or a field's rules refuse an element.
+fn is_at_limit(answer: &Result<Decision, ChangeError>) -> bool
+    ensures { result ≡ is_at_limit answer.now }
+{
+    match answer {
+        Err(ChangeError::Refused(Why::Full)) => true,
+        Err(ChangeError::Refused(Why::RulesFull { .. })) => true,
+        _ => false,
+    }
+}
+
+impl LazyImage {
+    /// Inserts into the set. `now` is in milliseconds.
+    ///
+    /// # Errors
+    /// As of an insertion into an image. The set is as it was.
+    pub(crate) fn insert(
+        &mut self,
+        alloc: Global,
+        element: &NewElement,
+        now: u64,
+        scratch: &mut Scratch,
+    ) -> Result<Added, ChangeError>
+        requires { parts_fit (set_of self.old).kinds element.now.parts ≡ true }
+        ensures { IsAnswer (add (set_of self.old) element.now now) result (set_of self.old) (set_of self.new) }
+    {
+        let decision = self.decide(alloc, element, now, scratch)?;
+        let came = self.image.carry_out(alloc, decision, element)?;
+        Ok(came)
+    }
+
+    /// Inserts into the set where no live element of the same intervals is there.
+    ///
+    /// # Errors
+    /// `Exists` if one is there; then as of an insertion. The set is as it was.
+    pub(crate) fn create(
+        &mut self,
+        alloc: Global,
+        element: &NewElement,
+        now: u64,
+        scratch: &mut Scratch,
+    ) -> Result<u64, ChangeError>
+        requires { parts_fit (set_of self.old).kinds element.now.parts ≡ true }
+        ensures { IsCreation (add (set_of self.old) element.now now) result (set_of self.old) (set_of self.new) }
+    {
+        let decision = self.decide(alloc, element, now, scratch)?;
+        if let Some(id) = decision.existing() {
+            return Err(ChangeError::Refused(Why::Exists { id }));
+        }
+        match self.image.carry_out(alloc, decision, element)? {
+            Added::New { id } => Ok(id),
+            Added::Already { .. } | Added::Renewed { .. } => unreachable!(),
+        }
+    }
+
+    /// Takes the first live element of exactly these intervals out, and answers its id.
+    ///
+    /// # Errors
+    /// `Missing` exactly if there is no such element. `Memory` if there is none left. The set is as it was.
+    pub(crate) fn delete(
+        &mut self,
+        alloc: Global,
+        parts: &Parts,
+        now: u64,
+        scratch: &mut Scratch,
+    ) -> Result<u64, ChangeError>
+        ensures removal { IsRemoval (removed (set_of self.old) parts.now now) result (set_of self.old) (set_of self.new) }
+        ensures missing { removed (set_of self.old) parts.now now ≡ None → result ≡ Err (ChangeError.Refused Why.Missing) }
+    {
+        let moment = self.moment(now);
+        match self.image.find_exact(parts, moment, scratch) {
+            None => Err(ChangeError::Refused(Why::Missing)),
+            Some(found) => Ok(self.remove_at(alloc, found.place)?),
+        }
+    }
+
+    /// Decides what an insertion of this element does to the image. `now` is in milliseconds. Where that
+    /// needn't hold of the set, the rule numbers close up before.
+    ///
+    /// # Errors
+    /// As of an insertion. The set is as it was.
+    fn decide(
+        &mut self,
+        alloc: Global,
+        element: &NewElement,
+        now: u64,
+        scratch: &mut Scratch,
+    ) -> Result<Decision, ChangeError>
+        requires { parts_fit self.old.image.kinds element.now.parts ≡ true }
+        ensures same { set_of self.new ≡ set_of self.old }
+        ensures decided { IsLazyDecision self.new.passed self.new.image element.now (add (set_of self.old) element.now now) result }
+    {
+        self.close_gaps(alloc)?;
+        let answer = self.foresee(alloc, element, now, scratch);
+        if self.wants_room(element, &answer) {
+            self.close_up(alloc)?;
+            return self.foresee(alloc, element, now, scratch);
+        }
+        answer
+    }
+
+    /// What the image decides of an insertion of this element. `None` where that needn't hold of the set, so
+    /// that the rule numbers are to close up before.
+    pub(super) fn decided(
+        &self,
+        alloc: Global,
+        element: &NewElement,
+        now: u64,
+        scratch: &mut Scratch,
+    ) -> Option<Result<Decision, ChangeError>>
+        requires { parts_fit self.now.image.kinds element.now.parts ≡ true }
+        ensures { IfSome result (λ answer. IsLazyDecision self.now.passed self.now.image element.now (add (set_of self.now) element.now now) answer) }
+    {
+        let answer = self.foresee(alloc, element, now, scratch);
+        if self.wants_room(element, &answer) {
+            None
+        } else {
+            Some(answer)
+        }
+    }
+
+    /// What the image decides of an insertion of this element.
+    fn foresee(
+        &self,
+        alloc: Global,
+        element: &NewElement,
+        now: u64,
+        scratch: &mut Scratch,
+    ) -> Result<Decision, ChangeError>
+        requires { parts_fit self.now.image.kinds element.now.parts ≡ true }
+        ensures { wants_room self.now.passed element.now.expiry result ≡ false → IsLazyDecision self.now.passed self.now.image element.now (add (set_of self.now) element.now now) result }
+    {
+        self.image.decide(alloc, element, self.moment(now), scratch)
+    }
+
+    /// Whether what the image decides of this element needn't hold of the set: where the element would be
+    /// taken for one that left, or where a limit refuses it, which counts those that left.
+    fn wants_room(&self, element: &NewElement, answer: &Result<Decision, ChangeError>) -> bool
+        ensures { result ≡ wants_room self.now.passed element.now.expiry answer.now }
+    {
+        match self.passed {
+            Some(passed) => !is_live(element.expiry, passed) || is_at_limit(answer),
+            None => false,
+        }
+    }
+
+    /// Takes the element at place `i` of the image out of the set, and answers its id.
+    ///
+    /// # Errors
+    /// `Memory` if there is none left. The set is as it was.
+    pub(super) fn remove_at(&mut self, alloc: Global, i: u64) -> Result<u64, Memory>
+        requires { i < length self.old.image.elements }
+        ensures id { IfOk result (λ id. id ≡ (element_at self.old.image i).id) }
+        ensures left { OnOk result (set_of self.new ≡ staying self.old.passed (without_at self.old.image i)) }
+        ensures err { OnErr result (set_of self.new ≡ set_of self.old) }
+    {
+        if self.waits(i) {
+            self.mark(alloc, i)
+        } else {
+            self.image.remove_at(alloc, i)
+        }
+    }
+
+    /// Whether the element at place `i` of the image, when it is deleted, stands there until the numbers
+    /// close up together: not where little closes up behind it, nor in a full image, whose numbers each
+    /// addition would close up.
+    fn waits(&self, i: u64) -> bool
+        requires { i < length self.now.image.elements }
+        ensures { result ≡ true → set_of self.now ≡ purged self.now.image (unwrap_or self.now.passed 0) }
+    {
+        let behind = self.image.elements().len() - i;
+        behind > PAGE && !self.image.is_full() && self.can_wait()
+    }
+
+    /// Whether each element of the set is live at the moment by which others left, so that one with the
+    /// expiry 0 is one of these.
+    fn can_wait(&self) -> bool
+        ensures { result ≡ true → set_of self.now ≡ purged self.now.image (unwrap_or self.now.passed 0) }
+    {
+        match self.passed {
+            Some(_) => true,
+            None => self.image.elements().count_expired(0) == 0,
+        }
+    }
+
+    /// Gives the element at place `i` of the image the expiry 0, which deletes it from the set. Its id.
+    fn mark(&mut self, alloc: Global, i: u64) -> Result<u64, Memory>
+        requires within { i < length self.old.image.elements }
+        requires live { set_of self.old ≡ purged self.old.image (unwrap_or self.old.passed 0) }
+        ensures id { IfOk result (λ id. id ≡ (element_at self.old.image i).id) }
+        ensures left { OnOk result (set_of self.new ≡ staying self.old.passed (without_at self.old.image i)) }
+        ensures err { OnErr result (set_of self.new ≡ set_of self.old) }
+    {
+        self.image.renew(alloc, i, Some(0))?;
+        self.passed = Some(self.passed.unwrap_or(0));
+        self.left = self.left.saturating_add(1);
+        Ok(self.image.elements().at(i).id)
+    }
+}

@@ -1,0 +1,161 @@
+ghost use Rattle.std.specs.Prelude.{◌≡◌, ◌<◌, true, None, Err, length, IfOk};
+ghost use Rattle.set_model.specs.Key.{parts_fit};
+ghost use Rattle.set_model.specs.SetState.{add, removed, element_at, without_at};
+ghost use Rattle.pipapo_image.specs.Image.Insert.{said, IsAnswer};
+ghost use Rattle.pipapo_image.specs.Image.Decision.{CanBeDone, comes, left};
+ghost use Rattle.set_space.specs.Answers.{IsCreation};
+ghost use Rattle.set_space.specs.LazyImage.{staying, set_of};
+ghost use Rattle.set_space.specs.Copies.{copied, IsTakenOut};
+
+use crate::lazy_image::LazyImage;
+use pipapo_image::{Added, ChangeError, Decision, Scratch};
+use set_model::{Memory, NewElement, Parts, Why};
+use std::alloc::Global;
+
+impl LazyImage {
+    /// What comes of an insertion of this element, and a copy of the set with it; no copy where nothing
+    /// changes. Where the rule numbers close up before the element is refused, there is one in which they
+    /// did, so that they needn't again. `now` is in milliseconds.
+    ///
+    /// # Errors
+    /// `Memory` if there is none left; of the insertion, as of one into an image.
+    pub(crate) fn inserted(
+        &self,
+        alloc: Global,
+        element: &NewElement,
+        now: u64,
+        scratch: &mut Scratch,
+    ) -> Result<(Result<Added, ChangeError>, Option<LazyImage>), Memory>
+        requires { parts_fit (set_of self.now).kinds element.now.parts ≡ true }
+        ensures { IfOk result (λ r. IsAnswer (add (set_of self.now) element.now now) r.0 (set_of self.now) (copied r.1 (set_of self.now))) }
+    {
+        match self.decided(alloc, element, now, scratch) {
+            Some(Err(error)) => Ok((Err(error), None)),
+            Some(Ok(decision)) => {
+                let (came, copy) = self.inserted_as(alloc, decision, element)?;
+                Ok((Ok(came), copy))
+            }
+            None => {
+                let mut changed = self.closed_up(alloc)?;
+                let came = changed.insert(alloc, element, now, scratch);
+                Ok((came, Some(changed)))
+            }
+        }
+    }
+
+    /// A copy in which what was decided of an insertion is done, and what came of it; no copy where nothing
+    /// changes.
+    fn inserted_as(
+        &self,
+        alloc: Global,
+        decision: Decision,
+        element: &NewElement,
+    ) -> Result<(Added, Option<LazyImage>), Memory>
+        requires fit { parts_fit self.now.image.kinds element.now.parts ≡ true }
+        requires can { CanBeDone self.now.image element.now.parts decision }
+        ensures came { IfOk result (λ r. said r.0 ≡ comes decision self.now.image.next) }
+        ensures left { IfOk result (λ r. copied r.1 (set_of self.now) ≡ staying self.now.passed (left self.now.image element.now decision)) }
+    {
+        if let Decision::Stays { id } = decision {
+            return Ok((Added::Already { id }, None));
+        }
+        let (came, changed) = self.carried_out(alloc, decision, element)?;
+        Ok((came, Some(changed)))
+    }
+
+    /// What comes of a creation of this element, and a copy of the set with it, as of an insertion. `now` is in
+    /// milliseconds.
+    ///
+    /// # Errors
+    /// `Memory` if there is none left; of the creation, `Exists` if an element of the same intervals is there,
+    /// then as of an insertion.
+    pub(crate) fn created(
+        &self,
+        alloc: Global,
+        element: &NewElement,
+        now: u64,
+        scratch: &mut Scratch,
+    ) -> Result<(Result<u64, ChangeError>, Option<LazyImage>), Memory>
+        requires { parts_fit (set_of self.now).kinds element.now.parts ≡ true }
+        ensures { IfOk result (λ r. IsCreation (add (set_of self.now) element.now now) r.0 (set_of self.now) (copied r.1 (set_of self.now))) }
+    {
+        match self.decided(alloc, element, now, scratch) {
+            Some(Err(error)) => Ok((Err(error), None)),
+            Some(Ok(decision)) => self.created_as(alloc, decision, element),
+            None => {
+                let mut changed = self.closed_up(alloc)?;
+                let came = changed.create(alloc, element, now, scratch);
+                Ok((came, Some(changed)))
+            }
+        }
+    }
+
+    /// What comes of a creation of which this was decided, and a copy in which it is done.
+    fn created_as(
+        &self,
+        alloc: Global,
+        decision: Decision,
+        element: &NewElement,
+    ) -> Result<(Result<u64, ChangeError>, Option<LazyImage>), Memory>
+        requires fit { parts_fit self.now.image.kinds element.now.parts ≡ true }
+        requires can { CanBeDone self.now.image element.now.parts decision }
+        ensures { IfOk result (λ r. IsCreation (comes decision self.now.image.next, staying self.now.passed (left self.now.image element.now decision)) r.0 (set_of self.now) (copied r.1 (set_of self.now))) }
+    {
+        if let Some(id) = decision.existing() {
+            return Ok((Err(ChangeError::Refused(Why::Exists { id })), None));
+        }
+        match self.carried_out(alloc, decision, element)? {
+            (Added::New { id }, changed) => Ok((Ok(id), Some(changed))),
+            (Added::Already { .. } | Added::Renewed { .. }, _) => unreachable!(),
+        }
+    }
+
+    /// A copy in which this is done, and what came of it.
+    fn carried_out(
+        &self,
+        alloc: Global,
+        decision: Decision,
+        element: &NewElement,
+    ) -> Result<(Added, LazyImage), Memory>
+        requires fit { parts_fit self.now.image.kinds element.now.parts ≡ true }
+        requires can { CanBeDone self.now.image element.now.parts decision }
+        ensures came { IfOk result (λ r. said r.0 ≡ comes decision self.now.image.next) }
+        ensures left { IfOk result (λ r. set_of r.1 ≡ staying self.now.passed (left self.now.image element.now decision)) }
+    {
+        let mut changed = self.copy(alloc)?;
+        let came = changed.image.carry_out(alloc, decision, element)?;
+        Ok((came, changed))
+    }
+
+    /// A copy of the set without the first live element of exactly these intervals, and its id.
+    ///
+    /// # Errors
+    /// `Missing` exactly if there is no such element. `Memory` if there is none left.
+    pub(crate) fn without(
+        &self,
+        alloc: Global,
+        parts: &Parts,
+        now: u64,
+        scratch: &mut Scratch,
+    ) -> Result<(u64, LazyImage), ChangeError>
+        ensures removal { IsTakenOut (removed (set_of self.now) parts.now now) (set_of self.now) result }
+        ensures missing { removed (set_of self.now) parts.now now ≡ None → result ≡ Err (ChangeError.Refused Why.Missing) }
+    {
+        let moment = self.moment(now);
+        match self.image.find_exact(parts, moment, scratch) {
+            None => Err(ChangeError::Refused(Why::Missing)),
+            Some(found) => Ok(self.without_at(alloc, found.place)?),
+        }
+    }
+
+    /// A copy of the set without the element at place `i` of the image, and its id.
+    fn without_at(&self, alloc: Global, i: u64) -> Result<(u64, LazyImage), Memory>
+        requires { i < length self.now.image.elements }
+        ensures id { IfOk result (λ r. r.0 ≡ (element_at self.now.image i).id) }
+        ensures left { IfOk result (λ r. set_of r.1 ≡ staying self.now.passed (without_at self.now.image i)) }
+    {
+        let mut changed = self.copy(alloc)?;
+        let id = changed.remove_at(alloc, i)?;
+        Ok((id, changed))
+    }
+}
