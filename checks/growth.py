@@ -78,6 +78,17 @@ def purged_in_turn(count):
         yield "commit"
 
 
+def purged_here_and_there(count):
+    """The same, in an order in which each is far from the one before it."""
+    yield "add set ip t s { type ipv4_addr . inet_service ; flags interval,timeout ; }"
+    for n in range(count):
+        yield f"add element ip t s {{ 10.{n >> 16 & 255}.{n >> 8 & 255}.{n & 255} . {1024 + n % 1000} timeout {n * 7919 % count + 1}s }}"
+    yield "commit"
+    for n in range(count):
+        yield f"at {1000 * (n + 1)}"
+        yield "commit"
+
+
 def short_lives(count):
     """Elements that live for a second, each added and committed at a moment of its own beside five hundred that stay."""
     yield from addresses(",timeout", 500)
@@ -131,6 +142,7 @@ ROWS = [
     ("commits that purge one of the elements each", purges, 5000, 0),
     ("commits each of which deletes the first of the elements", deleted_in_turn, 2000, 0),
     ("commits each of which purges the first of the elements", purged_in_turn, 2000, 0),
+    ("commits each of which purges one of the elements, here and there", purged_here_and_there, 2000, 0),
     ("additions with a short life, one commit each", short_lives, 5000, 0),
     ("deletions of all elements, the first first", deletions, 10000, 0),
     ("destructions of missing elements", missing, 20000, 0),

@@ -1,9 +1,9 @@
 -- Bits of words, and a list of bools over words.
-use Rattle.std.proofs.Common.{◌≡◌, refl, sym, ◌∙◌, ap, ℕ, zero, suc, ◌+◌, ◌-◌, ◌*◌, ◌/◌, ◌%◌, ◌^◌, ◌<◌, ◌≤◌, ◌≢◌, ◌⊎◌, min, max, Bool, true, false, ◌&&◌, ◌||◌, nat_le, nat_lt, ◌==◌, List, length, get_or, bit_and, bit_or, arith, w64, inl, inr}
+use Rattle.std.proofs.Common.{◌≡◌, refl, sym, ◌∙◌, ap, ℕ, zero, suc, ◌+◌, ◌-◌, ◌*◌, ◌/◌, ◌%◌, ◌^◌, ◌<◌, ◌≤◌, ◌≢◌, ◌⊎◌, min, max, Bool, true, false, ◌&&◌, ◌||◌, nat_le, nat_lt, ◌==◌, List, ◌++◌, length, get_or, bit_and, bit_or, arith, w64, inl, inr}
 use Rattle.std.specs.Int.{bit_at, trailing_zeros}
 use Rattle.std.proofs.lemmas.Bool.{cases_lt, le-leb, lt-leb}
 use Rattle.std.proofs.lemmas.Bool.Decides.{nat_tests}
-use Rattle.std.proofs.lemmas.List.{get_or_past, ext_get_or}
+use Rattle.std.proofs.lemmas.List.{get_or_past, get_or_append_left, get_or-append_right, ext_get_or}
 use Rattle.std.proofs.lemmas.List.FromFn.{length-map-range_with_len, get_or-map-range_with_len}
 use Rattle.std.proofs.lemmas.Nat.Bits.{bit_at_and, bit_at_or, bit_at-lt, bit_at-zero, bit_at_ones, bit_at_ones_above, bit_at_mask_inside, bit_at_mask_below, ones_shr, ones_shl, bit_at-trailing_zeros, shr_and_one, bit_at_above, bit_at_cat_low, bit_at_cat_high}
 use Rattle.std.proofs.lemmas.Nat.{shr-shr, one_shl, div-add-mod', pow_pos}
@@ -122,6 +122,16 @@ place-is words i = refl
 pub place-past : (words : List ℕ) (i : ℕ) → 64 * length words ≤ i → place words i ≡ false
 place-past words i h =
     place-is words i ∙ ap (λ w. bit w (i % 64)) (get_or_past words (i / 64) 0 (omega arith)) ∙ bit-zero (i % 64)
+
+pub place-append_low : (xs ys : List ℕ) (i : ℕ) → i < 64 * length xs → place (xs ++ ys) i ≡ place xs i
+place-append_low xs ys i h = place-is (xs ++ ys) i ∙ ap (λ w. bit w (i % 64)) (get_or_append_left xs ys 0 (i / 64) (omega arith)) ∙ sym (place-is xs i)
+
+pub place-append_high : (xs ys : List ℕ) (i : ℕ) → 64 * length xs ≤ i → place (xs ++ ys) i ≡ place ys (i - 64 * length xs)
+place-append_high xs ys i h =
+    let word : i / 64 - length xs ≡ (i - 64 * length xs) / 64 = omega arith in
+    let bit_is : i % 64 ≡ (i - 64 * length xs) % 64 = omega arith in
+    place-is (xs ++ ys) i ∙ ap (λ w. bit w (i % 64)) (get_or-append_right xs ys (length xs) (i / 64) 0 refl (omega arith)) ∙ ap (λ w. bit (get_or ys w 0) (i % 64)) word
+    ∙ ap (bit (get_or ys ((i - 64 * length xs) / 64) 0)) bit_is ∙ sym (place-is ys (i - 64 * length xs))
 
 -- ---- the list over the words
 

@@ -1,6 +1,5 @@
 -- The expired elements of a list.
-use Rattle.std.specs.Prelude.{ℕ, ◌+◌, Bool, true, false, nat_le, ◌&&◌, not, List, [], length, get_or, drop, filter, Option, Some, None, option_map, position}
-use Rattle.std.specs.List.{range_with_len}
+use Rattle.std.specs.Prelude.{ℕ, ◌+◌, Bool, true, false, nat_le, ◌&&◌, not, List, drop, Option, Some, None, option_map, position}
 use Rattle.set_model.specs.declared.element.Element.{Element}
 use Rattle.set_model.specs.Expiry.{live}
 
@@ -11,14 +10,6 @@ is_expired now e = not (live e now)
 -- the least place, not below `from`, of an element that is expired
 abbrev pub next_place : List Element → ℕ → ℕ → Option ℕ
 next_place elements from now = option_map (λ k. from + k) (position (is_expired now) (drop from elements))
-
--- The element at a place is expired.
-abbrev pub is_expired_at : ℕ → List Element → ℕ → Bool
-is_expired_at now elements i = is_expired now (get_or elements i (record { id = 0; parts = []; expiry = None; comment = [] }))
-
--- the places of the expired elements, the lowest first
-abbrev pub places_expired : ℕ → List Element → List ℕ
-places_expired now elements = filter (is_expired_at now elements) (range_with_len 0 (length elements))
 
 -- An element stays in a set that those have left which were expired at a moment; where there is no such moment, each does.
 abbrev pub stays : Option ℕ → Element → Bool

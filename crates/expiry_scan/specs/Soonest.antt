@@ -1,6 +1,7 @@
 -- Moments before which no element of a page is expired.
-use Rattle.std.specs.Prelude.{◌≡◌, ℕ, ◌+◌, ◌-◌, ◌*◌, ◌^◌, ◌<◌, ◌≤◌, false, if◌then◌else◌, Option, Some, List, length, slice_get, unwrap_or}
+use Rattle.std.specs.Prelude.{◌≡◌, ℕ, ◌+◌, ◌-◌, ◌*◌, ◌^◌, ◌<◌, ◌≤◌, false, not, if◌then◌else◌, Option, Some, List, length, slice_get, unwrap_or}
 use Rattle.set_model.specs.declared.element.Element.{Element}
+use Rattle.bit_rows.specs.Words.{place}
 use Rattle.expiry_scan.specs.declared.page_ends.PageEnds.{PageEnds}
 use Rattle.expiry_scan.specs.Expired.{is_expired, stays, is_leaving}
 
@@ -12,9 +13,15 @@ end_of passed e = if stays passed e then unwrap_or e.expiry (2 ^ 64 - 1) else 2 
 abbrev pub AreEndsOf : Option ℕ → Element → PageEnds → Type 0
 AreEndsOf passed e ends = ((now : ℕ) → now < ends.all → is_expired now e ≡ false) × ((now : ℕ) → now < ends.staying → is_leaving passed now e ≡ false)
 
--- These are such moments of each element of a page of 512.
-abbrev pub ArePageEnds : Option ℕ → List Element → ℕ → PageEnds → Type 0
-ArePageEnds passed elements page ends = (k : ℕ) (e : Element) → k < 512 → slice_get elements (512 * page + k) ≡ Some e → AreEndsOf passed e ends
+-- The bits of eight words tell which elements of a page of 512 left.
+abbrev pub AreMarks : Option ℕ → List Element → ℕ → List ℕ → Type 0
+AreMarks passed elements page words = (length words ≡ 8) × ((k : ℕ) (e : Element) → k < 512 → slice_get elements (512 * page + k) ≡ Some e → place words k ≡ not (stays passed e))
+
+-- These are such moments of each element of a page of 512, and the page's words tell which of them left, as long as none more
+-- has been to leave by the moment by which elements left.
+pub record ArePageEnds (passed : Option ℕ) (elements : List Element) (page : ℕ) (ends : PageEnds) : Type 0 where
+  pub moments : (k : ℕ) (e : Element) → k < 512 → slice_get elements (512 * page + k) ≡ Some e → AreEndsOf passed e ends
+  pub marks : unwrap_or passed 0 < ends.staying → AreMarks passed elements page ends.left
 
 -- The first pages of a list, or all, have such moments beside them.
 abbrev pub AreEnds : Option ℕ → List Element → List PageEnds → Type 0

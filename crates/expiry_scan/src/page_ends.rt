@@ -1,7 +1,8 @@
-ghost use Rattle.std.specs.Prelude.{◌≡◌, ◌≤◌, ◌<◌, ◌+◌, ◌*◌, ◌^◌, ◌-◌, min, take, filter, length, count_by, unwrap_or, OnOk};
-ghost use Rattle.std.specs.List.{range_with_len};
-ghost use Rattle.expiry_scan.specs.Expired.{stays, is_leaving, is_by, is_expired_at};
-ghost use Rattle.expiry_scan.specs.Soonest.{end_of, ArePageEnds, AreEnds};
+ghost use Rattle.std.specs.Prelude.{◌≡◌, ◌≤◌, ◌<◌, ◌+◌, ◌*◌, ◌^◌, ◌-◌, ℕ, Some, min, not, take, length, count_by, slice_get, unwrap_or};
+ghost use Rattle.set_model.specs.declared.element.Element.{Element};
+ghost use Rattle.bit_rows.specs.Row.{bit};
+ghost use Rattle.expiry_scan.specs.Expired.{stays, is_leaving, is_by};
+ghost use Rattle.expiry_scan.specs.Soonest.{end_of, AreMarks, ArePageEnds, AreEnds};
 
 use crate::expired;
 use set_model::{Element, Memory};
@@ -10,17 +11,26 @@ use shared_pages::Pages;
 /// How many elements lie in a page.
 const PAGE: u64 = shared_pages::PAGE as u64;
 
-/// Moments of a page of elements, in milliseconds. Before them none of its elements is expired.
+/// How many words of marks a page has.
+const WORDS: usize = 8;
+
+/// What is known of a page of elements beside a moment by which some left. Moments are in milliseconds.
 #[derive(Clone, Copy)]
 pub(crate) struct PageEnds {
-    /// Of all elements that stand in the page.
+    /// A moment before which none of the elements that stand in the page is expired.
     pub(crate) all: u64,
-    /// Of those that stay in the set.
+    /// A moment before which none of those that stay in the set is expired.
     pub(crate) staying: u64,
+    /// Which elements left, until that moment: place `64 w + k` of the page is bit `k` of word `w`.
+    pub(crate) left: [u64; WORDS],
 }
 
 /// Of a page that has changed: each moment may have come, until it is looked at again.
-pub(crate) const UNKNOWN: PageEnds = PageEnds { all: 0, staying: 0 };
+pub(crate) const UNKNOWN: PageEnds = PageEnds {
+    all: 0,
+    staying: 0,
+    left: [0; WORDS],
+};
 
 /// Whether one moment by which elements left is no later than another.
 pub(crate) fn is_by(one: Option<u64>, other: Option<u64>) -> bool
@@ -82,13 +92,40 @@ fn places_of(elements: &Pages<Element>, page: u64) -> (u64, u64)
     requires { 512 * page < length elements.now }
     ensures first { result.0 ≡ 512 * page }
     ensures end { result.1 ≡ min (512 * page + 512) (length elements.now) }
+    ensures fit { 512 * page + 512 ≤ 2 ^ 64 }
 {
     let count = elements.len();
     let from = page * PAGE;
     (from, from + (count - from).min(PAGE))
 }
 
-/// The soonest ends of the elements of a page.
+/// Which of the 64 elements from place `from` on left by `passed`. Bit 0 stands for the first.
+fn left_word(elements: &Pages<Element>, from: u64, passed: Option<u64>) -> u64
+    ensures { (k : ℕ) (e : Element) → k < 64 → slice_get elements.now (from + k) ≡ Some e → bit result k ≡ not (stays passed e) }
+{
+    let mut word = 0;
+    'elements: for k in 0..elements.len().saturating_sub(from).min(64) {
+        if !stays(elements.at(from + k), passed) {
+            word |= 1u64 << k;
+        }
+    }
+    word
+}
+
+/// Which elements of a page left by `passed`.
+pub(crate) fn left_in(elements: &Pages<Element>, page: u64, passed: Option<u64>) -> [u64; WORDS]
+    requires { 512 * page < length elements.now }
+    ensures { AreMarks passed elements.now page result }
+{
+    let (from, _) = places_of(elements, page);
+    let mut words = [0; WORDS];
+    'words: for w in 0..WORDS {
+        words[w] = left_word(elements, from + 64 * w as u64, passed);
+    }
+    words
+}
+
+/// The soonest ends of the elements of a page, and which of them left.
 pub(crate) fn page_ends(elements: &Pages<Element>, page: u64, passed: Option<u64>) -> PageEnds
     requires { 512 * page < length elements.now }
     ensures { ArePageEnds passed elements.now page result }
@@ -97,11 +134,15 @@ pub(crate) fn page_ends(elements: &Pages<Element>, page: u64, passed: Option<u64
     let mut ends = PageEnds {
         all: u64::MAX,
         staying: u64::MAX,
+        left: [0; WORDS],
     };
     'elements: for i in from..to {
         let element = elements.at(i);
         ends.all = ends.all.min(end_of(element.expiry));
         ends.staying = ends.staying.min(end_of_staying(element, passed));
+    }
+    if ends.all <= passed.unwrap_or(0) {
+        ends.left = left_in(elements, page, passed);
     }
     ends
 }
@@ -133,8 +174,7 @@ pub(crate) fn find_rest(elements: &Pages<Element>, ends: &mut Vec<PageEnds>, pas
 /// How many of the elements of a page stay and are expired at `now`.
 pub(crate) fn count_in(elements: &Pages<Element>, page: u64, passed: Option<u64>, now: u64) -> u64
     requires { 512 * page < length elements.now }
-    ensures counted { count_by (is_leaving passed now) (take (512 * page) elements.now) + result ≡ count_by (is_leaving passed now) (take (512 * page + 512) elements.now) }
-    ensures few { result ≤ 512 }
+    ensures { count_by (is_leaving passed now) (take (512 * page) elements.now) + result ≡ count_by (is_leaving passed now) (take (512 * page + 512) elements.now) }
 {
     let (from, to) = places_of(elements, page);
     let mut count = 0;
@@ -144,24 +184,4 @@ pub(crate) fn count_in(elements: &Pages<Element>, page: u64, passed: Option<u64>
         }
     }
     count
-}
-
-/// Adds the places of those elements of a page that are expired at `now`.
-pub(crate) fn push_places(
-    places: &mut Vec<u64>,
-    elements: &Pages<Element>,
-    page: u64,
-    now: u64,
-) -> Result<(), Memory>
-    requires page { 512 * page < length elements.now }
-    requires before { places.old.items ≡ filter (is_expired_at now elements.now) (range_with_len 0 (512 * page)) }
-    ensures { OnOk result (places.new.items ≡ filter (is_expired_at now elements.now) (range_with_len 0 (min (512 * page + 512) (length elements.now)))) }
-{
-    let (from, to) = places_of(elements, page);
-    'elements: for i in from..to {
-        if expired(elements.at(i).expiry, now) {
-            places.push(i)?;
-        }
-    }
-    Ok(())
 }

@@ -1,10 +1,11 @@
-ghost use Rattle.std.specs.Prelude.{◌≡◌, ◌<◌, ℕ, true, List, Option, [], ◌∷◌, ◌++◌, length, remove, slice_get, Some, count_by, IfOk, OnOk, OnErr};
+ghost use Rattle.std.specs.Prelude.{◌≡◌, ◌<◌, ◌*◌, ℕ, true, List, Option, [], ◌∷◌, ◌++◌, length, map, remove, slice_get, Some, count_by, IfOk, OnOk, OnErr};
 ghost use Rattle.set_model.specs.declared.element.Element.{Element};
 ghost use Rattle.set_model.specs.Expiry.{renewed_at};
-ghost use Rattle.expiry_scan.specs.Expired.{is_expired, is_leaving, places_expired};
-ghost use Rattle.expiry_scan.specs.Soonest.{IsQuiet, DifferAt, AreEnds};
+ghost use Rattle.expiry_scan.specs.Expired.{is_expired, is_leaving};
+ghost use Rattle.expiry_scan.specs.Soonest.{AreMarks, IsQuiet, DifferAt, AreEnds};
 
 use crate::page_ends::{self, PageEnds, UNKNOWN};
+use bit_rows::RankedBits;
 use set_model::{Duplicate, Element, Memory};
 use shared_pages::{PAGE, Pages};
 use std::alloc::Global;
@@ -12,7 +13,7 @@ use std::marker::Model;
 
 /// The elements of a set, in order of insertion, in pages that copies share. Beside each page stand
 /// moments before which none of its elements is expired, so that whoever looks for expired elements
-/// passes over it. Contracts see the list.
+/// passes over it, and which of its elements left. Contracts see the list.
 #[derive(Drop)]
 pub struct TimedElements {
     items: Pages<Element>,
@@ -154,25 +155,34 @@ impl TimedElements {
         count
     }
 
-    /// The places of the elements that are expired at `now`, in milliseconds, the lowest first. Elements of a
-    /// page whose moments haven't come aren't looked at.
+    /// Which elements of a page are expired at `now`.
+    fn marks_of(&self, page: u64, now: u64) -> [u64; 8]
+        requires { 512 * page < length self.now }
+        ensures { AreMarks (Some now) self.now page result }
+    {
+        match (self.ends.get(page as usize), self.passed) {
+            (Some(ends), Some(moment)) if moment == now && now < ends.staying => ends.left,
+            _ => page_ends::left_in(&self.items, page, Some(now)),
+        }
+    }
+
+    /// Which elements are expired at `now`, in milliseconds. Where these are the elements that left, and
+    /// no page changed since [`find_soonest`](TimedElements::find_soonest), no element is looked at.
     ///
     /// # Errors
     /// `Memory` if there is none left.
-    pub fn expired_places(&self, alloc: Global, now: u64) -> Result<Vec<u64>, Memory>
-        ensures { IfOk result (λ places. places.items ≡ places_expired now self.now) }
+    pub fn expired_marks(&self, alloc: Global, now: u64) -> Result<RankedBits, Memory>
+        ensures { IfOk result (λ marks. marks ≡ map (is_expired now) self.now) }
     {
-        let mut places = Vec::new(alloc);
+        let mut words = Vec::new(alloc);
         'pages: for page in 0..page_ends::pages_of(&self.items) {
-            if !self.is_quiet(page, None, now) {
-                page_ends::push_places(&mut places, &self.items, page, now)?;
-            }
+            words.extend_from_slice(&self.marks_of(page, now))?;
         }
-        Ok(places)
+        RankedBits::of_words(alloc, words, self.items.len())
     }
 
     /// Lets the moments beside each page be the soonest expiries of its elements and of those that aren't expired at
-    /// `passed`. They are looked for anew only where the page changed or an element left it.
+    /// `passed`, and the marks be those of the others. They are looked for anew only where the page changed or an element left it.
     pub fn find_soonest(&mut self, passed: Option<u64>)
         ensures { self.new ≡ self.old }
     {
@@ -210,6 +220,7 @@ impl Duplicate for TimedElements {
 mod tests {
     use super::*;
     use crate::tests::element;
+    use std::process::Abort;
     use std::test::Fail;
 
     /// The moments beside a page.
@@ -280,7 +291,7 @@ mod tests {
     }
 
     #[test]
-    fn places_are_found_in_each_page(rt: HostRuntime) -> Result<(), Fail> {
+    fn each_page_has_its_moments(rt: HostRuntime) -> Result<(), Fail> {
         let alloc = rt.alloc();
         let mut elements = TimedElements::new(alloc);
         for id in 0..1100u64 {
@@ -291,10 +302,49 @@ mod tests {
         assert!(rt; moments(&elements, 0) == Some((11, 11)));
         assert!(rt; moments(&elements, 1) == Some((1011, 1011)));
         assert!(rt; moments(&elements, 2) == Some((u64::MAX, u64::MAX)));
-        let places = elements.expired_places(alloc, 511)?;
-        assert!(rt; places.as_slice() == [11, 511].as_slice());
-        assert_eq!(rt; elements.expired_places(alloc, 1011)?.len(), 3);
         assert_eq!(rt; elements.count_leaving(Some(11), 1011), 2);
+        Ok(())
+    }
+
+    /// How many of the first `place` elements are expired at `now`, by their marks.
+    fn expired_before(
+        rt: &impl Abort,
+        alloc: Global,
+        elements: &TimedElements,
+        now: u64,
+        place: u64,
+    ) -> Result<u64, Memory> {
+        let marks = elements.expired_marks(alloc, now)?;
+        assert!(rt; place <= marks.len());
+        Ok(marks.rank(place))
+    }
+
+    #[test]
+    fn marks_are_those_of_expired_elements(rt: HostRuntime) -> Result<(), Fail> {
+        let alloc = rt.alloc();
+        let mut elements = TimedElements::new(alloc);
+        for id in 0..1100u64 {
+            let expiry = if id % 500 == 11 { Some(id) } else { None };
+            elements.push(element(alloc, id, expiry)?)?;
+        }
+        for passed in [None, Some(11), Some(511), Some(1011)] {
+            elements.find_soonest(passed);
+            assert_eq!(rt; expired_before(&rt, alloc, &elements, 11, 11)?, 0);
+            assert_eq!(rt; expired_before(&rt, alloc, &elements, 11, 1100)?, 1);
+            assert_eq!(rt; expired_before(&rt, alloc, &elements, 511, 512)?, 2);
+            assert_eq!(rt; expired_before(&rt, alloc, &elements, 1011, 1011)?, 2);
+            assert_eq!(rt; expired_before(&rt, alloc, &elements, 1011, 1100)?, 3);
+        }
+        elements.find_soonest(Some(511));
+        assert!(rt; elements.len() == 1100);
+        elements.set_expiry(alloc, 600, Some(400))?;
+        assert_eq!(rt; expired_before(&rt, alloc, &elements, 511, 600)?, 2);
+        assert_eq!(rt; expired_before(&rt, alloc, &elements, 511, 601)?, 3);
+        assert!(rt; elements.len() == 1100);
+        let taken = elements.remove(11)?;
+        assert_eq!(rt; taken.id, 11);
+        assert_eq!(rt; expired_before(&rt, alloc, &elements, 511, 511)?, 1);
+        assert_eq!(rt; expired_before(&rt, alloc, &elements, 511, 600)?, 2);
         Ok(())
     }
 }

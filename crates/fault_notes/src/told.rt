@@ -1,5 +1,6 @@
 //! How a note is told.
 ghost use Rattle.std.specs.Prelude.{◌≡◌, IfOk, OnErr};
+ghost use Rattle.pip_base.specs.Notes.{Tells};
 ghost use Rattle.fault_notes.specs.Told.{MayTell};
 
 use crate::note::Note;
@@ -8,6 +9,7 @@ use set_model::Memory;
 
 /// Tells a note. Where memory was wanting for it nothing is told.
 pub fn tell_note<N: Notes>(notes: &mut N, made: Result<Note, Memory>)
+    ensures tells { IfOk made (λ note. Tells (N.told notes.old) (N.told notes.new) note.bytes.items) }
     ensures told { IfOk made (λ note. MayTell (λ text. text ≡ note.bytes.items) (N.told notes.old) (N.told notes.new)) }
     ensures nothing { OnErr made (N.told notes.new ≡ N.told notes.old) }
 {

@@ -3,7 +3,7 @@ ghost use Rattle.std.specs.Bool.{OnTrue};
 ghost use Rattle.std.specs.List.{zip};
 ghost use Rattle.set_model.specs.Expiry.{lives};
 ghost use Rattle.set_tables.specs.Rows.{ends_without, ends_renewed, lowered_place, end_renewed, is_led};
-ghost use Rattle.mapping_table.specs.Spared.{word_of, OwnsRange, OwnsFrom, KeepsOwn, IsMoved};
+ghost use Rattle.mapping_table.specs.Spared.{word_of, OwnsRange, OwnsFrom, KeepsOwn, IsCommon, IsMoved};
 
 use crate::latest::{find_latest, is_past, moment_of, raise, raise_word};
 use crate::roomy::Roomy;
@@ -185,6 +185,7 @@ impl EndTable {
     pub fn settle(&mut self) -> Result<(), Memory>
         ensures items { self.new.items ≡ self.old.items }
         ensures spare { self.new.spare ≡ self.old.spare }
+        ensures common { OnOk result (IsCommon self.new) }
     {
         self.ends.settle()
     }

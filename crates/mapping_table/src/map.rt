@@ -1,6 +1,6 @@
 ghost use Rattle.std.specs.Prelude.{◌≡◌, ◌+◌, ◌<◌, ◌≤◌, ◌^◌, [], ◌∷◌, ◌++◌, length, replicate, slice_get, Some, false, IfOk, OnOk, All, drop};
 ghost use Rattle.set_tables.specs.Rows.{refilled, spans_without, lowered};
-ghost use Rattle.mapping_table.specs.Spared.{word_of, OwnsFrom, KeepsOwn, IsMoved};
+ghost use Rattle.mapping_table.specs.Spared.{word_of, OwnsFrom, KeepsOwn, IsCommon, IsMoved};
 
 use crate::roomy::Roomy;
 use bit_rows::BitRow;
@@ -131,6 +131,7 @@ impl MapTable {
     pub fn settle(&mut self) -> Result<(), Memory>
         ensures items { self.new.items ≡ self.old.items }
         ensures spare { self.new.spare ≡ self.old.spare }
+        ensures common { OnOk result (IsCommon self.new) }
     {
         self.spans.settle()
     }

@@ -1,6 +1,6 @@
 ghost use Rattle.std.specs.Prelude.{◌≡◌, ◌+◌, ◌/◌, ◌<◌, ◌≤◌, ◌^◌, [], ◌∷◌, ◌++◌, length, max, IfOk, OnOk, slice_get, slice_set, Some, take, drop, true};
 ghost use Rattle.std.specs.Vec.{vec_capacity};
-ghost use Rattle.mapping_table.specs.Spared.{word_of, OwnsRange, OwnsFrom, KeepsOwn};
+ghost use Rattle.mapping_table.specs.Spared.{word_of, OwnsRange, OwnsFrom, KeepsOwn, IsCommon};
 
 use set_model::Memory;
 use shared_pages::{PAGE, Page, copy_plain_pages, own_plain_pages, settle_plain_pages};
@@ -219,6 +219,7 @@ impl<T: Copy + Drop> Roomy<T> {
     pub(crate) fn settle(&mut self) -> Result<(), Memory>
         ensures items { self.new.items ≡ self.old.items }
         ensures spare { self.new.spare ≡ self.old.spare }
+        ensures common { OnOk result (IsCommon self.new) }
     {
         self.turn_page()?;
         settle_plain_pages(self.alloc, &mut self.whole)

@@ -9,7 +9,7 @@ use Rattle.fault_notes.specs.Shown.{Begins, name_text}
 use Rattle.fault_notes.specs.Told.{MayTell, nothing as no_note}
 use Rattle.input_files.specs.declared.fault.FileFault.{FileFault}
 use Rattle.input_files.specs.Noted.{StopsTelling}
-use Rattle.input_files.specs.Reads.{Shelved, HasRead, StopsAt}
+use Rattle.input_files.specs.Reads.{Shelved, HasRead}
 use Rattle.input_files.specs.declared.work.Work.{Work}
 use Rattle.input_files.specs.declared.work.Work.TheVariants as works
 use Rattle.input_files.specs.Inputs.{ReadsAs}

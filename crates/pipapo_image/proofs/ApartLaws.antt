@@ -1,6 +1,6 @@
 -- How changes keep the live elements of a disjoint set apart.
 use Rattle.std.proofs.Common.{◌≡◌, refl, sym, ◌∙◌, ap, subst, ℕ, zero, suc, ◌≤◌, Bool, true, false, ◌&&◌, nat_lt, List, [], ◌∷◌, ◌++◌, cond, Option, Some, None, arith, inl, inr}
-use Rattle.std.specs.Prelude.{◌⊎◌, not, filter, find, position, remove, slice_get, option_map, if◌then◌else◌}
+use Rattle.std.specs.Prelude.{◌⊎◌, not, filter, find, remove, slice_get, option_map, if◌then◌else◌}
 use Rattle.std.specs.List.{list_all}
 use Rattle.std.proofs.lemmas.Bool.{and_parts, and_from}
 use Rattle.std.proofs.lemmas.Bool.Decides.{nat_tests}
@@ -12,7 +12,7 @@ use Rattle.set_model.specs.declared.element.Element.{Element}
 use Rattle.set_model.specs.declared.element.NewElement.{NewElement}
 use Rattle.set_model.specs.Key.{start_key, same_parts, parts_share}
 use Rattle.set_model.specs.Expiry.{lives, live, renewed_element, renewed_at}
-use Rattle.set_model.specs.SetState.{State, shares, is_sharing, answers, holds, element_at, place, same_at, twin_place, start_in_the_way, end_in_the_way, sharing_in_the_way, sharing_place, is_full, crowded_field, with_element, renewed, add, add_by, removed, exact_place, without_at, purged, empty_set, cleared}
+use Rattle.set_model.specs.SetState.{State, shares, is_sharing, answers, holds, element_at, place, same_at, twin_place, start_in_the_way, end_in_the_way, sharing_in_the_way, sharing_place, is_full, crowded_field, with_element, renewed, add, add_by, removed, exact_place, without_at, purged}
 use Rattle.set_model.specs.Apart.{none_share, IsApart}
 use Rattle.set_tables.proofs.RowLaws.{find-none}
 use Rattle.pipapo_image.specs.Image.Apart.{KeepsApart}

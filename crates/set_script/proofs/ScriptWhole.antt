@@ -1,5 +1,5 @@
 -- What reading a whole script says of its text.
-use Rattle.std.proofs.Common.{◌≡◌, sym, subst, List, ℕ, Option, None, Result, Ok, Err}
+use Rattle.std.proofs.Common.{◌≡◌, sym, subst, List, ℕ, None, Result, Ok, Err}
 use Rattle.std.specs.Prelude.{IfOk}
 use Rattle.set_model.specs.declared.script.Script.{Script}
 use Rattle.token_forms.specs.Token.{Lexeme}

@@ -1,12 +1,12 @@
 -- Where the elements that left a set stand in its image.
-use Rattle.std.specs.Prelude.{ℕ, List, [], Option, Some, None, take, count_by}
+use Rattle.std.specs.Prelude.{ℕ, Bool, List, [], Option, Some, None, map, take, count_by}
 use Rattle.set_model.specs.SetState.{State}
-use Rattle.expiry_scan.specs.Expired.{is_expired, places_expired}
+use Rattle.expiry_scan.specs.Expired.{is_expired}
 
--- the places of the elements that left, the lowest first
-abbrev pub gap_places : Option ℕ → State → List ℕ
-gap_places None image = []
-gap_places (Some m) image = places_expired m image.elements
+-- for each element of the image, whether it left
+abbrev pub gap_marks : Option ℕ → State → List Bool
+gap_marks None image = []
+gap_marks (Some m) image = map (is_expired m) image.elements
 
 -- how many elements that left stand before a place of the image
 abbrev pub gaps_before : Option ℕ → State → ℕ → ℕ

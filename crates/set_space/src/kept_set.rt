@@ -3,9 +3,10 @@ ghost use Rattle.set_model.specs.Key.{key_fits};
 ghost use Rattle.set_model.specs.SetState.{State, empty_set};
 ghost use Rattle.pipapo_image.specs.Image.Found.{found};
 ghost use Rattle.set_space.specs.LazyImage.{set_of};
-ghost use Rattle.set_space.specs.KeptSet.{gap_places, gaps_before};
+ghost use Rattle.set_space.specs.KeptSet.{gap_marks, gaps_before};
 
 use crate::lazy_image::LazyImage;
+use bit_rows::RankedBits;
 use pipapo_image::{Scratch, SetImage};
 use set_model::{Found, Key, Kinds, Memory};
 use std::alloc::Global;
@@ -15,46 +16,46 @@ use std::marker::Model;
 #[derive(Drop)]
 pub struct KeptSet {
     lazy: LazyImage,
-    /// The places in the image of the elements that left, the lowest first.
-    gaps: Vec<u64>,
+    /// Which elements of the image left.
+    gaps: RankedBits,
 }
 
 impl Model for KeptSet {
     ghost use Rattle.std.specs.Prelude.{◌≡◌};
     ghost use Rattle.set_model.specs.SetState.{State};
     ghost use Rattle.set_space.specs.LazyImage.{set_of};
-    ghost use Rattle.set_space.specs.KeptSet.{gap_places};
+    ghost use Rattle.set_space.specs.KeptSet.{gap_marks};
 
     ghost Value = { State };
 
     ghost view = { λ a. set_of a.lazy };
 
-    ghost invariant = { λ a. a.gaps.items ≡ gap_places a.lazy.passed a.lazy.image };
+    ghost invariant = { λ a. a.gaps ≡ gap_marks a.lazy.passed a.lazy.image };
 }
 
-/// The places in an image of the elements that left by a moment, the lowest first.
-fn gaps_of(alloc: Global, image: &SetImage, passed: Option<u64>) -> Result<Vec<u64>, Memory>
-    ensures { IfOk result (λ gaps. gaps.items ≡ gap_places passed image.now) }
+/// Which elements of an image left by a moment.
+fn gaps_of(alloc: Global, image: &SetImage, passed: Option<u64>) -> Result<RankedBits, Memory>
+    ensures { IfOk result (λ gaps. gaps ≡ gap_marks passed image.now) }
 {
     match passed {
-        None => Ok(Vec::new(alloc)),
-        Some(moment) => image.elements().expired_places(alloc, moment),
+        None => Ok(RankedBits::new(alloc)),
+        Some(moment) => image.elements().expired_marks(alloc, moment),
     }
 }
 
 /// How many gaps stand before a place of the image whose gaps they are.
 #[inline]
-fn gaps_before(gaps: &[u64], place: u64) -> u64
-    ensures { (passed : Option ℕ) (image : State) → gaps.now ≡ gap_places passed image → place ≤ length image.elements
+fn gaps_before(gaps: &RankedBits, place: u64) -> u64
+    ensures { (passed : Option ℕ) (image : State) → gaps.now ≡ gap_marks passed image → place ≤ length image.elements
         → result ≡ gaps_before passed image place }
 {
-    gaps.partition_point(|gap| *gap < place) as u64
+    gaps.rank(place.min(gaps.len()))
 }
 
 /// Lets copies share an image from now on, and finds its gaps.
-fn settled(alloc: Global, lazy: &mut LazyImage) -> Result<Vec<u64>, Memory>
+fn settled(alloc: Global, lazy: &mut LazyImage) -> Result<RankedBits, Memory>
     ensures same { set_of lazy.new ≡ set_of lazy.old }
-    ensures gaps { IfOk result (λ gaps. gaps.items ≡ gap_places lazy.new.passed lazy.new.image) }
+    ensures gaps { IfOk result (λ gaps. gaps ≡ gap_marks lazy.new.passed lazy.new.image) }
 {
     lazy.find_soonest();
     lazy.image.settle()?;
@@ -78,7 +79,7 @@ impl KeptSet {
     {
         Ok(KeptSet {
             lazy: LazyImage::new(SetImage::new(alloc, kinds, size, disjoint)?),
-            gaps: Vec::new(alloc),
+            gaps: RankedBits::new(alloc),
         })
     }
 
@@ -112,7 +113,8 @@ impl KeptSet {
     pub fn len(&self) -> u64
         ensures { result ≡ length self.now.elements }
     {
-        self.lazy.image.elements().len() - self.gaps.len() as u64
+        let count = self.lazy.image.elements().len();
+        count - gaps_before(&self.gaps, count)
     }
 
     /// The first element of the set's list that is live at `now`, in milliseconds, and holds the key.
@@ -124,7 +126,7 @@ impl KeptSet {
         match self.lazy.image.find(key, self.lazy.moment(now), scratch) {
             None => None,
             Some(found) => Some(Found {
-                place: found.place - gaps_before(self.gaps.as_slice(), found.place),
+                place: found.place - gaps_before(&self.gaps, found.place),
                 id: found.id,
             }),
         }

@@ -91,8 +91,8 @@ impl SetImage {
         Ok(kept)
     }
 
-    /// Looks for the soonest expiry of the elements that aren't expired at `passed` anew, which a deletion or a renewal
-    /// may have made a later one. Before it no call that is told of `passed` looks for expired elements.
+    /// Finds the soonest expiries anew, page by page, where elements came, changed or left by `passed`. Before a page's no call
+    /// that looks for expired elements goes through the page.
     pub fn find_soonest(&mut self, passed: Option<u64>)
         ensures { self.new ≡ self.old }
     {

@@ -14,7 +14,7 @@ elements-preserved c =
     let is = ap (is_leaving c.args.passed c.args.now) (get_or_from_slice_get es i e e c.at.ensures) ∙ sym c.is_leaving.ensures in
     elim c.if-is_leaving.branch [
       | then-is_leaving w ↦ (let more = count_by_more_yes (is_leaving c.args.passed c.args.now) es i e within (is ∙ w.if-is_leaving.true) in
-          record { counted = omega (arith, more, w.count-is, c.elements.invariant.counted); few = omega (arith, w.count-is, c.elements.invariant.few) })
+          omega (arith, more, w.count-is, c.elements.invariant))
       | else-is_leaving w ↦ (let more = count_by_more_no (is_leaving c.args.passed c.args.now) es i e within (is ∙ w.if-is_leaving.false) in
-          record { counted = omega (arith, more, w.count-is, c.elements.invariant.counted); few = omega (arith, w.count-is, c.elements.invariant.few) })
+          omega (arith, more, w.count-is, c.elements.invariant))
     ]

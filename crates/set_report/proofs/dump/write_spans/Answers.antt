@@ -1,4 +1,4 @@
-use Rattle.std.proofs.Common.{◌<◌, sym, subst, length, get_or, None, arith}
+use Rattle.std.proofs.Common.{◌<◌, sym, subst, length, arith}
 use Rattle.std.proofs.lemmas.Option.{get_or_from_slice_get}
 use Rattle.set_tables.specs.declared.Span.{Span}
 use Rattle.set_report.specs.DumpText.{span_text}

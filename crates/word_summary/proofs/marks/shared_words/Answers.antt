@@ -2,7 +2,8 @@ use Rattle.std.proofs.Common.{◌≡◌, ◌∙◌, ap, ℕ, ◌+◌, ◌*◌, B
 use Rattle.std.specs.Prelude.{slice_index}
 use Rattle.bit_rows.specs.Row.{bit}
 use Rattle.word_summary.specs.Marks.{share}
-use Rattle.word_summary.proofs.MarkLaws.{marks_to, marks-none, marks-on, marks-off, marks-eight, shares, shares-none}
+use Rattle.bit_rows.proofs.Marked.{marks_to, marks-none, marks-on, marks-off, marks-eight}
+use Rattle.word_summary.proofs.MarkLaws.{shares, shares-none}
 use Rattle.word_summary.proofs.marks.shared_words.Goals as goal
 use Rattle.word_summary.proofs.marks.shared_words.Goals.{then-words-upper-ne0, else-words-upper-ne0}
 

@@ -2,7 +2,7 @@ use Rattle.std.proofs.Common.{◌≡◌, ℕ, ◌+◌, ◌*◌, ◌<◌}
 use Rattle.std.specs.Prelude.{slice_index}
 use Rattle.bit_rows.specs.Row.{bit}
 use Rattle.word_summary.specs.Marks.{share}
-use Rattle.word_summary.proofs.MarkLaws.{marks_to}
+use Rattle.bit_rows.proofs.Marked.{marks_to}
 use Rattle.word_summary.proofs.marks.shared_words.Given as goal
 
 abbrev pub invariant-words : goal.invariant-words

@@ -12,7 +12,7 @@ overflow_add-count c =
     let before : c.pages.count ≡ count_by p (take (512 * c.pages.page) es) = c.pages.invariant ∙ ap (λ z. count_by p (take (512 * c.pages.page) z)) (sym c.self.view_is) in
     let most = count_by-le-length p (take (512 * c.pages.page + 512) es) in
     let long = length-take (512 * c.pages.page + 512) es in
-    omega (arith, before, most, long, c.count_in-count.ensures.counted, c.pages_of-page-end.ensures.fit)
+    omega (arith, before, most, long, c.count_in-count.ensures, c.pages_of-page-end.ensures.fit)
 
 pub pages-preserved : goal.pages-preserved
 pages-preserved c =
@@ -21,7 +21,7 @@ pages-preserved c =
     let on : 512 * (page + 1) ≡ 512 * page + 512 = omega arith in
     elim c.if-not-is_quiet.branch [
       | then-not-is_quiet w ↦ (let view = λ (n : ℕ). ap (λ z. count_by p (take n z)) c.self.view_is in
-          omega (arith, w.count-is, w.count_in-count.ensures.counted, view (512 * page), view (512 * page + 512), c.pages.invariant, ap (λ n. count_by p (take n c.args.self.now)) on))
+          omega (arith, w.count-is, w.count_in-count.ensures, view (512 * page), view (512 * page + 512), c.pages.invariant, ap (λ n. count_by p (take n c.args.self.now)) on))
       | else-not-is_quiet w ↦ (let none = count_quiet p c.args.self.now (512 * page) 512 (c.is_quiet.ensures w.if-not-is_quiet.false) in
           w.count-is ∙ c.pages.invariant ∙ sym none ∙ ap (λ n. count_by p (take n c.args.self.now)) (sym on))
     ]

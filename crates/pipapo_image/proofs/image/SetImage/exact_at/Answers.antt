@@ -1,7 +1,7 @@
 use Rattle.std.proofs.Common.{◌≡◌, sym, ◌∙◌, ap, subst, true, false, take}
 use Rattle.std.specs.Prelude.{All}
-use Rattle.set_model.specs.Key.{start_key, key_fits, parts_fit, same_parts}
-use Rattle.set_model.specs.SetState.{element_at, place}
+use Rattle.set_model.specs.Key.{start_key, key_fits, parts_fit}
+use Rattle.set_model.specs.SetState.{place}
 use Rattle.pipapo_image.proofs.AddLaws.{start-fits}
 use Rattle.pipapo_image.proofs.ExactLaws.{exact-nowhere, exact-unfit, exact-first, none-up-to}
 use Rattle.pipapo_image.proofs.image.SetImage.exact_at.Goals as goal

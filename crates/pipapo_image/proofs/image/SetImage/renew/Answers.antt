@@ -1,4 +1,4 @@
-use Rattle.std.proofs.Common.{◌≡◌, ◌+◌, ◌-◌, ◌<◌, ◌∙◌, arith, length, None, [], take}
+use Rattle.std.proofs.Common.{◌≡◌, ◌+◌, ◌-◌, ◌<◌, arith, length, None, [], take}
 use Rattle.set_model.specs.declared.element.Element.{Element}
 use Rattle.set_model.specs.SetState.{field_rules}
 use Rattle.set_tables.specs.Tables.{split}

@@ -1,4 +1,4 @@
-use Rattle.std.proofs.Common.{◌≡◌, sym, ◌∙◌, ap, ◌<◌, [], ◌∷◌, ◌++◌, length, get_or, map, take, arith, length-set}
+use Rattle.std.proofs.Common.{sym, ◌∙◌, ap, ◌<◌, [], ◌∷◌, ◌++◌, length, get_or, map, take, arith, length-set}
 use Rattle.std.proofs.lemmas.List.{take_more, take_more_set, map-append}
 use Rattle.std.proofs.lemmas.Option.{get_or_from_slice_get}
 use Rattle.set_model.specs.declared.kind.Interval.{Interval}

@@ -17,6 +17,6 @@ returns-in-Some c =
     let key = c.args.key.now in
     let f : Found = c.in-Some.found in
     let of_image = c.in-Some.ensures ∙ ap (found lazy.image key) c.moment.ensures in
-    let gaps = c.as_slice.ensures.value ∙ c.self.invariant in
+    let gaps = c.self.invariant in
     let before : c.gaps_before.result ≡ gaps_before lazy.passed lazy.image f.place = c.gaps_before.ensures lazy.passed lazy.image gaps (omega (arith, found_within lazy.image key c.moment.result f c.in-Some.ensures)) in
     ap (λ n. Some (record { place = f.place - n; id = f.id })) before ∙ found_some lazy.passed lazy.image key c.args.now f of_image ∙ ap (λ s. found s key c.args.now) c.self.view_is

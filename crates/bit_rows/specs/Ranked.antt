@@ -1,0 +1,19 @@
+-- How many places of a list are set before one of them: its rank, as bit vectors of succinct structures call it.
+use Rattle.std.specs.Prelude.{◌≡◌, ℕ, ◌+◌, ◌*◌, ◌<◌, ◌≤◌, Bool, Some, List, length, map, take, count_by, slice_get}
+use Rattle.std.specs.List.{range_with_len}
+use Rattle.bit_rows.specs.Row.{bit}
+use Rattle.bit_rows.specs.Words.{bits_of}
+
+-- how many of the n lowest bits of a word are set
+unfoldable pub low_ones : ℕ → ℕ → ℕ
+low_ones word n = count_by (λ b. b) (map (bit word) (range_with_len 0 n))
+
+-- how many of the places before place i are set
+abbrev pub rank : List Bool → ℕ → ℕ
+rank bits i = count_by (λ b. b) (take i bits)
+
+-- The words spell `len` places, and for each whole page of 512 places stands beside them how many are set up to its end.
+pub record IsRanked (words : List ℕ) (len : ℕ) (ranks : List ℕ) : Type 0 where
+  pub within : len ≤ 64 * length words
+  pub pages : len < 512 * length ranks + 512
+  pub each : (page r : ℕ) → slice_get ranks page ≡ Some r → r ≡ rank (bits_of words len) (512 * page + 512)
