@@ -55,6 +55,8 @@ ROWS = [
     ("add set ip t p { type inet_service ; flags timeout ; }\nadd element ip t p { 80 expires 30s }", False, None),
     ("add set ip t p { type inet_service ; timeout 10s ; }\nadd element ip t p { 80 expires 30s }", False, None),
     ("add set ip t p { type inet_service ; flags interval ; }\nadd element ip t p { 10-20, 5-30 }", False, None),
+    # taken by both, for different lives: see lives_of_the_set
+    ("add set ip t p { type inet_service ; timeout 1h ; }\nadd element ip t p { 80 timeout 0s, 81 expires 0s }", True, None),
     # the start key is what nft deletes by; here the intervals are
     ("add element ip t s { 10.1.0.0/24 . 80 }\ndelete element ip t s { 10.1.0.0/25 . 80 }", True, "refused missing"),
 ]
@@ -87,6 +89,17 @@ def sorted_and_whole():
     printed = subprocess.run(["nft", "list", "set", "ip", "t", "p"], capture_output=True, text=True, check=True).stdout
     if not kept or "elements = { 10, 20, 30 }" not in printed:
         print(f"nft keeps the elements 30, 10, 20, and a fault behind 40, as {printed}")
+        return False
+    return True
+
+
+def lives_of_the_set():
+    """Whether nft gives an element with `timeout 0s`, and one with `expires 0s`, the life that its set gives."""
+    set_of_an_hour = "add table ip t\nadd set ip t p { type inet_service ; timeout 1h ; }\n"
+    kept = by_nft(f"{set_of_an_hour}add element ip t p {{ 80 timeout 0s, 81 expires 0s }}\n")
+    printed = subprocess.run(["nft", "list", "set", "ip", "t", "p"], capture_output=True, text=True, check=True).stdout
+    if not kept or printed.count("expires 59m") + printed.count("expires 1h") != 2:
+        print(f"nft keeps elements with the lives 0s and 0s as {printed}")
         return False
     return True
 
@@ -127,8 +140,9 @@ def main():
             bad += 1
             print(f"{text!r}: nft {'takes' if got[0] else 'refuses'} it, and here: {got[1] or 'read'}")
     bad += not sorted_and_whole()
+    bad += not lives_of_the_set()
     bad += not protocols(sys.argv[1])
-    print(f"{len(ROWS) + 2} claims on what nft takes and what is read here, {bad} of them wrong")
+    print(f"{len(ROWS) + 3} claims on what nft takes and what is read here, {bad} of them wrong")
     return 1 if bad else 0
 
 

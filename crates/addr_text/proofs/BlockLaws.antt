@@ -8,10 +8,10 @@ use Rattle.set_model.specs.Kind.{bits_of}
 use Rattle.set_model.specs.declared.kind.Kind.{Kind}
 use Rattle.set_model.specs.declared.kind.Interval.{Interval}
 use Rattle.addr_text.specs.Intervals.{block_of}
-use Rattle.addr_text.specs.Written.{fixed_bits, is_block, IsBlock}
+use Rattle.addr_text.specs.Written.{fixed_bits, is_whole_block, IsBlock}
 use Rattle.addr_text.proofs.IntervalLaws.{bits_of-le}
 
-pub is_block_sound : (kind : Kind) (part : Interval) → is_block kind part ≡ true → IsBlock kind part
+pub is_block_sound : (kind : Kind) (part : Interval) → is_whole_block kind part ≡ true → IsBlock kind part
 is_block_sound kind part h =
     let fixed = fixed_bits (bits_of kind) (part.high - part.low) in
     let whole = block_of (bits_of kind) fixed part.low in
@@ -24,7 +24,7 @@ spread_bits h within =
     let some = pow_pos h in
     sym (leading_unique 128 (2 ^ h - 1) (128 - h) h (omega arith) (omega (arith, some)) (omega (arith, some)))
 
-pub is_block_complete : (kind : Kind) (part : Interval) → IsBlock kind part → is_block kind part ≡ true
+pub is_block_complete : (kind : Kind) (part : Interval) → IsBlock kind part → is_whole_block kind part ≡ true
 is_block_complete kind part (fixed, within, block) =
     let bits = bits_of kind in
     let low : part.low ≡ (block_of bits fixed part.low).low = ap (λ p. p.low) block in

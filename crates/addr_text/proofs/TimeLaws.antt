@@ -14,36 +14,36 @@ use Rattle.std.specs.Net.Reader.{read_number}
 use Rattle.std.proofs.NetLemmas.Options.{cond_some, cond_none, and_then_some}
 use Rattle.std.proofs.NetLemmas.Numbers.{NoDigit, read_number_some, read_number_sound, read_number_empty}
 use Rattle.addr_text.specs.Times.{units, longest_time, IsCount, IsParts, IsSeconds, IsTime}
-use Rattle.addr_text.specs.TimesRead.{is_letter, letters_len, TimePart, part_of, parts_of, duration_of, time_of}
+use Rattle.addr_text.specs.TimesRead.{is_no_digit, letters_len, TimePart, time_part, time_parts, duration_of, time_of}
 
 -- no letter begins the text
 Unlettered : List ℕ → Type 0
 Unlettered text = letters_len text ≡ 0
 
-letters_len-append : (name rest : List ℕ) → list_all is_letter name ≡ true → letters_len rest ≡ 0 → letters_len (name ++ rest) ≡ length name
+letters_len-append : (name rest : List ℕ) → list_all is_no_digit name ≡ true → letters_len rest ≡ 0 → letters_len (name ++ rest) ≡ length name
 letters_len-append [] rest all stop = stop
 letters_len-append (c ∷ name) rest all stop =
-    let (first, others) = and_parts (is_letter c) (list_all is_letter name) all in
+    let (first, others) = and_parts (is_no_digit c) (list_all is_no_digit name) all in
     let later = letters_len-append name rest others stop in
     rw first (omega arith)
 
 -- a unit's name: letters, one at least
 pub record IsName (name : List ℕ) : Type 0 where
   some : 0 < length name
-  letters : list_all is_letter name ≡ true
+  letters : list_all is_no_digit name ≡ true
 
 letter_from : (d : ℕ) → not (nat_lt d 10) ≡ true → 10 ≤ d
 letter_from d h = elim (cases_lt d 10) [ inl below ↦ (let wrong : not true ≡ true = rw (lt-ltb d 10 below) at h in cc) | inr above ↦ above ]
 
-letter_stops : (c : ℕ) → is_letter c ≡ true → 10 ≤ digit_value c
+letter_stops : (c : ℕ) → is_no_digit c ≡ true → 10 ≤ digit_value c
 letter_stops c h = letter_from (digit_value c) h
 
 name_stops : (name rest : List ℕ) → IsName name → NoDigit 10 (name ++ rest)
 name_stops [] rest h = absurd (omega (arith, h.some))
-name_stops (c ∷ name) rest h = letter_stops c (and_parts (is_letter c) (list_all is_letter name) h.letters).0
+name_stops (c ∷ name) rest h = letter_stops c (and_parts (is_no_digit c) (list_all is_no_digit name) h.letters).0
 
-part_of_complete : (digits name rest : List ℕ) (count : ℕ) → IsCount digits count → NoDigit 10 (name ++ rest) → list_all is_letter name ≡ true → letters_len rest ≡ 0 → part_of (digits ++ (name ++ rest)) ≡ Some (record { count = count; name = name; behind = rest })
-unfolding part_of
+part_of_complete : (digits name rest : List ℕ) (count : ℕ) → IsCount digits count → NoDigit 10 (name ++ rest) → list_all is_no_digit name ≡ true → letters_len rest ≡ 0 → time_part (digits ++ (name ++ rest)) ≡ Some (record { count = count; name = name; behind = rest })
+unfolding time_part
 part_of_complete digits name rest count h stop letters unlettered =
     let below = digits_value-lt 10 digits h.0.0.1 in
     let most : 10 ^ length digits ≤ 10 ^ 15 = pow-le-pow_right (lit≤ tt) h.1 in
@@ -58,8 +58,8 @@ record IsPartOf (text : List ℕ) (part : TimePart) : Type 0 where
   stops : NoDigit 10 (part.name ++ part.behind)
   letters : letters_len (part.name ++ part.behind) ≡ length part.name
 
-part_of_sound : (text : List ℕ) (part : TimePart) → part_of text ≡ Some part → IsPartOf text part
-unfolding part_of
+part_of_sound : (text : List ℕ) (part : TimePart) → time_part text ≡ Some part → IsPartOf text part
+unfolding time_part
 part_of_sound text part e =
     and_then_some _ (read_number 10 999_999_999_999_999 text) _ e λ n read kept.
     let (test, same) = cond_none _ _ _ kept in
@@ -71,11 +71,11 @@ part_of_sound text part e =
       count = (number, omega (arith, ltb-false 15 n.1 test));
       spelled = sym (take-append-drop n.1 text) ∙ ap (λ t. take n.1 text ++ t) (sym joined);
       stops = rw joined stop;
-      letters = ap letters_len joined ∙ sym (length-prefix_len is_letter rest);
+      letters = ap letters_len joined ∙ sym (length-prefix_len is_no_digit rest);
     })
 
-part_of-nil : part_of [] ≡ None
-unfolding part_of
+part_of-nil : time_part [] ≡ None
+unfolding time_part
 part_of-nil = rw (read_number_empty 10 999_999_999_999_999 [] (lit≤ tt)) refl
 
 -- parts begin with no letter
@@ -98,7 +98,7 @@ AreUnits (u ∷ us) = IsName u.0 × (named u.0 us ≡ false) × AreUnits us
 
 record BeginsNamed (us : List (List ℕ × ℕ)) (text : List ℕ) : Type 0 where
   part : TimePart
-  read : part_of text ≡ Some part
+  read : time_part text ≡ Some part
   name : named part.name us ≡ true
 
 same_name : (name : List ℕ) → bytes_eq name name ≡ true
@@ -116,34 +116,34 @@ parts_begin (u ∷ us) text ms are (inr (digits, rest, count, later, split, is, 
     inr (record { part = record { count = count; name = u.0; behind = rest }; read = rw split read; name = or_left _ (named u.0 us) (same_name u.0) })
 
 -- no unit is left: the end of the text, or not
-pub parts_of-end : (total : ℕ) (text : List ℕ) → (length text == 0) ≡ true → parts_of [] total text ≡ Some total
-unfolding parts_of
+pub parts_of-end : (total : ℕ) (text : List ℕ) → (length text == 0) ≡ true → time_parts [] total text ≡ Some total
+unfolding time_parts
 parts_of-end total text test = rw test refl
 
-pub parts_of-bad : (total : ℕ) (text : List ℕ) → (length text == 0) ≡ false → parts_of [] total text ≡ None
-unfolding parts_of
+pub parts_of-bad : (total : ℕ) (text : List ℕ) → (length text == 0) ≡ false → time_parts [] total text ≡ None
+unfolding time_parts
 parts_of-bad total text test = rw test refl
 
 -- One unit of those that are left: the text begins with none, with another's part, or with its own.
-pub parts_of-none : (u : List ℕ × ℕ) (us : List (List ℕ × ℕ)) (total : ℕ) (text : List ℕ) → part_of text ≡ None → parts_of (u ∷ us) total text ≡ parts_of us total text
-unfolding parts_of
-parts_of-none u us total text read = ap (λ o. elim o as (λ _. Option ℕ) [ None ↦ parts_of us total text | Some p ↦ cond (bytes_eq p.name u.0) (parts_of us (total + p.count * u.1) p.behind) (parts_of us total text) ]) read
+pub parts_of-none : (u : List ℕ × ℕ) (us : List (List ℕ × ℕ)) (total : ℕ) (text : List ℕ) → time_part text ≡ None → time_parts (u ∷ us) total text ≡ time_parts us total text
+unfolding time_parts
+parts_of-none u us total text read = ap (λ o. elim o as (λ _. Option ℕ) [ None ↦ time_parts us total text | Some p ↦ cond (bytes_eq p.name u.0) (time_parts us (total + p.count * u.1) p.behind) (time_parts us total text) ]) read
 
-pub parts_of-other : (u : List ℕ × ℕ) (us : List (List ℕ × ℕ)) (total : ℕ) (text : List ℕ) (part : TimePart) → part_of text ≡ Some part → bytes_eq part.name u.0 ≡ false → parts_of (u ∷ us) total text ≡ parts_of us total text
-unfolding parts_of
+pub parts_of-other : (u : List ℕ × ℕ) (us : List (List ℕ × ℕ)) (total : ℕ) (text : List ℕ) (part : TimePart) → time_part text ≡ Some part → bytes_eq part.name u.0 ≡ false → time_parts (u ∷ us) total text ≡ time_parts us total text
+unfolding time_parts
 parts_of-other u us total text part read test =
-    ap (λ o. elim o as (λ _. Option ℕ) [ None ↦ parts_of us total text | Some p ↦ cond (bytes_eq p.name u.0) (parts_of us (total + p.count * u.1) p.behind) (parts_of us total text) ]) read ∙ ap (λ b. cond b (parts_of us (total + part.count * u.1) part.behind) (parts_of us total text)) test
+    ap (λ o. elim o as (λ _. Option ℕ) [ None ↦ time_parts us total text | Some p ↦ cond (bytes_eq p.name u.0) (time_parts us (total + p.count * u.1) p.behind) (time_parts us total text) ]) read ∙ ap (λ b. cond b (time_parts us (total + part.count * u.1) part.behind) (time_parts us total text)) test
 
-pub parts_of-same : (u : List ℕ × ℕ) (us : List (List ℕ × ℕ)) (total : ℕ) (text : List ℕ) (part : TimePart) → part_of text ≡ Some part → bytes_eq part.name u.0 ≡ true → parts_of (u ∷ us) total text ≡ parts_of us (total + part.count * u.1) part.behind
-unfolding parts_of
+pub parts_of-same : (u : List ℕ × ℕ) (us : List (List ℕ × ℕ)) (total : ℕ) (text : List ℕ) (part : TimePart) → time_part text ≡ Some part → bytes_eq part.name u.0 ≡ true → time_parts (u ∷ us) total text ≡ time_parts us (total + part.count * u.1) part.behind
+unfolding time_parts
 parts_of-same u us total text part read test =
-    ap (λ o. elim o as (λ _. Option ℕ) [ None ↦ parts_of us total text | Some p ↦ cond (bytes_eq p.name u.0) (parts_of us (total + p.count * u.1) p.behind) (parts_of us total text) ]) read ∙ ap (λ b. cond b (parts_of us (total + part.count * u.1) part.behind) (parts_of us total text)) test
+    ap (λ o. elim o as (λ _. Option ℕ) [ None ↦ time_parts us total text | Some p ↦ cond (bytes_eq p.name u.0) (time_parts us (total + p.count * u.1) p.behind) (time_parts us total text) ]) read ∙ ap (λ b. cond b (time_parts us (total + part.count * u.1) part.behind) (time_parts us total text)) test
 
-parts_of_complete : (us : List (List ℕ × ℕ)) (total : ℕ) (text : List ℕ) (ms : ℕ) → AreUnits us → IsParts us text ms → parts_of us total text ≡ Some (total + ms)
-unfolding parts_of AreUnits
+parts_of_complete : (us : List (List ℕ × ℕ)) (total : ℕ) (text : List ℕ) (ms : ℕ) → AreUnits us → IsParts us text ms → time_parts us total text ≡ Some (total + ms)
+unfolding time_parts AreUnits
 parts_of_complete [] total text ms are h = rw (h.0, h.1, add-zero) refl
 parts_of_complete (u ∷ us) total text ms are (inl h) = elim (parts_begin us text ms are.2 h) [
-  | inl empty ↦ parts_of-none u us total text (ap part_of empty ∙ part_of-nil) ∙ parts_of_complete us total text ms are.2 h
+  | inl empty ↦ parts_of-none u us total text (ap time_part empty ∙ part_of-nil) ∙ parts_of_complete us total text ms are.2 h
   | inr b ↦ parts_of-other u us total text b.part b.read (other b) ∙ parts_of_complete us total text ms are.2 h
 ] where
   other : (b : BeginsNamed us text) → bytes_eq b.part.name u.0 ≡ false
@@ -161,16 +161,16 @@ record Later (us : List (List ℕ × ℕ)) (total : ℕ) (text : List ℕ) (ms :
   parts : IsParts us text later
   sum : ms ≡ total + later
 
-parts_of_sound : (us : List (List ℕ × ℕ)) (total : ℕ) (text : List ℕ) (ms : ℕ) → parts_of us total text ≡ Some ms → Later us total text ms
-unfolding parts_of
+parts_of_sound : (us : List (List ℕ × ℕ)) (total : ℕ) (text : List ℕ) (ms : ℕ) → time_parts us total text ≡ Some ms → Later us total text ms
+unfolding time_parts
 parts_of_sound [] total text ms e =
     let (test, same) = cond_some _ _ _ e in
     record { later = 0; parts = (nil_from_length text (eqb-true _ _ test), refl); sum = sym same ∙ sym (add-zero total) }
-parts_of_sound (u ∷ us) total text ms e = go (part_of text) refl e (parts_of_sound us total text ms) (λ part. parts_of_sound us (total + part.count * u.1) part.behind ms) where
+parts_of_sound (u ∷ us) total text ms e = go (time_part text) refl e (parts_of_sound us total text ms) (λ part. parts_of_sound us (total + part.count * u.1) part.behind ms) where
   skipped : Later us total text ms → Later (u ∷ us) total text ms
   skipped l = record { later = l.later; parts = inl l.parts; sum = l.sum }
 
-  taken : (part : TimePart) → part_of text ≡ Some part → (part.name ≡ u.0) → Later us (total + part.count * u.1) part.behind ms → Later (u ∷ us) total text ms
+  taken : (part : TimePart) → time_part text ≡ Some part → (part.name ≡ u.0) → Later us (total + part.count * u.1) part.behind ms → Later (u ∷ us) total text ms
   taken part read same l =
       let p = part_of_sound text part read in
       let split : text ≡ p.digits ++ (u.0 ++ part.behind) = p.spelled ∙ ap (λ name. p.digits ++ (name ++ part.behind)) same in
@@ -181,10 +181,10 @@ parts_of_sound (u ∷ us) total text ms e = go (part_of text) refl e (parts_of_s
         sum = omega arith;
       }
 
-  go : (o : Option TimePart) → part_of text ≡ o → (elim o as (λ _. Option ℕ) [ None ↦ parts_of us total text | Some part ↦ cond (bytes_eq part.name u.0) (parts_of us (total + part.count * u.1) part.behind) (parts_of us total text) ]) ≡ Some ms → (parts_of us total text ≡ Some ms → Later us total text ms) → ((part : TimePart) → parts_of us (total + part.count * u.1) part.behind ≡ Some ms → Later us (total + part.count * u.1) part.behind ms) → Later (u ∷ us) total text ms
+  go : (o : Option TimePart) → time_part text ≡ o → (elim o as (λ _. Option ℕ) [ None ↦ time_parts us total text | Some part ↦ cond (bytes_eq part.name u.0) (time_parts us (total + part.count * u.1) part.behind) (time_parts us total text) ]) ≡ Some ms → (time_parts us total text ≡ Some ms → Later us total text ms) → ((part : TimePart) → time_parts us (total + part.count * u.1) part.behind ≡ Some ms → Later us (total + part.count * u.1) part.behind ms) → Later (u ∷ us) total text ms
   go None read found skip next = skipped (skip found)
   go (Some part) read found skip next = tested (bytes_eq part.name u.0) refl found where
-    tested : (b : Bool) → bytes_eq part.name u.0 ≡ b → cond b (parts_of us (total + part.count * u.1) part.behind) (parts_of us total text) ≡ Some ms → Later (u ∷ us) total text ms
+    tested : (b : Bool) → bytes_eq part.name u.0 ≡ b → cond b (time_parts us (total + part.count * u.1) part.behind) (time_parts us total text) ≡ Some ms → Later (u ∷ us) total text ms
     tested true test found = taken part read ((bytes_eq-Decides part.name u.0).0 test) (next part found)
     tested false test found = skipped (skip found)
 
@@ -200,9 +200,9 @@ nothing_left (c ∷ text) stop none = absurd (omega (arith, rw (le-ltb (digit_va
 duration_of_sound : (text : List ℕ) (ms : ℕ) → duration_of text ≡ Some ms → IsSeconds text ms ⊎ ((0 < length text) × IsParts units text ms)
 unfolding duration_of
 duration_of_sound text ms e =
-    and_then_some _ (part_of text) _ e λ part read kept. go part (part_of_sound text part read) (length part.name == 0) refl kept
+    and_then_some _ (time_part text) _ e λ part read kept. go part (part_of_sound text part read) (length part.name == 0) refl kept
   where
-    go : (part : TimePart) → IsPartOf text part → (b : Bool) → (length part.name == 0) ≡ b → cond b (Some (part.count * 1_000)) (parts_of units 0 text) ≡ Some ms → IsSeconds text ms ⊎ ((0 < length text) × IsParts units text ms)
+    go : (part : TimePart) → IsPartOf text part → (b : Bool) → (length part.name == 0) ≡ b → cond b (Some (part.count * 1_000)) (time_parts units 0 text) ≡ Some ms → IsSeconds text ms ⊎ ((0 < length text) × IsParts units text ms)
     go part p true test found =
         let unnamed : part.name ≡ [] = nil_from_length part.name (eqb-true _ _ test) in
         let all : part.name ++ part.behind ≡ [] = nothing_left (part.name ++ part.behind) p.stops (p.letters ∙ ap length unnamed) in

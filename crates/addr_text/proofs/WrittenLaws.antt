@@ -22,7 +22,7 @@ use Rattle.addr_text.proofs.ProtocolLaws.{name_found}
 use Rattle.addr_text.specs.Values.{IsOctet, IsValue}
 use Rattle.addr_text.specs.Intervals.{block_of, IsPrefix, IsRange, IsInterval}
 use Rattle.addr_text.specs.Times.{units, longest_time, IsCount, IsParts, IsTime}
-use Rattle.addr_text.specs.Written.{places, hex_text, value_text, fixed_bits, is_block, is_address, block_text, range_text, interval_text, counts, count_text, time_text}
+use Rattle.addr_text.specs.Written.{places, hex_text, value_text, fixed_bits, is_whole_block, is_address, block_text, range_text, interval_text, unit_counts, count_text, time_text}
 
 fold-places : (base value k n : ℕ) → 0 < base → fold (λ m digit. m * base + digit) value (places base k n) ≡ value * base ^ k + n % base ^ k
 fold-places base value zero n some = rw pow-zero (omega arith)
@@ -117,7 +117,7 @@ low_value kind part h =
 high_value : (kind : Kind) (part : Interval) → is_good kind part ≡ true → is_value kind part.high ≡ true
 high_value kind part h = (and_parts (nat_le part.low part.high) (is_value kind part.high) h).1
 
-block_is : (kind : Kind) (part : Interval) → is_good kind part ≡ true → is_block kind part ≡ true → IsPrefix kind (block_text kind part) part
+block_is : (kind : Kind) (part : Interval) → is_good kind part ≡ true → is_whole_block kind part ≡ true → IsPrefix kind (block_text kind part) part
 block_is kind part h block =
     let fixed = fixed_bits (bits_of kind) (part.high - part.low) in
     let whole = block_of (bits_of kind) fixed part.low in
@@ -146,13 +146,13 @@ range_is kind part h = record {
 pub IsInterval-interval_text : (kind : Kind) (part : Interval) → is_good kind part ≡ true → IsInterval kind (interval_text kind part) part
 unfolding interval_text
 IsInterval-interval_text kind part h = go (part.low == part.high) refl where
-  wide : (b : Bool) → (is_address kind && is_block kind part) ≡ b → IsInterval kind (cond b (block_text kind part) (range_text kind part)) part
-  wide true test = inr (inl (block_is kind part h (and_parts (is_address kind) (is_block kind part) test).1))
+  wide : (b : Bool) → (is_address kind && is_whole_block kind part) ≡ b → IsInterval kind (cond b (block_text kind part) (range_text kind part)) part
+  wide true test = inr (inl (block_is kind part h (and_parts (is_address kind) (is_whole_block kind part) test).1))
   wide false test = inr (inr (range_is kind part h))
 
-  go : (b : Bool) → (part.low == part.high) ≡ b → IsInterval kind (cond b (value_text kind part.low) (cond (is_address kind && is_block kind part) (block_text kind part) (range_text kind part))) part
+  go : (b : Bool) → (part.low == part.high) ≡ b → IsInterval kind (cond b (value_text kind part.low) (cond (is_address kind && is_whole_block kind part) (block_text kind part) (range_text kind part))) part
   go true test = inl (record { value = IsValue-value_text kind part.low (low_value kind part h); same = eqb-true part.low part.high test })
-  go false test = wide (is_address kind && is_block kind part) refl
+  go false test = wide (is_address kind && is_whole_block kind part) refl
 
 -- a count and its unit for each unit of a list
 part_is : (c : ℕ) (unit : List ℕ × ℕ) (us : List (List ℕ × ℕ)) (rest : List ℕ) (later : ℕ) → c < 10 ^ 15 → IsParts us rest later → IsParts (unit ∷ us) (count_text (c, unit.0) ++ rest) (c * unit.1 + later)
@@ -167,7 +167,7 @@ part_is c unit us rest later below others = go (c == 0) refl where
 whole : (ms : ℕ) → ms / 86_400_000 * 86_400_000 + (ms / 3_600_000 % 24 * 3_600_000 + (ms / 60_000 % 60 * 60_000 + (ms / 1_000 % 60 * 1_000 + (ms % 1_000 * 1 + 0)))) ≡ ms
 whole ms = omega arith
 
-counts_are : (ms : ℕ) → ms ≤ longest_time → IsParts units (flat_map count_text (counts ms)) ms
+counts_are : (ms : ℕ) → ms ≤ longest_time → IsParts units (flat_map count_text (unit_counts ms)) ms
 counts_are ms within =
     let t4 = count_text (ms % 1_000, codes "ms") ++ [] in
     let t3 = count_text (ms / 1_000 % 60, codes "s") ++ t4 in
@@ -186,7 +186,7 @@ counts_are ms within =
     let minutes = part_is (ms / 60_000 % 60) (codes "m", 60_000) u3 t3 m3 (omega arith) seconds in
     let hours = part_is (ms / 3_600_000 % 24) (codes "h", 3_600_000) u2 t2 m2 (omega arith) minutes in
     let days = part_is (ms / 86_400_000) (codes "d", 86_400_000) u1 t1 m1 (omega arith) hours in
-    subst (IsParts units (flat_map count_text (counts ms))) (whole ms) days
+    subst (IsParts units (flat_map count_text (unit_counts ms))) (whole ms) days
 
 zero_is : IsTime (codes "0s") 0
 zero_is = record { spelled = inr (lit< tt, inl (inl (inl (inr (codes "0", [], 0, 0, refl, zero_count, inl (refl, refl), refl))))); within = lit≤ tt } where
@@ -206,6 +206,6 @@ some_part (c ∷ text) ms h test = omega arith
 pub IsTime-time_text : (ms : ℕ) → ms ≤ longest_time → IsTime (time_text ms) ms
 unfolding time_text
 IsTime-time_text ms within = go (ms == 0) refl where
-  go : (b : Bool) → (ms == 0) ≡ b → IsTime (cond b (codes "0s") (flat_map count_text (counts ms))) ms
+  go : (b : Bool) → (ms == 0) ≡ b → IsTime (cond b (codes "0s") (flat_map count_text (unit_counts ms))) ms
   go true test = rw (eqb-true ms 0 test) zero_is
-  go false test = record { spelled = inr (some_part (flat_map count_text (counts ms)) ms (counts_are ms within) test, counts_are ms within); within = within }
+  go false test = record { spelled = inr (some_part (flat_map count_text (unit_counts ms)) ms (counts_are ms within) test, counts_are ms within); within = within }

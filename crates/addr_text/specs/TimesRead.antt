@@ -7,12 +7,12 @@ use Rattle.addr_text.specs.Times.{units, longest_time}
 use Rattle.addr_text.specs.ValuesRead.{◌>>=◌}
 
 -- a byte that is no decimal digit
-abbrev pub is_letter : ℕ → Bool
-is_letter byte = not (is_digit byte 10)
+abbrev pub is_no_digit : ℕ → Bool
+is_no_digit byte = not (is_digit byte 10)
 
 -- how many bytes there are before the first digit
 abbrev pub letters_len : List ℕ → ℕ
-letters_len text = prefix_len is_letter text
+letters_len text = prefix_len is_no_digit text
 
 -- a count, what stands between it and the next digit, and the text from there on
 pub record TimePart : Type 0 where
@@ -25,26 +25,26 @@ abbrev pub part_with : ℕ → List ℕ → TimePart
 part_with count text = record { count = count; name = take (letters_len text) text; behind = drop (letters_len text) text }
 
 -- the first count of a text, with its unit
-unfoldable pub part_of : List ℕ → Option TimePart
-part_of text = do
+unfoldable pub time_part : List ℕ → Option TimePart
+time_part text = do
   n ← read_number 10 999_999_999_999_999 text
   if nat_lt 15 n.1 then None else Some (part_with n.0 (drop n.1 text))
 
 -- the parts of these units, with those before them
-unfoldable pub parts_of : List (List ℕ × ℕ) → ℕ → List ℕ → Option ℕ
-parts_of [] total text = if length text == 0 then Some total else None
-parts_of (unit ∷ units) total text = elim (part_of text) [
-  | None ↦ parts_of units total text
+unfoldable pub time_parts : List (List ℕ × ℕ) → ℕ → List ℕ → Option ℕ
+time_parts [] total text = if length text == 0 then Some total else None
+time_parts (unit ∷ units) total text = elim (time_part text) [
+  | None ↦ time_parts units total text
   | Some part ↦
-      if bytes_eq part.name unit.0 then parts_of units (total + part.count * unit.1) part.behind
-      else parts_of units total text
+      if bytes_eq part.name unit.0 then time_parts units (total + part.count * unit.1) part.behind
+      else time_parts units total text
 ]
 
 -- seconds, or parts
 unfoldable pub duration_of : List ℕ → Option ℕ
 duration_of text = do
-  part ← part_of text
-  if length part.name == 0 then Some (part.count * 1_000) else parts_of units 0 text
+  part ← time_part text
+  if length part.name == 0 then Some (part.count * 1_000) else time_parts units 0 text
 
 -- the time that the text stands for
 unfoldable pub time_of : List ℕ → Option ℕ

@@ -35,8 +35,8 @@ abbrev pub fixed_bits : ℕ → ℕ → ℕ
 fixed_bits bits spread = bits - (128 - leading_zeros w128 spread)
 
 -- The interval is a whole block of its kind's values (see the law of blocks for what that means).
-abbrev pub is_block : Kind → Interval → Bool
-is_block kind part =
+abbrev pub is_whole_block : Kind → Interval → Bool
+is_whole_block kind part =
     let block = block_of (bits_of kind) (fixed_bits (bits_of kind) (part.high - part.low)) part.low in
     (part.low == block.low) && (part.high == block.high)
 
@@ -65,11 +65,11 @@ range_text kind part = value_text kind part.low ++ (codes "-" ++ value_text kind
 unfoldable pub interval_text : Kind → Interval → List ℕ
 interval_text kind part =
     if part.low == part.high then value_text kind part.low
-    else (if is_address kind && is_block kind part then block_text kind part else range_text kind part)
+    else (if is_address kind && is_whole_block kind part then block_text kind part else range_text kind part)
 
 -- each unit with how many of it a time has, hours below 24, minutes and seconds below 60, milliseconds below 1000
-abbrev pub counts : ℕ → List (ℕ × List ℕ)
-counts ms =
+abbrev pub unit_counts : ℕ → List (ℕ × List ℕ)
+unit_counts ms =
     (ms / 86_400_000, codes "d")
     ∷ (ms / 3_600_000 % 24, codes "h")
     ∷ (ms / 60_000 % 60, codes "m")
@@ -83,7 +83,7 @@ count_text c = if c.0 == 0 then [] else decimal c.0 ++ c.1
 
 -- a time: its units that aren't 0, and `0s` for no time
 unfoldable pub time_text : ℕ → List ℕ
-time_text ms = if ms == 0 then codes "0s" else flat_map count_text (counts ms)
+time_text ms = if ms == 0 then codes "0s" else flat_map count_text (unit_counts ms)
 
 -- the counts that the program makes of a time, as counts and units
 abbrev pub count_views : List Count → List (ℕ × List ℕ)

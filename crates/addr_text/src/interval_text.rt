@@ -2,7 +2,7 @@ ghost use Rattle.std.specs.Prelude.{ℕ, ◌≡◌, ◌↔◌, ◌++◌, ◌-◌
 ghost use Rattle.set_model.specs.Key.{is_value, is_good};
 ghost use Rattle.set_model.specs.Kind.{bits_of};
 ghost use Rattle.addr_text.specs.Intervals.{block_of, IsInterval};
-ghost use Rattle.addr_text.specs.Written.{fixed_bits, is_block, IsBlock, is_address, value_text, block_text, range_text, interval_text};
+ghost use Rattle.addr_text.specs.Written.{fixed_bits, is_whole_block, IsBlock, is_address, value_text, block_text, range_text, interval_text};
 
 use crate::append::{append, append_display, cut_at_error};
 use crate::interval::block;
@@ -29,7 +29,7 @@ fn fixed_bits(bits: u32, spread: u128) -> u32
 /// Whether an interval is a whole block of its kind's values.
 fn is_block(kind: Kind, part: Interval) -> bool
     requires { IsTrue (is_good kind part) }
-    ensures { result ≡ is_block kind part }
+    ensures { result ≡ is_whole_block kind part }
 {
     let bits = kind.bits();
     let whole = block(bits, fixed_bits(bits, part.high - part.low), part.low);
@@ -112,5 +112,5 @@ pub fn written_interval_law(_kind: Kind, _part: Interval)
 /// bits.
 pub fn block_law(_kind: Kind, _part: Interval)
     requires { IsTrue (is_good _kind _part) }
-    ensures { IsTrue (is_block _kind _part) ↔ IsBlock _kind _part }
+    ensures { IsTrue (is_whole_block _kind _part) ↔ IsBlock _kind _part }
 {}

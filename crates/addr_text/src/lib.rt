@@ -1,4 +1,12 @@
 //! Addresses, ports, protocols, marks, intervals and times as text.
+//!
+//! [`read_value`], [`read_interval`] and [`read_time`] take exactly the texts of the formats and give
+//! the one thing that each stands for. [`write_value`], [`write_interval`] and [`write_time`] append
+//! the written text, and what is written is read back as the same.
+//!
+//! **Definitions:** `specs/Values.antt`, `Intervals.antt`, `Times.antt`, `Numbers.antt` and
+//! `Protocols.antt` have the texts, `ValuesRead.antt`, `IntervalsRead.antt` and `TimesRead.antt` the
+//! same computed, and `Written.antt` what is written. docs/formats.md tells them.
 #![tactic(auto)]
 
 mod append;

@@ -2,7 +2,7 @@ ghost use Rattle.std.specs.Prelude.{ℕ, List, ◌∷◌, ◌+◌, ◌≡◌, �
 ghost use Rattle.std.specs.Option.{ok_or};
 ghost use Rattle.std.specs.Net.Grammar.{Parses};
 ghost use Rattle.addr_text.specs.Times.{IsTime, longest_time};
-ghost use Rattle.addr_text.specs.TimesRead.{letters_len, part_of, parts_of, duration_of, time_of};
+ghost use Rattle.addr_text.specs.TimesRead.{letters_len, time_part, time_parts, duration_of, time_of};
 ghost use Rattle.addr_text.specs.TimesView.{part_view, unit_views, IsAhead};
 ghost use Rattle.addr_text.specs.ValuesRead.{bad_value};
 
@@ -63,9 +63,9 @@ fn letters_len(text: &[u8]) -> usize
 }
 
 /// The first count of a text, with its unit.
-#[tactic(auto, unfolding(crate::specs::TimesRead::part_of))]
+#[tactic(auto, unfolding(crate::specs::TimesRead::time_part))]
 fn first_part(text: &[u8]) -> Option<Part<'_>>
-    ensures { option_map part_view result ≡ part_of text.now }
+    ensures { option_map part_view result ≡ time_part text.now }
 {
     let (count, len) = leading_number(text, 10, LARGEST_COUNT)?;
     if len > 15 {
@@ -90,14 +90,14 @@ struct Reading<'a> {
 
 /// Takes the part that comes next, where it is one of the unit.
 fn take_part<'a>(reading: Reading<'a>, part: Part<'a>, unit: &Unit) -> Reading<'a>
-    requires next { part_of reading.rest.now ≡ Some (part_view part) }
+    requires next { time_part reading.rest.now ≡ Some (part_view part) }
     requires ahead { IsAhead reading }
     requires room { reading.total ≤ 2 ^ 124 }
     ensures ahead { IsAhead result }
     ensures bound { result.total ≤ reading.entry.total + 2 ^ 96 }
     ensures step { (units : List (List ℕ × ℕ)) →
-        parts_of ((unit.now.name.now, unit.now.ms) ∷ units) reading.entry.total reading.entry.rest.now
-        ≡ parts_of units result.total result.rest.now }
+        time_parts ((unit.now.name.now, unit.now.ms) ∷ units) reading.entry.total reading.entry.rest.now
+        ≡ time_parts units result.total result.rest.now }
 {
     if part.name == unit.name {
         Reading {
@@ -117,8 +117,8 @@ fn read_unit<'a>(reading: Reading<'a>, unit: &Unit) -> Reading<'a>
     ensures ahead { IsAhead result }
     ensures bound { result.total ≤ reading.entry.total + 2 ^ 96 }
     ensures step { (units : List (List ℕ × ℕ)) →
-        parts_of ((unit.now.name.now, unit.now.ms) ∷ units) reading.entry.total reading.entry.rest.now
-        ≡ parts_of units result.total result.rest.now }
+        time_parts ((unit.now.name.now, unit.now.ms) ∷ units) reading.entry.total reading.entry.rest.now
+        ≡ time_parts units result.total result.rest.now }
 {
     match reading.part {
         Some(part) => take_part(reading, part, unit),
@@ -128,9 +128,9 @@ fn read_unit<'a>(reading: Reading<'a>, unit: &Unit) -> Reading<'a>
 
 /// The milliseconds of the parts of a text.
 fn parts(units: &[Unit], text: &[u8], first: Option<Part<'_>>) -> Option<u128>
-    requires first { option_map part_view first ≡ part_of text.now }
+    requires first { option_map part_view first ≡ time_part text.now }
     requires few { length units.now ≤ 8 }
-    ensures { result ≡ parts_of (unit_views units.now) 0 text.now }
+    ensures { result ≡ time_parts (unit_views units.now) 0 text.now }
 {
     let mut reading = Reading {
         total: 0,

@@ -1,6 +1,6 @@
 ghost use Rattle.std.specs.Prelude.{ℕ, ◌≡◌, ◌≤◌, ◌++◌, ◌∷◌, [], ◌/◌, ◌%◌, OnOk, OnErr, decimal, flat_map};
 ghost use Rattle.addr_text.specs.Times.{IsTime, longest_time};
-ghost use Rattle.addr_text.specs.Written.{counts, count_text, count_views, time_text};
+ghost use Rattle.addr_text.specs.Written.{unit_counts, count_text, count_views, time_text};
 
 use crate::append::{append, append_display, cut_at_error};
 use set_model::Memory;

@@ -8,7 +8,7 @@ use Rattle.std.proofs.lemmas.List.FromFn.{length-map-range_with_len, get_or-map-
 use Rattle.std.proofs.lemmas.Nat.Bits.{bit_at_and, bit_at_or, bit_at-lt, bit_at-zero, bit_at_ones, bit_at_ones_above, bit_at_mask_inside, bit_at_mask_below, ones_shr, ones_shl, bit_at-trailing_zeros, shr_and_one, bit_at_above, bit_at_cat_low, bit_at_cat_high}
 use Rattle.std.proofs.lemmas.Nat.{shr-shr, one_shl, div-add-mod', pow_pos}
 use Rattle.bit_rows.specs.Row.{bit, at}
-use Rattle.bit_rows.specs.Words.{place, bits_of, IsRow}
+use Rattle.bit_rows.specs.Words.{bit_in, first_bits, IsRow}
 
 -- ---- one word
 
@@ -108,25 +108,25 @@ is_set-bit word k = ap (λ x. x == 1) (shr_and_one word k)
 
 -- ---- places over words
 
-pub place-at : (words : List ℕ) (w k : ℕ) → k < 64 → place words (64 * w + k) ≡ bit (get_or words w 0) k
-unfolding place
+pub place-at : (words : List ℕ) (w k : ℕ) → k < 64 → bit_in words (64 * w + k) ≡ bit (get_or words w 0) k
+unfolding bit_in
 place-at words w k h =
     let a : (64 * w + k) / 64 ≡ w = omega arith in
     let b : (64 * w + k) % 64 ≡ k = omega arith in
     rw (a, b)
 
-pub place-is : (words : List ℕ) (i : ℕ) → place words i ≡ bit (get_or words (i / 64) 0) (i % 64)
-unfolding place
+pub place-is : (words : List ℕ) (i : ℕ) → bit_in words i ≡ bit (get_or words (i / 64) 0) (i % 64)
+unfolding bit_in
 place-is words i = refl
 
-pub place-past : (words : List ℕ) (i : ℕ) → 64 * length words ≤ i → place words i ≡ false
+pub place-past : (words : List ℕ) (i : ℕ) → 64 * length words ≤ i → bit_in words i ≡ false
 place-past words i h =
     place-is words i ∙ ap (λ w. bit w (i % 64)) (get_or_past words (i / 64) 0 (omega arith)) ∙ bit-zero (i % 64)
 
-pub place-append_low : (xs ys : List ℕ) (i : ℕ) → i < 64 * length xs → place (xs ++ ys) i ≡ place xs i
+pub place-append_low : (xs ys : List ℕ) (i : ℕ) → i < 64 * length xs → bit_in (xs ++ ys) i ≡ bit_in xs i
 place-append_low xs ys i h = place-is (xs ++ ys) i ∙ ap (λ w. bit w (i % 64)) (get_or_append_left xs ys 0 (i / 64) (omega arith)) ∙ sym (place-is xs i)
 
-pub place-append_high : (xs ys : List ℕ) (i : ℕ) → 64 * length xs ≤ i → place (xs ++ ys) i ≡ place ys (i - 64 * length xs)
+pub place-append_high : (xs ys : List ℕ) (i : ℕ) → 64 * length xs ≤ i → bit_in (xs ++ ys) i ≡ bit_in ys (i - 64 * length xs)
 place-append_high xs ys i h =
     let word : i / 64 - length xs ≡ (i - 64 * length xs) / 64 = omega arith in
     let bit_is : i % 64 ≡ (i - 64 * length xs) % 64 = omega arith in
@@ -135,25 +135,25 @@ place-append_high xs ys i h =
 
 -- ---- the list over the words
 
-pub length-bits : (words : List ℕ) (len : ℕ) → length (bits_of words len) ≡ len
-unfolding bits_of
-length-bits words len = length-map-range_with_len (place words) 0 len
+pub length-bits : (words : List ℕ) (len : ℕ) → length (first_bits words len) ≡ len
+unfolding first_bits
+length-bits words len = length-map-range_with_len (bit_in words) 0 len
 
-pub bits-at : (words : List ℕ) (len i : ℕ) → i < len → at (bits_of words len) i ≡ place words i
-unfolding bits_of
-bits-at words len i h = get_or-map-range_with_len (place words) 0 len i i false h (omega arith)
+pub bits-at : (words : List ℕ) (len i : ℕ) → i < len → at (first_bits words len) i ≡ bit_in words i
+unfolding first_bits
+bits-at words len i h = get_or-map-range_with_len (bit_in words) 0 len i i false h (omega arith)
 
 -- where the places from len on are clear, the list reads as the words at every place
-pub bits-read : (words : List ℕ) (len : ℕ) → IsRow words len → (i : ℕ) → at (bits_of words len) i ≡ place words i
+pub bits-read : (words : List ℕ) (len : ℕ) → IsRow words len → (i : ℕ) → at (first_bits words len) i ≡ bit_in words i
 bits-read words len row i = elim (cases_lt i len) [
   | inl h ↦ bits-at words len i h
-  | inr h ↦ get_or_past (bits_of words len) i false (omega (arith, length-bits words len)) ∙ sym (row.clear i h)
+  | inr h ↦ get_or_past (first_bits words len) i false (omega (arith, length-bits words len)) ∙ sym (row.clear i h)
 ]
 
 -- a list that reads as the words do is the list over the words
-pub bits-same : (words : List ℕ) (len : ℕ) (xs : List Bool) → length xs ≡ len → ((i : ℕ) → i < len → place words i ≡ at xs i) → bits_of words len ≡ xs
+pub bits-same : (words : List ℕ) (len : ℕ) (xs : List Bool) → length xs ≡ len → ((i : ℕ) → i < len → bit_in words i ≡ at xs i) → first_bits words len ≡ xs
 bits-same words len xs l same =
-    ext_get_or false (bits_of words len) xs (length-bits words len ∙ sym l)
+    ext_get_or false (first_bits words len) xs (length-bits words len ∙ sym l)
     (λ i h. let within : i < len = omega (arith, length-bits words len) in bits-at words len i within ∙ same i within)
 
 pub ruleset words = (mask-bit, is_set-bit)

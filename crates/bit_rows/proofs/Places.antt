@@ -3,7 +3,7 @@ use Rattle.std.proofs.Common.{◌≡◌, refl, sym, ◌∙◌, ap, ℕ, ◌+◌,
 use Rattle.std.proofs.lemmas.Bool.{cases_lt, cases_eq, cond-true, cond-false, lt-ltb, le-ltb, le-leb, lt-leb, leb-true}
 use Rattle.std.proofs.lemmas.List.{get_or-set_same, get_or-set_other}
 use Rattle.bit_rows.specs.Row.{bit, lies}
-use Rattle.bit_rows.specs.Words.{place, IsNextPlace, IsWritten}
+use Rattle.bit_rows.specs.Words.{bit_in, IsNextPlace, IsWritten}
 use Rattle.bit_rows.proofs.Tests.{and-true, or-false, both-same, either-same, cond-or, lies-in, lies-below, lies-above, by-run, lies-join, lies-words}
 use Rattle.bit_rows.proofs.Bits.{place-is, place-at, bit-and, bit-or, bit-zero, bit-ones, bit-shr, bit-shl, bit-above, bit-low_ones, bit-shifted_ones}
 
@@ -14,11 +14,11 @@ cond-bit true a b k = refl
 cond-bit false a b k = refl
 
 written-place : (f : ℕ → ℕ) (from to : ℕ) (old new : List ℕ) (i : ℕ) → IsWritten f from to old new
-    → place new i ≡ cond (lies (64 * from) (64 * to) i) (bit (f (i / 64)) (i % 64)) (place old i)
+    → bit_in new i ≡ cond (lies (64 * from) (64 * to) i) (bit (f (i / 64)) (i % 64)) (bit_in old i)
 written-place f from to old new i w =
     place-is new i ∙ ap (λ x. bit x (i % 64)) (w.word (i / 64)) ∙ cond-bit _ (f (i / 64)) (get_or old (i / 64) 0) (i % 64)
     ∙ ap (λ b. cond (lies from to (i / 64)) (bit (f (i / 64)) (i % 64)) b) (sym (place-is old i))
-    ∙ ap (λ t. cond t (bit (f (i / 64)) (i % 64)) (place old i)) (lies-words from to i)
+    ∙ ap (λ t. cond t (bit (f (i / 64)) (i % 64)) (bit_in old i)) (lies-words from to i)
 
 -- words that are all ones or all zeros
 filled-bit : (bit_value : Bool) (k : ℕ) → k < 64 → bit (cond bit_value (2 ^ 64 - 1) 0) k ≡ bit_value
@@ -26,45 +26,45 @@ filled-bit true k h = bit-ones 64 k ∙ lt-ltb k 64 h
 filled-bit false k h = bit-zero k
 
 pub filled-places : (value : Bool) (word from to : ℕ) (old new : List ℕ) → word ≡ cond value (2 ^ 64 - 1) 0 → IsWritten (λ _. word) from to old new → (i : ℕ)
-    → place new i ≡ cond (lies (64 * from) (64 * to) i) value (place old i)
+    → bit_in new i ≡ cond (lies (64 * from) (64 * to) i) value (bit_in old i)
 filled-places value word from to old new e w i =
     written-place (λ _. word) from to old new i w
-    ∙ ap (λ t. cond (lies (64 * from) (64 * to) i) t (place old i)) (ap (λ x. bit x (i % 64)) e ∙ filled-bit value (i % 64) (omega arith))
+    ∙ ap (λ t. cond (lies (64 * from) (64 * to) i) t (bit_in old i)) (ap (λ x. bit x (i % 64)) e ∙ filled-bit value (i % 64) (omega arith))
 
 -- words that an operation made, which acts on each bit
 pub zipped-places : (op : ℕ → ℕ → ℕ) (test : Bool → Bool → Bool) (old other new : List ℕ) (n : ℕ) → ((a b k : ℕ) → bit (op a b) k ≡ test (bit a k) (bit b k))
     → IsWritten (λ k. op (get_or old k 0) (get_or other k 0)) 0 n old new → (i : ℕ)
-    → place new i ≡ cond (nat_lt i (64 * n)) (test (place old i) (place other i)) (place old i)
+    → bit_in new i ≡ cond (nat_lt i (64 * n)) (test (bit_in old i) (bit_in other i)) (bit_in old i)
 zipped-places op test old other new n each w i =
     written-place (λ k. op (get_or old k 0) (get_or other k 0)) 0 n old new i w
-    ∙ ap (λ t. cond (t && nat_lt i (64 * n)) (bit (op (get_or old (i / 64) 0) (get_or other (i / 64) 0)) (i % 64)) (place old i)) (le-leb 0 i (omega arith))
-    ∙ ap (λ t. cond (nat_lt i (64 * n)) t (place old i)) (each (get_or old (i / 64) 0) (get_or other (i / 64) 0) (i % 64) ∙ two (sym (place-is old i)) (sym (place-is other i))) where
+    ∙ ap (λ t. cond (t && nat_lt i (64 * n)) (bit (op (get_or old (i / 64) 0) (get_or other (i / 64) 0)) (i % 64)) (bit_in old i)) (le-leb 0 i (omega arith))
+    ∙ ap (λ t. cond (nat_lt i (64 * n)) t (bit_in old i)) (each (get_or old (i / 64) 0) (get_or other (i / 64) 0) (i % 64) ∙ two (sym (place-is old i)) (sym (place-is other i))) where
       two : {p q r t : Bool} → p ≡ q → r ≡ t → test p r ≡ test q t
       two x y = cc
 
 -- ---- one word
 
-place-set-same : (words : List ℕ) (w v i : ℕ) → w < length words → i / 64 ≡ w → place (set words w v) i ≡ bit v (i % 64)
+place-set-same : (words : List ℕ) (w v i : ℕ) → w < length words → i / 64 ≡ w → bit_in (set words w v) i ≡ bit v (i % 64)
 place-set-same words w v i within e = place-is (set words w v) i ∙ ap (λ k. bit (get_or (set words w v) k 0) (i % 64)) e ∙ ap (λ x. bit x (i % 64)) (get_or-set_same words w v 0 within)
 
-place-set-other : (words : List ℕ) (w v i : ℕ) → i / 64 ≢ w → place (set words w v) i ≡ place words i
+place-set-other : (words : List ℕ) (w v i : ℕ) → i / 64 ≢ w → bit_in (set words w v) i ≡ bit_in words i
 place-set-other words w v i e = place-is (set words w v) i ∙ ap (λ x. bit x (i % 64)) (get_or-set_other words w (i / 64) v 0 e) ∙ sym (place-is words i)
 
 -- clearing one word
-pub word-cleared : (words : List ℕ) (w : ℕ) → w < length words → (i : ℕ) → place (set words w 0) i ≡ cond (lies (64 * w) (64 * (w + 1)) i) false (place words i)
-word-cleared words w within i = by-run (64 * w) (64 * (w + 1)) i (λ t. place (set words w 0) i ≡ cond t false (place words i))
+pub word-cleared : (words : List ℕ) (w : ℕ) → w < length words → (i : ℕ) → bit_in (set words w 0) i ≡ cond (lies (64 * w) (64 * (w + 1)) i) false (bit_in words i)
+word-cleared words w within i = by-run (64 * w) (64 * (w + 1)) i (λ t. bit_in (set words w 0) i ≡ cond t false (bit_in words i))
     (λ h l. place-set-same words w 0 i within (omega arith) ∙ bit-zero (i % 64)) (λ h. place-set-other words w 0 i (omega arith)) (λ h. place-set-other words w 0 i (omega arith))
 
 -- writing over one word
-pub word-put : (words : List ℕ) (w word : ℕ) → w < length words → (i : ℕ) → place (set words w word) i ≡ cond (lies (64 * w) (64 * (w + 1)) i) (bit word (i - 64 * w)) (place words i)
-word-put words w word within i = by-run (64 * w) (64 * (w + 1)) i (λ t. place (set words w word) i ≡ cond t (bit word (i - 64 * w)) (place words i))
+pub word-put : (words : List ℕ) (w word : ℕ) → w < length words → (i : ℕ) → bit_in (set words w word) i ≡ cond (lies (64 * w) (64 * (w + 1)) i) (bit word (i - 64 * w)) (bit_in words i)
+word-put words w word within i = by-run (64 * w) (64 * (w + 1)) i (λ t. bit_in (set words w word) i ≡ cond t (bit word (i - 64 * w)) (bit_in words i))
     (λ h l. let e : i % 64 ≡ i - 64 * w = omega arith in place-set-same words w word i within (omega arith) ∙ ap (bit word) e)
     (λ h. place-set-other words w word i (omega arith)) (λ h. place-set-other words w word i (omega arith))
 
 -- setting bits of the one word that holds the places from a up to b
 pub set-in-word : (words : List ℕ) (a b v m : ℕ) → a < b → b ≤ 64 * length words → (b - 1) / 64 ≡ a / 64 → v ≡ bit_or (get_or words (a / 64) 0) m
     → ((k : ℕ) → k < 64 → bit m k ≡ lies (a % 64) ((b - 1) % 64 + 1) k)
-    → (i : ℕ) → place (set words (a / 64) v) i ≡ (place words i || lies a b i)
+    → (i : ℕ) → bit_in (set words (a / 64) v) i ≡ (bit_in words i || lies a b i)
 set-in-word words a b v m some within one e mask i = go (cases_eq (i / 64) (a / 64)) where
   front : i / 64 ≡ a / 64 → nat_le (a % 64) (i % 64) ≡ nat_le a i
   front h = elim (cases_lt i a) [
@@ -84,12 +84,12 @@ set-in-word words a b v m some within one e mask i = go (cases_eq (i / 64) (a / 
     | inr l ↦ lies-above a b i (omega arith)
   ]
 
-  go : (i / 64 ≡ a / 64) ⊎ (i / 64 ≢ a / 64) → place (set words (a / 64) v) i ≡ (place words i || lies a b i)
+  go : (i / 64 ≡ a / 64) ⊎ (i / 64 ≢ a / 64) → bit_in (set words (a / 64) v) i ≡ (bit_in words i || lies a b i)
   go (inl h) =
       place-set-same words (a / 64) v i (omega arith) h ∙ ap (λ x. bit x (i % 64)) e ∙ bit-or (get_or words (a / 64) 0) m (i % 64)
       ∙ ap (λ t. bit (get_or words (a / 64) 0) (i % 64) || t) (mask (i % 64) (omega arith) ∙ both-same (front h) (back h))
       ∙ ap (λ t. t || lies a b i) (sym (place-is words i ∙ ap (λ k. bit (get_or words k 0) (i % 64)) h))
-  go (inr h) = place-set-other words (a / 64) v i h ∙ sym (or-false (place words i) (lies a b i) (outside h))
+  go (inr h) = place-set-other words (a / 64) v i h ∙ sym (or-false (bit_in words i) (lies a b i) (outside h))
 
 -- ---- 64 places from anywhere
 
@@ -113,19 +113,19 @@ joined-bits low high by k within h =
 -- two words in a row have the 64 places from `from` on
 pub joined-places : (words : List ℕ) (from w by k v : ℕ) → from ≡ 64 * w + by → by < 64 → k < 64 → get_or words w 0 < 2 ^ 64
     → bit v k ≡ (bit (get_or words w 0) (by + k) || (nat_le 64 (by + k) && bit (get_or words (w + 1) 0) (by + k - 64)))
-    → bit v k ≡ place words (from + k)
+    → bit v k ≡ bit_in words (from + k)
 joined-places words from w by k v start small h fits e = e ∙ go (cases_lt (by + k) 64) where
   go : (by + k < 64) ⊎ (64 ≤ by + k)
-      → (bit (get_or words w 0) (by + k) || (nat_le 64 (by + k) && bit (get_or words (w + 1) 0) (by + k - 64))) ≡ place words (from + k)
+      → (bit (get_or words w 0) (by + k) || (nat_le 64 (by + k) && bit (get_or words (w + 1) 0) (by + k - 64))) ≡ bit_in words (from + k)
   go (inl l) =
       let at : from + k ≡ 64 * w + (by + k) = omega arith in
       or-false _ _ (ap (λ t. t && bit (get_or words (w + 1) 0) (by + k - 64)) (lt-leb 64 (by + k) l))
-      ∙ sym (ap (place words) at ∙ place-at words w (by + k) l)
+      ∙ sym (ap (bit_in words) at ∙ place-at words w (by + k) l)
   go (inr l) =
       let at : from + k ≡ 64 * (w + 1) + (by + k - 64) = omega arith in
       ap (λ t. t || (nat_le 64 (by + k) && bit (get_or words (w + 1) 0) (by + k - 64))) (bit-above (get_or words w 0) (by + k) fits l)
       ∙ ap (λ t. t && bit (get_or words (w + 1) 0) (by + k - 64)) (le-leb 64 (by + k) l)
-      ∙ sym (ap (place words) at ∙ place-at words (w + 1) (by + k - 64) (omega arith))
+      ∙ sym (ap (bit_in words) at ∙ place-at words (w + 1) (by + k - 64) (omega arith))
 
 pub merged-bits : (a b low k : ℕ) → low < 64 → k < 64
     → bit (bit_or (bit_and a (1 * 2 ^ low % 2 ^ 64 - 1)) (bit_and b ((2 ^ 64 - 1) * 2 ^ low % 2 ^ 64))) k ≡ cond (nat_lt k low) (bit a k) (bit b k)
@@ -150,65 +150,65 @@ merged-bits a b low k h small =
 
 -- from `from` up to word w each place is what was n further on
 pub record IsClosed (old : List ℕ) (from n w : ℕ) (words : List ℕ) : Type 0 where
-  pub at : (i : ℕ) → place words i ≡ cond (lies from (64 * w) i) (place old (i + n)) (place old i)
+  pub at : (i : ℕ) → bit_in words i ≡ cond (lies from (64 * w) i) (bit_in old (i + n)) (bit_in old i)
 
-closed-by : (old : List ℕ) (from n w : ℕ) (words : List ℕ) → ((i : ℕ) → from ≤ i → i < 64 * w → place words i ≡ place old (i + n))
-    → ((i : ℕ) → i < from → place words i ≡ place old i) → ((i : ℕ) → 64 * w ≤ i → place words i ≡ place old i) → IsClosed old from n w words
+closed-by : (old : List ℕ) (from n w : ℕ) (words : List ℕ) → ((i : ℕ) → from ≤ i → i < 64 * w → bit_in words i ≡ bit_in old (i + n))
+    → ((i : ℕ) → i < from → bit_in words i ≡ bit_in old i) → ((i : ℕ) → 64 * w ≤ i → bit_in words i ≡ bit_in old i) → IsClosed old from n w words
 closed-by old from n w words inside below above = record {
-  at = λ i. by-run from (64 * w) i (λ t. place words i ≡ cond t (place old (i + n)) (place old i)) (inside i) (below i) (above i);
+  at = λ i. by-run from (64 * w) i (λ t. bit_in words i ≡ cond t (bit_in old (i + n)) (bit_in old i)) (inside i) (below i) (above i);
 }
 
-closed-in : (old : List ℕ) (from n w i : ℕ) (words : List ℕ) → IsClosed old from n w words → from ≤ i → i < 64 * w → place words i ≡ place old (i + n)
-closed-in old from n w i words closed h l = closed.at i ∙ cond-true _ (place old (i + n)) (place old i) (lies-in from (64 * w) i h l)
+closed-in : (old : List ℕ) (from n w i : ℕ) (words : List ℕ) → IsClosed old from n w words → from ≤ i → i < 64 * w → bit_in words i ≡ bit_in old (i + n)
+closed-in old from n w i words closed h l = closed.at i ∙ cond-true _ (bit_in old (i + n)) (bit_in old i) (lies-in from (64 * w) i h l)
 
-closed-below : (old : List ℕ) (from n w i : ℕ) (words : List ℕ) → IsClosed old from n w words → i < from → place words i ≡ place old i
-closed-below old from n w i words closed h = closed.at i ∙ cond-false _ (place old (i + n)) (place old i) (lies-below from (64 * w) i h)
+closed-below : (old : List ℕ) (from n w i : ℕ) (words : List ℕ) → IsClosed old from n w words → i < from → bit_in words i ≡ bit_in old i
+closed-below old from n w i words closed h = closed.at i ∙ cond-false _ (bit_in old (i + n)) (bit_in old i) (lies-below from (64 * w) i h)
 
-closed-above : (old : List ℕ) (from n w i : ℕ) (words : List ℕ) → IsClosed old from n w words → 64 * w ≤ i → place words i ≡ place old i
-closed-above old from n w i words closed h = closed.at i ∙ cond-false _ (place old (i + n)) (place old i) (lies-above from (64 * w) i h)
+closed-above : (old : List ℕ) (from n w i : ℕ) (words : List ℕ) → IsClosed old from n w words → 64 * w ≤ i → bit_in words i ≡ bit_in old i
+closed-above old from n w i words closed h = closed.at i ∙ cond-false _ (bit_in old (i + n)) (bit_in old i) (lies-above from (64 * w) i h)
 
 -- the first word keeps what is below `from`
 pub closed-start : (old : List ℕ) (from n v : ℕ) → from / 64 < length old
-    → ((k : ℕ) → k < 64 → bit v k ≡ cond (nat_lt k (from % 64)) (bit (get_or old (from / 64) 0) k) (place old (from / 64 * 64 + n + k)))
+    → ((k : ℕ) → k < 64 → bit v k ≡ cond (nat_lt k (from % 64)) (bit (get_or old (from / 64) 0) k) (bit_in old (from / 64 * 64 + n + k)))
     → IsClosed old from n (from / 64 + 1) (set old (from / 64) v)
 closed-start old from n v within made = closed-by old from n (from / 64 + 1) (set old (from / 64) v) inside (λ i h. below i h (cases_eq (i / 64) (from / 64))) above where
-  inside : (i : ℕ) → from ≤ i → i < 64 * (from / 64 + 1) → place (set old (from / 64) v) i ≡ place old (i + n)
+  inside : (i : ℕ) → from ≤ i → i < 64 * (from / 64 + 1) → bit_in (set old (from / 64) v) i ≡ bit_in old (i + n)
   inside i h l =
       let far : from / 64 * 64 + n + i % 64 ≡ i + n = omega arith in
       place-set-same old (from / 64) v i within (omega arith) ∙ made (i % 64) (omega arith)
-      ∙ cond-false _ _ (place old (from / 64 * 64 + n + i % 64)) (le-ltb (i % 64) (from % 64) (omega arith)) ∙ ap (place old) far
+      ∙ cond-false _ _ (bit_in old (from / 64 * 64 + n + i % 64)) (le-ltb (i % 64) (from % 64) (omega arith)) ∙ ap (bit_in old) far
 
-  below : (i : ℕ) → i < from → (i / 64 ≡ from / 64) ⊎ (i / 64 ≢ from / 64) → place (set old (from / 64) v) i ≡ place old i
+  below : (i : ℕ) → i < from → (i / 64 ≡ from / 64) ⊎ (i / 64 ≢ from / 64) → bit_in (set old (from / 64) v) i ≡ bit_in old i
   below i h (inl e) =
       place-set-same old (from / 64) v i within e ∙ made (i % 64) (omega arith)
       ∙ cond-true _ (bit (get_or old (from / 64) 0) (i % 64)) _ (lt-ltb (i % 64) (from % 64) (omega arith))
       ∙ ap (λ w. bit (get_or old w 0) (i % 64)) (sym e) ∙ sym (place-is old i)
   below i h (inr e) = place-set-other old (from / 64) v i e
 
-  above : (i : ℕ) → 64 * (from / 64 + 1) ≤ i → place (set old (from / 64) v) i ≡ place old i
+  above : (i : ℕ) → 64 * (from / 64 + 1) ≤ i → bit_in (set old (from / 64) v) i ≡ bit_in old i
   above i h = place-set-other old (from / 64) v i (omega arith)
 
 -- one word more
 pub closed-more : (old : List ℕ) (from n w v : ℕ) (words : List ℕ) → from ≤ 64 * w → w < length words → IsClosed old from n w words
-    → ((k : ℕ) → k < 64 → bit v k ≡ place words (w * 64 + n + k)) → IsClosed old from n (w + 1) (set words w v)
+    → ((k : ℕ) → k < 64 → bit v k ≡ bit_in words (w * 64 + n + k)) → IsClosed old from n (w + 1) (set words w v)
 closed-more old from n w v words low within so_far made = closed-by old from n (w + 1) (set words w v) (λ i h l. inside i h l (cases_lt i (64 * w))) below above where
-  inside : (i : ℕ) → from ≤ i → i < 64 * (w + 1) → (i < 64 * w) ⊎ (64 * w ≤ i) → place (set words w v) i ≡ place old (i + n)
+  inside : (i : ℕ) → from ≤ i → i < 64 * (w + 1) → (i < 64 * w) ⊎ (64 * w ≤ i) → bit_in (set words w v) i ≡ bit_in old (i + n)
   inside i h l (inl before) = place-set-other words w v i (omega arith) ∙ closed-in old from n w i words so_far h before
   inside i h l (inr now) =
       let far : w * 64 + n + i % 64 ≡ i + n = omega arith in
-      place-set-same words w v i within (omega arith) ∙ made (i % 64) (omega arith) ∙ ap (place words) far ∙ closed-above old from n w (i + n) words so_far (omega arith)
+      place-set-same words w v i within (omega arith) ∙ made (i % 64) (omega arith) ∙ ap (bit_in words) far ∙ closed-above old from n w (i + n) words so_far (omega arith)
 
-  below : (i : ℕ) → i < from → place (set words w v) i ≡ place old i
+  below : (i : ℕ) → i < from → bit_in (set words w v) i ≡ bit_in old i
   below i h = place-set-other words w v i (omega arith) ∙ closed-below old from n w i words so_far h
 
-  above : (i : ℕ) → 64 * (w + 1) ≤ i → place (set words w v) i ≡ place old i
+  above : (i : ℕ) → 64 * (w + 1) ≤ i → bit_in (set words w v) i ≡ bit_in old i
   above i h = place-set-other words w v i (omega arith) ∙ closed-above old from n w i words so_far (omega arith)
 
 -- ---- the next set place
 
 -- no place is set from `from` up to word w
 pub record IsNoneUpTo (words : List ℕ) (from w : ℕ) : Type 0 where
-  pub none : (i : ℕ) → from ≤ i → i < 64 * w → place words i ≡ false
+  pub none : (i : ℕ) → from ≤ i → i < 64 * w → bit_in words i ≡ false
 
 pub next-found : (words : List ℕ) (from end w t : ℕ) → IsNoneUpTo words from w → t < 64 → from ≤ 64 * w + t → 64 * w + t < end
     → bit (get_or words w 0) t ≡ true → ((k : ℕ) → k < t → from ≤ 64 * w + k → bit (get_or words w 0) k ≡ false)
@@ -219,32 +219,32 @@ next-found words from end w t before small low within here least = record {
   set = place-at words w t small ∙ here;
   least = λ i a b. go i a b (cases_lt i (64 * w));
 } where
-  go : (i : ℕ) → from ≤ i → i < 64 * w + t → (i < 64 * w) ⊎ (64 * w ≤ i) → place words i ≡ false
+  go : (i : ℕ) → from ≤ i → i < 64 * w + t → (i < 64 * w) ⊎ (64 * w ≤ i) → bit_in words i ≡ false
   go i a b (inl h) = before.none i a h
   go i a b (inr h) =
       let e : i ≡ 64 * w + (i - 64 * w) = omega arith in
-      ap (place words) e ∙ place-at words w (i - 64 * w) (omega arith) ∙ least (i - 64 * w) (omega arith) (omega arith)
+      ap (bit_in words) e ∙ place-at words w (i - 64 * w) (omega arith) ∙ least (i - 64 * w) (omega arith) (omega arith)
 
 -- no place is set in a word whose bits are clear
 pub none-more : (words : List ℕ) (from w : ℕ) → IsNoneUpTo words from w
     → ((k : ℕ) → k < 64 → from ≤ 64 * w + k → bit (get_or words w 0) k ≡ false) → IsNoneUpTo words from (w + 1)
 none-more words from w before clear = record { none = λ i a b. go i a b (cases_lt i (64 * w)) } where
-  go : (i : ℕ) → from ≤ i → i < 64 * (w + 1) → (i < 64 * w) ⊎ (64 * w ≤ i) → place words i ≡ false
+  go : (i : ℕ) → from ≤ i → i < 64 * (w + 1) → (i < 64 * w) ⊎ (64 * w ≤ i) → bit_in words i ≡ false
   go i a b (inl h) = before.none i a h
   go i a b (inr h) =
       let e : i ≡ 64 * w + (i - 64 * w) = omega arith in
-      ap (place words) e ∙ place-at words w (i - 64 * w) (omega arith) ∙ clear (i - 64 * w) (omega arith) (omega arith)
+      ap (bit_in words) e ∙ place-at words w (i - 64 * w) (omega arith) ∙ clear (i - 64 * w) (omega arith) (omega arith)
 
 -- nor in words that are 0
 pub none-further : (words : List ℕ) (from w to : ℕ) → IsNoneUpTo words from w → ((k : ℕ) → w ≤ k → k < to → get_or words k 0 ≡ 0) → IsNoneUpTo words from to
 none-further words from w to before zeros = record { none = λ i a b. go i a b (cases_lt i (64 * w)) } where
-  go : (i : ℕ) → from ≤ i → i < 64 * to → (i < 64 * w) ⊎ (64 * w ≤ i) → place words i ≡ false
+  go : (i : ℕ) → from ≤ i → i < 64 * to → (i < 64 * w) ⊎ (64 * w ≤ i) → bit_in words i ≡ false
   go i a b (inl h) = before.none i a h
   go i a b (inr h) = place-is words i ∙ ap (λ x. bit x (i % 64)) (zeros (i / 64) (omega arith) (omega arith)) ∙ bit-zero (i % 64)
 
 pub none-join : (words : List ℕ) (from mid to : ℕ) → IsNoneUpTo words from mid → IsNoneUpTo words (64 * mid) to → IsNoneUpTo words from to
 none-join words from mid to one two = record { none = λ i a b. go i a b (cases_lt i (64 * mid)) } where
-  go : (i : ℕ) → from ≤ i → i < 64 * to → (i < 64 * mid) ⊎ (64 * mid ≤ i) → place words i ≡ false
+  go : (i : ℕ) → from ≤ i → i < 64 * to → (i < 64 * mid) ⊎ (64 * mid ≤ i) → bit_in words i ≡ false
   go i a b (inl h) = one.none i a h
   go i a b (inr h) = two.none i h b
 

@@ -8,7 +8,7 @@ use Rattle.std.proofs.lemmas.List.Sums.{sum_by-cons, sum_by_more, count_by-le-le
 use Rattle.std.proofs.lemmas.List.FromFn.{sum_by-map-range_with_len_more}
 use Rattle.std.proofs.lemmas.Nat.{div-add-mod', pow_pos, mod_below, mod-mul-add, shr-shr, ones-le}
 use Rattle.bit_rows.specs.Row.{bit}
-use Rattle.bit_rows.specs.Words.{place, bits_of}
+use Rattle.bit_rows.specs.Words.{bit_in, first_bits}
 use Rattle.bit_rows.specs.Ranked.{low_ones, rank}
 use Rattle.bit_rows.proofs.Bits.{place-at, length-bits, bits-at}
 use lib.Count.{ones_step}
@@ -56,13 +56,13 @@ unfolding low_ones
 low_ones-more word n = sum_by-map-range_with_len_more (λ b. cond b 1 0) (bit word) 0 n n (omega arith)
 
 module _ (words : List ℕ) (len : ℕ) where
-  rank-more : (i : ℕ) → i < len → rank (bits_of words len) (i + 1) ≡ rank (bits_of words len) i + cond (place words i) 1 0
-  rank-more i l = sum_by_more (λ b. cond b 1 0) (bits_of words len) i false (omega (arith, length-bits words len)) ∙ ap (λ b. rank (bits_of words len) i + cond b 1 0) (bits-at words len i l)
+  rank-more : (i : ℕ) → i < len → rank (first_bits words len) (i + 1) ≡ rank (first_bits words len) i + cond (bit_in words i) 1 0
+  rank-more i l = sum_by_more (λ b. cond b 1 0) (first_bits words len) i false (omega (arith, length-bits words len)) ∙ ap (λ b. rank (first_bits words len) i + cond b 1 0) (bits-at words len i l)
 
   -- The places before one are those of the words before, and those of its word below it.
-  pub rank-in : (w n : ℕ) → n ≤ 64 → 64 * w + n ≤ len → rank (bits_of words len) (64 * w + n) ≡ rank (bits_of words len) (64 * w) + low_ones (get_or words w 0) n
+  pub rank-in : (w n : ℕ) → n ≤ 64 → 64 * w + n ≤ len → rank (first_bits words len) (64 * w + n) ≡ rank (first_bits words len) (64 * w) + low_ones (get_or words w 0) n
   unfolding low_ones
-  rank-in w zero h l = let same : 64 * w + 0 ≡ 64 * w = omega arith in ap (rank (bits_of words len)) same ∙ omega arith
+  rank-in w zero h l = let same : 64 * w + 0 ≡ 64 * w = omega arith in ap (rank (first_bits words len)) same ∙ omega arith
   rank-in w (suc n) h l =
       let on : 64 * w + suc n ≡ 64 * w + n + 1 = omega arith in
       let more = rank-more (64 * w + n) (omega arith) in
@@ -70,26 +70,26 @@ module _ (words : List ℕ) (len : ℕ) where
       let ones = low_ones-more (get_or words w 0) n in
       let so_far = rank-in w n (omega arith) (omega arith) in
       let one : suc n ≡ n + 1 = omega arith in
-      omega (arith, ap (rank (bits_of words len)) on, more, here, ones, so_far, ap (low_ones (get_or words w 0)) one)
+      omega (arith, ap (rank (first_bits words len)) on, more, here, ones, so_far, ap (low_ones (get_or words w 0)) one)
 
 pub rank-few : (bits : List Bool) (i : ℕ) → rank bits i ≤ i
 rank-few bits i = let most = count_by-le-length (λ b. b) (take i bits) in let long = length-take i bits in omega (arith, most, long)
 
 -- the places before the words of a page, and those of its words before a place's word
-pub rank-of_word : (words read : List ℕ) (len i page ones : ℕ) → read ≡ words → i ≤ len → page ≡ rank (bits_of words len) (512 * (i / 512))
-    → ((n : ℕ) → 64 * (i / 64) ≤ n → rank (bits_of read n) (64 * (8 * (i / 512))) + ones ≡ rank (bits_of read n) (64 * (i / 64)))
-    → page + ones ≡ rank (bits_of words len) (64 * (i / 64))
+pub rank-of_word : (words read : List ℕ) (len i page ones : ℕ) → read ≡ words → i ≤ len → page ≡ rank (first_bits words len) (512 * (i / 512))
+    → ((n : ℕ) → 64 * (i / 64) ≤ n → rank (first_bits read n) (64 * (8 * (i / 512))) + ones ≡ rank (first_bits read n) (64 * (i / 64)))
+    → page + ones ≡ rank (first_bits words len) (64 * (i / 64))
 rank-of_word words read len i page ones same l before counted =
-    let at = ap (λ z. rank (bits_of z len) (64 * (8 * (i / 512)))) same in
-    let to = ap (λ z. rank (bits_of z len) (64 * (i / 64))) same in
+    let at = ap (λ z. rank (first_bits z len) (64 * (8 * (i / 512)))) same in
+    let to = ap (λ z. rank (first_bits z len) (64 * (i / 64))) same in
     let start : 64 * (8 * (i / 512)) ≡ 512 * (i / 512) = omega arith in
-    omega (arith, at, to, counted len (omega (arith, l)), before, ap (rank (bits_of words len)) start)
+    omega (arith, at, to, counted len (omega (arith, l)), before, ap (rank (first_bits words len)) start)
 
-pub rank-at : (words : List ℕ) (len i word : ℕ) → i ≤ len → i / 64 < length words → word ≡ get_or words (i / 64) word → rank (bits_of words len) i ≡ rank (bits_of words len) (64 * (i / 64)) + low_ones word (i % 64)
+pub rank-at : (words : List ℕ) (len i word : ℕ) → i ≤ len → i / 64 < length words → word ≡ get_or words (i / 64) word → rank (first_bits words len) i ≡ rank (first_bits words len) (64 * (i / 64)) + low_ones word (i % 64)
 rank-at words len i word l within is =
     let parts : 64 * (i / 64) + i % 64 ≡ i = omega arith in
     let same : get_or words (i / 64) 0 ≡ word = get_or_from_slice_get words (i / 64) word 0 (slice_get-get_or words (i / 64) word within ∙ ap Some (sym is)) in
-    sym (ap (rank (bits_of words len)) parts) ∙ rank-in words len (i / 64) (i % 64) (omega arith) (omega (arith, l)) ∙ ap (λ z. rank (bits_of words len) (64 * (i / 64)) + low_ones z (i % 64)) same
+    sym (ap (rank (first_bits words len)) parts) ∙ rank-in words len (i / 64) (i % 64) (omega arith) (omega (arith, l)) ∙ ap (λ z. rank (first_bits words len) (64 * (i / 64)) + low_ones z (i % 64)) same
 
 -- ---- a list that grows
 -- What stands in a list with one more at its end stood there before, or is the new one.

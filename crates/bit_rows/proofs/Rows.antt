@@ -3,8 +3,8 @@ use Rattle.std.proofs.Common.{◌≡◌, refl, sym, ◌∙◌, ap, ℕ, zero, su
 use Rattle.std.proofs.lemmas.Bool.{cases_lt, cond-true, cond-false, lt-ltb}
 use Rattle.std.proofs.lemmas.List.{get_or_past, length-map, length-append, length-take, length-drop, length-replicate, get_or_append_left, get_or-append_right, get_or-replicate, get_or-take, get_or-drop, get_or_push, length_push}
 use Rattle.std.proofs.lemmas.Slice.Zip.{length-zip}
-use Rattle.bit_rows.specs.Row.{bit, at, both, either, with_run, without_run, lies, IsNextSet, IsCleared, IsPut, IsSpelling}
-use Rattle.bit_rows.specs.Words.{place, bits_of, IsRow, IsClearFrom, IsNextPlace}
+use Rattle.bit_rows.specs.Row.{bit, at, both, either, with_run, without_run, lies, IsNextSet, IsCleared, IsWordPut, IsSpelling}
+use Rattle.bit_rows.specs.Words.{bit_in, first_bits, IsRow, IsClearFrom, IsNextPlace}
 use Rattle.bit_rows.proofs.Tests.{and-false, and-true, or-false, or-true, lies-in, lies-below, lies-above, by-run}
 use Rattle.bit_rows.proofs.Bits.{place-is, place-past, bits-same, bits-read, bits-at, length-bits}
 
@@ -19,15 +19,15 @@ row-kept old new before len row e within clear = record {
   clear = clear;
 }
 
-pub row-zeros : (new : List ℕ) (m len : ℕ) → m % 8 ≡ 0 → m ≤ 2 ^ 26 → len ≤ 64 * m → length new ≡ m → ((i : ℕ) → place new i ≡ false) → IsRow new len
+pub row-zeros : (new : List ℕ) (m len : ℕ) → m % 8 ≡ 0 → m ≤ 2 ^ 26 → len ≤ 64 * m → length new ≡ m → ((i : ℕ) → bit_in new i ≡ false) → IsRow new len
 row-zeros new m len a b c e clear = record { steps = ap (λ n. n % 8) e ∙ a; small = omega arith; within = omega arith; clear = λ i h. clear i }
 
-pub bits-zeros : (new : List ℕ) (len : ℕ) → ((i : ℕ) → place new i ≡ false) → bits_of new len ≡ replicate len false
+pub bits-zeros : (new : List ℕ) (len : ℕ) → ((i : ℕ) → bit_in new i ≡ false) → first_bits new len ≡ replicate len false
 bits-zeros new len clear = bits-same new len (replicate len false) (length-replicate len false) (λ i h. clear i ∙ sym (get_or-replicate len i false false h))
 
 -- ---- more words
 
-pub place-nil : (i : ℕ) → place [] i ≡ false
+pub place-nil : (i : ℕ) → bit_in [] i ≡ false
 place-nil i = place-past [] i (omega arith)
 
 grown-word : (old : List ℕ) (n k : ℕ) → get_or (old ++ replicate n 0) k 0 ≡ get_or old k 0
@@ -38,46 +38,46 @@ grown-word old n k = go (cases_lt k (length old)) (cases_lt (k - length old) n) 
   go (inr l) (inr b) =
       get_or-append_right old (replicate n 0) (length old) k 0 refl l ∙ get_or_past (replicate n 0) (k - length old) 0 (rw length-replicate b) ∙ sym (get_or_past old k 0 l)
 
-pub grown-place : (old new : List ℕ) (n : ℕ) → new ≡ old ++ replicate n 0 → (i : ℕ) → place new i ≡ place old i
+pub grown-place : (old new : List ℕ) (n : ℕ) → new ≡ old ++ replicate n 0 → (i : ℕ) → bit_in new i ≡ bit_in old i
 grown-place old new n e i =
     place-is new i ∙ ap (λ words. bit (get_or words (i / 64) 0) (i % 64)) e ∙ ap (λ w. bit w (i % 64)) (grown-word old n (i / 64)) ∙ sym (place-is old i)
 
 -- the same places
-pub bits-like : (old new : List ℕ) (len : ℕ) → ((i : ℕ) → place new i ≡ place old i) → bits_of new len ≡ bits_of old len
-bits-like old new len same = bits-same new len (bits_of old len) (length-bits old len) (λ i h. same i ∙ sym (bits-at old len i h))
+pub bits-like : (old new : List ℕ) (len : ℕ) → ((i : ℕ) → bit_in new i ≡ bit_in old i) → first_bits new len ≡ first_bits old len
+bits-like old new len same = bits-same new len (first_bits old len) (length-bits old len) (λ i h. same i ∙ sym (bits-at old len i h))
 
 -- ---- places at the end
 
-pub bits-push : (old new : List ℕ) (len : ℕ) (b : Bool) → IsClearFrom old len → ((i : ℕ) → place new i ≡ (place old i || (b && lies len (len + 1) i)))
-    → bits_of new (len + 1) ≡ bits_of old len ++ b ∷ []
+pub bits-push : (old new : List ℕ) (len : ℕ) (b : Bool) → IsClearFrom old len → ((i : ℕ) → bit_in new i ≡ (bit_in old i || (b && lies len (len + 1) i)))
+    → first_bits new (len + 1) ≡ first_bits old len ++ b ∷ []
 bits-push old new len b clear places =
-    bits-same new (len + 1) (bits_of old len ++ b ∷ []) (length_push (bits_of old len) b ∙ ap (λ n. n + 1) (length-bits old len)) (λ i h. places i ∙ go i (cases_lt i len) h) where
-      go : (i : ℕ) → (i < len) ⊎ (len ≤ i) → i < len + 1 → (place old i || (b && lies len (len + 1) i)) ≡ at (bits_of old len ++ b ∷ []) i
+    bits-same new (len + 1) (first_bits old len ++ b ∷ []) (length_push (first_bits old len) b ∙ ap (λ n. n + 1) (length-bits old len)) (λ i h. places i ∙ go i (cases_lt i len) h) where
+      go : (i : ℕ) → (i < len) ⊎ (len ≤ i) → i < len + 1 → (bit_in old i || (b && lies len (len + 1) i)) ≡ at (first_bits old len ++ b ∷ []) i
       go i (inl l) h =
-          or-false (place old i) _ (and-false b _ (lies-below len (len + 1) i l)) ∙ sym (bits-at old len i l)
-          ∙ sym (get_or_append_left (bits_of old len) (b ∷ []) false i (omega (arith, length-bits old len)))
+          or-false (bit_in old i) _ (and-false b _ (lies-below len (len + 1) i l)) ∙ sym (bits-at old len i l)
+          ∙ sym (get_or_append_left (first_bits old len) (b ∷ []) false i (omega (arith, length-bits old len)))
       go i (inr l) h =
           let e : i ≡ len = omega arith in
           ap (λ t. t || (b && lies len (len + 1) i)) (clear i l) ∙ and-true b _ (lies-in len (len + 1) i l h)
-          ∙ sym (get_or_push (bits_of old len) b false i (length-bits old len ∙ sym e))
+          ∙ sym (get_or_push (first_bits old len) b false i (length-bits old len ∙ sym e))
 
-pub bits-push_zeros : (words : List ℕ) (len n : ℕ) → IsClearFrom words len → bits_of words (len + n) ≡ bits_of words len ++ replicate n false
+pub bits-push_zeros : (words : List ℕ) (len n : ℕ) → IsClearFrom words len → first_bits words (len + n) ≡ first_bits words len ++ replicate n false
 bits-push_zeros words len n clear =
-    bits-same words (len + n) (bits_of words len ++ replicate n false) (simp (length-append, length-replicate, length-bits) refl) (λ i h. go i (cases_lt i len) h) where
-      go : (i : ℕ) → (i < len) ⊎ (len ≤ i) → i < len + n → place words i ≡ at (bits_of words len ++ replicate n false) i
-      go i (inl l) h = sym (bits-at words len i l) ∙ sym (get_or_append_left (bits_of words len) (replicate n false) false i (omega (arith, length-bits words len)))
+    bits-same words (len + n) (first_bits words len ++ replicate n false) (simp (length-append, length-replicate, length-bits) refl) (λ i h. go i (cases_lt i len) h) where
+      go : (i : ℕ) → (i < len) ⊎ (len ≤ i) → i < len + n → bit_in words i ≡ at (first_bits words len ++ replicate n false) i
+      go i (inl l) h = sym (bits-at words len i l) ∙ sym (get_or_append_left (first_bits words len) (replicate n false) false i (omega (arith, length-bits words len)))
       go i (inr l) h =
           clear i l
-          ∙ sym (get_or-append_right (bits_of words len) (replicate n false) len i false (length-bits words len) l ∙ get_or-replicate n (i - len) false false (omega arith))
+          ∙ sym (get_or-append_right (first_bits words len) (replicate n false) len i false (length-bits words len) l ∙ get_or-replicate n (i - len) false false (omega arith))
 
 -- ---- runs
 
-clear-run : (old new : List ℕ) (before len from to : ℕ) (b : Bool) → before ≤ len → to ≤ len → IsClearFrom old before → ((i : ℕ) → place new i ≡ (place old i || (b && lies from to i))) → IsClearFrom new len
+clear-run : (old new : List ℕ) (before len from to : ℕ) (b : Bool) → before ≤ len → to ≤ len → IsClearFrom old before → ((i : ℕ) → bit_in new i ≡ (bit_in old i || (b && lies from to i))) → IsClearFrom new len
 clear-run old new before len from to b more within clear places i h =
-    places i ∙ or-false (place old i) (b && lies from to i) (and-false b (lies from to i) (lies-above from to i (omega arith))) ∙ clear i (omega arith)
+    places i ∙ or-false (bit_in old i) (b && lies from to i) (and-false b (lies from to i) (lies-above from to i (omega arith))) ∙ clear i (omega arith)
 
 pub row-run : (old new : List ℕ) (before len from to : ℕ) (b : Bool) → IsRow old before → before ≤ len → to ≤ len → len ≤ 64 * length old → length new ≡ length old
-    → ((i : ℕ) → place new i ≡ (place old i || (b && lies from to i))) → IsRow new len
+    → ((i : ℕ) → bit_in new i ≡ (bit_in old i || (b && lies from to i))) → IsRow new len
 row-run old new before len from to b row more within room long places =
     row-kept old new before len row long room (clear-run old new before len from to b more within row.clear places)
 
@@ -108,43 +108,43 @@ at-run xs from n i h = by-run from (from + n) i (λ t. at (take from xs ++ (repl
       ∙ get_or-append_right (replicate n true) (drop (from + n) xs) n (i - from) false (length-replicate n true) (omega arith) ∙ get_or-drop (from + n) xs (i - from - n) false
       ∙ ap (at xs) e ∙ sym (or-false (at xs i) false refl)
 
-pub bits-run : (old new : List ℕ) (len from n : ℕ) → from + n ≤ len → ((i : ℕ) → place new i ≡ (place old i || lies from (from + n) i))
-    → bits_of new len ≡ with_run (bits_of old len) from n
+pub bits-run : (old new : List ℕ) (len from n : ℕ) → from + n ≤ len → ((i : ℕ) → bit_in new i ≡ (bit_in old i || lies from (from + n) i))
+    → first_bits new len ≡ with_run (first_bits old len) from n
 bits-run old new len from n h places =
-    let within : from + n ≤ length (bits_of old len) = omega (arith, length-bits old len) in
-    bits-same new len (with_run (bits_of old len) from n) (length-run (bits_of old len) from n within ∙ length-bits old len)
-    (λ i l. places i ∙ ap (λ t. t || lies from (from + n) i) (sym (bits-at old len i l)) ∙ sym (at-run (bits_of old len) from n i within))
+    let within : from + n ≤ length (first_bits old len) = omega (arith, length-bits old len) in
+    bits-same new len (with_run (first_bits old len) from n) (length-run (first_bits old len) from n within ∙ length-bits old len)
+    (λ i l. places i ∙ ap (λ t. t || lies from (from + n) i) (sym (bits-at old len i l)) ∙ sym (at-run (first_bits old len) from n i within))
 
 -- ---- fill
 
 -- from the first cleared word on no place is set
-clear-after : (old mid : List ℕ) (before kept used : ℕ) → IsClearFrom old before → before ≤ 64 * used → ((i : ℕ) → place mid i ≡ cond (lies (64 * kept) (64 * used) i) false (place old i))
+clear-after : (old mid : List ℕ) (before kept used : ℕ) → IsClearFrom old before → before ≤ 64 * used → ((i : ℕ) → bit_in mid i ≡ cond (lies (64 * kept) (64 * used) i) false (bit_in old i))
     → IsClearFrom mid (64 * kept)
 clear-after old mid before kept used clear far places i h =
-    places i ∙ by-run (64 * kept) (64 * used) i (λ t. cond t false (place old i) ≡ false) (λ a b. refl) (λ a. absurd (omega arith)) (λ a. clear i (omega arith))
+    places i ∙ by-run (64 * kept) (64 * used) i (λ t. cond t false (bit_in old i) ≡ false) (λ a b. refl) (λ a. absurd (omega arith)) (λ a. clear i (omega arith))
 
 pub row-filled : (old mid new : List ℕ) (before len kept used : ℕ) (b : Bool) → IsRow old before → before ≤ 64 * used → 64 * kept ≤ cond b len 0 → len ≤ 64 * length old
-    → ((i : ℕ) → place mid i ≡ cond (lies (64 * kept) (64 * used) i) false (place old i)) → length mid ≡ length old → length new ≡ length mid
-    → ((i : ℕ) → place new i ≡ (place mid i || (b && lies 0 len i))) → IsRow new len
+    → ((i : ℕ) → bit_in mid i ≡ cond (lies (64 * kept) (64 * used) i) false (bit_in old i)) → length mid ≡ length old → length new ≡ length mid
+    → ((i : ℕ) → bit_in new i ≡ (bit_in mid i || (b && lies 0 len i))) → IsRow new len
 row-filled old mid new before len kept used b row far few room cleared a e places = row-kept old new before len row (e ∙ a) room clear where
   low : (b : Bool) → 64 * kept ≤ cond b len 0 → 64 * kept ≤ len
   low true h = h
   low false h = omega arith
 
-  clear : (i : ℕ) → len ≤ i → place new i ≡ false
+  clear : (i : ℕ) → len ≤ i → bit_in new i ≡ false
   clear i h =
-      places i ∙ or-false (place mid i) _ (and-false b _ (lies-above 0 len i h))
+      places i ∙ or-false (bit_in mid i) _ (and-false b _ (lies-above 0 len i h))
       ∙ clear-after old mid before kept used row.clear far cleared i (let l = low b few in omega arith)
 
 pub bits-filled : (old mid new : List ℕ) (before len kept used : ℕ) (b : Bool) → IsClearFrom old before → before ≤ 64 * used → 64 * kept ≤ cond b len 0
-    → ((i : ℕ) → place mid i ≡ cond (lies (64 * kept) (64 * used) i) false (place old i))
-    → ((i : ℕ) → place new i ≡ (place mid i || (b && lies 0 len i))) → bits_of new len ≡ replicate len b
+    → ((i : ℕ) → bit_in mid i ≡ cond (lies (64 * kept) (64 * used) i) false (bit_in old i))
+    → ((i : ℕ) → bit_in new i ≡ (bit_in mid i || (b && lies 0 len i))) → first_bits new len ≡ replicate len b
 bits-filled old mid new before len kept used b clear far few cleared places =
     bits-same new len (replicate len b) (length-replicate len b)
     (λ i h. places i ∙ go b few i (lies-in 0 len i (omega arith) h) ∙ sym (get_or-replicate len i b false h)) where
-      go : (b : Bool) → 64 * kept ≤ cond b len 0 → (i : ℕ) → lies 0 len i ≡ true → (place mid i || (b && lies 0 len i)) ≡ b
-      go true few i h = or-true (place mid i) (lies 0 len i) h
-      go false few i h = or-false (place mid i) false refl ∙ clear-after old mid before kept used clear far cleared i (omega arith)
+      go : (b : Bool) → 64 * kept ≤ cond b len 0 → (i : ℕ) → lies 0 len i ≡ true → (bit_in mid i || (b && lies 0 len i)) ≡ b
+      go true few i h = or-true (bit_in mid i) (lies 0 len i) h
+      go false few i h = or-false (bit_in mid i) false refl ∙ clear-after old mid before kept used clear far cleared i (omega arith)
 
 -- ---- two rows, place by place
 
@@ -169,24 +169,24 @@ length-both xs ys e = length-pairs (λ p. p.0 && p.1) xs ys e
 pub length-either : (xs ys : List Bool) → length xs ≡ length ys → length (either xs ys) ≡ length xs
 length-either xs ys e = length-pairs (λ p. p.0 || p.1) xs ys e
 
-same-length : (old other : List ℕ) (len there : ℕ) → length (bits_of old len) ≡ length (bits_of other there) → len ≡ there
+same-length : (old other : List ℕ) (len there : ℕ) → length (first_bits old len) ≡ length (first_bits other there) → len ≡ there
 same-length old other len there e = sym (length-bits old len) ∙ e ∙ length-bits other there
 
-pub bits-zipped : (test : Bool → Bool → Bool) (old other new : List ℕ) (n len there : ℕ) → length (bits_of old len) ≡ length (bits_of other there) → len ≤ 64 * n
-    → ((i : ℕ) → place new i ≡ cond (nat_lt i (64 * n)) (test (place old i) (place other i)) (place old i))
-    → bits_of new len ≡ map (λ p. test p.0 p.1) (zip (bits_of old len) (bits_of other there))
+pub bits-zipped : (test : Bool → Bool → Bool) (old other new : List ℕ) (n len there : ℕ) → length (first_bits old len) ≡ length (first_bits other there) → len ≤ 64 * n
+    → ((i : ℕ) → bit_in new i ≡ cond (nat_lt i (64 * n)) (test (bit_in old i) (bit_in other i)) (bit_in old i))
+    → first_bits new len ≡ map (λ p. test p.0 p.1) (zip (first_bits old len) (first_bits other there))
 bits-zipped test old other new n len there e far places =
-    bits-same new len (map (λ p. test p.0 p.1) (zip (bits_of old len) (bits_of other there)))
-    (length-pairs (λ p. test p.0 p.1) (bits_of old len) (bits_of other there) e ∙ length-bits old len)
-    (λ i h. places i ∙ cond-true _ (test (place old i) (place other i)) (place old i) (lt-ltb i (64 * n) (omega arith))
+    bits-same new len (map (λ p. test p.0 p.1) (zip (first_bits old len) (first_bits other there)))
+    (length-pairs (λ p. test p.0 p.1) (first_bits old len) (first_bits other there) e ∙ length-bits old len)
+    (λ i h. places i ∙ cond-true _ (test (bit_in old i) (bit_in other i)) (bit_in old i) (lt-ltb i (64 * n) (omega arith))
     ∙ two (sym (bits-at old len i h)) (sym (bits-at other there i (let s = same-length old other len there e in omega arith)))
-    ∙ sym (at-pairs (λ p. test p.0 p.1) (bits_of old len) (bits_of other there) i (omega (arith, length-bits old len)) (omega (arith, e, length-bits old len)))) where
+    ∙ sym (at-pairs (λ p. test p.0 p.1) (first_bits old len) (first_bits other there) i (omega (arith, length-bits old len)) (omega (arith, e, length-bits old len)))) where
       two : {p q r t : Bool} → p ≡ q → r ≡ t → test p r ≡ test q t
       two x y = cc
 
 pub row-zipped : (test : Bool → Bool → Bool) (old other new : List ℕ) (n len there : ℕ) → test false false ≡ false → IsRow old len → IsRow other there
-    → length (bits_of old len) ≡ length (bits_of other there) → length new ≡ length old
-    → ((i : ℕ) → place new i ≡ cond (nat_lt i (64 * n)) (test (place old i) (place other i)) (place old i)) → IsRow new len
+    → length (first_bits old len) ≡ length (first_bits other there) → length new ≡ length old
+    → ((i : ℕ) → bit_in new i ≡ cond (nat_lt i (64 * n)) (test (bit_in old i) (bit_in other i)) (bit_in old i)) → IsRow new len
 row-zipped test old other new n len there none row two e long places = row-kept old new len len row long row.within clear where
   chosen : (t p q : Bool) → p ≡ false → q ≡ false → cond t (test p q) p ≡ false
   chosen true p q a b = both p q a b where
@@ -194,85 +194,85 @@ row-zipped test old other new n len there none row two e long places = row-kept 
     both p q a b = ap (λ x. test x q) a ∙ ap (test false) b ∙ none
   chosen false p q a b = a
 
-  clear : (i : ℕ) → len ≤ i → place new i ≡ false
-  clear i h = places i ∙ chosen (nat_lt i (64 * n)) (place old i) (place other i) (row.clear i h) (two.clear i (let s = same-length old other len there e in omega arith))
+  clear : (i : ℕ) → len ≤ i → bit_in new i ≡ false
+  clear i h = places i ∙ chosen (nat_lt i (64 * n)) (bit_in old i) (bit_in other i) (row.clear i h) (two.clear i (let s = same-length old other len there e in omega arith))
 
-pub row-and : (old other new : List ℕ) (n len there : ℕ) → IsRow old len → IsRow other there → length (bits_of old len) ≡ length (bits_of other there) → length new ≡ length old
-    → ((i : ℕ) → place new i ≡ cond (nat_lt i (64 * n)) (place old i && place other i) (place old i)) → IsRow new len
+pub row-and : (old other new : List ℕ) (n len there : ℕ) → IsRow old len → IsRow other there → length (first_bits old len) ≡ length (first_bits other there) → length new ≡ length old
+    → ((i : ℕ) → bit_in new i ≡ cond (nat_lt i (64 * n)) (bit_in old i && bit_in other i) (bit_in old i)) → IsRow new len
 row-and old other new n len there row two e long places = row-zipped (λ p q. p && q) old other new n len there refl row two e long places
 
-pub row-or : (old other new : List ℕ) (n len there : ℕ) → IsRow old len → IsRow other there → length (bits_of old len) ≡ length (bits_of other there) → length new ≡ length old
-    → ((i : ℕ) → place new i ≡ cond (nat_lt i (64 * n)) (place old i || place other i) (place old i)) → IsRow new len
+pub row-or : (old other new : List ℕ) (n len there : ℕ) → IsRow old len → IsRow other there → length (first_bits old len) ≡ length (first_bits other there) → length new ≡ length old
+    → ((i : ℕ) → bit_in new i ≡ cond (nat_lt i (64 * n)) (bit_in old i || bit_in other i) (bit_in old i)) → IsRow new len
 row-or old other new n len there row two e long places = row-zipped (λ p q. p || q) old other new n len there refl row two e long places
 
 -- ---- the next set place
 
-pub next-in-row : (words : List ℕ) (len from n r : ℕ) → IsRow words len → IsNextPlace words from (64 * n) r → IsNextSet (bits_of words len) from r
+pub next-in-row : (words : List ℕ) (len from n r : ℕ) → IsRow words len → IsNextPlace words from (64 * n) r → IsNextSet (first_bits words len) from r
 next-in-row words len from n r row next = go (cases_lt r len) where
-  go : (r < len) ⊎ (len ≤ r) → IsNextSet (bits_of words len) from r
+  go : (r < len) ⊎ (len ≤ r) → IsNextSet (first_bits words len) from r
   go (inl h) = record {
     from_on = next.from_on;
     within = omega (arith, length-bits words len);
     set = bits-read words len row r ∙ next.set;
     least = λ i a b. bits-read words len row i ∙ next.least i a b;
   }
-  go (inr h) = let clear : place words r ≡ false = row.clear r h in let set : place words r ≡ true = next.set in absurd (cc)
+  go (inr h) = let clear : bit_in words r ≡ false = row.clear r h in let set : bit_in words r ≡ true = next.set in absurd (cc)
 
-pub none-in-row : (words : List ℕ) (len from n : ℕ) → IsRow words len → len ≤ 64 * n → ((i : ℕ) → from ≤ i → i < 64 * n → place words i ≡ false) → (i : ℕ) → from ≤ i → at (bits_of words len) i ≡ false
+pub none-in-row : (words : List ℕ) (len from n : ℕ) → IsRow words len → len ≤ 64 * n → ((i : ℕ) → from ≤ i → i < 64 * n → bit_in words i ≡ false) → (i : ℕ) → from ≤ i → at (first_bits words len) i ≡ false
 none-in-row words len from n row far none i h = bits-read words len row i ∙ go (cases_lt i len) where
-  go : (i < len) ⊎ (len ≤ i) → place words i ≡ false
+  go : (i < len) ⊎ (len ≤ i) → bit_in words i ≡ false
   go (inl l) = none i h (omega arith)
   go (inr l) = row.clear i l
 
 -- ---- closing up
 
 -- past the used words nothing is set, so every later place is what was n further on
-closed-place : (old new : List ℕ) (len from n used i : ℕ) → IsClearFrom old len → len ≤ 64 * used → ((i : ℕ) → place new i ≡ cond (lies from (64 * used) i) (place old (i + n)) (place old i))
-    → from ≤ i → place new i ≡ place old (i + n)
+closed-place : (old new : List ℕ) (len from n used i : ℕ) → IsClearFrom old len → len ≤ 64 * used → ((i : ℕ) → bit_in new i ≡ cond (lies from (64 * used) i) (bit_in old (i + n)) (bit_in old i))
+    → from ≤ i → bit_in new i ≡ bit_in old (i + n)
 closed-place old new len from n used i clear far places h =
-    places i ∙ by-run from (64 * used) i (λ t. cond t (place old (i + n)) (place old i) ≡ place old (i + n)) (λ a b. refl) (λ a. absurd (omega arith))
+    places i ∙ by-run from (64 * used) i (λ t. cond t (bit_in old (i + n)) (bit_in old i) ≡ bit_in old (i + n)) (λ a b. refl) (λ a. absurd (omega arith))
     (λ a. clear i (omega arith) ∙ sym (clear (i + n) (omega arith)))
 
 pub row-closed : (old new : List ℕ) (len from n used : ℕ) → IsRow old len → from + n ≤ len → len ≤ 64 * used → length new ≡ length old
-    → ((i : ℕ) → place new i ≡ cond (lies from (64 * used) i) (place old (i + n)) (place old i)) → IsRow new (len - n)
+    → ((i : ℕ) → bit_in new i ≡ cond (lies from (64 * used) i) (bit_in old (i + n)) (bit_in old i)) → IsRow new (len - n)
 row-closed old new len from n used row within far long places =
     row-kept old new len (len - n) row long (let w = row.within in omega arith)
     (λ i h. closed-place old new len from n used i row.clear far places (omega arith) ∙ row.clear (i + n) (omega arith))
 
 pub bits-closed : (old new : List ℕ) (len from n used : ℕ) → IsClearFrom old len → from + n ≤ len → len ≤ 64 * used
-    → ((i : ℕ) → place new i ≡ cond (lies from (64 * used) i) (place old (i + n)) (place old i))
-    → bits_of new (len - n) ≡ without_run (bits_of old len) from n
+    → ((i : ℕ) → bit_in new i ≡ cond (lies from (64 * used) i) (bit_in old (i + n)) (bit_in old i))
+    → first_bits new (len - n) ≡ without_run (first_bits old len) from n
 bits-closed old new len from n used clear within far places =
-    bits-same new (len - n) (without_run (bits_of old len) from n) long (λ i h. go i h (cases_lt i from)) where
-      front : length (take from (bits_of old len)) ≡ from
-      front = omega (arith, length-take from (bits_of old len), length-bits old len)
+    bits-same new (len - n) (without_run (first_bits old len) from n) long (λ i h. go i h (cases_lt i from)) where
+      front : length (take from (first_bits old len)) ≡ from
+      front = omega (arith, length-take from (first_bits old len), length-bits old len)
 
-      long : length (take from (bits_of old len) ++ drop (from + n) (bits_of old len)) ≡ len - n
+      long : length (take from (first_bits old len) ++ drop (from + n) (first_bits old len)) ≡ len - n
       long = simp (length-append, length-take, length-drop, length-bits) (omega arith)
 
-      go : (i : ℕ) → i < len - n → (i < from) ⊎ (from ≤ i) → place new i ≡ at (take from (bits_of old len) ++ drop (from + n) (bits_of old len)) i
+      go : (i : ℕ) → i < len - n → (i < from) ⊎ (from ≤ i) → bit_in new i ≡ at (take from (first_bits old len) ++ drop (from + n) (first_bits old len)) i
       go i h (inl l) =
-          places i ∙ cond-false _ (place old (i + n)) (place old i) (lies-below from (64 * used) i l) ∙ sym (bits-at old len i (omega arith)) ∙ sym (get_or-take from (bits_of old len) i false l)
-          ∙ sym (get_or_append_left (take from (bits_of old len)) (drop (from + n) (bits_of old len)) false i (omega (arith, front)))
+          places i ∙ cond-false _ (bit_in old (i + n)) (bit_in old i) (lies-below from (64 * used) i l) ∙ sym (bits-at old len i (omega arith)) ∙ sym (get_or-take from (first_bits old len) i false l)
+          ∙ sym (get_or_append_left (take from (first_bits old len)) (drop (from + n) (first_bits old len)) false i (omega (arith, front)))
       go i h (inr l) =
           let e : i + n ≡ from + n + (i - from) = omega arith in
-          closed-place old new len from n used i clear far places l ∙ sym (bits-at old len (i + n) (omega arith)) ∙ ap (at (bits_of old len)) e
-          ∙ sym (get_or-drop (from + n) (bits_of old len) (i - from) false)
-          ∙ sym (get_or-append_right (take from (bits_of old len)) (drop (from + n) (bits_of old len)) from i false front l)
+          closed-place old new len from n used i clear far places l ∙ sym (bits-at old len (i + n) (omega arith)) ∙ ap (at (first_bits old len)) e
+          ∙ sym (get_or-drop (from + n) (first_bits old len) (i - from) false)
+          ∙ sym (get_or-append_right (take from (first_bits old len)) (drop (from + n) (first_bits old len)) from i false front l)
 
 -- ---- clearing
 
-pub row-cleared : (old new : List ℕ) (len from to : ℕ) → IsRow old len → length new ≡ length old → ((i : ℕ) → place new i ≡ cond (lies from to i) false (place old i)) → IsRow new len
-row-cleared old new len from to row long places = row-kept old new len len row long row.within (λ i h. places i ∙ chosen (lies from to i) (place old i) (row.clear i h)) where
+pub row-cleared : (old new : List ℕ) (len from to : ℕ) → IsRow old len → length new ≡ length old → ((i : ℕ) → bit_in new i ≡ cond (lies from to i) false (bit_in old i)) → IsRow new len
+row-cleared old new len from to row long places = row-kept old new len len row long row.within (λ i h. places i ∙ chosen (lies from to i) (bit_in old i) (row.clear i h)) where
   chosen : (t p : Bool) → p ≡ false → cond t false p ≡ false
   chosen true p e = refl
   chosen false p e = e
 
-pub bits-cleared : (old new : List ℕ) (len from to : ℕ) → IsRow old len → IsRow new len → ((i : ℕ) → place new i ≡ cond (lies from to i) false (place old i))
-    → IsCleared from to (bits_of old len) (bits_of new len)
+pub bits-cleared : (old new : List ℕ) (len from to : ℕ) → IsRow old len → IsRow new len → ((i : ℕ) → bit_in new i ≡ cond (lies from to i) false (bit_in old i))
+    → IsCleared from to (first_bits old len) (first_bits new len)
 bits-cleared old new len from to row after places = record {
   long = length-bits new len ∙ sym (length-bits old len);
-  places = λ i. bits-read new len after i ∙ places i ∙ chosen (lies from to i) (place old i) ∙ ap (λ t. t && not (lies from to i)) (sym (bits-read old len row i));
+  places = λ i. bits-read new len after i ∙ places i ∙ chosen (lies from to i) (bit_in old i) ∙ ap (λ t. t && not (lies from to i)) (sym (bits-read old len row i));
 } where
   chosen : (t p : Bool) → cond t false p ≡ (p && not t)
   chosen true true = refl
@@ -282,25 +282,25 @@ bits-cleared old new len from to row after places = record {
 
 -- ---- one word
 
-pub row-put : (old new : List ℕ) (len i word : ℕ) → IsRow old len → length new ≡ length old → ((r : ℕ) → place new r ≡ cond (lies (64 * i) (64 * (i + 1)) r) (bit word (r - 64 * i)) (place old r))
+pub row-put : (old new : List ℕ) (len i word : ℕ) → IsRow old len → length new ≡ length old → ((r : ℕ) → bit_in new r ≡ cond (lies (64 * i) (64 * (i + 1)) r) (bit word (r - 64 * i)) (bit_in old r))
     → ((k : ℕ) → k < 64 → len ≤ 64 * i + k → bit word k ≡ false) → IsRow new len
 row-put old new len i word row long places within = row-kept old new len len row long row.within
-    (λ r h. by-run (64 * i) (64 * (i + 1)) r (λ t. (place new r ≡ cond t (bit word (r - 64 * i)) (place old r)) → place new r ≡ false)
+    (λ r h. by-run (64 * i) (64 * (i + 1)) r (λ t. (bit_in new r ≡ cond t (bit word (r - 64 * i)) (bit_in old r)) → bit_in new r ≡ false)
     (λ a b e. e ∙ within (r - 64 * i) (omega arith) (omega arith)) (λ a e. e ∙ row.clear r h) (λ a e. e ∙ row.clear r h) (places r))
 
-pub bits-put : (old new : List ℕ) (len i word : ℕ) → IsRow old len → IsRow new len → ((r : ℕ) → place new r ≡ cond (lies (64 * i) (64 * (i + 1)) r) (bit word (r - 64 * i)) (place old r))
-    → IsPut i word (bits_of old len) (bits_of new len)
+pub bits-put : (old new : List ℕ) (len i word : ℕ) → IsRow old len → IsRow new len → ((r : ℕ) → bit_in new r ≡ cond (lies (64 * i) (64 * (i + 1)) r) (bit word (r - 64 * i)) (bit_in old r))
+    → IsWordPut i word (first_bits old len) (first_bits new len)
 bits-put old new len i word row after places = record {
   long = length-bits new len ∙ sym (length-bits old len);
   here = λ k h.
       let e : 64 * i + k - 64 * i ≡ k = omega arith in
       bits-read new len after (64 * i + k) ∙ places (64 * i + k)
-      ∙ cond-true _ (bit word (64 * i + k - 64 * i)) (place old (64 * i + k)) (lies-in (64 * i) (64 * (i + 1)) (64 * i + k) (omega arith) (omega arith)) ∙ ap (bit word) e;
+      ∙ cond-true _ (bit word (64 * i + k - 64 * i)) (bit_in old (64 * i + k)) (lies-in (64 * i) (64 * (i + 1)) (64 * i + k) (omega arith) (omega arith)) ∙ ap (bit word) e;
   others = λ r differs. bits-read new len after r ∙ places r ∙ outside r differs (cases_lt r (64 * i)) ∙ sym (bits-read old len row r);
 } where
-  outside : (r : ℕ) → (r / 64 ≡ i → ⊥) → (r < 64 * i) ⊎ (64 * i ≤ r) → cond (lies (64 * i) (64 * (i + 1)) r) (bit word (r - 64 * i)) (place old r) ≡ place old r
-  outside r differs (inl l) = cond-false _ (bit word (r - 64 * i)) (place old r) (lies-below (64 * i) (64 * (i + 1)) r l)
-  outside r differs (inr l) = cond-false _ (bit word (r - 64 * i)) (place old r) (lies-above (64 * i) (64 * (i + 1)) r (above differs)) where
+  outside : (r : ℕ) → (r / 64 ≡ i → ⊥) → (r < 64 * i) ⊎ (64 * i ≤ r) → cond (lies (64 * i) (64 * (i + 1)) r) (bit word (r - 64 * i)) (bit_in old r) ≡ bit_in old r
+  outside r differs (inl l) = cond-false _ (bit word (r - 64 * i)) (bit_in old r) (lies-below (64 * i) (64 * (i + 1)) r l)
+  outside r differs (inr l) = cond-false _ (bit word (r - 64 * i)) (bit_in old r) (lies-above (64 * i) (64 * (i + 1)) r (above differs)) where
     above : (r / 64 ≡ i → ⊥) → 64 * (i + 1) ≤ r
     above d = elim (cases_lt r (64 * (i + 1))) [
       | inl m ↦ absurd (d (omega arith))

@@ -2,7 +2,7 @@
 use Rattle.std.specs.Prelude.{◌≡◌, ℕ, ◌+◌, ◌*◌, ◌<◌, ◌≤◌, Bool, Some, List, length, map, take, count_by, slice_get}
 use Rattle.std.specs.List.{range_with_len}
 use Rattle.bit_rows.specs.Row.{bit}
-use Rattle.bit_rows.specs.Words.{bits_of}
+use Rattle.bit_rows.specs.Words.{first_bits}
 
 -- how many of the n lowest bits of a word are set
 unfoldable pub low_ones : ℕ → ℕ → ℕ
@@ -16,4 +16,4 @@ rank bits i = count_by (λ b. b) (take i bits)
 pub record IsRanked (words : List ℕ) (len : ℕ) (ranks : List ℕ) : Type 0 where
   pub within : len ≤ 64 * length words
   pub pages : len < 512 * length ranks + 512
-  pub each : (page r : ℕ) → slice_get ranks page ≡ Some r → r ≡ rank (bits_of words len) (512 * page + 512)
+  pub each : (page r : ℕ) → slice_get ranks page ≡ Some r → r ≡ rank (first_bits words len) (512 * page + 512)

@@ -47,7 +47,7 @@ unfoldable pub bit : ℕ → ℕ → Bool
 bit word k = word / 2 ^ k % 2 == 1
 
 -- the 64 places from place 64 * i on are those of the word, and the others are as they were
-pub record IsPut (i word : ℕ) (old new : List Bool) : Type 0 where
+pub record IsWordPut (i word : ℕ) (old new : List Bool) : Type 0 where
   pub long : length new ≡ length old
   pub here : (k : ℕ) → k < 64 → at new (64 * i + k) ≡ bit word k
   pub others : (r : ℕ) → (r / 64 ≡ i → ⊥) → at new r ≡ at old r

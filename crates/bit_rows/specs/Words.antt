@@ -4,12 +4,12 @@ use Rattle.std.specs.List.{range_with_len}
 use Rattle.bit_rows.specs.Row.{bit, lies}
 
 -- the bit at place i, over all words, 64 to a word
-unfoldable pub place : List ℕ → ℕ → Bool
-place words i = bit (slice_index words (i / 64)) (i % 64)
+unfoldable pub bit_in : List ℕ → ℕ → Bool
+bit_in words i = bit (slice_index words (i / 64)) (i % 64)
 
 -- the first len places
-unfoldable pub bits_of : List ℕ → ℕ → List Bool
-bits_of words len = map (place words) (range_with_len 0 len)
+unfoldable pub first_bits : List ℕ → ℕ → List Bool
+first_bits words len = map (bit_in words) (range_with_len 0 len)
 
 -- how many places n words have, as a u32 says it
 abbrev pub room_of : ℕ → ℕ
@@ -17,7 +17,7 @@ room_of n = min (64 * n) (2 ^ 32 - 1)
 
 -- the places from `len` on are not set
 abbrev pub IsClearFrom : List ℕ → ℕ → Type 0
-IsClearFrom words len = (i : ℕ) → len ≤ i → place words i ≡ false
+IsClearFrom words len = (i : ℕ) → len ≤ i → bit_in words i ≡ false
 
 -- these words keep a row of len places
 pub record IsRow (words : List ℕ) (len : ℕ) : Type 0 where
@@ -35,8 +35,8 @@ pub record IsStored (words : List ℕ) (len capacity : ℕ) : Type 0 where
 pub record IsNextPlace (words : List ℕ) (from end r : ℕ) : Type 0 where
   pub from_on : from ≤ r
   pub within : r < end
-  pub set : place words r ≡ true
-  pub least : (i : ℕ) → from ≤ i → i < r → place words i ≡ false
+  pub set : bit_in words r ≡ true
+  pub least : (i : ℕ) → from ≤ i → i < r → bit_in words i ≡ false
 
 -- the words from `from` up to `to` are what f gives for their number, and the others are as they were
 pub record IsWritten (f : ℕ → ℕ) (from to : ℕ) (old new : List ℕ) : Type 0 where

@@ -5,6 +5,9 @@
 //! first place in the lowest bit, and takes its memory in steps of 512 bits.
 //!
 //! [`RankedBits`] are bits that don't change, and tell how many of those before a place are set.
+//!
+//! **Definitions:** `specs/Row.antt`, `Words.antt` and `Ranked.antt`. **Theory:** docs/architecture.md,
+//! "The classifier, by one example". **Proofs:** docs/proofs.md, "Words of bits (`bit_rows`)".
 #![tactic(auto)]
 
 mod lanes;

@@ -1,5 +1,5 @@
 ghost use Rattle.std.specs.Prelude.{◌≡◌, ℕ, ◌+◌, ◌-◌, ◌*◌, ◌^◌, ◌<◌, ◌≤◌, [], length, IfOk};
-ghost use Rattle.bit_rows.specs.Words.{bits_of};
+ghost use Rattle.bit_rows.specs.Words.{first_bits};
 ghost use Rattle.bit_rows.specs.Ranked.{low_ones, rank};
 
 use set_model::Memory;
@@ -25,12 +25,12 @@ pub struct RankedBits {
 
 impl Model for RankedBits {
     ghost use Rattle.std.specs.Prelude.{List, Bool};
-    ghost use Rattle.bit_rows.specs.Words.{bits_of};
+    ghost use Rattle.bit_rows.specs.Words.{first_bits};
     ghost use Rattle.bit_rows.specs.Ranked.{IsRanked};
 
     ghost Value = { List Bool };
 
-    ghost view = { λ r. bits_of r.words.items r.len };
+    ghost view = { λ r. first_bits r.words.items r.len };
 
     ghost invariant = { λ r. IsRanked r.words.items r.len r.ranks.items };
 }
@@ -59,7 +59,7 @@ fn ones_in(words: &[u64], from: u64, to: u64) -> u64
     requires order { from ≤ to }
     requires within { to ≤ length words.now }
     requires fit { 64 * to < 2 ^ 64 }
-    ensures counted { (len : ℕ) → 64 * to ≤ len → rank (bits_of words.now len) (64 * from) + result ≡ rank (bits_of words.now len) (64 * to) }
+    ensures counted { (len : ℕ) → 64 * to ≤ len → rank (first_bits words.now len) (64 * from) + result ≡ rank (first_bits words.now len) (64 * to) }
     ensures bound { result ≤ 64 * (to - from) }
 {
     let mut count = 0;
@@ -87,7 +87,7 @@ impl RankedBits {
     /// `Memory` if there is none left.
     pub fn of_words(alloc: Global, words: Vec<u64>, len: u64) -> Result<RankedBits, Memory>
         requires { len ≤ 64 * length words.items }
-        ensures { IfOk result (λ bits. bits ≡ bits_of words.items len) }
+        ensures { IfOk result (λ bits. bits ≡ first_bits words.items len) }
     {
         let mut ranks = Vec::new(alloc);
         let mut rank = 0;

@@ -1,6 +1,6 @@
 ghost use Rattle.std.specs.Prelude.{◌≡◌, ℕ, ◌+◌, ◌-◌, ◌*◌, ◌%◌, ◌^◌, ◌<◌, ◌≤◌, false, [], ◌∷◌, ◌++◌, length, replicate, cond, vec_capacity, IfOk, OnOk, OnErr, MatchOption};
-ghost use Rattle.bit_rows.specs.Row.{Row, at, both, either, with_run, without_run, bit, IsNextSet, IsCleared, IsPut, IsSpelling};
-ghost use Rattle.bit_rows.specs.Words.{bits_of, room_of, IsStored};
+ghost use Rattle.bit_rows.specs.Row.{Row, at, both, either, with_run, without_run, bit, IsNextSet, IsCleared, IsWordPut, IsSpelling};
+ghost use Rattle.bit_rows.specs.Words.{first_bits, room_of, IsStored};
 
 use crate::{storage, words};
 use set_model::Memory;
@@ -21,7 +21,7 @@ impl Model for BitRow {
     ghost Value = { Row };
 
     ghost view = { λ r. record {
-      bits = bits_of r.words.items r.len;
+      bits = first_bits r.words.items r.len;
       spare = room_of (length r.words.items) - r.len;
     } };
 
@@ -33,6 +33,7 @@ fn words_taken(places: u32) -> usize
     ensures steps { result % 8 ≡ 0 }
     ensures small { result ≤ 2 ^ 26 }
     ensures within { places ≤ 64 * result }
+    ensures least { 64 * result ≤ places + 511 }
 {
     (places as usize + 511) / 512 * 8
 }
@@ -57,12 +58,13 @@ fn words_kept(len: u32, bit: bool, used: usize) -> usize
 
 #[tactic(auto, using(crate::proofs::Rows::reads))]
 impl BitRow {
-    /// A row of `len` places, none of them set.
+    /// A row of `len` places, none of them set. It has room for the next multiple of 512 places.
     ///
     /// # Errors
     /// `Memory` if there is none left.
     pub fn zeros(alloc: Global, len: u32) -> Result<Self, Memory>
-        ensures { IfOk result (λ row. row.bits ≡ replicate len false) }
+        ensures zeros { IfOk result (λ row. row.bits ≡ replicate len false) }
+        ensures tight { IfOk result (λ row. len % 512 ≡ 0 → row.spare ≡ 0) }
     {
         let mut words = Vec::new(alloc);
         storage::grow(&mut words, words_taken(len))?;
@@ -194,7 +196,7 @@ impl BitRow {
     pub fn put_word(&mut self, i: u32, word: u64)
         requires place { 64 * i < length self.old.bits }
         requires within { (k : ℕ) → k < 64 → length self.old.bits ≤ 64 * i + k → bit word k ≡ false }
-        ensures bits { IsPut i word self.old.bits self.new.bits }
+        ensures bits { IsWordPut i word self.old.bits self.new.bits }
         ensures spare { self.new.spare ≡ self.old.spare }
     {
         storage::put_word(&mut self.words, i as usize, word);

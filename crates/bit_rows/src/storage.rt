@@ -1,7 +1,7 @@
 // The functions on words, over the vector that keeps a row.
 ghost use Rattle.std.specs.Prelude.{◌≡◌, ℕ, ◌+◌, ◌-◌, ◌*◌, ◌^◌, ◌<◌, ◌≤◌, false, cond, ◌&&◌, ◌||◌, nat_lt, length, slice_index, vec_capacity, IfOk, OnOk, OnErr};
 ghost use Rattle.bit_rows.specs.Row.{bit, lies};
-ghost use Rattle.bit_rows.specs.Words.{place};
+ghost use Rattle.bit_rows.specs.Words.{bit_in};
 
 use crate::words;
 use set_model::Memory;
@@ -16,7 +16,7 @@ pub(crate) fn grow(words: &mut Vec<u64>, n: usize) -> Result<(), Memory>
     requires more { length words.old.items ≤ n }
     requires full { vec_capacity words.old ≡ length words.old.items }
     ensures length { OnOk result (length words.new.items ≡ n) }
-    ensures places { OnOk result ((i : ℕ) → place words.new.items i ≡ place words.old.items i) }
+    ensures places { OnOk result ((i : ℕ) → bit_in words.new.items i ≡ bit_in words.old.items i) }
     ensures err { OnErr result (words.new.items ≡ words.old.items) }
     ensures full { vec_capacity words.new ≡ length words.new.items }
 {
@@ -50,8 +50,8 @@ pub(crate) fn set_places(words: &mut Vec<u64>, from: usize, to: usize, bit: bool
     requires within { to ≤ 64 * length words.old.items }
     ensures length { length words.new.items ≡ length words.old.items }
     ensures room { vec_capacity words.new ≡ vec_capacity words.old }
-    ensures places { (i : ℕ) → place words.new.items i
-        ≡ (place words.old.items i || (bit && lies from to i)) }
+    ensures places { (i : ℕ) → bit_in words.new.items i
+        ≡ (bit_in words.old.items i || (bit && lies from to i)) }
 {
     if bit {
         words::set_places(words.as_mut_slice(), from, to);
@@ -65,8 +65,8 @@ pub(crate) fn clear_words(words: &mut Vec<u64>, from: usize, to: usize)
     requires within { to ≤ length words.old.items }
     ensures length { length words.new.items ≡ length words.old.items }
     ensures room { vec_capacity words.new ≡ vec_capacity words.old }
-    ensures places { (i : ℕ) → place words.new.items i
-        ≡ cond (lies (64 * from) (64 * to) i) false (place words.old.items i) }
+    ensures places { (i : ℕ) → bit_in words.new.items i
+        ≡ cond (lies (64 * from) (64 * to) i) false (bit_in words.old.items i) }
 {
     words::fill_words(words.as_mut_slice(), from, to, false);
 }
@@ -78,8 +78,8 @@ pub(crate) fn take_word(words: &mut Vec<u64>, w: usize) -> u64
     ensures word { result ≡ slice_index words.old.items w }
     ensures length { length words.new.items ≡ length words.old.items }
     ensures room { vec_capacity words.new ≡ vec_capacity words.old }
-    ensures places { (i : ℕ) → place words.new.items i
-        ≡ cond (lies (64 * w) (64 * (w + 1)) i) false (place words.old.items i) }
+    ensures places { (i : ℕ) → bit_in words.new.items i
+        ≡ cond (lies (64 * w) (64 * (w + 1)) i) false (bit_in words.old.items i) }
 {
     words::take_word(words.as_mut_slice(), w)
 }
@@ -90,8 +90,8 @@ pub(crate) fn put_word(words: &mut Vec<u64>, w: usize, word: u64)
     requires { w < length words.old.items }
     ensures length { length words.new.items ≡ length words.old.items }
     ensures room { vec_capacity words.new ≡ vec_capacity words.old }
-    ensures places { (i : ℕ) → place words.new.items i
-        ≡ cond (lies (64 * w) (64 * (w + 1)) i) (bit word (i - 64 * w)) (place words.old.items i) }
+    ensures places { (i : ℕ) → bit_in words.new.items i
+        ≡ cond (lies (64 * w) (64 * (w + 1)) i) (bit word (i - 64 * w)) (bit_in words.old.items i) }
 {
     words::put_word(words.as_mut_slice(), w, word);
 }
@@ -103,8 +103,8 @@ pub(crate) fn and_words(words: &mut Vec<u64>, other: &[u64], n: usize)
     requires there { n ≤ length other.now }
     ensures length { length words.new.items ≡ length words.old.items }
     ensures room { vec_capacity words.new ≡ vec_capacity words.old }
-    ensures places { (i : ℕ) → place words.new.items i
-        ≡ cond (nat_lt i (64 * n)) (place words.old.items i && place other.now i) (place words.old.items i) }
+    ensures places { (i : ℕ) → bit_in words.new.items i
+        ≡ cond (nat_lt i (64 * n)) (bit_in words.old.items i && bit_in other.now i) (bit_in words.old.items i) }
 {
     words::and_words(words.as_mut_slice(), other, n);
 }
@@ -116,8 +116,8 @@ pub(crate) fn or_words(words: &mut Vec<u64>, other: &[u64], n: usize)
     requires there { n ≤ length other.now }
     ensures length { length words.new.items ≡ length words.old.items }
     ensures room { vec_capacity words.new ≡ vec_capacity words.old }
-    ensures places { (i : ℕ) → place words.new.items i
-        ≡ cond (nat_lt i (64 * n)) (place words.old.items i || place other.now i) (place words.old.items i) }
+    ensures places { (i : ℕ) → bit_in words.new.items i
+        ≡ cond (nat_lt i (64 * n)) (bit_in words.old.items i || bit_in other.now i) (bit_in words.old.items i) }
 {
     words::or_words(words.as_mut_slice(), other, n);
 }
@@ -131,8 +131,8 @@ pub(crate) fn close_up(words: &mut Vec<u64>, from: usize, n: usize, used: usize)
     requires words { length words.old.items ≤ 2 ^ 26 }
     ensures length { length words.new.items ≡ length words.old.items }
     ensures room { vec_capacity words.new ≡ vec_capacity words.old }
-    ensures places { (i : ℕ) → place words.new.items i
-        ≡ cond (lies from (64 * used) i) (place words.old.items (i + n)) (place words.old.items i) }
+    ensures places { (i : ℕ) → bit_in words.new.items i
+        ≡ cond (lies from (64 * used) i) (bit_in words.old.items (i + n)) (bit_in words.old.items i) }
 {
     words::close_up(words.as_mut_slice(), from, n, used);
 }

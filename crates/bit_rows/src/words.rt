@@ -1,7 +1,7 @@
 // Words of 64 bits, and the places over a slice of words.
 ghost use Rattle.std.specs.Prelude.{◌≡◌, ◌≢◌, ℕ, ◌+◌, ◌-◌, ◌*◌, ◌/◌, ◌%◌, ◌^◌, ◌<◌, ◌≤◌, true, false, cond, ◌&&◌, ◌||◌, nat_le, nat_lt, length, slice_index, MatchOption};
 ghost use Rattle.bit_rows.specs.Row.{bit, lies};
-ghost use Rattle.bit_rows.specs.Words.{place, IsNextPlace};
+ghost use Rattle.bit_rows.specs.Words.{bit_in, IsNextPlace};
 
 use crate::lanes;
 
@@ -64,7 +64,7 @@ pub fn joined(low: u64, high: u64, by: u32) -> u64
 #[inline(always)]
 fn word_from(words: &[u64], from: usize) -> u64
     requires { from < 2 ^ 63 }
-    ensures { (k : ℕ) → k < 64 → bit result k ≡ place words.now (from + k) }
+    ensures { (k : ℕ) → k < 64 → bit result k ≡ bit_in words.now (from + k) }
 {
     let w = from / 64;
     joined(word_at(words, w), word_at(words, w + 1), (from % 64) as u32)
@@ -75,7 +75,7 @@ fn word_from(words: &[u64], from: usize) -> u64
 fn word_within(words: &[u64], w: usize, by: u32) -> u64
     requires within { w + 1 < length words.now }
     requires bit { by < 64 }
-    ensures { (k : ℕ) → k < 64 → bit result k ≡ place words.now (64 * w + by + k) }
+    ensures { (k : ℕ) → k < 64 → bit result k ≡ bit_in words.now (64 * w + by + k) }
 {
     joined(words[w], words[w + 1], by)
 }
@@ -97,7 +97,7 @@ pub(crate) fn set_places(words: &mut [u64], from: usize, to: usize)
     requires order { from ≤ to }
     requires within { to ≤ 64 * length words.old }
     ensures length { length words.new ≡ length words.old }
-    ensures places { (i : ℕ) → place words.new i ≡ (place words.old i || lies from to i) }
+    ensures places { (i : ℕ) → bit_in words.new i ≡ (bit_in words.old i || lies from to i) }
 {
     if from < to {
         let (first, last) = (from / 64, (to - 1) / 64);
@@ -118,7 +118,7 @@ fn set_in_word(words: &mut [u64], from: usize, to: usize)
     requires within { to ≤ 64 * length words.old }
     requires one { (to - 1) / 64 ≡ from / 64 }
     ensures length { length words.new ≡ length words.old }
-    ensures places { (i : ℕ) → place words.new i ≡ (place words.old i || lies from to i) }
+    ensures places { (i : ℕ) → bit_in words.new i ≡ (bit_in words.old i || lies from to i) }
 {
     words[from / 64] |= mask((from % 64) as u32, ((to - 1) % 64 + 1) as u32);
 }
@@ -128,8 +128,8 @@ pub(crate) fn fill_words(words: &mut [u64], from: usize, to: usize, bit: bool)
     requires order { from ≤ to }
     requires within { to ≤ length words.old }
     ensures length { length words.new ≡ length words.old }
-    ensures places { (i : ℕ) → place words.new i
-        ≡ cond (lies (64 * from) (64 * to) i) bit (place words.old i) }
+    ensures places { (i : ℕ) → bit_in words.new i
+        ≡ cond (lies (64 * from) (64 * to) i) bit (bit_in words.old i) }
 {
     let word = if bit { u64::MAX } else { 0 };
     let blocks = (to - from) / 8;
@@ -147,8 +147,8 @@ pub(crate) fn take_word(words: &mut [u64], w: usize) -> u64
     requires { w < length words.old }
     ensures word { result ≡ slice_index words.old w }
     ensures length { length words.new ≡ length words.old }
-    ensures places { (i : ℕ) → place words.new i
-        ≡ cond (lies (64 * w) (64 * (w + 1)) i) false (place words.old i) }
+    ensures places { (i : ℕ) → bit_in words.new i
+        ≡ cond (lies (64 * w) (64 * (w + 1)) i) false (bit_in words.old i) }
 {
     let word = words[w];
     words[w] = 0;
@@ -160,8 +160,8 @@ pub(crate) fn take_word(words: &mut [u64], w: usize) -> u64
 pub(crate) fn put_word(words: &mut [u64], w: usize, word: u64)
     requires { w < length words.old }
     ensures length { length words.new ≡ length words.old }
-    ensures places { (i : ℕ) → place words.new i
-        ≡ cond (lies (64 * w) (64 * (w + 1)) i) (bit word (i - 64 * w)) (place words.old i) }
+    ensures places { (i : ℕ) → bit_in words.new i
+        ≡ cond (lies (64 * w) (64 * (w + 1)) i) (bit word (i - 64 * w)) (bit_in words.old i) }
 {
     words[w] = word;
 }
@@ -171,8 +171,8 @@ pub(crate) fn and_words(words: &mut [u64], other: &[u64], n: usize)
     requires here { n ≤ length words.old }
     requires there { n ≤ length other.now }
     ensures length { length words.new ≡ length words.old }
-    ensures places { (i : ℕ) → place words.new i
-        ≡ cond (nat_lt i (64 * n)) (place words.old i && place other.now i) (place words.old i) }
+    ensures places { (i : ℕ) → bit_in words.new i
+        ≡ cond (nat_lt i (64 * n)) (bit_in words.old i && bit_in other.now i) (bit_in words.old i) }
 {
     let blocks = n / 8;
     'lanes: for b in 0..blocks {
@@ -188,8 +188,8 @@ pub(crate) fn or_words(words: &mut [u64], other: &[u64], n: usize)
     requires here { n ≤ length words.old }
     requires there { n ≤ length other.now }
     ensures length { length words.new ≡ length words.old }
-    ensures places { (i : ℕ) → place words.new i
-        ≡ cond (nat_lt i (64 * n)) (place words.old i || place other.now i) (place words.old i) }
+    ensures places { (i : ℕ) → bit_in words.new i
+        ≡ cond (nat_lt i (64 * n)) (bit_in words.old i || bit_in other.now i) (bit_in words.old i) }
 {
     let blocks = n / 8;
     'lanes: for b in 0..blocks {
@@ -207,8 +207,8 @@ pub(crate) fn close_up(words: &mut [u64], from: usize, n: usize, used: usize)
     requires small { n < 2 ^ 32 }
     requires words { length words.old ≤ 2 ^ 26 }
     ensures length { length words.new ≡ length words.old }
-    ensures places { (i : ℕ) → place words.new i
-        ≡ cond (lies from (64 * used) i) (place words.old (i + n)) (place words.old i) }
+    ensures places { (i : ℕ) → bit_in words.new i
+        ≡ cond (lies from (64 * used) i) (bit_in words.old (i + n)) (bit_in words.old i) }
 {
     let first = from / 64;
     let moved = word_from(words, first * 64 + n);
@@ -227,7 +227,7 @@ pub(crate) fn close_up(words: &mut [u64], from: usize, n: usize, used: usize)
 pub(crate) fn next_place(words: &[u64], from: usize, n: usize) -> Option<usize>
     requires here { n ≤ length words.now }
     requires small { n ≤ 2 ^ 26 }
-    ensures { MatchOption result ((i : ℕ) → from ≤ i → i < 64 * n → place words.now i
+    ensures { MatchOption result ((i : ℕ) → from ≤ i → i < 64 * n → bit_in words.now i
         ≡ false) (IsNextPlace words.now from (64 * n)) }
 {
     let first = from / 64;
@@ -255,7 +255,7 @@ fn past_zero_lanes(words: &[u64], from: usize, to: usize) -> usize
     requires within { to ≤ length words.now }
     ensures low { from ≤ result }
     ensures high { result ≤ to }
-    ensures clear { (i : ℕ) → 64 * from ≤ i → i < 64 * result → place words.now i ≡ false }
+    ensures clear { (i : ℕ) → 64 * from ≤ i → i < 64 * result → bit_in words.now i ≡ false }
 {
     let blocks = (to - from) / 8;
     'lanes: for b in 0..blocks {

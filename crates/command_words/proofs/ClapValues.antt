@@ -12,8 +12,8 @@ use Rattle.clap.proofs.OnLiterals.{clap_on_literals}
 use Rattle.clap.proofs.WalkLemmas.{first_value-rows, one_text-rows}
 use Rattle.clap.specs.Matches.{found_of}
 use Rattle.clap.specs.declared.parser.matches.ArgMatches.{ArgMatches}
-use Rattle.command_words.specs.WordForms.{ArePlain, HasValues}
-use Rattle.command_words.specs.Words.{is_name, threads_word, keep_going_word, AreArguments, no_words, name_and, threads_and, mark_and, AreWords}
+use Rattle.command_words.specs.WordForms.{ArePlain, HasFoundValues}
+use Rattle.command_words.specs.Words.{is_file_name, threads_word, keep_going_word, AreArguments, no_words, name_and, threads_and, mark_and, AreWords}
 
 abbrev first : Rule
 first = new_rule (codes "first")
@@ -45,7 +45,7 @@ abbrev between : Held → ℕ → Walk
 between h position = record { held = h; waiting = idle; position = position; is_trailing = false; stopped = None }
 
 -- a name goes to the next position
-name-step : (w : Text) (h : Held) (position : ℕ) → is_name w ≡ true → walked rules [] (between h position) w ≡ to_positional rules (arg_by_index rules position) w (between h position) h
+name-step : (w : Text) (h : Held) (position : ℕ) → is_file_name w ≡ true → walked rules [] (between h position) w ≡ to_positional rules (arg_by_index rules position) w (between h position) h
 unfolding walked
 name-step [] h position e = absurd (true≢false (sym e))
 name-step (b ∷ []) h position e = go (b == 45) refl where
@@ -69,7 +69,7 @@ threads-step h position = refl
 abbrev counted : Held → Text → Held
 counted h w = record (settled rules h) { pending = Some (codes "threads", w ∷ []) }
 
-count-step : (w : Text) (h : Held) (position : ℕ) → is_name w ≡ true → walked rules [] (waiting-for h position) w ≡ between (counted h w) position
+count-step : (w : Text) (h : Held) (position : ℕ) → is_file_name w ≡ true → walked rules [] (waiting-for h position) w ≡ between (counted h w) position
 unfolding walked
 count-step [] h position e = absurd (true≢false (sym e))
 count-step (b ∷ []) h position e = go (b == 45) refl where
@@ -225,7 +225,7 @@ record Holds (at : Walk) (names : List Text) (threads : Option Text) (goes : Boo
   finds : Finds (held_rows held) names threads goes
 
 abbrev Plain : Option Text → Type 0
-Plain threads = IfSome threads (λ w. is_name w ≡ true)
+Plain threads = IfSome threads (λ w. is_file_name w ≡ true)
 
 abbrev either : Option Text → Option Text → Option Text
 either None t = t
@@ -337,7 +337,7 @@ nothing-found : Finds [] [] None false
 nothing-found = record { first_is = refl; second_is = refl; third_is = refl; threads_are = refl; mark_is = refl }
 
 -- Of the words of a command `clap` gives its values.
-pub gives-values : (words : List Text) (word : Text) (names : List Text) (threads : Option Text) (goes : Bool) (m : ArgMatches) → HasMatchesOf program words m → AreWords words word names threads goes → ArePlain names threads → HasValues (found_of m) names threads goes
+pub gives-values : (words : List Text) (word : Text) (names : List Text) (threads : Option Text) (goes : Bool) (m : ArgMatches) → HasMatchesOf program words m → AreWords words word names threads goes → ArePlain names threads → HasFoundValues (found_of m) names threads goes
 gives-values words word names threads goes m matches said plain =
     let few = plain.few in
     let w = through said.rest names threads goes said.arguments [] None false nothing_held (omega (arith, few)) plain.no_dash (λ e. refl) (λ e. refl) nothing-found in

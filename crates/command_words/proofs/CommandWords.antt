@@ -12,8 +12,8 @@ use Rattle.std.proofs.lemmas.Str.Parse.{digit_at}
 use Rattle.command_words.specs.declared.shape.Verb.{Verb}
 use Rattle.command_words.specs.declared.shape.Verb.TheVariants.{Run, List as Lists, Dump, Drill, Judge, Capture, Desk}
 use Rattle.command_words.specs.declared.shape.Shape.{Shape}
-use Rattle.command_words.specs.Words.{stdin_name, is_stdin, verb_word, IsNumber, AreThreads, AreWords, ArePacketWords, Command, run, list, dump, drill, judge, capture, desk, IsCommand, AreArguments, no_words, name_and, threads_and, mark_and, is_name, threads_word, keep_going_word, last_seed, most_elements}
-use Rattle.command_words.specs.WordForms.{verb_of, name_count, is_whole, begun, stdin_once, fits, HasVerb, number_in, takes_name, takes_threads, takes_mark, with_threads, with_argument, with_word, after}
+use Rattle.command_words.specs.Words.{stdin_name, is_stdin, verb_word, IsNumber, AreThreads, AreWords, ArePacketWords, Command, run, list, dump, drill, judge, capture, desk, IsCommand, AreArguments, no_words, name_and, threads_and, mark_and, is_file_name, threads_word, keep_going_word, last_seed, most_drill_elements}
+use Rattle.command_words.specs.WordForms.{verb_of, name_count, is_whole_shape, empty_shape, stdin_once, fits, HasVerb, number_within, takes_name, takes_threads, takes_mark, with_threads, with_argument, with_word, shape_after}
 
 both : (a b : Bool) → (a && b) ≡ true → (a ≡ true) × (b ≡ true)
 both true b e = (refl, e)
@@ -30,8 +30,8 @@ then_some-some : {X : Type 0} (test : Bool) (x y : X) → then_some test x ≡ S
 then_some-some true x y e = (refl, cc e)
 then_some-some false x y e = absurd (cc e)
 
-pub number-sound : (low high : ℕ) (word : List ℕ) (n : ℕ) → number_in low high word ≡ Some n → IsNumber low high word n
-unfolding number_in
+pub number-sound : (low high : ℕ) (word : List ℕ) (n : ℕ) → number_within low high word ≡ Some n → IsNumber low high word n
+unfolding number_within
 number-sound low high word n e =
     let k = then_some-some _ (digits_value 10 word) n e in
     let a = both _ _ k.0 in
@@ -39,25 +39,25 @@ number-sound low high word n e =
     let same = k.1 in
     (same-bytes word _ a.0 ∙ ap decimal same, subst (λ m. low ≤ m) same (leb-true _ _ b.0), subst (λ m. m ≤ high) same (leb-true _ _ b.1))
 
-pub number-complete : (low high : ℕ) (word : List ℕ) (n : ℕ) → high < 2 ^ 64 → IsNumber low high word n → number_in low high word ≡ Some n
-unfolding number_in
+pub number-complete : (low high : ℕ) (word : List ℕ) (n : ℕ) → high < 2 ^ 64 → IsNumber low high word n → number_within low high word ≡ Some n
+unfolding number_within
 number-complete low high word n small h =
     let fits : n < 2 ^ 64 = omega (arith, h.2, small) in
     let value : digits_value 10 word ≡ n = ap (digits_value 10) h.0 ∙ (decimal_is_IsNumeral n fits).1 in
     rw (value, h.0, bytes-same (decimal n), le-leb _ _ h.1, le-leb _ _ h.2) refl
 
 -- A word writes no number where it is parsed as none that fits.
-pub number-none : {E : Type 0} (low high : ℕ) (word : List ℕ) (r : Result ℕ E) → high < 2 ^ 64 → ParsesUnsigned 64 10 word r → ((n : ℕ) → r ≡ Ok n → IsNumber low high word n → ⊥) → None ≡ number_in low high word
-number-none low high word r small parsed never = go (number_in low high word) refl where
-  go : (o : Option ℕ) → number_in low high word ≡ o → None ≡ o
+pub number-none : {E : Type 0} (low high : ℕ) (word : List ℕ) (r : Result ℕ E) → high < 2 ^ 64 → ParsesUnsigned 64 10 word r → ((n : ℕ) → r ≡ Ok n → IsNumber low high word n → ⊥) → None ≡ number_within low high word
+number-none low high word r small parsed never = go (number_within low high word) refl where
+  go : (o : Option ℕ) → number_within low high word ≡ o → None ≡ o
   go None e = refl
   go (Some n) e = let h = number-sound low high word n e in absurd (never n (parse-decimal 64 n word r (omega (arith, h.2, small)) (omega (arith, h.2, small)) h.0 parsed) h)
 
 -- a name is no option
-name-no-option : (option word : List ℕ) → is_name option ≡ false → is_name word ≡ true → bytes_eq word option ≡ false
+name-no-option : (option word : List ℕ) → is_file_name option ≡ false → is_file_name word ≡ true → bytes_eq word option ≡ false
 name-no-option option word dash e = go (bytes_eq word option) refl where
   go : (t : Bool) → bytes_eq word option ≡ t → t ≡ false
-  go true same = absurd (true≢false (sym e ∙ ap is_name (same-bytes word option same) ∙ dash))
+  go true same = absurd (true≢false (sym e ∙ ap is_file_name (same-bytes word option same) ∙ dash))
   go false same = refl
 
 -- the names from a place on are those of a command
@@ -68,7 +68,7 @@ NamesFit verb place (word ∷ names) = (takes_name verb place word ≡ true) × 
 -- `--threads` may stand, and its word is a number of packet threads
 abbrev ThreadsFit : Verb → Bool → Option (List ℕ) → Type 0
 ThreadsFit verb stood None = Unit {0}
-ThreadsFit verb stood (Some word) = (takes_threads verb ≡ true) × (stood ≡ false) × (is_some (number_in 1 16 word) ≡ true)
+ThreadsFit verb stood (Some word) = (takes_threads verb ≡ true) × (stood ≡ false) × (is_some (number_within 1 16 word) ≡ true)
 
 abbrev MarkFits : Verb → Bool → Bool → Type 0
 MarkFits verb stood keep_going = keep_going ≡ true → (takes_mark verb ≡ true) × (stood ≡ false)
@@ -92,7 +92,7 @@ not-false b e = rw e refl
 -- A shape goes through the arguments that fit it, and has all names.
 goes-through : (verb : Verb) (rest names : List (List ℕ)) (threads : Option (List ℕ)) (keep_going : Bool) → AreArguments rest names threads keep_going
     → (n : ℕ) (t g : Bool) → NamesFit verb n names → ThreadsFit verb t threads → MarkFits verb g keep_going
-    → (s : Shape) × (fold (after verb) (Some (shape n t g false)) rest ≡ Some s) × (s.waiting ≡ false) × (s.names ≡ n + length names)
+    → (s : Shape) × (fold (shape_after verb) (Some (shape n t g false)) rest ≡ Some s) × (s.waiting ≡ false) × (s.names ≡ n + length names)
 goes-through verb rest names threads keep_going no_words n t g ns ts gs = (shape n t g false, refl, refl, omega arith)
 goes-through verb rest names threads keep_going (name_and {word = word} {rest = ws} {names = ms} e more) n t g ns ts gs =
     let r = goes-through verb ws ms threads keep_going more (n + 1) t g ns.1 ts gs in
@@ -106,7 +106,7 @@ goes-through verb rest names threads keep_going (mark_and {rest = ws} more) n t 
     let r = goes-through verb ws names threads false more n t true ns ts (λ e. absurd (true≢false (sym e))) in
     (r.0, rw (and-true _ _ h.0 (not-false g h.1)) r.1, r.2, r.3)
 
-none-stays : (verb : Verb) (words : List (List ℕ)) → fold (after verb) None words ≡ None
+none-stays : (verb : Verb) (words : List (List ℕ)) → fold (shape_after verb) None words ≡ None
 none-stays verb [] = refl
 none-stays verb (w ∷ words) = none-stays verb words
 
@@ -115,20 +115,20 @@ is-false true e = absurd (true≢false (sym e))
 is-false false e = refl
 
 -- What a number is written by is a name.
-digit-first : (n : ℕ) → n < 2 ^ 64 → is_name (decimal n) ≡ true
+digit-first : (n : ℕ) → n < 2 ^ 64 → is_file_name (decimal n) ≡ true
 digit-first n small = go (decimal n) (decimal_nonempty n small) (digit_at (decimal n) 0 (decimal_is_IsNumeral n small).0.1 (decimal_nonempty n small)).0 where
-  go : (word : List ℕ) → 0 < length word → 48 ≤ get_or word 0 0 → is_name word ≡ true
+  go : (word : List ℕ) → 0 < length word → 48 ≤ get_or word 0 0 → is_file_name word ≡ true
   go [] some high = absurd (omega (arith, some))
   go (b ∷ []) some high = refl
   go (b ∷ c ∷ word) some high = ap not (ne_eqb b 45 (λ e. omega (arith, high, e)))
 
-number-name : (low high : ℕ) (word : List ℕ) → high < 2 ^ 64 → is_some (number_in low high word) ≡ true → is_name word ≡ true
-number-name low high word small e = go (number_in low high word) refl e where
-  go : (o : Option ℕ) → number_in low high word ≡ o → is_some o ≡ true → is_name word ≡ true
+number-name : (low high : ℕ) (word : List ℕ) → high < 2 ^ 64 → is_some (number_within low high word) ≡ true → is_file_name word ≡ true
+number-name low high word small e = go (number_within low high word) refl e where
+  go : (o : Option ℕ) → number_within low high word ≡ o → is_some o ≡ true → is_file_name word ≡ true
   go None is f = absurd (true≢false (sym f))
-  go (Some n) is f = let h = number-sound low high word n is in ap is_name h.0 ∙ digit-first n (omega (arith, h.2, small))
+  go (Some n) is f = let h = number-sound low high word n is in ap is_file_name h.0 ∙ digit-first n (omega (arith, h.2, small))
 
-name-of-command : (verb : Verb) (place : ℕ) (word : List ℕ) → takes_name verb place word ≡ true → is_name word ≡ true
+name-of-command : (verb : Verb) (place : ℕ) (word : List ℕ) → takes_name verb place word ≡ true → is_file_name word ≡ true
 name-of-command Run place word e = (both _ _ e).1
 name-of-command Lists place word e = (both _ _ e).1
 name-of-command Dump place word e = (both _ _ e).1
@@ -136,9 +136,9 @@ name-of-command Judge place word e = (both _ _ e).1
 name-of-command Capture place word e = (both _ _ e).1
 name-of-command Desk place word e = (both _ _ e).1
 name-of-command Drill place word e = go (place == 0) (both _ _ e).1 where
-  go : (b : Bool) → is_some (cond b (number_in 0 last_seed word) (number_in 1 most_elements word)) ≡ true → is_name word ≡ true
+  go : (b : Bool) → is_some (cond b (number_within 0 last_seed word) (number_within 1 most_drill_elements word)) ≡ true → is_file_name word ≡ true
   go true f = number-name 0 last_seed word (omega arith) f
-  go false f = number-name 1 most_elements word (omega arith) f
+  go false f = number-name 1 most_drill_elements word (omega arith) f
 
 -- What a shape came through are arguments that fit it.
 record Read (verb : Verb) (n : ℕ) (t g : Bool) (rest : List (List ℕ)) (s : Shape) : Type 0 where
@@ -153,20 +153,20 @@ record Read (verb : Verb) (n : ℕ) (t g : Bool) (rest : List (List ℕ)) (s : S
 
 module _ (verb : Verb) (s : Shape) (ended : s.waiting ≡ false) where
   abbrev Through : ℕ → Bool → Bool → Bool → List (List ℕ) → Type 0
-  Through n t g w rest = fold (after verb) (Some (shape n t g w)) rest ≡ Some s
+  Through n t g w rest = fold (shape_after verb) (Some (shape n t g w)) rest ≡ Some s
 
-  stopped : {X : Type 0} (words : List (List ℕ)) → fold (after verb) None words ≡ Some s → X
+  stopped : {X : Type 0} (words : List (List ℕ)) → fold (shape_after verb) None words ≡ Some s → X
   stopped words e = absurd (cc (none-stays verb words, e))
 
   -- behind `--threads`
   read-threads : (n : ℕ) (g : Bool) (count : List ℕ) (rest : List (List ℕ)) (t : Bool) → (takes_threads verb ≡ true) × (t ≡ false)
-      → fold (after verb) (with_threads (shape n true g true) count) rest ≡ Some s → (Through n true g false rest → Read verb n true g rest s) → Read verb n t g (threads_word ∷ count ∷ rest) s
-  read-threads n g count rest t allowed e onward = go (is_some (number_in 1 16 count)) refl e where
+      → fold (shape_after verb) (with_threads (shape n true g true) count) rest ≡ Some s → (Through n true g false rest → Read verb n true g rest s) → Read verb n t g (threads_word ∷ count ∷ rest) s
+  read-threads n g count rest t allowed e onward = go (is_some (number_within 1 16 count)) refl e where
     unstood : (o : Option (List ℕ)) → ThreadsFit verb true o → o ≡ None
     unstood None h = refl
     unstood (Some w) h = absurd (true≢false h.1)
 
-    go : (b : Bool) → is_some (number_in 1 16 count) ≡ b → fold (after verb) (then_some b (shape n true g false)) rest ≡ Some s → Read verb n t g (threads_word ∷ count ∷ rest) s
+    go : (b : Bool) → is_some (number_within 1 16 count) ≡ b → fold (shape_after verb) (then_some b (shape n true g false)) rest ≡ Some s → Read verb n t g (threads_word ∷ count ∷ rest) s
     go false is e = stopped rest e
     go true is e =
         let r = onward e in
@@ -181,14 +181,14 @@ module _ (verb : Verb) (s : Shape) (ended : s.waiting ≡ false) where
           count = r.count;
         }
 
-  read-mark : (n : ℕ) (t g : Bool) (rest : List (List ℕ)) → fold (after verb) (then_some (takes_mark verb && not g) (shape n t true false)) rest ≡ Some s
+  read-mark : (n : ℕ) (t g : Bool) (rest : List (List ℕ)) → fold (shape_after verb) (then_some (takes_mark verb && not g) (shape n t true false)) rest ≡ Some s
       → (Through n t true false rest → Read verb n t true rest s) → Read verb n t g (keep_going_word ∷ rest) s
   read-mark n t g rest e onward = go (takes_mark verb && not g) refl e where
     unstood : (b : Bool) → MarkFits verb true b → b ≡ false
     unstood true h = absurd (true≢false (h refl).1)
     unstood false h = refl
 
-    go : (b : Bool) → (takes_mark verb && not g) ≡ b → fold (after verb) (then_some b (shape n t true false)) rest ≡ Some s → Read verb n t g (keep_going_word ∷ rest) s
+    go : (b : Bool) → (takes_mark verb && not g) ≡ b → fold (shape_after verb) (then_some b (shape n t true false)) rest ≡ Some s → Read verb n t g (keep_going_word ∷ rest) s
     go false is e = stopped rest e
     go true is e =
         let r = onward e in
@@ -204,10 +204,10 @@ module _ (verb : Verb) (s : Shape) (ended : s.waiting ≡ false) where
           count = r.count;
         }
 
-  read-name : (n : ℕ) (t g : Bool) (word : List ℕ) (rest : List (List ℕ)) → fold (after verb) (then_some (takes_name verb n word) (shape (n + 1) t g false)) rest ≡ Some s
+  read-name : (n : ℕ) (t g : Bool) (word : List ℕ) (rest : List (List ℕ)) → fold (shape_after verb) (then_some (takes_name verb n word) (shape (n + 1) t g false)) rest ≡ Some s
       → (Through (n + 1) t g false rest → Read verb (n + 1) t g rest s) → Read verb n t g (word ∷ rest) s
   read-name n t g word rest e onward = go (takes_name verb n word) refl e where
-    go : (b : Bool) → takes_name verb n word ≡ b → fold (after verb) (then_some b (shape (n + 1) t g false)) rest ≡ Some s → Read verb n t g (word ∷ rest) s
+    go : (b : Bool) → takes_name verb n word ≡ b → fold (shape_after verb) (then_some b (shape (n + 1) t g false)) rest ≡ Some s → Read verb n t g (word ∷ rest) s
     go false is e = stopped rest e
     go true is e =
         let r = onward e in
@@ -223,25 +223,25 @@ module _ (verb : Verb) (s : Shape) (ended : s.waiting ≡ false) where
         }
 
   -- the three forms of a word
-  by-word : (n : ℕ) (t g : Bool) (word : List ℕ) (rest : List (List ℕ)) → fold (after verb) (with_argument verb (shape n t g false) word) rest ≡ Some s
-      → (fold (after verb) (then_some (takes_threads verb && not t) (shape n true g true)) rest ≡ Some s → Read verb n t g (threads_word ∷ rest) s)
+  by-word : (n : ℕ) (t g : Bool) (word : List ℕ) (rest : List (List ℕ)) → fold (shape_after verb) (with_argument verb (shape n t g false) word) rest ≡ Some s
+      → (fold (shape_after verb) (then_some (takes_threads verb && not t) (shape n true g true)) rest ≡ Some s → Read verb n t g (threads_word ∷ rest) s)
       → (Through n t true false rest → Read verb n t true rest s) → (Through (n + 1) t g false rest → Read verb (n + 1) t g rest s) → Read verb n t g (word ∷ rest) s
   by-word n t g word rest e counted marked named = go (bytes_eq word threads_word) (bytes_eq word keep_going_word) refl refl e where
     go : (a b : Bool) → bytes_eq word threads_word ≡ a → bytes_eq word keep_going_word ≡ b
-        → fold (after verb) (cond a (then_some (takes_threads verb && not t) (shape n true g true)) (cond b (then_some (takes_mark verb && not g) (shape n t true false)) (then_some (takes_name verb n word) (shape (n + 1) t g false)))) rest ≡ Some s
+        → fold (shape_after verb) (cond a (then_some (takes_threads verb && not t) (shape n true g true)) (cond b (then_some (takes_mark verb && not g) (shape n t true false)) (then_some (takes_name verb n word) (shape (n + 1) t g false)))) rest ≡ Some s
         → Read verb n t g (word ∷ rest) s
     go true b is other e = subst (λ (w : List ℕ). Read verb n t g (w ∷ rest) s) (sym (same-bytes word threads_word is)) (counted e)
     go false true is other e = subst (λ (w : List ℕ). Read verb n t g (w ∷ rest) s) (sym (same-bytes word keep_going_word other)) (read-mark n t g rest e marked)
     go false false is other e = read-name n t g word rest e named
 
   -- a shape that waits isn't whole
-  no-end : (n : ℕ) (t g : Bool) → fold (after verb) (then_some (takes_threads verb && not t) (shape n true g true)) [] ≡ Some s → Read verb n t g (threads_word ∷ []) s
+  no-end : (n : ℕ) (t g : Bool) → fold (shape_after verb) (then_some (takes_threads verb && not t) (shape n true g true)) [] ≡ Some s → Read verb n t g (threads_word ∷ []) s
   no-end n t g e = let same = (then_some-some _ (shape n true g true) s e).1 in absurd (true≢false (ap (λ (z : Shape). z.waiting) same ∙ ended))
 
-  counted-on : (n : ℕ) (t g : Bool) (count : List ℕ) (rest : List (List ℕ)) → fold (after verb) (then_some (takes_threads verb && not t) (shape n true g true)) (count ∷ rest) ≡ Some s
+  counted-on : (n : ℕ) (t g : Bool) (count : List ℕ) (rest : List (List ℕ)) → fold (shape_after verb) (then_some (takes_threads verb && not t) (shape n true g true)) (count ∷ rest) ≡ Some s
       → (Through n true g false rest → Read verb n true g rest s) → Read verb n t g (threads_word ∷ count ∷ rest) s
   counted-on n t g count rest e onward = go (takes_threads verb && not t) refl e where
-    go : (b : Bool) → (takes_threads verb && not t) ≡ b → fold (after verb) (then_some b (shape n true g true)) (count ∷ rest) ≡ Some s → Read verb n t g (threads_word ∷ count ∷ rest) s
+    go : (b : Bool) → (takes_threads verb && not t) ≡ b → fold (shape_after verb) (then_some b (shape n true g true)) (count ∷ rest) ≡ Some s → Read verb n t g (threads_word ∷ count ∷ rest) s
     go false is e = stopped rest e
     go true is e = let k = both _ _ is in read-threads n g count rest t (k.0, is-false t k.1) e onward
 
@@ -255,14 +255,14 @@ module _ (verb : Verb) (s : Shape) (ended : s.waiting ≡ false) where
 -- how many packet threads the word behind `--threads` says
 count-of : (threads : Option (List ℕ)) (verb : Verb) (stood : Bool) → ThreadsFit verb stood threads → (n : ℕ) × AreThreads threads n
 count-of None verb stood h = (1, refl)
-count-of (Some word) verb stood h = go (number_in 1 16 word) refl h.2 where
-  go : (o : Option ℕ) → number_in 1 16 word ≡ o → is_some o ≡ true → (n : ℕ) × IsNumber 1 16 word n
+count-of (Some word) verb stood h = go (number_within 1 16 word) refl h.2 where
+  go : (o : Option ℕ) → number_within 1 16 word ≡ o → is_some o ≡ true → (n : ℕ) × IsNumber 1 16 word n
   go None is e = absurd (true≢false (sym e))
   go (Some n) is e = (n, number-sound 1 16 word n is)
 
-number-of : (low high : ℕ) (word : List ℕ) → is_some (number_in low high word) ≡ true → (n : ℕ) × IsNumber low high word n
-number-of low high word e = go (number_in low high word) refl e where
-  go : (o : Option ℕ) → number_in low high word ≡ o → is_some o ≡ true → (n : ℕ) × IsNumber low high word n
+number-of : (low high : ℕ) (word : List ℕ) → is_some (number_within low high word) ≡ true → (n : ℕ) × IsNumber low high word n
+number-of low high word e = go (number_within low high word) refl e where
+  go : (o : Option ℕ) → number_within low high word ≡ o → is_some o ≡ true → (n : ℕ) × IsNumber low high word n
   go None is e = absurd (true≢false (sym e))
   go (Some n) is e = (n, number-sound low high word n is)
 
@@ -339,7 +339,7 @@ module _ (rest : List (List ℕ)) (threads : Option (List ℕ)) (keep_going : Bo
   by-verb Desk (script ∷ []) a ns ts gs count once = (desk script keep_going, lone-words Desk (script ∷ []) refl a ts, refl)
   by-verb Drill (seed ∷ count ∷ []) a ns ts gs _ once =
       let s = number-of 0 last_seed seed ns.0 in
-      let c = number-of 1 most_elements count ns.1.0 in
+      let c = number-of 1 most_drill_elements count ns.1.0 in
       let n = count-of threads Drill false ts in
       (drill s.0 c.0 n.0, (threads, seed, count, subst (λ (b : Bool). AreWords (codes "drill" ∷ rest) (codes "drill") (seed ∷ count ∷ []) threads b) (no-mark Drill keep_going refl gs) (said (codes "drill") (seed ∷ count ∷ []) a), s.1, c.1, n.1), refl)
   by-verb Judge (script ∷ rules ∷ keys ∷ []) a ns ts gs count once = let k = packet-words Judge (script ∷ rules ∷ keys ∷ []) a ts once in (judge script rules keys k.0 keep_going, k.1, refl)
@@ -348,8 +348,8 @@ module _ (rest : List (List ℕ)) (threads : Option (List ℕ)) (keep_going : Bo
 
 -- Words of a command's shape are a command.
 pub command-of-shape : (verb : Verb) (rest : List (List ℕ)) → fits verb rest ≡ true → HasVerb (verb_word verb ∷ rest) verb
-command-of-shape verb rest h = go (fold (after verb) (Some begun) rest) refl (both _ _ h).0 where
-  go : (o : Option Shape) → fold (after verb) (Some begun) rest ≡ o → is_whole verb o ≡ true → HasVerb (verb_word verb ∷ rest) verb
+command-of-shape verb rest h = go (fold (shape_after verb) (Some empty_shape) rest) refl (both _ _ h).0 where
+  go : (o : Option Shape) → fold (shape_after verb) (Some empty_shape) rest ≡ o → is_whole_shape verb o ≡ true → HasVerb (verb_word verb ∷ rest) verb
   go None e w = absurd (true≢false (sym w))
   go (Some s) e w =
       let k = both _ _ w in
@@ -357,7 +357,7 @@ command-of-shape verb rest h = go (fold (after verb) (Some begun) rest) refl (bo
       by-verb rest r.threads r.keep_going verb r.names r.arguments r.names_fit r.threads_fit r.mark_fits (let c = r.count in let d = eqb-true s.names (name_count verb) k.1 in omega (arith, c, d)) (both _ _ h).1
 
 -- a number that a word writes
-writes : (low high : ℕ) (word : List ℕ) (n : ℕ) → high < 2 ^ 64 → IsNumber low high word n → is_some (number_in low high word) ≡ true
+writes : (low high : ℕ) (word : List ℕ) (n : ℕ) → high < 2 ^ 64 → IsNumber low high word n → is_some (number_within low high word) ≡ true
 writes low high word n small h = ap is_some (number-complete low high word n small h)
 
 threads-fit : (verb : Verb) (threads : Option (List ℕ)) (n : ℕ) → takes_threads verb ≡ true → AreThreads threads n → ThreadsFit verb false threads
@@ -373,11 +373,11 @@ module _ (word : List ℕ) (ws names : List (List ℕ)) (threads : Option (List 
       let given = subst (λ (w : List (List ℕ)). AreArguments w names threads keep_going) behind a.arguments in
       let r = goes-through verb ws names threads keep_going given 0 false false ns ts gs in
       let all : r.0.names ≡ name_count verb = (let c = r.3 in omega (arith, c, count)) in
-      (first, and-true _ _ (ap (is_whole verb) r.1 ∙ and-true _ _ (not-false r.0.waiting r.2) (eq-eqb _ _ all)) (ap (λ n. nat_le n 1) (stdin-of-arguments ws names threads keep_going given plain) ∙ once))
+      (first, and-true _ _ (ap (is_whole_shape verb) r.1 ∙ and-true _ _ (not-false r.0.waiting r.2) (eq-eqb _ _ all)) (ap (λ n. nat_le n 1) (stdin-of-arguments ws names threads keep_going given plain) ∙ once))
 
 abbrev AllNames : List (List ℕ) → Type 0
 AllNames [] = Unit {0}
-AllNames (word ∷ names) = (is_name word ≡ true) × AllNames names
+AllNames (word ∷ names) = (is_file_name word ≡ true) × AllNames names
 
 -- The names among arguments are names.
 pub all-names : (rest names : List (List ℕ)) (threads : Option (List ℕ)) (keep_going : Bool) → AreArguments rest names threads keep_going → AllNames names
@@ -404,14 +404,14 @@ pub shape-of-command : (word : List ℕ) (ws : List (List ℕ)) (c : Command) �
 shape-of-command word ws (run script keys n keep_going) h = packet-shape word ws (script ∷ keys ∷ []) n keep_going Run refl refl (λ all. all) refl h
 shape-of-command word ws (list script keep_going) h = lone-shape word ws script keep_going Lists refl (λ all. all) refl h
 shape-of-command word ws (dump script keep_going) h = lone-shape word ws script keep_going Dump refl (λ all. all) refl h
-shape-of-command word ws (drill seed count n) h = shaped word ws _ h.0 false Drill h.3 (writes 0 last_seed h.1 seed (omega arith) h.4, (writes 1 most_elements h.2 count (omega arith) h.5, tt)) (threads-fit Drill h.0 n refl h.6) (λ e. absurd (true≢false (sym e))) refl (threads-no-stdin h.0 n h.6) (numbers-once 0 last_seed 1 most_elements h.1 h.2 seed count (omega arith) (omega arith) h.4 h.5)
+shape-of-command word ws (drill seed count n) h = shaped word ws _ h.0 false Drill h.3 (writes 0 last_seed h.1 seed (omega arith) h.4, (writes 1 most_drill_elements h.2 count (omega arith) h.5, tt)) (threads-fit Drill h.0 n refl h.6) (λ e. absurd (true≢false (sym e))) refl (threads-no-stdin h.0 n h.6) (numbers-once 0 last_seed 1 most_drill_elements h.1 h.2 seed count (omega arith) (omega arith) h.4 h.5)
 shape-of-command word ws (judge script rules keys n keep_going) h = packet-shape word ws (script ∷ rules ∷ keys ∷ []) n keep_going Judge refl refl (λ all. all) refl h
 shape-of-command word ws (capture script plan packets n keep_going) h = packet-shape word ws (script ∷ plan ∷ packets ∷ []) n keep_going Capture refl refl (λ all. all) refl h
 shape-of-command word ws (desk script keep_going) h = lone-shape word ws script keep_going Desk refl (λ all. all) refl h
 
 -- what the first of a command's arguments is
 pub data Leads (word : List ℕ) (ws names : List (List ℕ)) (threads : Option (List ℕ)) (keep_going : Bool) : Type 0 where
-  by_name : (more : List (List ℕ)) → is_name word ≡ true → names ≡ word ∷ more → AreArguments ws more threads keep_going → Leads word ws names threads keep_going
+  by_name : (more : List (List ℕ)) → is_file_name word ≡ true → names ≡ word ∷ more → AreArguments ws more threads keep_going → Leads word ws names threads keep_going
   by_threads : (count : List ℕ) (rest : List (List ℕ)) → word ≡ threads_word → ws ≡ count ∷ rest → threads ≡ Some count → AreArguments rest names None keep_going → Leads word ws names threads keep_going
   by_mark : word ≡ keep_going_word → keep_going ≡ true → AreArguments ws names threads false → Leads word ws names threads keep_going
 
@@ -429,8 +429,8 @@ same-arguments ws names ms threads t keep_going g no_words no_words = (refl, ref
 same-arguments ws names ms threads t keep_going g (name_and {word = word} {rest = rest} {names = more} e a) b = go (leads word rest ms t g b) (λ others c. same-arguments rest more others threads t keep_going g a c) where
   go : Leads word rest ms t g → ((others : List (List ℕ)) → AreArguments rest others t g → Same more others threads t keep_going g) → Same (word ∷ more) ms threads t keep_going g
   go (by_name others f is c) onward = let r = onward others c in (ap (λ z. word ∷ z) r.0 ∙ sym is, r.1, r.2)
-  go (by_threads count behind is f h c) onward = absurd (true≢false (sym e ∙ ap is_name is))
-  go (by_mark is f c) onward = absurd (true≢false (sym e ∙ ap is_name is))
+  go (by_threads count behind is f h c) onward = absurd (true≢false (sym e ∙ ap is_file_name is))
+  go (by_mark is f c) onward = absurd (true≢false (sym e ∙ ap is_file_name is))
 same-arguments ws names ms threads t keep_going g (threads_and {count = count} {rest = rest} a) b = go (leads threads_word (count ∷ rest) ms t g b) (λ c. same-arguments rest names ms None None keep_going g a c) where
   go : Leads threads_word (count ∷ rest) ms t g → (AreArguments rest ms None g → Same names ms None None keep_going g) → Same names ms (Some count) t keep_going g
   go (by_name others f is c) onward = absurd (true≢false (sym f))
@@ -522,26 +522,26 @@ one-command words c d h j = one c d verb h j where
       let first : h.1 ≡ j.1 = cc r.1 in
       let second : h.2 ≡ j.2 = cc r.1 in
       let seed : s ≡ s' = same-number 0 last_seed h.1 j.1 s s' (omega arith) first h.4 j.4 in
-      let count : k ≡ k' = same-number 1 most_elements h.2 j.2 k k' (omega arith) second h.5 j.5 in
+      let count : k ≡ k' = same-number 1 most_drill_elements h.2 j.2 k k' (omega arith) second h.5 j.5 in
       let threads : n ≡ n' = same-threads h.0 j.0 n n' r.2 h.6 j.6 in
       cc (seed, count, threads)
   one c d e h j = absurd (cc e)
 
 -- A word further, what is left decides the same.
 pub goes-on : {X : Type 0} (f : X → List ℕ) (verb : Verb) (s : Shape) (next : Option Shape) (xs : List X) (i : ℕ) (x : X) (whole : Bool) → i < length xs → x ≡ get_or xs i x → next ≡ with_word verb s (f x)
-    → is_whole verb (fold (after verb) (Some s) (map f (drop i xs))) ≡ whole → is_whole verb (fold (after verb) next (map f (drop (i + 1) xs))) ≡ whole
+    → is_whole_shape verb (fold (shape_after verb) (Some s) (map f (drop i xs))) ≡ whole → is_whole_shape verb (fold (shape_after verb) next (map f (drop (i + 1) xs))) ≡ whole
 goes-on f verb s next xs i x whole within here is h =
     let more : suc i ≡ i + 1 = omega arith in
     let left : map f (drop i xs) ≡ f x ∷ map f (drop (i + 1) xs) = ap (map f) (drop-cons xs i x within ∙ ap (λ y. y ∷ drop (suc i) xs) (sym here) ∙ ap (λ n. x ∷ drop n xs) more) in
-    ap (λ (o : Option Shape). is_whole verb (fold (after verb) o (map f (drop (i + 1) xs)))) is ∙ ap (λ (ws : List (List ℕ)). is_whole verb (fold (after verb) (Some s) ws)) (sym left) ∙ h
+    ap (λ (o : Option Shape). is_whole_shape verb (fold (shape_after verb) o (map f (drop (i + 1) xs)))) is ∙ ap (λ (ws : List (List ℕ)). is_whole_shape verb (fold (shape_after verb) (Some s) ws)) (sym left) ∙ h
 
 -- Behind a word that fits no shape nothing does.
-pub nothing-fits : (verb : Verb) (words : List (List ℕ)) (whole : Bool) → is_whole verb (fold (after verb) None words) ≡ whole → false ≡ whole
-nothing-fits verb words whole h = ap (is_whole verb) (sym (none-stays verb words)) ∙ h
+pub nothing-fits : (verb : Verb) (words : List (List ℕ)) (whole : Bool) → is_whole_shape verb (fold (shape_after verb) None words) ≡ whole → false ≡ whole
+nothing-fits verb words whole h = ap (is_whole_shape verb) (sym (none-stays verb words)) ∙ h
 
 -- A word that writes a number isn't read as none.
-pub number-there : (low high : ℕ) (word : List ℕ) (n : ℕ) → high < 2 ^ 64 → IsNumber low high word n → None ≡ number_in low high word → ⊥
+pub number-there : (low high : ℕ) (word : List ℕ) (n : ℕ) → high < 2 ^ 64 → IsNumber low high word n → None ≡ number_within low high word → ⊥
 number-there low high word n small h none = let some = number-complete low high word n small h in cc (none, some)
 
-pub number-is-name : (low high : ℕ) (word : List ℕ) (n : ℕ) → high < 2 ^ 64 → IsNumber low high word n → is_name word ≡ true
-number-is-name low high word n small h = ap is_name h.0 ∙ digit-first n (omega (arith, h.2, small))
+pub number-is-name : (low high : ℕ) (word : List ℕ) (n : ℕ) → high < 2 ^ 64 → IsNumber low high word n → is_file_name word ≡ true
+number-is-name low high word n small h = ap is_file_name h.0 ∙ digit-first n (omega (arith, h.2, small))

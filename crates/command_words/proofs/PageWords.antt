@@ -5,7 +5,7 @@ use Rattle.command_words.specs.declared.shape.Verb.{Verb}
 use Rattle.command_words.specs.declared.shape.Verb.TheVariants.{Run, List as Lists, Dump, Drill, Judge, Capture, Desk}
 use Rattle.command_words.specs.declared.page.Page.{Page}
 use Rattle.command_words.specs.declared.page.Page.TheVariants.{Program, Command as On, Version}
-use Rattle.command_words.specs.Words.{AreWords, AreArguments, AsksFor, Command, run, list, dump, drill, judge, capture, desk, IsCommand, verb_word, is_name, threads_word, keep_going_word}
+use Rattle.command_words.specs.Words.{AreWords, AreArguments, AsksFor, Command, run, list, dump, drill, judge, capture, desk, IsCommand, verb_word, is_file_name, threads_word, keep_going_word}
 use Rattle.command_words.specs.WordForms.{verb_of}
 use Rattle.command_words.proofs.CommandWords.{leads, Leads, by_name, by_threads, by_mark}
 
@@ -78,7 +78,7 @@ of-command words (capture script plan packets n g) h = behind words (script ∷ 
 of-command words (desk script g) h = behind words (script ∷ []) Desk None g h
 
 -- Another word with a dash is no argument.
-no-argument : (word : List ℕ) (ws names : List (List ℕ)) (threads : Option (List ℕ)) (keep_going : Bool) → is_name word ≡ false → bytes_eq word threads_word ≡ false → bytes_eq word keep_going_word ≡ false
+no-argument : (word : List ℕ) (ws names : List (List ℕ)) (threads : Option (List ℕ)) (keep_going : Bool) → is_file_name word ≡ false → bytes_eq word threads_word ≡ false → bytes_eq word keep_going_word ≡ false
     → AreArguments (word ∷ ws) names threads keep_going → ⊥
 no-argument word ws names threads keep_going dash other another a = go (leads word ws names threads keep_going a) where
   go : Leads word ws names threads keep_going → ⊥
@@ -90,7 +90,7 @@ module _ (words : List (List ℕ)) (c : Command) (b : Behind words (verb_of c)) 
   other-first : (word : List ℕ) (ws : List (List ℕ)) → named word ≡ None → words ≡ word ∷ ws → ⊥
   other-first word ws none e = let both : verb_word (verb_of c) ∷ b.rest ≡ word ∷ ws = sym b.words_are ∙ e in no-verb (verb_of c) word none (cc both)
 
-  other-second : (first word : List ℕ) → is_name word ≡ false → bytes_eq word threads_word ≡ false → bytes_eq word keep_going_word ≡ false → words ≡ first ∷ word ∷ [] → ⊥
+  other-second : (first word : List ℕ) → is_file_name word ≡ false → bytes_eq word threads_word ≡ false → bytes_eq word keep_going_word ≡ false → words ≡ first ∷ word ∷ [] → ⊥
   other-second first word dash other another e =
       let both : verb_word (verb_of c) ∷ b.rest ≡ first ∷ word ∷ [] = sym b.words_are ∙ e in
       let rest : b.rest ≡ word ∷ [] = cc both in

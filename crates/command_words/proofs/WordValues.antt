@@ -5,11 +5,11 @@ use Rattle.std.specs.Borrow.{Bor}
 use Rattle.command_words.specs.declared.words.Arguments.{Arguments}
 use Rattle.command_words.specs.declared.shape.Verb.{Verb}
 use Rattle.command_words.specs.declared.shape.Verb.TheVariants.{Run, List as Lists, Dump, Drill, Judge, Capture, Desk}
-use Rattle.command_words.specs.Words.{NameStdinOnce, Command, run, list, dump, drill, judge, capture, desk, IsCommand, AreWords, ArePacketWords, AreThreads, IsNumber, is_name, last_seed, most_elements}
+use Rattle.command_words.specs.Words.{NameStdinOnce, Command, run, list, dump, drill, judge, capture, desk, IsCommand, AreWords, ArePacketWords, AreThreads, IsNumber, is_file_name, last_seed, most_drill_elements}
 use Rattle.command_words.specs.WordForms.{HasVerb, HasArguments, ArePlain, verb_of}
 use Rattle.command_words.proofs.CommandWords.{number-is-name}
 
-plain-threads : (threads : Option (List ℕ)) (n : ℕ) → AreThreads threads n → IfSome threads (λ w. is_name w ≡ true)
+plain-threads : (threads : Option (List ℕ)) (n : ℕ) → AreThreads threads n → IfSome threads (λ w. is_file_name w ≡ true)
 plain-threads None n h = tt
 plain-threads (Some word) n h = number-is-name 1 16 word n (omega arith) h
 
@@ -44,7 +44,7 @@ pub record IsDrillOf (words : List (List ℕ)) (a : Arguments) : Type 0 where
   pub first : text_of a.first ≡ Some seed_word
   pub second : text_of a.second ≡ Some count_word
   pub seed_is : IsNumber 0 last_seed seed_word seed
-  pub elements_are : IsNumber 1 most_elements count_word elements
+  pub elements_are : IsNumber 1 most_drill_elements count_word elements
   pub threads_are : AreThreads (text_of a.threads) count
   pub said : AreWords words (codes "drill") (seed_word ∷ count_word ∷ []) (text_of a.threads) false
 
@@ -171,17 +171,17 @@ module _ (words : List (List ℕ)) (a : Arguments) where
           let last = found-is a.third third of.2 third_is of.3.third in
           is-packet word n (of.0 ∷ of.1 ∷ of.2 ∷ []) (first.now ∷ second.now ∷ third.now ∷ []) (cc (script, other, last)) threads_are of.3
 
-      pub is-count : (of : IsDrillOf words a) → (n : ℕ) × IsNumber 1 most_elements second.now n
-      is-count of = (of.elements, subst (λ (w : List ℕ). IsNumber 1 most_elements w of.elements) (found-is a.second second of.count_word second_is of.second) of.elements_are)
+      pub is-count : (of : IsDrillOf words a) → (n : ℕ) × IsNumber 1 most_drill_elements second.now n
+      is-count of = (of.elements, subst (λ (w : List ℕ). IsNumber 1 most_drill_elements w of.elements) (found-is a.second second of.count_word second_is of.second) of.elements_are)
 
-      pub is-drill : (s k n : ℕ) → IsNumber 0 last_seed first.now s → IsNumber 1 most_elements second.now k → AreThreads (text_of a.threads) n → IsDrillOf words a → IsCommand words (drill s k n)
+      pub is-drill : (s k n : ℕ) → IsNumber 0 last_seed first.now s → IsNumber 1 most_drill_elements second.now k → AreThreads (text_of a.threads) n → IsDrillOf words a → IsCommand words (drill s k n)
       is-drill s k n seed_is count_is threads_are of = (
         text_of a.threads,
         of.seed_word,
         of.count_word,
         of.said,
         subst (λ (w : List ℕ). IsNumber 0 last_seed w s) (sym (found-is a.first first of.seed_word first_is of.first)) seed_is,
-        subst (λ (w : List ℕ). IsNumber 1 most_elements w k) (sym (found-is a.second second of.count_word second_is of.second)) count_is,
+        subst (λ (w : List ℕ). IsNumber 1 most_drill_elements w k) (sym (found-is a.second second of.count_word second_is of.second)) count_is,
         threads_are,
       )
 

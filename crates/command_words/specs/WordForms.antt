@@ -16,7 +16,7 @@ use Rattle.command_words.specs.declared.words.Command.TheVariants as asked
 use Rattle.command_words.specs.declared.page.Page.{Page}
 use Rattle.command_words.specs.declared.page.Page.TheVariants as pages
 use Rattle.command_words.specs.declared.help.TheConstants.{PROGRAM, RUN, LIST, DUMP, DRILL, JUDGE, CAPTURE, DESK, VERSION}
-use Rattle.command_words.specs.Words.{Command, run, list, dump, drill, judge, capture, desk, IsCommand, is_name, is_stdin, threads_word, keep_going_word, last_seed, most_elements}
+use Rattle.command_words.specs.Words.{Command, run, list, dump, drill, judge, capture, desk, IsCommand, is_file_name, is_stdin, threads_word, keep_going_word, last_seed, most_drill_elements}
 
 -- how many names a command has
 abbrev pub name_count : Verb → ℕ
@@ -49,31 +49,31 @@ takes_mark verbs.Capture = true
 takes_mark verbs.Desk = true
 
 -- the number that a word writes, where it lies within bounds
-unfoldable pub number_in : ℕ → ℕ → List ℕ → Option ℕ
-number_in low high word =
+unfoldable pub number_within : ℕ → ℕ → List ℕ → Option ℕ
+number_within low high word =
     let n = digits_value 10 word in
     then_some (bytes_eq word (decimal n) && (nat_le low n && nat_le n high)) n
 
 -- the number of a drill at a place: the seed, and how many elements
 abbrev pub drill_number : ℕ → List ℕ → Option ℕ
-drill_number place word = if place == 0 then number_in 0 last_seed word else number_in 1 most_elements word
+drill_number place word = if place == 0 then number_within 0 last_seed word else number_within 1 most_drill_elements word
 
 -- A word may be the name at a place.
 abbrev pub is_name_of : Verb → ℕ → List ℕ → Bool
-is_name_of verbs.Run place word = is_name word
-is_name_of verbs.List place word = is_name word
-is_name_of verbs.Dump place word = is_name word
+is_name_of verbs.Run place word = is_file_name word
+is_name_of verbs.List place word = is_file_name word
+is_name_of verbs.Dump place word = is_file_name word
 is_name_of verbs.Drill place word = is_some (drill_number place word)
-is_name_of verbs.Judge place word = is_name word
-is_name_of verbs.Capture place word = is_name word
-is_name_of verbs.Desk place word = is_name word
+is_name_of verbs.Judge place word = is_file_name word
+is_name_of verbs.Capture place word = is_file_name word
+is_name_of verbs.Desk place word = is_file_name word
 
 abbrev pub takes_name : Verb → ℕ → List ℕ → Bool
 takes_name verb place word = nat_lt place (name_count verb) && is_name_of verb place word
 
 -- the shape with the number of packet threads
 abbrev pub with_threads : Shape → List ℕ → Option Shape
-with_threads s word = then_some (is_some (number_in 1 16 word)) (record s { waiting = false })
+with_threads s word = then_some (is_some (number_within 1 16 word)) (record s { waiting = false })
 
 -- the shape with a word that is no such number
 abbrev pub with_argument : Verb → Shape → List ℕ → Option Shape
@@ -85,20 +85,20 @@ with_argument verb s word =
 abbrev pub with_word : Verb → Shape → List ℕ → Option Shape
 with_word verb s word = if s.waiting then with_threads s word else with_argument verb s word
 
-abbrev pub after : Verb → Option Shape → List ℕ → Option Shape
-after verb None word = None
-after verb (Some s) word = with_word verb s word
+abbrev pub shape_after : Verb → Option Shape → List ℕ → Option Shape
+shape_after verb None word = None
+shape_after verb (Some s) word = with_word verb s word
 
-abbrev pub begun : Shape
-begun = record { names = 0; threads = false; keep_going = false; waiting = false }
+abbrev pub empty_shape : Shape
+empty_shape = record { names = 0; threads = false; keep_going = false; waiting = false }
 
-abbrev pub is_whole : Verb → Option Shape → Bool
-is_whole verb None = false
-is_whole verb (Some s) = not s.waiting && (s.names == name_count verb)
+abbrev pub is_whole_shape : Verb → Option Shape → Bool
+is_whole_shape verb None = false
+is_whole_shape verb (Some s) = not s.waiting && (s.names == name_count verb)
 
 -- The words behind a command's word have its shape.
 abbrev pub has_shape : Verb → List (List ℕ) → Bool
-has_shape verb rest = is_whole verb (fold (after verb) (Some begun) rest)
+has_shape verb rest = is_whole_shape verb (fold (shape_after verb) (Some empty_shape) rest)
 
 -- The standard input is named once at most.
 abbrev pub stdin_once : List (List ℕ) → Bool
@@ -149,10 +149,10 @@ plain (asked.Drill seed count threads) = drill seed count threads
 -- At most three names, and a word behind `--threads` that begins with no dash.
 pub record ArePlain (names : List (List ℕ)) (threads : Option (List ℕ)) : Type 0 where
   pub few : length names ≤ 3
-  pub no_dash : IfSome threads (λ word. IsTrue (is_name word))
+  pub no_dash : IfSome threads (λ word. IsTrue (is_file_name word))
 
 -- What was found by the ids are these arguments.
-pub record HasValues (found : Found) (names : List (List ℕ)) (threads : Option (List ℕ)) (keep_going : Bool) : Type 0 where
+pub record HasFoundValues (found : Found) (names : List (List ℕ)) (threads : Option (List ℕ)) (keep_going : Bool) : Type 0 where
   pub first : first_value found (codes "first") ≡ slice_get names 0
   pub second : first_value found (codes "second") ≡ slice_get names 1
   pub third : first_value found (codes "third") ≡ slice_get names 2

@@ -14,10 +14,10 @@ abbrev pub is_stdin : List ℕ → Bool
 is_stdin word = bytes_eq word stdin_name
 
 -- A name isn't empty and doesn't begin with a dash, but for `-` itself, the standard input.
-abbrev pub is_name : List ℕ → Bool
-is_name [] = false
-is_name (b ∷ []) = true
-is_name (b ∷ c ∷ bytes) = not (b == 45)
+abbrev pub is_file_name : List ℕ → Bool
+is_file_name [] = false
+is_file_name (b ∷ []) = true
+is_file_name (b ∷ c ∷ bytes) = not (b == 45)
 
 -- the word of a command
 abbrev pub verb_word : Verb → List ℕ
@@ -39,7 +39,7 @@ keep_going_word = codes "--keep-going"
 -- once at most `--keep-going`.
 pub data AreArguments : List (List ℕ) → List (List ℕ) → Option (List ℕ) → Bool → Type 0 where
   no_words : AreArguments [] [] None false
-  name_and : {word : List ℕ} {rest names : List (List ℕ)} {threads : Option (List ℕ)} {keep_going : Bool} → IsTrue (is_name word) → AreArguments rest names threads keep_going
+  name_and : {word : List ℕ} {rest names : List (List ℕ)} {threads : Option (List ℕ)} {keep_going : Bool} → IsTrue (is_file_name word) → AreArguments rest names threads keep_going
       → AreArguments (word ∷ rest) (word ∷ names) threads keep_going
   threads_and : {count : List ℕ} {rest names : List (List ℕ)} {keep_going : Bool} → AreArguments rest names None keep_going → AreArguments (threads_word ∷ count ∷ rest) names (Some count) keep_going
   mark_and : {rest names : List (List ℕ)} {threads : Option (List ℕ)} → AreArguments rest names threads false → AreArguments (keep_going_word ∷ rest) names threads true
@@ -58,8 +58,8 @@ abbrev pub last_seed : ℕ
 last_seed = 18446744073709551615
 
 -- the most elements of a drill
-abbrev pub most_elements : ℕ
-most_elements = 20000
+abbrev pub most_drill_elements : ℕ
+most_drill_elements = 20000
 
 -- how many packet threads there are, 1 to 16; 1 where nothing is said
 abbrev pub AreThreads : Option (List ℕ) → ℕ → Type 0
@@ -91,7 +91,7 @@ IsCommand words (run script keys n keep_going) = ArePacketWords words (codes "ru
 IsCommand words (list script keep_going) = AreWords words (codes "list") (script ∷ []) None keep_going
 IsCommand words (dump script keep_going) = AreWords words (codes "dump") (script ∷ []) None keep_going
 IsCommand words (drill seed count n) = (threads : Option (List ℕ)) × (seed_word : List ℕ) × (count_word : List ℕ)
-    × AreWords words (codes "drill") (seed_word ∷ count_word ∷ []) threads false × IsNumber 0 last_seed seed_word seed × IsNumber 1 most_elements count_word count × AreThreads threads n
+    × AreWords words (codes "drill") (seed_word ∷ count_word ∷ []) threads false × IsNumber 0 last_seed seed_word seed × IsNumber 1 most_drill_elements count_word count × AreThreads threads n
 IsCommand words (judge script rules keys n keep_going) = ArePacketWords words (codes "judge") (script ∷ rules ∷ keys ∷ []) n keep_going
 IsCommand words (capture script plan packets n keep_going) = ArePacketWords words (codes "capture") (script ∷ plan ∷ packets ∷ []) n keep_going
 IsCommand words (desk script keep_going) = AreWords words (codes "desk") (script ∷ []) None keep_going
@@ -109,26 +109,26 @@ pub record IsNoCommand (words : List (List ℕ)) : Type 0 where
 
 -- The words are a run of a script beside a key file, a listing of a script, or a dump of its tables, by the files' names; or a drill;
 -- or a run whose packets a rules file judges, or whose packets a plan takes from a capture; or a script by several control threads.
-abbrev pub IsRun : List (List ℕ) → List ℕ → List ℕ → ℕ → Bool → Type 0
-IsRun words script keys threads keep_going = IsCommand words (run script keys threads keep_going)
+abbrev pub IsRunCommand : List (List ℕ) → List ℕ → List ℕ → ℕ → Bool → Type 0
+IsRunCommand words script keys threads keep_going = IsCommand words (run script keys threads keep_going)
 
-abbrev pub IsList : List (List ℕ) → List ℕ → Bool → Type 0
-IsList words script keep_going = IsCommand words (list script keep_going)
+abbrev pub IsListCommand : List (List ℕ) → List ℕ → Bool → Type 0
+IsListCommand words script keep_going = IsCommand words (list script keep_going)
 
-abbrev pub IsDump : List (List ℕ) → List ℕ → Bool → Type 0
-IsDump words script keep_going = IsCommand words (dump script keep_going)
+abbrev pub IsDumpCommand : List (List ℕ) → List ℕ → Bool → Type 0
+IsDumpCommand words script keep_going = IsCommand words (dump script keep_going)
 
-abbrev pub IsDrill : List (List ℕ) → ℕ → ℕ → ℕ → Type 0
-IsDrill words seed count threads = IsCommand words (drill seed count threads)
+abbrev pub IsDrillCommand : List (List ℕ) → ℕ → ℕ → ℕ → Type 0
+IsDrillCommand words seed count threads = IsCommand words (drill seed count threads)
 
-abbrev pub IsJudge : List (List ℕ) → List ℕ → List ℕ → List ℕ → ℕ → Bool → Type 0
-IsJudge words script rules keys threads keep_going = IsCommand words (judge script rules keys threads keep_going)
+abbrev pub IsJudgeCommand : List (List ℕ) → List ℕ → List ℕ → List ℕ → ℕ → Bool → Type 0
+IsJudgeCommand words script rules keys threads keep_going = IsCommand words (judge script rules keys threads keep_going)
 
-abbrev pub IsCapture : List (List ℕ) → List ℕ → List ℕ → List ℕ → ℕ → Bool → Type 0
-IsCapture words script plan packets threads keep_going = IsCommand words (capture script plan packets threads keep_going)
+abbrev pub IsCaptureCommand : List (List ℕ) → List ℕ → List ℕ → List ℕ → ℕ → Bool → Type 0
+IsCaptureCommand words script plan packets threads keep_going = IsCommand words (capture script plan packets threads keep_going)
 
-abbrev pub IsDesk : List (List ℕ) → List ℕ → Bool → Type 0
-IsDesk words script keep_going = IsCommand words (desk script keep_going)
+abbrev pub IsDeskCommand : List (List ℕ) → List ℕ → Bool → Type 0
+IsDeskCommand words script keep_going = IsCommand words (desk script keep_going)
 
 -- the files that a command reads, by their names, in their order
 abbrev pub file_names : Command → List (List ℕ)

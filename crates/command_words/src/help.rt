@@ -1,7 +1,9 @@
 //! The texts that the program tells of itself.
 
+/// The page of `--version`: the name and the version.
 pub const VERSION: &str = "pipapo 0.1.0\n";
 
+/// The page of `help`: all commands, options and statuses.
 pub const PROGRAM: &str = "\
 pipapo runs nftables set scripts and looks packets up in the sets.
 
@@ -48,6 +50,7 @@ statuses:
   12  the script has too many sections for a desk
 ";
 
+/// The page of `run`.
 pub const RUN: &str = "\
 usage: pipapo run SCRIPT KEYS [--threads N] [--keep-going]
 
@@ -63,6 +66,7 @@ statuses: 0 done, 1 done with a refused change, 3 SCRIPT isn't in its grammar, 4
 5 a file can't be read, 6 the standard output failed, 7 want of memory, 8 a file is too large
 ";
 
+/// The page of `list`.
 pub const LIST: &str = "\
 usage: pipapo list SCRIPT [--keep-going]
 
@@ -76,6 +80,7 @@ statuses: 0 done, 1 done with a refused change, 3 SCRIPT isn't in its grammar, 5
 read, 6 the standard output failed, 7 want of memory, 8 SCRIPT is too large
 ";
 
+/// The page of `dump`.
 pub const DUMP: &str = "\
 usage: pipapo dump SCRIPT [--keep-going]
 
@@ -89,6 +94,7 @@ statuses: 0 done, 1 done with a refused change, 3 SCRIPT isn't in its grammar, 5
 read, 6 the standard output failed, 7 want of memory, 8 SCRIPT is too large
 ";
 
+/// The page of `drill`.
 pub const DRILL: &str = "\
 usage: pipapo drill SEED COUNT [--threads N]
 
@@ -101,6 +107,7 @@ options, in any order among the numbers:
 statuses: 0 done, 6 the standard output failed, 7 want of memory
 ";
 
+/// The page of `judge`.
 pub const JUDGE: &str = "\
 usage: pipapo judge SCRIPT RULES KEYS [--threads N] [--keep-going]
 
@@ -117,6 +124,7 @@ statuses: 0 done, 1 done with a refused change, 3 SCRIPT isn't in its grammar, 4
 is too large
 ";
 
+/// The page of `capture`.
 pub const CAPTURE: &str = "\
 usage: pipapo capture SCRIPT PLAN PCAP [--threads N] [--keep-going]
 
@@ -133,6 +141,7 @@ statuses: 0 done, 1 done with a refused change, 3 SCRIPT isn't in its grammar, 1
 memory, 8 a file is too large
 ";
 
+/// The page of `desk`.
 pub const DESK: &str = "\
 usage: pipapo desk SCRIPT [--keep-going]
 

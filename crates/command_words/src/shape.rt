@@ -1,7 +1,7 @@
 ghost use Rattle.std.specs.Prelude.{◌≡◌, ◌∷◌, map, None, Some, IfSome};
 ghost use Rattle.std.specs.String.{string_bytes};
-ghost use Rattle.command_words.specs.Words.{IsCommand, verb_word, is_name as name_test};
-ghost use Rattle.command_words.specs.WordForms.{HasVerb, fits, has_shape as shape_test, number_in, drill_number as number_at, takes_threads as threads_test, takes_mark as mark_test, takes_name as name_fits, name_count as count_of_names, with_word as next_shape, with_threads as counted_shape, with_argument as argument_shape, begun as begun_shape, stdin_once as names_once};
+ghost use Rattle.command_words.specs.Words.{IsCommand, verb_word, is_file_name as name_test};
+ghost use Rattle.command_words.specs.WordForms.{HasVerb, fits, has_shape as shape_test, number_within, drill_number as number_at, takes_threads as threads_test, takes_mark as mark_test, takes_name as name_fits, name_count as count_of_names, with_word as next_shape, with_threads as counted_shape, with_argument as argument_shape, empty_shape as begun_shape, stdin_once as names_once};
 
 use itoa::Buffer;
 
@@ -60,7 +60,7 @@ fn is_name(word: &str) -> bool
 
 /// The number that a word writes in plain digits without a sign or a leading zero, where it lies within bounds.
 pub fn number_of(word: &str, low: u64, high: u64) -> Option<u64>
-    ensures { result ≡ number_in low high word.now }
+    ensures { result ≡ number_within low high word.now }
 {
     let n = match word.parse::<u64>() {
         Ok(n) => n,

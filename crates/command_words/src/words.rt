@@ -2,7 +2,7 @@ ghost use Rattle.std.specs.Prelude.{◌≡◌, Bool, List, ℕ, Option, map, Err
 ghost use Rattle.std.specs.String.{string_bytes};
 ghost use Rattle.clap.specs.Matches.{found_of};
 ghost use Rattle.command_words.specs.Words.{IsCommand, IsNumber, AreThreads, AreWords};
-ghost use Rattle.command_words.specs.WordForms.{HasVerb, HasValues, HasArguments, ArePlain, plain};
+ghost use Rattle.command_words.specs.WordForms.{HasVerb, HasFoundValues, HasArguments, ArePlain, plain};
 ghost use Rattle.command_words.specs.declared.words.WordsError.TheVariants as errors;
 
 use crate::shape::{MOST_ELEMENTS, MOST_THREADS, Verb, number_of, verb_of};
@@ -77,7 +77,7 @@ impl From<AllocError> for WordsError {
 
 /// The values of the words of a command, by their ids.
 fn values_of<'a>(alloc: Global, words: &'a [String]) -> Result<ArgMatches<'a>, Error>
-    ensures { IfOk result (λ m. (word : List ℕ) (names : List (List ℕ)) (threads : Option (List ℕ)) (keep_going : Bool) → AreWords (map string_bytes words.now) word names threads keep_going → ArePlain names threads → HasValues (found_of m) names threads keep_going) }
+    ensures { IfOk result (λ m. (word : List ℕ) (names : List (List ℕ)) (threads : Option (List ℕ)) (keep_going : Bool) → AreWords (map string_bytes words.now) word names threads keep_going → ArePlain names threads → HasFoundValues (found_of m) names threads keep_going) }
 {
     let first = Arg::new(alloc, "first");
     let second = Arg::new(alloc, "second");

@@ -9,30 +9,30 @@ use Rattle.set_model.specs.Control.{Control, mode_of, section}
 use Rattle.set_space.specs.Open.{opened}
 use Rattle.gen_publish.specs.Publish.{Steering, Grown}
 use Rattle.gen_publish.proofs.Growing.{grown_last}
-use Rattle.packet_pool.specs.Running.{run, Stands, IsSameStart}
+use Rattle.packet_pool.specs.Running.{run, StandsAt, IsSameStart}
 use Rattle.packet_pool.proofs.RunLaws.{advances}
 use Rattle.control_desk.specs.declared.entry.Entry.{Entry}
-use Rattle.control_desk.specs.Woven.{at_rest, after, entered, tellings, said, HasSeen, Replays}
-use Rattle.control_desk.specs.Books.{IsClosed, IsKept, IsDone, IsApplied, Booked}
+use Rattle.control_desk.specs.Woven.{at_rest, after_entry, entry_done, tellings, said, HasSeen, Replays}
+use Rattle.control_desk.specs.Books.{IsClosed, StandsByLog, IsDone, IsApplied, Booked}
 use Rattle.control_desk.proofs.Replaying.{after_more, tells_more}
 
 abbrev rest_of : Steering → Control
 rest_of s = at_rest s.committed s.work.base
 
-stands_at_rest : (s : Steering) → IsClosed s → Stands [] (rest_of s) (run s false [])
+stands_at_rest : (s : Steering) → IsClosed s → StandsAt [] (rest_of s) (run s false [])
 stands_at_rest s closed = record { committed = refl; last = refl; sets = sym (ap (λ w. w.sets) closed); failed = refl; told = refl }
 
 module _ (clerk : ℕ) (steps : List Step) (keep_going : Bool) (old new : Steering) (before behind : List Entry) (end : Event) (closed : IsClosed old) (done : IsDone clerk steps keep_going old new before behind end) where
   abbrev its_entry : Entry
   its_entry = record { clerk = clerk; steps = steps; keep_going = keep_going; refused = done.refused; end = end }
 
-  stands_then : Stands [] (section (mode_of keep_going) (rest_of old) steps) (run new false (done.refused ++ end ∷ []))
+  stands_then : StandsAt [] (section (mode_of keep_going) (rest_of old) steps) (run new false (done.refused ++ end ∷ []))
   stands_then = done.goes_on.stands [] (rest_of old) (stands_at_rest old closed)
 
   pub commits : new.committed ≡ (section (mode_of keep_going) (rest_of old) steps).committed
   commits = sym stands_then.committed
 
-  rests_then : after (rest_of old) its_entry ≡ rest_of new
+  rests_then : after_entry (rest_of old) its_entry ≡ rest_of new
   rests_then = let sets = stands_then.sets ∙ ap (λ w. w.sets) done.closed in
       λ i. record { committed = stands_then.committed i; last = stands_then.last i; sets = sets i; failed = stands_then.failed i; events = [] }
 
@@ -43,7 +43,7 @@ module _ (clerk : ℕ) (steps : List Step) (keep_going : Bool) (old new : Steeri
   base_stays from within = ap (take from) grows.1 ∙ take-append-le from old.committed grows.0 within
 
   -- the book behind a transaction
-  pub kept_then : (from : ℕ) → IsKept old before from → IsKept new behind from
+  pub kept_then : (from : ℕ) → StandsByLog old before from → StandsByLog new behind from
   kept_then from kept =
       let base : take from new.committed ≡ take from old.committed = base_stays from kept.within in
       let start = at_rest (take from old.committed) kept.first in
@@ -55,9 +55,9 @@ module _ (clerk : ℕ) (steps : List Step) (keep_going : Bool) (old new : Steeri
         within = omega (arith, size, sum, within);
         first = kept.first;
         begins = subst (λ z. EndsWith z kept.first) (sym base) kept.begins;
-        stands = (λ i. fold after (same i) (done.logged i)) ∙ after_more start before its_entry ∙ ap (λ c. after c its_entry) kept.stands ∙ rests_then;
+        stands = (λ i. fold after_entry (same i) (done.logged i)) ∙ after_more start before its_entry ∙ ap (λ c. after_entry c its_entry) kept.stands ∙ rests_then;
         tells = (λ i. tellings (same i) (done.logged i))
-            ∙ tells_more start before its_entry kept.tells (ap (λ c. (entered c its_entry).events) kept.stands ∙ stands_then.told)
+            ∙ tells_more start before its_entry kept.tells (ap (λ c. (entry_done c its_entry).events) kept.stands ∙ stands_then.told)
             ∙ ap (map said) (sym done.logged);
       }
 
@@ -89,7 +89,7 @@ taken_back old mid new start same old_ends mid_ends closed taken =
     taken ∙ (λ i. record { of = start.0 i; schema = start.1 i; readers = start.2 i; committed = same i; work = work i })
 
 -- A new book: all generations are its first ones.
-pub kept_first : (s : Steering) (from : ℕ) → EndsWith s.committed s.work.base → from ≡ length s.committed → IsClosed s → IsKept s [] from
+pub kept_first : (s : Steering) (from : ℕ) → EndsWith s.committed s.work.base → from ≡ length s.committed → IsClosed s → StandsByLog s [] from
 kept_first s from ends all closed =
     let size = ap length ends.1 in let sum = length-append ends.0 (s.work.base ∷ []) in
     let whole : take from s.committed ≡ s.committed = take_all from s.committed (omega (arith, all)) in record {
@@ -102,8 +102,8 @@ kept_first s from ends all closed =
       tells = refl;
     }
 
-pub replays_then : (s : Steering) (log : List Entry) (from : ℕ) → IsKept s log from → Replays (take from s.committed) s.committed log
+pub replays_then : (s : Steering) (log : List Entry) (from : ℕ) → StandsByLog s log from → Replays (take from s.committed) s.committed log
 replays_then s log from kept = record { last = kept.first; begins = kept.begins; gives = ap (λ (c : Control). c.committed) kept.stands; tells = kept.tells }
 
-pub last_then : (s : Steering) (log : List Entry) (from : ℕ) → IsKept s log from → HasSeen (take from s.committed) log s.work.base.number
+pub last_then : (s : Steering) (log : List Entry) (from : ℕ) → StandsByLog s log from → HasSeen (take from s.committed) log s.work.base.number
 last_then s log from kept = record { last = kept.first; begins = kept.begins; reaches = ap (λ (c : Control). c.last.number) kept.stands }

@@ -11,7 +11,7 @@ use Rattle.set_model.specs.Control.{Mode, Control, Generation, mode_of, step, se
 use Rattle.set_model.specs.Runnable.{opens}
 use Rattle.set_space.specs.Open.{opened}
 use Rattle.gen_publish.specs.Publish.{Steering, after_commit}
-use Rattle.packet_pool.specs.Running.{run, Stands, GoesOn, Breaks, control_of}
+use Rattle.packet_pool.specs.Running.{run, StandsAt, GoesOn, Breaks, control_of}
 use Rattle.packet_pool.proofs.RunLaws.{stands_here, commit_goes, rewind_goes, dropped_end, aborted_end}
 use Rattle.control_desk.specs.declared.entry.Entry.{Entry}
 use Rattle.control_desk.specs.Woven.{IsTransaction}
@@ -22,7 +22,7 @@ module _ (keep_going : Bool) (changes : List Step) (old here : Steering) (failed
   abbrev Went : Type 0
   Went = GoesOn (λ c. section (mode_of keep_going) c changes) (run old false []) (run here failed refused)
 
-  went_stands : Went → Stands [] (section (mode_of keep_going) (control_of old) changes) (run here failed refused)
+  went_stands : Went → StandsAt [] (section (mode_of keep_going) (control_of old) changes) (run here failed refused)
   went_stands went = went.stands [] (control_of old) (stands_here old)
 
   went_keeps : All (λ s. opens (Some s) ≡ true) changes → Keeps (control_of old) (section (mode_of keep_going) (control_of old) changes)
@@ -40,7 +40,7 @@ module _ (keep_going : Bool) (changes : List Step) (old here : Steering) (failed
   none_committed s new all opening went breaks =
       let mode = mode_of keep_going in let c = section mode (control_of old) changes in
       ⊎_elim (λ (same : new.committed ≡ here.committed). same ∙ same_committed all went)
-      (λ (more : (before : List Event) (k : Control) → Stands before k (run here failed refused) → (step mode k s).committed ≡ new.committed).
+      (λ (more : (before : List Event) (k : Control) → StandsAt before k (run here failed refused) → (step mode k s).committed ≡ new.committed).
       sym (more [] c (went_stands went)) ∙ (step_keeps mode (control_of old) c s opening (went_keeps all)).committed)
       breaks
 
@@ -71,7 +71,7 @@ whole_goes keep_going steps changes end old here new failed refused events whole
   of_is = last.of_is ∙ first.of_is;
   schema_is = last.schema_is ∙ first.schema_is;
   readers_is = last.readers_is ∙ first.readers_is;
-  stands = λ before c st. subst (λ (k : Control). Stands before k (run new false events))
+  stands = λ before c st. subst (λ (k : Control). StandsAt before k (run new false events))
       (sym (ap (section mode c) whole ∙ fold-append (step mode) c changes (end ∷ [])))
       (last.stands before (section mode c changes) (first.stands before c st));
 }

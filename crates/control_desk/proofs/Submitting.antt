@@ -16,7 +16,7 @@ use Rattle.control_desk.specs.declared.clerk.DeskError.{DeskError}
 use Rattle.control_desk.specs.declared.clerk.DeskError.TheVariants.{Stale}
 use Rattle.control_desk.specs.declared.entry.Entry.{Entry}
 use Rattle.control_desk.specs.Books.{Booked, IsApplied}
-use Rattle.control_desk.specs.Woven.{at_rest, after, HasSeen, entries_of}
+use Rattle.control_desk.specs.Woven.{at_rest, after_entry, HasSeen, entries_of}
 use Rattle.control_desk.specs.Turns.{Seated, IsLogged, IsUnlogged, IsStale}
 
 abbrev pub log_of : Booked → List Entry
@@ -33,7 +33,7 @@ clerk_of e = e.clerk
 
 -- what is seen of a log has one last number
 pub one_seen : (base : List Generation) (log : List Entry) (a b : ℕ) → HasSeen base log a → HasSeen base log b → a ≡ b
-one_seen base log a b x y = let same = one_last base x.last y.last x.begins y.begins in sym x.reaches ∙ (λ i. (fold after (at_rest base (same i)) log).last.number) ∙ y.reaches
+one_seen base log a b x y = let same = one_last base x.last y.last x.begins y.begins in sym x.reaches ∙ (λ i. (fold after_entry (at_rest base (same i)) log).last.number) ∙ y.reaches
 
 -- a control thread keeps what it has seen
 pub own_kept : (d : SeatView Booked Entry Generation) (c threads : ℕ) (v : Booked) → d.role ≡ Clerk c → All (Keeps log_of base_of number_of clerk_of threads v) (kept_of d) → entries_of c v.log ≡ entries_of c d.seen

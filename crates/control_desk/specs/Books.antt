@@ -8,7 +8,7 @@ use Rattle.set_space.specs.Open.{opened}
 use Rattle.gen_publish.specs.Publish.{Steering}
 use Rattle.packet_pool.specs.Running.{run, GoesOn}
 use Rattle.control_desk.specs.declared.entry.Entry.{Entry}
-use Rattle.control_desk.specs.Woven.{at_rest, after, tellings, said}
+use Rattle.control_desk.specs.Woven.{at_rest, after_entry, tellings, said}
 
 -- A control, the log of what was submitted to it, and how many generations were committed before the log's first entry.
 pub record Booked : Type 0 where
@@ -21,13 +21,13 @@ abbrev pub IsClosed : Steering → Type 0
 IsClosed s = s.work ≡ opened s.work.base
 
 -- A control stands where its log leads from the first so many generations, and no change is open.
-pub record IsKept (s : Steering) (log : List Entry) (from : ℕ) : Type 0 where
+pub record StandsByLog (s : Steering) (log : List Entry) (from : ℕ) : Type 0 where
   pub closed : IsClosed s
   pub some : 0 < from
   pub within : from ≤ length s.committed
   pub first : Generation
   pub begins : EndsWith (take from s.committed) first
-  pub stands : fold after (at_rest (take from s.committed) first) log ≡ at_rest s.committed s.work.base
+  pub stands : fold after_entry (at_rest (take from s.committed) first) log ≡ at_rest s.committed s.work.base
   pub tells : tellings (at_rest (take from s.committed) first) log ≡ map said log
 
 -- A transaction was done, and logged behind the others.

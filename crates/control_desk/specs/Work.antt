@@ -48,7 +48,7 @@ pub record HasDone (steps : List Step) (keep_going : Bool) (old new : Seated) : 
   pub same : new ≡ record old { seen = new.seen; left = new.left }
 
 -- A control thread may do its section of these: it is one of whole transactions that fit the declared sets, and so many may be submitted.
-pub record IsReady (sections : List (List Step)) (c : Seated) : Type 0 where
+pub record MayDoSection (sections : List (List Step)) (c : Seated) : Type 0 where
   pub steps : List Step
   pub numbered : 0 < c.number
   pub section : slice_get sections (c.number - 1) ≡ Some steps

@@ -21,17 +21,17 @@ abbrev pub at_rest : List Generation → Generation → Control
 at_rest committed last = record { committed = committed; last = last; sets = last.sets; failed = false; events = [] }
 
 -- the control once an entry's steps are done in its mode, and what they told
-abbrev pub entered : Control → Entry → Control
-entered c e = section (mode_of e.keep_going) c e.steps
+abbrev pub entry_done : Control → Entry → Control
+entry_done c e = section (mode_of e.keep_going) c e.steps
 
 -- the control after an entry, which has told nothing yet of the next one
-abbrev pub after : Control → Entry → Control
-after c e = record (entered c e) { events = [] }
+abbrev pub after_entry : Control → Entry → Control
+after_entry c e = record (entry_done c e) { events = [] }
 
 -- what is told of each entry of a log, as one is done after another
 abbrev pub tellings : Control → List Entry → List (List Event)
 tellings c [] = []
-tellings c (e ∷ log) = (entered c e).events ∷ tellings (after c e) log
+tellings c (e ∷ log) = (entry_done c e).events ∷ tellings (after_entry c e) log
 
 -- what an entry says was told of it: its refusals, and then its end
 abbrev pub said : Entry → List Event
@@ -42,14 +42,14 @@ said e = e.refused ++ e.end ∷ []
 pub record Replays (base committed : List Generation) (log : List Entry) : Type 0 where
   pub last : Generation
   pub begins : EndsWith base last
-  pub gives : (fold after (at_rest base last) log).committed ≡ committed
+  pub gives : (fold after_entry (at_rest base last) log).committed ≡ committed
   pub tells : tellings (at_rest base last) log ≡ map said log
 
 -- The last generation behind a log, from the generations before it, has this number.
 pub record HasSeen (base : List Generation) (log : List Entry) (number : ℕ) : Type 0 where
   pub last : Generation
   pub begins : EndsWith base last
-  pub reaches : (fold after (at_rest base last) log).last.number ≡ number
+  pub reaches : (fold after_entry (at_rest base last) log).last.number ≡ number
 
 -- one control thread's entries, in the order of the log
 abbrev pub entries_of : ℕ → List Entry → List Entry

@@ -18,20 +18,22 @@ use std::marker::Model;
 /// generations before its first entry to the committed ones.
 #[derive(Drop)]
 pub struct Book {
+    /// The control, without open changes.
     pub control: Control,
+    /// The transactions that were submitted, in the order in which they were done.
     pub log: Log,
     /// How many generations were committed before the log's first entry.
     pub from: u64,
 }
 
 impl Model for Book {
-    ghost use Rattle.control_desk.specs.Books.{Booked, IsKept};
+    ghost use Rattle.control_desk.specs.Books.{Booked, StandsByLog};
 
     ghost Value = { Booked };
 
     ghost view = { λ b. record { control = b.control; log = b.log; from = b.from } };
 
-    ghost invariant = { λ b. IsKept b.control b.log b.from };
+    ghost invariant = { λ b. StandsByLog b.control b.log b.from };
 }
 
 impl Logged for Book {

@@ -1,7 +1,7 @@
 //! The log of transactions.
 ghost use Rattle.std.specs.Prelude.{◌≡◌, ◌<◌, ◌++◌, [], ◌∷◌, Some, length, slice_get};
 
-use set_model::{Event, Events, Memory, Steps};
+use set_model::{Duplicate, Event, Events, Memory, Steps};
 use std::alloc::Global;
 use std::marker::Model;
 
@@ -18,6 +18,18 @@ pub struct Entry {
     pub refused: Events,
     /// How it ended.
     pub end: Event,
+}
+
+impl Duplicate for Entry {
+    fn copy(&self, alloc: Global) -> Result<Self, Memory> {
+        Ok(Entry {
+            clerk: self.clerk,
+            steps: self.steps.copy(alloc)?,
+            keep_going: self.keep_going,
+            refused: self.refused.copy(alloc)?,
+            end: self.end,
+        })
+    }
 }
 
 /// The transactions that were submitted, in the order in which they were done. Contracts see it as the list of its
@@ -68,5 +80,15 @@ impl Log {
         ensures { result.now ≡ self.now }
     {
         self.entries.as_slice()
+    }
+}
+
+impl Duplicate for Log {
+    fn copy(&self, alloc: Global) -> Result<Self, Memory> {
+        let mut entries = Vec::new(alloc);
+        'entries: for entry in &self.entries {
+            entries.push(entry.copy(alloc)?)?;
+        }
+        Ok(Log { alloc, entries })
     }
 }

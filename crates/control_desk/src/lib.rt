@@ -3,6 +3,10 @@
 //! A [`Book`] is the control and its log. It is changed by whole transactions, each of which adds one entry, and the log
 //! replays to the committed generations at every moment. It goes from [`Clerk`] to [`Clerk`], as their turns come: each is one
 //! control thread's, and submits transactions.
+//!
+//! **Definitions:** `specs/Woven.antt` says what a log is, `Books.antt` what a transaction does to the
+//! book, and `Turns.antt` and `Work.antt` what control threads do. **Proofs:** docs/proofs.md, "Several
+//! control threads (`ticket_line`, `log_turns`, `control_desk`)".
 #![tactic(auto)]
 
 mod bell;

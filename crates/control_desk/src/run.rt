@@ -6,7 +6,7 @@ ghost use Rattle.log_turns.specs.LogRule.{HasTurns, IsSized, kept_of};
 ghost use Rattle.set_model.specs.declared.script.SetDecl.{SetDecl};
 ghost use Rattle.set_model.specs.Control.{Generation};
 ghost use Rattle.control_desk.specs.Turns.{AreAll, Seated};
-ghost use Rattle.control_desk.specs.Work.{HasDoneOf, IsEnd, IsReady, IsRun, SharesDesk, kept_by};
+ghost use Rattle.control_desk.specs.Work.{HasDoneOf, IsEnd, MayDoSection, IsRun, SharesDesk, kept_by};
 
 use crate::bell::Bell;
 use crate::book::Book;
@@ -32,7 +32,7 @@ fn work<R: Wait, B: Bell>(
     keep_going: bool,
     bell: &B,
 ) -> Result<Clerk, Memory>
-    requires { IsReady sections.now clerk }
+    requires { MayDoSection sections.now clerk }
     ensures { IfOk result (HasDoneOf sections.now keep_going clerk) }
 {
     let steps = sections.at(u64::from(clerk.number()) - 1);
@@ -101,11 +101,11 @@ pub fn run_clerks<R: Threads + Wait + Sync, B: Bell>(
 ) -> Result<(Control, Log), Memory>
     requires some { (0 < length clerks.items) × (length sections.now ≡ length clerks.items) }
     requires one_desk { (of : TableId) × (schema : List SetDecl) × (base : List Generation) × AreAll of schema base clerks.items }
-    requires ready { All (IsReady sections.now) clerks.items }
+    requires ready { All (MayDoSection sections.now) clerks.items }
     ensures { IfOk result (λ r. (first : Seated) → slice_get clerks.items 0 ≡ Some first → IsRun sections.now keep_going first.base r.0 r.1) }
 {
     let run = |clerk: Clerk| -> Result<Clerk, Memory>
-        requires { IsReady sections.now clerk }
+        requires { MayDoSection sections.now clerk }
         ensures { IfOk result (HasDoneOf sections.entry.now keep_going clerk) }
     { work(rt, alloc, clerk, sections, keep_going, bell) };
     let done = thread::map_vec(rt, clerks, &run)?;

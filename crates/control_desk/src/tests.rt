@@ -8,8 +8,8 @@ use crate::clerk::{Clerk, DeskError};
 use crate::opening::open_desk;
 use gen_publish::start;
 use set_model::{
-    Comment, Event, Family, Interval, Kind, Kinds, Memory, Name, NewElement, Parts, Schema,
-    SetDecl, Step, Steps, Verb, parts_fit,
+    Comment, Duplicate, Event, Family, Interval, Kind, Kinds, Memory, Name, NewElement, Parts,
+    Schema, SetDecl, Step, Steps, Verb, parts_fit,
 };
 use std::alloc::Global;
 use std::test::Fail;
@@ -144,6 +144,8 @@ fn a_book_logs_a_transaction(rt: HostRuntime) -> Result<(), Fail> {
             purged: 0
         }
     );
-    assert_eq!(rt; book.log.len(), 1);
+    let log = book.log.copy(alloc)?;
+    assert_eq!(rt; log.len(), 1);
+    assert_eq!(rt; log.at(0).steps.len(), steps.len());
     Ok(())
 }

@@ -7,7 +7,7 @@ use Rattle.set_model.specs.declared.script.Step.TheVariants.{Change, Flush, Comm
 use Rattle.set_model.specs.Control.{Mode, Control, mode_of, start, step, section, history}
 use Rattle.set_model.specs.Runnable.{EndsClosed, opens}
 use Rattle.gen_publish.specs.Publish.{Steering}
-use Rattle.packet_pool.specs.Running.{run, Stands, Ran}
+use Rattle.packet_pool.specs.Running.{run, StandsAt, Ran}
 use Rattle.control_desk.specs.Books.{IsClosed}
 use Rattle.script_run.specs.Telling.{section_at}
 use Rattle.script_run.proofs.TranscriptLaws.{next_stands}
@@ -40,13 +40,13 @@ section-rests mode c (s ∷ ss) e h =
 
 module _ (schema : List SetDecl) (steps : List Step) (closed : EndsClosed steps) where
   -- A section that ends its last transaction leaves no change open in a control.
-  pub closed_behind : (mode : Mode) (k : Steering) (events : List Event) → Stands [] (history mode schema (steps ∷ [])) (run k false events) → IsClosed k
+  pub closed_behind : (mode : Mode) (k : Steering) (events : List Event) → StandsAt [] (history mode schema (steps ∷ [])) (run k false events) → IsClosed k
   closed_behind mode k events st =
       let same : k.work.sets ≡ k.work.base.sets = sym st.sets ∙ section-rests mode (start schema) steps closed refl ∙ ap (λ g. g.sets) st.last in
       λ i. record { base = k.work.base; sets = same i }
 
   -- Where a control is started and does the section, it stands where the definition's control does.
-  pub stands_behind : (keep_going : Bool) (k new : Steering) (told : List Event) → Stands [] (start schema) (run k false []) → Ran keep_going steps k new told → Stands [] (history (mode_of keep_going) schema (steps ∷ [])) (run new false told)
+  pub stands_behind : (keep_going : Bool) (k new : Steering) (told : List Event) → StandsAt [] (start schema) (run k false []) → Ran keep_going steps k new told → StandsAt [] (history (mode_of keep_going) schema (steps ∷ [])) (run new false told)
   stands_behind keep_going k new told st ran = next_stands keep_going schema (steps ∷ []) 0 steps k new [] told told (omega arith) refl closed st ran refl
 
 -- The first of some sections, or the empty one, is what the first of them is for.

@@ -10,7 +10,7 @@ use Rattle.set_model.specs.Control.{Mode, Control, Generation, mode_of, start, s
 use Rattle.set_report.specs.Writes.{NamesSet, AreSetsOf}
 use Rattle.gen_publish.specs.Publish.{declared_kinds}
 use Rattle.control_desk.specs.declared.entry.Entry.{Entry}
-use Rattle.control_desk.specs.Woven.{Replays, after, at_rest, entered, said, tellings}
+use Rattle.control_desk.specs.Woven.{Replays, after_entry, at_rest, entry_done, said, tellings}
 use Rattle.script_run.proofs.Lists.{snoc-at}
 use Rattle.script_run.proofs.ControlLaws.{IsNumbered, IsOf, Shows, by_sections, section_numbered, section_of, section_shows, sets-alike, start_numbered, start_of, start_sizes, work_of}
 
@@ -49,16 +49,16 @@ module _ (schema : List SetDecl) where
     sizes = record { base = h.sizes.base; open_sets = h.sizes.base };
   }
 
-  after_declared : (c : Control) (e : Entry) → IsDeclared schema c → IsDeclared schema (after c e)
+  after_declared : (c : Control) (e : Entry) → IsDeclared schema c → IsDeclared schema (after_entry c e)
   after_declared c e h = let then = section_declared (mode_of e.keep_going) c e.steps h in record {
     numbered = record { at = then.numbered.at; long = then.numbered.long };
     kinds = record { work = record { base = then.kinds.work.base; open_sets = then.kinds.work.open_sets }; named = All-nil (NamesSet (length (declared_kinds schema))) };
     sizes = record { base = then.sizes.base; open_sets = then.sizes.open_sets };
   }
 
-  log_declared : (c : Control) (log : List Entry) → IsDeclared schema c → IsDeclared schema (fold after c log)
+  log_declared : (c : Control) (log : List Entry) → IsDeclared schema c → IsDeclared schema (fold after_entry c log)
   log_declared c [] h = h
-  log_declared c (e ∷ log) h = log_declared (after c e) log (after_declared c e h)
+  log_declared c (e ∷ log) h = log_declared (after_entry c e) log (after_declared c e h)
 
   abbrev SaysDeclared : Entry → Type 0
   SaysDeclared e = All (NamesSet (length (declared_kinds schema))) (said e)
@@ -66,11 +66,11 @@ module _ (schema : List SetDecl) where
   all_said : (c : Control) (log : List Entry) → IsDeclared schema c → tellings c log ≡ map said log → All SaysDeclared log
   all_said c [] h tells = All-nil SaysDeclared
   all_said c (e ∷ log) h tells =
-      let here : (entered c e).events ≡ said e = cc tells in
-      let rest : tellings (after c e) log ≡ map said log = cc tells in
+      let here : (entry_done c e).events ≡ said e = cc tells in
+      let rest : tellings (after_entry c e) log ≡ map said log = cc tells in
       All-cons SaysDeclared e log
       (subst (All (NamesSet (length (declared_kinds schema)))) here (section_of (declared_kinds schema) (mode_of e.keep_going) c e.steps h.kinds).named)
-      (all_said (after c e) log (after_declared c e h) rest)
+      (all_said (after_entry c e) log (after_declared c e h) rest)
 
 -- A log that replays behind sections.
 module _ (mode : Mode) (schema : List SetDecl) (sections : List (List Step)) (committed : List Generation) (log : List Entry) (r : Replays (history mode schema sections).committed committed log) where
@@ -89,7 +89,7 @@ module _ (mode : Mode) (schema : List SetDecl) (sections : List (List Step)) (co
   -- The sets of the last generation are those of the schema.
   pub last_declared : (g : Generation) → EndsWith committed g → AreSetsOf schema g.sets
   last_declared g ends =
-      let c = fold after (at_rest begun.committed r.last) log in
+      let c = fold after_entry (at_rest begun.committed r.last) log in
       let h = log_declared schema (at_rest begun.committed r.last) log begun_declared in
       let last : c.last ≡ g = one_end c h.numbered g (subst (λ (z : List Generation). EndsWith z g) (sym r.gives) ends) in
       subst (λ (z : Generation). AreSetsOf schema z.sets) last (sets-alike schema c.last.sets h.kinds.work.base h.sizes.base)

@@ -16,7 +16,7 @@ use Rattle.control_desk.specs.declared.entry.Entry.{Entry}
 use Rattle.control_desk.specs.Books.{IsClosed}
 use Rattle.control_desk.specs.Turns.{AreAll, IsOpened, Seated, newcomer}
 use Rattle.control_desk.specs.Woven.{IsOfOne}
-use Rattle.control_desk.specs.Work.{IsReady, IsRun, transactions}
+use Rattle.control_desk.specs.Work.{MayDoSection, IsRun, transactions}
 
 -- No sections: no desk, and nothing is logged.
 pub none_run : (sections : List (List Step)) (keep_going : Bool) (control : Steering) → length sections ≡ 0 → IsClosed control → Grown control.schema 0 control.committed → EndsWith control.committed control.work.base
@@ -56,9 +56,9 @@ module _ (of : TableId) (schema : List SetDecl) (base : List Generation) (thread
   first_base first at = ap (λ (s : Seated). s.base) (opened.each 0 first at)
 
   -- Each may do its section, where that has no more steps than each has transactions left.
-  pub all_ready : (sections : List (List Step)) → length sections ≡ threads → All (All (IsRunnableStep schema)) sections → All EndsClosed sections → All (λ steps. length steps ≤ each) sections → All (IsReady sections) clerks
-  all_ready sections sizes fits closed enough = all_from (IsReady sections) clerks ready where
-    ready : (place : ℕ) (c : Seated) → slice_get clerks place ≡ Some c → IsReady sections c
+  pub all_ready : (sections : List (List Step)) → length sections ≡ threads → All (All (IsRunnableStep schema)) sections → All EndsClosed sections → All (λ steps. length steps ≤ each) sections → All (MayDoSection sections) clerks
+  all_ready sections sizes fits closed enough = all_from (MayDoSection sections) clerks ready where
+    ready : (place : ℕ) (c : Seated) → slice_get clerks place ≡ Some c → MayDoSection sections c
     ready place c at =
         let is = opened.each place c at in let within = slice_get_within clerks place c at in let size = opened.size in
         let mine = get_at sections place (omega (arith, within, size, sizes)) in

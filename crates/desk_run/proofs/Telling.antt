@@ -9,14 +9,14 @@ use Rattle.set_report.specs.ListText.{list_text}
 use Rattle.set_report.specs.Remarks.{remarks_text}
 use Rattle.set_report.specs.Writes.{NamesSet, AreSetsOf}
 use Rattle.gen_publish.specs.Publish.{Steering}
-use Rattle.packet_pool.specs.Running.{run, Stands}
+use Rattle.packet_pool.specs.Running.{run, StandsAt}
 use Rattle.control_desk.specs.declared.entry.Entry.{Entry}
 use Rattle.control_desk.specs.Woven.{IsWoven, Replays, said}
 use Rattle.control_desk.specs.Work.{IsRun}
 use Rattle.script_run.specs.Telling.{section_at}
 use Rattle.script_run.proofs.Lists.{list_any-append}
 use Rattle.script_run.proofs.TranscriptLaws.{events_declared}
-use Rattle.desk_run.specs.DeskText.{IsDeskText, first_part, log_text}
+use Rattle.desk_run.specs.DeskText.{IsDeskText, after_first_section, log_text}
 use Rattle.desk_run.proofs.FirstSection.{first_alone}
 use Rattle.desk_run.proofs.LogLaws.{last_declared, log_declares}
 
@@ -32,12 +32,12 @@ refusal_of_log events log = ap (λ b. list_any is_refusal events || b) (sym (any
 
 module _ (script : Script) (keep_going : Bool) (first : List Step) (later : List (List Step)) (control then : Steering) (told : List Event) (log : List Entry)
     (first_is : first ≡ section_at script.sections 0) (later_are : later ≡ drop 1 script.sections)
-    (alone : Stands [] (history (mode_of keep_going) script.schema (first ∷ [])) (run control false told)) (ran : IsRun later keep_going control.committed then log) where
-  stands : Stands [] (first_part keep_going script) (run control false told)
-  stands = subst (λ (k : Control). Stands [] k (run control false told))
+    (alone : StandsAt [] (history (mode_of keep_going) script.schema (first ∷ [])) (run control false told)) (ran : IsRun later keep_going control.committed then log) where
+  stands : StandsAt [] (after_first_section keep_going script) (run control false told)
+  stands = subst (λ (k : Control). StandsAt [] k (run control false told))
       (ap (λ (s : List Step). history (mode_of keep_going) script.schema (s ∷ [])) first_is ∙ sym (first_alone (mode_of keep_going) script.schema script.sections)) alone
 
-  replays : Replays (first_part keep_going script).committed then.committed log
+  replays : Replays (after_first_section keep_going script).committed then.committed log
   replays = subst (λ (z : List Generation). Replays z then.committed log) (sym stands.committed) ran.replays
 
   -- what a writer of the text asks

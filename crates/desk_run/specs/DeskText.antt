@@ -25,18 +25,18 @@ abbrev pub log_text : List SetDecl → List Entry → List ℕ
 log_text schema log = flat_map (entry_text schema) log
 
 -- the control behind the first section of a script, which runs alone
-abbrev pub first_part : Bool → Script → Control
-first_part keep_going script = history (mode_of keep_going) script.schema (take 1 script.sections)
+abbrev pub after_first_section : Bool → Script → Control
+after_first_section keep_going script = history (mode_of keep_going) script.schema (take 1 script.sections)
 
 -- What the first section told as remarks, then the log, and the last generation as a script, at the script's last moment: nft(8)
 -- reads it, since all that was told are comments.
 abbrev pub desk_text : Bool → Script → List Entry → Generation → List ℕ
 desk_text keep_going script log last =
-    remarks_text script.schema (first_part keep_going script).events ++ (log_text script.schema log ++ list_text script.schema last.sets script.last)
+    remarks_text script.schema (after_first_section keep_going script).events ++ (log_text script.schema log ++ list_text script.schema last.sets script.last)
 
 -- all that was told: of the first section, and of the transactions of the log
 abbrev pub all_told : Bool → Script → List Entry → List Event
-all_told keep_going script log = (first_part keep_going script).events ++ flat_map said log
+all_told keep_going script log = (after_first_section keep_going script).events ++ flat_map said log
 
 -- The first section of a script ran alone, and then the others as control threads at one desk: the log is woven of these sections,
 -- replays from the generations of the first section to those that end with the listed one, and each transaction is in this mode. A
@@ -46,7 +46,7 @@ pub record IsDeskText (script : Script) (keep_going : Bool) (refused : Bool) (ou
   pub committed : List Generation
   pub last : Generation
   pub woven : IsWoven (drop 1 script.sections) log
-  pub replays : Replays (first_part keep_going script).committed committed log
+  pub replays : Replays (after_first_section keep_going script).committed committed log
   pub modes : All (λ e. e.keep_going ≡ keep_going) log
   pub ends : EndsWith committed last
   pub text : output ≡ desk_text keep_going script log last

@@ -1,18 +1,16 @@
 //! The control threads of a script's later sections.
-ghost use Rattle.std.specs.Prelude.{◌≡◌, ◌≤◌, ◌<◌, ◌+◌, ◌*◌, ◌^◌, true, All, IfOk, length};
+ghost use Rattle.std.specs.Prelude.{◌≡◌, ◌≤◌, ◌<◌, ◌+◌, ◌*◌, ◌^◌, ◌↔◌, All, IfOk, IsTrue, length};
 ghost use Rattle.set_model.specs.Runnable.{EndsClosed, IsRunnableStep};
 ghost use Rattle.control_desk.specs.Books.{IsClosed};
 ghost use Rattle.control_desk.specs.Work.{IsRun};
 
 use control_desk::{Bell, Log, open_desk, run_clerks};
 use gen_publish::Control;
+use script_run::has_numbers;
 use set_model::{Memory, Sections};
 use std::alloc::Global;
 use std::sync::Wait;
 use std::thread::Threads;
-
-/// The number that no generation has.
-const NO_NUMBER: u64 = 1 << 63;
 
 /// The most steps of any of these sections.
 fn longest(sections: &Sections) -> u64
@@ -27,13 +25,10 @@ fn longest(sections: &Sections) -> u64
 
 /// Whether there are numbers for so many generations of each of the control threads.
 fn has_room(control: &Control, clerks: u32, each: u64) -> bool
-    ensures { result ≡ true → control.now.work.base.number + clerks * each < 2 ^ 63 }
+    ensures { IsTrue result ↔ (control.now.work.base.number + clerks * each < 2 ^ 63) }
 {
-    let Some(all) = u64::from(clerks).checked_mul(each) else {
-        return false;
-    };
-    match control.number().checked_add(all) {
-        Some(number) => number < NO_NUMBER,
+    match u64::from(clerks).checked_mul(each) {
+        Some(all) => has_numbers(control, all),
         None => false,
     }
 }

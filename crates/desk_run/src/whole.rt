@@ -1,10 +1,10 @@
-ghost use Rattle.std.specs.Prelude.{◌≡◌, ◌≤◌, ◌++◌, false, [], ◌∷◌, drop, length, All, IfOk};
+ghost use Rattle.std.specs.Prelude.{◌≡◌, ◌≤◌, ◌++◌, ◌^◌, false, [], ◌∷◌, drop, length, All, IfOk};
 ghost use Rattle.std.specs.List.{flat_map, list_any};
 ghost use Rattle.control_desk.specs.Books.{IsClosed};
 ghost use Rattle.control_desk.specs.Woven.{said};
 ghost use Rattle.set_model.specs.Control.{history, is_refusal, mode_of};
 ghost use Rattle.set_model.specs.Runnable.{EndsClosed, HasFields, IsRunnable, IsRunnableStep};
-ghost use Rattle.packet_pool.specs.Running.{run, Stands};
+ghost use Rattle.packet_pool.specs.Running.{run, StandsAt};
 ghost use Rattle.set_report.specs.ListText.{list_text};
 ghost use Rattle.set_report.specs.Remarks.{remarks_text};
 ghost use Rattle.set_report.specs.Writes.{AreSetsOf, NamesSet};
@@ -45,14 +45,15 @@ fn run_first<G: Gate>(
     gate: &G,
 ) -> Result<(Control, Events), Memory>
     requires sets { All HasFields schema }
+    requires few_sets { length schema ≤ 2 ^ 32 }
     requires steps { All (IsRunnableStep schema) steps.now }
     requires closed { EndsClosed steps.now }
-    ensures stands { IfOk result (λ r. Stands [] (history (mode_of keep_going) schema (steps.now ∷ [])) (run r.0 false r.1)) }
+    ensures stands { IfOk result (λ r. StandsAt [] (history (mode_of keep_going) schema (steps.now ∷ [])) (run r.0 false r.1)) }
     ensures schema { IfOk result (λ r. r.0.schema ≡ schema) }
     ensures rests { IfOk result (λ r. IsClosed r.0) }
 {
     let (mut control, _readers) = start(alloc, schema, 1)?;
-    if !has_numbers(&control, steps) {
+    if !has_numbers(&control, steps.len()) {
         return Err(Memory);
     }
     let told = run_steps(alloc, &mut control, steps, keep_going, gate)?;

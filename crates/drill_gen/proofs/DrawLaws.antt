@@ -4,24 +4,24 @@ use Rattle.std.specs.List.{range_with_len}
 use Rattle.std.proofs.Math.Nat.{add-suc}
 use Rattle.std.proofs.lemmas.List.FromFn.{map-range_with_len_more}
 use Rattle.std.proofs.lemmas.Bool.Decides.{nat_tests}
-use Rattle.drill_gen.specs.Drill.{next_state, after, draw_from}
+use Rattle.drill_gen.specs.Drill.{next_state, after_draws, draw_from}
 use Rattle.drill_gen.specs.Drawing.{packet_state, packet_draws}
 
 -- so many draws behind so many others
-pub after-more : (x m n : ℕ) → after (after x m) n ≡ after x (m + n)
-after-more x m zero = let e : m ≡ m + 0 = omega arith in ap (after x) e
-after-more x m (suc n) = ap next_state (after-more x m n) ∙ ap (after x) (sym (add-suc m n))
+pub after-more : (x m n : ℕ) → after_draws (after_draws x m) n ≡ after_draws x (m + n)
+after-more x m zero = let e : m ≡ m + 0 = omega arith in ap (after_draws x) e
+after-more x m (suc n) = ap next_state (after-more x m n) ∙ ap (after_draws x) (sym (add-suc m n))
 
-pub draw-more : (x m n : ℕ) → draw_from (after x m) n ≡ draw_from x (m + n)
+pub draw-more : (x m n : ℕ) → draw_from (after_draws x m) n ≡ draw_from x (m + n)
 draw-more x m n = ap (λ y. next_state y / 32768) (after-more x m n)
 
 -- Four draws behind those of i elements come those of i + 1.
-pub four-more : (x i : ℕ) → after (after x (4 * i)) 4 ≡ after x (4 * (i + 1))
-four-more x i = after-more x (4 * i) 4 ∙ ap (after x) (omega arith)
+pub four-more : (x i : ℕ) → after_draws (after_draws x (4 * i)) 4 ≡ after_draws x (4 * (i + 1))
+four-more x i = after-more x (4 * i) 4 ∙ ap (after_draws x) (omega arith)
 
 -- An even packet takes two draws and an odd one three.
-pub packet-more : (x p : ℕ) → after (packet_state x p) (packet_draws p) ≡ packet_state x (p + 1)
-packet-more x p = after-more x (5 * (p / 2) + 2 * (p % 2)) (packet_draws p) ∙ ap (after x) (places (p % 2) refl) where
+pub packet-more : (x p : ℕ) → after_draws (packet_state x p) (packet_draws p) ≡ packet_state x (p + 1)
+packet-more x p = after-more x (5 * (p / 2) + 2 * (p % 2)) (packet_draws p) ∙ ap (after_draws x) (places (p % 2) refl) where
   places : (r : ℕ) → p % 2 ≡ r → 5 * (p / 2) + 2 * (p % 2) + packet_draws p ≡ 5 * ((p + 1) / 2) + 2 * ((p + 1) % 2)
   places r e = grind (arith, nat_tests)
 

@@ -6,8 +6,8 @@ use Rattle.set_model.specs.declared.script.Step.{Step}
 use Rattle.set_model.specs.declared.script.Script.{Script}
 use Rattle.set_model.specs.declared.packet.Packet.{Packet}
 use Rattle.drill_gen.specs.declared.target.Target.{Target}
-use Rattle.drill_gen.specs.Drill.{after, draw_from, seeded, draw, addition, packet_draw, drill_packet, drill_script, drill_keys}
-use Rattle.drill_gen.specs.Drawing.{target_from, target_of, target_at, addition_of, addition_at, one_transaction, packet_state, packet_at, key_of}
+use Rattle.drill_gen.specs.Drill.{after_draws, draw_from, seeded, draw, addition, packet_draw, drill_packet, drill_script, drill_keys}
+use Rattle.drill_gen.specs.Drawing.{target_from, target_of, target_at, addition_of, addition_at, one_transaction, packet_state, drawn_packet, key_of}
 use Rattle.drill_gen.proofs.DrawLaws.{draw-more, map-range-same}
 
 pub target-drawn : (seed i : ℕ) → target_at (seeded seed) i ≡ target_of seed i
@@ -22,7 +22,7 @@ targets seed count = map (target_at (seeded seed)) (range_with_len 0 count)
 
 -- the state behind all elements
 abbrev pub behind : ℕ → ℕ → ℕ
-behind seed count = after (seeded seed) (4 * count)
+behind seed count = after_draws (seeded seed) (4 * count)
 
 pub packet-place : (seed count p k : ℕ) → draw_from (packet_state (behind seed count) p) k ≡ packet_draw seed count p k
 packet-place seed count p k =
@@ -40,7 +40,7 @@ chosen seed count e h =
     ∙ get_or-map-range_with_len (target_at (seeded seed)) 0 count (e % count) (e % count) (target_from 0) inside (omega arith)
     ∙ target-drawn seed (e % count)
 
-pub packet-drawn : (seed count p : ℕ) → 0 < count → packet_at (targets seed count) (behind seed count) p ≡ drill_packet seed count p
+pub packet-drawn : (seed count p : ℕ) → 0 < count → drawn_packet (targets seed count) (behind seed count) p ≡ drill_packet seed count p
 packet-drawn seed count p h =
     cc (
       packet-place seed count p 0,
@@ -56,16 +56,16 @@ script-drawn seed count {x} e s t =
     t ∙ ap one_transaction (s ∙ ap (λ y. map (addition_at y) (range_with_len 0 count)) e ∙ same)
 
 -- The packets for these elements are the workload's.
-pub packets-drawn : (seed count : ℕ) → map (packet_at (targets seed count) (behind seed count)) (range_with_len 0 (length (targets seed count))) ≡ map (drill_packet seed count) (range_with_len 0 count)
+pub packets-drawn : (seed count : ℕ) → map (drawn_packet (targets seed count) (behind seed count)) (range_with_len 0 (length (targets seed count))) ≡ map (drill_packet seed count) (range_with_len 0 count)
 packets-drawn seed count =
     let l : length (targets seed count) ≡ count = length-map-range_with_len (target_at (seeded seed)) 0 count in
-    ap (λ n. map (packet_at (targets seed count) (behind seed count)) (range_with_len 0 n)) l
-    ∙ map-range-same (packet_at (targets seed count) (behind seed count)) (drill_packet seed count) 0 count (λ p _ h. packet-drawn seed count p (omega arith))
+    ap (λ n. map (drawn_packet (targets seed count) (behind seed count)) (range_with_len 0 n)) l
+    ∙ map-range-same (drawn_packet (targets seed count) (behind seed count)) (drill_packet seed count) 0 count (λ p _ h. packet-drawn seed count p (omega arith))
 
 pub keys-drawn : (seed count : ℕ) {x y : ℕ} {elements slice : List Target} {packets : List Packet} {keys : List (List Packet)}
-    → x ≡ seeded seed → y ≡ after x (4 * count) → elements ≡ map (target_at x) (range_with_len 0 count) → slice ≡ elements
-    → packets ≡ map (packet_at slice y) (range_with_len 0 (length slice)) → keys ≡ packets ∷ [] → keys ≡ drill_keys seed count
+    → x ≡ seeded seed → y ≡ after_draws x (4 * count) → elements ≡ map (target_at x) (range_with_len 0 count) → slice ≡ elements
+    → packets ≡ map (drawn_packet slice y) (range_with_len 0 (length slice)) → keys ≡ packets ∷ [] → keys ≡ drill_keys seed count
 keys-drawn seed count {x} {y} {elements} {slice} e f g h p k =
-    let state : y ≡ behind seed count = f ∙ ap (λ z. after z (4 * count)) e in
+    let state : y ≡ behind seed count = f ∙ ap (λ z. after_draws z (4 * count)) e in
     let same : slice ≡ targets seed count = h ∙ g ∙ ap (λ z. map (target_at z) (range_with_len 0 count)) e in
-    k ∙ ap (λ q. q ∷ []) (p ∙ ap (λ z. map (packet_at slice z) (range_with_len 0 (length slice))) state ∙ ap (λ z. map (packet_at z (behind seed count)) (range_with_len 0 (length z))) same ∙ packets-drawn seed count)
+    k ∙ ap (λ q. q ∷ []) (p ∙ ap (λ z. map (drawn_packet slice z) (range_with_len 0 (length slice))) state ∙ ap (λ z. map (drawn_packet z (behind seed count)) (range_with_len 0 (length z))) same ∙ packets-drawn seed count)

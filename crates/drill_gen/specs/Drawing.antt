@@ -8,14 +8,14 @@ use Rattle.set_model.specs.declared.script.Step.TheVariants.{Change, Commit}
 use Rattle.set_model.specs.declared.script.Script.{Script}
 use Rattle.drill_gen.specs.declared.target.Range.{Range}
 use Rattle.drill_gen.specs.declared.target.Target.{Target}
-use Rattle.drill_gen.specs.Drill.{after, draw_from, address, element_draw, address_span, port_span, span_from, value_in, drill_set}
+use Rattle.drill_gen.specs.Drill.{after_draws, draw_from, address, element_draw, address_span, port_span, span_from, value_in, drill_set}
 
-abbrev pub interval_of : Range → Interval
-interval_of r = span_from r.low r.span r.greatest
+abbrev pub range_interval : Range → Interval
+range_interval r = span_from r.low r.span r.greatest
 
 -- the value that an offset gives, counted round within the span
 abbrev pub value_at : Range → ℕ → ℕ
-value_at r offset = value_in (interval_of r) (offset % (r.span + 1))
+value_at r offset = value_in (range_interval r) (offset % (r.span + 1))
 
 -- the element that the next four draws give
 abbrev pub target_from : ℕ → Target
@@ -25,7 +25,7 @@ target_from x = record {
 }
 
 abbrev pub parts_of : Target → List Interval
-parts_of t = interval_of t.addresses ∷ interval_of t.ports ∷ []
+parts_of t = range_interval t.addresses ∷ range_interval t.ports ∷ []
 
 abbrev pub addition_of : Target → ℕ → Step
 addition_of t line = Change line 0 Add (record { parts = parts_of t; expiry = None; comment = [] }) 0
@@ -43,7 +43,7 @@ target_of seed i = record {
 
 -- element i behind a state, and the step that adds it
 abbrev pub target_at : ℕ → ℕ → Target
-target_at x i = target_from (after x (4 * i))
+target_at x i = target_from (after_draws x (4 * i))
 
 abbrev pub addition_at : ℕ → ℕ → Step
 addition_at x i = addition_of (target_at x i) (i + 1)
@@ -54,7 +54,7 @@ one_transaction steps = record { schema = drill_set ∷ []; sections = (steps ++
 
 -- the state in front of packet p
 abbrev pub packet_state : ℕ → ℕ → ℕ
-packet_state x p = after x (5 * (p / 2) + 2 * (p % 2))
+packet_state x p = after_draws x (5 * (p / 2) + 2 * (p % 2))
 
 -- a key of one of the elements, by the next two draws
 abbrev pub near_from : List Target → ℕ → List ℕ
@@ -72,5 +72,5 @@ abbrev pub packet_draws : ℕ → ℕ
 packet_draws p = if p % 2 == 0 then 2 else 3
 
 -- packet p behind the elements' state
-abbrev pub packet_at : List Target → ℕ → ℕ → Packet
-packet_at targets x p = packet_from targets (packet_state x p) p
+abbrev pub drawn_packet : List Target → ℕ → ℕ → Packet
+drawn_packet targets x p = packet_from targets (packet_state x p) p

@@ -16,13 +16,13 @@ abbrev pub next_state : ℕ → ℕ
 next_state x = (x * 1103515245 + 12345) % 2147483648
 
 -- the state behind so many draws
-abbrev pub after : ℕ → ℕ → ℕ
-after x zero = x
-after x (suc n) = next_state (after x n)
+abbrev pub after_draws : ℕ → ℕ → ℕ
+after_draws x zero = x
+after_draws x (suc n) = next_state (after_draws x n)
 
 -- draw n from a state on: the high bits of the state behind it
 abbrev pub draw_from : ℕ → ℕ → ℕ
-draw_from x n = after x (suc n) / 32768
+draw_from x n = after_draws x (suc n) / 32768
 
 -- The state of a seed.
 abbrev pub seeded : ℕ → ℕ

@@ -1,5 +1,5 @@
 ghost use Rattle.std.specs.Prelude.{◌≡◌, ◌*◌, ◌+◌};
-ghost use Rattle.drill_gen.specs.Drill.{seeded, next_state, after, draw_from, address};
+ghost use Rattle.drill_gen.specs.Drill.{seeded, next_state, after_draws, draw_from, address};
 
 /// Numbers from 0 to 65,535 that look random and are the same for the same seed: a linear congruential generator's
 /// high bits.
@@ -30,7 +30,7 @@ impl Draws {
 
     /// An address of the next two numbers, its high half first.
     pub fn address(&mut self) -> u32
-        ensures next { self.new.state ≡ after self.old.state 2 }
+        ensures next { self.new.state ≡ after_draws self.old.state 2 }
         ensures drawn { result ≡ address (draw_from self.old.state 0) (draw_from self.old.state 1) }
     {
         let high = self.draw();

@@ -1,5 +1,5 @@
 ghost use Rattle.std.specs.Prelude.{◌≡◌, IfOk};
-ghost use Rattle.drill_gen.specs.Drill.{after};
+ghost use Rattle.drill_gen.specs.Drill.{after_draws};
 
 use crate::draws::Draws;
 use set_model::{Comment, Interval, Key, Memory, NewElement, Parts, Step, Verb};
@@ -8,16 +8,19 @@ use std::alloc::Global;
 /// The values from a lowest one on, so many behind it and none past the greatest of their kind.
 #[derive(Clone, Copy)]
 pub struct Range {
+    /// The lowest value.
     pub low: u32,
+    /// How many values stand behind it, where the kind has so many.
     pub span: u16,
+    /// The greatest value of the kind.
     pub greatest: u32,
 }
 
 impl Range {
-    ghost use Rattle.drill_gen.specs.Drawing.{interval_of, value_at};
+    ghost use Rattle.drill_gen.specs.Drawing.{range_interval, value_at};
 
     fn interval(&self) -> Interval
-        ensures { result ≡ interval_of self.now }
+        ensures { result ≡ range_interval self.now }
     {
         let low = u128::from(self.low);
         Interval {
@@ -39,7 +42,9 @@ impl Range {
 /// An element of the workload, which packets are drawn for.
 #[derive(Clone, Copy)]
 pub struct Target {
+    /// The values of its first field.
     pub addresses: Range,
+    /// The values of its second field.
     pub ports: Range,
 }
 
@@ -48,7 +53,7 @@ impl Target {
 
     /// The element of the next four numbers.
     pub fn draw(draws: &mut Draws) -> Target
-        ensures next { draws.new.state ≡ after draws.old.state 4 }
+        ensures next { draws.new.state ≡ after_draws draws.old.state 4 }
         ensures drawn { result ≡ target_from draws.old.state }
     {
         let address = draws.address();

@@ -1,8 +1,8 @@
 ghost use Rattle.std.specs.Prelude.{◌≡◌, ◌*◌, ◌/◌, ◌%◌, ◌+◌, ◌<◌, [], ◌∷◌, length, map, All, IfOk, OnOk};
 ghost use Rattle.std.specs.List.{range_with_len};
 ghost use Rattle.set_model.specs.Runnable.{IsRunnable, IsFitting};
-ghost use Rattle.drill_gen.specs.Drill.{after, drill_set as declared_set, drill_script, drill_keys};
-ghost use Rattle.drill_gen.specs.Drawing.{target_at, addition_at, one_transaction, near_from, any_from, packet_from, packet_draws, packet_at};
+ghost use Rattle.drill_gen.specs.Drill.{after_draws, drill_set as declared_set, drill_script, drill_keys};
+ghost use Rattle.drill_gen.specs.Drawing.{target_at, addition_at, one_transaction, near_from, any_from, packet_from, packet_draws, drawn_packet};
 
 use crate::draws::Draws;
 use crate::target::Target;
@@ -34,7 +34,7 @@ fn drill_set(alloc: Global) -> Result<SetDecl, Memory>
 
 /// The next `count` elements, and the steps that add them.
 fn elements(alloc: Global, draws: &mut Draws, count: u32) -> Result<(Vec<Target>, Steps), Memory>
-    ensures next { OnOk result (draws.new.state ≡ after draws.old.state (4 * count)) }
+    ensures next { OnOk result (draws.new.state ≡ after_draws draws.old.state (4 * count)) }
     ensures targets { IfOk result (λ r. r.0.items ≡ map (target_at draws.old.state) (range_with_len 0 count)) }
     ensures steps { IfOk result (λ r. r.1 ≡ map (addition_at draws.old.state) (range_with_len 0 count)) }
 {
@@ -51,7 +51,7 @@ fn elements(alloc: Global, draws: &mut Draws, count: u32) -> Result<(Vec<Target>
 /// A key of one of the elements, by the next two numbers.
 fn near_key(alloc: Global, draws: &mut Draws, targets: &[Target]) -> Result<Key, Memory>
     requires { 0 < length targets.now }
-    ensures next { draws.new.state ≡ after draws.old.state 2 }
+    ensures next { draws.new.state ≡ after_draws draws.old.state 2 }
     ensures key { IfOk result (λ key. key ≡ near_from targets.now draws.old.state) }
 {
     let place = usize::from(draws.draw()) % targets.len();
@@ -61,7 +61,7 @@ fn near_key(alloc: Global, draws: &mut Draws, targets: &[Target]) -> Result<Key,
 
 /// Any key, by the next three numbers.
 fn any_key(alloc: Global, draws: &mut Draws) -> Result<Key, Memory>
-    ensures next { draws.new.state ≡ after draws.old.state 3 }
+    ensures next { draws.new.state ≡ after_draws draws.old.state 3 }
     ensures key { IfOk result (λ key. key ≡ any_from draws.old.state) }
 {
     let address = draws.address();
@@ -75,7 +75,7 @@ fn any_key(alloc: Global, draws: &mut Draws) -> Result<Key, Memory>
 /// Packet `p`. An even one lies in an element.
 fn packet(alloc: Global, draws: &mut Draws, targets: &[Target], p: usize) -> Result<Packet, Memory>
     requires { 0 < length targets.now }
-    ensures next { OnOk result (draws.new.state ≡ after draws.old.state (packet_draws p)) }
+    ensures next { OnOk result (draws.new.state ≡ after_draws draws.old.state (packet_draws p)) }
     ensures packet { IfOk result (λ packet. packet ≡ packet_from targets.now draws.old.state p) }
 {
     let key = if p % 2 == 0 {
@@ -92,7 +92,7 @@ fn packet(alloc: Global, draws: &mut Draws, targets: &[Target], p: usize) -> Res
 
 /// As many packets as elements.
 fn packets(alloc: Global, draws: &mut Draws, targets: &[Target]) -> Result<Packets, Memory>
-    ensures { IfOk result (λ packets. packets ≡ map (packet_at targets.now draws.old.state) (range_with_len 0 (length targets.now))) }
+    ensures { IfOk result (λ packets. packets ≡ map (drawn_packet targets.now draws.old.state) (range_with_len 0 (length targets.now))) }
 {
     let mut packets = Packets::new(alloc);
     for p in 0..targets.len() {

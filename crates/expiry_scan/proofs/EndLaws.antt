@@ -10,7 +10,7 @@ use Rattle.set_model.specs.declared.element.Element.{Element}
 use Rattle.set_model.specs.Expiry.{live, lives, renewed_at, renewed_element}
 use Rattle.expiry_scan.specs.declared.page_ends.PageEnds.{PageEnds}
 use Rattle.bit_rows.specs.Row.{bit}
-use Rattle.bit_rows.specs.Words.{place}
+use Rattle.bit_rows.specs.Words.{bit_in}
 use Rattle.bit_rows.proofs.Bits.{place-is, bit-zero}
 use Rattle.bit_rows.proofs.Marked.{same_or_not}
 use Rattle.expiry_scan.specs.Expired.{is_expired, stays, is_leaving, is_by}
@@ -93,7 +93,7 @@ stays-both p (Some q) e end h l none = go (stays p e) (live e q) refl refl where
   go false true a b = absurd (cc (sym a ∙ stays-by p (Some q) e h b))
 
 -- Where none is to have left, no place is marked.
-pub none-left : (p : Option ℕ) (e : Element) (k end : ℕ) → unwrap_or p 0 < end → ((now : ℕ) → now < end → is_expired now e ≡ false) → place (replicate 8 0) k ≡ not (stays p e)
+pub none-left : (p : Option ℕ) (e : Element) (k end : ℕ) → unwrap_or p 0 < end → ((now : ℕ) → now < end → is_expired now e ≡ false) → bit_in (replicate 8 0) k ≡ not (stays p e)
 none-left p e k end l none = place-is (replicate {A = ℕ} 8 0) k ∙ ap (λ w. bit w (k % 64)) (zero (cases_lt (k / 64) 8)) ∙ bit-zero (k % 64) ∙ go p l none where
   zero : (k / 64 < 8) ⊎ (8 ≤ k / 64) → ◌≡◌ {A = ℕ} (get_or (replicate 8 0) (k / 64) 0) 0
   zero (inl h) = get_or-replicate 8 (k / 64) 0 0 h

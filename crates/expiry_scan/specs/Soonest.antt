@@ -1,7 +1,7 @@
 -- Moments before which no element of a page is expired.
 use Rattle.std.specs.Prelude.{◌≡◌, ℕ, ◌+◌, ◌-◌, ◌*◌, ◌^◌, ◌<◌, ◌≤◌, false, not, if◌then◌else◌, Option, Some, List, length, slice_get, unwrap_or}
 use Rattle.set_model.specs.declared.element.Element.{Element}
-use Rattle.bit_rows.specs.Words.{place}
+use Rattle.bit_rows.specs.Words.{bit_in}
 use Rattle.expiry_scan.specs.declared.page_ends.PageEnds.{PageEnds}
 use Rattle.expiry_scan.specs.Expired.{is_expired, stays, is_leaving}
 
@@ -15,7 +15,7 @@ AreEndsOf passed e ends = ((now : ℕ) → now < ends.all → is_expired now e �
 
 -- The bits of eight words tell which elements of a page of 512 left.
 abbrev pub AreMarks : Option ℕ → List Element → ℕ → List ℕ → Type 0
-AreMarks passed elements page words = (length words ≡ 8) × ((k : ℕ) (e : Element) → k < 512 → slice_get elements (512 * page + k) ≡ Some e → place words k ≡ not (stays passed e))
+AreMarks passed elements page words = (length words ≡ 8) × ((k : ℕ) (e : Element) → k < 512 → slice_get elements (512 * page + k) ≡ Some e → bit_in words k ≡ not (stays passed e))
 
 -- These are such moments of each element of a page of 512, and the page's words tell which of them left, as long as none more
 -- has been to leave by the moment by which elements left.
@@ -29,8 +29,8 @@ AreEnds passed elements pages = (512 * length pages < length elements + 512)
     × ((page : ℕ) (ends : PageEnds) → slice_get pages page ≡ Some ends → ArePageEnds passed elements page ends)
 
 -- No element of a page stays and is expired now.
-abbrev pub IsQuiet : Option ℕ → ℕ → List Element → ℕ → Type 0
-IsQuiet passed now elements page = (k : ℕ) (e : Element) → k < 512 → slice_get elements (512 * page + k) ≡ Some e → is_leaving passed now e ≡ false
+abbrev pub HasNoneLeaving : Option ℕ → ℕ → List Element → ℕ → Type 0
+HasNoneLeaving passed now elements page = (k : ℕ) (e : Element) → k < 512 → slice_get elements (512 * page + k) ≡ Some e → is_leaving passed now e ≡ false
 
 -- Two lists of elements differ at one place alone, where the other list may have an element more.
 abbrev pub DifferAt : ℕ → List Element → List Element → Type 0

@@ -1,4 +1,12 @@
 //! Which elements of a list are expired. Moments are in milliseconds. A scan takes no memory.
+//!
+//! [`TimedElements`] are the elements of a set, in pages that copies share. Beside each page stand
+//! moments before which none of its elements is expired, so that a commit passes over the page, and a
+//! bit for each element that left.
+//!
+//! **Definitions:** `specs/Expired.antt` and `Soonest.antt`. **Theory:** docs/architecture.md, "The way
+//! of a change". **Proofs:** docs/proofs.md, "A set's tables and image (`set_tables`, `mapping_table`,
+//! `pipapo_image`)".
 #![tactic(auto)]
 
 ghost use Rattle.std.specs.Prelude.{◌≡◌, ◌<◌, not, length, IfSome, position, count_by};

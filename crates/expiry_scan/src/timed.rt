@@ -2,7 +2,7 @@ ghost use Rattle.std.specs.Prelude.{◌≡◌, ◌<◌, ◌*◌, ℕ, true, List
 ghost use Rattle.set_model.specs.declared.element.Element.{Element};
 ghost use Rattle.set_model.specs.Expiry.{renewed_at};
 ghost use Rattle.expiry_scan.specs.Expired.{is_expired, is_leaving};
-ghost use Rattle.expiry_scan.specs.Soonest.{AreMarks, IsQuiet, DifferAt, AreEnds};
+ghost use Rattle.expiry_scan.specs.Soonest.{AreMarks, HasNoneLeaving, DifferAt, AreEnds};
 
 use crate::page_ends::{self, PageEnds, UNKNOWN};
 use bit_rows::RankedBits;
@@ -124,7 +124,7 @@ impl TimedElements {
 
     /// Whether the moments beside a page tell that no element of it stays and is expired at `now`.
     fn is_quiet(&self, page: u64, passed: Option<u64>, now: u64) -> bool
-        ensures { result ≡ true → IsQuiet passed now self.now page }
+        ensures { result ≡ true → HasNoneLeaving passed now self.now page }
     {
         match self.ends.get(page as usize) {
             None => false,

@@ -6,8 +6,8 @@ abbrev pub is_printable : ℕ → Bool
 is_printable b = nat_le 32 b && nat_le b 126
 
 -- A note has printable bytes, tabs and line feeds.
-abbrev pub IsQuiet : ℕ → Type 0
-IsQuiet b = IsTrue (is_printable b || b == 9 || b == 10)
+abbrev pub IsNoteByte : ℕ → Type 0
+IsNoteByte b = IsTrue (is_printable b || b == 9 || b == 10)
 
 -- a digit of a hexadecimal number
 abbrev pub hex_digit : ℕ → ℕ

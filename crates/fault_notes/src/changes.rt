@@ -1,7 +1,8 @@
 //! Which steps of a script a refusal speaks of.
-use crate::refused::{Cause, Refused, SetWords, family_word};
+use crate::refused::{Cause, Refused, SetWords};
 use set_model::{Interval, Memory, Schema, Script, SetDecl, Step, Verb};
 use std::alloc::Global;
+use text_pieces::family_word;
 
 /// How many changes of one line are looked at.
 const MOST_ON_LINE: usize = 16;

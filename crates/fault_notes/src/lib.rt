@@ -1,5 +1,12 @@
 //! What a person is told beside the output, on the standard error: where a text isn't in its grammar and what could stand
 //! there, why a file isn't read or is no capture, and which elements refused changes speak of.
+//!
+//! Each note begins with a file's name and, where a token or a byte is bad, its place: so far it is
+//! proved, and the words behind it are tested. Every byte of it is shown so that it can't move a
+//! terminal.
+//!
+//! **Definitions:** `specs/Shown.antt` says how a byte is shown and what a note begins with,
+//! `Told.antt` that one note is told or nothing.
 #![tactic(auto)]
 
 mod bad;

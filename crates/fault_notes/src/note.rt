@@ -1,5 +1,5 @@
 ghost use Rattle.std.specs.Prelude.{◌≡◌, ◌+◌, ◌<◌, ◌++◌, ◌∷◌, [], List, ℕ, All, OnOk, IfOk, IsTrue, decimal};
-ghost use Rattle.fault_notes.specs.Shown.{IsQuiet, hex_digit, is_printable as is_printable_byte, shown, shown_byte, place_text, byte_text, name_text};
+ghost use Rattle.fault_notes.specs.Shown.{IsNoteByte, hex_digit, is_printable as is_printable_byte, shown, shown_byte, place_text, byte_text, name_text};
 
 use itoa::Buffer;
 use set_model::Memory;
@@ -10,7 +10,7 @@ use std::alloc::Global;
 #[derive(Drop)]
 pub struct Note {
     bytes: Vec<u8>,
-    ghost quiet: { All IsQuiet bytes.items },
+    ghost quiet: { All IsNoteByte bytes.items },
 }
 
 fn is_printable(byte: u8) -> bool
@@ -41,13 +41,13 @@ impl Note {
     /// The note's bytes: whole lines.
     pub fn as_slice(&self) -> &[u8]
         ensures bytes { result.now ≡ self.now.bytes.items }
-        ensures quiet { All IsQuiet result.now }
+        ensures quiet { All IsNoteByte result.now }
     {
         self.bytes.as_slice()
     }
 
     fn append(&mut self, bytes: &[u8]) -> Result<(), Memory>
-        requires { All IsQuiet bytes.now }
+        requires { All IsNoteByte bytes.now }
         ensures { OnOk result (self.new.bytes.items ≡ self.old.bytes.items ++ bytes.now) }
     {
         self.bytes.extend_from_slice(bytes)?;

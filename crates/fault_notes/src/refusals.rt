@@ -1,25 +1,15 @@
 //! The notes on refused changes.
-ghost use Rattle.std.specs.Prelude.{◌≡◌};
-ghost use Rattle.set_model.specs.Key.{is_good as good};
-
 use crate::changes::{Change, set_number, spoken_of};
 use crate::note::Note;
 use crate::refused::{Cause, Refused, next_line, refused_by, without_mark};
 use crate::source::last_line;
 use addr_text::{read_interval, write_interval};
-use set_model::{Interval, Kind, Memory, Script, is_below};
+use set_model::{Interval, Kind, Memory, Script, is_good};
 use std::alloc::Global;
 use token_forms::{TokenKind, Tokens};
 
 /// How many refused changes are told one by one.
 const MOST_TOLD: u64 = 20;
-
-/// Whether an interval of a kind doesn't fall and stays within the kind's bits.
-fn is_good(kind: Kind, part: Interval) -> bool
-    ensures { result ≡ good kind part }
-{
-    part.low <= part.high && is_below(part.high, kind.bits())
-}
 
 impl Note {
     /// Adds intervals, as a script has them.
@@ -36,7 +26,7 @@ impl Note {
                     return Err(Memory);
                 }
             }
-            if is_good(*kind, *part) && write_interval(*kind, *part, &mut text).is_err() {
+            if is_good(*kind, part) && write_interval(*kind, *part, &mut text).is_err() {
                 return Err(Memory);
             }
         }

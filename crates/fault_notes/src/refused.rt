@@ -1,7 +1,6 @@
 //! The refused changes of a run, as the lines of its output tell them.
 use crate::source::first_line;
 use addr_text::read_number;
-use set_model::Family;
 
 /// The greatest number that a line tells of a line, a field or an element.
 const MOST: u64 = 1_000_000_000_000_000;
@@ -86,18 +85,6 @@ pub(crate) fn refused_by(line: &[u8]) -> Option<Refused<'_>> {
             name,
         },
     })
-}
-
-/// A family by its name in nft(8).
-pub(crate) fn family_word(family: Family) -> &'static [u8] {
-    match family {
-        Family::Ip => b"ip",
-        Family::Ip6 => b"ip6",
-        Family::Inet => b"inet",
-        Family::Arp => b"arp",
-        Family::Bridge => b"bridge",
-        Family::Netdev => b"netdev",
-    }
 }
 
 /// The first line of a text, and the bytes behind its line feed.

@@ -5,7 +5,8 @@
 use Rattle.std.specs.Prelude.{◌≡◌, ℕ, zero, suc, ◌+◌, ◌-◌, ◌*◌, ◌/◌, ◌%◌, ◌^◌, ◌≤◌, min, Bool, true, false, ◌&&◌, ◌||◌, ◌==◌, nat_lt, bit_and}
 use Rattle.set_model.specs.declared.block.Block.{Block}
 
--- groups of `width` bits, which is 4 or 8, in a field of 1 to 16 whole bytes
+-- groups of `width` bits, which is 4 or 8, in a field of 1 to 16 whole bytes. A multiple of four between two bounds says so, since
+-- arithmetic reads it, and a sum type is no proposition in an invariant.
 pub record IsWidth (width bits : ℕ) : Type 0 where
   pub fours : width % 4 ≡ 0
   pub four : 4 ≤ width

@@ -3,6 +3,10 @@
 //! A field of whole bytes is looked up in groups of four or eight bits, the most significant group
 //! first. A block fixes the upper bits of its base and leaves the lower ones free, so in each group
 //! it fixes all bits, the upper ones or none.
+//!
+//! **Definitions:** `specs/Groups.antt`, with the laws for both widths in `Laws.antt`. **Theory:**
+//! docs/architecture.md, "The classifier, by one example". **Proofs:** docs/proofs.md, "Tables
+//! (`field_groups`, `lookup_table`)".
 #![tactic(auto)]
 
 ghost use Rattle.std.specs.Prelude.{◌≡◌, ℕ, ◌+◌, ◌-◌, ◌*◌, ◌/◌, ◌%◌, ◌^◌, ◌<◌, ◌≤◌};

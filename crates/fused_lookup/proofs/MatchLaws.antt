@@ -12,7 +12,7 @@ use Rattle.lookup_table.specs.Table.{block_at}
 use Rattle.fused_lookup.specs.declared.window.Window.{Window}
 use Rattle.fused_lookup.specs.Window.{IsWindow}
 use Rattle.fused_lookup.specs.Filled.{IsClear}
-use Rattle.fused_lookup.specs.Words.{IsWordOf, IsLeft, HasRules}
+use Rattle.fused_lookup.specs.Words.{IsWordOf, IsLeft, IsWithinRules}
 
 pub length-left : (test : Block → Bool) (blocks : List Block) (row : List Bool) → length blocks ≤ length row → length (matched test blocks row) ≡ length blocks
 length-left test [] row h = refl
@@ -54,7 +54,7 @@ word-left test blocks row i n old word count room was is past = record { bits = 
       ∙ sym (left-at test blocks row (64 * i + k) long (omega arith))
   go k h (inr l) = past k h l ∙ sym (get_or_past (matched test blocks row) (64 * i + k) false (let m = length-left test blocks row long in omega arith))
 
-pub has-rules : (n i word : ℕ) → ((k : ℕ) → k < 64 → n ≤ 64 * i + k → bit word k ≡ false) → HasRules n i word
+pub has-rules : (n i word : ℕ) → ((k : ℕ) → k < 64 → n ≤ 64 * i + k → bit word k ≡ false) → IsWithinRules n i word
 has-rules n i word past = record { rule = λ k h set. go k h set (cases_lt (64 * i + k) n) } where
   go : (k : ℕ) → k < 64 → bit word k ≡ true → (64 * i + k < n) ⊎ (n ≤ 64 * i + k) → 64 * i + k < n
   go k h set (inl l) = l

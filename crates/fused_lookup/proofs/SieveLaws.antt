@@ -18,7 +18,7 @@ use Rattle.lookup_table.proofs.RowsLaws.{cell-is, All-bucket}
 use Rattle.lookup_table.proofs.MatchLaws.{held-by-buckets}
 use Rattle.set_tables.specs.Rows.{matched}
 use Rattle.fused_lookup.specs.Words.{IsWordOf}
-use Rattle.fused_lookup.specs.Sieve.{is_set, IsBucket, AreLastFour, HaveLines, in_all, KeepsWhereSet, NoneHolds}
+use Rattle.fused_lookup.specs.Sieve.{is_rule_set, IsBucket, AreLastFour, HaveLines, in_all, KeepsWhereSet, NoneHolds}
 use Rattle.fused_lookup.specs.declared.sieve.LastFour.{LastFour}
 use Rattle.fused_lookup.proofs.MatchLaws.{left-at, length-left, word-left, ones-left}
 
@@ -27,13 +27,13 @@ pub some-group : (width bits : ℕ) → IsWidth width bits → 1 ≤ bits / widt
 some-group width bits w = le-div 1 bits width (omega (arith, w.four)) (omega (arith, w.some, w.eight))
 
 -- a bit of a word of a page
-page-bit : (t : FieldTable) (value g place i k : ℕ) (words : List ℕ) → IsPage t.buckets.rows (i / 8) words → IsBucket t value g place → k < 64 → bit (slice_index words (place * 8 + i % 8)) k ≡ is_set t value (64 * i + k) g
+page-bit : (t : FieldTable) (value g place i k : ℕ) (words : List ℕ) → IsPage t.buckets.rows (i / 8) words → IsBucket t value g place → k < 64 → bit (slice_index words (place * 8 + i % 8)) k ≡ is_rule_set t value (64 * i + k) g
 page-bit t value g place i k words page bucket h =
     let at : 512 * (i / 8) + 64 * (i % 8) + k ≡ 64 * i + k = omega arith in
     page.bits place (i % 8) k bucket.within (omega arith) h ∙ ap (cell t.buckets.rows place) at ∙ ap (λ p. cell t.buckets.rows p (64 * i + k)) bucket.at
 
 -- no rule is set past the last one
-bucket-past : (t : FieldTable) (value g place r : ℕ) → IsBucket t value g place → t.rules ≤ r → is_set t value r g ≡ false
+bucket-past : (t : FieldTable) (value g place r : ℕ) → IsBucket t value g place → t.rules ≤ r → is_rule_set t value r g ≡ false
 bucket-past t value g place r bucket past =
     let within : place_of t g value < length t.buckets.rows = subst (λ (p : ℕ). p < length t.buckets.rows) bucket.at bucket.within in
     let long = All-bucket (λ (x : Row). length x.bits ≡ t.rules) t.buckets.rows (place_of t g value) t.shaped.rows within in
@@ -96,8 +96,8 @@ last-four p (suc (suc (suc (suc m)))) h =
 
 in-four : (t : FieldTable) (value : ℕ) (buckets : LastFour) (i k : ℕ) (words : List ℕ) → AreLastFour t value buckets → IsPage t.buckets.rows (i / 8) words → k < 64
     → in_all words buckets (i % 8) k
-    ≡ (((is_set t value (64 * i + k) (t.bits / t.width - 4) && is_set t value (64 * i + k) (t.bits / t.width - 3)) && is_set t value (64 * i + k) (t.bits / t.width - 2))
-    && is_set t value (64 * i + k) (t.bits / t.width - 1))
+    ≡ (((is_rule_set t value (64 * i + k) (t.bits / t.width - 4) && is_rule_set t value (64 * i + k) (t.bits / t.width - 3)) && is_rule_set t value (64 * i + k) (t.bits / t.width - 2))
+    && is_rule_set t value (64 * i + k) (t.bits / t.width - 1))
 in-four t value buckets i k words are page h =
     two (two (two (page-bit t value _ buckets.fourth i k words page are.four h) (page-bit t value _ buckets.third i k words page are.three h)) (page-bit t value _ buckets.second i k words page are.two h)) (page-bit t value _ buckets.last i k words page are.one h) where
       two : {a b c d : Bool} → a ≡ b → c ≡ d → (a && c) ≡ (b && d)
@@ -105,37 +105,37 @@ in-four t value buckets i k words are page h =
 
 -- what is left of a rule in all groups
 pub in-groups : (t : FieldTable) (value : ℕ) (buckets : LastFour) (words : List ℕ) (blocks : List Block) (i k : ℕ) → AreLastFour t value buckets → IsPage t.buckets.rows (i / 8) words → Stands t blocks → value < 2 ^ t.bits
-    → k < 64 → 64 * i + k < t.rules → (in_all words buckets (i % 8) k && every (is_set t value (64 * i + k)) (t.bits / t.width - 4)) ≡ holds_value (block_at blocks (64 * i + k)) value
+    → k < 64 → 64 * i + k < t.rules → (in_all words buckets (i % 8) k && every (is_rule_set t value (64 * i + k)) (t.bits / t.width - 4)) ≡ holds_value (block_at blocks (64 * i + k)) value
 in-groups t value buckets words blocks i k are page stands small h r =
-    ap (λ x. x && every (is_set t value (64 * i + k)) (t.bits / t.width - 4)) (in-four t value buckets i k words are page h)
-    ∙ last-four (is_set t value (64 * i + k)) (t.bits / t.width) (some-group t.width t.bits t.shaped.groups)
+    ap (λ x. x && every (is_rule_set t value (64 * i + k)) (t.bits / t.width - 4)) (in-four t value buckets i k words are page h)
+    ∙ last-four (is_rule_set t value (64 * i + k)) (t.bits / t.width) (some-group t.width t.bits t.shaped.groups)
     ∙ held-by-buckets t blocks value (64 * i + k) stands small r
 
 and-fails : (a b : Bool) → a ≡ false → (a && b) ≡ false
 and-fails a b e = ap (λ x. x && b) e
 
 -- what the groups before the last four leave
-pub rest-left : (t : FieldTable) (value i left word n : ℕ) → KeepsWhereSet t value n i left word → n ≡ t.bits / t.width - 4 → (k : ℕ) → k < 64 → bit word k ≡ (bit left k && every (is_set t value (64 * i + k)) (t.bits / t.width - 4))
-rest-left t value i left word n keeps is k h = keeps k h ∙ ap (λ m. bit left k && every (is_set t value (64 * i + k)) m) is
+pub rest-left : (t : FieldTable) (value i left word n : ℕ) → KeepsWhereSet t value n i left word → n ≡ t.bits / t.width - 4 → (k : ℕ) → k < 64 → bit word k ≡ (bit left k && every (is_rule_set t value (64 * i + k)) (t.bits / t.width - 4))
+rest-left t value i left word n keeps is k h = keeps k h ∙ ap (λ m. bit left k && every (is_rule_set t value (64 * i + k)) m) is
 
 -- a word of the rules that hold the value
 pub word-held : (t : FieldTable) (value : ℕ) (buckets : LastFour) (words : List ℕ) (blocks : List Block) (i left word : ℕ) → AreLastFour t value buckets → IsPage t.buckets.rows (i / 8) words → Stands t blocks → value < 2 ^ t.bits
-    → ((k : ℕ) → k < 64 → bit left k ≡ in_all words buckets (i % 8) k) → ((k : ℕ) → k < 64 → bit word k ≡ (bit left k && every (is_set t value (64 * i + k)) (t.bits / t.width - 4)))
+    → ((k : ℕ) → k < 64 → bit left k ≡ in_all words buckets (i % 8) k) → ((k : ℕ) → k < 64 → bit word k ≡ (bit left k && every (is_rule_set t value (64 * i + k)) (t.bits / t.width - 4)))
     → (k : ℕ) → k < 64 → 64 * i + k < t.rules → bit word k ≡ (bit (2 ^ 64 - 1) k && holds_value (block_at blocks (64 * i + k)) value)
 word-held t value buckets words blocks i left word are page stands small all rest k h r =
-    rest k h ∙ ap (λ x. x && every (is_set t value (64 * i + k)) (t.bits / t.width - 4)) (all k h)
+    rest k h ∙ ap (λ x. x && every (is_rule_set t value (64 * i + k)) (t.bits / t.width - 4)) (all k h)
     ∙ in-groups t value buckets words blocks i k are page stands small h r
     ∙ sym (ap (λ x. x && holds_value (block_at blocks (64 * i + k)) value) (bit-ones 64 k ∙ lt-ltb k 64 h))
 
 pub word-past : (t : FieldTable) (value : ℕ) (buckets : LastFour) (words : List ℕ) (i left word : ℕ) → AreLastFour t value buckets → IsPage t.buckets.rows (i / 8) words
-    → ((k : ℕ) → k < 64 → bit left k ≡ in_all words buckets (i % 8) k) → ((k : ℕ) → k < 64 → bit word k ≡ (bit left k && every (is_set t value (64 * i + k)) (t.bits / t.width - 4)))
+    → ((k : ℕ) → k < 64 → bit left k ≡ in_all words buckets (i % 8) k) → ((k : ℕ) → k < 64 → bit word k ≡ (bit left k && every (is_rule_set t value (64 * i + k)) (t.bits / t.width - 4)))
     → (k : ℕ) → k < 64 → t.rules ≤ 64 * i + k → bit word k ≡ false
 word-past t value buckets words i left word are page all rest k h p =
     rest k h
-    ∙ and-fails (bit left k) (every (is_set t value (64 * i + k)) (t.bits / t.width - 4))
+    ∙ and-fails (bit left k) (every (is_rule_set t value (64 * i + k)) (t.bits / t.width - 4))
     (all k h ∙ in-four t value buckets i k words are page h
-    ∙ and-fails _ (is_set t value (64 * i + k) (t.bits / t.width - 1))
-    (and-fails _ (is_set t value (64 * i + k) (t.bits / t.width - 2)) (and-fails _ (is_set t value (64 * i + k) (t.bits / t.width - 3)) (bucket-past t value _ buckets.fourth (64 * i + k) are.four p))))
+    ∙ and-fails _ (is_rule_set t value (64 * i + k) (t.bits / t.width - 1))
+    (and-fails _ (is_rule_set t value (64 * i + k) (t.bits / t.width - 2)) (and-fails _ (is_rule_set t value (64 * i + k) (t.bits / t.width - 3)) (bucket-past t value _ buckets.fourth (64 * i + k) are.four p))))
 
 -- ---- rows
 

@@ -10,8 +10,8 @@ use Rattle.lookup_table.specs.Rules.{Stands, place_of}
 use Rattle.fused_lookup.specs.declared.sieve.LastFour.{LastFour}
 
 -- Rule r is set in the bucket of the value's group g.
-abbrev pub is_set : FieldTable → ℕ → ℕ → ℕ → Bool
-is_set t value r g = cell t.buckets.rows (place_of t g value) r
+abbrev pub is_rule_set : FieldTable → ℕ → ℕ → ℕ → Bool
+is_rule_set t value r g = cell t.buckets.rows (place_of t g value) r
 
 -- where the bucket of a value's group g stands
 pub record IsBucket (t : FieldTable) (value g place : ℕ) : Type 0 where
@@ -42,7 +42,7 @@ in_all words buckets w k =
 
 -- A bit of word i stays where its rule is set in the buckets of the first n groups too.
 abbrev pub KeepsWhereSet : FieldTable → ℕ → ℕ → ℕ → ℕ → ℕ → Type 0
-KeepsWhereSet t value n i old new = (k : ℕ) → k < 64 → bit new k ≡ (bit old k && every (is_set t value (64 * i + k)) n)
+KeepsWhereSet t value n i old new = (k : ℕ) → k < 64 → bit new k ≡ (bit old k && every (is_rule_set t value (64 * i + k)) n)
 
 -- No rule of the words from `from` up to `to` holds the value.
 abbrev pub NoneHolds : FieldTable → ℕ → ℕ → ℕ → Type 0

@@ -11,7 +11,7 @@ pub record IsLeft (rules : ℕ) (row : List Bool) (i word : ℕ) : Type 0 where
   pub bits : (k : ℕ) → k < 64 → 64 * i + k < rules → bit word k ≡ at row (64 * i + k)
 
 -- No bit of word i is set past n rules.
-pub record HasRules (n i word : ℕ) : Type 0 where
+pub record IsWithinRules (n i word : ℕ) : Type 0 where
   pub rule : (k : ℕ) → k < 64 → bit word k ≡ true → 64 * i + k < n
 
 -- k is the least set bit from `from` on

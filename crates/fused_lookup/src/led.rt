@@ -1,6 +1,6 @@
 ghost use Rattle.std.specs.Prelude.{◌≡◌, ◌^◌, ◌<◌, length};
 ghost use Rattle.set_model.specs.Blocks.{holds_value};
-ghost use Rattle.fused_lookup.specs.Words.{HasRules};
+ghost use Rattle.fused_lookup.specs.Words.{IsWithinRules};
 ghost use Rattle.fused_lookup.specs.Led.{LeadsWord, LeadsOn};
 
 use crate::bits::next_bit;
@@ -12,7 +12,7 @@ use set_model::is_live;
 /// rule `64 * i`, whose end is live.
 #[inline(always)]
 pub(crate) fn first_live(ends: &EndTable, i: u32, word: u64, now: u64) -> Option<u64>
-    requires { HasRules (length ends.now.items) i word }
+    requires { IsWithinRules (length ends.now.items) i word }
     ensures { LeadsWord ends.now.items i word now result }
 {
     if word == 0 || ends.is_word_expired(i, now) {

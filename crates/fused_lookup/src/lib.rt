@@ -3,6 +3,10 @@
 //!
 //! A row between two fields is all clear but for a window of its words. The walk through a field
 //! takes each word of the window out, and so leaves the row clear for the field after the next.
+//!
+//! **Definitions:** `specs/Filled.antt` (the next field's row), `Led.antt` (the ends), `Window.antt`.
+//! **Theory:** docs/architecture.md, "The classifier, by one example". **Proofs:** docs/proofs.md, "The
+//! fused lookup (`fused_lookup`)".
 #![tactic(auto)]
 
 mod bits;

@@ -1,6 +1,6 @@
 ghost use Rattle.std.specs.Prelude.{◌≡◌, ◌+◌, ◌^◌, ◌<◌, ◌≤◌, length, All};
 ghost use Rattle.set_model.specs.Blocks.{holds_value};
-ghost use Rattle.fused_lookup.specs.Words.{HasRules};
+ghost use Rattle.fused_lookup.specs.Words.{IsWithinRules};
 ghost use Rattle.fused_lookup.specs.Filled.{FillsWord, RefillsWord};
 ghost use Rattle.fused_lookup.specs.Window.{IsWindow};
 
@@ -20,7 +20,7 @@ pub(crate) fn refill_word(
     next: &mut BitRow,
     window: Window,
 ) -> Window
-    requires rules { HasRules (length spans.now.items) i word }
+    requires rules { IsWithinRules (length spans.now.items) i word }
     requires inside { All (λ s. s.first + s.count ≤ length next.old.bits) spans.now.items }
     requires window { IsWindow next.old.bits window }
     ensures filled { FillsWord spans.now.items i word next.old.bits next.new.bits }

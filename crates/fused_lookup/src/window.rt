@@ -5,8 +5,11 @@ ghost use Rattle.fused_lookup.specs.Window.{is_touched, HasBlocks, IsWidened, Is
 /// in a touched block of eight words. Bit k of `touched` stands for block k and each 64th after it.
 #[derive(Clone, Copy, Debug, PartialEq, Eq)]
 pub struct Window {
+    /// The first word.
     pub first: u32,
+    /// The word behind the last one.
     pub end: u32,
+    /// Which blocks of eight words were touched: bit k stands for block k and each 64th after it.
     pub touched: u64,
 }
 

@@ -12,7 +12,7 @@ use Rattle.set_model.specs.declared.script.SetDecl.{SetDecl}
 use Rattle.set_model.specs.SetState.{State, purged}
 use Rattle.set_model.specs.Control.{Generation, first_generation}
 use Rattle.set_space.specs.Open.{Open, opened, sealed}
-use Rattle.gen_publish.specs.Publish.{Follows, Grown, IsSteered, IsSeen, Reading, AllFresh, kinds_of, declared_kinds, reading}
+use Rattle.gen_publish.specs.Publish.{Follows, Grown, IsSteered, IsSeen, ReaderView, AllFresh, kinds_of, declared_kinds, reader_view}
 
 grown_from : (schema : List SetDecl) (k : ℕ) (g : Generation) (gs : List Generation) → g.number ≡ k → kinds_of g.sets ≡ declared_kinds schema → Linked Follows g gs → Grown schema k (g ∷ gs)
 grown_from schema k g [] n s h = (n, s, tt)
@@ -97,16 +97,16 @@ new_seen z schema made k [] is new i d l = absurd (omega (arith, l))
 new_seen z schema made k (p ∷ ps) is new zero d l = subst (IsSeen schema) (sym is ∙ sym (ap (λ x. x.seen) new.0)) (first_seen schema)
 new_seen z schema made k (p ∷ ps) is new (suc i) d l = new_seen z schema made (k + 1) ps is new.1 i d (omega (arith, l))
 
-new_readers : (z : TableId) (schema : List SetDecl) (seen : List Generation) (k : ℕ) (ps : List (slots.Reading Generation)) → AllNew z seen k ps → AllFresh z schema seen k (map (reading schema) ps)
+new_readers : (z : TableId) (schema : List SetDecl) (seen : List Generation) (k : ℕ) (ps : List (slots.Reading Generation)) → AllNew z seen k ps → AllFresh z schema seen k (map (reader_view schema) ps)
 new_readers z schema seen k [] new = tt
-new_readers z schema seen k (p ∷ ps) new = (ap (reading schema) new.0, new_readers z schema seen (k + 1) ps new.1)
+new_readers z schema seen k (p ∷ ps) new = (ap (reader_view schema) new.0, new_readers z schema seen (k + 1) ps new.1)
 
-pub fresh_as : (z of : TableId) (t schema : List SetDecl) (made seen : List Generation) (ps : List (slots.Reading Generation)) (rs : List Reading) → z ≡ of → t ≡ schema → made ≡ seen → rs ≡ map (reading t) ps → AllNew z made 0 ps
+pub fresh_as : (z of : TableId) (t schema : List SetDecl) (made seen : List Generation) (ps : List (slots.Reading Generation)) (rs : List ReaderView) → z ≡ of → t ≡ schema → made ≡ seen → rs ≡ map (reader_view t) ps → AllNew z made 0 ps
     → (length rs ≡ length ps) × AllFresh of schema seen 0 rs
 fresh_as z of t schema made seen ps rs same declared all readers new = (
-  ap length readers ∙ length-map ps (reading t),
+  ap length readers ∙ length-map ps (reader_view t),
   subst (AllFresh of schema seen 0) (sym readers)
-      (subst (λ (x : TableId × List SetDecl × List Generation). AllFresh x.0 x.1 x.2 0 (map (reading t) ps)) (λ i. (same i, declared i, all i)) (new_readers z t made 0 ps new)),
+      (subst (λ (x : TableId × List SetDecl × List Generation). AllFresh x.0 x.1 x.2 0 (map (reader_view t) ps)) (λ i. (same i, declared i, all i)) (new_readers z t made 0 ps new)),
 )
 
 -- A work on generation 0.

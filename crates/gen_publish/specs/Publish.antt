@@ -56,7 +56,7 @@ IsCommit old now new receipt =
 
 -- A reader, holding or not: which start it is of, the declared sets, the generations that it has seen, its number, and
 -- how many atomic additions it has made.
-pub record Reading : Type 0 where
+pub record ReaderView : Type 0 where
   pub of : TableId
   pub schema : List SetDecl
   pub seen : List Generation
@@ -64,8 +64,8 @@ pub record Reading : Type 0 where
   pub moves : ℕ
 
 -- a reader of these declared sets over a pass
-abbrev pub reading : List SetDecl → slots.Reading Generation → Reading
-reading schema p = record { of = p.of; schema = schema; seen = p.seen; reader = p.reader; moves = p.moves }
+abbrev pub reader_view : List SetDecl → slots.Reading Generation → ReaderView
+reader_view schema p = record { of = p.of; schema = schema; seen = p.seen; reader = p.reader; moves = p.moves }
 
 -- Some generations were seen, from generation 0 on.
 pub record IsSeen (schema : List SetDecl) (seen : List Generation) : Type 0 where
@@ -78,7 +78,7 @@ pub record Noted : Type 0 where
   pub list : List Generation
 
 -- new readers, numbered from k on
-abbrev pub AllFresh : TableId → List SetDecl → List Generation → ℕ → List Reading → Type 0
+abbrev pub AllFresh : TableId → List SetDecl → List Generation → ℕ → List ReaderView → Type 0
 AllFresh z schema seen k [] = Unit {0}
 AllFresh z schema seen k (p ∷ ps) = (p ≡ record { of = z; schema = schema; seen = seen; reader = k; moves = 0 }) × AllFresh z schema seen (k + 1) ps
 

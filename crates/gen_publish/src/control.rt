@@ -121,9 +121,9 @@ impl Control {
     ///
     /// # Errors
     ///
-    /// `Overlap` if a live element holds the start key and has other intervals, or else holds the end key; then `Full`;
-    /// then `RulesFull` with the first field that would have too many rules. `Memory` if there is none left. Each leaves
-    /// the control as it was.
+    /// `Overlap` if a live element holds the start key and has other intervals, or else holds the end key, and in a disjoint
+    /// set if one shares any key; then `Full`; then `RulesFull` with the first field that would have too many rules. `Memory`
+    /// if there is none left. Each leaves the control as it was.
     pub fn insert(&mut self, set: u32, element: &NewElement, now: u64) -> Result<Added, ChangeError>
         requires set { set < length self.old.work.sets }
         requires fits { FitsSet self.old.work set element.now.parts }

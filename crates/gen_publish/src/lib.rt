@@ -44,6 +44,10 @@
 //! shorter. Where an enter and a commit come at once, the enter may fall on either side. After `meet` with a note of the
 //! control an enter is no older than the last commit before that note; `hear` tells the control that what a reader has
 //! seen is a front of its own list.
+//!
+//! **Definitions:** `specs/Publish.antt` has what contracts see of a control, a reader and a note. What
+//! a change does is said in `set_space` (`specs/Open.antt`, `Answers.antt`), and what a set is in
+//! `set_model`. **Proofs:** docs/proofs.md, "Control and readers (`gen_publish`)".
 #![tactic(auto)]
 
 mod berth;

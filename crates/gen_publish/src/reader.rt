@@ -4,7 +4,7 @@ ghost use Rattle.std.specs.Arc.{arc_value};
 ghost use Rattle.history_laws.specs.Histories.{StartsWith, EndsWith, longer};
 ghost use Rattle.set_model.specs.Control.{Generation};
 ghost use Rattle.set_model.specs.Runnable.{IsFitting};
-ghost use Rattle.gen_publish.specs.Publish.{IsSeen, IsLookup, reading};
+ghost use Rattle.gen_publish.specs.Publish.{IsSeen, IsLookup, reader_view};
 
 use crate::berth::Berth;
 use crate::note::Note;
@@ -32,11 +32,11 @@ pub struct Reader {
 
 impl Model for Reader {
     ghost use Rattle.std.specs.Arc.{arc_value};
-    ghost use Rattle.gen_publish.specs.Publish.{Reading, IsSeen, reading};
+    ghost use Rattle.gen_publish.specs.Publish.{ReaderView, IsSeen, reader_view};
 
-    ghost Value = { Reading };
+    ghost Value = { ReaderView };
 
-    ghost view = { λ r. reading (arc_value r.tools.schema) r.pass };
+    ghost view = { λ r. reader_view (arc_value r.tools.schema) r.pass };
 
     ghost invariant = { λ r. IsSeen (arc_value r.tools.schema) r.pass.seen };
 }
@@ -50,11 +50,11 @@ pub struct Held {
 
 impl Model for Held {
     ghost use Rattle.std.specs.Arc.{arc_value};
-    ghost use Rattle.gen_publish.specs.Publish.{Reading, IsSeen, reading};
+    ghost use Rattle.gen_publish.specs.Publish.{ReaderView, IsSeen, reader_view};
 
-    ghost Value = { Reading };
+    ghost Value = { ReaderView };
 
-    ghost view = { λ h. reading (arc_value h.tools.schema) h.inner };
+    ghost view = { λ h. reader_view (arc_value h.tools.schema) h.inner };
 
     ghost invariant = { λ h. IsSeen (arc_value h.tools.schema) h.inner.seen };
 }
@@ -62,7 +62,7 @@ impl Model for Held {
 impl Reader {
     pub(crate) fn seated(pass: Pass<Berth>, tools: Tools) -> Reader
         requires { IsSeen (arc_value tools.schema) pass.seen }
-        ensures { result ≡ reading (arc_value tools.schema) pass }
+        ensures { result ≡ reader_view (arc_value tools.schema) pass }
     {
         Reader { pass, tools }
     }

@@ -1,9 +1,9 @@
 //! How a control and its readers start.
-ghost use Rattle.std.specs.Prelude.{◌≡◌, ◌<◌, ◌≤◌, [], ◌∷◌, length, map, All, IfOk};
+ghost use Rattle.std.specs.Prelude.{◌≡◌, ◌<◌, ◌≤◌, ◌^◌, [], ◌∷◌, length, map, All, IfOk};
 ghost use Rattle.std.specs.Arc.{arc_value};
 ghost use Rattle.set_model.specs.Control.{first_generation};
 ghost use Rattle.set_space.specs.Open.{CanBeBuilt, opened};
-ghost use Rattle.gen_publish.specs.Publish.{AllFresh, IsSeen, reading};
+ghost use Rattle.gen_publish.specs.Publish.{AllFresh, IsSeen, reader_view};
 
 use crate::berth::{Berth, first_berths};
 use crate::control::Control;
@@ -22,7 +22,7 @@ fn seat(
     schema: &Arc<Schema, Global>,
 ) -> Result<Vec<Reader>, Memory>
     requires { All (λ p. IsSeen (arc_value schema.now) p.seen) passes.items }
-    ensures { IfOk result (λ v. v.items ≡ map (reading (arc_value schema.now)) passes.items) }
+    ensures { IfOk result (λ v. v.items ≡ map (reader_view (arc_value schema.now)) passes.items) }
 {
     let mut readers = Vec::new(alloc);
     'passes: for pass in passes {
@@ -43,6 +43,7 @@ fn seat(
 pub fn start(alloc: Global, schema: Schema, readers: u32) -> Result<(Control, Vec<Reader>), Memory>
     requires count { (0 < readers) × (readers ≤ 16) }
     requires sets { All CanBeBuilt schema }
+    requires few_sets { length schema ≤ 2 ^ 32 }
     ensures control { IfOk result (λ r. (r.0.schema ≡ schema) × (r.0.readers ≡ readers) × (r.0.committed ≡ first_generation schema ∷ []) × (r.0.work ≡ opened (first_generation schema))) }
     ensures readers { IfOk result (λ r. (length r.1.items ≡ readers) × AllFresh r.0.of schema (first_generation schema ∷ []) 0 r.1.items) }
 {

@@ -4,18 +4,18 @@ use Rattle.std.proofs.lemmas.List.{get_or_read_under}
 use Rattle.std.proofs.lemmas.List.Sums.{count_by-le-length, get_or-le-sum_by}
 use Rattle.std.proofs.lemmas.Grind.{common_steps}
 use Rattle.gen_slots.specs.declared.machine.Standing.TheVariants.{Retired}
-use Rattle.gen_slots.specs.SlotMachine.{Machine, holder, holders, standing_of, checked_at, is_slot, Kept}
+use Rattle.gen_slots.specs.SlotMachine.{Machine, holder, holders, standing_of, checked_at, is_slot, IsConsistent}
 
 -- at most 16 readers hold a slot
-pub holders_few : (m : Machine) (s : ℕ) → Kept m → holders m s ≤ 16
+pub holders_few : (m : Machine) (s : ℕ) → IsConsistent m → holders m s ≤ 16
 holders_few m s k = let few = k.few in let wide = k.wide.3 in omega (arith, count_by-le-length (is_slot s) m.held)
 
 -- nobody holds it exactly where the two counts agree
-pub unheld : (m : Machine) (s : ℕ) → Kept m → s < m.readers + 2 → (slice_index m.done s ≡ slice_index m.entered s) ↔ (holders m s ≡ 0)
+pub unheld : (m : Machine) (s : ℕ) → IsConsistent m → s < m.readers + 2 → (slice_index m.done s ≡ slice_index m.entered s) ↔ (holders m s ≡ 0)
 unheld m s k in_range = let few = holders_few m s k in let c = k.counted s in_range in let d = (k.small s).0 in let e = (k.small s).1 in
     ((λ same. omega arith), (λ none. omega arith))
 
-pub checked-kept : (m : Machine) (s : ℕ) → Kept m → s < m.readers + 2 → standing_of m s ≡ Retired → slice_index m.done s ≡ slice_index m.entered s → Kept (checked_at s true m)
+pub checked-kept : (m : Machine) (s : ℕ) → IsConsistent m → s < m.readers + 2 → standing_of m s ≡ Retired → slice_index m.done s ≡ slice_index m.entered s → IsConsistent (checked_at s true m)
 checked-kept m s k in_range retired same = let none = (unheld m s k in_range).0 same in record {
   some = k.some;
   few = k.few;
@@ -29,7 +29,7 @@ checked-kept m s k in_range retired same = let none = (unheld m s k in_range).0 
 }
 
 -- a slot that a reader holds has a holder
-pub holders-held : (m : Machine) (r s : ℕ) → Kept m → r < m.readers → holder m r ≡ Some s → 0 < holders m s
+pub holders-held : (m : Machine) (r s : ℕ) → IsConsistent m → r < m.readers → holder m r ≡ Some s → 0 < holders m s
 holders-held m r s k below held = let wide = k.wide.3 in
     let counts = get_or-le-sum_by (λ (o : Option ℕ). cond {A = ℕ} (is_slot s o) 1 0) m.held r None (omega arith) in
     let one : ◌≡◌ {A = ℕ} (cond {A = ℕ} (is_slot s (holder m r)) 1 0) 1 = ap (λ (o : Option ℕ). cond {A = ℕ} (is_slot s o) 1 0) held ∙ ap (λ (b : Bool). cond {A = ℕ} b 1 0) (eq-eqb s s refl) in omega (arith, counts, one)

@@ -52,15 +52,15 @@ checked_at s true m = record m { standing = slice_set m.standing s Free }
 checked_at s false m = m
 
 -- the slot is published: the one that was is retired, and its count of enters is its count of leaves
-abbrev pub published_at : ℕ → Machine → Machine
-published_at s m = record m { published = s; standing = slice_set (slice_set m.standing m.published Retired) s Published; entered = slice_set m.entered s (slice_index m.done s) }
+abbrev pub with_published : ℕ → Machine → Machine
+with_published s m = record m { published = s; standing = slice_set (slice_set m.standing m.published Retired) s Published; entered = slice_set m.entered s (slice_index m.done s) }
 
 -- at the start slot 0 is published, the others are free, all counts are equal, and nobody holds a slot
 abbrev pub initial : ℕ → ℕ → Machine
 initial readers start = record { readers = readers; published = 0; done = replicate (readers + 2) start; entered = replicate (readers + 2) start; standing = Published ∷ replicate (readers + 1) Free; held = replicate readers None }
 
 -- What every event keeps. By `counted` the enters are the leaves and the holders together, modulo 2 ^ 56
-pub record Kept (m : Machine) : Type 0 where
+pub record IsConsistent (m : Machine) : Type 0 where
   pub some : 0 < m.readers
   pub few : m.readers ≤ 16
   pub counted : (s : ℕ) → s < m.readers + 2 → (slice_index m.done s + holders m s) % 72057594037927936 ≡ slice_index m.entered s

@@ -1,7 +1,7 @@
 -- Lists of events of the slot machine, and what holds after each of them.
 use Rattle.std.specs.Prelude.{◌≡◌, ◌≢◌, ◌↔◌, ℕ, ◌+◌, ◌%◌, ◌<◌, ◌≤◌, ◌==◌, ◌^◌, List, [], ◌∷◌, Some, None, IsSome, slice_index}
 use Rattle.gen_slots.specs.declared.machine.Standing.TheVariants.{Retired, Free}
-use Rattle.gen_slots.specs.SlotMachine.{Machine, holder, holders, standing_of, entered_by, left_by, checked_at, published_at, initial}
+use Rattle.gen_slots.specs.SlotMachine.{Machine, holder, holders, standing_of, entered_by, left_by, checked_at, with_published, initial}
 
 -- a reader enters or leaves, or the writer checks or publishes a slot
 pub data Event : Type 0 where
@@ -18,20 +18,20 @@ MayStep m (checks s) = (s < m.readers + 2) × (standing_of m s ≡ Retired)
 MayStep m (publishes s) = (s < m.readers + 2) × (standing_of m s ≡ Free)
 
 -- the machine after the event; a check answers whether the counts agree
-abbrev pub after : Machine → Event → Machine
-after m (enters r) = entered_by r m
-after m (leaves r) = left_by r m
-after m (checks s) = checked_at s (slice_index m.done s == slice_index m.entered s) m
-after m (publishes s) = published_at s m
+abbrev pub after_event : Machine → Event → Machine
+after_event m (enters r) = entered_by r m
+after_event m (leaves r) = left_by r m
+after_event m (checks s) = checked_at s (slice_index m.done s == slice_index m.entered s) m
+after_event m (publishes s) = with_published s m
 
 -- the machine after the events, one after another
-abbrev pub run : Machine → List Event → Machine
-run m [] = m
-run m (e ∷ es) = run (after m e) es
+abbrev pub after_events : Machine → List Event → Machine
+after_events m [] = m
+after_events m (e ∷ es) = after_events (after_event m e) es
 
 abbrev pub MayRun : Machine → List Event → Type 0
 MayRun m [] = Unit {0}
-MayRun m (e ∷ es) = MayStep m e × MayRun (after m e) es
+MayRun m (e ∷ es) = MayStep m e × MayRun (after_event m e) es
 
 -- The enters are the leaves and the holders, modulo 2 ^ 56, so the counts agree exactly where nobody holds the slot; a slot that a reader holds is not free, and is not published anew
 pub record IsSound (m : Machine) : Type 0 where
@@ -42,4 +42,4 @@ pub record IsSound (m : Machine) : Type 0 where
   pub not_anew : (r s t : ℕ) → r < m.readers → holder m r ≡ Some s → MayStep m (publishes t) → t ≢ s
 
 abbrev pub EveryRun : Type 0
-EveryRun = (readers start : ℕ) (events : List Event) → 0 < readers → readers ≤ 16 → start < 2 ^ 56 → MayRun (initial readers start) events → IsSound (run (initial readers start) events)
+EveryRun = (readers start : ℕ) (events : List Event) → 0 < readers → readers ≤ 16 → start < 2 ^ 56 → MayRun (initial readers start) events → IsSound (after_events (initial readers start) events)

@@ -53,8 +53,8 @@ module _ {X : Type 0} where
   found_plan p s t m = record p { standing = slice_set p.standing s 0; tried = t; hand = s + 1; checks = p.checks + m }
 
   -- the writer's plan between two publications
-  abbrev pub IsPlanned : ℕ → ℕ → List ℕ → Role X → Type 0
-  IsPlanned readers published counts role = (p : Plan X) × (role ≡ Keeper p) × (p.readers ≡ readers) × (p.published ≡ published) × (p.counts ≡ counts) × (p.tried ≡ replicate 18 0) × (p.hand ≡ 0)
+  abbrev pub IsPlanAtRest : ℕ → ℕ → List ℕ → Role X → Type 0
+  IsPlanAtRest readers published counts role = (p : Plan X) × (role ≡ Keeper p) × (p.readers ≡ readers) × (p.published ≡ published) × (p.counts ≡ counts) × (p.tried ≡ replicate 18 0) × (p.hand ≡ 0)
 
 -- new readers, numbered from k on
 abbrev pub AllNew : {X : Type 0} → TableId → List X → ℕ → List (Reading X) → Type 0

@@ -2,7 +2,8 @@
 //!
 //! Word 0 is the published slot's count of enters times 256, plus the slot's number. Word 1 + s is slot s's count of
 //! leaves times 256. Entry 32 r + s of the table is the berth of reader r in slot s, where its value of that slot lies:
-//! with this stride, berths of eight bytes and more of two readers never share a cache line of 64 bytes.
+//! with this stride, berths of eight bytes and more of two readers never share a cache line of 64 bytes. It is the least power of
+//! two that is no less than the eighteen slots of sixteen readers, so berths lie reader by reader.
 use crate::Version;
 use atomic_table::{Seat, Table, TableRule};
 use std::alloc::Global;
@@ -12,9 +13,11 @@ use std::snapshot::Snapshot;
 
 /// What the writer knows. No value of it is made.
 pub struct Plan<X> {
+    /// How many readers there are.
     pub readers: u64,
     /// The readers below it were made.
     pub given: u64,
+    /// The number of the published slot.
     pub published: u64,
     /// Of each slot 0 where it is free, 1 where it is retired and 2 where it is published.
     pub standing: [u64; 0],
@@ -44,6 +47,7 @@ pub enum Role<X> {
 
 /// What a seat at the table knows. No value of it is made.
 pub struct SeatView<X> {
+    /// Whose seat it is.
     pub role: Role<X>,
     /// The states that it has seen, in the order of their publication.
     pub seen: LinkedList<X>,
@@ -56,7 +60,9 @@ pub struct SeatView<X> {
 /// What the table is told when it is made.
 #[derive(Drop)]
 pub struct Start<T> {
+    /// A value of the first state that is published.
     pub first: Snapshot<T>,
+    /// How many readers there are.
     pub readers: u64,
     /// Where every count starts.
     pub count: u64,
@@ -75,6 +81,8 @@ impl<T: Version> TableRule<Option<T>, SeatView<T::State>, Start<T>> for Counted<
     ghost first = { λ key. starting key.readers key.count (T.state key.first.value) };
 }
 
+/// The table: of each slot the berths, and the words that count.
 pub type Board<T> = Table<Option<T>, SeatView<<T as Version>::State>, Start<T>, Counted<T>, Global>;
 
+/// A seat at the table: what its holder knows, and the berths that it has.
 pub type Place<T> = Seat<Option<T>, SeatView<<T as Version>::State>>;

@@ -4,6 +4,11 @@
 //! A slot's enters are counted in the published word while it is published, and kept by the writer when it retires; its
 //! leaves have a word of their own. A retired slot whose two counts agree is held by nobody. No step resets a count, and
 //! counts are modulo 2 to the power 56.
+//!
+//! **Definitions:** `specs/SlotRule.antt` is the rule of the shared words, `SlotSteps.antt` what each
+//! kind of step tells, `SlotViews.antt` what contracts see of readers and writer, and
+//! `SlotMachine.antt` the machine without threads. **Theory:** docs/architecture.md, "Readers beside a
+//! writer". **Proofs:** docs/proofs.md, "Shared words (`gen_slots`, `gen_turns`)".
 #![tactic(auto)]
 
 pub mod board;

@@ -1,7 +1,7 @@
 //! The slot machine alone, without a table: counts of enters and leaves, and who holds which slot.
 ghost use Rattle.std.specs.Prelude.{◌≡◌, ◌+◌, ◌<◌, ◌≤◌, ◌^◌, ◌↔◌, IsTrue, IfOk, IsSome, None, slice_index};
 ghost use Rattle.gen_slots.specs.declared.machine.Standing.TheVariants.{Retired, Free};
-ghost use Rattle.gen_slots.specs.SlotMachine.{initial, holder, entered_by, left_by, checked_at, published_at, holders, standing_of};
+ghost use Rattle.gen_slots.specs.SlotMachine.{initial, holder, entered_by, left_by, checked_at, with_published, holders, standing_of};
 ghost use Rattle.gen_slots.specs.SlotRuns.{EveryRun};
 
 use set_model::Memory;
@@ -34,13 +34,13 @@ pub struct SlotCore {
 }
 
 impl Model for SlotCore {
-    ghost use Rattle.gen_slots.specs.SlotMachine.{Machine, machine, Kept};
+    ghost use Rattle.gen_slots.specs.SlotMachine.{Machine, machine, IsConsistent};
 
     ghost Value = { Machine };
 
     ghost view = { λ c. machine c.readers c.published c.done.items c.entered.items c.standing.items c.held.items };
 
-    ghost invariant = { λ c. Kept (machine c.readers c.published c.done.items c.entered.items c.standing.items c.held.items) };
+    ghost invariant = { λ c. IsConsistent (machine c.readers c.published c.done.items c.entered.items c.standing.items c.held.items) };
 }
 
 impl SlotCore {
@@ -127,7 +127,7 @@ impl SlotCore {
     pub fn publish(&mut self, slot: u32)
         requires number { slot < self.old.readers + 2 }
         requires free { standing_of self.old slot ≡ Free }
-        ensures { self.new ≡ published_at slot self.old }
+        ensures { self.new ≡ with_published slot self.old }
     {
         let to = slot as usize;
         self.standing[self.published as usize] = Standing::Retired;

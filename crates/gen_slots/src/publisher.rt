@@ -4,7 +4,7 @@ ghost use Rattle.std.specs.Arc.{arc_value};
 ghost use Rattle.history_laws.specs.Histories.{StartsWith, EndsWith, Chain};
 ghost use Rattle.history_laws.specs.States.{AllShow};
 ghost use Rattle.gen_slots.specs.SlotSteps.{WereStored, berths};
-ghost use Rattle.gen_slots.specs.SlotViews.{IsSized, IsPlanned, found_plan, publishing, states_of};
+ghost use Rattle.gen_slots.specs.SlotViews.{IsSized, IsPlanAtRest, found_plan, publishing, states_of};
 ghost use Rattle.gen_slots.specs.declared.board.Plan.{Plan};
 ghost use Rattle.gen_slots.specs.declared.board.Role.TheVariants.{Keeper};
 
@@ -36,13 +36,13 @@ impl<T: Version + Drop> Model for Writer<T> {
     ghost use Rattle.std.specs.Prelude.{◌≡◌, ℕ, ◌+◌, ◌*◌, ◌%◌, ◌≤◌, ◌<◌, [], slice_index};
     ghost use Rattle.std.specs.Arc.{arc_value};
     ghost use Rattle.history_laws.specs.Histories.{Chain};
-    ghost use Rattle.gen_slots.specs.SlotViews.{Publishing, publishing, IsSized, IsPlanned};
+    ghost use Rattle.gen_slots.specs.SlotViews.{Publishing, publishing, IsSized, IsPlanAtRest};
 
     ghost Value = { Publishing T.State };
 
     ghost view = { λ w. publishing w.place.table_id w.place.me.0 w.readers w.published (arc_value w.board).shared.key.count };
 
-    ghost invariant = { λ w. (w.place.table_id ≡ (arc_value w.board).shared.table_id) × IsSized w.place.table_id × (0 < w.readers) × (w.readers ≤ 16) × (w.published < w.readers + 2) × (w.place.me.1 ≡ []) × (w.place.table_id.words ≡ w.readers + 3) × IsPlanned w.readers w.published w.counts w.place.me.0.role × ((k : ℕ) → slice_index w.counts k % 256 ≡ 0) × Chain T.follows w.place.me.0.seen };
+    ghost invariant = { λ w. (w.place.table_id ≡ (arc_value w.board).shared.table_id) × IsSized w.place.table_id × (0 < w.readers) × (w.readers ≤ 16) × (w.published < w.readers + 2) × (w.place.me.1 ≡ []) × (w.place.table_id.words ≡ w.readers + 3) × IsPlanAtRest w.readers w.published w.counts w.place.me.0.role × ((k : ℕ) → slice_index w.counts k % 256 ≡ 0) × Chain T.follows w.place.me.0.seen };
 }
 
 // Checks the slots but the published one, and takes the berths of the first that nobody holds.
@@ -55,7 +55,7 @@ fn find<T: Version + Drop, L: Ledger>(
     steps: &mut Steps<L>,
 ) -> usize
     requires table { (place.old.table_id ≡ top.now.table_id) × IsSized place.old.table_id × (place.old.table_id.words ≡ readers + 3) × (0 < readers) × (readers ≤ 16) × (published < readers + 2) }
-    requires seat { (place.old.me.1 ≡ []) × IsPlanned readers published counts.now place.old.me.0.role }
+    requires seat { (place.old.me.1 ≡ []) × IsPlanAtRest readers published counts.now place.old.me.0.role }
     ensures seat { (place.new.table_id ≡ place.old.table_id) × (place.new.me.0.seen ≡ place.old.me.0.seen) × ((p : Plan T.State) → place.old.me.0.role ≡ Keeper p → (t : List ℕ) × (m : ℕ) × (steps.new ≡ steps.old + m) × (place.new.me.0.role ≡ Keeper (found_plan p result t m))) }
     ensures slot { (result < readers + 2) × (result ≢ published) }
     ensures berths { (ys : List _) × (length ys ≡ readers) × WereStored T.state place.old.me.0.seen readers (get_or (states_of place.old.me.0.role) result None) ys × (place.new.me.1 ≡ berths result 0 ys) }
@@ -100,7 +100,7 @@ impl<T: Version + Drop> Writer<T> {
     ) -> Writer<T>
         requires table { (place.table_id ≡ (arc_value board).shared.table_id) × IsSized place.table_id × (place.table_id.words ≡ readers + 3) × (0 < readers) × (readers ≤ 16) }
         requires start { (arc_value board).shared.key.count ≡ start }
-        requires seat { (place.me.1 ≡ []) × IsPlanned readers 0 (replicate 18 (256 * start)) place.me.0.role × Chain T.follows place.me.0.seen }
+        requires seat { (place.me.1 ≡ []) × IsPlanAtRest readers 0 (replicate 18 (256 * start)) place.me.0.role × Chain T.follows place.me.0.seen }
         requires count { start < 2 ^ 56 }
         ensures { result ≡ publishing place.table_id place.me.0 readers 0 start }
     {

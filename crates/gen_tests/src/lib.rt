@@ -1,4 +1,7 @@
 //! The counted slots and the ticket lock, which have one contract, on the same calls: they give the same answers.
+//!
+//! **Definitions:** none; it has tests alone. **Theory:** docs/architecture.md, "Readers beside a
+//! writer".
 #![tactic(auto)]
 
 #[cfg(test)]

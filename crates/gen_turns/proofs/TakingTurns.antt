@@ -12,7 +12,7 @@ use Rattle.ticket_line.proofs.Seats.{nobody_still}
 use Rattle.gen_turns.specs.declared.board.SeatView.{SeatView}
 use Rattle.gen_turns.specs.declared.board.Role.{Role}
 use Rattle.gen_turns.specs.declared.board.Role.TheVariants.{Idle, Reader, Keeper}
-use Rattle.gen_turns.specs.TurnRule.{Entry, HasTurns, stage_of, ticket_of, IsStocked, IsFresh, Plays, Kept}
+use Rattle.gen_turns.specs.TurnRule.{Entry, HasTurns, stage_of, ticket_of, IsStocked, ShowsLast, Plays, Kept}
 use Rattle.gen_turns.specs.TurnSteps.{Finds, drew, looked}
 use Rattle.gen_turns.proofs.SeatMoves.{seat_moves, few_out}
 use Rattle.gen_turns.proofs.Stock.{are_last}
@@ -30,7 +30,7 @@ module _ {T X : Type 0} (state : T → X) (follows : X → X → Type 0) where
   -- what a seat finds in the vector
   finds : (n : ℕ) (first made : List X) (given : ℕ) (last : ℕ → List X) (seen entered : List X) (ps : List (Option T)) (role : Role) → given ≤ n → Plays n first made given last seen entered role → IsStocked state n made last ps → Finds state made seen entered ps role
   finds n first made given last seen entered ps Idle most k s = tt
-  finds n first made given last seen entered ps (Reader r) most k s = (let size = s.0 in let below = k.0 in omega (arith, size, below, most), λ p at. subst (λ (l : List X). IsFresh state made l p) k.1 (s.1 r p at))
+  finds n first made given last seen entered ps (Reader r) most k s = (let size = s.0 in let below = k.0 in omega (arith, size, below, most), λ p at. subst (λ (l : List X). ShowsLast state made l p) k.1 (s.1 r p at))
   finds n first made given last seen entered ps (Keeper q g) most k s = (sym k.2, s.0 ∙ sym k.0, are_last state made last ps s.1)
 
   pub draws : (slots id : ℕ) (me : M) → HasTurns me.0.role → me.0.stage ≡ 1 → Allows Rule slots id me 0 (λ x. (x + 1) % 2 ^ 64) (drew (step slots 0 1 0 none) me)

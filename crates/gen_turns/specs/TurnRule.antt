@@ -56,13 +56,13 @@ Plays n first made given last seen entered (Keeper q g) = (q ≡ n) × (g ≡ gi
 
 module _ {T X : Type 0} (state : T → X) where
   -- a reader's place: a value of the last state, or nothing where the reader entered last with the whole list
-  abbrev pub IsFresh : List X → List X → Option T → Type 0
-  IsFresh made last (Some v) = EndsWith made (state v)
-  IsFresh made last None = last ≡ made
+  abbrev pub ShowsLast : List X → List X → Option T → Type 0
+  ShowsLast made last (Some v) = EndsWith made (state v)
+  ShowsLast made last None = last ≡ made
 
   -- the vector: such a place for each of n readers
   abbrev pub IsStocked : ℕ → List X → (ℕ → List X) → List (Option T) → Type 0
-  IsStocked n made last ps = (length ps ≡ n) × ((r : ℕ) (p : Option T) → get_elem? ps r ≡ some p → IsFresh made (last r) p)
+  IsStocked n made last ps = (length ps ≡ n) × ((r : ℕ) (p : Option T) → get_elem? ps r ≡ some p → ShowsLast made (last r) p)
 
   -- the values that are there have the last state of the list
   abbrev pub AreLast : List X → List (Option T) → Type 0

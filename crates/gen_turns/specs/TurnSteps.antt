@@ -9,7 +9,7 @@ use Rattle.history_laws.specs.States.{AllShow}
 use Rattle.gen_turns.specs.declared.board.SeatView.{SeatView}
 use Rattle.gen_turns.specs.declared.board.Role.{Role}
 use Rattle.gen_turns.specs.declared.board.Role.TheVariants.{Idle, Reader, Keeper}
-use Rattle.gen_turns.specs.TurnRule.{Entry, IsFresh, AreLast, seat_view}
+use Rattle.gen_turns.specs.TurnRule.{Entry, ShowsLast, AreLast, seat_view}
 
 abbrev pub one_more : Role → Role
 one_more (Keeper q g) = Keeper q (g + 1)
@@ -38,7 +38,7 @@ module _ {T X : Type 0} where
   -- what is found in the vector: a reader finds its own place as the rule has it, and the writer finds values of the last state
   abbrev pub Finds : (T → X) → List X → List X → List X → List (Option T) → Role → Type 0
   Finds state whole seen entered ps Idle = Unit {0}
-  Finds state whole seen entered ps (Reader r) = (r < length ps) × ((p : Option T) → get_elem? ps r ≡ some p → IsFresh state whole entered p)
+  Finds state whole seen entered ps (Reader r) = (r < length ps) × ((p : Option T) → get_elem? ps r ≡ some p → ShowsLast state whole entered p)
   Finds state whole seen entered ps (Keeper q g) = (whole ≡ seen) × (length ps ≡ q) × AreLast state whole ps
 
   -- at its own ticket the seat has the vector, and else nothing changes

@@ -40,8 +40,8 @@ abbrev pub IsSized : TableId → Type 0
 IsSized z = (z.words ≡ 2) × (z.slots ≡ 1)
 
 -- the writer's role, with at least one reader
-abbrev pub IsPlanned : Role → Type 0
-IsPlanned role = (q : ℕ) × (g : ℕ) × (role ≡ Keeper q g) × (0 < q)
+abbrev pub IsWriterRole : Role → Type 0
+IsWriterRole role = (q : ℕ) × (g : ℕ) × (role ≡ Keeper q g) × (0 < q)
 
 -- the table's entry at the start
 abbrev pub IsLaid : {T : Type 0} → ℕ → List (Entry T) → Type 0

@@ -25,6 +25,7 @@ pub enum Role {
 
 /// What a seat at the table knows. No value of it is made.
 pub struct SeatView<T, X> {
+    /// Whose seat it is.
     pub role: Role,
     /// 1 with no ticket, 2 with one that is not served yet, and 3 with the vector.
     pub stage: u64,
@@ -45,7 +46,9 @@ pub struct SeatView<T, X> {
 /// What the table is told when it is made.
 #[derive(Drop)]
 pub struct Start<T> {
+    /// A value of the first state that is published.
     pub first: Snapshot<T>,
+    /// How many readers there are.
     pub readers: u64,
 }
 
@@ -62,6 +65,7 @@ impl<T: Version> TableRule<Option<Places<T>>, SeatView<T, T::State>, Start<T>> f
     ghost first = { λ key. starting key.readers (T.state key.first.value) };
 }
 
+/// The table: the vector in its one entry, and the words of the line.
 pub type Board<T> = Table<
     Option<Places<T>>,
     SeatView<T, <T as Version>::State>,
@@ -70,4 +74,5 @@ pub type Board<T> = Table<
     Global,
 >;
 
+/// A seat at the table: what its holder knows, and the vector where it is served.
 pub type Place<T> = Seat<Option<Places<T>>, SeatView<T, <T as Version>::State>>;

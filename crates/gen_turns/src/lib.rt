@@ -3,6 +3,10 @@
 //!
 //! It has the contract of counted slots, but that entering and publishing wait for a turn. It is the plain
 //! representation that the counted slots are compared with.
+//!
+//! **Definitions:** `specs/TurnRule.antt` is the rule of the lock and the vector, `TurnSteps.antt` what
+//! each kind of step tells, and `TurnViews.antt` what contracts see. **Theory:** docs/architecture.md,
+//! "The plain representation". **Proofs:** docs/proofs.md, "Shared words (`gen_slots`, `gen_turns`)".
 #![tactic(auto)]
 
 pub mod board;

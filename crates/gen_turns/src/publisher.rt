@@ -4,7 +4,7 @@ ghost use Rattle.std.specs.Arc.{arc_value};
 ghost use Rattle.history_laws.specs.Histories.{StartsWith, EndsWith, Chain};
 ghost use Rattle.history_laws.specs.States.{AllShow};
 ghost use Rattle.gen_turns.specs.TurnRule.{AreLast};
-ghost use Rattle.gen_turns.specs.TurnViews.{IsSized, IsPlanned, publishing, readers_of};
+ghost use Rattle.gen_turns.specs.TurnViews.{IsSized, IsWriterRole, publishing, readers_of};
 
 use crate::Version;
 use crate::board::{Board, Place, Places};
@@ -27,19 +27,19 @@ impl<T: Version + Drop> Model for Writer<T> {
     ghost use Rattle.std.specs.Prelude.{◌≡◌, []};
     ghost use Rattle.std.specs.Arc.{arc_value};
     ghost use Rattle.history_laws.specs.Histories.{Chain};
-    ghost use Rattle.gen_turns.specs.TurnViews.{Publishing, publishing, IsSized, IsPlanned};
+    ghost use Rattle.gen_turns.specs.TurnViews.{Publishing, publishing, IsSized, IsWriterRole};
 
     ghost Value = { Publishing T T.State };
 
     ghost view = { λ w. publishing w.place.table_id w.place.me.0 };
 
-    ghost invariant = { λ w. (w.place.table_id ≡ (arc_value w.board).shared.table_id) × IsSized w.place.table_id × IsPlanned w.place.me.0.role × (w.place.me.0.stage ≡ 1) × (w.place.me.1 ≡ []) × Chain T.follows w.place.me.0.seen };
+    ghost invariant = { λ w. (w.place.table_id ≡ (arc_value w.board).shared.table_id) × IsSized w.place.table_id × IsWriterRole w.place.me.0.role × (w.place.me.0.stage ≡ 1) × (w.place.me.1 ≡ []) × Chain T.follows w.place.me.0.seen };
 }
 
 // Gives the values back as the vector, and lets the next ticket be served.
 fn end_turn<T: Version + Drop>(top: &Top<T>, place: &mut Place<T>, ticket: u64, values: Places<T>)
     requires table { (place.old.table_id ≡ top.now.table_id) × IsSized place.old.table_id }
-    requires seat { IsPlanned place.old.me.0.role × (place.old.me.0.stage ≡ 3) × (place.old.me.0.ticket ≡ ticket) × (place.old.me.1 ≡ (0, None) ∷ []) }
+    requires seat { IsWriterRole place.old.me.0.role × (place.old.me.0.stage ≡ 3) × (place.old.me.0.ticket ≡ ticket) × (place.old.me.1 ≡ (0, None) ∷ []) }
     requires values { (length values.items ≡ readers_of place.old.me.0.role) × ((x : T.State) × AllShow T.state x values.items) }
     requires next { (x y : T.State) → AllShow T.state x values.items → EndsWith place.old.me.0.seen y → T.follows y x }
     ensures table { place.new.table_id ≡ place.old.table_id }
@@ -53,7 +53,7 @@ fn end_turn<T: Version + Drop>(top: &Top<T>, place: &mut Place<T>, ticket: u64, 
 impl<T: Version + Drop> Writer<T> {
     pub(crate) fn seated(board: Arc<Board<T>, Global>, place: Place<T>) -> Writer<T>
         requires table { (place.table_id ≡ (arc_value board).shared.table_id) × IsSized place.table_id }
-        requires seat { IsPlanned place.me.0.role × (place.me.0.stage ≡ 1) × (place.me.1 ≡ []) × Chain T.follows place.me.0.seen }
+        requires seat { IsWriterRole place.me.0.role × (place.me.0.stage ≡ 1) × (place.me.1 ≡ []) × Chain T.follows place.me.0.seen }
         ensures { result ≡ publishing place.table_id place.me.0 }
     {
         Writer { board, place }

@@ -1,5 +1,9 @@
 //! Laws of histories, which are lists of states in the order in which they came: of those that begin one history, and
 //! of the views of a shared table, of which a step changes one.
+//!
+//! **Definitions:** `specs/Histories.antt` says when a list begins or ends another, and which is the
+//! longer; `States.antt` when values have one state. **Proofs:** docs/proofs.md, "Shared words
+//! (`gen_slots`, `gen_turns`)".
 #![tactic(auto)]
 
 ghost use Rattle.history_laws.specs.Histories.{PrefixesOfOne};

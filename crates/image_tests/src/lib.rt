@@ -1,5 +1,8 @@
 //! Tests of the image of a set beside a plain list of elements: elements and keys of several shapes
 //! that look random, and worked examples.
+//!
+//! **Definitions:** none; it has tests alone. **Theory:** docs/architecture.md, "The classifier, by one
+//! example".
 #![tactic(auto)]
 
 #[cfg(test)]

@@ -1,4 +1,8 @@
 // A set with what a lookup works in. Calls first see that their conditions hold.
+ghost use Rattle.std.specs.Prelude.{◌≡◌, true};
+ghost use Rattle.set_model.specs.Key.{key_fits};
+ghost use Rattle.set_model.specs.SetState.{place};
+
 use pipapo_image::{Added, ChangeError, Scratch, SetImage};
 use set_model::{
     Comment, Found, Interval, Key, Kind, Kinds, Memory, NewElement, Parts, fits, parts_fit,
@@ -141,7 +145,25 @@ fn find_in(
     let found = set.find(key, now, scratch);
     let place = set.plain_place(key, now, scratch);
     assert!(rt; place_of(found) == place);
+    assert!(rt; place_by_tables(set, key, now, scratch) == place);
+    assert!(rt; plain_place_by_tables(set, key, now, scratch) == place);
     found
+}
+
+/// The place of the first live element that holds the key, as the set's tables alone tell it.
+fn place_by_tables(set: &SetImage, key: &Key, now: u64, scratch: &mut Scratch) -> Option<u64>
+    requires { key_fits set.now.kinds key.now ≡ true }
+    ensures { result ≡ place set.now key.now now }
+{
+    set.index().find(key, now, scratch)
+}
+
+/// The same by the textbook lookup.
+fn plain_place_by_tables(set: &SetImage, key: &Key, now: u64, scratch: &mut Scratch) -> Option<u64>
+    requires { key_fits set.now.kinds key.now ≡ true }
+    ensures { result ≡ place set.now key.now now }
+{
+    set.index().find_plain(key, now, scratch)
 }
 
 fn sharing_in(

@@ -10,7 +10,7 @@ use Rattle.pcap_keys.specs.PlansText.{IsPlanText}
 use Rattle.command_words.specs.Words.{Command, run, list, dump, drill, judge, capture as capture_command, desk}
 use Rattle.input_files.specs.declared.fault.Flaw.{Flaw}
 use Rattle.input_files.specs.declared.fault.Flaw.TheVariants as flaws
-use Rattle.input_files.specs.Inputs.{Input, Form, script, keys, rules, plan, capture, inputs, form_of, IsOf, IsFlawed, ReadsAs}
+use Rattle.input_files.specs.Inputs.{Input, FileForm, script, keys, rules, plan, capture, inputs, form_of, IsOf, IsFlawed, ReadsAs}
 use Rattle.input_files.specs.Reads.{AreOf}
 use Rattle.input_files.specs.Given.{Has, AreGiven}
 
@@ -97,7 +97,7 @@ no-capture sets others text (flaws.Rules line reason) e h w = cc e
 no-capture sets others text (flaws.Plan line reason) e h w = cc e
 no-capture sets others text (flaws.Capture byte reason) e h w = cc (h, w.1)
 
-pub not-of : (sets : List SetDecl) (text : List ℕ) (flaw : Flaw) (form : Form) → form_of flaw ≡ form → IsFlawed sets text flaw → IsOf form sets text → ⊥
+pub not-of : (sets : List SetDecl) (text : List ℕ) (flaw : Flaw) (form : FileForm) → form_of flaw ≡ form → IsFlawed sets text flaw → IsOf form sets text → ⊥
 not-of sets text flaw script e h w = no-script sets sets text flaw e h w
 not-of sets text flaw keys e h w = no-keys sets text flaw e h w
 not-of sets text flaw rules e h w = no-rules sets text flaw e h w
@@ -131,11 +131,11 @@ given-refuses told c a i later sets others flaw e are form flawed given has = go
   go : (a : List Input) → inputs c ≡ a ++ i ∷ later → AreOf told sets a → AreGiven told others a → ⊥
   go [] e are given =
       let is = (first-is-script c [] i later e).0 refl in
-      no-script sets others has.text flaw (form ∙ is) bad (subst (λ (f : Form). IsOf f others has.text) is has.holds)
+      no-script sets others has.text flaw (form ∙ is) bad (subst (λ (f : FileForm). IsOf f others has.text) is has.holds)
   go (f ∷ fs) e are given =
       let is = (first-is-script c (f ∷ fs) i later e).1 f fs refl in
-      let mine : IsOf script sets given.0.text = subst (λ (x : Form). IsOf x sets given.0.text) is (are.0 given.0.text given.0.is_told).1 in
-      let theirs : IsOf script others given.0.text = subst (λ (x : Form). IsOf x others given.0.text) is given.0.holds in
+      let mine : IsOf script sets given.0.text = subst (λ (x : FileForm). IsOf x sets given.0.text) is (are.0 given.0.text given.0.is_told).1 in
+      let theirs : IsOf script others given.0.text = subst (λ (x : FileForm). IsOf x others given.0.text) is given.0.holds in
       let one : mine.0 ≡ theirs.0 = script_single given.0.text mine.0 theirs.0 mine.1 theirs.1 in
       let same_sets : others ≡ sets = sym theirs.2 ∙ sym (ap (λ (s : Script). s.schema) one) ∙ mine.2 in
       not-of sets has.text flaw i.form form bad (subst (λ (z : List SetDecl). IsOf i.form z has.text) same_sets has.holds)

@@ -25,17 +25,17 @@ use Rattle.input_files.specs.declared.fault.FileFault.{FileFault}
 use Rattle.input_files.specs.declared.fault.FileFault.TheVariants.{Bad, ReadFault, TooLarge, Memory}
 
 -- what a file has to be
-pub data Form : Type 0 where
-  script : Form
-  keys : Form
-  rules : Form
-  plan : Form
-  capture : Form
+pub data FileForm : Type 0 where
+  script : FileForm
+  keys : FileForm
+  rules : FileForm
+  plan : FileForm
+  capture : FileForm
 
 -- a file of a command: its name, and what it has to be
 pub record Input : Type 0 where
   pub name : List ℕ
-  pub form : Form
+  pub form : FileForm
 
 abbrev pub names_of : List Input → List (List ℕ)
 names_of inputs = map (λ i. i.name) inputs
@@ -52,7 +52,7 @@ inputs (desk s keep_going) = record { name = s; form = script } ∷ []
 
 -- A text is of a form, beside a script with these sets: it is that script; it is a key file, a rules file or a plan for these sets;
 -- or it is a capture, which is of no sets.
-abbrev pub IsOf : Form → List SetDecl → List ℕ → Type 0
+abbrev pub IsOf : FileForm → List SetDecl → List ℕ → Type 0
 IsOf script sets text = (s : Script) × IsScriptText text s × (s.schema ≡ sets)
 IsOf keys sets text = (packets : List (List Packet)) × IsKeysText sets text packets
 IsOf rules sets text = (chains : List Chain × Bool) × IsRulesText sets text chains
@@ -60,7 +60,7 @@ IsOf plan sets text = (lines : List PlanLine) × IsPlanText sets text lines
 IsOf capture sets text = (frames : List Frame) × IsCapture text frames
 
 -- the form that a flaw is one of
-abbrev pub form_of : Flaw → Form
+abbrev pub form_of : Flaw → FileForm
 form_of (flaws.Script line reason) = script
 form_of (flaws.Keys line reason) = keys
 form_of (flaws.Rules line reason) = rules

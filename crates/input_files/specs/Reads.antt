@@ -33,7 +33,7 @@ pub record AreReadWhole (old new : ℕ → Type 0) (left : ℕ → Option (List 
   pub picked : All (IsPickOf old new) files
   pub at_end : All (λ file. IsAtEnd (left file)) files
 
--- These files were read to their ends, and each is of its form.
+-- These files were read, to their ends where the shelf tells what is left of them, and each is of its form.
 pub record AreRead (shelf : Shelved) (sets : List SetDecl) (files : List Input) : Type 0 where
   pub are_of : AreOf shelf.told sets files
   pub whole : AreReadWhole shelf.picked_before shelf.picked_now shelf.left (length files)

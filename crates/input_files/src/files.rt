@@ -2,6 +2,7 @@
 ghost use Rattle.std.specs.Prelude.{◌≡◌, ◌<◌, ◌≤◌, List, [], ◌∷◌, ◌++◌, ℕ, length, All, Some, IfOk, IfErr, OnOk, Ok};
 ghost use Rattle.set_model.specs.declared.script.SetDecl.{SetDecl as Declared};
 ghost use Rattle.set_model.specs.Runnable.{IsRunnable, IsFitting};
+ghost use Rattle.set_script.specs.Limits.{most_sets};
 ghost use Rattle.set_script.specs.ScriptText.{IsScriptText};
 ghost use Rattle.key_file.specs.KeysText.{IsKeysText};
 ghost use Rattle.rule_chain.specs.RulesText.{IsRulesText};
@@ -102,7 +103,8 @@ pub fn keys_of<'a, F: Shelf, N: Notes>(
     schema: &Schema,
     name: &'a str,
 ) -> Result<Keys, FileFault<'a>>
-    requires { length (F.asked shelf.old) ≤ 2 }
+    requires asked { length (F.asked shelf.old) ≤ 2 }
+    requires sets { length schema.now ≤ most_sets }
     ensures fits { IfOk result (All (All (IsFitting schema.now))) }
     ensures read { IfOk result (λ keys. ReadsAs (F.told shelf.old) name.now (λ text. IsKeysText schema.now text keys)) }
     ensures quiet { OnOk result ((F.asked shelf.new ≡ F.asked shelf.old ++ name.now ∷ []) × (F.faults shelf.new ≡ F.faults shelf.old)) }
@@ -137,7 +139,8 @@ pub fn rules_of<'a, F: Shelf, N: Notes>(
     schema: &Schema,
     name: &'a str,
 ) -> Result<Chains, FileFault<'a>>
-    requires { length (F.asked shelf.old) ≤ 2 }
+    requires asked { length (F.asked shelf.old) ≤ 2 }
+    requires sets { length schema.now ≤ most_sets }
     ensures schema { IfOk result (λ c. c.schema ≡ schema.now) }
     ensures read { IfOk result (λ c. ReadsAs (F.told shelf.old) name.now (λ text. IsRulesText schema.now text (c.chains, c.accept))) }
     ensures quiet { OnOk result ((F.asked shelf.new ≡ F.asked shelf.old ++ name.now ∷ []) × (F.faults shelf.new ≡ F.faults shelf.old)) }
@@ -172,7 +175,8 @@ pub fn plan_of<'a, F: Shelf, N: Notes>(
     schema: &Schema,
     name: &'a str,
 ) -> Result<Plan, FileFault<'a>>
-    requires { length (F.asked shelf.old) ≤ 2 }
+    requires asked { length (F.asked shelf.old) ≤ 2 }
+    requires sets { length schema.now ≤ most_sets }
     ensures fits { IfOk result (All (IsPlanned schema.now)) }
     ensures read { IfOk result (λ plan. ReadsAs (F.told shelf.old) name.now (λ text. IsPlanText schema.now text plan)) }
     ensures quiet { OnOk result ((F.asked shelf.new ≡ F.asked shelf.old ++ name.now ∷ []) × (F.faults shelf.new ≡ F.faults shelf.old)) }

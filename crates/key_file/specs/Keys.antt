@@ -13,7 +13,7 @@ use Rattle.key_file.specs.declared.draft.AtWord.{AtWord}
 use Rattle.key_file.specs.declared.draft.AtWord.TheVariants as ats
 use Rattle.key_file.specs.KeyNames.{key_word_of, at_of}
 use Rattle.addr_text.specs.Values.{IsValue}
-use Rattle.token_forms.specs.Form.{Form, done, nowhere, either, many, ◌>>=◌, ◌>>◌}
+use Rattle.token_forms.specs.Form.{Form, done, nowhere, either_form, many, ◌>>=◌, ◌>>◌}
 use Rattle.token_forms.specs.Words.{word, word_by, word_is, name, the_end, breaks_off, line}
 use Rattle.set_script.specs.Script.{used_set}
 
@@ -69,7 +69,7 @@ at_behind schema d (ats.Set i) = packet_at schema d i
 
 -- Behind `round`: a packet of a set of the table `round`, or nothing, where the next section begins.
 abbrev pub round_behind : List SetDecl → KeyDraft → List ℕ → Form KeyDraft
-round_behind schema d w = either (packet schema d (families.Ip, w)) (done (next_section d))
+round_behind schema d w = either_form (packet schema d (families.Ip, w)) (done (next_section d))
 
 -- what stands behind the first word of a line
 abbrev pub line_behind : List SetDecl → KeyDraft → List ℕ → KeyWord → Form KeyDraft

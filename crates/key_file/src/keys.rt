@@ -1,4 +1,4 @@
-ghost use Rattle.std.specs.Prelude.{◌≡◌, List, ℕ, All, IfOk, Err};
+ghost use Rattle.std.specs.Prelude.{◌≡◌, ◌≤◌, List, ℕ, All, IfOk, Err, length};
 ghost use Rattle.token_forms.specs.Gives.{Gives, IsReadAs};
 ghost use Rattle.token_forms.specs.TextTokens.{text_tokens};
 ghost use Rattle.token_forms.specs.Faults.{IsFault};
@@ -7,6 +7,7 @@ ghost use Rattle.token_forms.specs.BadTokens.{HasOneBadToken, IsBadTokenOf};
 ghost use Rattle.token_forms.specs.declared.token.Reason.{Reason};
 ghost use Rattle.token_forms.specs.declared.error.ReadError.TheVariants.{Bad};
 ghost use Rattle.set_model.specs.declared.packet.Packet.{Packet};
+ghost use Rattle.set_script.specs.Limits.{most_sets};
 ghost use Rattle.key_file.specs.KeysReading as reading;
 ghost use Rattle.key_file.specs.Keys.{key_file};
 ghost use Rattle.key_file.specs.KeysText.{IsKeysText};
@@ -23,6 +24,7 @@ pub type KeyError = ReadError;
 /// What stands before the end.
 #[tactic(auto, using(token_forms::proofs::Refusals::refusals), unfolding(crate::specs::KeysReading::body))]
 fn body(reader: &mut Reader, alloc: Global, schema: &[SetDecl]) -> Result<Keys, ReadError>
+    requires { length schema.now ≤ most_sets }
     ensures { Gives (λ x. x) result reader.new (reading.body schema.now reader.old) }
 {
     let (mut d, _) = key_lines(reader, alloc, schema)?;
@@ -32,6 +34,7 @@ fn body(reader: &mut Reader, alloc: Global, schema: &[SetDecl]) -> Result<Keys, 
 
 #[tactic(auto, using(token_forms::proofs::Refusals::refusals), unfolding(crate::specs::KeysReading::key_file))]
 fn whole(reader: &mut Reader, alloc: Global, schema: &[SetDecl]) -> Result<Keys, ReadError>
+    requires { length schema.now ≤ most_sets }
     ensures { Gives (λ x. x) result reader.new (reading.key_file schema.now reader.old) }
 {
     let keys = body(reader, alloc, schema)?;
@@ -46,6 +49,8 @@ fn whole(reader: &mut Reader, alloc: Global, schema: &[SetDecl]) -> Result<Keys,
 /// `Bad` exactly where the text isn't in the grammar, with the line of its first token that doesn't fit and the reason.
 /// `Memory` where there is none left.
 pub fn read_keys(alloc: Global, schema: &Schema, text: &[u8]) -> Result<Keys, KeyError>
+    // There are no more sets than a script may declare.
+    requires { length schema.now ≤ most_sets }
     // What is read is the key file that the text stands for.
     ensures found { IfOk result (IsKeysText schema.now text.now) }
     // A text that stands for a key file is read as that one, unless memory runs out; so it stands for one at most.
@@ -66,6 +71,7 @@ pub fn read_keys(alloc: Global, schema: &Schema, text: &[u8]) -> Result<Keys, Ke
 ///
 /// `Memory` where there is none left.
 pub fn bad_token(alloc: Global, schema: &Schema, text: &[u8]) -> Result<Option<BadToken>, Memory>
+    requires { length schema.now ≤ most_sets }
     ensures { IfOk result (IsBadTokenOf (key_file schema.now) text.now) }
 {
     let mut reader = Reader::new(text);

@@ -1,9 +1,10 @@
-ghost use Rattle.std.specs.Prelude.{◌≡◌, ◌<◌, length, OnOk};
+ghost use Rattle.std.specs.Prelude.{◌≡◌, ◌<◌, ◌≤◌, length, OnOk};
 ghost use Rattle.token_forms.specs.Gives.{Gives};
 ghost use Rattle.token_forms.specs.View.{lexeme_of};
 ghost use Rattle.token_forms.specs.Words.{breaks_off};
 ghost use Rattle.token_forms.specs.Reading.{begins_with};
 ghost use Rattle.token_forms.specs.WordReading.{line_starts};
+ghost use Rattle.set_script.specs.Limits.{most_sets};
 ghost use Rattle.set_script.specs.ScriptReading.{any_word};
 ghost use Rattle.key_file.specs.KeysReading as reading;
 ghost use Rattle.key_file.specs.KeyNames.{key_word_of, at_of};
@@ -66,6 +67,7 @@ fn at_behind(
     d: &mut KeyDraft,
     word: AtWord,
 ) -> Result<(), ReadError>
+    requires { length schema.now ≤ most_sets }
     ensures { Gives (λ _. d.new) result reader.new (reading.at_behind schema.now d.old word reader.old) }
 {
     match word {
@@ -103,6 +105,7 @@ fn round_behind(
     d: &mut KeyDraft,
     table: &[u8],
 ) -> Result<(), ReadError>
+    requires { length schema.now ≤ most_sets }
     ensures { Gives (λ _. d.new) result reader.new (reading.round_behind schema.now d.old table.now reader.old) }
 {
     if is_at_word(reader) {
@@ -123,6 +126,7 @@ fn line_behind(
     first: &[u8],
     word: KeyWord,
 ) -> Result<(), ReadError>
+    requires { length schema.now ≤ most_sets }
     ensures { Gives (λ _. d.new) result reader.new (reading.line_behind schema.now d.old first.now word reader.old) }
 {
     match word {
@@ -146,6 +150,7 @@ fn key_line(
     schema: &[SetDecl],
     d: &mut KeyDraft,
 ) -> Result<(), ReadError>
+    requires { length schema.now ≤ most_sets }
     ensures { Gives (λ _. d.new) result reader.new (reading.key_line schema.now d.old reader.old) }
 {
     let first = reader.name()?;
@@ -161,6 +166,7 @@ fn line_or_break(
     d: &mut KeyDraft,
     next: bool,
 ) -> Result<bool, ReadError>
+    requires { length schema.now ≤ most_sets }
     ensures { Gives (λ x. (d.new, x)) result reader.new (reading.line_or_break schema.now (d.old, next) reader.old) }
 {
     if next && !reader.is_at_break() {
@@ -179,6 +185,7 @@ fn next_line(
     d: &mut KeyDraft,
     next: bool,
 ) -> Result<bool, ReadError>
+    requires { length schema.now ≤ most_sets }
     ensures gives { Gives (λ x. (d.new, x)) result reader.new (reading.line_or_break schema.now (d.old, next) reader.old) }
     ensures shorter { OnOk result (length reader.new < length reader.old) }
 {
@@ -201,6 +208,7 @@ pub fn key_lines(
     alloc: Global,
     schema: &[SetDecl],
 ) -> Result<(KeyDraft, bool), ReadError>
+    requires { length schema.now ≤ most_sets }
     ensures { Gives (λ x. (x.0, x.1)) result reader.new (reading.key_lines schema.now reader.old) }
 {
     let mut d = KeyDraft {

@@ -1,5 +1,6 @@
-ghost use Rattle.std.specs.Prelude.{◌≡◌};
+ghost use Rattle.std.specs.Prelude.{◌≡◌, ◌≤◌, length};
 ghost use Rattle.token_forms.specs.Gives.{Gives};
+ghost use Rattle.set_script.specs.Limits.{most_sets};
 ghost use Rattle.key_file.specs.KeysReading as reading;
 
 use crate::draft::KeyDraft;
@@ -72,16 +73,13 @@ pub fn packet_at(
     d: &mut KeyDraft,
     place: usize,
 ) -> Result<(), ReadError>
+    requires { length schema.now ≤ most_sets }
     ensures { Gives (λ _. d.new) result reader.new (reading.packet_at schema.now d.old place reader.old) }
 {
     match schema.get(place) {
         None => Err(reader.next()?.refused(&[])),
         Some(decl) => {
             let key = all_values(reader, alloc, decl.kinds.as_slice())?;
-            // No memory holds a schema in which a set has a place above 32 bits.
-            if place > u32::MAX as usize {
-                return Err(ReadError::Memory);
-            }
             d.packets.push(Packet {
                 set: place as u32,
                 key,
@@ -102,6 +100,7 @@ pub fn packet(
     family: Family,
     table: &[u8],
 ) -> Result<(), ReadError>
+    requires { length schema.now ≤ most_sets }
     ensures { Gives (λ _. d.new) result reader.new (reading.packet schema.now d.old (family, table.now) reader.old) }
 {
     let place = used_set(reader, schema, family, table)?;

@@ -1,3 +1,7 @@
+ghost use Rattle.std.specs.Prelude.{◌≤◌, length, IfOk};
+ghost use Rattle.set_model.specs.Runnable.{IsRunnable};
+ghost use Rattle.set_script.specs.Limits.{most_sets};
+
 use crate::{KeyError, bad_token, read_keys};
 use set_model::{Family, Keys, Kind, Kinds, Memory, Name, Schema, Script, SetDecl};
 use set_script::read_script;
@@ -5,7 +9,9 @@ use std::alloc::Global;
 use std::test::Fail;
 use token_forms::Reason;
 
-fn script(alloc: Global) -> Result<Script, Fail> {
+fn script(alloc: Global) -> Result<Script, Fail>
+    ensures { IfOk result IsRunnable }
+{
     Ok(read_script(
         alloc,
         b"add set ip at round { type ipv4_addr . inet_service ; flags interval ; }",
@@ -28,7 +34,9 @@ fn ports(alloc: Global, table: &[u8], name: &[u8]) -> Result<SetDecl, Memory> {
 }
 
 /// The sets `ip t p`, `ip at t1` and `ip round x`, of ports.
-fn port_sets(alloc: Global) -> Result<Schema, Memory> {
+fn port_sets(alloc: Global) -> Result<Schema, Memory>
+    ensures { IfOk result (λ schema. length schema ≤ most_sets) }
+{
     let mut schema = Schema::new(alloc);
     schema.push(ports(alloc, b"t", b"p")?)?;
     schema.push(ports(alloc, b"at", b"t1")?)?;
@@ -47,7 +55,9 @@ fn places(alloc: Global, keys: &Keys) -> Result<Vec<(usize, u32, u64)>, Memory> 
     Ok(places)
 }
 
-fn is_fault(alloc: Global, schema: &Schema, text: &[u8], line: u64, reason: Reason) -> bool {
+fn is_fault(alloc: Global, schema: &Schema, text: &[u8], line: u64, reason: Reason) -> bool
+    requires { length schema.now ≤ most_sets }
+{
     match read_keys(alloc, schema, text) {
         Ok(_) => false,
         Err(e) => e == KeyError::Bad { line, reason },
@@ -236,7 +246,9 @@ fn faults_have_their_line_and_reason(rt: HostRuntime) -> Result<(), Fail> {
 }
 
 /// The place, the length, the line and the column of the bad token of a text, and the reason.
-fn place(alloc: Global, schema: &Schema, text: &[u8]) -> Option<(u64, u64, u64, u64, Reason)> {
+fn place(alloc: Global, schema: &Schema, text: &[u8]) -> Option<(u64, u64, u64, u64, Reason)>
+    requires { length schema.now ≤ most_sets }
+{
     match bad_token(alloc, schema, text) {
         Ok(Some(t)) => Some((t.at, t.length, t.line, t.column, t.reason)),
         _ => None,

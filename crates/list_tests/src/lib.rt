@@ -1,5 +1,8 @@
 //! Tests of listings: scripts that look random are listed, and the listing, read as a script and listed again, is the
 //! same.
+//!
+//! **Definitions:** none; it has tests alone. What a listing is stands in `set_report`,
+//! `specs/ListText.antt`.
 #![tactic(auto)]
 
 #[cfg(test)]

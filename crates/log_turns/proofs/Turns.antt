@@ -18,7 +18,7 @@ use Rattle.log_turns.specs.declared.SeatView.{SeatView}
 use Rattle.log_turns.specs.declared.Role.{Role}
 use Rattle.log_turns.specs.declared.Role.TheVariants.{Idle, Opener, Clerk, Gatherer}
 use Rattle.log_turns.specs.LogRule.{left_at, kept_at, stage_of, ticket_of, seats_of, times_of, left_of, kept_of, HasTurns, of_clerk, Keeps, Plays, Sits, IsNamed, Kept}
-use Rattle.log_turns.specs.LogSteps.{drew, looked, done, MayGive}
+use Rattle.log_turns.specs.LogSteps.{drew, looked, ended_turn, MayGive}
 use Rattle.log_turns.proofs.Seats.{GivesSeats, part_le, parts_le, times_in, once_alone, all_others, others_entries}
 
 abbrev value_or : {B : Type 0} → B → List (ℕ × Option B) → B
@@ -181,7 +181,7 @@ module _ {B E G : Type 0} (log : B → List E) (base : B → List G) (number : B
       (others_kept given value v c added logged own ps (All-tail (λ p. p.0 ≢ c) p ps apart) (All-tail K p ps all))
 
   pub ends : (slots id : ℕ) (me : M) (c new : ℕ) (v : B) → me.0.role ≡ Clerk c → me.0.stage ≡ 3 → me.1 ≡ (0, Some v) ∷ [] → MayGive log base number clerk c me.0 v → new ≡ (me.0.ticket + 1) % 18446744073709551616
-      → Allows Rule slots id me 1 (λ _. new) (λ _. done log base number clerk (step slots 1 new 0 none) me new)
+      → Allows Rule slots id me 1 (λ _. new) (λ _. ended_turn log base number clerk (step slots 1 new 0 none) me new)
   ends slots id me c new v is at_three carried may new_of s k deep at fits =
       let turns : HasTurns me.0.role = subst HasTurns (sym is) tt in
       let mine = k.each_seat id me.0 at in

@@ -9,7 +9,7 @@ use Rattle.ticket_line.specs.Tickets.{InLine}
 use Rattle.log_turns.specs.declared.SeatView.{SeatView}
 use Rattle.log_turns.specs.declared.Role.TheVariants.{Opener, Clerk}
 use Rattle.log_turns.specs.LogRule.{stage_of, ticket_of, seats_of, times_of, kept_of, HasTurns, Keeps, IsNamed, Kept, opening_view}
-use Rattle.log_turns.specs.LogSteps.{given_one, next_clerk, gathered, spent_view, drew, looked, done, MayGive}
+use Rattle.log_turns.specs.LogSteps.{given_one, next_clerk, gathered, spent_view, drew, looked, ended_turn, MayGive}
 
 -- Of any value with a log, the states before it, a number, and entries with a control thread's number each.
 module _ (B E G : Type 0) where
@@ -40,7 +40,7 @@ module _ (B E G : Type 0) where
   -- Who is served gives back a value that has entries of its own behind the log, and stores the next ticket in word 1.
   abbrev pub DoneKeeps : Type 0
   DoneKeeps = (log : B → List E) (base : B → List G) (number : B → ℕ) (clerk : E → ℕ) (each bound slots id : ℕ) (me : Me (Option B) (SeatView B E G)) (c new : ℕ) (v : B) → me.0.role ≡ Clerk c → me.0.stage ≡ 3 → me.1 ≡ (0, Some v) ∷ [] → MayGive log base number clerk c me.0 v → new ≡ (me.0.ticket + 1) % 18446744073709551616
-      → Allows (Kept log base number clerk each bound) slots id me 1 (λ _. new) (λ _. done log base number clerk (step slots 1 new 0 none) me new)
+      → Allows (Kept log base number clerk each bound) slots id me 1 (λ _. new) (λ _. ended_turn log base number clerk (step slots 1 new 0 none) me new)
 
   -- The opener's view is cut, for a control thread that was not made yet.
   abbrev pub SplitKeeps : Type 0

@@ -63,5 +63,5 @@ module _ {B E G : Type 0} (log : B → List E) (base : B → List G) (number : B
     pub enough : length added ≤ d.left
 
   -- The seat after its turn has seen the whole log, and has left what it hasn't added.
-  abbrev pub done : Step (Option B) → Me (Option B) (SeatView B E G) → ℕ → Me (Option B) (SeatView B E G) → Type 0
-  done st m e m' = (v took : B) → m.1 ≡ (0, Some v) ∷ [] → m.0.took ≡ Some took → m' ≡ (record m.0 { stage = 1; seen = log v; left = m.0.left - (length (log v) - length (log took)) }, [])
+  abbrev pub ended_turn : Step (Option B) → Me (Option B) (SeatView B E G) → ℕ → Me (Option B) (SeatView B E G) → Type 0
+  ended_turn st m e m' = (v took : B) → m.1 ≡ (0, Some v) ∷ [] → m.0.took ≡ Some took → m' ≡ (record m.0 { stage = 1; seen = log v; left = m.0.left - (length (log v) - length (log took)) }, [])

@@ -11,6 +11,7 @@ use std::snapshot::Snapshot;
 /// What the table is told when it is made.
 #[derive(Drop)]
 pub struct Start<T> {
+    /// The value as it stands before the first turn.
     pub first: Snapshot<T>,
     /// How many control threads there are.
     pub clerks: u64,
@@ -31,6 +32,7 @@ impl<T: Logged> TableRule<Option<T>, SeatView<T, T::Entry, T::State>, Start<T>> 
     ghost first = { λ key. opening_view key.each key.clerks (T.base key.first.value) };
 }
 
+/// The table: the value in its one entry, and the words of the line.
 pub type Board<T> = Table<
     Option<T>,
     SeatView<T, <T as Logged>::Entry, <T as Logged>::State>,
@@ -39,8 +41,10 @@ pub type Board<T> = Table<
     Global,
 >;
 
+/// A seat at the table: what its holder knows, and the value where it is served.
 pub type Place<T> = Seat<Option<T>, SeatView<T, <T as Logged>::Entry, <T as Logged>::State>>;
 
+/// The table, shared by all that have a seat at it.
 pub type Top<T> = Shared<
     Option<T>,
     SeatView<T, <T as Logged>::Entry, <T as Logged>::State>,
@@ -71,9 +75,9 @@ impl<T: Logged> Play<Option<T>, SeatView<T, T::Entry, T::State>> for Look {
 pub(crate) struct Done;
 
 impl<T: Logged> Play<Option<T>, SeatView<T, T::Entry, T::State>> for Done {
-    ghost use Rattle.log_turns.specs.LogSteps.{done};
+    ghost use Rattle.log_turns.specs.LogSteps.{ended_turn};
 
-    ghost then = { done T.log T.base T.number T.clerk };
+    ghost then = { ended_turn T.log T.base T.number T.clerk };
 }
 
 // A control thread's seat is made.

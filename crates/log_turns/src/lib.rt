@@ -2,6 +2,9 @@
 //! value, does what it has to do, and gives it back with what it logged.
 //!
 //! The value stands in the one entry of a table, word 0 is the next ticket, and word 1 the one that is served.
+//!
+//! **Definitions:** `specs/LogRule.antt` is the rule, and `LogSteps.antt` what each kind of step tells.
+//! **Proofs:** docs/proofs.md, "Several control threads (`ticket_line`, `log_turns`, `control_desk`)".
 #![tactic(auto)]
 
 ghost use Rattle.std.specs.Prelude.{ℕ, List};
@@ -45,6 +48,7 @@ pub enum Role {
 
 /// What a seat at the table knows. No value of it is made.
 pub struct SeatView<B, E, G> {
+    /// Whose seat it is.
     pub role: Role,
     /// How many control threads there are.
     pub threads: u64,

@@ -13,34 +13,34 @@ use Rattle.shared_pages.specs.Paged.{PageOf, owns_of, AreCommon}
 use Rattle.shared_pages.proofs.PageLaws.{copied-length}
 use Rattle.lookup_table.specs.Table.{bucket_at, cell}
 use Rattle.lookup_table.specs.Rows.{Each, IsRaised, IsMarked, IsGrown}
-use Rattle.lookup_table.specs.Lines.{words_at, AreOwned, line_bit, line, rows_of, IsPageOf, AreLines, HasLine, AreMarked, IsMore, IsPage, IsWithinRoom, OwnsPlaces, IsCommon}
+use Rattle.lookup_table.specs.Lines.{words_at, AreOwned, line_bit, row_in, rows_of, IsPageOf, AreLines, HasLine, AreMarked, IsMore, IsPage, IsWithinRoom, OwnsPlaces, OwnsNoPage}
 use Rattle.lookup_table.proofs.RowsLaws.{cell-is, All-bucket, bucket-All}
 
 -- ---- rows
 
 pub rows-length : (pages : List (PageOf ℕ)) (len count : ℕ) → length (rows_of pages len count) ≡ count
 unfolding rows_of
-rows-length pages len count = length-map-range_with_len (line pages len) 0 count
+rows-length pages len count = length-map-range_with_len (row_in pages len) 0 count
 
-pub row-at : (pages : List (PageOf ℕ)) (len count j : ℕ) → j < count → bucket_at (rows_of pages len count) j ≡ line pages len j
+pub row-at : (pages : List (PageOf ℕ)) (len count j : ℕ) → j < count → bucket_at (rows_of pages len count) j ≡ row_in pages len j
 unfolding rows_of
-row-at pages len count j h = get_or-map-range_with_len (line pages len) 0 count j j _ h (omega arith)
+row-at pages len count j h = get_or-map-range_with_len (row_in pages len) 0 count j j _ h (omega arith)
 
-pub line-length : (pages : List (PageOf ℕ)) (len j : ℕ) → length (line pages len j).bits ≡ len
-unfolding line
+pub line-length : (pages : List (PageOf ℕ)) (len j : ℕ) → length (row_in pages len j).bits ≡ len
+unfolding row_in
 line-length pages len j = length-map-range_with_len (line_bit pages j) 0 len
 
-pub line-spare : (pages : List (PageOf ℕ)) (len j : ℕ) → (line pages len j).spare ≡ 512 * length pages - len
-unfolding line
+pub line-spare : (pages : List (PageOf ℕ)) (len j : ℕ) → (row_in pages len j).spare ≡ 512 * length pages - len
+unfolding row_in
 line-spare pages len j = refl
 
-pub line-within : (pages : List (PageOf ℕ)) (len j r : ℕ) → r < len → at (line pages len j).bits r ≡ line_bit pages j r
-unfolding line
+pub line-within : (pages : List (PageOf ℕ)) (len j r : ℕ) → r < len → at (row_in pages len j).bits r ≡ line_bit pages j r
+unfolding row_in
 line-within pages len j r h = get_or-map-range_with_len (line_bit pages j) 0 len r r false h (omega arith)
 
-line-at : (pages : List (PageOf ℕ)) (len count j r : ℕ) → AreLines count len pages → j < count → (r < len) ⊎ (len ≤ r) → at (line pages len j).bits r ≡ line_bit pages j r
+line-at : (pages : List (PageOf ℕ)) (len count j r : ℕ) → AreLines count len pages → j < count → (r < len) ⊎ (len ≤ r) → at (row_in pages len j).bits r ≡ line_bit pages j r
 line-at pages len count j r are h (inl l) = line-within pages len j r l
-line-at pages len count j r are h (inr l) = get_or_past (line pages len j).bits r false (omega (arith, line-length pages len j)) ∙ sym (are.past j r h l)
+line-at pages len count j r are h (inr l) = get_or_past (row_in pages len j).bits r false (omega (arith, line-length pages len j)) ∙ sym (are.past j r h l)
 
 pub cell-line : (pages : List (PageOf ℕ)) (len count j r : ℕ) → AreLines count len pages → j < count → cell (rows_of pages len count) j r ≡ line_bit pages j r
 cell-line pages len count j r are h =
@@ -189,18 +189,18 @@ raise-room pages len count n some all =
     let h : n ≤ (bucket_at (rows_of pages len count) 0).spare = All-bucket (λ (x : Row). n ≤ x.spare) (rows_of pages len count) 0 all (omega (arith, rows-length pages len count)) in
     omega (arith, h, ap (λ (x : Row). x.spare) (row-at pages len count 0 (omega arith)), line-spare pages len 0)
 
-raised-bits : (pages : List (PageOf ℕ)) (len count n j : ℕ) → AreLines count len pages → j < count → (line pages (len + n) j).bits ≡ (line pages len j).bits ++ replicate n false
+raised-bits : (pages : List (PageOf ℕ)) (len count n j : ℕ) → AreLines count len pages → j < count → (row_in pages (len + n) j).bits ≡ (row_in pages len j).bits ++ replicate n false
 raised-bits pages len count n j are h =
     let a = line-length pages (len + n) j in
     let b = line-length pages len j in
-    let e = length-append (line pages len j).bits (replicate n false) in
+    let e = length-append (row_in pages len j).bits (replicate n false) in
     let r = length-replicate n false in
-    ext_get_or false (line pages (len + n) j).bits ((line pages len j).bits ++ replicate n false) (omega arith) (λ i l. go i (omega arith) (cases_lt i len)) where
-      go : (i : ℕ) → i < len + n → (i < len) ⊎ (len ≤ i) → at (line pages (len + n) j).bits i ≡ at ((line pages len j).bits ++ replicate n false) i
-      go i l (inl m) = line-within pages (len + n) j i l ∙ sym (line-within pages len j i m) ∙ sym (get_or_append_left (line pages len j).bits (replicate n false) false i (omega (arith, line-length pages len j)))
+    ext_get_or false (row_in pages (len + n) j).bits ((row_in pages len j).bits ++ replicate n false) (omega arith) (λ i l. go i (omega arith) (cases_lt i len)) where
+      go : (i : ℕ) → i < len + n → (i < len) ⊎ (len ≤ i) → at (row_in pages (len + n) j).bits i ≡ at ((row_in pages len j).bits ++ replicate n false) i
+      go i l (inl m) = line-within pages (len + n) j i l ∙ sym (line-within pages len j i m) ∙ sym (get_or_append_left (row_in pages len j).bits (replicate n false) false i (omega (arith, line-length pages len j)))
       go i l (inr m) =
           line-within pages (len + n) j i l ∙ are.past j i h m
-          ∙ sym (get_or-append_right (line pages len j).bits (replicate n false) len i false (line-length pages len j) m ∙ get_or-replicate n (i - len) false false (omega arith))
+          ∙ sym (get_or-append_right (row_in pages len j).bits (replicate n false) len i false (line-length pages len j) m ∙ get_or-replicate n (i - len) false false (omega arith))
 
 pub raised : (pages : List (PageOf ℕ)) (len count n : ℕ) → AreLines count len pages → n ≤ 512 * length pages - len → Each (IsRaised n) (rows_of pages len count) (rows_of pages (len + n) count)
 raised pages len count n are room = record {
@@ -351,8 +351,8 @@ rows-grown count len old new more = record {
   long = rows-length new len count ∙ sym (rows-length old len count);
   at = λ j h. go j (omega (arith, rows-length old len count));
 } where
-  same : (j : ℕ) → (line new len j).bits ≡ (line old len j).bits
-  same j = ext_get_or false (line new len j).bits (line old len j).bits (line-length new len j ∙ sym (line-length old len j))
+  same : (j : ℕ) → (row_in new len j).bits ≡ (row_in old len j).bits
+  same j = ext_get_or false (row_in new len j).bits (row_in old len j).bits (line-length new len j ∙ sym (line-length old len j))
       (λ i h. let l : i < len = omega (arith, line-length new len j) in line-within new len j i l ∙ bit-more count old new more j i ∙ sym (line-within old len j i l))
 
   go : (j : ℕ) → j < count → IsGrown (bucket_at (rows_of old len count) j) (bucket_at (rows_of new len count) j)
@@ -415,9 +415,9 @@ same-lines old new count len same are =
     let l = copied-length new old same in
     sized-lines old new count len len are l (λ p. ap length (same-words old new same p)) (let w = are.within in omega arith) (λ j r h l. same-bits old new same j r ∙ are.past j r h l)
 
-pub bits-equal : (old new : List (PageOf ℕ)) (len j : ℕ) → ((r : ℕ) → r < len → line_bit new j r ≡ line_bit old j r) → (line new len j).bits ≡ (line old len j).bits
+pub bits-equal : (old new : List (PageOf ℕ)) (len j : ℕ) → ((r : ℕ) → r < len → line_bit new j r ≡ line_bit old j r) → (row_in new len j).bits ≡ (row_in old len j).bits
 bits-equal old new len j each =
-    ext_get_or false (line new len j).bits (line old len j).bits (line-length new len j ∙ sym (line-length old len j))
+    ext_get_or false (row_in new len j).bits (row_in old len j).bits (line-length new len j ∙ sym (line-length old len j))
     (λ r h. let l : r < len = omega (arith, line-length new len j) in line-within new len j r l ∙ each r l ∙ sym (line-within old len j r l))
 
 row-equal : (a b : Row) → a.bits ≡ b.bits → a.spare ≡ b.spare → a ≡ b
@@ -428,7 +428,7 @@ same-rows old new len count same =
     rows-equal (rows_of new len count) (rows_of old len count) (rows-length new len count ∙ sym (rows-length old len count))
     (λ j h. let l : j < count = omega (arith, rows-length new len count) in
     row-at new len count j l
-    ∙ row-equal (line new len j) (line old len j) (bits-equal old new len j (λ r m. same-bits old new same j r))
+    ∙ row-equal (row_in new len j) (row_in old len j) (bits-equal old new len j (λ r m. same-bits old new same j r))
     (line-spare new len j ∙ ap (λ n. 512 * n - len) (copied-length new old same) ∙ sym (line-spare old len j))
     ∙ sym (row-at old len count j l))
 
@@ -446,7 +446,7 @@ own-there pages p m d h = get_or-map (λ (x : PageOf ℕ). x.own) pages p m d h
 pub owned-none : (from : ℕ) (pages : List (PageOf ℕ)) → AreOwned from from pages
 owned-none from pages = record { own = λ p low high. absurd (omega arith) }
 
-pub all-common : (pages : List (PageOf ℕ)) → AreCommon (length pages) pages → IsCommon (owns_of pages)
+pub all-common : (pages : List (PageOf ℕ)) → AreCommon (length pages) pages → OwnsNoPage (owns_of pages)
 all-common pages common = record { each = λ p h. common.common p (omega (arith, owns-length pages)) }
 
 pub owns-places : (pages : List (PageOf ℕ)) (from to p q : ℕ) → p ≤ from / 512 → (to + 511) / 512 ≤ q → AreOwned p q pages → OwnsPlaces from to (owns_of pages)
@@ -500,7 +500,7 @@ lines-zero count len (p ∷ ps) pages e more few room small = cc
 pub rows-zero : (count len : ℕ) (old pages : List (PageOf ℕ)) → old ≡ [] → IsMore count old pages → All (λ row. row.bits ≡ replicate len false) (rows_of pages len count)
 rows-zero count len [] pages e more = bucket-All (λ (x : Row). x.bits ≡ replicate len false) (rows_of pages len count) (λ j h. go j (omega (arith, rows-length pages len count))) where
   go : (j : ℕ) → j < count → (bucket_at (rows_of pages len count) j).bits ≡ replicate len false
-  go j h = rw (row-at pages len count j h) (ext_get_or false (line pages len j).bits (replicate len false) (line-length pages len j ∙ sym (length-replicate len false))
+  go j h = rw (row-at pages len count j h) (ext_get_or false (row_in pages len j).bits (replicate len false) (line-length pages len j ∙ sym (length-replicate len false))
       (λ r l. let m : r < len = omega (arith, line-length pages len j) in line-within pages len j r m ∙ bits-none count pages more j r ∙ sym (get_or-replicate len r false false m)))
 rows-zero count len (p ∷ ps) pages e more = cc
 

@@ -15,7 +15,7 @@ use Rattle.bit_rows.proofs.Rows.{at-run, length-run}
 use Rattle.field_groups.specs.Groups.{group, fixed, agrees, first_agreeing, agreeing_count}
 use Rattle.field_groups.proofs.RunLaws.{run-fits, agrees-run}
 use Rattle.lookup_table.specs.Table.{bucket_at, bucket_place, cell, block_at}
-use Rattle.lookup_table.specs.Rows.{IsSameSize, IsMarked, IsBlockMarked, HasRules, KeepsCells, IsFresh, HasOnly}
+use Rattle.lookup_table.specs.Rows.{IsSameSize, IsMarked, IsBlockMarked, HasBlockRules, KeepsCells, HasNoRulesFrom, HasOnly}
 use Rattle.lookup_table.proofs.RowsLaws.{cell-is, All-bucket, bucket-All}
 
 pub same-size : (rows : List Row) → IsSameSize rows rows
@@ -222,7 +222,7 @@ run-within width bits n block rows count h =
 -- ---- one rule more
 
 pub rules-more : (width bits r : ℕ) (block : Block) (old new : List Row) (before : List Block) → IsWithin bits block → IsBlockMarked width bits (bits / width) block r old new → length before ≡ r
-    → HasRules width bits old before → HasRules width bits new (before ++ block ∷ [])
+    → HasBlockRules width bits old before → HasBlockRules width bits new (before ++ block ∷ [])
 rules-more width bits r block old new before within marked long has = record {
   within = All-push (IsWithin bits) before block has.within within;
   bucket = λ g v i h k l. here g v i h k (cases_lt i (length before)) (let e = length_push before block in omega arith);
@@ -255,12 +255,12 @@ rules-more width bits r block old new before within marked long has = record {
 
 -- the rules of a prefix of the blocks, and then of one block more
 pub rules-step : (width bits i : ℕ) (d : Block) (blocks before : List Block) (old rows new : List Row) → i < length blocks
-    → (HasRules width bits rows (before ++ take i blocks) → HasRules width bits new ((before ++ take i blocks) ++ get_or blocks i d ∷ []))
-    → HasRules width bits rows (before ++ take i blocks) → HasRules width bits new (before ++ take (i + 1) blocks)
+    → (HasBlockRules width bits rows (before ++ take i blocks) → HasBlockRules width bits new ((before ++ take i blocks) ++ get_or blocks i d ∷ []))
+    → HasBlockRules width bits rows (before ++ take i blocks) → HasBlockRules width bits new (before ++ take (i + 1) blocks)
 rules-step width bits i d blocks before old rows new h step has =
     let e : (before ++ take i blocks) ++ get_or blocks i d ∷ [] ≡ before ++ take (i + 1) blocks =
     append_assoc before (take i blocks) (get_or blocks i d ∷ []) ∙ ap (λ xs. before ++ xs) (sym (take-suc blocks i d h) ∙ ap (λ n. take n blocks) (let f : suc i ≡ i + 1 = omega arith in f)) in
-    subst (λ xs. HasRules width bits new xs) e (step has)
+    subst (λ xs. HasBlockRules width bits new xs) e (step has)
 
 -- ---- what stays
 
@@ -280,7 +280,7 @@ cells-marked from to r n old rows new le kept marked = record {
 
 -- ---- what is set is no more than the blocks
 
-pub only-none : (width bits first : ℕ) (blocks : List Block) (rows : List Row) → IsFresh first rows → HasOnly width bits first 0 blocks rows
+pub only-none : (width bits first : ℕ) (blocks : List Block) (rows : List Row) → HasNoRulesFrom first rows → HasOnly width bits first 0 blocks rows
 only-none width bits first blocks rows fresh = record {
   within = λ g v i h l set. go (sym (fresh.cells (bucket_place width g v) i l) ∙ set);
   agree = λ g v i h l set. gone (sym (fresh.cells (bucket_place width g v) i l) ∙ set);

@@ -4,7 +4,7 @@ use Rattle.std.proofs.lemmas.List.{length-map, get_or-map, ext_get_or, length-ap
 use Rattle.std.proofs.lemmas.List.Elements.{All-get_or, All-from_get_or}
 use Rattle.std.proofs.lemmas.Option.{slice_get-get_or}
 use Rattle.bit_rows.specs.Row.{Row, at}
-use Rattle.lookup_table.specs.Table.{bucket_at, cell, rooms_of, bits_of}
+use Rattle.lookup_table.specs.Table.{bucket_at, cell, rooms_of, bucket_bits}
 use Rattle.lookup_table.specs.Rows.{Each, IsRaised, IsClosedUp, IsGrown, IsSameSize}
 
 pub cell-is : (rows : List Row) (j r : ℕ) → cell rows j r ≡ at (bucket_at rows j).bits r
@@ -73,9 +73,9 @@ closed-rooms first n old new each = rooms-same old new each.long (λ j h. (each.
 pub size-rooms : (old new : List Row) → IsSameSize old new → rooms_of new ≡ rooms_of old
 size-rooms old new same = rooms-same old new same.long (λ j h. let b = same.bits j in let s = same.spare j in omega arith)
 
-pub grown-bits : (old new : List Row) → Each IsGrown old new → bits_of new ≡ bits_of old
+pub grown-bits : (old new : List Row) → Each IsGrown old new → bucket_bits new ≡ bucket_bits old
 grown-bits old new each =
-    ext_get_or [] (bits_of new) (bits_of old) (length-map new (λ (x : Row). x.bits) ∙ each.long ∙ sym (length-map old (λ (x : Row). x.bits)))
+    ext_get_or [] (bucket_bits new) (bucket_bits old) (length-map new (λ (x : Row). x.bits) ∙ each.long ∙ sym (length-map old (λ (x : Row). x.bits)))
     (λ j h. let within : j < length new = omega (arith, length-map new (λ (x : Row). x.bits)) in
     let l = each.long in
     let before : j < length old = omega arith in

@@ -9,7 +9,7 @@ use Rattle.set_model.specs.Blocks.{IsWithin}
 use Rattle.bit_rows.specs.Row.{Row, at}
 use Rattle.field_groups.specs.Groups.{agrees}
 use Rattle.lookup_table.specs.Table.{bucket_at, bucket_place, cell, block_at, IsShaped, StandsFor, without_blocks}
-use Rattle.lookup_table.specs.Rows.{Each, IsRaised, IsClosedUp, IsGrown, IsSameSize, HasRules}
+use Rattle.lookup_table.specs.Rows.{Each, IsRaised, IsClosedUp, IsGrown, IsSameSize, HasBlockRules}
 use Rattle.lookup_table.proofs.RowsLaws.{cell-is, All-bucket, bucket-All, length-raised}
 
 pub place-within : (width bits rules g v : ℕ) (buckets : List Row) → IsShaped width bits rules buckets → g < bits / width → v < 2 ^ width → bucket_place width g v < length buckets
@@ -54,7 +54,7 @@ raised-shape width bits rules n old new shape raised =
     (λ j h. ap length (raised.at j h).bits ∙ length-raised (bucket_at old j).bits n ∙ ap (λ m. m + n) (long-at width bits rules j old shape h))
 
 -- the old rules, and no bit past them
-pub raised-rules : (width bits rules n : ℕ) (old new : List Row) (blocks : List Block) → IsShaped width bits rules old → Each (IsRaised n) old new → StandsFor width bits rules old blocks → HasRules width bits new blocks
+pub raised-rules : (width bits rules n : ℕ) (old new : List Row) (blocks : List Block) → IsShaped width bits rules old → Each (IsRaised n) old new → StandsFor width bits rules old blocks → HasBlockRules width bits new blocks
 raised-rules width bits rules n old new blocks shape raised stands = record {
   within = stands.within;
   bucket = λ g v r h k l.
@@ -80,7 +80,7 @@ pub sized-shape : (width bits rules : ℕ) (old new : List Row) → IsShaped wid
 sized-shape width bits rules old new shape same =
     reshaped width bits rules rules old new shape same.long (λ j h. same.bits j ∙ long-at width bits rules j old shape h)
 
-pub rules-stand : (width bits rules : ℕ) (buckets : List Row) (blocks : List Block) → length blocks ≡ rules → HasRules width bits buckets blocks → StandsFor width bits rules buckets blocks
+pub rules-stand : (width bits rules : ℕ) (buckets : List Row) (blocks : List Block) → length blocks ≡ rules → HasBlockRules width bits buckets blocks → StandsFor width bits rules buckets blocks
 rules-stand width bits rules buckets blocks count has = record {
   one_each = count;
   within = has.within;

@@ -13,11 +13,11 @@ use Rattle.field_groups.specs.Groups.{agrees, group, every, IsWidth}
 use Rattle.field_groups.proofs.GroupLaws.{groups-hold, group-below}
 use Rattle.field_groups.proofs.HalfLaws.{agrees-halves}
 use Rattle.shared_pages.specs.Paged.{PageOf, owns_of}
-use Rattle.word_summary.specs.Marks.{IsPage as IsPage8, IsMarked, IsBlockMarked, is_candidate, share}
+use Rattle.word_summary.specs.Marks.{IsMarkPage, HasNewMarks, IsWordMarked, is_candidate, share}
 use Rattle.word_summary.proofs.MarkLaws.{share-bit}
 use Rattle.lookup_table.specs.Table.{bucket_at, cell, IsShaped, block_at, StandsFor}
 use Rattle.lookup_table.specs.Lines.{words_at, IsPage, IsWithinRoom}
-use Rattle.lookup_table.specs.Rows.{Each, IsRaised, IsClosedUp, IsGrown, KeepsCells, IsFresh, HasOnly}
+use Rattle.lookup_table.specs.Rows.{Each, IsRaised, IsClosedUp, IsGrown, KeepsCells, HasNoRulesFrom, HasOnly}
 use Rattle.lookup_table.specs.Summary.{upper_place, lower_place, agrees_at, HasMarks, ArePages, IsSummed, KeepsMarks, IsMarkSet, AreRulesMarked}
 use Rattle.shared_pages.proofs.PageLaws.{copied-length}
 use Rattle.lookup_table.proofs.LineLaws.{same-words}
@@ -137,7 +137,7 @@ shared-rule buckets q upper lower r words page high low e both =
 
 pub lines-more : (width bits q j marks : ℕ) (buckets : List Row) (words old page new : List ℕ) → j < bits / 8 * 256 → IsPage buckets q words → upper_place width j < length buckets → lower_place width j < length buckets
     → ((w : ℕ) → w < 64 → bit marks w ≡ (nat_lt w 8 && share (slice_index words (upper_place width j * 8 + w)) (slice_index words (lower_place width j * 8 + w))))
-    → HasMarks 64 width bits (512 * q) buckets (q / 8) old → IsMarked j (8 * (q % 8)) 8 marks page new → LinesDone width bits q j buckets old page → LinesDone width bits q (j + 1) buckets old new
+    → HasMarks 64 width bits (512 * q) buckets (q / 8) old → HasNewMarks j (8 * (q % 8)) 8 marks page new → LinesDone width bits q j buckets old page → LinesDone width bits q (j + 1) buckets old new
 lines-more width bits q j marks buckets words old page new h is upper lower made has marked so_far = record {
   long = marked.long ∙ so_far.long;
   done = λ i r l e m agree. go i r l e m agree (cases_eq i j);
@@ -367,7 +367,7 @@ pub no-page : (bits m : ℕ) (block : Block) (pages : List (PageOf ℕ)) → len
 no-page bits m block pages past = record { set = λ g v h k a inside. absurd (omega arith) }
 
 -- a page that is marked
-pub keeps-page : (bits k p : ℕ) (block : Block) (pages : List (PageOf ℕ)) (page new : PageOf ℕ) → p < length pages → page ≡ get_or pages p page → IsBlockMarked bits block k page.items new.items → KeepsMarks pages (set pages p new)
+pub keeps-page : (bits k p : ℕ) (block : Block) (pages : List (PageOf ℕ)) (page new : PageOf ℕ) → p < length pages → page ≡ get_or pages p page → IsWordMarked bits block k page.items new.items → KeepsMarks pages (set pages p new)
 keeps-page bits k p block pages page new h e marked = record {
   long = length-set pages p new;
   sizes = λ q. sizes q (cases_eq q p);
@@ -390,7 +390,7 @@ keeps-page bits k p block pages page new h e marked = record {
   marks q j i m (inl same) = ap (λ x. bit (slice_index x j) i) (there q same) ∙ marked.kept.marks j i (ap (λ x. bit (slice_index x j) i) (sym (before q same)) ∙ m)
   marks q j i m (inr differs) = ap (λ x. bit (slice_index x j) i) (other q differs) ∙ m
 
-pub page-marked : (bits m p : ℕ) (block : Block) (pages : List (PageOf ℕ)) (page new : PageOf ℕ) → p ≡ m / 64 → p < length pages → IsBlockMarked bits block (m % 64) page.items new.items → IsMarkSet bits block m (set pages p new)
+pub page-marked : (bits m p : ℕ) (block : Block) (pages : List (PageOf ℕ)) (page new : PageOf ℕ) → p ≡ m / 64 → p < length pages → IsWordMarked bits block (m % 64) page.items new.items → IsMarkSet bits block m (set pages p new)
 page-marked bits m p block pages page new e h marked = record {
   set = λ g v a b agree inside.
       let there : words_at (set pages p new) (m / 64) ≡ new.items = ap (words_at (set pages p new)) (sym e) ∙ ap (λ (m : PageOf ℕ). m.items) (get_or-set_same pages p new _ h) in
@@ -400,8 +400,8 @@ page-marked bits m p block pages page new e h marked = record {
 pub pages-page : (bits : ℕ) (old new : List (PageOf ℕ)) → KeepsMarks old new → ArePages bits old → ArePages bits new
 pages-page bits old new kept are = record { each = λ p h. let l = kept.long in record { long = kept.sizes p ∙ (are.each p (omega arith)).long } }
 
-pub page-is : (bits : ℕ) (pages : List (PageOf ℕ)) (p : ℕ) (page : PageOf ℕ) → p < length pages → page ≡ get_or pages p page → ArePages bits pages → IsPage8 bits page.items
-page-is bits pages p page h e are = subst (IsPage8 bits) (sym (ap (λ (m : PageOf ℕ). m.items) (e ∙ get_or_default pages p page _ h))) (are.each p h)
+pub page-is : (bits : ℕ) (pages : List (PageOf ℕ)) (p : ℕ) (page : PageOf ℕ) → p < length pages → page ≡ get_or pages p page → ArePages bits pages → IsMarkPage bits page.items
+page-is bits pages p page h e are = subst (IsMarkPage bits) (sym (ap (λ (m : PageOf ℕ). m.items) (e ∙ get_or_default pages p page _ h))) (are.each p h)
 
 pub rules-none : (unit bits first : ℕ) (blocks : List Block) (pages : List (PageOf ℕ)) → AreRulesMarked unit bits first 0 blocks pages
 rules-none unit bits first blocks pages = record { each = λ i h. absurd (omega arith) }
@@ -424,7 +424,7 @@ pub summed-pages : (unit width bits n : ℕ) (buckets : List Row) (pages : List 
 summed-pages unit width bits n buckets pages summed = record { each = λ p h. record { long = (summed.each p h).long } }
 
 -- no rule of raised rows is set
-pub fresh-raised : (width bits rules n : ℕ) (old new : List Row) → IsShaped width bits rules old → Each (IsRaised n) old new → IsFresh rules new
+pub fresh-raised : (width bits rules n : ℕ) (old new : List Row) → IsShaped width bits rules old → Each (IsRaised n) old new → HasNoRulesFrom rules new
 fresh-raised width bits rules n old new shape raised = record { cells = λ j i h. cell-is new j i ∙ go j i h (cases_lt j (length old)) } where
   none : (i : ℕ) → (i < n) ⊎ (n ≤ i) → get_or (replicate n false) i false ≡ false
   none i (inl h) = get_or-replicate n i false false h

@@ -6,7 +6,7 @@ use Rattle.std.proofs.lemmas.List.{get_or_push, length_push, get_or_append_left,
 use Rattle.bit_rows.specs.Row.{Row, bit}
 use Rattle.bit_rows.proofs.Bits.{bit-zero}
 use Rattle.shared_pages.specs.Paged.{PageOf, owns_of}
-use Rattle.word_summary.specs.Marks.{IsPage, IsPageMarked, Keeps}
+use Rattle.word_summary.specs.Marks.{IsMarkPage, IsPageMarked, ClearsNone}
 use Rattle.word_summary.proofs.MarkLaws.{shares}
 use Rattle.lookup_table.specs.Lines.{words_at}
 use Rattle.lookup_table.specs.Summary.{agrees_at, HasMarks, ArePages, IsSummed, IsRenewed, AreRenewed}
@@ -32,7 +32,7 @@ page-renewed p pages lines old new inside is long marked = record {
 }
 
 -- in all lines
-pub run-renewed : (p n : ℕ) (pages : List (PageOf ℕ)) (old new : List ℕ) → n ≡ length old → Keeps old new → ((j : ℕ) → 0 ≤ j → j < n → bit (slice_index new j) (p % 64) ≡ true) → IsRenewed p pages old new
+pub run-renewed : (p n : ℕ) (pages : List (PageOf ℕ)) (old new : List ℕ) → n ≡ length old → ClearsNone old new → ((j : ℕ) → 0 ≤ j → j < n → bit (slice_index new j) (p % 64) ≡ true) → IsRenewed p pages old new
 run-renewed p n pages old new e kept set = record {
   long = kept.long;
   mark = λ j i h m some. let l = kept.long in set j (omega arith) (omega arith);
@@ -131,8 +131,8 @@ summed-renewed width bits n m from to buckets pages old new within front summed 
 
 pub pages-pushed : (bits : ℕ) (tops : List (PageOf ℕ)) (top : PageOf ℕ) → top.items ≡ replicate (bits / 8 * 256) 0 → ArePages bits tops → ArePages bits (tops ++ top ∷ [])
 pages-pushed bits tops top empty are = record { each = λ q h. go q h (cases_lt q (length tops)) } where
-  go : (q : ℕ) → q < length (tops ++ top ∷ []) → (q < length tops) ⊎ (length tops ≤ q) → IsPage bits (words_at (tops ++ top ∷ []) q)
-  go q h (inl l) = subst (IsPage bits) (sym (ap (λ (m : PageOf ℕ). m.items) (get_or_append_left tops (top ∷ []) _ q l))) (are.each q l)
+  go : (q : ℕ) → q < length (tops ++ top ∷ []) → (q < length tops) ⊎ (length tops ≤ q) → IsMarkPage bits (words_at (tops ++ top ∷ []) q)
+  go q h (inl l) = subst (IsMarkPage bits) (sym (ap (λ (m : PageOf ℕ). m.items) (get_or_append_left tops (top ∷ []) _ q l))) (are.each q l)
   go q h (inr l) =
       let e : length tops ≡ q = omega (arith, length_push tops top) in
       record { long = ap (λ (m : PageOf ℕ). length m.items) (get_or_push tops top _ q e) ∙ ap length empty ∙ length-replicate (bits / 8 * 256) 0 }

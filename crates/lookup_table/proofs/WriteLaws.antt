@@ -3,12 +3,12 @@ use Rattle.std.proofs.Common.{◌≡◌, refl, sym, ◌∙◌, ap, ℕ, zero, su
 use Rattle.std.specs.Prelude.{slice_index}
 use Rattle.std.proofs.lemmas.Bool.{cases_lt, cases_eq, lt-ltb, le-ltb, le-leb, lt-leb, cond-true, cond-false}
 use Rattle.std.proofs.lemmas.List.{get_or-set_same, get_or-set_other, length-set, get_or_default, get_or_past, ext_get_or, length-append, length-take, length-drop, length-replicate, get_or-replicate}
-use Rattle.bit_rows.specs.Row.{Row, at, bit, both, either, without_run, IsPut as IsWordPut}
+use Rattle.bit_rows.specs.Row.{Row, at, bit, both, either, without_run, IsWordPut}
 use Rattle.bit_rows.proofs.Rows.{at-both, length-both, at-either, length-either}
 use Rattle.shared_pages.specs.Paged.{PageOf, owns_of}
 use Rattle.lookup_table.specs.Table.{bucket_at, cell}
 use Rattle.lookup_table.specs.Rows.{Each, IsClosedUp, IsPut}
-use Rattle.lookup_table.specs.Lines.{words_at, line_bit, line, rows_of, AreLines, HasLine, IsAlike, IsWritten, IsLinePut, closed_bit, IsWordClosed, AreClosed}
+use Rattle.lookup_table.specs.Lines.{words_at, line_bit, row_in, rows_of, AreLines, HasLine, IsAlike, IsWordWritten, IsLinePut, closed_bit, IsWordClosed, AreClosed}
 use Rattle.lookup_table.proofs.LineLaws.{own-there, rows-length, row-at, line-length, line-spare, line-within, bit-read, word-read, sized-lines, bits-equal}
 use Rattle.lookup_table.proofs.RowsLaws.{cell-is}
 use Rattle.lookup_table.proofs.RuleLaws.{at-without}
@@ -35,7 +35,7 @@ alike-line j old new alike has = record { line = λ p h. let l = alike.long in l
 -- ---- one word
 
 pub written : (pages : List (PageOf ℕ)) (p x word : ℕ) (m n : PageOf ℕ) → p < length pages → m ≡ get_or pages p m → m.own ≡ true → x < length m.items
-    → n.items ≡ set m.items x word → n.own ≡ true → IsWritten p x word pages (set pages p n)
+    → n.items ≡ set m.items x word → n.own ≡ true → IsWordWritten p x word pages (set pages p n)
 written pages p x word m n h e own within items kept = record {
   alike = record { long = length-set pages p n; sizes = λ q. sizes q (cases_eq q p); own = owns-same pages p m n e (kept ∙ sym own) };
   here = ap (λ ws. slice_index ws x) (there p refl) ∙ get_or-set_same m.items x word 0 within;
@@ -55,7 +55,7 @@ written pages p x word m n h e own within items kept = record {
   others q y out (inl same) = ap (λ ws. slice_index ws y) (there q same) ∙ get_or-set_other m.items x y word 0 (out same) ∙ ap (λ ws. slice_index ws y) (sym (before q same))
   others q y out (inr differs) = ap (λ (a : PageOf ℕ). slice_index a.items y) (get_or-set_other pages p q n _ differs)
 
-written-here : (p x word j r : ℕ) (old new : List (PageOf ℕ)) → IsWritten p x word old new → r / 512 ≡ p → j * 8 + r % 512 / 64 ≡ x → line_bit new j r ≡ bit word (r % 64)
+written-here : (p x word j r : ℕ) (old new : List (PageOf ℕ)) → IsWordWritten p x word old new → r / 512 ≡ p → j * 8 + r % 512 / 64 ≡ x → line_bit new j r ≡ bit word (r % 64)
 written-here p x word j r old new w e f =
     bit-read new j r ∙ ap (λ q. bit (slice_index (words_at new q) (j * 8 + r % 512 / 64)) (r % 64)) e ∙ ap (λ y. bit (slice_index (words_at new p) y) (r % 64)) f ∙ ap (λ v. bit v (r % 64)) w.here
 
@@ -75,7 +75,7 @@ pub record LinePut (count j i : ℕ) (bits : List Bool) (old now : List (PageOf 
 pub put-none : (count j : ℕ) (bits : List Bool) (pages : List (PageOf ℕ)) → LinePut count j 0 bits pages pages
 put-none count j bits pages = record { alike = alike-none pages; done = λ r h. absurd (omega arith); rest = λ r h. refl; others = λ k r h d. refl }
 
-pub put-more : (count j i word : ℕ) (bits : List Bool) (old now new : List (PageOf ℕ)) → j < count → ((k : ℕ) → k < 64 → bit word k ≡ at bits (64 * i + k)) → IsWritten (i / 8) (j * 8 + i % 8) word now new
+pub put-more : (count j i word : ℕ) (bits : List Bool) (old now new : List (PageOf ℕ)) → j < count → ((k : ℕ) → k < 64 → bit word k ≡ at bits (64 * i + k)) → IsWordWritten (i / 8) (j * 8 + i % 8) word now new
     → LinePut count j i bits old now → LinePut count j (i + 1) bits old new
 put-more count j i word bits old now new h reads w so_far = record {
   alike = alike-both old now new so_far.alike w.alike;
@@ -117,8 +117,8 @@ put-rows count len j bits old new long line_in put = record {
   row = ap (λ (x : Row). x.bits) (row-at new len count j line_in) ∙ same_bits;
   others = λ k d. others k d (cases_lt k count);
 } where
-  same_bits : (line new len j).bits ≡ bits
-  same_bits = ext_get_or false (line new len j).bits bits (line-length new len j ∙ sym long)
+  same_bits : (row_in new len j).bits ≡ bits
+  same_bits = ext_get_or false (row_in new len j).bits bits (line-length new len j ∙ sym long)
       (λ r h. let l : r < len = omega (arith, line-length new len j) in line-within new len j r l ∙ put.here r (omega arith))
 
   beyond : (ps : List (PageOf ℕ)) (k : ℕ) → count ≤ k → bucket_at (rows_of ps len count) k ≡ record { bits = []; spare = 0 }
@@ -204,7 +204,7 @@ word-before pages first n p x h = record {
   others = λ q y out. refl;
 }
 
-pub word-closed : (first n p x before moved word low : ℕ) (old new : List (PageOf ℕ)) → IsWritten p x word old new → first / 64 ≤ p * 8 + x % 8 → low ≡ first - 64 * (p * 8 + x % 8)
+pub word-closed : (first n p x before moved word low : ℕ) (old new : List (PageOf ℕ)) → IsWordWritten p x word old new → first / 64 ≤ p * 8 + x % 8 → low ≡ first - 64 * (p * 8 + x % 8)
     → before ≡ slice_index (words_at old p) x
     → ((k : ℕ) → k < 64 → bit moved k ≡ line_bit old (x / 8) (64 * (p * 8 + x % 8) + n + k)) → ((k : ℕ) → k < 64 → bit word k ≡ cond (nat_lt k low) (bit before k) (bit moved k)) → IsWordClosed first n p x old new
 word-closed first n p x before moved word low old new w above e was reads made = record {
@@ -297,29 +297,29 @@ closed-rows count len first n end old new are fits far closed = record {
   long = rows-length new (len - n) count ∙ sym (rows-length old len count);
   at = λ j h. go j (omega (arith, rows-length old len count));
 } where
-  front : (j : ℕ) → first + n ≤ length (line old len j).bits
+  front : (j : ℕ) → first + n ≤ length (row_in old len j).bits
   front j = omega (arith, line-length old len j)
 
-  long : (j : ℕ) → length (without_run (line old len j).bits first n) ≡ len - n
+  long : (j : ℕ) → length (without_run (row_in old len j).bits first n) ≡ len - n
   long j = omega (
     arith,
-    length-append (take first (line old len j).bits) (drop (first + n) (line old len j).bits),
-    length-take first (line old len j).bits,
-    length-drop (first + n) (line old len j).bits,
+    length-append (take first (row_in old len j).bits) (drop (first + n) (row_in old len j).bits),
+    length-take first (row_in old len j).bits,
+    length-drop (first + n) (row_in old len j).bits,
     line-length old len j,
   )
 
-  each : (j r : ℕ) → j < count → r < len - n → (r < first) ⊎ (first ≤ r) → at (line new (len - n) j).bits r ≡ at (without_run (line old len j).bits first n) r
+  each : (j r : ℕ) → j < count → r < len - n → (r < first) ⊎ (first ≤ r) → at (row_in new (len - n) j).bits r ≡ at (without_run (row_in old len j).bits first n) r
   each j r h l (inl a) =
       line-within new (len - n) j r l ∙ closed-bit count len first n end old new are fits far closed j r h ∙ closed-before old first n j r a ∙ sym (line-within old len j r (omega arith))
-      ∙ sym (at-without false (line old len j).bits first n r (front j) ∙ ap (at (line old len j).bits) (cond-true _ r (r + n) (lt-ltb r first a)))
+      ∙ sym (at-without false (row_in old len j).bits first n r (front j) ∙ ap (at (row_in old len j).bits) (cond-true _ r (r + n) (lt-ltb r first a)))
   each j r h l (inr a) =
       line-within new (len - n) j r l ∙ closed-bit count len first n end old new are fits far closed j r h ∙ closed-behind old first n j r a ∙ sym (line-within old len j (r + n) (omega arith))
-      ∙ sym (at-without false (line old len j).bits first n r (front j) ∙ ap (at (line old len j).bits) (cond-false _ r (r + n) (le-ltb r first a)))
+      ∙ sym (at-without false (row_in old len j).bits first n r (front j) ∙ ap (at (row_in old len j).bits) (cond-false _ r (r + n) (le-ltb r first a)))
 
   go : (j : ℕ) → j < count → IsClosedUp first n (bucket_at (rows_of old len count) j) (bucket_at (rows_of new (len - n) count) j)
   go j h = rw (row-at old len count j h, row-at new (len - n) count j h) (record {
-    bits = ext_get_or false (line new (len - n) j).bits (without_run (line old len j).bits first n) (line-length new (len - n) j ∙ sym (long j))
+    bits = ext_get_or false (row_in new (len - n) j).bits (without_run (row_in old len j).bits first n) (line-length new (len - n) j ∙ sym (long j))
         (λ r l. let m : r < len - n = omega (arith, line-length new (len - n) j) in each j r h m (cases_lt r first));
     room = let w = are.within in let l = closed.alike.long in omega (arith, line-length new (len - n) j, line-length old len j, line-spare new (len - n) j, line-spare old len j);
   })

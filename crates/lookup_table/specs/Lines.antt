@@ -19,7 +19,7 @@ pub record IsWithinRoom (r : ℕ) (rows : List Row) : Type 0 where
   pub room : r < length (bucket_at rows 0).bits + (bucket_at rows 0).spare
 
 -- No page is the table's own.
-pub record IsCommon (own : List Bool) : Type 0 where
+pub record OwnsNoPage (own : List Bool) : Type 0 where
   pub each : (p : ℕ) → p < length own → get_or own p false ≡ false
 
 -- The words of page p: eight for each row.
@@ -41,11 +41,11 @@ pub record AreOwned (from to : ℕ) (pages : List (PageOf ℕ)) : Type 0 where
 unfoldable pub line_bit : List (PageOf ℕ) → ℕ → ℕ → Bool
 line_bit pages j r = bit (slice_index (words_at pages (r / 512)) (j * 8 + r % 512 / 64)) (r % 64)
 
-unfoldable pub line : List (PageOf ℕ) → ℕ → ℕ → Row
-line pages len j = record { bits = map (line_bit pages j) (range_with_len 0 len); spare = 512 * length pages - len }
+unfoldable pub row_in : List (PageOf ℕ) → ℕ → ℕ → Row
+row_in pages len j = record { bits = map (line_bit pages j) (range_with_len 0 len); spare = 512 * length pages - len }
 
 unfoldable pub rows_of : List (PageOf ℕ) → ℕ → ℕ → List Row
-rows_of pages len count = map (line pages len) (range_with_len 0 count)
+rows_of pages len count = map (row_in pages len) (range_with_len 0 count)
 
 -- a line of eight words for each row
 pub record IsPageOf (count : ℕ) (page : PageOf ℕ) : Type 0 where
@@ -83,7 +83,7 @@ pub record IsAlike (old new : List (PageOf ℕ)) : Type 0 where
   pub own : owns_of new ≡ owns_of old
 
 -- word x of page p is written over
-pub record IsWritten (p x word : ℕ) (old new : List (PageOf ℕ)) : Type 0 where
+pub record IsWordWritten (p x word : ℕ) (old new : List (PageOf ℕ)) : Type 0 where
   pub alike : IsAlike old new
   pub here : slice_index (words_at new p) x ≡ word
   pub others : (q y : ℕ) → (q ≡ p → y ≡ x → ⊥) → slice_index (words_at new q) y ≡ slice_index (words_at old q) y

@@ -53,7 +53,7 @@ pub record KeepsCells (n : ℕ) (old new : List Row) : Type 0 where
   pub cells : (j i : ℕ) → i < n → cell new j i ≡ cell old j i
 
 -- None of the rules from `first` on is set.
-pub record IsFresh (first : ℕ) (rows : List Row) : Type 0 where
+pub record HasNoRulesFrom (first : ℕ) (rows : List Row) : Type 0 where
   pub cells : (j i : ℕ) → first ≤ i → cell rows j i ≡ false
 
 -- Of the rules from `first` on those of the first n blocks alone are set, and in no bucket whose value doesn't agree with the block.
@@ -62,7 +62,7 @@ pub record HasOnly (width bits first n : ℕ) (blocks : List Block) (rows : List
   pub agree : (g v i : ℕ) → v < 2 ^ width → first ≤ i → cell rows (bucket_place width g v) i ≡ true → agrees width bits (block_at blocks (i - first)) g v ≡ true
 
 -- The first bits of the buckets are those of the blocks' rules, and no other bit is set.
-pub record HasRules (width bits : ℕ) (buckets : List Row) (blocks : List Block) : Type 0 where
+pub record HasBlockRules (width bits : ℕ) (buckets : List Row) (blocks : List Block) : Type 0 where
   pub within : All (IsWithin bits) blocks
   pub bucket : (g v r : ℕ) → g < bits / width → v < 2 ^ width → r < length blocks → cell buckets (bucket_place width g v) r ≡ agrees width bits (block_at blocks r) g v
   pub rest : (g v r : ℕ) → g < bits / width → v < 2 ^ width → length blocks ≤ r → cell buckets (bucket_place width g v) r ≡ false
@@ -88,4 +88,4 @@ halves_step j = cond (j / 16 % 2 == 0) 1 16
 
 -- The rules of the new rows are those of the old ones and then that of each of these blocks.
 abbrev pub MarksRules : ℕ → ℕ → ℕ → List Row → List Row → List Block → Type 0
-MarksRules width bits first old new added = (blocks : List Block) → length blocks ≡ first → HasRules width bits old blocks → HasRules width bits new (blocks ++ added)
+MarksRules width bits first old new added = (blocks : List Block) → length blocks ≡ first → HasBlockRules width bits old blocks → HasBlockRules width bits new (blocks ++ added)

@@ -5,7 +5,7 @@ use Rattle.bit_rows.specs.Row.{Row, at, bit}
 use Rattle.shared_pages.specs.Paged.{owns_of}
 use Rattle.field_groups.specs.Groups.{group}
 use Rattle.lookup_table.specs.declared.table.FieldTable.{FieldTable}
-use Rattle.lookup_table.specs.Lines.{IsCommon}
+use Rattle.lookup_table.specs.Lines.{OwnsNoPage}
 use Rattle.lookup_table.specs.Table.{StandsFor, bucket_place, block_at, without_blocks}
 
 -- the table stands for these blocks, one per rule
@@ -25,9 +25,9 @@ pub record IsOwn (from to : ℕ) (t : FieldTable) : Type 0 where
 
 -- No page is the table's own: a copy takes a count for each.
 pub record IsShared (t : FieldTable) : Type 0 where
-  pub rows : IsCommon t.buckets.own
-  pub marks : IsCommon (owns_of t.pages.items)
-  pub tops : IsCommon (owns_of t.tops.items)
+  pub rows : OwnsNoPage t.buckets.own
+  pub marks : OwnsNoPage (owns_of t.pages.items)
+  pub tops : OwnsNoPage (owns_of t.tops.items)
 
 -- A page is the new table's own where it was the old one's.
 pub record IsAsOwn (old new : FieldTable) : Type 0 where

@@ -6,7 +6,7 @@ use Rattle.bit_rows.specs.Row.{Row, bit}
 use Rattle.field_groups.specs.Groups.{agrees}
 use Rattle.shared_pages.specs.Paged.{PageOf}
 use Rattle.lookup_table.specs.Lines.{words_at}
-use Rattle.word_summary.specs.Marks.{IsPage}
+use Rattle.word_summary.specs.Marks.{IsMarkPage}
 use Rattle.lookup_table.specs.Table.{bucket_place, block_at, cell}
 
 -- Where the buckets stand that tell which rules agree with value j % 256 of byte j / 256: the byte's own
@@ -28,7 +28,7 @@ pub record HasMarks (unit width bits n : ℕ) (buckets : List Row) (p : ℕ) (pa
 
 -- Each page has one line for each byte and value.
 pub record ArePages (bits : ℕ) (pages : List (PageOf ℕ)) : Type 0 where
-  pub each : (p : ℕ) → p < length pages → IsPage bits (words_at pages p)
+  pub each : (p : ℕ) → p < length pages → IsMarkPage bits (words_at pages p)
 
 -- Each page has the marks of the first n rules. Of the rules behind the last page nothing is said.
 pub record IsSummed (unit width bits n : ℕ) (buckets : List Row) (pages : List (PageOf ℕ)) : Type 0 where

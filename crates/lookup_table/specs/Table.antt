@@ -47,5 +47,5 @@ abbrev pub rooms_of : List Row → List ℕ
 rooms_of buckets = map (λ row. length row.bits + row.spare) buckets
 
 -- the bits of each bucket
-abbrev pub bits_of : List Row → List (List Bool)
-bits_of buckets = map (λ row. row.bits) buckets
+abbrev pub bucket_bits : List Row → List (List Bool)
+bucket_bits buckets = map (λ row. row.bits) buckets

@@ -3,7 +3,7 @@ ghost use Rattle.bit_rows.specs.Row.{bit, both, either};
 ghost use Rattle.shared_pages.specs.Paged.{owns_of};
 ghost use Rattle.lookup_table.specs.Table.{bucket_at, cell};
 ghost use Rattle.lookup_table.specs.Rows.{Each, IsGrown, IsRaised, IsMarked, IsClosedUp, IsPut};
-ghost use Rattle.lookup_table.specs.Lines.{words_at, AreOwned, IsPage, IsWithinRoom, OwnsPlaces, IsCommon, IsPageOf, HasLine, line_bit, IsMore, IsWritten, AreMarked, IsLinePut, IsWordClosed, AreClosed};
+ghost use Rattle.lookup_table.specs.Lines.{words_at, AreOwned, IsPage, IsWithinRoom, OwnsPlaces, OwnsNoPage, IsPageOf, HasLine, line_bit, IsMore, IsWordWritten, AreMarked, IsLinePut, IsWordClosed, AreClosed};
 
 use bit_rows::{BitRow, joined, merged};
 use set_model::Memory;
@@ -220,7 +220,7 @@ impl Lines {
     /// `Memory` if there is none left. The rows are as they were.
     pub(crate) fn settle(&mut self) -> Result<(), Memory>
         ensures rows { self.new.rows ≡ self.old.rows }
-        ensures common { OnOk result (IsCommon self.new.own) }
+        ensures common { OnOk result (OwnsNoPage self.new.own) }
     {
         let alloc = *self.pages.allocator();
         settle_plain_pages(alloc, &mut self.pages)?;
@@ -328,7 +328,7 @@ fn write_word(pages: &mut Vec<Page<u64>>, p: usize, x: usize, word: u64)
     requires page { p < length pages.old.items }
     requires own { get_or (owns_of pages.old.items) p true ≡ true }
     requires word { x < length (words_at pages.old.items p) }
-    ensures { IsWritten p x word pages.old.items pages.new.items }
+    ensures { IsWordWritten p x word pages.old.items pages.new.items }
 {
     let page = &mut pages[p];
     page.put(x, word);

@@ -4,7 +4,7 @@ ghost use Rattle.set_model.specs.Blocks.{IsWithin};
 ghost use Rattle.field_groups.specs.Groups.{IsWidth};
 ghost use Rattle.lookup_table.specs.Table.{IsShaped};
 ghost use Rattle.lookup_table.specs.Lines.{OwnsPlaces};
-ghost use Rattle.lookup_table.specs.Rows.{IsSameSize, KeepsCells, IsFresh, HasOnly, IsBlockMarked, MarksRules};
+ghost use Rattle.lookup_table.specs.Rows.{IsSameSize, KeepsCells, HasNoRulesFrom, HasOnly, IsBlockMarked, MarksRules};
 
 use crate::lines::Lines;
 use field_groups::group_mask;
@@ -15,7 +15,7 @@ pub(crate) fn mark_blocks(buckets: &mut Lines, blocks: &[Block], width: u32, bit
     requires count { first + length blocks.now < 2 ^ 32 }
     requires shape { IsShaped width bits (first + length blocks.now) buckets.old.rows }
     requires within { All (IsWithin bits) blocks.now }
-    requires fresh { IsFresh first buckets.old.rows }
+    requires fresh { HasNoRulesFrom first buckets.old.rows }
     requires own { OwnsPlaces first (first + length blocks.now) buckets.old.own }
     ensures size { IsSameSize buckets.old.rows buckets.new.rows }
     ensures kept { KeepsCells first buckets.old.rows buckets.new.rows }

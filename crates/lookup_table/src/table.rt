@@ -30,12 +30,19 @@ use word_summary::candidates;
 /// [`FieldTable::own_from`] make them so, before it.
 #[derive(Drop)]
 pub struct FieldTable {
+    /// How many bits a group has: 4 or 8.
     pub width: u32,
+    /// How many bits a value of the field has.
     pub bits: u32,
+    /// How many rules there are.
     pub rules: u32,
+    /// The buckets, in pages of 512 rules.
     pub buckets: Lines,
+    /// Whether it has a summary above its rules.
     pub is_summed: bool,
+    /// The marks of each 4,096 rules.
     pub pages: Vec<Page<u64>>,
+    /// The marks of each 64 of these pages.
     pub tops: Vec<Page<u64>>,
     pub ghost shaped: { IsShaped width bits rules buckets.rows },
     pub ghost summed: { IsSummed 64 width bits rules buckets.rows pages.items },
@@ -49,7 +56,7 @@ impl FieldTable {
     ghost use Rattle.bit_rows.specs.Row.{bit};
     ghost use Rattle.field_groups.specs.Groups.{IsWidth, meets, share_value};
     ghost use Rattle.shared_pages.specs.Paged.{owns_of};
-    ghost use Rattle.lookup_table.specs.Table.{rooms_of, bits_of};
+    ghost use Rattle.lookup_table.specs.Table.{rooms_of, bucket_bits};
     ghost use Rattle.lookup_table.specs.Lines.{IsPage};
     ghost use Rattle.lookup_table.specs.Rules.{Stands, IsOwn, IsAsOwn, IsShared, IsSameField, KeepsRules, AppendsRules, DropsRules, KeepsWhere, KeepsBitsWhere, place_of};
     ghost use Rattle.lookup_table.specs.Rows.{IsJoined, IsWide, halves_start, halves_step};
@@ -131,7 +138,7 @@ impl FieldTable {
         requires { self.old.rules + n < 2 ^ 32 }
         ensures same { IsSameField self.old self.new }
         ensures rules { self.new.rules ≡ self.old.rules }
-        ensures bits { bits_of self.new.buckets.rows ≡ bits_of self.old.buckets.rows }
+        ensures bits { bucket_bits self.new.buckets.rows ≡ bucket_bits self.old.buckets.rows }
         ensures stands { KeepsRules self.old self.new }
         ensures spare { OnOk result (All (λ row. n ≤ row.spare) self.new.buckets.rows) }
         ensures own { OnOk result (IsOwn self.old.rules (self.old.rules + n) self.new) }
@@ -384,7 +391,8 @@ impl FieldTable {
         let (base, mask) = group_mask(block, self.width, self.bits, g);
         let first = ((g as u64) << self.width) + (base & mask) as u64;
         let count = (1u64 << self.width) - mask as u64;
-        // Each rule agrees with some value of a group that the block leaves free.
+        // A block that fixes the whole group has one bucket, and needs no row between. Each rule agrees with some value of a
+        // group that the block leaves free, which is skipped.
         if count == 1 {
             self.buckets.and_into(first, row);
         } else if mask != 0 {

@@ -1,7 +1,7 @@
 ghost use Rattle.std.specs.Prelude.{◌≡◌, ℕ, ◌+◌, ◌*◌, ◌/◌, ◌^◌, ◌<◌, ◌≤◌, true, get_or};
 ghost use Rattle.field_groups.specs.Groups.{IsWidth};
 ghost use Rattle.shared_pages.specs.Paged.{owns_of};
-ghost use Rattle.word_summary.specs.Marks.{IsPage};
+ghost use Rattle.word_summary.specs.Marks.{IsMarkPage};
 ghost use Rattle.lookup_table.specs.Summary.{ArePages, IsRenewed, AreRenewed, KeepsTops};
 
 use set_model::Memory;
@@ -57,7 +57,7 @@ fn renew_top(tops: &mut Vec<Page<u64>>, pages: &[Page<u64>], bits: u32, p: u32)
 fn mark_from(top: &mut Page<u64>, pages: &[Page<u64>], bits: u32, p: u32)
     requires own { top.old.own ≡ true }
     requires pages { ArePages bits pages.now }
-    requires top { IsPage bits top.old.items }
+    requires top { IsMarkPage bits top.old.items }
     ensures own { top.new.own ≡ true }
     ensures renewed { IsRenewed p pages.now top.old.items top.new.items }
 {

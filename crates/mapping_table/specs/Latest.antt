@@ -4,13 +4,13 @@ use Rattle.set_tables.specs.declared.End.{End}
 use Rattle.mapping_table.specs.Spared.{Spared, word_of}
 
 -- the moment from which on an expiry has come; the last moment there is where there is none
-abbrev pub moment_of : End → ℕ
-moment_of e = unwrap_or e.expiry (2 ^ 64 - 1)
+abbrev pub expiry_moment : End → ℕ
+expiry_moment e = unwrap_or e.expiry (2 ^ 64 - 1)
 
 -- The latest of all ends' expiries: from then on none of them is live, unless it is the last moment there is.
 abbrev pub latest_end : List End → ℕ
 latest_end [] = 0
-latest_end (e ∷ es) = max (moment_of e) (latest_end es)
+latest_end (e ∷ es) = max (expiry_moment e) (latest_end es)
 
 -- Each word of 64 ends has its moment, and none of its ends has a later expiry.
 pub record AreBounded (ends : List End) (moments : List ℕ) : Type 0 where

@@ -3,7 +3,7 @@ ghost use Rattle.std.specs.Bool.{OnTrue};
 ghost use Rattle.std.specs.List.{zip};
 ghost use Rattle.set_model.specs.Expiry.{lives};
 ghost use Rattle.set_tables.specs.Rows.{ends_without, ends_renewed, lowered_place, end_renewed, is_led};
-ghost use Rattle.mapping_table.specs.Spared.{word_of, OwnsRange, OwnsFrom, KeepsOwn, IsCommon, IsMoved};
+ghost use Rattle.mapping_table.specs.Spared.{word_of, OwnsRange, OwnsFrom, KeepsOwn, TakesNone, IsCommon, IsMoved};
 
 use crate::latest::{find_latest, is_past, moment_of, raise, raise_word};
 use crate::roomy::Roomy;
@@ -14,8 +14,9 @@ use std::alloc::Global;
 use std::marker::Model;
 
 /// The rules of the last field, each with its element's place and expiry, in pages of 512 that copies
-/// share. Beside them it shows a number `spare`: how many more rules it has room for; and of each page
-/// whether it is this table's `own`, so that it can be changed.
+/// share. Beside them it shows a number `spare`: how many more rules it has room for; of each page
+/// whether it is this table's `own`, so that it can be changed; and what memory is `taken`: the
+/// capacities of its vectors.
 #[derive(Drop)]
 pub struct EndTable {
     ends: Roomy<End>,
@@ -27,13 +28,19 @@ pub struct EndTable {
 
 impl Model for EndTable {
     ghost use Rattle.set_tables.specs.declared.End.{End};
+    ghost use Rattle.std.specs.Prelude.{◌∷◌};
     ghost use Rattle.std.specs.Vec.{vec_capacity};
     ghost use Rattle.mapping_table.specs.Spared.{Spared};
     ghost use Rattle.mapping_table.specs.Latest.{AreTimed};
 
     ghost Value = { Spared End };
 
-    ghost view = { λ a. a.ends };
+    ghost view = { λ a. record {
+      items = a.ends.items;
+      spare = a.ends.spare;
+      own = a.ends.own;
+      taken = record { rest = a.ends.taken.rest; others = vec_capacity a.latest ∷ a.ends.taken.others };
+    } };
 
     ghost invariant = { λ a. AreTimed a.ends a.latest.items (vec_capacity a.latest) };
 }
@@ -43,6 +50,7 @@ impl EndTable {
     pub fn new(alloc: Global) -> Self
         ensures items { result.items ≡ [] }
         ensures spare { result.spare ≡ 0 }
+        ensures taken { result.taken ≡ record { rest = 0; others = 0 ∷ 0 ∷ [] } }
     {
         EndTable {
             ends: Roomy::new(alloc),
@@ -96,6 +104,7 @@ impl EndTable {
         ensures items { self.new.items ≡ self.old.items ++ item ∷ [] }
         ensures spare { self.new.spare + 1 ≡ self.old.spare }
         ensures own { self.new.own ≡ self.old.own }
+        ensures taken { self.new.taken ≡ self.old.taken }
     {
         let word = self.ends.len() as usize / 64;
         raise_word(&mut self.latest, word, moment_of(item.expiry));
@@ -157,6 +166,7 @@ impl EndTable {
         requires own { OwnsFrom first self.old }
         ensures items { self.new.items ≡ ends_without self.old.items first n }
         ensures own { KeepsOwn self.old self.new }
+        ensures taken { TakesNone (length self.new.items) self.old self.new }
     {
         close_up(&mut self.ends, first, n);
         let len = self.ends.len();
@@ -171,6 +181,7 @@ impl EndTable {
         ensures items { self.new.items ≡ ends_renewed self.old.items first n expiry }
         ensures spare { self.new.spare ≡ self.old.spare }
         ensures own { self.new.own ≡ self.old.own }
+        ensures taken { self.new.taken ≡ self.old.taken }
     {
         renew(&mut self.ends, first, n, expiry);
         let from = first as usize / 64;
@@ -227,6 +238,7 @@ fn close_up(ends: &mut Roomy<End>, first: u32, n: u32)
     ensures items { IsMoved lowered_place first n (length ends.old.items) ends.old.items ends.new.items }
     ensures spare { ends.new.spare ≡ ends.old.spare }
     ensures own { ends.new.own ≡ ends.old.own }
+    ensures taken { ends.new.taken ≡ ends.old.taken }
 {
     'ends: for i in first..ends.len() - n {
         let mut end = *ends.at(i + n);
@@ -241,6 +253,7 @@ fn renew(ends: &mut Roomy<End>, first: u32, n: u32, expiry: Option<u64>)
     ensures items { IsMoved (end_renewed expiry) first 0 (first + n) ends.old.items ends.new.items }
     ensures spare { ends.new.spare ≡ ends.old.spare }
     ensures own { ends.new.own ≡ ends.old.own }
+    ensures taken { ends.new.taken ≡ ends.old.taken }
 {
     let _rules = ends.len();
     'ends: for i in first..first + n {

@@ -1,6 +1,6 @@
 ghost use Rattle.std.specs.Prelude.{◌≡◌, ◌+◌, ◌<◌, ◌≤◌, ◌^◌, [], ◌∷◌, ◌++◌, length, replicate, slice_get, Some, false, IfOk, OnOk, All, drop};
 ghost use Rattle.set_tables.specs.Rows.{refilled, spans_without, lowered};
-ghost use Rattle.mapping_table.specs.Spared.{word_of, OwnsFrom, KeepsOwn, IsCommon, IsMoved};
+ghost use Rattle.mapping_table.specs.Spared.{word_of, OwnsFrom, KeepsOwn, TakesNone, IsCommon, IsMoved};
 
 use crate::roomy::Roomy;
 use bit_rows::BitRow;
@@ -10,7 +10,7 @@ use std::alloc::Global;
 use std::marker::Model;
 
 /// The rules of a field, each with its span of the next field's rules. It shows a number `spare`:
-/// how many more rules it has room for.
+/// how many more rules it has room for; and what memory is `taken`: the capacities of its vectors.
 #[derive(Drop)]
 pub struct MapTable {
     spans: Roomy<Span>,
@@ -30,6 +30,7 @@ impl MapTable {
     pub fn new(alloc: Global) -> Self
         ensures items { result.items ≡ [] }
         ensures spare { result.spare ≡ 0 }
+        ensures taken { result.taken ≡ record { rest = 0; others = 0 ∷ [] } }
     {
         MapTable {
             spans: Roomy::new(alloc),
@@ -80,6 +81,7 @@ impl MapTable {
         ensures items { self.new.items ≡ self.old.items ++ item ∷ [] }
         ensures spare { self.new.spare + 1 ≡ self.old.spare }
         ensures own { self.new.own ≡ self.old.own }
+        ensures taken { self.new.taken ≡ self.old.taken }
     {
         self.spans.push(item);
     }
@@ -118,6 +120,7 @@ impl MapTable {
         requires own { OwnsFrom first self.old }
         ensures items { self.new.items ≡ spans_without self.old.items first n next_n }
         ensures own { KeepsOwn self.old self.new }
+        ensures taken { TakesNone (length self.new.items) self.old self.new }
     {
         close_up(&mut self.spans, first, n, next_n);
         let len = self.spans.len();
@@ -157,6 +160,7 @@ fn close_up(spans: &mut Roomy<Span>, first: u32, n: u32, k: u32)
     ensures items { IsMoved (lowered k) first n (length spans.old.items) spans.old.items spans.new.items }
     ensures spare { spans.new.spare ≡ spans.old.spare }
     ensures own { spans.new.own ≡ spans.old.own }
+    ensures taken { spans.new.taken ≡ spans.old.taken }
 {
     'spans: for i in first..spans.len() - n {
         let mut span = *spans.at(i + n);

@@ -1,6 +1,6 @@
 ghost use Rattle.std.specs.Prelude.{◌≡◌, ◌+◌, ◌/◌, ◌<◌, ◌≤◌, ◌^◌, [], ◌∷◌, ◌++◌, length, max, IfOk, OnOk, slice_get, slice_set, Some, take, drop, true};
 ghost use Rattle.std.specs.Vec.{vec_capacity};
-ghost use Rattle.mapping_table.specs.Spared.{word_of, OwnsRange, OwnsFrom, KeepsOwn, IsCommon};
+ghost use Rattle.mapping_table.specs.Spared.{word_of, OwnsRange, OwnsFrom, KeepsOwn, TakesNone, IsCommon};
 
 use set_model::Memory;
 use shared_pages::{PAGE, Page, copy_plain_pages, own_plain_pages, settle_plain_pages};
@@ -20,14 +20,19 @@ pub struct Roomy<T> {
 }
 
 impl<T> Model for Roomy<T> {
-    ghost use Rattle.std.specs.Prelude.{◌-◌, length};
+    ghost use Rattle.std.specs.Prelude.{◌-◌, [], ◌∷◌, length};
     ghost use Rattle.std.specs.Vec.{vec_capacity};
     ghost use Rattle.shared_pages.specs.Paged.{items_in, owns_of};
     ghost use Rattle.mapping_table.specs.Spared.{Spared, IsRoomy};
 
     ghost Value = { Spared T };
 
-    ghost view = { λ a. record { items = items_in a.whole.items a.rest.items; spare = a.room - length a.rest.items; own = owns_of a.whole.items } };
+    ghost view = { λ a. record {
+      items = items_in a.whole.items a.rest.items;
+      spare = a.room - length a.rest.items;
+      own = owns_of a.whole.items;
+      taken = record { rest = vec_capacity a.rest; others = vec_capacity a.whole ∷ [] };
+    } };
 
     ghost invariant = { λ a. IsRoomy a.whole.items a.rest.items a.room (vec_capacity a.rest) };
 }
@@ -36,6 +41,7 @@ impl<T> Roomy<T> {
     pub(crate) fn new(alloc: Global) -> Self
         ensures items { result.items ≡ [] }
         ensures spare { result.spare ≡ 0 }
+        ensures taken { result.taken ≡ record { rest = 0; others = 0 ∷ [] } }
     {
         Roomy {
             whole: Vec::new(alloc),
@@ -89,6 +95,7 @@ impl<T> Roomy<T> {
         ensures items { self.new.items ≡ self.old.items ++ item ∷ [] }
         ensures spare { self.new.spare + 1 ≡ self.old.spare }
         ensures own { self.new.own ≡ self.old.own }
+        ensures taken { self.new.taken ≡ self.old.taken }
     {
         self.rest.push_reserved(item);
     }
@@ -172,6 +179,7 @@ impl<T: Copy + Drop> Roomy<T> {
         ensures items { self.new.items ≡ slice_set self.old.items i item }
         ensures spare { self.new.spare ≡ self.old.spare }
         ensures own { self.new.own ≡ self.old.own }
+        ensures taken { self.new.taken ≡ self.old.taken }
     {
         let page = i as usize / PAGE;
         let count = self.whole.len();
@@ -190,6 +198,7 @@ impl<T: Copy + Drop> Roomy<T> {
         ensures items { self.new.items ≡ take len self.old.items }
         ensures room { length self.new.items + self.new.spare ≤ length self.old.items + self.old.spare }
         ensures own { KeepsOwn self.old self.new }
+        ensures taken { TakesNone len self.old self.new }
     {
         self.reopen(len);
         let before = PAGE * self.whole.len();
@@ -201,8 +210,8 @@ impl<T: Copy + Drop> Roomy<T> {
         requires own { OwnsRange len 1 self.old }
         ensures items { take len self.new.items ≡ take len self.old.items }
         ensures room { length self.new.items + self.new.spare ≤ length self.old.items + self.old.spare }
-        ensures behind { length self.new.own ≤ len / 512 }
         ensures own { KeepsOwn self.old self.new }
+        ensures taken { TakesNone len self.old self.new }
     {
         let count = len as usize / PAGE;
         if count >= self.whole.len() {

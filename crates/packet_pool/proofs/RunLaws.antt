@@ -20,21 +20,21 @@ use Rattle.set_model.specs.Control.{Mode, Strict, KeepGoing, Control, Generation
 use Rattle.set_model.specs.declared.element.NewElement.{NewElement}
 use Rattle.set_space.specs.Answers.{IsFlush}
 use Rattle.set_space.specs.Open.{Open, IsChange, FitsSet, opened, sealed}
-use Rattle.set_space.specs.Open.{with_set as work_with}
+use Rattle.set_space.specs.Open.{with_open_set as work_with}
 use Rattle.set_space.proofs.SetsLaws.{set-same}
 use Rattle.gen_publish.specs.Publish.{Steering, after_commit, kinds_of, declared_kinds}
 use Rattle.gen_publish.proofs.Growing.{as_many}
 use Rattle.gen_publish.proofs.KindLaws.{declared_at}
-use Rattle.packet_pool.specs.Running.{Run, run, HasCome, Stands, GoesOn, Ran, control_of, Breaks, HasBroken}
+use Rattle.packet_pool.specs.Running.{Run, run, HasCome, StandsAt, GoesOn, Ran, control_of, Breaks, HasBroken}
 use Rattle.packet_pool.proofs.ChangeLaws.{refusal_keeps}
 
 -- A control that goes on in the same way where the run stands.
-pub goes_as : (f g : Control → Control) (old new : Run) → ((before : List Event) (c : Control) → Stands before c old → f c ≡ g c) → GoesOn f old new → GoesOn g old new
+pub goes_as : (f g : Control → Control) (old new : Run) → ((before : List Event) (c : Control) → StandsAt before c old → f c ≡ g c) → GoesOn f old new → GoesOn g old new
 goes_as f g old new same does = record {
   of_is = does.of_is;
   schema_is = does.schema_is;
   readers_is = does.readers_is;
-  stands = λ before c h. subst (λ (k : Control). Stands before k new) (same before c h) (does.stands before c h);
+  stands = λ before c h. subst (λ (k : Control). StandsAt before k new) (same before c h) (does.stands before c h);
 }
 
 by_test : (b c : Bool) (x y : Control) → b ≡ c → (if c then x else y) ≡ (if b then x else y)
@@ -65,7 +65,7 @@ module _ (mode : Mode) (line set : ℕ) (verb : Verb) (element : NewElement) (no
       stands = λ before c h.
           let at : slice_get c.sets set ≡ Some change.state = ap (λ z. slice_get z set) h.sets ∙ change.at in
           let made : goes c ≡ with_set c set change.left = answer-at c change.state (slice_get c.sets set) at ∙ answer-made c change.left (changed_set verb change.state element now) change.changed.answer change.changed.leaves in
-          subst (λ (z : Control). Stands before z (run new failed told)) (sym made) (record {
+          subst (λ (z : Control). StandsAt before z (run new failed told)) (sym made) (record {
             committed = h.committed ∙ sym (ap (λ x. x.committed) same);
             last = h.last ∙ sym (ap (λ w. w.base) change.others);
             sets = ap (λ z. slice_set z set change.left) h.sets ∙ sym (ap (λ w. w.sets) change.others);
@@ -91,7 +91,7 @@ module _ (mode : Mode) (line set : ℕ) (verb : Verb) (element : NewElement) (no
           let sets : c.sets ≡ k.work.sets = h.sets ∙ ap (λ x. x.work.sets) (left why change) in
           let at : slice_get c.sets set ≡ Some change.state = ap (λ z. slice_get z set) sets ∙ change.at in
           let is : goes c ≡ refused mode c line set why = answer-at c change.state (slice_get c.sets set) at ∙ answer-refused c why (changed_set verb change.state element now) change.changed.answer in
-          subst (λ (z : Control). Stands before z (run new failed' events)) (sym is) ((does new).stands before c h);
+          subst (λ (z : Control). StandsAt before z (run new failed' events)) (sym is) ((does new).stands before c h);
     })
 
 flush_left : (r : Result ℕ Memory) (n : ℕ) (s t : State) → r ≡ Ok n → IsFlush r s t → t ≡ cleared s
@@ -109,7 +109,7 @@ flush_goes k new set n r ok same change told failed = record {
   stands = λ before c h.
       let at : slice_get c.sets set ≡ Some change.state = ap (λ z. slice_get z set) h.sets ∙ change.at in
       let left : change.left ≡ cleared change.state = flush_left r n change.state change.left ok change.changed in
-      subst (λ (z : Control). Stands before z (run new failed told)) (sym (flushed-at c set change.state (slice_get c.sets set) at)) (record {
+      subst (λ (z : Control). StandsAt before z (run new failed told)) (sym (flushed-at c set change.state (slice_get c.sets set) at)) (record {
         committed = h.committed ∙ sym (ap (λ x. x.committed) same);
         last = h.last ∙ sym (ap (λ w. w.base) change.others);
         sets = ap (λ z. slice_set z set (cleared change.state)) h.sets ∙ ap (slice_set k.work.sets set) (sym left) ∙ sym (ap (λ w. w.sets) change.others);
@@ -132,7 +132,7 @@ open_flush mode old new line set now quiet does =
     goes_as (λ c. flushed c set (slice_get c.sets set)) (λ c. step mode c (Flush line set now)) old new (λ before c h. by_test c.failed false c _ (h.failed ∙ quiet)) does
 
 -- nothing is done in a failed transaction
-pub stays : (f : Control → Control) (r : Run) → ((before : List Event) (c : Control) → Stands before c r → c ≡ f c) → GoesOn f r r
+pub stays : (f : Control → Control) (r : Run) → ((before : List Event) (c : Control) → StandsAt before c r → c ≡ f c) → GoesOn f r r
 stays f r same = goes_as (λ c. c) f r r same (record { of_is = refl; schema_is = refl; readers_is = refl; stands = λ before c h. h })
 
 pub failed_change : (mode : Mode) (r : Run) (line set : ℕ) (verb : Verb) (element : NewElement) (now : ℕ) → r.failed ≡ true → GoesOn (λ c. step mode c (Change line set verb element now)) r r
@@ -207,11 +207,11 @@ goes_more mode steps i s r here new h e first next = record {
   of_is = next.of_is ∙ first.of_is;
   schema_is = next.schema_is ∙ first.schema_is;
   readers_is = next.readers_is ∙ first.readers_is;
-  stands = λ before c st. subst (λ (k : Control). Stands before k new) (fold-more (step mode) c steps i s h e) (next.stands before (section mode c (take i steps)) (first.stands before c st));
+  stands = λ before c st. subst (λ (k : Control). StandsAt before k new) (fold-more (step mode) c steps i s h e) (next.stands before (section mode c (take i steps)) (first.stands before c st));
 }
 
 -- a control stands where its definition's does
-pub stands_here : (s : Steering) → Stands [] (control_of s) (run s false [])
+pub stands_here : (s : Steering) → StandsAt [] (control_of s) (run s false [])
 stands_here s = record { committed = refl; last = refl; sets = refl; failed = refl; told = refl }
 
 -- Where a step broke off, the committed list is that after some of the steps.
@@ -220,9 +220,9 @@ pub broken : (keep_going : Bool) (steps : List Step) (i : ℕ) (s : Step) (old h
     → HasBroken keep_going steps old new
 broken keep_going steps i s old here new failed events h e done breaks =
     let mode = mode_of keep_going in let c = section mode (control_of old) (take i steps) in
-    let st : Stands [] c (run here failed events) = done.stands [] (control_of old) (stands_here old) in
+    let st : StandsAt [] c (run here failed events) = done.stands [] (control_of old) (stands_here old) in
     ⊎_elim (λ (same : new.committed ≡ here.committed). record { done = i; some_steps = omega arith; committed = same ∙ sym st.committed })
-    (λ (more : (before : List Event) (k : Control) → Stands before k (run here failed events) → (step mode k s).committed ≡ new.committed). record {
+    (λ (more : (before : List Event) (k : Control) → StandsAt before k (run here failed events) → (step mode k s).committed ≡ new.committed). record {
       done = i + 1;
       some_steps = omega arith;
       committed = sym (more [] c st) ∙ ap (λ (k : Control). k.committed) (fold-more (step mode) (control_of old) steps i s h e);

@@ -22,7 +22,7 @@ pub record HasCome (expected : Option Why × State) (why : Option Why) (new : St
   pub leaves : new ≡ expected.1
 
 -- It stands where the definition's control does; behind what was told before, this was told.
-pub record Stands (before : List Event) (c : Control) (r : Run) : Type 0 where
+pub record StandsAt (before : List Event) (c : Control) (r : Run) : Type 0 where
   pub committed : c.committed ≡ r.control.committed
   pub last : c.last ≡ r.control.work.base
   pub sets : c.sets ≡ r.control.work.sets
@@ -34,7 +34,7 @@ pub record GoesOn (next : Control → Control) (old new : Run) : Type 0 where
   pub of_is : new.control.of ≡ old.control.of
   pub schema_is : new.control.schema ≡ old.control.schema
   pub readers_is : new.control.readers ≡ old.control.readers
-  pub stands : (before : List Event) (c : Control) → Stands before c old → Stands before (next c) new
+  pub stands : (before : List Event) (c : Control) → StandsAt before c old → StandsAt before (next c) new
 
 -- The steps were run, and told these events.
 pub record Ran (keep_going : Bool) (steps : List Step) (old new : Steering) (events : List Event) : Type 0 where
@@ -55,7 +55,7 @@ IsSameStart old new = (new.of ≡ old.of) × (new.schema ≡ old.schema) × (new
 
 -- Where a step found no memory, it had committed nothing, or what the definition's control commits.
 abbrev pub Breaks : (Control → Control) → Run → Steering → Type 0
-Breaks next old new = (new.committed ≡ old.control.committed) ⊎ ((before : List Event) (c : Control) → Stands before c old → (next c).committed ≡ new.committed)
+Breaks next old new = (new.committed ≡ old.control.committed) ⊎ ((before : List Event) (c : Control) → StandsAt before c old → (next c).committed ≡ new.committed)
 
 -- Where the steps found no memory, the committed list is that after some of them, from the front.
 pub record HasBroken (keep_going : Bool) (steps : List Step) (old new : Steering) : Type 0 where

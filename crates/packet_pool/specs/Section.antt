@@ -14,8 +14,8 @@ verdict_in key now None = verdicts.None
 verdict_in key now (Some s) = verdict_of (first s key now)
 
 -- the line names a place of the list that was seen, and has the verdict of the generation there
-abbrev pub IsAnswer : (Generation → Packet → Verdict) → List Generation → Packet → Line → Type 0
-IsAnswer verdict seen packet l = (g : Generation) × (slice_get seen l.generation ≡ Some g) × (l.verdict ≡ verdict g packet)
+abbrev pub AnswersPacket : (Generation → Packet → Verdict) → List Generation → Packet → Line → Type 0
+AnswersPacket verdict seen packet l = (g : Generation) × (slice_get seen l.generation ≡ Some g) × (l.verdict ≡ verdict g packet)
 
 -- The lines of a section, in the order of its packets: low is how many generations were committed before it, after are those that are committed then.
 module _ (verdict : Generation → Packet → Verdict) (packets : List Packet) (first threads low : ℕ) (after : List Generation) where
@@ -25,7 +25,7 @@ module _ (verdict : Generation → Packet → Verdict) (packets : List Packet) (
     pub thread : l.thread < threads
     pub not_too_old : low ≤ l.generation + 1
     pub not_too_new : l.generation < length after
-    pub answer : IsAnswer verdict after packet l
+    pub answer : AnswersPacket verdict after packet l
 
   -- One line for each packet; the packets of a batch of sixteen have one thread, and along one thread generations never fall.
   pub record IsSection (lines : List Line) : Type 0 where

@@ -8,14 +8,14 @@ use Rattle.set_model.specs.declared.packet.Verdict.{Verdict}
 use Rattle.set_model.specs.declared.script.SetDecl.{SetDecl}
 use Rattle.set_model.specs.Control.{Generation}
 use Rattle.set_model.specs.Runnable.{IsFitting}
-use Rattle.gen_publish.specs.Publish.{Reading, Steering}
+use Rattle.gen_publish.specs.Publish.{ReaderView, Steering}
 use Rattle.packet_pool.specs.declared.worker.Worker.{Worker}
 use Rattle.packet_pool.specs.Draws.{times, hand}
-use Rattle.packet_pool.specs.Section.{IsAnswer, by_thread}
+use Rattle.packet_pool.specs.Section.{AnswersPacket, by_thread}
 
 -- readers that are there and stand at the control's list, numbered from 0
-abbrev pub AllReady : Steering → List (Option Reading) → Type 0
-AllReady c readers = (i : ℕ) (o : Option Reading) → slice_get readers i ≡ Some o → (d : Reading) × (o ≡ Some d) × (d.of ≡ c.of) × (d.schema ≡ c.schema) × (d.seen ≡ c.committed) × (d.reader ≡ i)
+abbrev pub AllReady : Steering → List (Option ReaderView) → Type 0
+AllReady c readers = (i : ℕ) (o : Option ReaderView) → slice_get readers i ≡ Some o → (d : ReaderView) × (o ≡ Some d) × (d.of ≡ c.of) × (d.schema ≡ c.schema) × (d.seen ≡ c.committed) × (d.reader ≡ i)
 
 -- every packet is of a declared set, and its key fits
 abbrev pub AllFit : List SetDecl → List Packet → Type 0
@@ -41,7 +41,7 @@ module _ (verdict : Generation → Packet → Verdict) (packets : List Packet) (
     pub packet : Packet
     pub packet_is : slice_get packets place ≡ Some packet
     pub is_late : low ≤ l.generation + 1
-    pub answer : IsAnswer verdict seen packet l
+    pub answer : AnswersPacket verdict seen packet l
 
   -- a thread's lines, in the order in which they were made
   pub record Told (lines : List Line) : Type 0 where
@@ -81,22 +81,22 @@ pub record AllWorked (verdict : Generation → Packet → Verdict) (packets : Li
   pub each : (i : ℕ) (v w : Worker) → slice_get old i ≡ Some v → slice_get new i ≡ Some w → HasWorked verdict packets first v w
 
 -- the workers have the first readers, and are numbered like them
-pub record AreDealt (readers : List (Option Reading)) (batches : ℕ) (table : TableId) (workers : List Worker) : Type 0 where
+pub record AreDealt (readers : List (Option ReaderView)) (batches : ℕ) (table : TableId) (workers : List Worker) : Type 0 where
   pub thread_is : (i : ℕ) (w : Worker) → slice_get workers i ≡ Some w → w.thread ≡ i
   pub reader_is : (i : ℕ) (w : Worker) → slice_get workers i ≡ Some w → slice_get readers i ≡ Some (Some w.reader)
   pub fresh : (i : ℕ) (w : Worker) → slice_get workers i ≡ Some w → IsFresh batches table w
 
 -- the workers' readers are at their places again, and the others where they were
-pub record AreBack (old : List (Option Reading)) (workers : List Worker) (new : List (Option Reading)) : Type 0 where
+pub record AreBack (old : List (Option ReaderView)) (workers : List Worker) (new : List (Option ReaderView)) : Type 0 where
   pub size : length new ≡ length old
   pub back : (i : ℕ) (w : Worker) → slice_get workers i ≡ Some w → slice_get new i ≡ Some (Some w.reader)
   pub idle : (i : ℕ) → length workers ≤ i → slice_get new i ≡ slice_get old i
 
 -- the readers have met a control: each had seen a beginning of this list, and has seen all of it
-pub record HaveMet (all : List Generation) (old new : List (Option Reading)) : Type 0 where
+pub record HaveMet (all : List Generation) (old new : List (Option ReaderView)) : Type 0 where
   pub size : length new ≡ length old
-  pub begun : (i : ℕ) (d : Reading) → slice_get old i ≡ Some (Some d) → StartsWith all d.seen
-  pub met : (i : ℕ) (d : Reading) → slice_get old i ≡ Some (Some d) → slice_get new i ≡ Some (Some (record d { seen = all }))
+  pub begun : (i : ℕ) (d : ReaderView) → slice_get old i ≡ Some (Some d) → StartsWith all d.seen
+  pub met : (i : ℕ) (d : ReaderView) → slice_get old i ≡ Some (Some d) → slice_get new i ≡ Some (Some (record d { seen = all }))
 
 -- all numbers that the workers have drawn
 abbrev pub drawn_by : List Worker → List ℕ

@@ -7,6 +7,7 @@ use set_model::{Key, Packet, Verdict};
 /// What chains of rules decide on a packet. All sets that their rules test are of the generation that is held.
 #[derive(Drop)]
 pub struct ChainJudge {
+    /// The chains of a rules file.
     pub chains: Chains,
 }
 

@@ -13,6 +13,7 @@ pub struct Hand {
     pub workers: u64,
     /// How many batches there are, if it stands for a worker.
     pub batches: u64,
+    /// The numbers that it has drawn.
     pub drawn: LinkedList<u64>,
     /// How many of the drawn numbers are past the batches.
     pub past: u64,
@@ -21,10 +22,13 @@ pub struct Hand {
 /// What the counter is told once.
 #[derive(Clone, Copy)]
 pub struct Supply {
+    /// How many batches there are.
     pub batches: u64,
+    /// How many workers draw.
     pub workers: u64,
 }
 
+/// The rule of the counter: each number below the word was drawn once.
 pub struct Draws;
 
 impl TableRule<u64, Hand, Supply> for Draws {
@@ -33,8 +37,10 @@ impl TableRule<u64, Hand, Supply> for Draws {
     ghost first = { λ key. hand key.workers key.batches [] 0 };
 }
 
+/// The counter: one word, and no entries.
 pub type Counter = Table<u64, Hand, Supply, Draws, Global>;
 
+/// A seat at the counter: what its holder has drawn.
 pub type Place = Seat<u64, Hand>;
 
 struct DrawStep;

@@ -1,7 +1,7 @@
 //! How readers go to workers and come back.
 ghost use Rattle.std.specs.Prelude.{[], ◌≡◌, ◌+◌, ◌<◌, ◌≤◌, ◌^◌, ◌++◌, ℕ, length, map, IfOk, Some, slice_get};
 ghost use Rattle.history_laws.specs.Histories.{StartsWith};
-ghost use Rattle.gen_publish.specs.Publish.{Reading};
+ghost use Rattle.gen_publish.specs.Publish.{ReaderView};
 ghost use Rattle.packet_pool.specs.Draws.{hand};
 ghost use Rattle.packet_pool.specs.Work.{AreDealt, AreBack, HaveMet, IsSeated, drawn_by};
 ghost use Rattle.packet_pool.specs.declared.worker.Worker.{Worker as Ended};
@@ -24,7 +24,7 @@ pub(crate) fn hand_out(
     requires table { (place.old.table_id ≡ counter.now.shared.table_id) × (counter.now.shared.table_id.words ≡ 1) }
     requires place { place.old.me ≡ (hand count batches [] 0, []) }
     requires count { (count ≤ length readers.old.items) × (count < 2 ^ 32) }
-    requires there { (i : ℕ) → i < count → (d : Reading) × (slice_get readers.old.items i ≡ Some (Some d)) }
+    requires there { (i : ℕ) → i < count → (d : ReaderView) × (slice_get readers.old.items i ≡ Some (Some d)) }
     ensures workers { IfOk result (λ v. (length v.items ≡ count) × AreDealt readers.old.items batches counter.now.shared.table_id v.items) }
     ensures place { IfOk result (λ _. (place.new.table_id ≡ place.old.table_id) × (place.new.me ≡ (hand 0 batches [] 0, []))) }
     ensures size { IfOk result (λ _. length readers.new.items ≡ length readers.old.items) }
@@ -89,7 +89,7 @@ fn meet(control: &mut Control, reader: &mut Reader)
 
 /// Each reader meets the control.
 pub(crate) fn meet_all(control: &mut Control, readers: &mut Vec<Option<Reader>>)
-    requires { (i : ℕ) (d : Reading) → slice_get readers.old.items i ≡ Some (Some d) → d.of ≡ control.old.of }
+    requires { (i : ℕ) (d : ReaderView) → slice_get readers.old.items i ≡ Some (Some d) → d.of ≡ control.old.of }
     ensures same { control.new ≡ control.old }
     ensures met { HaveMet control.old.committed readers.old.items readers.new.items }
 {

@@ -2,7 +2,7 @@
 ghost use Rattle.std.specs.Prelude.{◌≡◌, ◌+◌, ◌*◌, ◌<◌, ◌≤◌, ◌^◌, ℕ, length, map, All, IfOk, Some, slice_get};
 ghost use denote.Param.Send.{IsSync};
 ghost use Rattle.set_model.specs.Runnable.{IsFitting, IsRunnableStep};
-ghost use Rattle.gen_publish.specs.Publish.{Reading};
+ghost use Rattle.gen_publish.specs.Publish.{ReaderView};
 ghost use Rattle.packet_pool.specs.Work.{AllReady, AllWorked, AreAnswers, Serves, IsFresh, batches_of, lines_of};
 ghost use Rattle.packet_pool.specs.Section.{IsSection, by_thread};
 ghost use Rattle.packet_pool.specs.Running.{HasNumbers, Ran};
@@ -24,7 +24,9 @@ use std::thread::{Threads, join_mut};
 /// What a section told: the events of its steps, and the lines of its packets in their order.
 #[derive(Drop)]
 pub struct SectionResult {
+    /// What its steps told.
     pub events: Events,
+    /// The line of each packet.
     pub lines: Lines,
 }
 
@@ -87,7 +89,7 @@ fn answer_all<R: Threads + Sync, J: Judge, G: Gate>(
     requires packets { All (IsFitting control.old.schema) traffic.now.packets.now }
     ensures steps { IfOk result (λ r. Ran keep_going steps.now control.old control.new r.0) }
     ensures lists { IfOk result (λ r. AreAnswers (J.verdict traffic.now.judge.now) traffic.now.packets.now traffic.now.first (length readers.old.items) (length control.old.committed) control.new.committed (map (λ v. v.items) r.1.items)) }
-    ensures moves { IfOk result (λ r. (i : ℕ) (d e : Reading) → slice_get readers.old.items i ≡ Some (Some d) → slice_get readers.new.items i ≡ Some (Some e) → e.moves ≡ d.moves + 2 * length (lines_of (map (λ v. v.items) r.1.items) i)) }
+    ensures moves { IfOk result (λ r. (i : ℕ) (d e : ReaderView) → slice_get readers.old.items i ≡ Some (Some d) → slice_get readers.new.items i ≡ Some (Some e) → e.moves ≡ d.moves + 2 * length (lines_of (map (λ v. v.items) r.1.items) i)) }
     ensures ready { IfOk result (λ _. (length readers.new.items ≡ length readers.old.items) × AllReady control.new readers.new.items) }
 {
     let batches = traffic.batches();
@@ -136,7 +138,7 @@ pub fn run_section<R: Threads + Sync, J: Judge, G: Gate>(
     requires room { first + length packets.now < 2 ^ 64 }
     ensures steps { IfOk result (λ r. Ran keep_going steps.now control.old control.new r.events) }
     ensures lines { IfOk result (λ r. IsSection (J.verdict judge.now) packets.now first (length readers.old.items) (length control.old.committed) control.new.committed r.lines) }
-    ensures moves { IfOk result (λ r. (i : ℕ) (d e : Reading) → slice_get readers.old.items i ≡ Some (Some d) → slice_get readers.new.items i ≡ Some (Some e) → e.moves ≡ d.moves + 2 * by_thread i r.lines) }
+    ensures moves { IfOk result (λ r. (i : ℕ) (d e : ReaderView) → slice_get readers.old.items i ≡ Some (Some d) → slice_get readers.new.items i ≡ Some (Some e) → e.moves ≡ d.moves + 2 * by_thread i r.lines) }
     ensures ready { IfOk result (λ r. (length readers.new.items ≡ length readers.old.items) × AllReady control.new readers.new.items) }
 {
     let traffic = Traffic {

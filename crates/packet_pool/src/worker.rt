@@ -15,9 +15,13 @@ use std::thread::Threads;
 /// A worker of a section: its thread's number, its reader, its place at the counter, and the lines that it has made.
 #[derive(Drop)]
 pub struct Worker {
+    /// Its thread's number, from 0.
     pub thread: u32,
+    /// Its reader, which holds nothing.
     pub reader: Reader,
+    /// Its place at the counter.
     pub place: Place,
+    /// The lines that it has made, in their order.
     pub lines: Vec<Line>,
 }
 

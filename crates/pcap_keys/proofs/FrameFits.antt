@@ -20,7 +20,7 @@ use Rattle.pcap_keys.specs.declared.error.CaptureError.TheVariants.{Bad, Memory}
 use Rattle.pcap_keys.specs.declared.error.CaptureReason.TheVariants as reasons
 use Rattle.pcap_keys.specs.declared.selector.Selector.TheVariants.{IpSource, IpDest, Ip6Source, Ip6Dest, EtherSource, EtherDest, Proto, SourcePort, DestPort}
 use Rattle.pcap_keys.specs.Wire.{number_at}
-use Rattle.pcap_keys.specs.Packets.{is_ipv4, is_ipv6, ipv4_header, ipv4_facts, ipv6_facts, ipv4, ipv6, has_version, type_place, addresses, by_type, facts}
+use Rattle.pcap_keys.specs.Packets.{is_ipv4, is_ipv6, ipv4_header, ipv4_facts, ipv6_facts, ipv4, ipv6, has_version, type_place, ether_addresses, by_type, facts}
 use Rattle.pcap_keys.specs.Savefile.{number, format_of, link_of, is_version, kept, is_whole, frame_bytes}
 use Rattle.pcap_keys.specs.Captured.{fault, frame_of, start_of, behind, where_left, where_whole, records, of_link, of_format, captured, IsUnlessMemory}
 use Rattle.pcap_keys.specs.Selectors.{source_of, dest_of}
@@ -88,14 +88,14 @@ by_type_have ether_type ether packet all k =
     let six = either_values (ether_type == 0x86dd) (ipv6 ether packet) None (ipv6_have ether packet all k) tt in
     either_values (ether_type == 0x0800) (ipv4 ether packet) (if ether_type == 0x86dd then ipv6 ether packet else None) (ipv4_have ether packet all k) six
 
-stations : (frame : List ℕ) → All IsByte frame → Stations (Some (addresses frame))
+stations : (frame : List ℕ) → All IsByte frame → Stations (Some (ether_addresses frame))
 stations frame all = record { source = number_fits frame all 6 6; dest = number_fits frame all 0 6 }
 
 facts_have : (link : Link) (frame : List ℕ) → All IsByte frame → IfSome (facts link frame) AreValues
 facts_have links.Ethernet frame all =
     let packet = drop (type_place frame + 2) frame in
     let ether_type = number_at frame (type_place frame) 2 in
-    let ether : Option (ℕ × ℕ) = Some (addresses frame) in
+    let ether : Option (ℕ × ℕ) = Some (ether_addresses frame) in
     either_values (nat_le (type_place frame + 2) (length frame)) (by_type ether_type ether packet) None
     (by_type_have ether_type ether packet (All-drop IsByte (type_place frame + 2) frame all) (stations frame all)) tt
 facts_have links.RawIp frame all = either_values (has_version 6 frame) (ipv6 None frame) (ipv4 None frame) (ipv6_have None frame all no_stations) (ipv4_have None frame all no_stations)

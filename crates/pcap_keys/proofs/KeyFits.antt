@@ -14,21 +14,21 @@ use Rattle.pcap_keys.specs.declared.facts.Facts.{Facts}
 use Rattle.pcap_keys.specs.declared.facts.Frame.{Frame}
 use Rattle.pcap_keys.specs.declared.selector.Selector.{Selector}
 use Rattle.pcap_keys.specs.declared.selector.PlanLine.{PlanLine}
-use Rattle.pcap_keys.specs.Selectors.{is_in, value}
-use Rattle.pcap_keys.specs.Fitting.{kind_of, IsPlanned, AreValues, HasValues}
+use Rattle.pcap_keys.specs.Selectors.{is_in, selected_value}
+use Rattle.pcap_keys.specs.Fitting.{selected_kind, IsPlanned, AreValues, HasValues}
 use Rattle.pcap_keys.specs.Planned.{line_packets, facts_packets, frame_packets, packets}
 
-selected_fit : (facts : Facts) → AreValues facts → (ss : List Selector) → list_all (is_in facts) ss ≡ true → values_fit (map kind_of ss) (map (value facts) ss) ≡ true
+selected_fit : (facts : Facts) → AreValues facts → (ss : List Selector) → list_all (is_in facts) ss ≡ true → values_fit (map selected_kind ss) (map (selected_value facts) ss) ≡ true
 selected_fit facts k [] h = refl
 selected_fit facts k (s ∷ ss) h =
     let both = and_parts (is_in facts s) (list_all (is_in facts) ss) h in
     rw (k s both.0) (selected_fit facts k ss both.1)
 
-same_lengths : (facts : Facts) (ss : List Selector) → length (map kind_of ss) ≡ length (map (value facts) ss)
+same_lengths : (facts : Facts) (ss : List Selector) → length (map selected_kind ss) ≡ length (map (selected_value facts) ss)
 same_lengths facts [] = refl
 same_lengths facts (s ∷ ss) = ap suc (same_lengths facts ss)
 
-key_fit : (facts : Facts) → AreValues facts → (ss : List Selector) → list_all (is_in facts) ss ≡ true → key_fits (map kind_of ss) (map (value facts) ss) ≡ true
+key_fit : (facts : Facts) → AreValues facts → (ss : List Selector) → list_all (is_in facts) ss ≡ true → key_fits (map selected_kind ss) (map (selected_value facts) ss) ≡ true
 key_fit facts k ss h =
     let same = eq-eqb _ _ (same_lengths facts ss) in
     let fit = selected_fit facts k ss h in
@@ -41,11 +41,11 @@ module _ (schema : List SetDecl) where
 
   line_fit : (facts : Facts) (moment : ℕ) (line : PlanLine) → AreValues facts → IsPlanned schema line → All (IsFitting schema) (line_packets facts moment line)
   line_fit facts moment line k l =
-      packet_if (list_all (is_in facts) line.selectors) (record { set = line.set; key = map (value facts) line.selectors; now = moment })
+      packet_if (list_all (is_in facts) line.selectors) (record { set = line.set; key = map (selected_value facts) line.selectors; now = moment })
       (λ h. record {
         set = l.set;
         declared = l.declared;
-        fits = subst (λ (ks : List Kind). key_fits ks (map (value facts) line.selectors) ≡ true) l.kinds (key_fit facts k line.selectors h);
+        fits = subst (λ (ks : List Kind). key_fits ks (map (selected_value facts) line.selectors) ≡ true) l.kinds (key_fit facts k line.selectors h);
       })
 
   lines_fit : (facts : Facts) (moment : ℕ) → AreValues facts → (plan : List PlanLine) → All (IsPlanned schema) plan → All (IsFitting schema) (flat_map (line_packets facts moment) plan)

@@ -14,7 +14,7 @@ use Rattle.pcap_keys.specs.declared.selector.Selector.{Selector}
 use Rattle.pcap_keys.specs.declared.selector.Selector.TheVariants.{IpSource, IpDest, Ip6Source, Ip6Dest, EtherSource, EtherDest, Proto, SourcePort, DestPort}
 use Rattle.pcap_keys.specs.declared.selector.PlanLine.{PlanLine}
 use Rattle.pcap_keys.specs.Selectors.{selector_of}
-use Rattle.pcap_keys.specs.Fitting.{kind_of, IsPlanned}
+use Rattle.pcap_keys.specs.Fitting.{selected_kind, IsPlanned}
 use Rattle.pcap_keys.specs.Plans.{most_lines}
 use Rattle.pcap_keys.specs.Plans as form
 use Rattle.pcap_keys.specs.PlansText.{IsPlanText}
@@ -26,32 +26,32 @@ one_of_one : (b : Bool) (x s : Selector) → (if b then Some x else None) ≡ So
 one_of_one true x s e = cc e
 one_of_one false x s e = absurd (is_none s e)
 
-one_of_two : (b d : Bool) (x y s : Selector) → kind_of x ≡ kind_of y → (if b then Some x else if d then Some y else None) ≡ Some s → kind_of s ≡ kind_of y
-one_of_two true d x y s k e = let same : x ≡ s = cc e in ap kind_of (sym same) ∙ k
-one_of_two false true x y s k e = let same : y ≡ s = cc e in ap kind_of (sym same)
+one_of_two : (b d : Bool) (x y s : Selector) → selected_kind x ≡ selected_kind y → (if b then Some x else if d then Some y else None) ≡ Some s → selected_kind s ≡ selected_kind y
+one_of_two true d x y s k e = let same : x ≡ s = cc e in ap selected_kind (sym same) ∙ k
+one_of_two false true x y s k e = let same : y ≡ s = cc e in ap selected_kind (sym same)
 one_of_two false false x y s k e = absurd (is_none s e)
 
-of_its_kind : (kind : Kind) (t : List ℕ) (s : Selector) → selector_of kind t ≡ Some s → kind_of s ≡ kind
+of_its_kind : (kind : Kind) (t : List ℕ) (s : Selector) → selector_of kind t ≡ Some s → selected_kind s ≡ kind
 of_its_kind kinds.Ipv4 t s e = one_of_two (bytes_eq t (codes "ip_saddr")) (bytes_eq t (codes "ip_daddr")) IpSource IpDest s refl e
 of_its_kind kinds.Ipv6 t s e = one_of_two (bytes_eq t (codes "ip6_saddr")) (bytes_eq t (codes "ip6_daddr")) Ip6Source Ip6Dest s refl e
 of_its_kind kinds.Ether t s e = one_of_two (bytes_eq t (codes "ether_saddr")) (bytes_eq t (codes "ether_daddr")) EtherSource EtherDest s refl e
-of_its_kind kinds.Proto t s e = ap kind_of (sym (one_of_one (bytes_eq t (codes "proto")) Proto s e))
+of_its_kind kinds.Proto t s e = ap selected_kind (sym (one_of_one (bytes_eq t (codes "proto")) Proto s e))
 of_its_kind kinds.Service t s e = one_of_two (bytes_eq t (codes "sport")) (bytes_eq t (codes "dport")) SourcePort DestPort s refl e
 of_its_kind kinds.Mark t s e = absurd (is_none s e)
 
-more_kinds : (ks : List Kind) (before : List Selector) (ts : List Lexeme) (ss : List Selector) → (form.more_selectors ks before).whole ts ss → (rest : List Selector) × (ss ≡ before ++ rest) × (map kind_of rest ≡ ks)
+more_kinds : (ks : List Kind) (before : List Selector) (ts : List Lexeme) (ss : List Selector) → (form.more_selectors ks before).whole ts ss → (rest : List Selector) × (ss ≡ before ++ rest) × (map selected_kind rest ≡ ks)
 more_kinds [] before ts ss w = ([], sym w.1 ∙ sym (append-nil before), refl)
 more_kinds (kind ∷ ks) before ts ss (u, x, y, e, w, (s, x2, y2, e2, (t, et, given), w2)) =
     let k = more_kinds ks (before ++ s ∷ []) y2 ss w2 in
     let first = of_its_kind kind t.bytes s (word_given (λ t. selector_of kind t.bytes) t s given) in
-    (s ∷ k.0, k.1 ∙ append_assoc before (s ∷ []) k.0, ap (λ (z : Kind). z ∷ map kind_of k.0) first ∙ ap (λ (z : List Kind). kind ∷ z) k.2)
+    (s ∷ k.0, k.1 ∙ append_assoc before (s ∷ []) k.0, ap (λ (z : Kind). z ∷ map selected_kind k.0) first ∙ ap (λ (z : List Kind). kind ∷ z) k.2)
 
-all_kinds : (ks : List Kind) (ts : List Lexeme) (ss : List Selector) → (form.all_selectors ks).whole ts ss → map kind_of ss ≡ ks
+all_kinds : (ks : List Kind) (ts : List Lexeme) (ss : List Selector) → (form.all_selectors ks).whole ts ss → map selected_kind ss ≡ ks
 all_kinds [] ts ss w = absurd w
 all_kinds (kind ∷ ks) ts ss (s, x, y, e, (t, et, given), w) =
     let k = more_kinds ks (s ∷ []) y ss w in
     let first = of_its_kind kind t.bytes s (word_given (λ t. selector_of kind t.bytes) t s given) in
-    ap (map kind_of) k.1 ∙ ap (λ (z : Kind). z ∷ map kind_of k.0) first ∙ ap (λ (z : List Kind). kind ∷ z) k.2
+    ap (map selected_kind) k.1 ∙ ap (λ (z : Kind). z ∷ map selected_kind k.0) first ∙ ap (λ (z : List Kind). kind ∷ z) k.2
 
 line_fits : (schema : List SetDecl) (plan after : List PlanLine) (i : ℕ) (x : List Lexeme) → All (IsPlanned schema) plan → (s : Option SetDecl) → slice_get schema i ≡ s → (form.line_of plan i s).whole x after → All (IsPlanned schema) after
 line_fits schema plan after i x all None e w = absurd w

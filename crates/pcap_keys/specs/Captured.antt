@@ -8,18 +8,18 @@ use Rattle.pcap_keys.specs.declared.error.CaptureError.TheVariants.{Bad, Memory}
 use Rattle.pcap_keys.specs.declared.error.CaptureReason.{CaptureReason}
 use Rattle.pcap_keys.specs.declared.error.CaptureReason.TheVariants as reasons
 use Rattle.pcap_keys.specs.Packets.{facts}
-use Rattle.pcap_keys.specs.Savefile.{number, format_of, link_of, is_version, time, kept, is_whole, frame_bytes}
+use Rattle.pcap_keys.specs.Savefile.{number, format_of, link_of, is_version, record_time, kept, is_whole, frame_bytes}
 
 abbrev pub fault : ℕ → CaptureReason → Result (List Frame) CaptureError
 fault byte reason = Err (Bad byte reason)
 
 -- The frame of the record at the start of these bytes. Its moment counts from the first record's time, and is 0 before it.
 abbrev pub frame_of : Format → Link → ℕ → List ℕ → Frame
-frame_of format link start bytes = record { moment = time format bytes - start; facts = facts link (frame_bytes format bytes) }
+frame_of format link start bytes = record { moment = record_time format bytes - start; facts = facts link (frame_bytes format bytes) }
 
 -- the time of the first record, which stands behind the file's header of 24 bytes
 abbrev pub start_of : Format → List ℕ → ℕ
-start_of format text = if nat_le 40 (length text) then time format (drop 24 text) else 0
+start_of format text = if nat_le 40 (length text) then record_time format (drop 24 text) else 0
 
 -- these frames, and then what follows
 abbrev pub behind : List Frame → Result (List Frame) CaptureError → Result (List Frame) CaptureError

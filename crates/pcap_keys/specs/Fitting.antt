@@ -9,29 +9,29 @@ use Rattle.pcap_keys.specs.declared.facts.Frame.{Frame}
 use Rattle.pcap_keys.specs.declared.selector.Selector.{Selector}
 use Rattle.pcap_keys.specs.declared.selector.Selector.TheVariants.{IpSource, IpDest, Ip6Source, Ip6Dest, EtherSource, EtherDest, Proto, SourcePort, DestPort}
 use Rattle.pcap_keys.specs.declared.selector.PlanLine.{PlanLine}
-use Rattle.pcap_keys.specs.Selectors.{is_in, value}
+use Rattle.pcap_keys.specs.Selectors.{is_in, selected_value}
 
 -- the kind of what is selected
-abbrev pub kind_of : Selector → Kind
-kind_of IpSource = kinds.Ipv4
-kind_of IpDest = kinds.Ipv4
-kind_of Ip6Source = kinds.Ipv6
-kind_of Ip6Dest = kinds.Ipv6
-kind_of EtherSource = kinds.Ether
-kind_of EtherDest = kinds.Ether
-kind_of Proto = kinds.Proto
-kind_of SourcePort = kinds.Service
-kind_of DestPort = kinds.Service
+abbrev pub selected_kind : Selector → Kind
+selected_kind IpSource = kinds.Ipv4
+selected_kind IpDest = kinds.Ipv4
+selected_kind Ip6Source = kinds.Ipv6
+selected_kind Ip6Dest = kinds.Ipv6
+selected_kind EtherSource = kinds.Ether
+selected_kind EtherDest = kinds.Ether
+selected_kind Proto = kinds.Proto
+selected_kind SourcePort = kinds.Service
+selected_kind DestPort = kinds.Service
 
 -- A line's set is declared, and its selectors are of the kinds of the set's fields, one for each.
 pub record IsPlanned (schema : List SetDecl) (line : PlanLine) : Type 0 where
   pub set : SetDecl
   pub declared : slice_get schema line.set ≡ Some set
-  pub kinds : map kind_of line.selectors ≡ set.kinds
+  pub kinds : map selected_kind line.selectors ≡ set.kinds
 
 -- What is selected of facts is a value of its kind.
 abbrev pub AreValues : Facts → Type 0
-AreValues facts = (s : Selector) → is_in facts s ≡ true → is_value (kind_of s) (value facts s) ≡ true
+AreValues facts = (s : Selector) → is_in facts s ≡ true → is_value (selected_kind s) (selected_value facts s) ≡ true
 
 -- The facts of a frame, where it has some, are values.
 abbrev pub HasValues : Frame → Type 0

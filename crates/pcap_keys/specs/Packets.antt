@@ -76,8 +76,8 @@ abbrev pub type_place : List ℕ → ℕ
 type_place frame = if is_tag frame 12 then (if is_tag frame 16 then 20 else 16) else 12
 
 -- IEEE 802.3: the destination address is the first six bytes, and the source address the next six. The source comes first here.
-abbrev pub addresses : List ℕ → ℕ × ℕ
-addresses frame = (number_at frame 6 6, number_at frame 0 6)
+abbrev pub ether_addresses : List ℕ → ℕ × ℕ
+ether_addresses frame = (number_at frame 6 6, number_at frame 0 6)
 
 -- IEEE 802 numbers: type 0x0800 is IPv4, and 0x86dd IPv6.
 abbrev pub by_type : ℕ → Option (ℕ × ℕ) → List ℕ → Option Facts
@@ -88,7 +88,7 @@ by_type ether_type ether packet =
 
 abbrev pub ethernet : List ℕ → Option Facts
 ethernet frame =
-    if nat_le (type_place frame + 2) (length frame) then by_type (number_at frame (type_place frame) 2) (Some (addresses frame)) (drop (type_place frame + 2) frame)
+    if nat_le (type_place frame + 2) (length frame) then by_type (number_at frame (type_place frame) 2) (Some (ether_addresses frame)) (drop (type_place frame + 2) frame)
     else None
 
 -- the facts of a frame, or none where it is no packet with ports, or a byte of them isn't there

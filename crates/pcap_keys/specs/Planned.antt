@@ -5,12 +5,12 @@ use Rattle.set_model.specs.declared.packet.Packet.{Packet}
 use Rattle.pcap_keys.specs.declared.facts.Facts.{Facts}
 use Rattle.pcap_keys.specs.declared.facts.Frame.{Frame}
 use Rattle.pcap_keys.specs.declared.selector.PlanLine.{PlanLine}
-use Rattle.pcap_keys.specs.Selectors.{is_in, value}
+use Rattle.pcap_keys.specs.Selectors.{is_in, selected_value}
 
 -- A line of a plan makes a packet of facts that have what each of its selectors selects.
 abbrev pub line_packets : Facts → ℕ → PlanLine → List Packet
 line_packets facts moment line =
-    if list_all (is_in facts) line.selectors then record { set = line.set; key = map (value facts) line.selectors; now = moment } ∷ [] else []
+    if list_all (is_in facts) line.selectors then record { set = line.set; key = map (selected_value facts) line.selectors; now = moment } ∷ [] else []
 
 abbrev pub facts_packets : List PlanLine → ℕ → Option Facts → List Packet
 facts_packets plan moment None = []

@@ -40,8 +40,8 @@ abbrev pub is_version : Format → List ℕ → Bool
 is_version format text = (number format.order 2 (drop 4 text) == 2) && (number format.order 2 (drop 6 text) == 4)
 
 -- The header of a record has 16 bytes: its seconds, their fraction at 4, how many bytes of the frame were kept at 8.
-abbrev pub time : Format → List ℕ → ℕ
-time format bytes = number format.order 4 bytes * 1000 + number format.order 4 (drop 4 bytes) / per_millisecond format.fraction
+abbrev pub record_time : Format → List ℕ → ℕ
+record_time format bytes = number format.order 4 bytes * 1000 + number format.order 4 (drop 4 bytes) / per_millisecond format.fraction
 
 abbrev pub kept : Format → List ℕ → ℕ
 kept format bytes = number format.order 4 (drop 8 bytes)

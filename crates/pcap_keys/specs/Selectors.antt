@@ -52,13 +52,13 @@ dest_of (Some addresses) = addresses.1
 dest_of None = 0
 
 -- what it selects of facts that have it
-abbrev pub value : Facts → Selector → ℕ
-value facts IpSource = facts.source
-value facts IpDest = facts.dest
-value facts Ip6Source = facts.source
-value facts Ip6Dest = facts.dest
-value facts EtherSource = source_of facts.ether
-value facts EtherDest = dest_of facts.ether
-value facts Proto = facts.proto
-value facts SourcePort = facts.source_port
-value facts DestPort = facts.dest_port
+abbrev pub selected_value : Facts → Selector → ℕ
+selected_value facts IpSource = facts.source
+selected_value facts IpDest = facts.dest
+selected_value facts Ip6Source = facts.source
+selected_value facts Ip6Dest = facts.dest
+selected_value facts EtherSource = source_of facts.ether
+selected_value facts EtherDest = dest_of facts.ether
+selected_value facts Proto = facts.proto
+selected_value facts SourcePort = facts.source_port
+selected_value facts DestPort = facts.dest_port

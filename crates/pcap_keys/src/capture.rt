@@ -26,7 +26,7 @@ fn facts(link: Link, frame: &[u8]) -> Option<Facts>
 /// The time of a record in milliseconds, rounded down.
 fn time(format: Format, header: &[u8]) -> u64
     requires { 8 ≤ length header.now }
-    ensures { result ≡ savefile.time format header.now }
+    ensures { result ≡ savefile.record_time format header.now }
 {
     let seconds = u64::from(format.order.read_u32(header));
     let fraction = u64::from(format.order.read_u32(&header[4..]));

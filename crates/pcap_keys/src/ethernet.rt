@@ -29,7 +29,7 @@ fn type_place(frame: &[u8]) -> usize
 /// The source and the destination address.
 fn addresses(frame: &[u8]) -> (u128, u128)
     requires { 12 ≤ length frame.now }
-    ensures { result ≡ packets.addresses frame.now }
+    ensures { result ≡ packets.ether_addresses frame.now }
 {
     (u128::from(u48_at(frame, 6)), u128::from(u48_at(frame, 0)))
 }

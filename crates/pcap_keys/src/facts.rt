@@ -1,4 +1,5 @@
-use set_model::Listed;
+use set_model::{Duplicate, Listed, Memory};
+use std::alloc::Global;
 
 /// What a packet with ports tells of itself.
 #[derive(Clone, Copy, Debug, PartialEq, Eq)]
@@ -13,7 +14,9 @@ pub struct Facts {
     pub dest: u128,
     /// The number of its protocol: 6 for TCP, 17 for UDP.
     pub proto: u32,
+    /// Its source port.
     pub source_port: u32,
+    /// Its destination port.
     pub dest_port: u32,
 }
 
@@ -24,6 +27,12 @@ pub struct Frame {
     pub moment: u64,
     /// `None` where its bytes are no packet with ports, or not enough of it was kept.
     pub facts: Option<Facts>,
+}
+
+impl Duplicate for Frame {
+    fn copy(&self, _: Global) -> Result<Self, Memory> {
+        Ok(*self)
+    }
 }
 
 /// The records of a capture, in the file's order.

@@ -24,7 +24,9 @@ pub enum Fraction {
 /// What a capture's magic says of its headers.
 #[derive(Clone, Copy, Debug, PartialEq, Eq)]
 pub struct Format {
+    /// The order of the bytes of its numbers.
     pub order: Order,
+    /// What the fractions of its times count.
     pub fraction: Fraction,
 }
 

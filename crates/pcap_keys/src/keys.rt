@@ -1,6 +1,6 @@
 ghost use Rattle.std.specs.Prelude.{◌≡◌, ◌++◌, ℕ, List, map, IfOk, OnOk, All};
 ghost use Rattle.std.specs.List.{list_all, flat_map};
-ghost use Rattle.pcap_keys.specs.Selectors.{is_in, value};
+ghost use Rattle.pcap_keys.specs.Selectors.{is_in, selected_value};
 ghost use Rattle.set_model.specs.Runnable.{IsFitting};
 ghost use Rattle.set_model.specs.declared.packet.Packet.{Packet as Looked};
 ghost use Rattle.set_model.specs.declared.script.SetDecl.{SetDecl as Declared};
@@ -21,7 +21,7 @@ fn all_are_in(facts: &Facts, selectors: &[Selector]) -> bool
 }
 
 fn key_of(alloc: Global, facts: &Facts, selectors: &[Selector]) -> Result<Key, Memory>
-    ensures { IfOk result (λ key. key ≡ map (value facts.now) selectors.now) }
+    ensures { IfOk result (λ key. key ≡ map (selected_value facts.now) selectors.now) }
 {
     let mut key = Key::new(alloc);
     'values: for selector in selectors {

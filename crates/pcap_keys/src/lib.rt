@@ -4,6 +4,11 @@
 //! [`read_capture`] reads the frames of a capture, each with its moment and, where it has them, its facts. [`read_plan`] reads
 //! which sets' keys are taken from a packet, and which of its facts each field is. [`keys_of`] gives the packets that are looked
 //! up, as a key file has them.
+//!
+//! **Definitions:** `specs/Savefile.antt` and `Captured.antt` for a capture's frames or its first
+//! fault, `Packets.antt` and `Wire.antt` for a frame's facts, `Plans.antt`, `PlansText.antt` and
+//! `Selectors.antt` for plans, `Planned.antt` and `CapturedPackets.antt` for the packets.
+//! docs/formats.md tells them. **Proofs:** docs/proofs.md, "Grammars (`token_forms`)".
 #![tactic(auto)]
 
 mod capture;

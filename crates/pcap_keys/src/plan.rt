@@ -1,4 +1,4 @@
-ghost use Rattle.std.specs.Prelude.{◌≡◌, ◌<◌, List, length, nat_lt, ℕ, IfOk, OnOk, Err, All};
+ghost use Rattle.std.specs.Prelude.{◌≡◌, ◌<◌, ◌≤◌, List, length, nat_lt, ℕ, IfOk, OnOk, Err, All};
 ghost use Rattle.token_forms.specs.Gives.{Gives, IsReadAs};
 ghost use Rattle.token_forms.specs.TextTokens.{plain_tokens};
 ghost use Rattle.token_forms.specs.Fronts.{AreFrontsClosed, IsRefusedOnce};
@@ -8,6 +8,7 @@ ghost use Rattle.token_forms.specs.Words.{breaks_off};
 ghost use Rattle.token_forms.specs.WordReading.{line_starts};
 ghost use Rattle.token_forms.specs.declared.token.Reason.{Reason};
 ghost use Rattle.token_forms.specs.declared.error.ReadError.TheVariants.{Bad};
+ghost use Rattle.set_script.specs.Limits.{most_sets};
 ghost use Rattle.set_script.specs.ScriptReading.{any_word};
 ghost use Rattle.pcap_keys.specs.declared.selector.PlanLine.{PlanLine as Lined};
 ghost use Rattle.pcap_keys.specs.PlansReading as reading;
@@ -94,16 +95,13 @@ fn line_at(
     lines: &mut Plan,
     place: usize,
 ) -> Result<(), ReadError>
+    requires { length schema.now ≤ most_sets }
     ensures { Gives (λ _. lines.new) result reader.new (reading.line_at schema.now lines.old place reader.old) }
 {
     match schema.get(place) {
         None => Err(reader.next()?.refused(&[])),
         Some(decl) => {
             let selectors = all_selectors(reader, alloc, decl.kinds.as_slice())?;
-            // No memory holds a schema in which a set has a place above 32 bits.
-            if place > u32::MAX as usize {
-                return Err(ReadError::Memory);
-            }
             lines.push(PlanLine {
                 set: place as u32,
                 selectors,
@@ -121,6 +119,7 @@ fn set_line(
     schema: &[SetDecl],
     lines: &mut Plan,
 ) -> Result<(), ReadError>
+    requires { length schema.now ≤ most_sets }
     ensures { Gives (λ _. lines.new) result reader.new (reading.set_line schema.now lines.old reader.old) }
 {
     let (family, table) = table_place(reader)?;
@@ -137,6 +136,7 @@ fn line_if(
     lines: &mut Plan,
     room: bool,
 ) -> Result<(), ReadError>
+    requires { length schema.now ≤ most_sets }
     ensures { Gives (λ _. lines.new) result reader.new (reading.line_if room schema.now lines.old reader.old) }
 {
     if room {
@@ -161,6 +161,7 @@ fn line_or_break(
     lines: &mut Plan,
     next: bool,
 ) -> Result<bool, ReadError>
+    requires { length schema.now ≤ most_sets }
     ensures { Gives (λ x. (lines.new, x)) result reader.new (reading.line_or_break schema.now (lines.old, next) reader.old) }
 {
     if next && !reader.is_at_break() {
@@ -180,6 +181,7 @@ fn next_line(
     lines: &mut Plan,
     next: bool,
 ) -> Result<bool, ReadError>
+    requires { length schema.now ≤ most_sets }
     ensures gives { Gives (λ x. (lines.new, x)) result reader.new (reading.line_or_break schema.now (lines.old, next) reader.old) }
     ensures shorter { OnOk result (length reader.new < length reader.old) }
 {
@@ -202,6 +204,7 @@ fn plan_lines(
     alloc: Global,
     schema: &[SetDecl],
 ) -> Result<(Plan, bool), ReadError>
+    requires { length schema.now ≤ most_sets }
     ensures { Gives (λ x. (x.0, x.1)) result reader.new (reading.plan_lines schema.now reader.old) }
 {
     let mut lines = Plan::new(alloc);
@@ -234,6 +237,7 @@ fn some_lines(reader: &mut Reader, lines: Plan) -> Result<Plan, ReadError>
 /// What stands before the end.
 #[tactic(auto, using(token_forms::proofs::Refusals::refusals), unfolding(crate::specs::PlansReading::body))]
 fn body(reader: &mut Reader, alloc: Global, schema: &[SetDecl]) -> Result<Plan, ReadError>
+    requires { length schema.now ≤ most_sets }
     ensures { Gives (λ x. x) result reader.new (reading.body schema.now reader.old) }
 {
     let (lines, _) = plan_lines(reader, alloc, schema)?;
@@ -242,6 +246,7 @@ fn body(reader: &mut Reader, alloc: Global, schema: &[SetDecl]) -> Result<Plan, 
 
 #[tactic(auto, using(token_forms::proofs::Refusals::refusals), unfolding(crate::specs::PlansReading::plan))]
 fn whole(reader: &mut Reader, alloc: Global, schema: &[SetDecl]) -> Result<Plan, ReadError>
+    requires { length schema.now ≤ most_sets }
     ensures { Gives (λ x. x) result reader.new (reading.plan schema.now reader.old) }
 {
     let lines = body(reader, alloc, schema)?;
@@ -256,6 +261,8 @@ fn whole(reader: &mut Reader, alloc: Global, schema: &[SetDecl]) -> Result<Plan,
 /// `Bad` exactly where the text isn't in the grammar, with the line of its first token that doesn't fit and the reason.
 /// `Memory` where there is none left.
 pub fn read_plan(alloc: Global, schema: &Schema, text: &[u8]) -> Result<Plan, PlanError>
+    // There are no more sets than a script may declare.
+    requires { length schema.now ≤ most_sets }
     // What is read is the plan that the text stands for.
     ensures found { IfOk result (IsPlanText schema.now text.now) }
     // A text that stands for a plan is read as that one, unless memory runs out; so it stands for one at most.
@@ -276,6 +283,7 @@ pub fn read_plan(alloc: Global, schema: &Schema, text: &[u8]) -> Result<Plan, Pl
 ///
 /// `Memory` where there is none left.
 pub fn bad_token(alloc: Global, schema: &Schema, text: &[u8]) -> Result<Option<BadToken>, Memory>
+    requires { length schema.now ≤ most_sets }
     ensures { IfOk result (IsPlainBadTokenOf (plan schema.now) text.now) }
 {
     let mut reader = Reader::plain(text);

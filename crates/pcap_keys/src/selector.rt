@@ -2,7 +2,8 @@ ghost use Rattle.std.specs.Prelude.{◌≡◌};
 ghost use Rattle.pcap_keys.specs.Selectors as selectors;
 
 use crate::facts::Facts;
-use set_model::{Kind, Listed};
+use set_model::{Duplicate, Kind, Listed, Memory};
+use std::alloc::Global;
 
 /// What a field of a key is taken from.
 #[derive(Clone, Copy, Debug, PartialEq, Eq)]
@@ -27,6 +28,12 @@ pub enum Selector {
     DestPort,
 }
 
+impl Duplicate for Selector {
+    fn copy(&self, _: Global) -> Result<Self, Memory> {
+        Ok(*self)
+    }
+}
+
 /// One selector per field of a set.
 pub type Selectors = Listed<Selector>;
 
@@ -35,7 +42,17 @@ pub type Selectors = Listed<Selector>;
 pub struct PlanLine {
     /// The set, by its place among the declared sets.
     pub set: u32,
+    /// What each field of a key is taken from.
     pub selectors: Selectors,
+}
+
+impl Duplicate for PlanLine {
+    fn copy(&self, alloc: Global) -> Result<Self, Memory> {
+        Ok(PlanLine {
+            set: self.set,
+            selectors: self.selectors.copy(alloc)?,
+        })
+    }
 }
 
 /// The lines of a plan.
@@ -128,7 +145,7 @@ impl Selector {
 
     /// What it selects of facts that have it.
     pub fn value(self, facts: &Facts) -> u128
-        ensures { result ≡ selectors.value facts.now self }
+        ensures { result ≡ selectors.selected_value facts.now self }
     {
         match self {
             Selector::IpSource | Selector::Ip6Source => facts.source,

@@ -1,8 +1,11 @@
+ghost use Rattle.std.specs.Prelude.{◌≤◌, length, IfOk};
+ghost use Rattle.set_script.specs.Limits.{most_sets};
+
 use crate::{
-    CaptureError, CaptureReason, Facts, PlanError, Reason, bad_token, keys_of, read_capture,
-    read_plan,
+    CaptureError, CaptureReason, Facts, PlanError, Reason, Selector, bad_token, keys_of,
+    read_capture, read_plan,
 };
-use set_model::{Memory, Packets, Schema};
+use set_model::{Duplicate, Memory, Packets, Schema};
 use set_script::read_script;
 use std::alloc::Global;
 use std::test::Fail;
@@ -89,7 +92,9 @@ fn is_fault(alloc: Global, parts: &[&[u8]], byte: u64, reason: CaptureReason) ->
     }
 }
 
-fn is_plan_fault(alloc: Global, schema: &Schema, text: &[u8], line: u64, reason: Reason) -> bool {
+fn is_plan_fault(alloc: Global, schema: &Schema, text: &[u8], line: u64, reason: Reason) -> bool
+    requires { length schema.now ≤ most_sets }
+{
     match read_plan(alloc, schema, text) {
         Ok(_) => false,
         Err(e) => e == PlanError::Bad { line, reason },
@@ -97,7 +102,9 @@ fn is_plan_fault(alloc: Global, schema: &Schema, text: &[u8], line: u64, reason:
 }
 
 /// The set `ip filter s` of an address and a port, and the set `ip filter macs`.
-fn sets(alloc: Global) -> Result<Schema, Fail> {
+fn sets(alloc: Global) -> Result<Schema, Fail>
+    ensures { IfOk result (λ schema. length schema ≤ most_sets) }
+{
     let script = read_script(
         alloc,
         b"add set filter s { type ipv4_addr . inet_service ; flags interval ; }\nadd set filter macs { type ether_addr . inet_proto . ipv6_addr ; }",
@@ -131,6 +138,23 @@ fn capture_udp(rt: HostRuntime) -> Result<(), Fail> {
         }
         _ => assert!(rt; false, "other packets"),
     }
+    Ok(())
+}
+
+#[test]
+fn copies_have_the_same_items(rt: HostRuntime) -> Result<(), Fail> {
+    let alloc = rt.alloc();
+    let schema = sets(alloc)?;
+    let plan = read_plan(alloc, &schema, b"ip filter s ip_saddr . dport")?.copy(alloc)?;
+    assert_eq!(rt; plan.len(), 1);
+    assert_eq!(rt;
+        plan.at(0).selectors.as_slice(),
+        [Selector::IpSource, Selector::DestPort].as_slice()
+    );
+    let text = joined(alloc, &[RAW, RECORD, IPV4, ADDRESSES, PORTS, UDP])?;
+    let frames = read_capture(alloc, &text)?.copy(alloc)?;
+    assert_eq!(rt; frames.len(), 1);
+    assert_eq!(rt; frames.at(0).facts, udp(None));
     Ok(())
 }
 
@@ -515,7 +539,9 @@ fn faults_of_plans(rt: HostRuntime) -> Result<(), Fail> {
 }
 
 /// The place, the length, the line and the column of the bad token of a text, and the reason.
-fn place(alloc: Global, schema: &Schema, text: &[u8]) -> Option<(u64, u64, u64, u64, Reason)> {
+fn place(alloc: Global, schema: &Schema, text: &[u8]) -> Option<(u64, u64, u64, u64, Reason)>
+    requires { length schema.now ≤ most_sets }
+{
     match bad_token(alloc, schema, text) {
         Ok(Some(t)) => Some((t.at, t.length, t.line, t.column, t.reason)),
         _ => None,

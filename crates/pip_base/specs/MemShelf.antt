@@ -7,7 +7,7 @@ use Rattle.pip_base.specs.declared.mem_shelf.OpenFile.{OpenFile}
 use Rattle.pip_base.specs.Schedule.{Plan, new_plan}
 
 -- A shelf: the names with their bytes, the names that were asked for, the opened files, and which calls fail.
-pub record Shelved : Type 0 where
+pub record ShelfState : Type 0 where
   pub files : List (List ℕ × List ℕ)
   pub asked : List (List ℕ)
   pub opened : List OpenFile
@@ -16,7 +16,7 @@ pub record Shelved : Type 0 where
 abbrev pub stored : StoredFile → List ℕ × List ℕ
 stored file = (string_bytes file.name, file.bytes.items)
 
-abbrev pub no_files : Shelved
+abbrev pub no_files : ShelfState
 no_files = record { files = []; asked = []; opened = []; plan = new_plan }
 
 -- the place of the file of a name
@@ -36,7 +36,7 @@ bytes_at files None = None
 bytes_at files (Some place) = Some (bytes_from (slice_get files place) 0)
 
 -- the bytes under a name, where there are any
-abbrev pub told_bytes : Shelved → List ℕ → Option (List ℕ)
+abbrev pub told_bytes : ShelfState → List ℕ → Option (List ℕ)
 told_bytes s name = bytes_at s.files (file_place s.files name)
 
 abbrev pub rest_of_open : List (List ℕ × List ℕ) → Option OpenFile → Option (List ℕ)
@@ -44,5 +44,5 @@ rest_of_open files None = None
 rest_of_open files (Some open_file) = Some (bytes_from (slice_get files open_file.place) open_file.from)
 
 -- what an opened file has left
-abbrev pub left_bytes : Shelved → ℕ → Option (List ℕ)
+abbrev pub left_bytes : ShelfState → ℕ → Option (List ℕ)
 left_bytes s n = rest_of_open s.files (slice_get s.opened n)

@@ -11,15 +11,15 @@ abbrev pub new_plan : Plan
 new_plan = record { calls = 0; failing = []; faults = 0 }
 
 -- one more, up to the last value
-abbrev pub one_more : ℕ → ℕ
-one_more n = min (n + 1) (2 ^ 64 - 1)
+abbrev pub next_count : ℕ → ℕ
+next_count n = min (n + 1) (2 ^ 64 - 1)
 
-abbrev pub counted : Plan → Plan
-counted p = record p { calls = one_more p.calls }
+abbrev pub one_call_more : Plan → Plan
+one_call_more p = record p { calls = next_count p.calls }
 
 -- The next call is to fail.
 abbrev pub fails_next : Plan → Bool
-fails_next p = list_any (λ at. at == one_more p.calls) p.failing
+fails_next p = list_any (λ at. at == next_count p.calls) p.failing
 
 abbrev pub faulted : Plan → Plan
-faulted p = record p { faults = one_more p.faults }
+faulted p = record p { faults = next_count p.faults }

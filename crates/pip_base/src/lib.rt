@@ -1,5 +1,13 @@
 //! The outside: files that are read by their names, a sink that bytes go to, and the faults of both; and the notes for
 //! a person. A `Shelf`, a `Sink` and `Notes` may tell their content, as those in memory do. The real ones tell none.
+//!
+//! [`read_whole`] gives all bytes of a file under one name, and [`write_whole`] puts a piece on a sink,
+//! each or with a fault whose cause is a count that rose. What of [`DirShelf`], [`OutSink`] and
+//! [`ErrNotes`] is trusted and not proved says README.md, "What is trusted".
+//!
+//! **Definitions:** `specs/Causes.antt`, `Picks.antt`, `Whole.antt` and `Notes.antt`; of files and
+//! sinks in memory `MemShelf.antt`, `MemSink.antt` and `Schedule.antt`. **Proofs:** docs/proofs.md,
+//! "Causes and counts (`pip_base`, `input_files`, `pipapo_cli`)".
 #![tactic(auto)]
 
 mod dir_shelf;

@@ -17,7 +17,9 @@ struct StoredFile {
 /// Which file was opened, by its place, and how many of its bytes were read.
 #[derive(Clone, Copy, Debug, PartialEq, Eq)]
 pub struct OpenFile {
+    /// The place of the file among those of the shelf.
     pub place: usize,
+    /// How many of its bytes were read.
     pub from: usize,
 }
 
@@ -36,9 +38,9 @@ pub struct MemShelf {
 impl Model for MemShelf {
     ghost use Rattle.std.specs.Prelude.{map, length, ◌≤◌};
     ghost use Rattle.std.specs.String.{string_bytes};
-    ghost use Rattle.pip_base.specs.MemShelf.{Shelved, stored};
+    ghost use Rattle.pip_base.specs.MemShelf.{ShelfState, stored};
 
-    ghost Value = { Shelved };
+    ghost Value = { ShelfState };
 
     ghost view = { λ s. record { files = map stored s.files.items; asked = map string_bytes s.asked.items; opened = s.opened.items; plan = s.schedule } };
 

@@ -24,7 +24,7 @@ impl Model for Schedule {
 }
 
 impl Schedule {
-    ghost use Rattle.pip_base.specs.Schedule.{new_plan, counted, fails_next, faulted};
+    ghost use Rattle.pip_base.specs.Schedule.{new_plan, one_call_more, fails_next, faulted};
 
     pub(crate) fn new(alloc: Global) -> Schedule
         ensures { result ≡ new_plan }
@@ -50,7 +50,7 @@ impl Schedule {
     /// Counts a call, and says whether it is to fail.
     pub(crate) fn next(&mut self) -> bool
         ensures fails { result ≡ fails_next self.old }
-        ensures counted { self.new ≡ counted self.old }
+        ensures counted { self.new ≡ one_call_more self.old }
     {
         self.calls = self.calls.saturating_add(1);
         let call = self.calls;

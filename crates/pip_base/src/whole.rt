@@ -44,7 +44,8 @@ pub fn write_whole<K: Sink>(sink: &mut K, piece: &[u8]) -> Result<(), WriteFault
     Ok(())
 }
 
-/// All bytes of a file of at most `FILE_LIMIT` bytes, read to its end.
+/// All bytes of a file of at most `FILE_LIMIT` bytes, read to its end. Contracts say so where the shelf tells what is left of
+/// the file, as one in memory does.
 pub fn read_whole<F: Shelf>(alloc: Global, shelf: &mut F, name: &str) -> Result<Vec<u8>, ReadError>
     requires { length (F.asked shelf.old) < 4294967295 }
     ensures bytes { IfOk result (λ all. (bytes : List ℕ) → F.told shelf.old name.now ≡ Some bytes → all.items ≡ bytes) }

@@ -22,11 +22,29 @@
 //! generation within readers + 1 looks. A `Held` that is never left keeps its generation, and blocks nobody.
 //!
 //! **What takes memory:** `start`, the five changes and `commit`, each of which leaves everything as it was where memory is
-//! wanting. `enter`, `lookup`, `leave`, `abort` and notes take none. A change copies its set once in a transaction, a
-//! commit what has expired. Of older generations the control gives back the memory, and a reader none.
+//! wanting. `enter`, `lookup`, `leave`, `abort` and notes take none. A set is copied at its first change in a transaction,
+//! and at a commit where an element of it has expired: a copy shares all whole pages, and what is changed gets pages of its
+//! own. Elements that left a set may stand in its tables for a while, unseen, and leave them together.
+//! Of older generations the control gives back the memory, and a reader none.
 //!
 //! **What is asked:** a set that is declared, and intervals and values of its kinds. `Control::fits` and `Held::fits` test it;
 //! no call tests it again. Sets and fields are numbered from 0, and moments are milliseconds.
+//!
+//! # A set by itself
+//!
+//! One thread that needs no generations has a `Set`: `insert`, `delete`, `purge` and `find`. What is looked up works in the rows of
+//! a `Scratch`, which is made once. A `Transaction` is what a `Control` has open: the sets of a `Generation`, and the changes to them.
+//!
+//! # Texts
+//!
+//! `read_script` reads a script of nft(8) and `read_keys` the packets of a key file; a text that isn't in its grammar is refused
+//! with its line and the reason. `run_steps` does a script's steps on a control, `write_events` writes what they told, and
+//! `write_list` a generation as a script again. `transcript`, `listing` and `dump` give what the commands `run`, `list` and `dump`
+//! write.
+//!
+//! **Each call's promise and cost:** docs/library.md. **Definitions:** docs/definitions.md; the
+//! contracts stand in `gen_publish`. **Theory:** the first page of `gen_publish`, and
+//! docs/architecture.md, "The way of a packet" and "The way of a change".
 //!
 //! # Example
 //!
@@ -88,12 +106,18 @@
 #![tactic(auto)]
 
 pub use gen_publish::{Control, Held, Note, Reader, Receipt, start};
-pub use pipapo_image::{Added, ChangeError};
+pub use key_file::{KeyError, read_keys};
+pub use packet_pool::{Gate, OpenGate, run_steps};
+pub use pipapo_image::{Added, ChangeError, Scratch, SetImage as Set};
+pub use script_run::{Output, dump, has_numbers, listing, transcript};
 pub use set_model::{
-    Comment, Family, Found, Interval, Key, Kind, Kinds, Memory, Name, NewElement, Parts, Schema,
-    SetDecl, Why,
+    Comment, Event, Events, Family, Found, Interval, Key, Keys, Kind, Kinds, Memory, Name,
+    NewElement, Packet, Packets, Parts, Schema, Script, Sections, SetDecl, Step, Steps, Verb, Why,
+    fits, parts_fit,
 };
-pub use set_space::Generation;
+pub use set_report::{write_events, write_list};
+pub use set_script::{ScriptError, read_script};
+pub use set_space::{Generation, KeptSet, Sets, Work as Transaction};
 
 #[cfg(test)]
 mod tests;

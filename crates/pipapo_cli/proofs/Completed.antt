@@ -28,7 +28,7 @@ use Rattle.command_words.proofs.PageWords.{page-no-command}
 use Rattle.input_files.specs.declared.fault.FileFault.{FileFault}
 use Rattle.input_files.specs.declared.fault.FileFault.TheVariants as files
 use Rattle.input_files.specs.Inputs as forms
-use Rattle.input_files.specs.Inputs.{Input, Form, inputs, form_of, names_of, IsOf, ReadsAs, IsFileCause}
+use Rattle.input_files.specs.Inputs.{Input, FileForm, inputs, form_of, names_of, IsOf, ReadsAs, IsFileCause}
 use Rattle.input_files.specs.Reads.{Shelved, StopsAt}
 use Rattle.input_files.specs.Given.{Has, AreGiven}
 use Rattle.input_files.proofs.Turns.{given-one, given-front, given-refuses}
@@ -37,7 +37,7 @@ use Rattle.pipapo_cli.specs.declared.fault.Fault.TheVariants.{Usage, File, TooMa
 use Rattle.pipapo_cli.specs.Transcript.{IsTranscript, IsJudgement, AreRulesOf, IsCaptured, IsTextOf, IsWovenOf, most_sections}
 use Rattle.pipapo_cli.specs.Calls.{Call, IsQuiet}
 use Rattle.pipapo_cli.specs.Causes.{IsCause, no_command, of_file, too_many, no_memory}
-use Rattle.pipapo_cli.specs.Lines.{done_status, form_status, file_status, file_line, status_of, line_of}
+use Rattle.pipapo_cli.specs.Lines.{done_status, form_status, file_status, file_line, status_of, fault_line}
 use Rattle.pipapo_cli.specs.Answers.{Ends, written, cut, memory, IsDue, output, page, refusal, TellsReadFault, TellsFlaw, TellsTooMany}
 use Rattle.pipapo_cli.specs.Exactly.{HasScript, HasKeys, HasRules, HasCaptured, Completes, DeliversText, DeliversRun, DeliversJudgement, DeliversDesk, RanOut}
 use Rattle.pipapo_cli.proofs.Endings.{done-small, does, Wrote, TheEnd, HasWritten, drilled, page-told}
@@ -46,7 +46,7 @@ use Rattle.pipapo_cli.proofs.Endings.{done-small, does, Wrote, TheEnd, HasWritte
 is_form : ℕ → Bool
 is_form n = (n == 3) || (n == 4) || (n == 9) || (n == 10) || (n == 11)
 
-form-is : (form : Form) → is_form (form_status form) ≡ true
+form-is : (form : FileForm) → is_form (form_status form) ≡ true
 unfolding is_form
 form-is forms.script = refl
 form-is forms.keys = refl
@@ -54,14 +54,14 @@ form-is forms.rules = refl
 form-is forms.plan = refl
 form-is forms.capture = refl
 
-form-apart : (form : Form) (n : ℕ) → n ≡ form_status form → is_form n ≡ false → ⊥
+form-apart : (form : FileForm) (n : ℕ) → n ≡ form_status form → is_form n ≡ false → ⊥
 form-apart form n e f = let t = form-is form in let u : is_form n ≡ is_form (form_status form) = ap is_form e in cc (t, u, f)
 
 -- the form of a status
-form_at : ℕ → Form
+form_at : ℕ → FileForm
 form_at n = if n == 3 then forms.script else (if n == 4 then forms.keys else (if n == 9 then forms.rules else (if n == 10 then forms.capture else forms.plan)))
 
-at-form : (form : Form) → form_at (form_status form) ≡ form
+at-form : (form : FileForm) → form_at (form_status form) ≡ form
 unfolding form_at
 at-form forms.script = refl
 at-form forms.keys = refl
@@ -69,7 +69,7 @@ at-form forms.rules = refl
 at-form forms.plan = refl
 at-form forms.capture = refl
 
-same-form : (a b : Form) → form_status a ≡ form_status b → a ≡ b
+same-form : (a b : FileForm) → form_status a ≡ form_status b → a ≡ b
 same-form a b e = sym (at-form a) ∙ ap form_at e ∙ at-form b
 
 done-no-form : (refused : Bool) → is_form (done_status refused) ≡ false
@@ -87,7 +87,7 @@ module _ (c : Call) where
   file-fault d (files.TooLarge name) s e line = absurd (omega (arith, e))
   file-fault d files.Memory s e line = absurd (omega (arith, e))
 
-  cause-fault : (fault : Fault) → IsCause c.words c.shelf fault → status_of fault ≡ 5 → Appends c.taken_before c.taken_now (line_of fault) → TellsReadFault c
+  cause-fault : (fault : Fault) → IsCause c.words c.shelf fault → status_of fault ≡ 5 → Appends c.taken_before c.taken_now (fault_line fault) → TellsReadFault c
   cause-fault Usage (no_command none nothing same) e line = absurd (omega (arith, e))
   cause-fault (File f) (of_file d g is_d s) e line = file-fault d f s e line
   cause-fault (TooManyClerks name) (too_many n h) e line = absurd (omega (arith, e))
@@ -107,7 +107,7 @@ module _ (c : Call) where
   tells-read-fault ends e = ends-fault c.status ends e
 
   -- With the status of a form the line of what is wrong with a file of that form was told.
-  module _ (form : Form) where
+  module _ (form : FileForm) where
     file-flaw : (d : Command) (fault : FileFault) → IsCommand c.words d → StopsAt c.shelf d fault → file_status fault ≡ form_status form → Appends c.taken_before c.taken_now (file_line fault) → TellsFlaw form c
     unfolding is_form
     file-flaw d (files.Bad flaw) is_d s e line = record { command = d; flaw = flaw; is_command = is_d; stops = s; of_form = same-form (form_of flaw) form e; written = line }
@@ -115,7 +115,7 @@ module _ (c : Call) where
     file-flaw d (files.TooLarge name) is_d s e line = absurd (form-apart form 8 e refl)
     file-flaw d files.Memory is_d s e line = absurd (form-apart form 7 e refl)
 
-    cause-flaw : (fault : Fault) → IsCause c.words c.shelf fault → status_of fault ≡ form_status form → Appends c.taken_before c.taken_now (line_of fault) → TellsFlaw form c
+    cause-flaw : (fault : Fault) → IsCause c.words c.shelf fault → status_of fault ≡ form_status form → Appends c.taken_before c.taken_now (fault_line fault) → TellsFlaw form c
     unfolding is_form
     cause-flaw Usage (no_command none nothing same) e line = absurd (form-apart form 2 e refl)
     cause-flaw (File f) (of_file d g is_d s) e line = file-flaw d f is_d s e line
@@ -137,7 +137,7 @@ module _ (c : Call) where
   -- With status 12 a desk's script with too many sections was told.
   file-no-twelve : (f : FileFault) → file_status f ≡ 12 → ⊥
   file-no-twelve (files.Bad flaw) e = form-no-twelve (form_of flaw) e where
-    form-no-twelve : (form : Form) → form_status form ≡ 12 → ⊥
+    form-no-twelve : (form : FileForm) → form_status form ≡ 12 → ⊥
     form-no-twelve forms.script e = omega (arith, e)
     form-no-twelve forms.keys e = omega (arith, e)
     form-no-twelve forms.rules e = omega (arith, e)
@@ -147,7 +147,7 @@ module _ (c : Call) where
   file-no-twelve (files.TooLarge name) e = omega (arith, e)
   file-no-twelve files.Memory e = omega (arith, e)
 
-  cause-many : (fault : Fault) → IsCause c.words c.shelf fault → status_of fault ≡ 12 → Appends c.taken_before c.taken_now (line_of fault) → TellsTooMany c
+  cause-many : (fault : Fault) → IsCause c.words c.shelf fault → status_of fault ≡ 12 → Appends c.taken_before c.taken_now (fault_line fault) → TellsTooMany c
   cause-many Usage (no_command none nothing same) e line = absurd (omega (arith, e))
   cause-many (File f) (of_file d g is_d s) e line = absurd (file-no-twelve f e)
   cause-many (TooManyClerks name) (too_many n h) e line = record { name = name.now; has_many = h; written = line }
@@ -166,7 +166,7 @@ module _ (c : Call) where
   pub tells-too-many : TheEnd c → c.status ≡ 12 → TellsTooMany c
   tells-too-many ends e = ends-many c.status ends e
 
-  pub tells-flaw : TheEnd c → (form : Form) → c.status ≡ form_status form → TellsFlaw form c
+  pub tells-flaw : TheEnd c → (form : FileForm) → c.status ≡ form_status form → TellsFlaw form c
   tells-flaw ends form e = ends-flaw form c.status ends e
 
 -- The shelf's count rises only with a read fault, and the sink's only with a write fault.
@@ -226,7 +226,7 @@ module _ (words : List (List ℕ)) (shelf : Shelved) (quiet : Rose shelf.faults_
   file-given files.Memory s = refl
 
   module _ (few : HasFew shelf.told c) where
-    cause-given : (fault : Fault) → IsCause words shelf fault → (status_of fault ≡ 7) × (line_of fault ≡ [])
+    cause-given : (fault : Fault) → IsCause words shelf fault → (status_of fault ≡ 7) × (fault_line fault ≡ [])
     cause-given Usage (no_command none nothing same) = absurd (none.no_work c is_c)
     cause-given (File f) (of_file d g is_d s) =
         let e = file-given f (subst (λ (x : Command). StopsAt shelf x f) (one-command words d c is_d is_c) s) in

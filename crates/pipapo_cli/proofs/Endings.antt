@@ -6,32 +6,32 @@ use Rattle.set_model.specs.Control.{mode_of}
 use Rattle.script_run.specs.Drill.{drill_text}
 use Rattle.command_words.specs.declared.page.Page.{Page}
 use Rattle.command_words.specs.WordForms.{page_text}
-use Rattle.command_words.specs.Words.{Command, run, list, dump, drill, judge, capture, desk, IsCommand, AsksFor, IsDrill}
+use Rattle.command_words.specs.Words.{Command, run, list, dump, drill, judge, capture, desk, IsCommand, AsksFor, IsDrillCommand}
 use Rattle.command_words.proofs.CommandWords.{one-command}
 use Rattle.command_words.proofs.PageWords.{page-no-command, one-page}
 use Rattle.input_files.specs.declared.fault.FileFault.{FileFault}
 use Rattle.input_files.specs.declared.fault.FileFault.TheVariants as files
 use Rattle.input_files.specs.Inputs as forms
-use Rattle.input_files.specs.Inputs.{Form, form_of}
+use Rattle.input_files.specs.Inputs.{FileForm, form_of}
 use Rattle.input_files.specs.Reads.{Shelved}
 use Rattle.pipapo_cli.specs.declared.fault.Fault.{Fault}
 use Rattle.pipapo_cli.specs.declared.fault.Fault.TheVariants.{Usage, File, TooManyClerks, Memory}
 use Rattle.pipapo_cli.specs.Transcript.{IsOutput, IsTranscript, IsJudgement, IsCaptured, IsListing, IsTables, IsWovenOf}
 use Rattle.pipapo_cli.specs.Calls.{Call}
 use Rattle.pipapo_cli.specs.Causes.{IsCause, no_command, of_file, too_many, no_memory}
-use Rattle.pipapo_cli.specs.Lines.{done_status, form_status, file_status, status_of, line_of}
-use Rattle.pipapo_cli.specs.Answers.{Ends, written, cut, memory, IsDue, output, page, refusal, IsExactly, HasOutput, IsDone, Writes, Transcribes, Judges, Captures, Lists, Dumps, Weaves, Drills, Delivers, TellsPage}
+use Rattle.pipapo_cli.specs.Lines.{done_status, form_status, file_status, status_of, fault_line}
+use Rattle.pipapo_cli.specs.Answers.{Ends, written, cut, memory, IsDue, output, page, refusal, IsExactly, HasOutput, IsComplete, Writes, Transcribes, Judges, Captures, Lists, Dumps, Weaves, Drills, Delivers, TellsPage}
 
 -- the status of an output is 0 or 1, and that of a fault greater
 pub done-small : (refused : Bool) → done_status refused ≤ 1
 done-small true = omega arith
 done-small false = omega arith
 
-pub not-done : (n : ℕ) → 2 ≤ n → IsDone n → ⊥
+pub not-done : (n : ℕ) → 2 ≤ n → IsComplete n → ⊥
 not-done n h (inl e) = omega (arith, h, e)
 not-done n h (inr e) = omega (arith, h, e)
 
-form-above : (form : Form) → 2 ≤ form_status form
+form-above : (form : FileForm) → 2 ≤ form_status form
 form-above forms.script = omega arith
 form-above forms.keys = omega arith
 form-above forms.rules = omega arith
@@ -50,7 +50,7 @@ fault-above (File f) = file-above f
 fault-above (TooManyClerks name) = omega arith
 fault-above Memory = omega arith
 
-pub fault-not-done : (fault : Fault) (line : List ℕ) (taken_before taken_now : Option (List ℕ)) (b n result : ℕ) → Ends (IsExactly (status_of fault) line) taken_before taken_now b n result → IsDone result → ⊥
+pub fault-not-done : (fault : Fault) (line : List ℕ) (taken_before taken_now : Option (List ℕ)) (b n result : ℕ) → Ends (IsExactly (status_of fault) line) taken_before taken_now b n result → IsComplete result → ⊥
 fault-not-done fault line taken_before taken_now b n result (written status text due appends quiet) e = not-done status (let d = due.0 in let f = fault-above fault in omega (arith, d, f)) e
 fault-not-done fault line taken_before taken_now b n result (cut status text due front rose) e = not-done 6 (omega arith) e
 fault-not-done fault line taken_before taken_now b n result (memory due keeps quiet) e = not-done 7 (omega arith) e
@@ -68,12 +68,12 @@ pub record Wrote (words : List (List ℕ)) (shelf : Shelved) (taken_before taken
   pub appends : Appends taken_before taken_now text
 
 module _ (words : List (List ℕ)) (shelf : Shelved) (taken_before taken_now : Option (List ℕ)) where
-  due-wrote : (status : ℕ) (text : List ℕ) → IsDue words shelf status text → IsDone status → Appends taken_before taken_now text → ((p : Page) → AsksFor words p → ⊥) → Wrote words shelf taken_before taken_now status
+  due-wrote : (status : ℕ) (text : List ℕ) → IsDue words shelf status text → IsComplete status → Appends taken_before taken_now text → ((p : Page) → AsksFor words p → ⊥) → Wrote words shelf taken_before taken_now status
   due-wrote status text (page p asks nothing quiet) e appends none = absurd (none p asks)
   due-wrote status text (output refused t has) e appends none = record { refused = refused; text = t; status = refl; has = has; appends = appends }
   due-wrote status text (refusal fault cause) e appends none = absurd (not-done (status_of fault) (fault-above fault) e)
 
-  wrote : (b n result : ℕ) → Ends (IsDue words shelf) taken_before taken_now b n result → IsDone result → ((p : Page) → AsksFor words p → ⊥) → Wrote words shelf taken_before taken_now result
+  wrote : (b n result : ℕ) → Ends (IsDue words shelf) taken_before taken_now b n result → IsComplete result → ((p : Page) → AsksFor words p → ⊥) → Wrote words shelf taken_before taken_now result
   wrote b n result (written status text due appends quiet) e none = due-wrote status text due e appends none
   wrote b n result (cut status text due front rose) e none = absurd (not-done 6 (omega arith) e)
   wrote b n result (memory due keeps quiet) e none = absurd (not-done 7 (omega arith) e)
@@ -109,54 +109,54 @@ module _ (c : Call) where
       let grown : new ≡ old ++ w.text = subst (λ (o : Option (List ℕ)). Appends (Some old) o w.text) is_new (subst (λ (o : Option (List ℕ)). Appends o c.taken_now w.text) is_old w.appends) in
       (w.refused, w.text, w.status, grown, is_text)
 
-  of-command : TheEnd → IsDone c.status → (d : Command) → IsCommand c.words d → HasWritten
+  of-command : TheEnd → IsComplete c.status → (d : Command) → IsCommand c.words d → HasWritten
   of-command ends e d is_d = wrote c.words c.shelf c.taken_before c.taken_now c.faults_before c.faults_now c.status ends e (λ p asks. page-no-command c.words p d asks is_d)
 
   -- The headline, and the same of the other commands.
-  pub transcribes : TheEnd → IsDone c.status → Transcribes c
+  pub transcribes : TheEnd → IsComplete c.status → Transcribes c
   transcribes ends e script keys script_text keys_text threads keep_going is_run at at_keys =
       let w = of-command ends e (run script keys threads keep_going) is_run in
       writes (IsTranscript script_text keys_text threads (mode_of keep_going)) w (does c.words c.shelf (run script keys threads keep_going) w.refused w.text is_run w.has script_text keys_text at at_keys)
 
-  pub judges : TheEnd → IsDone c.status → Judges c
+  pub judges : TheEnd → IsComplete c.status → Judges c
   judges ends e script rules keys script_text rules_text keys_text threads keep_going is_judge at at_rules at_keys =
       let d = judge script rules keys threads keep_going in
       let w = of-command ends e d is_judge in
       writes (IsJudgement script_text rules_text keys_text threads (mode_of keep_going)) w (does c.words c.shelf d w.refused w.text is_judge w.has script_text rules_text keys_text at at_rules at_keys)
 
-  pub captures : TheEnd → IsDone c.status → Captures c
+  pub captures : TheEnd → IsComplete c.status → Captures c
   captures ends e script plan packets script_text plan_text capture_text threads keep_going is_capture at at_plan at_capture =
       let d = capture script plan packets threads keep_going in
       let w = of-command ends e d is_capture in
       writes (IsCaptured script_text plan_text capture_text threads (mode_of keep_going)) w (does c.words c.shelf d w.refused w.text is_capture w.has script_text plan_text capture_text at at_plan at_capture)
 
-  pub lists : TheEnd → IsDone c.status → Lists c
+  pub lists : TheEnd → IsComplete c.status → Lists c
   lists ends e script script_text keep_going is_list at =
       let w = of-command ends e (list script keep_going) is_list in
       writes (IsListing script_text (mode_of keep_going)) w (does c.words c.shelf (list script keep_going) w.refused w.text is_list w.has script_text at)
 
-  pub dumps : TheEnd → IsDone c.status → Dumps c
+  pub dumps : TheEnd → IsComplete c.status → Dumps c
   dumps ends e script script_text keep_going is_dump at =
       let w = of-command ends e (dump script keep_going) is_dump in
       writes (IsTables script_text (mode_of keep_going)) w (does c.words c.shelf (dump script keep_going) w.refused w.text is_dump w.has script_text at)
 
-  pub weaves : TheEnd → IsDone c.status → Weaves c
+  pub weaves : TheEnd → IsComplete c.status → Weaves c
   weaves ends e script script_text keep_going is_desk at =
       let w = of-command ends e (desk script keep_going) is_desk in
       writes (IsWovenOf script_text keep_going) w (does c.words c.shelf (desk script keep_going) w.refused w.text is_desk w.has script_text at)
 
-  pub drilled : (seed count threads : ℕ) → IsDrill c.words seed count threads → HasWritten → Delivers (drill_text seed count) c
+  pub drilled : (seed count threads : ℕ) → IsDrillCommand c.words seed count threads → HasWritten → Delivers (drill_text seed count) c
   drilled seed count threads is_drill w =
       let d = does c.words c.shelf (drill seed count threads) w.refused w.text is_drill w.has in
       record { written = subst (λ (o : List ℕ). Appends c.taken_before c.taken_now o) d.1 w.appends; status = w.status ∙ ap done_status d.0 }
 
-  pub drills : TheEnd → IsDone c.status → Drills c
+  pub drills : TheEnd → IsComplete c.status → Drills c
   drills ends e seed count threads is_drill = drilled seed count threads is_drill (of-command ends e (drill seed count threads) is_drill)
 
   paged : TheEnd → (c.status ≡ 6 → ⊥) → TellsPage c
   paged ends not_six p asks = let d = page-ends c.words c.shelf p asks c.taken_before c.taken_now c.faults_before c.faults_now c.status ends not_six in record { written = d.1; status = d.0 }
 
-  pub tells-page : TheEnd → IsDone c.status → TellsPage c
+  pub tells-page : TheEnd → IsComplete c.status → TellsPage c
   tells-page ends e = paged ends (λ k. not-done c.status (rw k (omega arith)) e)
 
   -- Where the sink's count didn't rise, the page was written in any case.
@@ -170,7 +170,7 @@ module _ (c : Call) where
       no-six status text (output refused t has) e = let small = done-small refused in omega (arith, e, small)
       no-six status text (page p asks nothing same) e = omega (arith, e)
       no-six status text (refusal fault cause) e = status-not-six fault e where
-        form-not-six : (form : Form) → form_status form ≡ 6 → ⊥
+        form-not-six : (form : FileForm) → form_status form ≡ 6 → ⊥
         form-not-six forms.script e = omega (arith, e)
         form-not-six forms.keys e = omega (arith, e)
         form-not-six forms.rules e = omega (arith, e)
@@ -192,7 +192,7 @@ pub due-of-page : (words : List (List ℕ)) (shelf : Shelved) (p : Page) → Ask
 due-of-page words shelf p asks nothing quiet status text e = rw (e.0, e.1) (page p asks nothing quiet)
 
 -- what is due of a fault with its cause
-pub due-refusal : (words : List (List ℕ)) (shelf : Shelved) (fault : Fault) → IsCause words shelf fault → (status : ℕ) (text : List ℕ) → IsExactly (status_of fault) (line_of fault) status text → IsDue words shelf status text
+pub due-refusal : (words : List (List ℕ)) (shelf : Shelved) (fault : Fault) → IsCause words shelf fault → (status : ℕ) (text : List ℕ) → IsExactly (status_of fault) (fault_line fault) status text → IsDue words shelf status text
 due-refusal words shelf fault cause status text e = rw (e.0, e.1) (refusal fault cause)
 
 -- what is due of an output

@@ -20,7 +20,7 @@ use Rattle.pipapo_cli.specs.declared.fault.Fault.TheVariants as faults
 use Rattle.pipapo_cli.specs.Transcript.{IsOutput, IsOverfull}
 use Rattle.pipapo_cli.specs.Calls.{Call}
 use Rattle.pipapo_cli.specs.Causes.{IsCause, HasManySections, no_command, of_file, too_many, no_memory}
-use Rattle.pipapo_cli.specs.Lines.{done_status, status_of, line_of}
+use Rattle.pipapo_cli.specs.Lines.{done_status, status_of, fault_line}
 use Rattle.pipapo_cli.specs.Names.{AsksInOrder}
 use Rattle.pipapo_cli.specs.Answers.{Ends, IsDue, IsExactly, HasOutput}
 use Rattle.pipapo_cli.specs.Noted.{IsNoted}
@@ -61,35 +61,35 @@ module _ (c : Call) where
         noted = changes-noted c refused text has (ended-of (done_status refused) text c.taken_before c.taken_now c.faults_before c.faults_now c.status ends) mid silent tells;
       }
 
-  goes-fault : (fault : Fault) → IsCause c.words c.shelf fault → AsksInOrder c.words c.shelf → EndsWith (status_of fault) (line_of fault) → IsNoted c → Goes c
+  goes-fault : (fault : Fault) → IsCause c.words c.shelf fault → AsksInOrder c.words c.shelf → EndsWith (status_of fault) (fault_line fault) → IsNoted c → Goes c
   goes-fault fault cause names ends noted = record {
-    ends = ends-map (IsExactly (status_of fault) (line_of fault)) (IsDue c.words c.shelf) c.taken_before c.taken_now c.faults_before c.faults_now c.status (due-refusal c.words c.shelf fault cause) ends;
+    ends = ends-map (IsExactly (status_of fault) (fault_line fault)) (IsDue c.words c.shelf) c.taken_before c.taken_now c.faults_before c.faults_now c.status (due-refusal c.words c.shelf fault cause) ends;
     names = names;
-    all_read = λ e. absurd (fault-not-done fault (line_of fault) c.taken_before c.taken_now c.faults_before c.faults_now c.status ends e);
+    all_read = λ e. absurd (fault-not-done fault (fault_line fault) c.taken_before c.taken_now c.faults_before c.faults_now c.status ends e);
     noted = noted;
   }
 
   -- the words are no command
-  pub goes-usage : IsNoCommand c.words → c.shelf.asked ≡ [] → c.shelf.faults_now ≡ c.shelf.faults_before → Silent → EndsWith (status_of faults.Usage) (line_of faults.Usage) → Goes c
+  pub goes-usage : IsNoCommand c.words → c.shelf.asked ≡ [] → c.shelf.faults_now ≡ c.shelf.faults_before → Silent → EndsWith (status_of faults.Usage) (fault_line faults.Usage) → Goes c
   goes-usage none nothing quiet silent ends = goes-fault faults.Usage (no_command none nothing quiet) (asks-nothing c.words c.shelf nothing) ends (no_note silent)
 
   -- a file can't be had
-  pub goes-file : (d : Command) (fault : FileFault) → IsCommand c.words d → StopsTelling c.shelf d c.noted_before c.noted_now fault → EndsWith (status_of (faults.File fault)) (line_of (faults.File fault)) → Goes c
+  pub goes-file : (d : Command) (fault : FileFault) → IsCommand c.words d → StopsTelling c.shelf d c.noted_before c.noted_now fault → EndsWith (status_of (faults.File fault)) (fault_line (faults.File fault)) → Goes c
   goes-file d fault is_d s ends =
       goes-fault (faults.File fault) (of_file d fault is_d s.stops) (asks-until c.words c.shelf d fault is_d s.stops) ends
-      (file-noted c d fault is_d s (ended-of (status_of (faults.File fault)) (line_of (faults.File fault)) c.taken_before c.taken_now c.faults_before c.faults_now c.status ends))
+      (file-noted c d fault is_d s (ended-of (status_of (faults.File fault)) (fault_line (faults.File fault)) c.taken_before c.taken_now c.faults_before c.faults_now c.status ends))
 
   -- a desk's script has too many sections
-  pub goes-too-many : (name : Bor (List ℕ)) → HasManySections c.words c.shelf name.now → (mid : Option (List ℕ)) → mid ≡ c.noted_before → MayTell (Begins (name_text name.now)) mid c.noted_now → EndsWith (status_of (faults.TooManyClerks name)) (line_of (faults.TooManyClerks name)) → Goes c
+  pub goes-too-many : (name : Bor (List ℕ)) → HasManySections c.words c.shelf name.now → (mid : Option (List ℕ)) → mid ≡ c.noted_before → MayTell (Begins (name_text name.now)) mid c.noted_now → EndsWith (status_of (faults.TooManyClerks name)) (fault_line (faults.TooManyClerks name)) → Goes c
   goes-too-many name h mid silent tells ends =
       goes-fault (faults.TooManyClerks name) (too_many name h) (asks-files c.words c.shelf (desk name.now h.keep_going) h.is_desk h.has_read) ends
-      (sections-noted c name.now h (ended-of (status_of (faults.TooManyClerks name)) (line_of (faults.TooManyClerks name)) c.taken_before c.taken_now c.faults_before c.faults_now c.status ends) mid silent tells)
+      (sections-noted c name.now h (ended-of (status_of (faults.TooManyClerks name)) (fault_line (faults.TooManyClerks name)) c.taken_before c.taken_now c.faults_before c.faults_now c.status ends) mid silent tells)
 
   -- memory was wanting for the words, or for the output
-  pub goes-early : (d : Command) → IsCommand c.words d → c.shelf.asked ≡ [] → c.shelf.faults_now ≡ c.shelf.faults_before → Silent → EndsWith (status_of faults.Memory) (line_of faults.Memory) → Goes c
+  pub goes-early : (d : Command) → IsCommand c.words d → c.shelf.asked ≡ [] → c.shelf.faults_now ≡ c.shelf.faults_before → Silent → EndsWith (status_of faults.Memory) (fault_line faults.Memory) → Goes c
   goes-early d is_d nothing quiet silent ends = goes-fault faults.Memory (no_memory d is_d (inl nothing) quiet) (asks-nothing c.words c.shelf nothing) ends (no_note silent)
 
-  pub goes-late : (d : Command) → IsCommand c.words d → HasRead c.shelf d → Silent → EndsWith (status_of faults.Memory) (line_of faults.Memory) → Goes c
+  pub goes-late : (d : Command) → IsCommand c.words d → HasRead c.shelf d → Silent → EndsWith (status_of faults.Memory) (fault_line faults.Memory) → Goes c
   goes-late d is_d r silent ends = goes-fault faults.Memory (no_memory d is_d (inr r) r.quiet) (asks-files c.words c.shelf d is_d r) ends (no_note silent)
 
   pub goes-page : (p : Page) → AsksFor c.words p → c.shelf.asked ≡ [] → c.shelf.faults_now ≡ c.shelf.faults_before → Silent → EndsWith 0 (page_text p) → Goes c

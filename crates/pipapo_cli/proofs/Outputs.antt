@@ -5,9 +5,9 @@ use Rattle.input_files.specs.declared.work.Work.{Work}
 use Rattle.input_files.specs.declared.work.Work.TheVariants as works
 use Rattle.input_files.specs.Works.{IsWork}
 use Rattle.pcap_keys.specs.Planned.{packets as planned_packets}
-use Rattle.pipapo_cli.specs.Transcript.{IsOutput, Gives}
+use Rattle.pipapo_cli.specs.Transcript.{IsOutput, GivesText}
 
-pub is-output : (told : List ℕ → Option (List ℕ)) (c : Command) (w : Work) (refused : Bool) (text : List ℕ) → IsWork told c w → Gives w refused text → IsOutput c told refused text
+pub is-output : (told : List ℕ → Option (List ℕ)) (c : Command) (w : Work) (refused : Bool) (text : List ℕ) → IsWork told c w → GivesText w refused text → IsOutput c told refused text
 is-output told c (works.Run s packets n g) refused text w h = subst (λ (x : Command). IsOutput x told refused text) (sym w.2) (λ script_text keys_text at at_keys. record {
   script = s;
   keys = packets;

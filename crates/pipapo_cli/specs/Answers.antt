@@ -7,16 +7,16 @@ use Rattle.set_model.specs.Control.{mode_of}
 use Rattle.script_run.specs.Drill.{drill_text}
 use Rattle.command_words.specs.declared.page.Page.{Page}
 use Rattle.command_words.specs.WordForms.{page_text}
-use Rattle.command_words.specs.Words.{Command, IsCommand, AsksFor, IsRun, IsList, IsDump, IsDrill, IsJudge, IsCapture, IsDesk}
+use Rattle.command_words.specs.Words.{Command, IsCommand, AsksFor, IsRunCommand, IsListCommand, IsDumpCommand, IsDrillCommand, IsJudgeCommand, IsCaptureCommand, IsDeskCommand}
 use Rattle.input_files.specs.declared.fault.Flaw.{Flaw}
 use Rattle.input_files.specs.declared.fault.FileFault.TheVariants.{Bad}
-use Rattle.input_files.specs.Inputs.{Form, form_of}
+use Rattle.input_files.specs.Inputs.{FileForm, form_of}
 use Rattle.input_files.specs.Reads.{Shelved, HasRead, StopsAt}
 use Rattle.pipapo_cli.specs.declared.fault.Fault.{Fault}
 use Rattle.pipapo_cli.specs.Transcript.{IsOutput, IsTranscript, IsJudgement, IsCaptured, IsListing, IsTables, IsWovenOf}
 use Rattle.pipapo_cli.specs.Calls.{Call}
 use Rattle.pipapo_cli.specs.Causes.{IsCause, HasManySections}
-use Rattle.pipapo_cli.specs.Lines.{done_status, status_of, line_of, flaw_line, read_fault_line, too_many_line}
+use Rattle.pipapo_cli.specs.Lines.{done_status, status_of, fault_line, flaw_line, read_fault_line, too_many_line}
 
 -- The command of the words has this output: all its files were asked for and read, no fault was counted, and this is what the
 -- command does.
@@ -31,7 +31,7 @@ pub record HasOutput (words : List (List ℕ)) (shelf : Shelved) (refused : Bool
 pub data IsDue (words : List (List ℕ)) (shelf : Shelved) : ℕ → List ℕ → Type 0 where
   output : (refused : Bool) (text : List ℕ) → HasOutput words shelf refused text → IsDue words shelf (done_status refused) text
   page : (p : Page) → AsksFor words p → shelf.asked ≡ [] → shelf.faults_now ≡ shelf.faults_before → IsDue words shelf 0 (page_text p)
-  refusal : (fault : Fault) → IsCause words shelf fault → IsDue words shelf (status_of fault) (line_of fault)
+  refusal : (fault : Fault) → IsCause words shelf fault → IsDue words shelf (status_of fault) (fault_line fault)
 
 -- this status and this text, and no other
 abbrev pub IsExactly : ℕ → List ℕ → ℕ → List ℕ → Type 0
@@ -45,8 +45,8 @@ pub data Ends (due : ℕ → List ℕ → Type 0) (taken_before taken_now : Opti
   memory : due 7 [] → Keeps taken_before taken_now → now ≡ before → Ends due taken_before taken_now before now 7
 
 -- the whole output was written
-abbrev pub IsDone : ℕ → Type 0
-IsDone result = (result ≡ 0) ⊎ (result ≡ 1)
+abbrev pub IsComplete : ℕ → Type 0
+IsComplete result = (result ≡ 0) ⊎ (result ≡ 1)
 
 -- What the sink took in a call is an output of which this holds, where the sink tells what it took; the status is 1 exactly where
 -- the output tells a refusal.
@@ -60,35 +60,35 @@ Writes IsText c =
 -- threads as the words say. The status is 1 exactly where a change is refused.
 abbrev pub Transcribes : Call → Type 0
 Transcribes c =
-    (script keys script_text keys_text : List ℕ) (threads : ℕ) (keep_going : Bool) → IsRun c.words script keys threads keep_going → c.shelf.told script ≡ Some script_text → c.shelf.told keys ≡ Some keys_text
+    (script keys script_text keys_text : List ℕ) (threads : ℕ) (keep_going : Bool) → IsRunCommand c.words script keys threads keep_going → c.shelf.told script ≡ Some script_text → c.shelf.told keys ≡ Some keys_text
     → Writes (IsTranscript script_text keys_text threads (mode_of keep_going)) c
 
 -- The same of a rules file's chains, which judge each packet by the sets of one generation.
 abbrev pub Judges : Call → Type 0
 Judges c =
-    (script rules keys script_text rules_text keys_text : List ℕ) (threads : ℕ) (keep_going : Bool) → IsJudge c.words script rules keys threads keep_going
+    (script rules keys script_text rules_text keys_text : List ℕ) (threads : ℕ) (keep_going : Bool) → IsJudgeCommand c.words script rules keys threads keep_going
     → c.shelf.told script ≡ Some script_text → c.shelf.told rules ≡ Some rules_text → c.shelf.told keys ≡ Some keys_text
     → Writes (IsJudgement script_text rules_text keys_text threads (mode_of keep_going)) c
 
 -- The same of a capture's packets, which the plan takes from it.
 abbrev pub Captures : Call → Type 0
 Captures c =
-    (script plan packets script_text plan_text capture_text : List ℕ) (threads : ℕ) (keep_going : Bool) → IsCapture c.words script plan packets threads keep_going
+    (script plan packets script_text plan_text capture_text : List ℕ) (threads : ℕ) (keep_going : Bool) → IsCaptureCommand c.words script plan packets threads keep_going
     → c.shelf.told script ≡ Some script_text → c.shelf.told plan ≡ Some plan_text → c.shelf.told packets ≡ Some capture_text
     → Writes (IsCaptured script_text plan_text capture_text threads (mode_of keep_going)) c
 
 -- The same of a listing: what the sink took in this call is the listing of the script, behind what its control told.
 abbrev pub Lists : Call → Type 0
-Lists c = (script script_text : List ℕ) (keep_going : Bool) → IsList c.words script keep_going → c.shelf.told script ≡ Some script_text → Writes (IsListing script_text (mode_of keep_going)) c
+Lists c = (script script_text : List ℕ) (keep_going : Bool) → IsListCommand c.words script keep_going → c.shelf.told script ≡ Some script_text → Writes (IsListing script_text (mode_of keep_going)) c
 
 -- The same of a dump: the tables of the script's sets, behind what its control told.
 abbrev pub Dumps : Call → Type 0
-Dumps c = (script script_text : List ℕ) (keep_going : Bool) → IsDump c.words script keep_going → c.shelf.told script ≡ Some script_text → Writes (IsTables script_text (mode_of keep_going)) c
+Dumps c = (script script_text : List ℕ) (keep_going : Bool) → IsDumpCommand c.words script keep_going → c.shelf.told script ≡ Some script_text → Writes (IsTables script_text (mode_of keep_going)) c
 
 -- The same of a desk: what the sink took in this call is what the script's first section told, what each transaction of the other
 -- sections' control threads told, in the order in which they were done, and the last generation of these.
 abbrev pub Weaves : Call → Type 0
-Weaves c = (script script_text : List ℕ) (keep_going : Bool) → IsDesk c.words script keep_going → c.shelf.told script ≡ Some script_text → Writes (IsWovenOf script_text keep_going) c
+Weaves c = (script script_text : List ℕ) (keep_going : Bool) → IsDeskCommand c.words script keep_going → c.shelf.told script ≡ Some script_text → Writes (IsWovenOf script_text keep_going) c
 
 -- A text was written whole, and the status is 0.
 pub record Delivers (text : List ℕ) (c : Call) : Type 0 where
@@ -97,7 +97,7 @@ pub record Delivers (text : List ℕ) (c : Call) : Type 0 where
 
 -- The same of a drill, with any number of packet threads: what the sink took is the drill's line, and the status is 0.
 abbrev pub Drills : Call → Type 0
-Drills c = (seed count threads : ℕ) → IsDrill c.words seed count threads → Delivers (drill_text seed count) c
+Drills c = (seed count threads : ℕ) → IsDrillCommand c.words seed count threads → Delivers (drill_text seed count) c
 
 -- The same of a page: what the sink took is the page that the words ask for, and the status is 0.
 abbrev pub TellsPage : Call → Type 0
@@ -112,7 +112,7 @@ pub record TellsReadFault (c : Call) : Type 0 where
   pub line : Appends c.taken_before c.taken_now (read_fault_line name)
 
 -- What is wrong with a file of this form was told, which came to its turn.
-pub record TellsFlaw (form : Form) (c : Call) : Type 0 where
+pub record TellsFlaw (form : FileForm) (c : Call) : Type 0 where
   pub command : Command
   pub flaw : Flaw
   pub is_command : IsCommand c.words command

@@ -3,7 +3,7 @@ use Rattle.std.specs.Borrow.{Bor}
 use Rattle.std.specs.Prelude.{◌≡◌, ◌⊎◌, ◌<◌, ℕ, Bool, List, [], length}
 use Rattle.set_model.specs.declared.script.Script.{Script}
 use Rattle.set_script.specs.ScriptText.{IsScriptText}
-use Rattle.command_words.specs.Words.{Command, IsCommand, IsNoCommand, IsDesk, desk}
+use Rattle.command_words.specs.Words.{Command, IsCommand, IsNoCommand, IsDeskCommand, desk}
 use Rattle.input_files.specs.declared.fault.FileFault.{FileFault}
 use Rattle.input_files.specs.Inputs.{ReadsAs}
 use Rattle.input_files.specs.Reads.{Shelved, HasRead, StopsAt}
@@ -15,7 +15,7 @@ use Rattle.pipapo_cli.specs.Transcript.{most_sections}
 pub record HasManySections (words : List (List ℕ)) (shelf : Shelved) (name : List ℕ) : Type 0 where
   pub keep_going : Bool
   pub script : Script
-  pub is_desk : IsDesk words name keep_going
+  pub is_desk : IsDeskCommand words name keep_going
   pub has_read : HasRead shelf (desk name keep_going)
   pub reads : ReadsAs shelf.told name (λ text. IsScriptText text script)
   pub many : most_sections < length script.sections

@@ -15,7 +15,7 @@ use Rattle.set_script.specs.ScriptText.{IsScriptText}
 use Rattle.key_file.specs.KeysText.{IsKeysText}
 use Rattle.pcap_keys.specs.declared.facts.Frame.{Frame}
 use Rattle.pcap_keys.specs.declared.selector.PlanLine.{PlanLine}
-use Rattle.pcap_keys.specs.CapturedPackets.{IsCapture as IsCaptureText}
+use Rattle.pcap_keys.specs.CapturedPackets.{IsCapture}
 use Rattle.pcap_keys.specs.Planned.{packets as planned_packets}
 use Rattle.pcap_keys.specs.PlansText.{IsPlanText}
 use Rattle.script_run.specs.Listings.{listing_text, tables_text}
@@ -23,7 +23,7 @@ use Rattle.script_run.specs.Drill.{drill_text}
 use Rattle.desk_run.specs.DeskText.{IsDeskText}
 use Rattle.pip_base.specs.Whole.{size_limit}
 use Rattle.command_words.specs.declared.page.Page.{Page}
-use Rattle.command_words.specs.Words.{Command, IsCommand, AsksFor, IsNoCommand, IsRun, IsList, IsDump, IsDrill, IsJudge, IsCapture, IsDesk}
+use Rattle.command_words.specs.Words.{Command, IsCommand, AsksFor, IsNoCommand, IsRunCommand, IsListCommand, IsDumpCommand, IsDrillCommand, IsJudgeCommand, IsCaptureCommand, IsDeskCommand}
 use Rattle.input_files.specs.Inputs.{Input, inputs, IsOf}
 use Rattle.input_files.specs.Given.{Has, AreGiven}
 use Rattle.pipapo_cli.specs.Transcript.{AreRulesOf, most_sections}
@@ -48,7 +48,7 @@ pub record HasCaptured (told : List ℕ → Option (List ℕ)) (plan_name captur
   pub lines : List PlanLine
   pub frames : List Frame
   pub plan : Has told plan_name (λ text. IsPlanText s.schema text lines)
-  pub capture : Has told capture_name (λ text. IsCaptureText text frames)
+  pub capture : Has told capture_name (λ text. IsCapture text frames)
   pub made : packets ≡ planned_packets lines frames
 
 -- A call has this status, or memory was wanting.
@@ -71,17 +71,17 @@ pub record IsExact (c : Call) : Type 0 where
   pub large : (earlier : List Input) (i : Input) (text : List ℕ) → HasTurn c earlier i text → size_limit < length text → IsStatus 8 c
   pub bad : (earlier : List Input) (i : Input) (text : List ℕ) → HasTurn c earlier i text → length text ≤ size_limit
       → ((sets : List SetDecl) → AreGiven c.shelf.told sets earlier → IsOf i.form sets text → ⊥) → IsStatus (form_status i.form) c
-  pub done_run : (script keys : List ℕ) (threads : ℕ) (keep_going : Bool) (s : Script) (packets : List (List Packet)) → IsRun c.words script keys threads keep_going → HasScript c.shelf.told script s → HasKeys c.shelf.told keys s packets
+  pub done_run : (script keys : List ℕ) (threads : ℕ) (keep_going : Bool) (s : Script) (packets : List (List Packet)) → IsRunCommand c.words script keys threads keep_going → HasScript c.shelf.told script s → HasKeys c.shelf.told keys s packets
       → IsStatus (done_status (has_refusal (mode_of keep_going) s)) c
-  pub done_judge : (script rules keys : List ℕ) (threads : ℕ) (keep_going : Bool) (s : Script) (r : Rules) (packets : List (List Packet)) → IsJudge c.words script rules keys threads keep_going → HasScript c.shelf.told script s
+  pub done_judge : (script rules keys : List ℕ) (threads : ℕ) (keep_going : Bool) (s : Script) (r : Rules) (packets : List (List Packet)) → IsJudgeCommand c.words script rules keys threads keep_going → HasScript c.shelf.told script s
       → HasRules c.shelf.told rules s r → HasKeys c.shelf.told keys s packets → IsStatus (done_status (has_refusal (mode_of keep_going) s)) c
-  pub done_capture : (script plan packets : List ℕ) (threads : ℕ) (keep_going : Bool) (s : Script) (taken : List Packet) → IsCapture c.words script plan packets threads keep_going → HasScript c.shelf.told script s
+  pub done_capture : (script plan packets : List ℕ) (threads : ℕ) (keep_going : Bool) (s : Script) (taken : List Packet) → IsCaptureCommand c.words script plan packets threads keep_going → HasScript c.shelf.told script s
       → HasCaptured c.shelf.told plan packets s taken → IsStatus (done_status (has_refusal (mode_of keep_going) s)) c
-  pub done_list : (script : List ℕ) (keep_going : Bool) (s : Script) → IsList c.words script keep_going → HasScript c.shelf.told script s → IsStatus (done_status (has_refusal (mode_of keep_going) s)) c
-  pub done_dump : (script : List ℕ) (keep_going : Bool) (s : Script) → IsDump c.words script keep_going → HasScript c.shelf.told script s → IsStatus (done_status (has_refusal (mode_of keep_going) s)) c
-  pub too_many : (script : List ℕ) (keep_going : Bool) (s : Script) → IsDesk c.words script keep_going → HasScript c.shelf.told script s → most_sections < length s.sections → IsStatus 12 c
-  pub done_desk : (script : List ℕ) (keep_going : Bool) (s : Script) → IsDesk c.words script keep_going → HasScript c.shelf.told script s → length s.sections ≤ most_sections → (refused : Bool) × IsStatus (done_status refused) c
-  pub done_drill : (seed count threads : ℕ) → IsDrill c.words seed count threads → IsStatus 0 c
+  pub done_list : (script : List ℕ) (keep_going : Bool) (s : Script) → IsListCommand c.words script keep_going → HasScript c.shelf.told script s → IsStatus (done_status (has_refusal (mode_of keep_going) s)) c
+  pub done_dump : (script : List ℕ) (keep_going : Bool) (s : Script) → IsDumpCommand c.words script keep_going → HasScript c.shelf.told script s → IsStatus (done_status (has_refusal (mode_of keep_going) s)) c
+  pub too_many : (script : List ℕ) (keep_going : Bool) (s : Script) → IsDeskCommand c.words script keep_going → HasScript c.shelf.told script s → most_sections < length s.sections → IsStatus 12 c
+  pub done_desk : (script : List ℕ) (keep_going : Bool) (s : Script) → IsDeskCommand c.words script keep_going → HasScript c.shelf.told script s → length s.sections ≤ most_sections → (refused : Bool) × IsStatus (done_status refused) c
+  pub done_drill : (seed count threads : ℕ) → IsDrillCommand c.words seed count threads → IsStatus 0 c
   pub done_page : (p : Page) → AsksFor c.words p → c.status ≡ 0
 
 -- This text of a script was written whole; the status is 1 where a change is refused, and else 0.
@@ -116,14 +116,14 @@ pub record DeliversDesk (s : Script) (keep_going : Bool) (c : Call) : Type 0 whe
 -- Where the words are a command, and its files are within their size and of their forms, the output of exactly these was written; or
 -- memory was wanting, and nothing was written. A drill has no files. A page is written in any case.
 pub record Completes (c : Call) : Type 0 where
-  pub run : (script keys : List ℕ) (threads : ℕ) (keep_going : Bool) (s : Script) (packets : List (List Packet)) → IsRun c.words script keys threads keep_going → HasScript c.shelf.told script s → HasKeys c.shelf.told keys s packets
+  pub run : (script keys : List ℕ) (threads : ℕ) (keep_going : Bool) (s : Script) (packets : List (List Packet)) → IsRunCommand c.words script keys threads keep_going → HasScript c.shelf.told script s → HasKeys c.shelf.told keys s packets
       → DeliversRun threads (mode_of keep_going) s packets c ⊎ RanOut c
-  pub judge : (script rules keys : List ℕ) (threads : ℕ) (keep_going : Bool) (s : Script) (r : Rules) (packets : List (List Packet)) → IsJudge c.words script rules keys threads keep_going → HasScript c.shelf.told script s
+  pub judge : (script rules keys : List ℕ) (threads : ℕ) (keep_going : Bool) (s : Script) (r : Rules) (packets : List (List Packet)) → IsJudgeCommand c.words script rules keys threads keep_going → HasScript c.shelf.told script s
       → HasRules c.shelf.told rules s r → HasKeys c.shelf.told keys s packets → DeliversJudgement threads (mode_of keep_going) s r packets c ⊎ RanOut c
-  pub capture : (script plan packets : List ℕ) (threads : ℕ) (keep_going : Bool) (s : Script) (taken : List Packet) → IsCapture c.words script plan packets threads keep_going → HasScript c.shelf.told script s
+  pub capture : (script plan packets : List ℕ) (threads : ℕ) (keep_going : Bool) (s : Script) (taken : List Packet) → IsCaptureCommand c.words script plan packets threads keep_going → HasScript c.shelf.told script s
       → HasCaptured c.shelf.told plan packets s taken → DeliversRun threads (mode_of keep_going) s (taken ∷ []) c ⊎ RanOut c
-  pub list : (script : List ℕ) (keep_going : Bool) (s : Script) → IsList c.words script keep_going → HasScript c.shelf.told script s → DeliversText (mode_of keep_going) s (listing_text (mode_of keep_going) s) c ⊎ RanOut c
-  pub dump : (script : List ℕ) (keep_going : Bool) (s : Script) → IsDump c.words script keep_going → HasScript c.shelf.told script s → DeliversText (mode_of keep_going) s (tables_text (mode_of keep_going) s) c ⊎ RanOut c
-  pub desk : (script : List ℕ) (keep_going : Bool) (s : Script) → IsDesk c.words script keep_going → HasScript c.shelf.told script s → length s.sections ≤ most_sections → DeliversDesk s keep_going c ⊎ RanOut c
-  pub drill : (seed count threads : ℕ) → IsDrill c.words seed count threads → Delivers (drill_text seed count) c ⊎ RanOut c
+  pub list : (script : List ℕ) (keep_going : Bool) (s : Script) → IsListCommand c.words script keep_going → HasScript c.shelf.told script s → DeliversText (mode_of keep_going) s (listing_text (mode_of keep_going) s) c ⊎ RanOut c
+  pub dump : (script : List ℕ) (keep_going : Bool) (s : Script) → IsDumpCommand c.words script keep_going → HasScript c.shelf.told script s → DeliversText (mode_of keep_going) s (tables_text (mode_of keep_going) s) c ⊎ RanOut c
+  pub desk : (script : List ℕ) (keep_going : Bool) (s : Script) → IsDeskCommand c.words script keep_going → HasScript c.shelf.told script s → length s.sections ≤ most_sections → DeliversDesk s keep_going c ⊎ RanOut c
+  pub drill : (seed count threads : ℕ) → IsDrillCommand c.words seed count threads → Delivers (drill_text seed count) c ⊎ RanOut c
   pub page : TellsPage c

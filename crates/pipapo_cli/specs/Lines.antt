@@ -8,7 +8,7 @@ use Rattle.input_files.specs.declared.fault.Flaw.{Flaw}
 use Rattle.input_files.specs.declared.fault.Flaw.TheVariants as flaws
 use Rattle.input_files.specs.declared.fault.FileFault.{FileFault}
 use Rattle.input_files.specs.declared.fault.FileFault.TheVariants as files
-use Rattle.input_files.specs.Inputs.{Form, script, keys, rules, plan, capture, form_of}
+use Rattle.input_files.specs.Inputs.{FileForm, script, keys, rules, plan, capture, form_of}
 use Rattle.pipapo_cli.specs.declared.fault.Fault.{Fault}
 use Rattle.pipapo_cli.specs.declared.fault.Fault.TheVariants.{Usage, File, TooManyClerks, Memory}
 
@@ -18,7 +18,7 @@ done_status true = 1
 done_status false = 0
 
 -- the status of a file that isn't of its form
-abbrev pub form_status : Form → ℕ
+abbrev pub form_status : FileForm → ℕ
 form_status script = 3
 form_status keys = 4
 form_status rules = 9
@@ -104,8 +104,8 @@ file_line (files.TooLarge name) = too_large_line name.now
 file_line files.Memory = []
 
 -- the line of a fault
-abbrev pub line_of : Fault → List ℕ
-line_of Usage = usage_line
-line_of (File fault) = file_line fault
-line_of (TooManyClerks name) = too_many_line name.now
-line_of Memory = []
+abbrev pub fault_line : Fault → List ℕ
+fault_line Usage = usage_line
+fault_line (File fault) = file_line fault
+fault_line (TooManyClerks name) = too_many_line name.now
+fault_line Memory = []

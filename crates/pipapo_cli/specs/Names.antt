@@ -28,6 +28,6 @@ pub record AsksInOrder (words : List (List ℕ)) (shelf : Shelved) : Type 0 wher
   pub no_file : (p : Page) → AsksFor words p → shelf.asked ≡ []
   pub in_turn : (c : Command) → IsCommand words c → AsksUpTo shelf c
 
--- All files of the command were asked for, and read to their ends.
+-- All files of the command were asked for, and read, to their ends where the shelf tells what is left of them.
 abbrev pub AsksForAll : List (List ℕ) → Shelved → Type 0
 AsksForAll words shelf = (c : Command) → IsCommand words c → HasRead shelf c

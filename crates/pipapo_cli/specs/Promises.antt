@@ -1,11 +1,11 @@
 -- What a call of the program promises. The two to read first are `ends`, by which every status has its cause, and `exact`, by which
 -- each cause has its status.
 use Rattle.std.specs.Prelude.{◌≡◌, ◌≢◌, ◌⊎◌}
-use Rattle.input_files.specs.Inputs.{Form}
+use Rattle.input_files.specs.Inputs.{FileForm}
 use Rattle.pipapo_cli.specs.Calls.{Call, IsQuiet}
 use Rattle.pipapo_cli.specs.Lines.{form_status}
 use Rattle.pipapo_cli.specs.Names.{AsksInOrder, AsksForAll}
-use Rattle.pipapo_cli.specs.Answers.{Ends, IsDue, IsDone, Transcribes, Judges, Captures, Lists, Dumps, Weaves, Drills, TellsPage, TellsReadFault, TellsFlaw, TellsTooMany}
+use Rattle.pipapo_cli.specs.Answers.{Ends, IsDue, IsComplete, Transcribes, Judges, Captures, Lists, Dumps, Weaves, Drills, TellsPage, TellsReadFault, TellsFlaw, TellsTooMany}
 use Rattle.pipapo_cli.specs.Exactly.{IsExact, Completes}
 use Rattle.pipapo_cli.specs.Noted.{IsNoted}
 
@@ -13,7 +13,7 @@ use Rattle.pipapo_cli.specs.Noted.{IsNoted}
 pub record Goes (c : Call) : Type 0 where
   pub ends : Ends (IsDue c.words c.shelf) c.taken_before c.taken_now c.faults_before c.faults_now c.status
   pub names : AsksInOrder c.words c.shelf
-  pub all_read : IsDone c.status → AsksForAll c.words c.shelf
+  pub all_read : IsComplete c.status → AsksForAll c.words c.shelf
   pub noted : IsNoted c
 
 pub record Promises (c : Call) : Type 0 where
@@ -24,25 +24,26 @@ pub record Promises (c : Call) : Type 0 where
   -- Where moreover the files are of their forms, the output of exactly these files was written, or memory was wanting.
   pub complete : IsQuiet c → Completes c
   -- With status 0 or 1 the sink took the text of a legal transcript, with 1 exactly where a change is refused.
-  pub run : IsDone c.status → Transcribes c
+  pub run : IsComplete c.status → Transcribes c
   -- So it is where chains judge the packets, and of the packets of a capture.
-  pub judge : IsDone c.status → Judges c
-  pub capture : IsDone c.status → Captures c
+  pub judge : IsComplete c.status → Judges c
+  pub capture : IsComplete c.status → Captures c
   -- In the same way it took the listing of the last generation, and its tables.
-  pub list : IsDone c.status → Lists c
-  pub dump : IsDone c.status → Dumps c
+  pub list : IsComplete c.status → Lists c
+  pub dump : IsComplete c.status → Dumps c
   -- Of a desk it took the text of a log that is woven of the script's sections and replays to the listed generation, with 1 exactly
   -- where that text tells a refusal.
-  pub desk : IsDone c.status → Weaves c
+  pub desk : IsComplete c.status → Weaves c
   -- Of a drill it took the one line, and of words that ask for a page the page, and the status is 0.
-  pub drill : IsDone c.status → Drills c
-  pub page : IsDone c.status → TellsPage c
+  pub drill : IsComplete c.status → Drills c
+  pub page : IsComplete c.status → TellsPage c
   -- The shelf is asked for no name but those of the command's files, in their order; for each only where those before it were read
-  -- whole and accepted. With status 0 or 1 all were read to their ends.
+  -- whole and accepted. With status 0 or 1 all were read, to their ends where the shelf tells what is left of them (the real one
+  -- tells nothing).
   pub names : AsksInOrder c.words c.shelf
-  pub all_read : IsDone c.status → AsksForAll c.words c.shelf
+  pub all_read : IsComplete c.status → AsksForAll c.words c.shelf
   -- With the status of a form the sink took the line of what is wrong with the file of this form.
-  pub bad : (form : Form) → c.status ≡ form_status form → TellsFlaw form c
+  pub bad : (form : FileForm) → c.status ≡ form_status form → TellsFlaw form c
   -- With status 12 it took the line of a desk's script that was read and has too many sections.
   pub too_many : c.status ≡ 12 → TellsTooMany c
   -- With status 5 the shelf's count rose, at the file that the line names: the last one asked for.

@@ -136,12 +136,12 @@ pub record IsOverfull (c : Command) (work : Work) (name : Bor (List ℕ)) : Type
   pub many : most_sections < length script.sections
 
 -- What a command's work gives: its text, and whether that tells a refusal.
-abbrev pub Gives : Work → Bool → List ℕ → Type 0
-Gives (works.Run s packets threads keep_going) refused text = HasTranscript s packets threads (mode_of keep_going) text × (refused ≡ has_refusal (mode_of keep_going) s)
-Gives (works.List s keep_going) refused text = (text ≡ listing_text (mode_of keep_going) s) × (refused ≡ has_refusal (mode_of keep_going) s)
-Gives (works.Dump s keep_going) refused text = (text ≡ tables_text (mode_of keep_going) s) × (refused ≡ has_refusal (mode_of keep_going) s)
-Gives (works.Drill seed count threads) refused text = (text ≡ drill_text seed count) × (refused ≡ false)
-Gives (works.Capture s plan frames threads keep_going) refused text =
+abbrev pub GivesText : Work → Bool → List ℕ → Type 0
+GivesText (works.Run s packets threads keep_going) refused text = HasTranscript s packets threads (mode_of keep_going) text × (refused ≡ has_refusal (mode_of keep_going) s)
+GivesText (works.List s keep_going) refused text = (text ≡ listing_text (mode_of keep_going) s) × (refused ≡ has_refusal (mode_of keep_going) s)
+GivesText (works.Dump s keep_going) refused text = (text ≡ tables_text (mode_of keep_going) s) × (refused ≡ has_refusal (mode_of keep_going) s)
+GivesText (works.Drill seed count threads) refused text = (text ≡ drill_text seed count) × (refused ≡ false)
+GivesText (works.Capture s plan frames threads keep_going) refused text =
     HasTranscript s (planned_packets plan frames ∷ []) threads (mode_of keep_going) text × (refused ≡ has_refusal (mode_of keep_going) s)
-Gives (works.Judge s chains packets threads keep_going) refused text = HasJudgement s chains packets threads (mode_of keep_going) text × (refused ≡ has_refusal (mode_of keep_going) s)
-Gives (works.Desk s keep_going) refused text = IsDeskText s keep_going refused text × (length s.sections ≤ most_sections)
+GivesText (works.Judge s chains packets threads keep_going) refused text = HasJudgement s chains packets threads (mode_of keep_going) text × (refused ≡ has_refusal (mode_of keep_going) s)
+GivesText (works.Desk s keep_going) refused text = IsDeskText s keep_going refused text × (length s.sections ≤ most_sections)

@@ -5,7 +5,7 @@ ghost use Rattle.pip_base.specs.Whole.{AppendsFront};
 ghost use Rattle.command_words.specs.WordForms.{page_text};
 ghost use Rattle.pipapo_cli.specs.Answers.{Ends, IsExactly};
 ghost use Rattle.input_files.specs.Inputs.{form_of};
-ghost use Rattle.pipapo_cli.specs.Lines.{named_line, placed_line, reason_end as end_of_line, capture_end as end_of_capture, form_status, flaw_line, file_status, file_line, status_of, line_of};
+ghost use Rattle.pipapo_cli.specs.Lines.{named_line, placed_line, reason_end as end_of_line, capture_end as end_of_capture, form_status, flaw_line, file_status, file_line, status_of, fault_line};
 
 use crate::fault::Fault;
 use command_words::Page;
@@ -176,7 +176,7 @@ fn tell_file<K: Sink>(sink: &mut K, fault: FileFault<'_>) -> u8
 /// Tells a fault: its line and its status, or 6 where the sink fails. Want of memory is told by its
 /// status alone.
 pub fn tell<K: Sink>(sink: &mut K, fault: Fault<'_>) -> u8
-    ensures { Ends (IsExactly (status_of fault.entry) (line_of fault.entry)) (K.taken sink.old) (K.taken sink.new) (K.faults sink.old) (K.faults sink.new) result }
+    ensures { Ends (IsExactly (status_of fault.entry) (fault_line fault.entry)) (K.taken sink.old) (K.taken sink.new) (K.faults sink.old) (K.faults sink.new) result }
 {
     match fault {
         Fault::Usage => deliver(sink, 2, USAGE),

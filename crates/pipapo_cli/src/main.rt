@@ -1,4 +1,14 @@
 //! The command `pipapo`: packet filter sets under a script, and packets looked up in them.
+//!
+//! `call` is the program: it tells the words apart, reads a command's files, runs it, writes what it
+//! has to write in one piece, and gives the status. `main` hands it the system's words and files, and
+//! is under no clause (README.md, "What is trusted").
+//!
+//! **Definitions:** `specs/Promises.antt` says sentence by sentence what a call promises, `Calls.antt`
+//! what a call shows, `Transcript.antt`, `Lines.antt` and `Answers.antt` what is written with which
+//! status, `Exactly.antt` which status comes where, `Names.antt` and `Noted.antt` what is opened and
+//! told. docs/definitions.md lists what they lead to. **Theory:** docs/architecture.md, "The way of a
+//! run". **Proofs:** docs/proofs.md, "Causes and counts (`pip_base`, `input_files`, `pipapo_cli`)".
 #![tactic(auto)]
 
 #[cfg(test)]

@@ -5,7 +5,7 @@ ghost use Rattle.set_model.specs.Runnable.{IsFitting};
 ghost use Rattle.pcap_keys.specs.Fitting.{HasValues, IsPlanned};
 ghost use Rattle.pcap_keys.specs.Planned as planned;
 ghost use Rattle.input_files.specs.Works.{IsDoable};
-ghost use Rattle.pipapo_cli.specs.Transcript.{Gives, HasFewClerks};
+ghost use Rattle.pipapo_cli.specs.Transcript.{GivesText, HasFewClerks};
 
 use control_desk::QuietBell;
 use desk_run::desk;
@@ -42,7 +42,7 @@ pub fn output_of<R: Threads + Wait + Sync, G: Gate>(
 ) -> Result<Output, Memory>
     requires doable { IsDoable work }
     requires clerks { HasFewClerks work }
-    ensures { IfOk result (λ out. Gives work out.refused out.text.items) }
+    ensures { IfOk result (λ out. GivesText work out.refused out.text.items) }
 {
     match work {
         Work::Run {

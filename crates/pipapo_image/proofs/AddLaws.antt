@@ -1,6 +1,7 @@
 -- An addition, by what the lookups of the start key and the end key found, or of the intervals.
 use Rattle.std.proofs.Common.{◌≡◌, refl, sym, ◌∙◌, ap, subst, ℕ, ◌^◌, Bool, true, false, ◌==◌, nat_le, nat_lt, List, [], ◌∷◌, length, Option, Some, None, Result, Ok, Err, arith}
 use Rattle.std.specs.Prelude.{option_map, if◌then◌else◌, IsErrAnd, find}
+use Rattle.std.specs.List.{list_all}
 use Rattle.std.specs.Option.{option_or}
 use Rattle.std.proofs.lemmas.Bool.{and_parts, and_from}
 use Rattle.std.proofs.lemmas.Bool.Decides.{nat_tests}
@@ -21,9 +22,10 @@ use Rattle.pipapo_image.specs.declared.answers.ChangeError.{ChangeError}
 use Rattle.pipapo_image.specs.declared.answers.ChangeError.TheVariants as errors
 use Rattle.pipapo_image.specs.declared.image.decision.Decision.{Decision}
 use Rattle.pipapo_image.specs.declared.image.decision.Decision.TheVariants.{Adds}
-use Rattle.pipapo_image.specs.Image.Insert.{IsAnswer, said}
-use Rattle.pipapo_image.specs.Image.Decision.{IsDecision, comes, left}
-use Rattle.pipapo_image.specs.Image.Deciding.{IsTest, by_start, by_way, by_twin, by_rules, at_start, add_new, add_again}
+use Rattle.pipapo_image.specs.Image.Insert.{IsAnswer, addition_said}
+use Rattle.pipapo_image.specs.Image.Decision.{IsDecision, comes, set_left}
+use Rattle.pipapo_image.specs.Image.Deciding.{IsTest, by_start, by_way, by_size, by_twin, by_rules, at_start, add_new, add_again}
+use Rattle.pipapo_image.proofs.ImageUse.{from-equal}
 
 -- the first that shares a key, by its place
 pub sharing-at : (s : State) (parts : List Interval) (now : ℕ) (o : Option ℕ) → sharing_place s parts now ≡ o → find (is_sharing parts now) s.elements ≡ option_map (element_at s) o
@@ -119,7 +121,7 @@ pub ruleset decides = (adds, adds_none)
 -- ---- what follows of a decision
 -- What is done is the answer.
 pub done : (s t : State) (e : NewElement) (now : ℕ) (decision : Decision) (came : Came) → IsDecision s e (add s e now) (Ok decision)
-    → said came ≡ comes decision s.next → t ≡ left s e decision → IsAnswer (add s e now) (Ok came) s t
+    → addition_said came ≡ comes decision s.next → t ≡ set_left s e decision → IsAnswer (add s e now) (Ok came) s t
 done s t e now decision came h a b = (a ∙ ap (λ z. z.0) (sym h.1), b ∙ ap (λ z. z.1) (sym h.1))
 
 -- What is refused leaves the set.
@@ -131,6 +133,19 @@ pub refused : (s : State) (e : NewElement) (now : ℕ) (r : Result Came ChangeEr
     → IsDecision s e (add s e now) (Err error) → IsAnswer (add s e now) r s s
 refused s e now (Ok came) error is h = absurd is
 refused s e now (Err f) error is h = subst (λ z. IsAnswer (add s e now) (Err z) s s) (sym is) (refused_as s e now error h)
+
+-- ---- intervals of one value each
+-- They end with the key with which they start.
+single-key : (parts : List Interval) → list_all (λ part. part.low == part.high) parts ≡ true → end_key parts ≡ start_key parts
+single-key [] h = refl
+single-key (p ∷ parts) h =
+    let a = and_parts (p.low == p.high) (list_all (λ part. part.low == part.high) parts) h in
+    ap (λ v. v ∷ end_key parts) (from-equal p.low p.high a.0) ∙ ap (λ vs. p.low ∷ vs) (single-key parts a.1)
+
+-- Where no element holds it, none is in the way.
+pub single-way : (s : State) (parts : List Interval) (now : ℕ) → list_all (λ part. part.low == part.high) parts ≡ true → place s (start_key parts) now ≡ None
+    → by_way s parts (place s (end_key parts) now) ≡ by_size s parts (is_full s)
+single-way s parts now one none = ap (λ key. by_way s parts (place s key now)) (single-key parts one) ∙ ap (by_way s parts) none
 
 -- ---- the keys of intervals that fit
 lt-from : (m n k : ℕ) → nat_le m n ≡ true → nat_lt n k ≡ true → nat_lt m k ≡ true

@@ -15,7 +15,7 @@ use Rattle.set_model.specs.Blocks.{blocks, IsWithin}
 use Rattle.set_model.specs.Kind.{bits_of}
 use Rattle.set_model.specs.Key.{parts_fit, intervals_fit, is_good}
 use Rattle.set_model.specs.SetState.{blocks_of}
-use Rattle.range_expand.specs.Split.{IsInterval}
+use Rattle.range_expand.specs.Split.{IsFieldInterval}
 use Rattle.range_expand.proofs.SplitLaws.{blocks-within}
 use Rattle.lookup_table.specs.declared.table.FieldTable.{FieldTable}
 use Rattle.lookup_table.specs.Rules.{IsSameField}
@@ -82,7 +82,7 @@ from-le m n h = grind (arith, nat_tests)
 from-lt : (m n : ℕ) → nat_lt m n ≡ true → m < n
 from-lt m n h = grind (arith, nat_tests)
 
-good-interval : (k : Kind) (p : Interval) → is_good k p ≡ true → IsInterval p.low p.high (bits_of k)
+good-interval : (k : Kind) (p : Interval) → is_good k p ≡ true → IsFieldInterval p.low p.high (bits_of k)
 good-interval k p h =
     let parts = and_parts (nat_le p.low p.high) (nat_lt p.high (2 ^ bits_of k)) h in
     record { order = from-le p.low p.high parts.0; below = from-lt p.high (2 ^ bits_of k) parts.1; some = bits-some k; most = bits-most k }
@@ -97,7 +97,7 @@ good-at (x ∷ kinds) (q ∷ parts) zero k p h a b =
 good-at (x ∷ kinds) (q ∷ parts) (suc f) k p h a b = good-at kinds parts f k p (and_parts (is_good x q) (intervals_fit kinds parts) h).1 a b
 
 pub interval-at : (kinds : List Kind) (parts : List Interval) (f : ℕ) (k : Kind) (p : Interval) → parts_fit kinds parts ≡ true → slice_get kinds f ≡ Some k → slice_get parts f ≡ Some p
-    → IsInterval p.low p.high (bits_of k)
+    → IsFieldInterval p.low p.high (bits_of k)
 interval-at kinds parts f k p h a b = good-interval k p (good-at kinds parts f k p (and_parts (length kinds == length parts) (intervals_fit kinds parts) h).1 a b)
 
 pub column-of : (kinds : List Kind) (parts : List Interval) (f : ℕ) (k : Kind) (p : Interval) (column : List Block) → parts_fit kinds parts ≡ true → slice_get kinds f ≡ Some k → slice_get parts f ≡ Some p

@@ -25,7 +25,7 @@ use Rattle.set_tables.proofs.UpdateLaws.{spans-append, ends-append}
 use Rattle.pipapo_image.specs.declared.index.Index.{Index}
 use Rattle.pipapo_image.specs.Index.Built.{Built, EachChanged}
 use Rattle.pipapo_image.specs.Index.Grow.{IsColumn, IsKept, HasSpare, IsOther, IsReady, IsGrownBy, chosen, counts, new_span, is_over}
-use Rattle.pipapo_image.specs.Index.Changes.{AreColumnsOf, IsSameIndex, IsRoomy, AreReady, IsAppended}
+use Rattle.pipapo_image.specs.Index.Changes.{AreColumnsOf, IsSameIndex, HasRoomFor, AreReady, IsAppended}
 use Rattle.pipapo_image.specs.Index.Standing.{IsTableOf, AreFieldsOf}
 use Rattle.pipapo_image.specs.Index.{IsIndexOf}
 use Rattle.pipapo_image.specs.Image.{IsImage}
@@ -134,7 +134,7 @@ image-kept kinds es old new i k = record {
 -- the tables, or the others in their place, can take the columns
 pub ready : (s : State) (old new : Index) (parts : List Interval) (columns : List (List Block)) (others : List (Option FieldTable)) → IsImage s.kinds s.elements old
     → Built (IsColumn s.kinds parts) columns (length s.kinds) → Built (λ f o. (t : FieldTable) → IsOther (length (of_field columns f)) (get_or old.fields f t) o) others (length old.fields)
-    → IsSameIndex old new → IsRoomy new columns → AreReady new others columns
+    → IsSameIndex old new → HasRoomFor new columns → AreReady new others columns
 ready s old new parts columns others i b o k r =
     let n = i.tables.fields.one_each in
     let m = k.fields.len in

@@ -48,7 +48,7 @@ image-shaped kinds es index i =
           ∙ ap (λ z. (get_or index.fields (z - 1) t).rules) (sym n);
     }
 
-from-equal : (m n : ℕ) → (m == n) ≡ true → n ≡ m
+pub from-equal : (m n : ℕ) → (m == n) ≡ true → n ≡ m
 from-equal m n h = grind (arith, nat_tests)
 
 from-less : (m n : ℕ) → nat_lt m n ≡ true → m < n

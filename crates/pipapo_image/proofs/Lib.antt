@@ -4,6 +4,7 @@ pub mod Empty
 pub mod BuiltLaws
 pub mod ImageUse
 pub mod Places
+pub mod KeyLaws
 pub mod GrowLaws
 pub mod SharingRows
 pub mod EndLaws

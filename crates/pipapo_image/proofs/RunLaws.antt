@@ -16,7 +16,7 @@ use Rattle.set_tables.specs.declared.Span.{Span}
 use Rattle.set_tables.specs.Tables.{split, field_spans}
 use Rattle.set_tables.proofs.UpdateLaws.{length-spans}
 use Rattle.mapping_table.specs.Spared.{Spared}
-use Rattle.pipapo_image.specs.Index.Runs.{IsRun}
+use Rattle.pipapo_image.specs.Index.Runs.{IsElementRun}
 use Rattle.pipapo_image.proofs.EndLaws.{rules-front}
 use Rattle.pipapo_image.proofs.GrowLaws.{interval-at, column-of}
 use Rattle.pipapo_image.proofs.ImageUse.{parts-long}
@@ -49,21 +49,21 @@ some-at kinds es i f fit h l =
     some-rules kinds (get_or es i no_element).parts f (All-get_or P es i no_element h fit) l
 
 -- a run is one of the element's rules, and lies inside the field's
-pub run-count : (kinds : List Kind) (es : List Element) (i f : ℕ) (run : Span) → i < length es → IsRun kinds es i f run → run.count ≡ length (split kinds f (get_or es i no_element))
+pub run-count : (kinds : List Kind) (es : List Element) (i f : ℕ) (run : Span) → i < length es → IsElementRun kinds es i f run → run.count ≡ length (split kinds f (get_or es i no_element))
 run-count kinds es i f run h r =
     let n = rules-next (split kinds f) es i no_element h in
     let a = r.begins in
     let b = r.ends in
     omega arith
 
-pub run-within : (kinds : List Kind) (es : List Element) (i f : ℕ) (run : Span) → IsRun kinds es i f run → run.first + run.count ≤ length (field_rules kinds f es)
+pub run-within : (kinds : List Kind) (es : List Element) (i f : ℕ) (run : Span) → IsElementRun kinds es i f run → run.first + run.count ≤ length (field_rules kinds f es)
 run-within kinds es i f run r =
     let n = rules-front (split kinds f) es (i + 1) in
     let b = r.ends in
     omega arith
 
 pub run-inside : (kinds : List Kind) (es : List Element) (i f : ℕ) (run : Span) (m : Spared Span) → i < length es → All (λ e. parts_fit kinds e.parts ≡ true) es → f < length kinds
-    → m.items ≡ field_spans kinds f es → IsRun kinds es i f run → run.first < length m.items
+    → m.items ≡ field_spans kinds f es → IsElementRun kinds es i f run → run.first < length m.items
 run-inside kinds es i f run m h fit l e r =
     let n = ap length e ∙ length-spans (split kinds f) (split kinds (suc f)) 0 es in
     let a = run-within kinds es i f run r in
@@ -73,7 +73,7 @@ run-inside kinds es i f run m h fit l e r =
 
 -- the span of the first rule of a run is the run of the next field
 pub run-next : (kinds : List Kind) (es : List Element) (i f : ℕ) (run next : Span) (m : Spared Span) → i < length es → All (λ e. parts_fit kinds e.parts ≡ true) es → f < length kinds
-    → m.items ≡ field_spans kinds f es → IsRun kinds es i f run → slice_get m.items run.first ≡ Some next → IsRun kinds es i (f + 1) next
+    → m.items ≡ field_spans kinds f es → IsElementRun kinds es i f run → slice_get m.items run.first ≡ Some next → IsElementRun kinds es i (f + 1) next
 run-next kinds es i f run next m h fit l e r s =
     let e1 = get_or es i no_element in
     let found : get_or m.items run.first next ≡ next = get_or_from_slice_get m.items run.first next next s in
@@ -84,5 +84,5 @@ run-next kinds es i f run next m h fit l e r s =
     let first = ap (λ z. z.first) here in
     let count = ap (λ z. z.count) here in
     let n = rules-next (split kinds (suc f)) es i no_element h in
-    let is : IsRun kinds es i (suc f) next = record { begins = omega arith; ends = omega arith } in
-    subst (λ z. IsRun kinds es i z next) (sym (add-one f)) is
+    let is : IsElementRun kinds es i (suc f) next = record { begins = omega arith; ends = omega arith } in
+    subst (λ z. IsElementRun kinds es i z next) (sym (add-one f)) is

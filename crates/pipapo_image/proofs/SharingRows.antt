@@ -18,7 +18,7 @@ use Rattle.set_tables.specs.Tables.{field_spans}
 use Rattle.set_tables.specs.Core.{row_of}
 use Rattle.set_tables.specs.Sharing.{shares_some, share_tests}
 use Rattle.set_tables.proofs.SearchLaws.{row-first, row-next}
-use Rattle.range_expand.specs.Split.{IsInterval}
+use Rattle.range_expand.specs.Split.{IsFieldInterval}
 use Rattle.set_model.specs.Key.{parts_fit}
 use Rattle.pipapo_image.specs.declared.index.Index.{Index}
 use Rattle.pipapo_image.specs.Index.Standing.{AreFieldsOf}
@@ -82,6 +82,6 @@ intervals-of kinds es index parts i h =
       within = λ f t p l.
           let a : f < length kinds = omega arith in
           let b : f < length parts = omega arith in
-          subst (λ z. IsInterval (get_or parts f p).low (get_or parts f p).high z) (sym (i.tables.fields.each f Ipv4 t a).bits)
+          subst (λ z. IsFieldInterval (get_or parts f p).low (get_or parts f p).high z) (sym (i.tables.fields.each f Ipv4 t a).bits)
           (interval-at kinds parts f (get_or kinds f Ipv4) (get_or parts f p) h (slice_get-get_or kinds f Ipv4 a) (slice_get-get_or parts f p b));
     }

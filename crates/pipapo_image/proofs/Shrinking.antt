@@ -22,7 +22,7 @@ use Rattle.pipapo_image.specs.Index.Grow.{chosen}
 use Rattle.pipapo_image.specs.Index.Standing.{IsTableOf}
 use Rattle.pipapo_image.specs.Index.{IsIndexOf}
 use Rattle.pipapo_image.specs.Image.{IsImage}
-use Rattle.pipapo_image.specs.Index.Runs.{IsRun, AreRuns, run_at}
+use Rattle.pipapo_image.specs.Index.Runs.{IsElementRun, AreRuns, run_at}
 use Rattle.pipapo_image.specs.Index.Shrink.{IsOtherWithout, AreOthersWithout, IsShrunk, OwnsRuns, IsDroppable, IsDropped}
 use Rattle.pipapo_image.proofs.ImageUse.{field-rules, image-shaped}
 use Rattle.pipapo_image.proofs.Items.{a-table}
@@ -139,7 +139,7 @@ shrunk-table k rules run t b (Some u) s other g =
       stands = stands;
     }
 
-rules-left : (kinds : List Kind) (es : List Element) (i f : ℕ) (run : Span) → i < length es → IsRun kinds es i f run → without (field_rules kinds f es) run.first run.count ≡ field_rules kinds f (remove es i)
+rules-left : (kinds : List Kind) (es : List Element) (i f : ℕ) (run : Span) → i < length es → IsElementRun kinds es i f run → without (field_rules kinds f es) run.first run.count ≡ field_rules kinds f (remove es i)
 rules-left kinds es i f run h r =
     let e = get_or es i no_element in
     let count = run-count kinds es i f run h r in

@@ -7,6 +7,7 @@ pub(crate) mod append;
 pub(crate) mod decision;
 pub(crate) mod delete;
 pub(crate) mod insert;
+pub(crate) mod keys;
 pub(crate) mod purge;
 pub(crate) mod runs;
 
@@ -47,7 +48,11 @@ impl Model for SetImage {
 }
 
 impl SetImage {
-    ghost use Rattle.pipapo_image.specs.Index.{IsIndexOf};
+    ghost use Rattle.std.specs.Prelude.{List, ℕ};
+    ghost use Rattle.set_model.specs.declared.kind.Interval.{Interval};
+    ghost use Rattle.pipapo_image.specs.Index.{IsShapedIndex, IsIndexOf};
+    ghost use Rattle.pipapo_image.specs.Index.Walk.{IsKeyOf};
+    ghost use Rattle.pipapo_image.specs.Index.Sharing.{AreIntervalsOf};
 
     /// A set of 1 to 16 fields without elements.
     ///
@@ -107,9 +112,14 @@ impl SetImage {
         &self.elements
     }
 
-    /// The set's tables. They are those of its elements at every moment between calls.
+    /// The set's tables. They are those of its elements at every moment between calls, and may be
+    /// asked for each key and for all intervals that fit the kinds.
     pub fn index(&self) -> &Index
-        ensures { IsIndexOf self.now.kinds self.now.elements result.now }
+        ensures tables { IsIndexOf self.now.kinds self.now.elements result.now }
+        ensures shaped { IsShapedIndex result.now }
+        ensures keys { (key : List ℕ) → key_fits self.now.kinds key ≡ true → IsKeyOf result.now.fields key }
+        ensures intervals { (parts : List Interval) → parts_fit self.now.kinds parts ≡ true → AreIntervalsOf result.now.fields parts }
+        ensures fit { All (λ e. parts_fit self.now.kinds e.parts ≡ true) self.now.elements }
     {
         &self.index
     }

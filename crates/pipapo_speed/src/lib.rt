@@ -1,5 +1,8 @@
 //! A set's image as a driver in C calls it, to measure lookups and insertions. No crate stands on
 //! this one, and the driver is no part of the program.
+//!
+//! **Definitions:** none: it is to be safe alone. docs/performance.md says how `checks/speed` calls it,
+//! and what was measured.
 #![tactic(auto)]
 
 mod changes;

@@ -5,7 +5,7 @@ use Rattle.std.proofs.lemmas.Nat.{mod-pow-add, mod_below, div-add-mod'}
 use Rattle.std.proofs.Math.Nat.{pow-suc, mod-one, mul-mod_left}
 use Rattle.set_model.specs.Blocks.{is_block, free_bits, blocks}
 use Rattle.set_model.proofs.BlockLaws.{blocks-first, blocks-none}
-use Rattle.range_expand.specs.Split.{IsInterval}
+use Rattle.range_expand.specs.Split.{IsFieldInterval}
 use Rattle.range_expand.proofs.FirstBlock.{greatest-is, block-passes, block-too_large, block-unaligned}
 
 -- ---- multiples of powers of two
@@ -103,14 +103,14 @@ ascending (suc m) low high bits t e some aligned fits =
           let y = rest (next-aligned low t aligned a) in
           omega arith
 
-pub length-few : (low high bits : ℕ) → IsInterval low high bits → length (blocks low high bits) ≤ 2 * bits
+pub length-few : (low high bits : ℕ) → IsFieldInterval low high bits → length (blocks low high bits) ≤ 2 * bits
 length-few low high bits good = let x = ascending bits low high bits 0 (omega arith) good.some (mod-one low) good.below in omega arith
 
 pub length-some : (low high bits : ℕ) → low ≤ high → 1 ≤ length (blocks low high bits)
 length-some low high bits h = let e = length-first low high bits (free_bits low high bits) h (let x : free_bits low high bits ≡ free_bits low high bits = omega arith in x) in omega arith
 
 -- all values of a field are one block
-pub length-whole : (low high bits : ℕ) → IsInterval low high bits → low ≡ 0 → high + 1 ≡ 2 ^ bits → length (blocks low high bits) ≡ 1
+pub length-whole : (low high bits : ℕ) → IsFieldInterval low high bits → low ≡ 0 → high + 1 ≡ 2 ^ bits → length (blocks low high bits) ≡ 1
 length-whole low high bits good none all =
     let aligned : low % 2 ^ bits ≡ 0 = omega arith in
     let free : free_bits low high bits ≡ bits = greatest-is (is_block low high) bits bits (omega arith) (inl (block-passes low high bits aligned (omega arith))) (λ j a b. absurd (omega arith)) in

@@ -9,7 +9,7 @@ use Rattle.std.proofs.Math.Bool.{and-false}
 use Rattle.std.proofs.Math.Nat.{pow-suc, mod-one}
 use Rattle.std.proofs.Math.Pow.{pow_mono}
 use Rattle.set_model.specs.Blocks.{greatest, is_block, free_bits}
-use Rattle.range_expand.specs.Split.{IsInterval}
+use Rattle.range_expand.specs.Split.{IsFieldInterval}
 
 -- ---- the greatest number that passes a test
 
@@ -97,7 +97,7 @@ rest-some n t j set h none =
     absurd (omega arith)
 
 -- The least of the base's trailing zeros, of the interval's size as a power and of the field's bits is the definition's number.
-pub free-is : (low high bits size : ℕ) → IsInterval low high bits → low < 2 ^ 128 → 2 ^ size ≤ high - low + 1 → high - low + 1 < 2 * 2 ^ size → size ≤ 128
+pub free-is : (low high bits size : ℕ) → IsFieldInterval low high bits → low < 2 ^ 128 → 2 ^ size ≤ high - low + 1 → high - low + 1 < 2 * 2 ^ size → size ≤ 128
     → min (min (trailing_zeros w128 low) size) bits ≡ free_bits low high bits
 free-is low high bits size good fits below above small =
     sym (greatest-is (is_block low high) bits (min (min (trailing_zeros w128 low) size) bits) (omega arith) (inl (block-passes low high _ zeros fit)) more) where

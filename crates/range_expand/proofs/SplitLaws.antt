@@ -8,7 +8,7 @@ use Rattle.std.proofs.Math.Bool.{and-false}
 use Rattle.set_model.specs.declared.block.Block.{Block}
 use Rattle.set_model.specs.Blocks.{free_bits, blocks, holds_value, IsWithin}
 use Rattle.set_model.proofs.BlockLaws.{blocks-first, blocks-none}
-use Rattle.range_expand.specs.Split.{IsInterval, IsHeldOnce}
+use Rattle.range_expand.specs.Split.{IsFieldInterval, IsHeldOnce}
 use Rattle.range_expand.proofs.FirstBlock.{first-within, first-aligned}
 
 -- ---- each value is held once
@@ -67,7 +67,7 @@ all-within (suc n) low high bits enough fits =
           (All-cons (IsWithin bits) (record { base = low; free_bits = free_bits low high bits }) (blocks (low + 2 ^ free_bits low high bits) high bits)
           (record { aligned = first-aligned low high bits; below = let f = first-within low high bits h in omega arith }) ih)
 
-pub blocks-within : (low high bits : ℕ) → IsInterval low high bits → All (IsWithin bits) (blocks low high bits)
+pub blocks-within : (low high bits : ℕ) → IsFieldInterval low high bits → All (IsWithin bits) (blocks low high bits)
 blocks-within low high bits good = all-within (high + 1) low high bits (omega arith) good.below
 
 -- ---- one step of the iterator

@@ -4,7 +4,7 @@ use Rattle.set_model.specs.declared.block.Block.{Block}
 use Rattle.set_model.specs.Blocks.{holds_value}
 
 -- the values from low to high, of a field of 1 to 128 bits
-pub record IsInterval (low high bits : ℕ) : Type 0 where
+pub record IsFieldInterval (low high bits : ℕ) : Type 0 where
   pub order : low ≤ high
   pub below : high < 2 ^ bits
   pub some : 1 ≤ bits

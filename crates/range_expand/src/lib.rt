@@ -2,13 +2,16 @@
 //!
 //! A block is an aligned run of values whose number is a power of two. A lookup table holds each
 //! block as one rule, so an interval over `b` bits costs at most `2 * b` rules of its field.
+//!
+//! **Definitions:** `specs/Split.antt`, over the split itself in `set_model`, `specs/Blocks.antt`.
+//! **Theory:** docs/architecture.md, "The classifier, by one example".
 #![tactic(auto)]
 
 ghost use Rattle.std.specs.Prelude.{◌≡◌, ℕ, ◌+◌, ◌*◌, ◌^◌, ◌<◌, ◌≤◌, List, length, All};
 ghost use Rattle.std.specs.Iterator.{YieldsFirst, item_count};
 ghost use Rattle.set_model.specs.Blocks.{blocks, free_bits, IsWithin};
 ghost use Rattle.set_model.specs.declared.block.Block.{Block};
-ghost use Rattle.range_expand.specs.Split.{IsInterval, IsHeldOnce};
+ghost use Rattle.range_expand.specs.Split.{IsFieldInterval, IsHeldOnce};
 
 use set_model::Block;
 use std::marker::Model;
@@ -42,7 +45,7 @@ impl Blocks {
     ///
     /// Each of these values is held by exactly one of the blocks, and no other value by any.
     pub fn new(low: u128, high: u128, bits: u32) -> Blocks
-        requires { IsInterval low high bits }
+        requires { IsFieldInterval low high bits }
         ensures split { result ≡ blocks low high bits }
         ensures held { IsHeldOnce low high result }
         ensures within { All (IsWithin bits) result }
@@ -83,7 +86,7 @@ impl Iterator for Blocks {
 
 /// How many blocks the values from `low` to `high` of a field of `bits` bits have.
 pub fn count(low: u128, high: u128, bits: u32) -> u32
-    requires { IsInterval low high bits }
+    requires { IsFieldInterval low high bits }
     ensures count { result ≡ length (blocks low high bits) }
 
     ensures some { 1 ≤ result }
@@ -96,7 +99,7 @@ pub fn count(low: u128, high: u128, bits: u32) -> u32
 /// How many bits the first block of an interval leaves free.
 #[tactic(auto, using(crate::proofs::FirstBlock::powers))]
 fn first_free_bits(low: u128, high: u128, bits: u32) -> u32
-    requires { IsInterval low high bits }
+    requires { IsFieldInterval low high bits }
     ensures greatest { result ≡ free_bits low high bits }
     ensures small { result ≤ 128 }
     ensures fits { low + 2 ^ result ≤ high + 1 }

@@ -1,11 +1,11 @@
-ghost use Rattle.range_expand.specs.Split.{IsInterval};
+ghost use Rattle.range_expand.specs.Split.{IsFieldInterval};
 
 use super::*;
 use std::test::Fail;
 
 // The bases and the free bits of an interval's blocks.
 fn split(rt: &HostRuntime, low: u128, high: u128, bits: u32) -> Result<(Vec<u128>, Vec<u32>), Fail>
-    requires { IsInterval low high bits }
+    requires { IsFieldInterval low high bits }
 {
     let mut bases = Vec::new(rt.alloc());
     let mut free = Vec::new(rt.alloc());

@@ -3,7 +3,7 @@ ghost use Rattle.std.specs.Prelude.{◌≡◌, ◌<◌, ◌≤◌, length, map, 
 ghost use Rattle.set_model.specs.Runnable.{IsFitting, IsRunnableStep};
 ghost use Rattle.set_space.specs.Open.{CanBeBuilt};
 ghost use Rattle.packet_pool.specs.Running.{HasNumbers};
-ghost use Rattle.reader_speed.specs.Ready.{IsReady};
+ghost use Rattle.reader_speed.specs.Ready.{AreReadersReady};
 
 use crate::fault::Fault;
 use crate::workload::Workload;
@@ -133,7 +133,7 @@ impl Course {
         count: usize,
     ) -> Result<Course, Fault>
         requires { (0 < threads) × (threads ≤ 16) }
-        ensures { IfOk result (λ c. IsReady c.control c.readers.items c.packets) }
+        ensures { IfOk result (λ c. AreReadersReady c.control c.readers.items c.packets) }
     {
         let kinds = &workload.kinds;
         if kinds.len() == 0 || 16 < kinds.len() || workload.keys.is_empty() {

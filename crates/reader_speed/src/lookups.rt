@@ -1,8 +1,8 @@
 //! Lookups a second of readers, and the time of a commit beside them.
 ghost use Rattle.std.specs.Prelude.{◌≡◌, ◌<◌, ◌≤◌, All, Some};
 ghost use Rattle.set_model.specs.Runnable.{IsFitting};
-ghost use Rattle.gen_publish.specs.Publish.{Reading};
-ghost use Rattle.reader_speed.specs.Ready.{IsReady, Serve};
+ghost use Rattle.gen_publish.specs.Publish.{ReaderView};
+ghost use Rattle.reader_speed.specs.Ready.{AreReadersReady, Serve};
 
 use crate::course::Course;
 use crate::fault::Fault;
@@ -61,7 +61,7 @@ fn beside<R: Clock + Threads + Sync>(
     course: Course,
     element: &NewElement,
 ) -> Result<(u128, u128), Fault>
-    requires { IsReady course.control course.readers.items course.packets }
+    requires { AreReadersReady course.control course.readers.items course.packets }
 {
     let Course {
         mut control,
@@ -113,7 +113,7 @@ fn look_up_all<R: Clock + Threads + Sync>(
     requires { Serve readers.items packets.now }
 {
     let run = |slot: Option<Reader>| -> Result<u128, Fault>
-        requires { (d : Reading) → slot ≡ Some d → All (IsFitting d.schema) packets.now }
+        requires { (d : ReaderView) → slot ≡ Some d → All (IsFitting d.schema) packets.now }
     {
         match slot {
             Some(reader) => look_up(rt, reader, packets),

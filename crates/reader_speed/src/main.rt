@@ -8,6 +8,9 @@
 //!
 //! A reader enters once for all keys of the workload; a packet thread enters and leaves for each packet. Each number is the
 //! best of several runs by the wall's time.
+//!
+//! **Definitions:** `specs/Ready.antt` alone, what a section asks: it is to be safe alone.
+//! docs/performance.md says what was measured.
 #![tactic(auto)]
 
 ghost use Rattle.std.specs.Prelude.{◌<◌, ◌≤◌, IfOk};

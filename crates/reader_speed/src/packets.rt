@@ -1,6 +1,6 @@
 //! Packets a second of a section.
 ghost use Rattle.std.specs.Prelude.{◌<◌, ◌≤◌};
-ghost use Rattle.reader_speed.specs.Ready.{IsReady};
+ghost use Rattle.reader_speed.specs.Ready.{AreReadersReady};
 
 use crate::course::{Course, is_numbered};
 use crate::fault::Fault;
@@ -103,7 +103,7 @@ fn section_times<R: Clock + Threads + Sync>(
     alloc: Global,
     course: Course,
 ) -> Result<Times, Fault>
-    requires { IsReady course.control course.readers.items course.packets }
+    requires { AreReadersReady course.control course.readers.items course.packets }
 {
     let Course {
         mut control,

@@ -8,8 +8,8 @@ use Rattle.rule_chain.specs.declared.chains.Act.TheVariants as acts
 use Rattle.rule_chain.specs.declared.chains.Rule.{Rule}
 use Rattle.rule_chain.specs.declared.chains.Chain.{Chain}
 use Rattle.rule_chain.specs.Chains.{Rules}
-use Rattle.rule_chain.specs.Judged.{fits, acts_on, walk, decided, decisions, decision_of, as_verdict, judged}
-use Rattle.rule_chain.specs.JudgedText.{all_rules, Decides, IsOfRules}
+use Rattle.rule_chain.specs.Judged.{fits_rule, acts_on, walk, decided, decisions, decision_of, as_verdict, judged}
+use Rattle.rule_chain.specs.JudgedText.{chain_rules, Decides, IsOfRules}
 
 -- rule n of a list is one that decides
 abbrev Names : List Rule → ℕ → Type 0
@@ -62,19 +62,19 @@ one-more rules [] o all h (suc chain) n e = absurd (cc e)
 one-more rules (x ∷ before) o all h zero n e = all 0 n e
 one-more rules (x ∷ before) o all h (suc chain) n e = one-more rules before o (λ i k f. all (suc i) k f) h chain n e
 
-decisions-name : (fit : Rule → Bool) (front : List Rule) (n : ℕ) (before : List (Option ℕ)) (chains : List Chain) → n ≡ length front → AllName front (decided before) → AllName (front ++ all_rules chains) (decided (decisions fit n before chains))
+decisions-name : (fit : Rule → Bool) (front : List Rule) (n : ℕ) (before : List (Option ℕ)) (chains : List Chain) → n ≡ length front → AllName front (decided before) → AllName (front ++ chain_rules chains) (decided (decisions fit n before chains))
 decisions-name fit front n before [] long all = λ i k e. names-more front [] k (all i k e)
 decisions-name fit front n before (c ∷ chains) long all =
     let w = walk fit (decided before) n c.rules in
     let grown = length-append front c.rules in
     let more : AllName (front ++ c.rules) (decided (before ++ w ∷ [])) = one-more (front ++ c.rules) before w (λ i k e. names-more front c.rules k (all i k e)) (λ k e. walk-names fit (decided before) front c.rules n k long all e) in
-    subst (λ (z : List Rule). AllName z (decided (decisions fit (n + length c.rules) (before ++ w ∷ []) chains))) (append_assoc front c.rules (all_rules chains))
+    subst (λ (z : List Rule). AllName z (decided (decisions fit (n + length c.rules) (before ++ w ∷ []) chains))) (append_assoc front c.rules (chain_rules chains))
     (decisions-name fit (front ++ c.rules) (n + length c.rules) (before ++ w ∷ []) chains (omega (arith, long, grown)) more)
 
 pub judged-deciding : (rules : Rules) (g : Generation) (p : Packet) → IsOfRules rules (judged rules g p)
 judged-deciding rules g p = go (decision_of rules g p (length rules.chains - 1)) refl where
-  all : AllName (all_rules rules.chains) (decided (decisions (fits rules.schema g p) 0 [] rules.chains))
-  all = decisions-name (fits rules.schema g p) [] 0 [] rules.chains refl (λ i k e. absurd (cc e))
+  all : AllName (chain_rules rules.chains) (decided (decisions (fits_rule rules.schema g p) 0 [] rules.chains))
+  all = decisions-name (fits_rule rules.schema g p) [] 0 [] rules.chains refl (λ i k e. absurd (cc e))
 
   go : (o : Option ℕ) → decision_of rules g p (length rules.chains - 1) ≡ o → IsOfRules rules (as_verdict o)
   go None e = tt

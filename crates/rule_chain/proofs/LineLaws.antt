@@ -4,7 +4,7 @@ use Rattle.set_model.specs.declared.report.Line.{Line}
 use Rattle.set_model.specs.declared.packet.Verdict.TheVariants as verdicts
 use Rattle.set_model.specs.Text.{numbered, line_feed}
 use Rattle.rule_chain.specs.Chains.{Rules}
-use Rattle.rule_chain.specs.JudgedText.{judgement_text, judged_line, accept_text, is_accepting, all_rules}
+use Rattle.rule_chain.specs.JudgedText.{judgement_text, judged_line, accept_text, is_accepting, chain_rules}
 
 in_order : (a b c d e f : List ℕ) → a ++ b ++ c ++ d ++ e ++ f ≡ a ++ (b ++ (c ++ (d ++ (e ++ f))))
 in_order a b c d e f = simp append_assoc refl
@@ -28,7 +28,7 @@ policy_line rules l thread word same is does =
 behind_number : (digits word : List ℕ) → codes "rule " ++ digits ++ codes " " ++ word ++ line_feed ≡ codes "rule " ++ (digits ++ (codes " " ++ (word ++ line_feed)))
 behind_number digits word = simp append_assoc refl
 
-pub rule_line : (rules : Rules) (l : Line) (thread n : ℕ) (word : List ℕ) → thread ≡ l.thread → l.verdict ≡ verdicts.Element n → word ≡ accept_text (is_accepting (slice_get (all_rules rules.chains) n))
+pub rule_line : (rules : Rules) (l : Line) (thread n : ℕ) (word : List ℕ) → thread ≡ l.thread → l.verdict ≡ verdicts.Element n → word ≡ accept_text (is_accepting (slice_get (chain_rules rules.chains) n))
     → judged_line rules l ≡ codes "packet " ++ (decimal l.packet ++ (codes " thread " ++ (decimal thread ++ (codes " generation " ++ (decimal l.generation ++ (codes " rule " ++ (decimal n ++ (codes " " ++ (word ++ line_feed)))))))))
 rule_line rules l thread n word same is does =
     line_is rules l thread (codes "rule " ++ decimal n ++ codes " " ++ word) same (ap (judgement_text rules) is ∙ ap (λ w. numbered (codes "rule") n ++ codes " " ++ w) (sym does))

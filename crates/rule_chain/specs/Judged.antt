@@ -50,12 +50,12 @@ as_asked true found = found
 as_asked false found = not found
 
 -- A packet meets a test: the test's set has the kinds of the packet's set, and holds its key, or doesn't, as it asks.
-abbrev pub meets : List SetDecl → Generation → Packet → Test → Bool
-meets schema g p t = alike (slice_get schema t.set) (slice_get schema p.set) && as_asked t.inside (has_element g t.set p.key p.now)
+abbrev pub meets_test : List SetDecl → Generation → Packet → Test → Bool
+meets_test schema g p t = alike (slice_get schema t.set) (slice_get schema p.set) && as_asked t.inside (has_element g t.set p.key p.now)
 
 -- A packet fits a rule: it meets all of its tests.
-abbrev pub fits : List SetDecl → Generation → Packet → Rule → Bool
-fits schema g p r = list_all (meets schema g p) r.tests
+abbrev pub fits_rule : List SetDecl → Generation → Packet → Rule → Bool
+fits_rule schema g p r = list_all (meets_test schema g p) r.tests
 
 -- What rule n does with a packet that fits it, where `behind` is what the rules behind it decide: accept and drop decide,
 -- with the rule's number; return ends this chain's walk; a jump decides what the chain that it leads to decides, and where
@@ -91,7 +91,7 @@ as_verdict (Some n) = verdicts.Element n
 
 -- what the chain at a place decides on a packet; rules are numbered from 0 through the file
 abbrev pub decision_of : Rules → Generation → Packet → ℕ → Option ℕ
-decision_of rules g p chain = decided (decisions (fits rules.schema g p) 0 [] rules.chains) chain
+decision_of rules g p chain = decided (decisions (fits_rule rules.schema g p) 0 [] rules.chains) chain
 
 -- the chains that are marked decide nothing
 abbrev pub DecideNothing : Rules → Generation → Packet → List Bool → Type 0

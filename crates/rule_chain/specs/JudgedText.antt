@@ -12,8 +12,8 @@ use Rattle.rule_chain.specs.declared.chains.Chain.{Chain}
 use Rattle.rule_chain.specs.Chains.{Rules}
 
 -- the rules of chains through the file
-abbrev pub all_rules : List Chain → List Rule
-all_rules chains = flat_map (λ c. c.rules) chains
+abbrev pub chain_rules : List Chain → List Rule
+chain_rules chains = flat_map (λ c. c.rules) chains
 
 -- a rule decides: it accepts or drops
 abbrev pub Decides : Act → Type 0
@@ -25,7 +25,7 @@ Decides (acts.Jump chain) = ⊥
 -- A verdict of chains: none, or the number of a rule that decides.
 abbrev pub IsOfRules : Rules → Verdict → Type 0
 IsOfRules rules verdicts.None = Unit {0}
-IsOfRules rules (verdicts.Element n) = (r : Rule) × (slice_get (all_rules rules.chains) n ≡ Some r) × Decides r.act
+IsOfRules rules (verdicts.Element n) = (r : Rule) × (slice_get (chain_rules rules.chains) n ≡ Some r) × Decides r.act
 
 -- whether the act of a rule that decides is to accept
 abbrev pub accepts_by : Act → Bool
@@ -45,7 +45,7 @@ accept_text false = codes "drop"
 -- what becomes of the packet: the number of the rule that decides and what it does, or what the policy does
 abbrev pub judgement_text : Rules → Verdict → List ℕ
 judgement_text rules verdicts.None = codes "policy " ++ accept_text rules.accept
-judgement_text rules (verdicts.Element n) = numbered (codes "rule") n ++ codes " " ++ accept_text (is_accepting (slice_get (all_rules rules.chains) n))
+judgement_text rules (verdicts.Element n) = numbered (codes "rule") n ++ codes " " ++ accept_text (is_accepting (slice_get (chain_rules rules.chains) n))
 
 -- the line of a packet
 abbrev pub judged_line : Rules → Line → List ℕ

@@ -88,13 +88,13 @@ chain_block schema d = do
   mark 125
   done (with_chain d name rules)
 
-abbrev pub policy : Reading Bool
-policy = word_by [] (λ t. policy_of t.bytes)
+abbrev pub policy_read : Reading Bool
+policy_read = word_by [] (λ t. policy_of t.bytes)
 
 unfoldable pub statement_behind : List SetDecl → RulesDraft → RulesWord → Reading RulesDraft
 statement_behind schema d firsts.Chain = chain_block schema d
 statement_behind schema d firsts.Policy = do
-  accept ← policy
+  accept ← policy_read
   done (record d { policy = Some accept })
 
 abbrev pub first_word : RulesDraft → Reading RulesWord

@@ -1,14 +1,17 @@
 //! Chains in braces, the policy, and the lines of both.
-ghost use Rattle.std.specs.Prelude.{◌≡◌, ◌<◌, List, length, OnOk};
+ghost use Rattle.std.specs.Prelude.{◌≡◌, ◌<◌, ◌≤◌, List, length, IfOk, OnOk};
 ghost use Rattle.token_forms.specs.View.{lexeme_of};
 ghost use Rattle.token_forms.specs.Words.{separates};
 ghost use Rattle.token_forms.specs.WordReading.{line_starts};
+ghost use Rattle.set_script.specs.Limits.{most_sets};
 ghost use Rattle.set_script.specs.ScriptReading.{any_word};
 ghost use Rattle.token_forms.specs.Gives.{Gives};
+ghost use Rattle.rule_chain.specs.Chains.{most_chains};
 ghost use Rattle.rule_chain.specs.Rules.{with_chain};
 ghost use Rattle.rule_chain.specs.RulesReading as reading;
 ghost use Rattle.rule_chain.specs.declared.chains.Rule.{Rule as OneRule};
 ghost use Rattle.rule_chain.specs.declared.draft.RulesDraft.{RulesDraft as Drafted};
+ghost use Rattle.rule_chain.specs.declared.draft.RulesWord.TheVariants.{Chain as Begins};
 
 use crate::chains::{Chain, RuleList};
 use crate::draft::{RulesDraft, RulesWord, nothing_read};
@@ -28,6 +31,8 @@ fn rule_if(
     room: bool,
     rules: &mut RuleList,
 ) -> Result<(), ReadError>
+    requires sets { length schema.now ≤ most_sets }
+    requires chains { length chains.now < most_chains }
     ensures { Gives (λ _. rules.new) result reader.new (reading.rule_if room schema.now chains.now rules.old reader.old) }
 {
     if room {
@@ -47,6 +52,8 @@ fn rule_line(
     rules: &mut RuleList,
     next: bool,
 ) -> Result<bool, ReadError>
+    requires sets { length schema.now ≤ most_sets }
+    requires chains { length d.now.chains < most_chains }
     ensures { Gives (λ x. (rules.new, x)) result reader.new (reading.rule_line schema.now d.now (rules.old, next) reader.old) }
 {
     if next && !reader.is_at_separator() {
@@ -67,6 +74,8 @@ fn next_rule_line(
     rules: &mut RuleList,
     next: bool,
 ) -> Result<bool, ReadError>
+    requires sets { length schema.now ≤ most_sets }
+    requires chains { length d.now.chains < most_chains }
     ensures gives { Gives (λ x. (rules.new, x)) result reader.new (reading.rule_line schema.now d.now (rules.old, next) reader.old) }
     ensures shorter { OnOk result (length reader.new < length reader.old) }
 {
@@ -90,6 +99,8 @@ fn rule_lines(
     schema: &[SetDecl],
     d: &RulesDraft,
 ) -> Result<(RuleList, bool), ReadError>
+    requires sets { length schema.now ≤ most_sets }
+    requires chains { length d.now.chains < most_chains }
     ensures { Gives (λ x. (x.0, x.1)) result reader.new (reading.rule_lines schema.now d.now reader.old) }
 {
     let mut rules = Listed::new(alloc);
@@ -115,6 +126,8 @@ fn all_rules(
     schema: &[SetDecl],
     d: &RulesDraft,
 ) -> Result<RuleList, ReadError>
+    requires sets { length schema.now ≤ most_sets }
+    requires chains { length d.now.chains < most_chains }
     ensures { Gives (λ x. x) result reader.new (reading.all_rules schema.now d.now reader.old) }
 {
     let (rules, _) = rule_lines(reader, alloc, schema, d)?;
@@ -158,6 +171,8 @@ fn chain_block(
     schema: &[SetDecl],
     d: &mut RulesDraft,
 ) -> Result<(), ReadError>
+    requires sets { length schema.now ≤ most_sets }
+    requires chains { length d.old.chains < most_chains }
     ensures { Gives (λ _. d.new) result reader.new (reading.chain_block schema.now d.old reader.old) }
 {
     let name = new_chain(reader, d.chains.as_slice())?;
@@ -171,7 +186,7 @@ fn chain_block(
 /// `accept` or `drop`.
 #[tactic(auto, unfolding(token_forms::specs::Gives::Refuses))]
 fn policy(reader: &mut Reader) -> Result<bool, ReadError>
-    ensures { Gives (λ x. x) result reader.new (reading.policy reader.old) }
+    ensures { Gives (λ x. x) result reader.new (reading.policy_read reader.old) }
 {
     let t = reader.next()?;
     match policy_word(t.bytes) {
@@ -189,6 +204,8 @@ fn statement_behind(
     d: &mut RulesDraft,
     word: RulesWord,
 ) -> Result<(), ReadError>
+    requires sets { length schema.now ≤ most_sets }
+    requires chain { word ≡ Begins → length d.old.chains < most_chains }
     ensures { Gives (λ _. d.new) result reader.new (reading.statement_behind schema.now d.old word reader.old) }
 {
     match word {
@@ -204,7 +221,8 @@ fn statement_behind(
 /// `chain` or `policy`, where they may stand.
 #[tactic(auto, unfolding(token_forms::specs::Gives::Refuses))]
 fn first_word(reader: &mut Reader, d: &RulesDraft) -> Result<RulesWord, ReadError>
-    ensures { Gives (λ x. x) result reader.new (reading.first_word d.now reader.old) }
+    ensures gives { Gives (λ x. x) result reader.new (reading.first_word d.now reader.old) }
+    ensures room { IfOk result (λ word. word ≡ Begins → length d.now.chains < most_chains) }
 {
     let t = reader.next()?;
     match rules_word(d, t.bytes) {
@@ -220,6 +238,7 @@ fn statement(
     schema: &[SetDecl],
     d: &mut RulesDraft,
 ) -> Result<(), ReadError>
+    requires { length schema.now ≤ most_sets }
     ensures { Gives (λ _. d.new) result reader.new (reading.statement schema.now d.old reader.old) }
 {
     let word = first_word(reader, d)?;
@@ -235,6 +254,7 @@ fn statement_line(
     d: &mut RulesDraft,
     next: bool,
 ) -> Result<bool, ReadError>
+    requires { length schema.now ≤ most_sets }
     ensures { Gives (λ x. (d.new, x)) result reader.new (reading.statement_line schema.now (d.old, next) reader.old) }
 {
     if next && !reader.is_at_separator() {
@@ -253,6 +273,7 @@ fn next_statement_line(
     d: &mut RulesDraft,
     next: bool,
 ) -> Result<bool, ReadError>
+    requires { length schema.now ≤ most_sets }
     ensures gives { Gives (λ x. (d.new, x)) result reader.new (reading.statement_line schema.now (d.old, next) reader.old) }
     ensures shorter { OnOk result (length reader.new < length reader.old) }
 {
@@ -275,6 +296,7 @@ pub fn statements(
     alloc: Global,
     schema: &[SetDecl],
 ) -> Result<(RulesDraft, bool), ReadError>
+    requires { length schema.now ≤ most_sets }
     ensures { Gives (λ x. (x.0, x.1)) result reader.new (reading.statements schema.now reader.old) }
 {
     let mut d = nothing_read(alloc);

@@ -1,4 +1,5 @@
-use set_model::{Listed, Name, Schema};
+use set_model::{Duplicate, Listed, Memory, Name, Schema};
+use std::alloc::Global;
 use std::marker::Model;
 
 /// What a rule does with a packet that it fits.
@@ -23,14 +24,31 @@ pub struct Test {
     pub inside: bool,
 }
 
+impl Duplicate for Test {
+    fn copy(&self, _: Global) -> Result<Self, Memory> {
+        Ok(*self)
+    }
+}
+
 /// The tests of a rule.
 pub type Tests = Listed<Test>;
 
 /// A rule: the tests that a packet has to meet, and what is done with it then.
 #[derive(Drop)]
 pub struct Rule {
+    /// The tests, all of which a packet has to meet.
     pub tests: Tests,
+    /// What is done with it then.
     pub act: Act,
+}
+
+impl Duplicate for Rule {
+    fn copy(&self, alloc: Global) -> Result<Self, Memory> {
+        Ok(Rule {
+            tests: self.tests.copy(alloc)?,
+            act: self.act,
+        })
+    }
 }
 
 /// The rules of a chain, in order.
@@ -39,8 +57,19 @@ pub type RuleList = Listed<Rule>;
 /// A chain of rules.
 #[derive(Drop)]
 pub struct Chain {
+    /// Its name.
     pub name: Name,
+    /// Its rules.
     pub rules: RuleList,
+}
+
+impl Duplicate for Chain {
+    fn copy(&self, alloc: Global) -> Result<Self, Memory> {
+        Ok(Chain {
+            name: self.name.copy(alloc)?,
+            rules: self.rules.copy(alloc)?,
+        })
+    }
 }
 
 /// Chains in the order of their file.
@@ -52,6 +81,7 @@ pub type ChainList = Listed<Chain>;
 pub struct Chains {
     /// The sets that its rules test.
     pub schema: Schema,
+    /// The chains. The last one is the base chain.
     pub chains: ChainList,
     /// Whether a packet is accepted that no rule decides on.
     pub accept: bool,

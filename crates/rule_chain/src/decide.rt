@@ -4,7 +4,7 @@ ghost use Rattle.std.specs.List.{list_all, zip};
 ghost use Rattle.set_model.specs.Control.{Generation};
 ghost use Rattle.set_model.specs.Runnable.{IsFitting};
 ghost use Rattle.rule_chain.specs.Chains.{rule_count};
-ghost use Rattle.rule_chain.specs.Judged.{kind_number, same_kinds, alike, as_asked, meets, decision_of, DecideNothing, judged};
+ghost use Rattle.rule_chain.specs.Judged.{kind_number, same_kinds, alike, as_asked, meets_test, decision_of, DecideNothing, judged};
 
 use crate::chains::{Act, Chain, Chains, Test};
 use crate::lookups::Lookups;
@@ -59,7 +59,7 @@ fn are_alike(schema: &[SetDecl], set: u32, other: u32) -> bool
 fn meets_test<L: Lookups>(schema: &[SetDecl], lookups: &mut L, packet: &Packet, test: Test) -> bool
     requires schema { L.schema (L.state lookups.old) ≡ schema.now }
     requires packet { IsFitting schema.now packet.now }
-    ensures meets { (g : Generation) → L.looks_in (L.state lookups.old) g → result ≡ meets schema.now g packet.entry.now test }
+    ensures meets { (g : Generation) → L.looks_in (L.state lookups.old) g → result ≡ meets_test schema.now g packet.entry.now test }
     ensures same { L.state lookups.new ≡ L.state lookups.old }
 {
     if !are_alike(schema, test.set, packet.set) {
@@ -78,7 +78,7 @@ fn meets_all<L: Lookups>(
 ) -> bool
     requires schema { L.schema (L.state lookups.old) ≡ schema.now }
     requires packet { IsFitting schema.now packet.now }
-    ensures meets { (g : Generation) → L.looks_in (L.state lookups.old) g → result ≡ list_all (meets schema.now g packet.entry.now) tests.now }
+    ensures meets { (g : Generation) → L.looks_in (L.state lookups.old) g → result ≡ list_all (meets_test schema.now g packet.entry.now) tests.now }
     ensures same { L.state lookups.new ≡ L.state lookups.old }
 {
     match tests {

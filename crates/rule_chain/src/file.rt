@@ -1,11 +1,12 @@
 //! The whole of a rules file.
-ghost use Rattle.std.specs.Prelude.{◌≡◌, ℕ, List, Bool, IfOk, Err};
+ghost use Rattle.std.specs.Prelude.{◌≡◌, ◌≤◌, ℕ, List, Bool, IfOk, Err, length};
 ghost use Rattle.token_forms.specs.Gives.{Gives, IsReadAs};
 ghost use Rattle.token_forms.specs.BadTokens.{IsPlainBadTokenOf, HasOneBadTokenAmong};
 ghost use Rattle.token_forms.specs.Fronts.{AreFrontsClosed, IsRefusedOnce};
 ghost use Rattle.token_forms.specs.TextTokens.{plain_tokens};
 ghost use Rattle.token_forms.specs.declared.token.Reason.{Reason};
 ghost use Rattle.token_forms.specs.declared.error.ReadError.TheVariants.{Bad};
+ghost use Rattle.set_script.specs.Limits.{most_sets};
 ghost use Rattle.rule_chain.specs.Chains.{AreChains};
 ghost use Rattle.rule_chain.specs.Rules.{rules_file};
 ghost use Rattle.rule_chain.specs.RulesReading as reading;
@@ -40,6 +41,7 @@ fn body(
     alloc: Global,
     schema: &[SetDecl],
 ) -> Result<(ChainList, bool), ReadError>
+    requires { length schema.now ≤ most_sets }
     ensures { Gives (λ x. (x.0, x.1)) result reader.new (reading.body schema.now reader.old) }
 {
     let (d, _) = statements(reader, alloc, schema)?;
@@ -52,6 +54,7 @@ fn whole(
     alloc: Global,
     schema: &[SetDecl],
 ) -> Result<(ChainList, bool), ReadError>
+    requires { length schema.now ≤ most_sets }
     ensures { Gives (λ x. (x.0, x.1)) result reader.new (reading.rules_file schema.now reader.old) }
 {
     let (chains, accept) = body(reader, alloc, schema)?;
@@ -61,6 +64,7 @@ fn whole(
 
 /// The chains and the policy that a text stands for.
 fn chains_of(alloc: Global, schema: &[SetDecl], text: &[u8]) -> Result<(ChainList, bool), ReadError>
+    requires { length schema.now ≤ most_sets }
     ensures found { IfOk result (λ x. IsRulesText schema.now text.now (x.0, x.1)) }
     ensures only { (rules : List OneChain × Bool) → IsRulesText schema.now text.now rules → IsReadAs (λ x. (x.0, x.1)) result rules }
     ensures bad { (line : ℕ) (reason : Reason) → result ≡ Err (Bad line reason) → IsBadRules schema.now text.now line reason }
@@ -77,6 +81,8 @@ fn chains_of(alloc: Global, schema: &[SetDecl], text: &[u8]) -> Result<(ChainLis
 /// `Bad` exactly where the text isn't a rules file, with the line of its first token that doesn't fit and the reason:
 /// `Character`, `End`, `Set` where the name of a set may stand, else `Statement`. `Memory` where there is none left.
 pub fn read_rules(alloc: Global, schema: &Schema, text: &[u8]) -> Result<Chains, RulesError>
+    // There are no more sets than a script may declare.
+    requires { length schema.now ≤ most_sets }
     // What is read are the chains and the policy that the text stands for.
     ensures found { IfOk result (λ c. IsRulesText schema.now text.now (c.chains, c.accept)) }
     // A text that stands for chains is read as these, unless memory runs out; so it stands for one list of them at most.
@@ -103,6 +109,7 @@ pub fn read_rules(alloc: Global, schema: &Schema, text: &[u8]) -> Result<Chains,
 ///
 /// `Memory` where there is none left.
 pub fn bad_token(alloc: Global, schema: &Schema, text: &[u8]) -> Result<Option<BadToken>, Memory>
+    requires { length schema.now ≤ most_sets }
     ensures { IfOk result (IsPlainBadTokenOf (rules_file schema.now) text.now) }
 {
     let mut reader = Reader::plain(text);

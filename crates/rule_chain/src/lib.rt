@@ -1,4 +1,12 @@
 //! Rule chains: what becomes of a packet by rules over sets, all of which are looked up in one generation.
+//!
+//! [`read_rules`] reads a rules file, [`Chains::decide`] gives the verdict on one packet, and
+//! [`write_judged`] the lines of packets.
+//!
+//! **Definitions:** `specs/Rules.antt` is the grammar as a table, `RuleNames.antt` has its words,
+//! `RulesText.antt` what a text stands for and `Chains.antt` what holds of it; `Judged.antt` says what
+//! becomes of a packet, and `JudgedText.antt` its line. docs/formats.md tells them. **Proofs:**
+//! docs/proofs.md, "Grammars (`token_forms`)".
 #![tactic(auto)]
 
 mod blocks;

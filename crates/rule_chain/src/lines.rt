@@ -5,7 +5,7 @@ ghost use Rattle.set_model.specs.declared.packet.Packet.{Packet};
 ghost use Rattle.set_model.specs.declared.report.Line.{Line as PacketLine};
 ghost use Rattle.text_pieces.specs.Appends.{AppendsPart};
 ghost use Rattle.rule_chain.specs.Judged.{judged};
-ghost use Rattle.rule_chain.specs.JudgedText.{IsOfRules, accept_text, accepts_by, all_rules, is_accepting, judged_line, judged_text};
+ghost use Rattle.rule_chain.specs.JudgedText.{IsOfRules, accept_text, accepts_by, chain_rules, is_accepting, judged_line, judged_text};
 
 use crate::chains::{Act, Chain, Chains};
 use set_model::{Line, Lines, Memory, Verdict};
@@ -30,7 +30,7 @@ fn accepts(act: Act) -> bool
 /// Whether the rule of a number, through the chains, is one that accepts.
 #[tactic(auto, using(crate::proofs::LineLaws::at_front, crate::proofs::LineLaws::at_behind))]
 fn accepts_at(chains: &[Chain], number: u64) -> bool
-    ensures { result ≡ is_accepting (slice_get (all_rules chains.now) number) }
+    ensures { result ≡ is_accepting (slice_get (chain_rules chains.now) number) }
 {
     match chains {
         [] => false,
@@ -54,7 +54,7 @@ fn policy_word(chains: &Chains) -> &'static [u8]
 
 /// What the rule of a number does, through the file.
 fn rule_word(chains: &Chains, number: u64) -> &'static [u8]
-    ensures { result.now ≡ accept_text (is_accepting (slice_get (all_rules chains.now.chains) number)) }
+    ensures { result.now ≡ accept_text (is_accepting (slice_get (chain_rules chains.now.chains) number)) }
 {
     accept_word(accepts_at(chains.chains.as_slice(), number))
 }

@@ -1,27 +1,19 @@
 //! Rules: their tests, and their acts.
-ghost use Rattle.std.specs.Prelude.{◌≡◌, ◌<◌, length, OnOk, IfOk};
+ghost use Rattle.std.specs.Prelude.{◌≡◌, ◌<◌, ◌≤◌, length, OnOk, IfOk};
 ghost use Rattle.token_forms.specs.View.{lexeme_of};
 ghost use Rattle.token_forms.specs.Gives.{Gives};
+ghost use Rattle.set_script.specs.Limits.{most_sets};
+ghost use Rattle.rule_chain.specs.Chains.{most_chains};
 ghost use Rattle.rule_chain.specs.RulesReading as reading;
 ghost use Rattle.rule_chain.specs.RulesReading.{starts_test};
 
 use crate::chains::{Act, Chain, Rule, RuleList, Test, Tests};
 use crate::draft::ActWord;
 use crate::words::{act_word, place_of_chain, test_word};
-use set_model::{Listed, Memory, SetDecl};
+use set_model::{Listed, SetDecl};
 use set_script::{table_place, used_set};
 use std::alloc::Global;
 use token_forms::{ReadError, Reader, Seen};
-
-/// A place in a list as the types of rules have it. No memory holds a list with a place above 32 bits.
-fn as_place(place: usize) -> Result<u32, Memory>
-    ensures { IfOk result (λ i. i ≡ place) }
-{
-    if place > u32::MAX as usize {
-        return Err(Memory);
-    }
-    Ok(place as u32)
-}
 
 /// The word that begins a test behind so many tests.
 #[tactic(auto, unfolding(token_forms::specs::Gives::Refuses))]
@@ -38,17 +30,21 @@ fn inside(reader: &mut Reader, tests: u64) -> Result<bool, ReadError>
 /// One test more.
 #[tactic(auto, using(token_forms::proofs::Refusals::refusals), unfolding(crate::specs::RulesReading::test))]
 fn test(reader: &mut Reader, schema: &[SetDecl], tests: &mut Tests) -> Result<(), ReadError>
+    requires { length schema.now ≤ most_sets }
     ensures { Gives (λ _. tests.new) result reader.new (reading.test schema.now tests.old reader.old) }
 {
     let inside = inside(reader, tests.len())?;
     let (family, table) = table_place(reader)?;
     let place = used_set(reader, schema, family, table)?;
-    let set = as_place(place)?;
-    tests.push(Test { set, inside })?;
+    tests.push(Test {
+        set: place as u32,
+        inside,
+    })?;
     Ok(())
 }
 
 fn next_test(reader: &mut Reader, schema: &[SetDecl], tests: &mut Tests) -> Result<(), ReadError>
+    requires { length schema.now ≤ most_sets }
     ensures gives { Gives (λ _. tests.new) result reader.new (reading.test schema.now tests.old reader.old) }
     ensures shorter { OnOk result (length reader.new < length reader.old) }
 {
@@ -63,6 +59,7 @@ fn starts_a_test(t: &Seen, tests: &Tests) -> bool
 
 /// The tests of a rule, as far as they go.
 fn all_tests(reader: &mut Reader, alloc: Global, schema: &[SetDecl]) -> Result<Tests, ReadError>
+    requires { length schema.now ≤ most_sets }
     ensures { Gives (λ x. x) result reader.new (reading.all_tests schema.now reader.old) }
 {
     let mut tests = Listed::new(alloc);
@@ -82,7 +79,8 @@ fn all_tests(reader: &mut Reader, alloc: Global, schema: &[SetDecl]) -> Result<T
 /// The name of an earlier chain: its place.
 #[tactic(auto, unfolding(token_forms::specs::Gives::Refuses))]
 fn earlier_chain(reader: &mut Reader, chains: &[Chain]) -> Result<usize, ReadError>
-    ensures { Gives (λ x. x) result reader.new (reading.earlier_chain chains.now reader.old) }
+    ensures gives { Gives (λ x. x) result reader.new (reading.earlier_chain chains.now reader.old) }
+    ensures within { IfOk result (λ place. place < length chains.now) }
 {
     let t = reader.next()?;
     match place_of_chain(chains, t.bytes) {
@@ -93,6 +91,7 @@ fn earlier_chain(reader: &mut Reader, chains: &[Chain]) -> Result<usize, ReadErr
 
 #[tactic(auto, using(token_forms::proofs::Refusals::refusals), unfolding(crate::specs::RulesReading::act_behind))]
 fn act_behind(reader: &mut Reader, chains: &[Chain], word: ActWord) -> Result<Act, ReadError>
+    requires { length chains.now < most_chains }
     ensures { Gives (λ x. x) result reader.new (reading.act_behind chains.now word reader.old) }
 {
     match word {
@@ -101,8 +100,9 @@ fn act_behind(reader: &mut Reader, chains: &[Chain], word: ActWord) -> Result<Ac
         ActWord::Return => Ok(Act::Return),
         ActWord::Jump => {
             let place = earlier_chain(reader, chains)?;
-            let chain = as_place(place)?;
-            Ok(Act::Jump { chain })
+            Ok(Act::Jump {
+                chain: place as u32,
+            })
         }
     }
 }
@@ -121,6 +121,7 @@ fn word_of_act(reader: &mut Reader) -> Result<ActWord, ReadError>
 
 #[tactic(auto, using(token_forms::proofs::Refusals::refusals), unfolding(crate::specs::RulesReading::act))]
 fn act(reader: &mut Reader, chains: &[Chain]) -> Result<Act, ReadError>
+    requires { length chains.now < most_chains }
     ensures { Gives (λ x. x) result reader.new (reading.act chains.now reader.old) }
 {
     let word = word_of_act(reader)?;
@@ -136,6 +137,8 @@ pub fn rule(
     chains: &[Chain],
     rules: &mut RuleList,
 ) -> Result<(), ReadError>
+    requires sets { length schema.now ≤ most_sets }
+    requires chains { length chains.now < most_chains }
     ensures { Gives (λ _. rules.new) result reader.new (reading.rule schema.now chains.now rules.old reader.old) }
 {
     let tests = all_tests(reader, alloc, schema)?;

@@ -1,8 +1,11 @@
-ghost use Rattle.std.specs.Prelude.{IfOk};
+ghost use Rattle.std.specs.Prelude.{◌≤◌, length, IfOk};
 ghost use Rattle.set_model.specs.Runnable.{IsFitting};
+ghost use Rattle.set_script.specs.Limits.{most_sets};
 
-use crate::{Act, Lookups, RulesError, read_rules};
-use set_model::{Family, Key, Kind, Kinds, Memory, Name, Packet, Schema, SetDecl, Verdict, fits};
+use crate::{Act, Lookups, RulesError, Test, read_rules};
+use set_model::{
+    Duplicate, Family, Key, Kind, Kinds, Memory, Name, Packet, Schema, SetDecl, Verdict, fits,
+};
 use std::alloc::Global;
 use std::test::Fail;
 use token_forms::Reason;
@@ -23,14 +26,18 @@ fn ports(alloc: Global, name: &[u8]) -> Result<SetDecl, Memory> {
 }
 
 /// The sets `ip t ok` and `ip t bad`.
-fn two_sets(alloc: Global) -> Result<Schema, Memory> {
+fn two_sets(alloc: Global) -> Result<Schema, Memory>
+    ensures { IfOk result (λ schema. length schema ≤ most_sets) }
+{
     let mut schema = Schema::new(alloc);
     schema.push(ports(alloc, b"ok")?)?;
     schema.push(ports(alloc, b"bad")?)?;
     Ok(schema)
 }
 
-fn is_fault(alloc: Global, schema: &Schema, text: &[u8], line: u64, reason: Reason) -> bool {
+fn is_fault(alloc: Global, schema: &Schema, text: &[u8], line: u64, reason: Reason) -> bool
+    requires { length schema.now ≤ most_sets }
+{
     match read_rules(alloc, schema, text) {
         Ok(_) => false,
         Err(e) => e == RulesError::Bad { line, reason },
@@ -63,6 +70,33 @@ fn chains_and_their_rules_are_read(rt: HostRuntime) -> Result<(), Fail> {
     assert_eq!(rt; tests.len(), 2);
     assert_eq!(rt; (tests.at(0).set, tests.at(0).inside), (1, false));
     assert_eq!(rt; (tests.at(1).set, tests.at(1).inside), (0, true));
+    Ok(())
+}
+
+#[test]
+fn a_copy_has_the_same_rules(rt: HostRuntime) -> Result<(), Fail> {
+    let alloc = rt.alloc();
+    let schema = two_sets(alloc)?;
+    let rules = read_rules(
+        alloc,
+        &schema,
+        b"chain main { out t bad accept }\npolicy drop\n",
+    )?;
+    let chains = rules.chains.copy(alloc)?;
+    assert_eq!(rt; chains.len(), 1);
+    let main = chains.at(0);
+    assert_eq!(rt; main.name.as_slice(), b"main".as_slice());
+    assert_eq!(rt; main.rules.len(), 1);
+    let rule = main.rules.at(0);
+    assert_eq!(rt; rule.act, Act::Accept);
+    assert_eq!(rt;
+        rule.tests.as_slice(),
+        [Test {
+            set: 1,
+            inside: false
+        }]
+        .as_slice()
+    );
     Ok(())
 }
 

@@ -1,5 +1,7 @@
 ghost use Rattle.std.specs.Prelude.{◌≡◌, ◌<◌, length, IfSome, bytes_eq};
+ghost use Rattle.rule_chain.specs.Chains.{most_chains};
 ghost use Rattle.rule_chain.specs.RuleNames.{inside_of, test_of, act_of, policy_of, rules_word_of, chain_place, is_new_chain};
+ghost use Rattle.rule_chain.specs.declared.draft.RulesWord.TheVariants.{Chain as Begins};
 
 use crate::chains::Chain;
 use crate::draft::{ActWord, RulesDraft, RulesWord};
@@ -34,6 +36,7 @@ pub fn test_word(tests: u64, text: &[u8]) -> Option<bool>
     }
 }
 
+/// What a word does with a packet.
 pub fn act_word(text: &[u8]) -> Option<ActWord>
     ensures { result ≡ act_of text.now }
 {
@@ -65,7 +68,8 @@ pub fn policy_word(text: &[u8]) -> Option<bool>
 
 /// The first word of a statement, where one may stand: a fifth chain may not, nor anything behind the policy.
 pub fn rules_word(d: &RulesDraft, text: &[u8]) -> Option<RulesWord>
-    ensures { result ≡ rules_word_of d.now text.now }
+    ensures word { result ≡ rules_word_of d.now text.now }
+    ensures room { IfSome result (λ word. word ≡ Begins → length d.now.chains < most_chains) }
 {
     if d.policy.is_some() {
         None

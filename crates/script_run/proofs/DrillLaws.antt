@@ -14,7 +14,7 @@ use Rattle.set_model.proofs.ClosedLaws.{closed-section}
 use Rattle.set_space.specs.Open.{opened}
 use Rattle.gen_publish.specs.Publish.{Steering}
 use Rattle.packet_pool.specs.declared.section.SectionResult.{SectionResult}
-use Rattle.packet_pool.specs.Running.{run, Stands, Ran}
+use Rattle.packet_pool.specs.Running.{run, StandsAt, Ran}
 use Rattle.packet_pool.specs.Section.{IsSection}
 use Rattle.drill_gen.specs.Drill.{drill_script, drill_steps, drill_keys, drill_packet, drill_packets}
 use Rattle.set_report.specs.SummaryText.{summary_of, summary_text}
@@ -55,13 +55,13 @@ module _ (steps : List Step) (packets : List Packet) (threads : ℕ) (old mid ne
   abbrev done : Control
   done = section KeepGoing (start old.schema) steps
 
-  behind : Stands [] done (run mid built.failed events)
+  behind : StandsAt [] done (run mid built.failed events)
   behind = built.goes_on.stands [] (start old.schema) (start_stands old.schema old committed work)
 
-  quiet : Stands done.events done (run mid false [])
+  quiet : StandsAt done.events done (run mid false [])
   quiet = record { committed = behind.committed; last = behind.last; sets = behind.sets; failed = closed-section steps closed KeepGoing (start old.schema) refl; told = sym (append-nil done.events) }
 
-  ended : Stands done.events done (run new rest.failed more)
+  ended : StandsAt done.events done (run new rest.failed more)
   ended = rest.goes_on.stands done.events done quiet
 
   pub drilled-behind : (r : SectionResult) → r.events ≡ events → r.lines ≡ lines → IsDrilled done packets new r

@@ -15,15 +15,15 @@ use Rattle.set_model.specs.Legal.{AreLegal, IsLegalLine, IsLegalPair, IsVerdict,
 use Rattle.set_model.specs.Runnable.{IsFitting}
 use Rattle.set_model.specs.Text.{run_text, section_text, section_count, events_text, section_lines, packets_before, packets_up_to}
 use Rattle.gen_publish.specs.Publish.{Steering, Grown, declared_kinds}
-use Rattle.packet_pool.specs.Running.{run, Stands, Ran}
+use Rattle.packet_pool.specs.Running.{run, StandsAt, Ran}
 use Rattle.packet_pool.proofs.RunLaws.{fold-more}
 use Rattle.set_report.specs.Writes.{NamesSet, AreSetsOf}
 use Rattle.set_space.specs.Open.{opened}
-use Rattle.packet_pool.specs.Section.{IsSection, IsSectionLine, IsAnswer}
+use Rattle.packet_pool.specs.Section.{IsSection, IsSectionLine, AnswersPacket}
 use Rattle.packet_pool.specs.Work.{AllReady}
 use Rattle.script_run.specs.declared.telling.Telling.{Telling}
 use Rattle.set_model.specs.Runnable.{EndsClosed}
-use Rattle.script_run.specs.Telling.{section_at, Begins, IsAnsweredBy, TellsSection}
+use Rattle.script_run.specs.Telling.{section_at, IsAtStart, IsAnsweredBy, TellsSection}
 use Rattle.set_model.proofs.ClosedLaws.{closed-section}
 use Rattle.script_run.proofs.ControlLaws.{history-next, history_numbered, section_later, history_of, history_sets}
 use Rattle.script_run.proofs.Lists.{list_any-append, append-either, drop-take-behind, of-item}
@@ -123,7 +123,7 @@ module _ (verdict : Generation → Packet → Verdict) (mode : Mode) (script : S
   here q line at e f = let within = slice_get_within more q line e in let size = answers.one_each in
       placed-here j q keys at (omega (arith, within, size)) (ap (λ n. slice_get (placed keys) (n + q)) (sym long) ∙ f)
 
-  verdict-is : (packet : Packet) (line : Line) → IsFitting script.schema packet → IsAnswer verdict (after mode script (suc j)).committed packet line → IsVerdict Says (after mode script (suc j)).committed packet line.generation line.verdict
+  verdict-is : (packet : Packet) (line : Line) → IsFitting script.schema packet → AnswersPacket verdict (after mode script (suc j)).committed packet line → IsVerdict Says (after mode script (suc j)).committed packet line.generation line.verdict
   verdict-is packet line fit answer =
       let sets = grown_at script.schema 0 (after mode script (suc j)).committed grown line.generation answer.0 answer.1 in
       record { generation = answer.0; is_committed = answer.1; says = record { sets = sets; fits = fit; answer_is = answer.2 } }
@@ -188,7 +188,7 @@ module _ (verdict : Generation → Packet → Verdict) (mode : Mode) (script : S
 -- The first n sections of a run are told.
 pub record IsToldUpTo (verdict : Generation → Packet → Verdict) (packets_text : List Line → List ℕ) (keep_going : Bool) (script : Script) (keys : List (List Packet)) (threads n : ℕ) (t : Telling) : Type 0 where
   pub lines : List Line
-  pub stands : Stands (before (mode_of keep_going) script n).events (before (mode_of keep_going) script n) (run t.control false [])
+  pub stands : StandsAt (before (mode_of keep_going) script n).events (before (mode_of keep_going) script n) (run t.control false [])
   pub schema_is : t.control.schema ≡ script.schema
   pub threads_are : length t.readers.items ≡ threads
   pub ready : AllReady t.control t.readers.items
@@ -202,7 +202,7 @@ module _ (verdict : Generation → Packet → Verdict) (packets_text : List Line
   abbrev mode : Mode
   mode = mode_of keep_going
 
-  pub told_none : (t : Telling) → Begins script.schema threads t → IsToldUpTo verdict packets_text keep_going script keys threads 0 t
+  pub told_none : (t : Telling) → IsAtStart script.schema threads t → IsToldUpTo verdict packets_text keep_going script keys threads 0 t
   told_none t b = record {
     lines = [];
     stands = record { committed = sym b.committed; last = sym (ap (λ w. w.base) b.work); sets = sym (ap (λ w. w.sets) b.work); failed = refl; told = refl };
@@ -233,8 +233,8 @@ module _ (verdict : Generation → Packet → Verdict) (packets_text : List Line
       let c : Control = before mode script n in
       let c' : Control = after mode script n in
       let goes = tells.ran.goes_on in
-      let next : Stands c.events (section mode c (section_at script.sections n)) (run new.control tells.ran.failed tells.events) = goes.stands c.events c h.stands in
-      let here : Stands c.events c' (run new.control tells.ran.failed tells.events) = subst (λ (k : Control). Stands c.events k (run new.control tells.ran.failed tells.events)) (sym (after-next mode script n)) next in
+      let next : StandsAt c.events (section mode c (section_at script.sections n)) (run new.control tells.ran.failed tells.events) = goes.stands c.events c h.stands in
+      let here : StandsAt c.events c' (run new.control tells.ran.failed tells.events) = subst (λ (k : Control). StandsAt c.events k (run new.control tells.ran.failed tells.events)) (sym (after-next mode script n)) next in
       let quiet : c'.failed ≡ false = ap (λ (k : Control). k.failed) (after-next mode script n) ∙ closed-section (section_at script.sections n) closed mode c h.stands.failed in
       let events : section_events mode script n ≡ tells.events = ap (drop (length c.events)) here.told ∙ drop-behind c.events tells.events in
       let all : List Line = h.lines ++ tells.lines in
@@ -292,7 +292,7 @@ closed-at sections j h = go (slice_get sections j) refl where
   go (Some ys) e = of-item EndsClosed sections j ys h e
 
 -- Where a control stands behind sections, what was told names a declared set, and its sets are those declared.
-module _ (mode : Mode) (schema : List SetDecl) (sections : List (List Step)) (k : Steering) (events : List Event) (st : Stands [] (history mode schema sections) (run k false events)) where
+module _ (mode : Mode) (schema : List SetDecl) (sections : List (List Step)) (k : Steering) (events : List Event) (st : StandsAt [] (history mode schema sections) (run k false events)) where
   pub events_declared : All (NamesSet (length schema)) events
   events_declared =
       subst (λ n. All (NamesSet n) events) (length-map schema (λ (d : SetDecl). d.kinds))
@@ -301,15 +301,15 @@ module _ (mode : Mode) (schema : List SetDecl) (sections : List (List Step)) (k 
   pub sets_declared : AreSetsOf schema k.work.base.sets
   sets_declared = subst (λ (g : Generation). AreSetsOf schema g.sets) st.last (history_sets mode schema sections)
 
-pub start_stands : (schema : List SetDecl) (k : Steering) → k.committed ≡ first_generation schema ∷ [] → k.work ≡ opened (first_generation schema) → Stands [] (start schema) (run k false [])
+pub start_stands : (schema : List SetDecl) (k : Steering) → k.committed ≡ first_generation schema ∷ [] → k.work ≡ opened (first_generation schema) → StandsAt [] (start schema) (run k false [])
 start_stands schema k list work = record { committed = sym list; last = sym (ap (λ w. w.base) work); sets = sym (ap (λ w. w.sets) work); failed = refl; told = refl }
 
 -- The next section.
 pub next_stands : (keep_going : Bool) (schema : List SetDecl) (sections : List (List Step)) (i : ℕ) (steps : List Step) (k new : Steering) (events told all : List Event) → i < length sections → steps ≡ get_or sections i steps
-    → EndsClosed steps → Stands [] (history (mode_of keep_going) schema (take i sections)) (run k false events) → Ran keep_going steps k new told → all ≡ events ++ told
-    → Stands [] (history (mode_of keep_going) schema (take (i + 1) sections)) (run new false all)
+    → EndsClosed steps → StandsAt [] (history (mode_of keep_going) schema (take i sections)) (run k false events) → Ran keep_going steps k new told → all ≡ events ++ told
+    → StandsAt [] (history (mode_of keep_going) schema (take (i + 1) sections)) (run new false all)
 next_stands keep_going schema sections i steps k new events told all h e closed st ran more =
     let c : Control = history (mode_of keep_going) schema (take i sections) in
     let next = ran.goes_on.stands events c (record { committed = st.committed; last = st.last; sets = st.sets; failed = st.failed; told = st.told ∙ sym (append-nil events) }) in
-    subst (λ (x : Control). Stands [] x (run new false all)) (fold-more (section (mode_of keep_going)) (start schema) sections i steps h e)
+    subst (λ (x : Control). StandsAt [] x (run new false all)) (fold-more (section (mode_of keep_going)) (start schema) sections i steps h e)
     (record { committed = next.committed; last = next.last; sets = next.sets; failed = closed-section steps closed (mode_of keep_going) c st.failed; told = next.told ∙ sym more })

@@ -26,7 +26,7 @@ abbrev pub looked_up : Generation → Packet → Verdict
 looked_up g p = verdict_in p.key p.now (slice_get g.sets p.set)
 
 -- Nothing is done yet: the control is at generation 0, and so are all readers.
-pub record Begins (schema : List SetDecl) (threads : ℕ) (t : Telling) : Type 0 where
+pub record IsAtStart (schema : List SetDecl) (threads : ℕ) (t : Telling) : Type 0 where
   pub schema_is : t.control.schema ≡ schema
   pub committed : t.control.committed ≡ first_generation schema ∷ []
   pub work : t.control.work ≡ opened (first_generation schema)

@@ -39,7 +39,7 @@ fn answer_behind<R: Threads + Sync, G: Gate>(
     ensures { IfOk result (λ r. IsDrilled (section KeepGoing (begins control.old.schema) steps.now) packets.now control.new r) }
 {
     let keep_going = true;
-    if !has_numbers(control, steps) {
+    if !has_numbers(control, steps.len()) {
         return Err(Memory);
     }
     gate.section(0, 1, 0);
@@ -56,7 +56,7 @@ fn answer_behind<R: Threads + Sync, G: Gate>(
         gate,
     )?;
     let nothing = Steps::new(alloc);
-    if !has_numbers(control, &nothing) {
+    if !has_numbers(control, nothing.len()) {
         return Err(Memory);
     }
     gate.section(1, 1, packets.len());

@@ -25,7 +25,9 @@ use std::thread::Threads;
 /// What a command writes: its text, and whether that tells that a change was refused.
 #[derive(Drop)]
 pub struct Output {
+    /// The text that is written.
     pub text: Vec<u8>,
+    /// Whether it tells that a change was refused.
     pub refused: bool,
 }
 

@@ -1,10 +1,10 @@
-ghost use Rattle.std.specs.Prelude.{◌||◌, ◌≡◌, ◌<◌, ◌≤◌, length, map, All, IfOk, OnOk, Some};
+ghost use Rattle.std.specs.Prelude.{◌||◌, ◌≡◌, ◌<◌, ◌≤◌, ◌^◌, length, map, All, IfOk, OnOk, Some};
 ghost use Rattle.std.specs.List.{list_any};
 ghost use Rattle.set_model.specs.Control.{is_refusal as refuses};
 ghost use Rattle.set_model.specs.Runnable.{IsFitting, IsRunnableStep};
 ghost use Rattle.set_space.specs.Open.{CanBeBuilt};
 ghost use Rattle.packet_pool.specs.Work.{AllReady};
-ghost use Rattle.script_run.specs.Telling.{Begins, TellsSection};
+ghost use Rattle.script_run.specs.Telling.{IsAtStart, TellsSection};
 
 use crate::numbers::has_numbers;
 use crate::output::Output;
@@ -19,28 +19,21 @@ use std::thread::Threads;
 /// A run that is told as it goes: where it stands, and what is written so far.
 #[derive(Drop)]
 pub struct Telling {
+    /// The control behind what is told.
     pub control: Control,
     /// The packet threads' readers, by their numbers.
     pub readers: Vec<Option<Reader>>,
     /// How many packets are told.
     pub packets: u64,
+    /// What is written so far.
     pub output: Output,
-}
-
-fn is_refusal(event: &Event) -> bool
-    ensures { result ≡ refuses event.now }
-{
-    match event {
-        Event::Refused { .. } => true,
-        Event::Committed { .. } | Event::Aborted { .. } | Event::Dropped { .. } => false,
-    }
 }
 
 /// Whether an event tells that a change was refused.
 pub fn tells_refusal(events: &[Event]) -> bool
     ensures { result ≡ list_any refuses events.now }
 {
-    events.iter().any(|event| is_refusal(event))
+    events.iter().any(|event| event.is_refusal())
 }
 
 /// Whether a refusal was told before, or these events tell one.
@@ -66,7 +59,8 @@ impl Telling {
     pub fn new(alloc: Global, schema: Schema, threads: u32) -> Result<Telling, Memory>
         requires threads { (0 < threads) × (threads ≤ 16) }
         requires sets { All CanBeBuilt schema }
-        ensures { IfOk result (λ t. Begins schema threads t) }
+        requires few_sets { length schema ≤ 2 ^ 32 }
+        ensures { IfOk result (λ t. IsAtStart schema threads t) }
     {
         let (control, readers) = start(alloc, schema, threads)?;
         let all = at_places(alloc, readers)?;
@@ -102,7 +96,7 @@ impl Telling {
         let Some(end) = first.checked_add(packets.len()) else {
             return Err(Memory);
         };
-        if !has_numbers(&self.control, steps) {
+        if !has_numbers(&self.control, steps.len()) {
             return Err(Memory);
         }
         self.control.known();

@@ -2,7 +2,7 @@ ghost use Rattle.std.specs.Prelude.{◌≡◌, ◌++◌, [], false, length, All,
 ghost use Rattle.set_model.specs.Control.{mode_of, history};
 ghost use Rattle.set_model.specs.Runnable.{IsRunnable};
 ghost use Rattle.set_report.specs.Writes.{NamesSet, AreSetsOf};
-ghost use Rattle.packet_pool.specs.Running.{run, Stands};
+ghost use Rattle.packet_pool.specs.Running.{run, StandsAt};
 
 use crate::numbers::has_numbers;
 use gen_publish::{Control, start};
@@ -13,7 +13,9 @@ use std::alloc::Global;
 /// A script that was run to its end, and all that was told.
 #[derive(Drop)]
 pub struct Whole {
+    /// The control behind the last step.
     pub control: Control,
+    /// What all steps told, in their order.
     pub events: Events,
 }
 
@@ -36,7 +38,7 @@ impl Whole {
         gate: &G,
     ) -> Result<Whole, Memory>
         requires script { IsRunnable script }
-        ensures ends { IfOk result (λ whole. Stands [] (history (mode_of keep_going) script.schema script.sections) (run whole.control false whole.events)) }
+        ensures ends { IfOk result (λ whole. StandsAt [] (history (mode_of keep_going) script.schema script.sections) (run whole.control false whole.events)) }
         ensures schema { IfOk result (λ whole. whole.control.schema ≡ script.schema) }
         ensures named { IfOk result (λ whole. All (NamesSet (length script.schema)) whole.events) }
         ensures sets { IfOk result (λ whole. AreSetsOf script.schema whole.control.work.base.sets) }
@@ -53,7 +55,7 @@ impl Whole {
         'sections: for steps in sections.as_slice() {
             gate.section(number, last, 0);
             number = number.saturating_add(1);
-            if !has_numbers(&control, steps) {
+            if !has_numbers(&control, steps.len()) {
                 return Err(Memory);
             }
             let told = run_steps(alloc, &mut control, steps, keep_going, gate)?;

@@ -2,6 +2,8 @@
 /// 24 free bits.
 #[derive(Clone, Copy, Debug, PartialEq, Eq)]
 pub struct Block {
+    /// The lowest value, a multiple of their number.
     pub base: u128,
+    /// How many of the lowest bits are free.
     pub free_bits: u32,
 }

@@ -18,6 +18,7 @@ pub type Comment = Shared<u8>;
 pub struct Element {
     /// Its number in the order of insertion, never given twice in one set.
     pub id: u64,
+    /// One interval per field.
     pub parts: Parts,
     /// The moment, in milliseconds, from which on it is expired; `None` where it never is.
     pub expiry: Option<u64>,
@@ -39,6 +40,7 @@ impl Duplicate for Element {
 /// An element that is to be added, as yet without an id.
 #[derive(Drop)]
 pub struct NewElement {
+    /// One interval per field.
     pub parts: Parts,
     /// The moment, in milliseconds, from which on it is expired; `None` where it never is.
     pub expiry: Option<u64>,

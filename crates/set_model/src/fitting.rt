@@ -24,7 +24,7 @@ fn all_values_fit(kinds: &[Kind], key: &[u128]) -> bool
 }
 
 /// Whether an interval of a kind doesn't fall and stays within the kind's bits.
-fn is_good(kind: Kind, part: &Interval) -> bool
+pub fn is_good(kind: Kind, part: &Interval) -> bool
     ensures { result ≡ good kind part.now }
 {
     part.low <= part.high && is_below(part.high, kind.bits())

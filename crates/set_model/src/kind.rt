@@ -36,7 +36,9 @@ impl Kind {
 /// The values from `low` to `high`, both included.
 #[derive(Clone, Copy, Debug, PartialEq, Eq)]
 pub struct Interval {
+    /// The lowest value.
     pub low: u128,
+    /// The highest value.
     pub high: u128,
 }
 

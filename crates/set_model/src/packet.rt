@@ -6,8 +6,11 @@ use std::alloc::Global;
 /// A packet: the set that it is looked up in, its key and its moment in milliseconds.
 #[derive(Drop)]
 pub struct Packet {
+    /// The set, by its place among the declared sets.
     pub set: u32,
+    /// One value per field.
     pub key: Key,
+    /// Its moment, in milliseconds.
     pub now: u64,
 }
 
@@ -30,7 +33,9 @@ pub type Keys = Listed<Packets>;
 /// Where a lookup found an element, and its id.
 #[derive(Clone, Copy, Debug, PartialEq, Eq)]
 pub struct Found {
+    /// The place in the list of elements, from 0.
     pub place: u64,
+    /// The number in the order of insertion.
     pub id: u64,
 }
 

@@ -1,3 +1,6 @@
+ghost use Rattle.std.specs.Prelude.{◌≡◌};
+ghost use Rattle.set_model.specs.Control.{is_refusal as refuses};
+
 use crate::listed::{Duplicate, Listed};
 use crate::memory::Memory;
 use crate::packet::Verdict;
@@ -28,13 +31,29 @@ pub enum Event {
     Dropped { generation: u64 },
 }
 
+impl Event {
+    /// Whether it tells that a change was refused.
+    pub fn is_refusal(&self) -> bool
+        ensures { result ≡ refuses self.now }
+    {
+        match self {
+            Event::Refused { .. } => true,
+            Event::Committed { .. } | Event::Aborted { .. } | Event::Dropped { .. } => false,
+        }
+    }
+}
+
 /// The answer to one packet: its number, the thread that looked it up, and the generation and
 /// verdict that it got.
 #[derive(Clone, Copy, Debug, PartialEq, Eq)]
 pub struct Line {
+    /// The packet's number among all packets, from 0.
     pub packet: u64,
+    /// The number of the thread that looked it up, from 0.
     pub thread: u32,
+    /// The number of the generation in which it was looked up.
     pub generation: u64,
+    /// What was found there.
     pub verdict: Verdict,
 }
 

@@ -21,9 +21,13 @@ pub enum Family {
 /// A set as a script declares it.
 #[derive(Drop)]
 pub struct SetDecl {
+    /// The family of its table.
     pub family: Family,
+    /// The name of its table.
     pub table: Name,
+    /// Its own name.
     pub name: Name,
+    /// What each field of a key is.
     pub kinds: Kinds,
     /// The flag `interval`: intervals of more than one value may stand in it.
     pub interval: bool,
@@ -123,7 +127,9 @@ pub type Sections = Listed<Steps>;
 /// What a script's text stands for.
 #[derive(Drop)]
 pub struct Script {
+    /// The declared sets, in their order.
     pub schema: Schema,
+    /// The sections, of which there is one at least.
     pub sections: Sections,
     /// The last moment of the script.
     pub last: u64,

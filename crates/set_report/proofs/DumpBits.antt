@@ -10,7 +10,7 @@ use Rattle.std.proofs.lemmas.Nat.{div-add-mod'}
 use Rattle.std.proofs.lemmas.Nat.Bits.{bit_at-lt, bit_at-suc, bit_at_lowest, bit_at_cat_low, same_from_bits_below}
 use Rattle.bit_rows.specs.Row.{at, bit, IsNextSet, IsSpelling}
 use Rattle.bit_rows.proofs.Bits.{bit-shr, bit-zero}
-use Rattle.set_report.specs.DumpText.{number_of, byte_of, same_bitmap, is_any_set}
+use Rattle.set_report.specs.DumpText.{bits_number, byte_of, same_bitmap, is_any_set}
 use Rattle.set_report.proofs.DumpRuns.{same-Decides}
 
 -- ---- numbers of bits
@@ -26,28 +26,28 @@ words-same : (n a b : ℕ) → a < 2 ^ n → b < 2 ^ n → ((k : ℕ) → k < n 
 unfolding bit
 words-same n a b small less same = same_from_bits_below n a b small less (λ k h. one_test (bit_at a k) (bit_at b k) (bit_at-lt a k) (bit_at-lt b k) (same k h))
 
-number-below : (n : ℕ) (xs : List Bool) → length xs ≤ n → number_of xs < 2 ^ n
+number-below : (n : ℕ) (xs : List Bool) → length xs ≤ n → bits_number xs < 2 ^ n
 number-below zero [] h = omega arith
 number-below zero (x ∷ xs) h = absurd (omega arith)
 number-below (suc n) [] h = omega (arith, pow-suc 2 n, number-below n [] (omega arith))
 number-below (suc n) (true ∷ xs) h = omega (arith, pow-suc 2 n, number-below n xs (omega arith))
 number-below (suc n) (false ∷ xs) h = omega (arith, pow-suc 2 n, number-below n xs (omega arith))
 
-number-bit : (xs : List Bool) (k : ℕ) → bit (number_of xs) k ≡ at xs k
+number-bit : (xs : List Bool) (k : ℕ) → bit (bits_number xs) k ≡ at xs k
 unfolding bit
 number-bit [] k = bit-zero k
 number-bit (true ∷ xs) zero =
-    let low : (1 + 2 * number_of xs) % 2 ≡ 1 = omega arith in
-    ap (λ m. m == 1) (bit_at_lowest (1 + 2 * number_of xs) ∙ low)
+    let low : (1 + 2 * bits_number xs) % 2 ≡ 1 = omega arith in
+    ap (λ m. m == 1) (bit_at_lowest (1 + 2 * bits_number xs) ∙ low)
 number-bit (false ∷ xs) zero =
-    let low : (0 + 2 * number_of xs) % 2 ≡ 0 = omega arith in
-    ap (λ m. m == 1) (bit_at_lowest (0 + 2 * number_of xs) ∙ low)
+    let low : (0 + 2 * bits_number xs) % 2 ≡ 0 = omega arith in
+    ap (λ m. m == 1) (bit_at_lowest (0 + 2 * bits_number xs) ∙ low)
 number-bit (true ∷ xs) (suc k) =
-    let half : (1 + 2 * number_of xs) / 2 ≡ number_of xs = omega arith in
-    ap (λ m. m == 1) (bit_at-suc (1 + 2 * number_of xs) k ∙ ap (λ m. bit_at m k) half) ∙ number-bit xs k
+    let half : (1 + 2 * bits_number xs) / 2 ≡ bits_number xs = omega arith in
+    ap (λ m. m == 1) (bit_at-suc (1 + 2 * bits_number xs) k ∙ ap (λ m. bit_at m k) half) ∙ number-bit xs k
 number-bit (false ∷ xs) (suc k) =
-    let half : (0 + 2 * number_of xs) / 2 ≡ number_of xs = omega arith in
-    ap (λ m. m == 1) (bit_at-suc (0 + 2 * number_of xs) k ∙ ap (λ m. bit_at m k) half) ∙ number-bit xs k
+    let half : (0 + 2 * bits_number xs) / 2 ≡ bits_number xs = omega arith in
+    ap (λ m. m == 1) (bit_at-suc (0 + 2 * bits_number xs) k ∙ ap (λ m. bit_at m k) half) ∙ number-bit xs k
 
 bit-of-byte : (x k : ℕ) → k < 8 → bit (x % 256) k ≡ bit x k
 unfolding bit

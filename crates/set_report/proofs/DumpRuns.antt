@@ -6,7 +6,7 @@ use Rattle.std.proofs.lemmas.Bool.{false_from_ne_true}
 use Rattle.std.proofs.lemmas.Option.{get_or_from_slice_get}
 use Rattle.std.proofs.lemmas.Slice.Eq.{slice_eq-Decides}
 use Rattle.bit_rows.specs.Row.{Row}
-use Rattle.set_report.specs.DumpText.{Run, same_bit, same_bitmap, with_bucket, runs_from, is_any_set, run_text, runs_text}
+use Rattle.set_report.specs.DumpText.{BucketRun, same_bit, same_bitmap, with_bucket, runs_from, is_any_set, run_line, runs_text}
 use Rattle.set_report.specs.DumpBuckets.{bits_at, bitmaps_of}
 
 bit-Decides : (x y : Bool) → Decides (same_bit x y) (x ≡ y)
@@ -25,25 +25,25 @@ other-to : (xs ys : List Bool) → (xs ≡ ys → ⊥) → same_bitmap xs ys ≡
 other-to xs ys no_way = false_from_ne_true (same_bitmap xs ys) (λ e. no_way ((same-Decides xs ys).0 e))
 
 -- a bucket with the bitmap of the first run belongs to it
-joins : (v : ℕ) (bits : List Bool) (run : Run) (runs : List Run) → bits ≡ run.bitmap
+joins : (v : ℕ) (bits : List Bool) (run : BucketRun) (runs : List BucketRun) → bits ≡ run.bitmap
     → with_bucket v bits (run ∷ runs) ≡ record { from = v; to = run.to; bitmap = bits } ∷ runs
 joins v bits run runs e =
     ap (λ t. cond t (record { from = v; to = run.to; bitmap = bits } ∷ runs) (record { from = v; to = v; bitmap = bits } ∷ run ∷ runs)) (same-to bits run.bitmap e)
 
 -- a bucket with another bitmap is a run of its own
-begins : (v : ℕ) (bits : List Bool) (run : Run) (runs : List Run) → (bits ≡ run.bitmap → ⊥)
+begins : (v : ℕ) (bits : List Bool) (run : BucketRun) (runs : List BucketRun) → (bits ≡ run.bitmap → ⊥)
     → with_bucket v bits (run ∷ runs) ≡ record { from = v; to = v; bitmap = bits } ∷ run ∷ runs
 begins v bits run runs other =
     ap (λ t. cond t (record { from = v; to = run.to; bitmap = bits } ∷ runs) (record { from = v; to = v; bitmap = bits } ∷ run ∷ runs)) (other-to bits run.bitmap other)
 
 -- the first run has the bitmap of the first bucket
-pub record IsHead (bits : List Bool) (runs : List Run) : Type 0 where
-  first : Run
-  rest : List Run
+pub record IsHead (bits : List Bool) (runs : List BucketRun) : Type 0 where
+  first : BucketRun
+  rest : List BucketRun
   is : runs ≡ first ∷ rest
   same : first.bitmap ≡ bits
 
-head-of : (v : ℕ) (bits : List Bool) (runs : List Run) → IsHead bits (with_bucket v bits runs)
+head-of : (v : ℕ) (bits : List Bool) (runs : List BucketRun) → IsHead bits (with_bucket v bits runs)
 head-of v bits [] = record { first = record { from = v; to = v; bitmap = bits }; rest = []; is = refl; same = refl }
 head-of v bits (run ∷ runs) = by (same_bitmap bits run.bitmap) where
   by : (t : Bool) → IsHead bits (cond t (record { from = v; to = run.to; bitmap = bits } ∷ runs) (record { from = v; to = v; bitmap = bits } ∷ run ∷ runs))
@@ -51,14 +51,14 @@ head-of v bits (run ∷ runs) = by (same_bitmap bits run.bitmap) where
   by false = record { first = record { from = v; to = v; bitmap = bits }; rest = run ∷ runs; is = refl; same = refl }
 
 -- a bucket in front of runs of which the first has another bitmap
-apart : (v : ℕ) (bits others : List Bool) (runs : List Run) → IsHead others runs → (others ≡ bits → ⊥)
+apart : (v : ℕ) (bits others : List Bool) (runs : List BucketRun) → IsHead others runs → (others ≡ bits → ⊥)
     → with_bucket v bits runs ≡ record { from = v; to = v; bitmap = bits } ∷ runs
 apart v bits others runs h other =
     ap (with_bucket v bits) h.is ∙ begins v bits h.first h.rest (λ e. other (sym h.same ∙ sym e)) ∙ ap (λ rs. record { from = v; to = v; bitmap = bits } ∷ rs) (sym h.is)
 
 module _ (f : ℕ → List Bool) where
   -- the runs of the n buckets from v on
-  abbrev pub runs_of : ℕ → ℕ → List Run
+  abbrev pub runs_of : ℕ → ℕ → List BucketRun
   runs_of v n = runs_from v (map f (range_with_len v n))
 
   alone : (v n : ℕ) → (0 < n → f (v + 1) ≡ f v → ⊥) → runs_of v (suc n) ≡ record { from = v; to = v; bitmap = f v } ∷ runs_of (v + 1) n
@@ -103,13 +103,13 @@ pub at-bits : (rows : List Row) (j : ℕ) (row : Row) → slice_get rows j ≡ S
 at-bits rows j row e = ap (λ r. r.bits) (get_or_from_slice_get rows j row _ e)
 
 -- the lines of a run and of those behind it
-runs-cons : (g : ℕ) (run : Run) (runs : List Run) → runs_text g (run ∷ runs) ≡ runs_text g (run ∷ []) ++ runs_text g runs
+runs-cons : (g : ℕ) (run : BucketRun) (runs : List BucketRun) → runs_text g (run ∷ runs) ≡ runs_text g (run ∷ []) ++ runs_text g runs
 runs-cons g run runs = by (is_any_set run.bitmap) where
-  others : List Run
+  others : List BucketRun
   others = filter (λ r. is_any_set r.bitmap) runs
 
-  by : (t : Bool) → flat_map (run_text g) (cond t (run ∷ others) others) ≡ flat_map (run_text g) (cond t (run ∷ []) []) ++ flat_map (run_text g) others
-  by true = ap (λ t. t ++ flat_map (run_text g) others) (sym (append-nil (run_text g run)))
+  by : (t : Bool) → flat_map (run_line g) (cond t (run ∷ others) others) ≡ flat_map (run_line g) (cond t (run ∷ []) []) ++ flat_map (run_line g) others
+  by true = ap (λ t. t ++ flat_map (run_line g) others) (sym (append-nil (run_line g run)))
   by false = refl
 
 -- what is left of a group's lines: those of the first run, and then the others

@@ -16,25 +16,25 @@ use Rattle.set_model.specs.declared.element.Element.{Element}
 use Rattle.set_model.specs.declared.script.SetDecl.{SetDecl}
 use Rattle.set_model.specs.Key.{is_good, parts_fit}
 use Rattle.set_model.specs.SetState.{State, empty_set}
-use Rattle.set_report.specs.Kept.{Keeps}
+use Rattle.set_report.specs.Kept.{KeepsBytes}
 use Rattle.set_report.specs.ListText.{element_text, elements_line, same_table, sets_beside, first_sets}
 use Rattle.text_pieces.specs.Appends.{AppendsPart}
 use Rattle.text_pieces.proofs.PartLaws.{none_part}
 
 -- What is kept.
-pub keeps_same : (old new : List ℕ) → new ≡ old → Keeps old new
+pub keeps_same : (old new : List ℕ) → new ≡ old → KeepsBytes old new
 keeps_same old new e = record { behind = []; appended = e ∙ sym (append-nil old) }
 
-pub keeps_more : (old mid new text : List ℕ) → mid ≡ old ++ text → Keeps mid new → Keeps old new
+pub keeps_more : (old mid new text : List ℕ) → mid ≡ old ++ text → KeepsBytes mid new → KeepsBytes old new
 keeps_more old mid new text e k = record { behind = text ++ k.behind; appended = k.appended ∙ ap (λ m. m ++ k.behind) e ∙ append_assoc old text k.behind }
 
-pub keeps_on : (old mid new : List ℕ) → Keeps old mid → Keeps mid new → Keeps old new
+pub keeps_on : (old mid new : List ℕ) → KeepsBytes old mid → KeepsBytes mid new → KeepsBytes old new
 keeps_on old mid new j k = record { behind = j.behind ++ k.behind; appended = k.appended ∙ ap (λ m. m ++ k.behind) j.appended ∙ append_assoc old j.behind k.behind }
 
-pub keeps_part : (old new text : List ℕ) → AppendsPart old new text → Keeps old new
+pub keeps_part : (old new text : List ℕ) → AppendsPart old new text → KeepsBytes old new
 keeps_part old new text p = record { behind = p.part; appended = p.appended }
 
-pub keeps_result : {T E : Type 0} (r : Result T E) (old new text : List ℕ) → OnOk r (new ≡ old ++ text) → OnErr r (AppendsPart old new text) → Keeps old new
+pub keeps_result : {T E : Type 0} (r : Result T E) (old new text : List ℕ) → OnOk r (new ≡ old ++ text) → OnErr r (AppendsPart old new text) → KeepsBytes old new
 keeps_result (Ok v) old new text e p = record { behind = text; appended = e }
 keeps_result (Err v) old new text e p = keeps_part old new text p
 
@@ -94,7 +94,7 @@ joins_get f separator xs i y old mid new next h k e =
 pub two_writes : (mid between new next item : List ℕ) → between ≡ mid ++ (next ++ []) → new ≡ between ++ item → new ≡ mid ++ (next ++ item)
 two_writes mid between new next item e d = d ∙ ap (λ m. m ++ item) (e ∙ ap (λ t. mid ++ t) (append-nil next)) ∙ append_assoc mid next item
 
-pub joins_keeps : {X : Type 0} (f : X → List ℕ) (separator : List ℕ) (xs : List X) (old mid new next : List ℕ) → Joins f separator xs old mid next → Keeps mid new → Keeps old new
+pub joins_keeps : {X : Type 0} (f : X → List ℕ) (separator : List ℕ) (xs : List X) (old mid new next : List ℕ) → Joins f separator xs old mid next → KeepsBytes mid new → KeepsBytes old new
 joins_keeps f separator xs old mid new next k j = keeps_more old mid new (join_by f separator xs) k.text j
 
 pub ruleset kept = (keeps_same, keeps_more, keeps_on, joins_keeps)
@@ -192,7 +192,7 @@ joins_table f separator schema i d old mid new next h fresh j e =
     subst (λ zs. Joins f separator zs old new separator) (sym (ap first_sets (take-get schema i d h) ∙ first_new (take i schema) d fresh)) (joins_one f separator (first_sets (take i schema)) d old mid new next j e)
 
 -- Where memory ran out, what was appended is cut off.
-pub cut : (old mid new text : List ℕ) (n : ℕ) → Keeps old mid → n ≡ length old → new ≡ take n mid → AppendsPart old new text
+pub cut : (old mid new text : List ℕ) (n : ℕ) → KeepsBytes old mid → n ≡ length old → new ≡ take n mid → AppendsPart old new text
 cut old mid new text n k all e = none_part old new text (e ∙ ap (λ m. take m mid) all ∙ ap (take (length old)) k.appended ∙ take-append_seam old k.behind)
 
 -- Parts of a text, one after the other.

@@ -6,7 +6,7 @@ use Rattle.set_model.specs.declared.packet.Verdict.{Verdict}
 use Rattle.set_model.specs.declared.packet.Verdict.TheVariants as verdicts
 use Rattle.set_model.specs.declared.report.Line.{Line}
 use Rattle.set_model.specs.Text.{numbered, packet_text, verdict_text, line_feed}
-use Rattle.set_report.specs.PacketLine.{HasNumbers}
+use Rattle.set_report.specs.PacketLine.{HasMachineNumbers}
 
 -- no byte is this one
 abbrev Lacks : ℕ → List ℕ → Type 0
@@ -75,7 +75,7 @@ regroup a b c d e f = simp append_assoc
 parts : (l : Line) → past 7 (packet_text l) ≡ packet_part l
 parts l = ap (past 7) (regroup (numbered (codes "packet") l.packet) (numbered (codes " thread") l.thread) (numbered (codes " generation") l.generation) (codes " ") (verdict_text l.verdict) line_feed)
 
-pub one_line : (l m : Line) → HasNumbers l → HasNumbers m → packet_text l ≡ packet_text m → l ≡ m
+pub one_line : (l m : Line) → HasMachineNumbers l → HasMachineNumbers m → packet_text l ≡ packet_text m → l ≡ m
 one_line l m k j e =
     let low : 32 < 48 = omega arith in
     let at_packet : packet_part l ≡ packet_part m = sym (parts l) ∙ ap (past 7) e ∙ parts m in

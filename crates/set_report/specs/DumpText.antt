@@ -19,13 +19,13 @@ use Rattle.set_tables.specs.Tables.{field_spans, last_ends}
 use Rattle.set_report.specs.KindText.{kind_text}
 
 -- the number that bits are, the first one the least significant
-abbrev pub number_of : List Bool → ℕ
-number_of [] = 0
-number_of (bit ∷ bits) = (if bit then 1 else 0) + 2 * number_of bits
+abbrev pub bits_number : List Bool → ℕ
+bits_number [] = 0
+bits_number (bit ∷ bits) = (if bit then 1 else 0) + 2 * bits_number bits
 
 -- byte j of a bitmap: its bits from bit 8 * j on
 abbrev pub byte_of : List Bool → ℕ → ℕ
-byte_of bitmap j = number_of (take 8 (drop (8 * j) bitmap))
+byte_of bitmap j = bits_number (take 8 (drop (8 * j) bitmap))
 
 -- a bitmap in hexadecimal, byte by byte, two digits a byte
 abbrev pub bitmap_text : List Bool → List ℕ
@@ -40,13 +40,13 @@ abbrev pub same_bitmap : List Bool → List Bool → Bool
 same_bitmap a b = pointwise same_bit a b
 
 -- the buckets of a group from one value to another, both included, which all have this bitmap
-pub record Run : Type 0 where
+pub record BucketRun : Type 0 where
   pub from : ℕ
   pub to : ℕ
   pub bitmap : List Bool
 
 -- One bucket more in front of runs: where it has the bitmap of the first run it belongs to that one.
-abbrev pub with_bucket : ℕ → List Bool → List Run → List Run
+abbrev pub with_bucket : ℕ → List Bool → List BucketRun → List BucketRun
 with_bucket v bitmap [] = record { from = v; to = v; bitmap = bitmap } ∷ []
 with_bucket v bitmap (run ∷ runs) =
     if same_bitmap bitmap run.bitmap
@@ -54,7 +54,7 @@ with_bucket v bitmap (run ∷ runs) =
     else record { from = v; to = v; bitmap = bitmap } ∷ run ∷ runs
 
 -- The longest runs of neighbouring buckets with the same bitmap. The first bucket is that of value v.
-abbrev pub runs_from : ℕ → List (List Bool) → List Run
+abbrev pub runs_from : ℕ → List (List Bool) → List BucketRun
 runs_from v [] = []
 runs_from v (bitmap ∷ bitmaps) = with_bucket v bitmap (runs_from (v + 1) bitmaps)
 
@@ -63,12 +63,12 @@ abbrev pub is_any_set : List Bool → Bool
 is_any_set bitmap = list_any (λ bit. bit) bitmap
 
 -- the line of a run in group g
-abbrev pub run_text : ℕ → Run → List ℕ
-run_text g run = numbered (codes "row") g ++ codes " " ++ decimal run.from ++ codes "-" ++ decimal run.to ++ codes " " ++ bitmap_text run.bitmap ++ line_feed
+abbrev pub run_line : ℕ → BucketRun → List ℕ
+run_line g run = numbered (codes "row") g ++ codes " " ++ decimal run.from ++ codes "-" ++ decimal run.to ++ codes " " ++ bitmap_text run.bitmap ++ line_feed
 
 -- the lines of runs whose bitmap isn't all zeros
-abbrev pub runs_text : ℕ → List Run → List ℕ
-runs_text g runs = flat_map (run_text g) (filter (λ run. is_any_set run.bitmap) runs)
+abbrev pub runs_text : ℕ → List BucketRun → List ℕ
+runs_text g runs = flat_map (run_line g) (filter (λ run. is_any_set run.bitmap) runs)
 
 -- The bitmaps of a group's buckets, value by value: bit r of value v is set where v agrees with rule r on
 -- those bits of the group that the rule fixes.
@@ -109,11 +109,11 @@ abbrev pub field_text : List Kind → List Element → ℕ × Kind → List ℕ
 field_text kinds elements field = table_text field.0 field.1 (field_rules kinds field.0 elements) ++ ways_text kinds elements field.0
 
 -- a set, field by field
-abbrev pub tables_text : SetDecl → State → List ℕ
-tables_text d s =
+abbrev pub set_tables_text : SetDecl → State → List ℕ
+set_tables_text d s =
     codes "set " ++ set_text (Some d) ++ line_feed
     ++ flat_map (field_text s.kinds s.elements) (enumerate_from 0 s.kinds)
 
 -- The tables of the declared sets with these states.
 unfoldable pub dump_text : List SetDecl → List State → List ℕ
-dump_text schema sets = flat_map (λ set. tables_text set.0 set.1) (zip schema sets)
+dump_text schema sets = flat_map (λ set. set_tables_text set.0 set.1) (zip schema sets)

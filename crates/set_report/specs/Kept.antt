@@ -2,6 +2,6 @@
 use Rattle.std.specs.Prelude.{◌≡◌, ℕ, List, ◌++◌}
 
 -- The old bytes stay, and what was appended stands behind them.
-pub record Keeps (old new : List ℕ) : Type 0 where
+pub record KeepsBytes (old new : List ℕ) : Type 0 where
   pub behind : List ℕ
   pub appended : new ≡ old ++ behind

@@ -33,16 +33,16 @@ abbrev pub element_text : SetDecl → ℕ → Element → List ℕ
 element_text d now e = parts_text d.kinds e.parts ++ expiry_text d now e.expiry ++ comment_text e.comment
 
 -- The items of a set, each on a line of its own.
-abbrev pub item_line : List ℕ → List ℕ
-item_line item = codes "\t\t" ++ item ++ codes "\n"
+abbrev pub listed_item : List ℕ → List ℕ
+listed_item item = codes "\t\t" ++ item ++ codes "\n"
 
 abbrev pub type_line : SetDecl → List ℕ
-type_line d = item_line (codes "type " ++ join_by kind_text (codes " . ") d.kinds)
+type_line d = listed_item (codes "type " ++ join_by kind_text (codes " . ") d.kinds)
 
 -- the greatest number of elements, where there is one
 abbrev pub size_line : Option ℕ → List ℕ
 size_line None = []
-size_line (Some n) = item_line (codes "size " ++ decimal n)
+size_line (Some n) = listed_item (codes "size " ++ decimal n)
 
 abbrev pub flag_if : Bool → List ℕ → List (List ℕ)
 flag_if true word = word ∷ []
@@ -55,25 +55,25 @@ flag_words d = flag_if d.interval (codes "interval") ++ flag_if d.timed (codes "
 -- the flags with `,` between them, where there are any
 abbrev pub flags_line : List (List ℕ) → List ℕ
 flags_line [] = []
-flags_line (word ∷ words) = item_line (codes "flags " ++ join_by (λ w. w) (codes ",") (word ∷ words))
+flags_line (word ∷ words) = listed_item (codes "flags " ++ join_by (λ w. w) (codes ",") (word ∷ words))
 
 -- the life of elements that name none, where there is one
 abbrev pub timeout_line : Option ℕ → List ℕ
 timeout_line None = []
-timeout_line (Some t) = item_line (codes "timeout " ++ time_text t)
+timeout_line (Some t) = listed_item (codes "timeout " ++ time_text t)
 
 -- the elements one below another, where there are any
 abbrev pub elements_line : SetDecl → ℕ → List Element → List ℕ
 elements_line d now [] = []
-elements_line d now (e ∷ es) = item_line (codes "elements = { " ++ join_by (element_text d now) (codes ",\n\t\t\t     ") (e ∷ es) ++ codes " }")
+elements_line d now (e ∷ es) = listed_item (codes "elements = { " ++ join_by (element_text d now) (codes ",\n\t\t\t     ") (e ∷ es) ++ codes " }")
 
 -- the items of a set, in this order
 abbrev pub items_text : ℕ → SetDecl → State → List ℕ
 items_text now d s = type_line d ++ size_line d.size ++ flags_line (flag_words d) ++ timeout_line d.timeout ++ elements_line d now s.elements
 
 -- A set with its items.
-abbrev pub set_block : ℕ → SetDecl × State → List ℕ
-set_block now (d, s) = codes "\tset " ++ d.name ++ codes " {\n" ++ items_text now d s ++ codes "\t}\n"
+abbrev pub listed_set : ℕ → SetDecl × State → List ℕ
+listed_set now (d, s) = codes "\tset " ++ d.name ++ codes " {\n" ++ items_text now d s ++ codes "\t}\n"
 
 -- Two sets stand in one table: it is told from others by its family and its name.
 abbrev pub same_table : SetDecl → SetDecl → Bool
@@ -89,13 +89,13 @@ abbrev pub sets_beside : SetDecl → List (SetDecl × State) → List (SetDecl �
 sets_beside d sets = filter (λ p. same_table d p.0) sets
 
 -- The table of a set: its sets with a blank line between two of them.
-abbrev pub table_block : List (SetDecl × State) → ℕ → SetDecl → List ℕ
-table_block sets now d =
+abbrev pub listed_table : List (SetDecl × State) → ℕ → SetDecl → List ℕ
+listed_table sets now d =
     codes "table " ++ family_text d.family ++ codes " " ++ d.table ++ codes " {\n"
-    ++ join_by (set_block now) (codes "\n") (sets_beside d sets)
+    ++ join_by (listed_set now) (codes "\n") (sets_beside d sets)
     ++ codes "}\n"
 
 -- The declared sets with these states, listed at a moment: the tables in the order of their first declared sets, with a
 -- blank line between two of them.
 abbrev pub list_text : List SetDecl → List State → ℕ → List ℕ
-list_text schema sets now = join_by (table_block (zip schema sets) now) (codes "\n") (first_sets schema)
+list_text schema sets now = join_by (listed_table (zip schema sets) now) (codes "\n") (first_sets schema)

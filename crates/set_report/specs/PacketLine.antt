@@ -5,7 +5,7 @@ use Rattle.set_model.specs.declared.report.Line.{Line}
 use Rattle.set_model.specs.Text.{packet_text}
 
 -- Its numbers have at most 64 bits, as those of every run.
-pub record HasNumbers (l : Line) : Type 0 where
+pub record HasMachineNumbers (l : Line) : Type 0 where
   pub packet : l.packet < 2 ^ 64
   pub thread : l.thread < 2 ^ 64
   pub generation : l.generation < 2 ^ 64
@@ -14,4 +14,4 @@ pub record HasNumbers (l : Line) : Type 0 where
 -- Two packets' lines of the same bytes are the same packet's, by the same thread, of the same generation and with the same
 -- verdict.
 abbrev pub TellsParts : Type 0
-TellsParts = (line other : Line) → HasNumbers line → HasNumbers other → packet_text line ≡ packet_text other → line ≡ other
+TellsParts = (line other : Line) → HasMachineNumbers line → HasMachineNumbers other → packet_text line ≡ packet_text other → line ≡ other

@@ -3,7 +3,7 @@ ghost use Rattle.std.specs.List.{flat_map, enumerate_from};
 ghost use Rattle.set_model.specs.declared.kind.Kind.{Kind as OneKind};
 ghost use Rattle.set_model.specs.declared.element.Element.{Element};
 ghost use Rattle.pipapo_image.specs.Index.{IsIndexOf};
-ghost use Rattle.set_report.specs.DumpText.{span_text, end_text, heading_text, ways_text, field_text, tables_text, dump_text};
+ghost use Rattle.set_report.specs.DumpText.{span_text, end_text, heading_text, ways_text, field_text, set_tables_text, dump_text};
 ghost use Rattle.set_report.specs.DumpBuckets.{all_buckets_text};
 ghost use Rattle.set_report.specs.Writes.{AreSetsOf};
 ghost use Rattle.text_pieces.specs.Appends.{AppendsPart};
@@ -139,8 +139,8 @@ fn write_fields(set: &SetImage, out: &mut Vec<u8>) -> Result<(), Memory>
 
 /// Appends a set's tables.
 fn write_tables(declared: &SetDecl, set: &SetImage, out: &mut Vec<u8>) -> Result<(), Memory>
-    ensures ok { OnOk result (out.new.items ≡ out.old.items ++ tables_text declared.now set.now) }
-    ensures err { OnErr result (AppendsPart out.old.items out.new.items (tables_text declared.now set.now)) }
+    ensures ok { OnOk result (out.new.items ≡ out.old.items ++ set_tables_text declared.now set.now) }
+    ensures err { OnErr result (AppendsPart out.old.items out.new.items (set_tables_text declared.now set.now)) }
 {
     append_pieces(&[Word(b"set "), Set(declared), Word(b"\n")], out)?;
     write_fields(set, out)
@@ -148,8 +148,8 @@ fn write_tables(declared: &SetDecl, set: &SetImage, out: &mut Vec<u8>) -> Result
 
 /// Appends the tables of a set of a generation.
 fn write_kept_tables(declared: &SetDecl, set: &KeptSet, out: &mut Vec<u8>) -> Result<(), Memory>
-    ensures ok { OnOk result (out.new.items ≡ out.old.items ++ tables_text declared.now set.now) }
-    ensures err { OnErr result (AppendsPart out.old.items out.new.items (tables_text declared.now set.now)) }
+    ensures ok { OnOk result (out.new.items ≡ out.old.items ++ set_tables_text declared.now set.now) }
+    ensures err { OnErr result (AppendsPart out.old.items out.new.items (set_tables_text declared.now set.now)) }
 {
     let image = set.closed_up(*out.allocator())?;
     write_tables(declared, &image, out)

@@ -1,5 +1,13 @@
 //! What a run tells, as text: the events of the control and the answers to packets, one line each.
 //! A dump has the tables that lookups read, and its remarks are the control's events once more.
+//!
+//! Each writer appends exactly its text to one buffer; after want of memory a part of it from the
+//! front.
+//!
+//! **Definitions:** `specs/ListText.antt`, `DumpText.antt`, `Remarks.antt`, `SummaryText.antt` and
+//! `KindText.antt` have the texts, and `PacketLine.antt` what a packet's line tells; the events' texts
+//! are `set_model`'s, `specs/Text.antt`. docs/formats.md tells them. **Proofs:** docs/proofs.md,
+//! "Listings and dumps (`set_report`)".
 #![tactic(auto)]
 
 mod dump;

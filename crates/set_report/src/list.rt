@@ -2,9 +2,9 @@ ghost use Rattle.std.specs.Prelude.{◌≡◌, ◌++◌, ◌<◌, ◌≤◌, tru
 ghost use Rattle.std.specs.List.{zip, join_by, list_any};
 ghost use Rattle.set_model.specs.Key.{is_good, parts_fit};
 ghost use Rattle.addr_text.specs.Written.{interval_text};
-ghost use Rattle.set_report.specs.Kept.{Keeps};
+ghost use Rattle.set_report.specs.Kept.{KeepsBytes};
 ghost use Rattle.set_report.specs.KindText.{kind_text};
-ghost use Rattle.set_report.specs.ListText.{parts_text, expiry_text, comment_text, element_text, type_line, size_line, flag_words, flags_line, timeout_line, elements_line, items_text, set_block, same_table, sets_beside, table_block, first_sets, list_text};
+ghost use Rattle.set_report.specs.ListText.{parts_text, expiry_text, comment_text, element_text, type_line, size_line, flag_words, flags_line, timeout_line, elements_line, items_text, listed_set, same_table, sets_beside, listed_table, first_sets, list_text};
 ghost use Rattle.text_pieces.specs.Pieces.{piece_text};
 ghost use Rattle.set_report.specs.Writes.{AreSetsOf};
 ghost use Rattle.text_pieces.specs.Appends.{AppendsPart};
@@ -24,7 +24,7 @@ use text_pieces::{Piece, append_pieces, family_word};
 /// Appends pieces. After `Memory` the old bytes stand in front, as behind each writer of this file.
 fn write(pieces: &[Piece], out: &mut Vec<u8>) -> Result<(), Memory>
     ensures ok { OnOk result (out.new.items ≡ out.old.items ++ flat_map piece_text pieces.now) }
-    ensures kept { Keeps out.old.items out.new.items }
+    ensures kept { KeepsBytes out.old.items out.new.items }
 {
     append_pieces(pieces, out)
 }
@@ -32,7 +32,7 @@ fn write(pieces: &[Piece], out: &mut Vec<u8>) -> Result<(), Memory>
 fn write_part(kind: Kind, part: Interval, out: &mut Vec<u8>) -> Result<(), Memory>
     requires { is_good kind part ≡ true }
     ensures ok { OnOk result (out.new.items ≡ out.old.items ++ interval_text kind part) }
-    ensures kept { Keeps out.old.items out.new.items }
+    ensures kept { KeepsBytes out.old.items out.new.items }
 {
     write_interval(kind, part, out)
 }
@@ -41,7 +41,7 @@ fn write_part(kind: Kind, part: Interval, out: &mut Vec<u8>) -> Result<(), Memor
 fn write_parts(kinds: &[Kind], parts: &[Interval], out: &mut Vec<u8>) -> Result<(), Memory>
     requires { parts_fit kinds.now parts.now ≡ true }
     ensures ok { OnOk result (out.new.items ≡ out.old.items ++ parts_text kinds.now parts.now) }
-    ensures kept { Keeps out.old.items out.new.items }
+    ensures kept { KeepsBytes out.old.items out.new.items }
 {
     let mut separator: &[u8] = b"";
     'fields: for (field, part) in parts.iter().enumerate() {
@@ -60,7 +60,7 @@ fn write_expiry(
     out: &mut Vec<u8>,
 ) -> Result<(), Memory>
     ensures ok { OnOk result (out.new.items ≡ out.old.items ++ expiry_text set.now now expiry) }
-    ensures kept { Keeps out.old.items out.new.items }
+    ensures kept { KeepsBytes out.old.items out.new.items }
 {
     match (expiry, set.timeout) {
         (Some(expiry), _) => write(&[Word(b" expires "), Time(expiry.saturating_sub(now))], out),
@@ -71,7 +71,7 @@ fn write_expiry(
 
 fn write_comment(comment: &[u8], out: &mut Vec<u8>) -> Result<(), Memory>
     ensures ok { OnOk result (out.new.items ≡ out.old.items ++ comment_text comment.now) }
-    ensures kept { Keeps out.old.items out.new.items }
+    ensures kept { KeepsBytes out.old.items out.new.items }
 {
     match comment {
         [] => Ok(()),
@@ -87,7 +87,7 @@ fn write_element(
 ) -> Result<(), Memory>
     requires { parts_fit set.now.kinds element.now.parts ≡ true }
     ensures ok { OnOk result (out.new.items ≡ out.old.items ++ element_text set.now now element.now) }
-    ensures kept { Keeps out.old.items out.new.items }
+    ensures kept { KeepsBytes out.old.items out.new.items }
 {
     write_parts(set.kinds.as_slice(), element.parts.as_slice(), out)?;
     write_expiry(set, now, element.expiry, out)?;
@@ -103,7 +103,7 @@ fn write_each(
 ) -> Result<(), Memory>
     requires { All (λ e. parts_fit set.now.kinds e.parts ≡ true) elements.now }
     ensures ok { OnOk result (out.new.items ≡ out.old.items ++ join_by (element_text set.now now) (codes ",\n\t\t\t     ") elements.now) }
-    ensures kept { Keeps out.old.items out.new.items }
+    ensures kept { KeepsBytes out.old.items out.new.items }
 {
     let mut separator: &[u8] = b"";
     'elements: for i in 0..elements.len() {
@@ -124,7 +124,7 @@ fn write_elements(
 ) -> Result<(), Memory>
     requires { All (λ e. parts_fit set.now.kinds e.parts ≡ true) elements.now }
     ensures ok { OnOk result (out.new.items ≡ out.old.items ++ elements_line set.now now elements.now) }
-    ensures kept { Keeps out.old.items out.new.items }
+    ensures kept { KeepsBytes out.old.items out.new.items }
 {
     if elements.len() == 0 {
         return Ok(());
@@ -136,7 +136,7 @@ fn write_elements(
 
 fn write_kinds(kinds: &[Kind], out: &mut Vec<u8>) -> Result<(), Memory>
     ensures ok { OnOk result (out.new.items ≡ out.old.items ++ join_by kind_text (codes " . ") kinds.now) }
-    ensures kept { Keeps out.old.items out.new.items }
+    ensures kept { KeepsBytes out.old.items out.new.items }
 {
     let mut separator: &[u8] = b"";
     'kinds: for kind in kinds {
@@ -149,7 +149,7 @@ fn write_kinds(kinds: &[Kind], out: &mut Vec<u8>) -> Result<(), Memory>
 /// Appends the item `type`.
 fn write_type(set: &SetDecl, out: &mut Vec<u8>) -> Result<(), Memory>
     ensures ok { OnOk result (out.new.items ≡ out.old.items ++ type_line set.now) }
-    ensures kept { Keeps out.old.items out.new.items }
+    ensures kept { KeepsBytes out.old.items out.new.items }
 {
     write(&[Word(b"\t\ttype ")], out)?;
     write_kinds(set.kinds.as_slice(), out)?;
@@ -159,7 +159,7 @@ fn write_type(set: &SetDecl, out: &mut Vec<u8>) -> Result<(), Memory>
 /// Appends the item `size`, where a set has one.
 fn write_size(size: Option<u32>, out: &mut Vec<u8>) -> Result<(), Memory>
     ensures ok { OnOk result (out.new.items ≡ out.old.items ++ size_line size) }
-    ensures kept { Keeps out.old.items out.new.items }
+    ensures kept { KeepsBytes out.old.items out.new.items }
 {
     match size {
         None => Ok(()),
@@ -173,7 +173,7 @@ fn write_size(size: Option<u32>, out: &mut Vec<u8>) -> Result<(), Memory>
 /// Appends the item `flags`, where a set has one.
 fn write_flags(set: &SetDecl, out: &mut Vec<u8>) -> Result<(), Memory>
     ensures ok { OnOk result (out.new.items ≡ out.old.items ++ flags_line (flag_words set.now)) }
-    ensures kept { Keeps out.old.items out.new.items }
+    ensures kept { KeepsBytes out.old.items out.new.items }
 {
     let flags: &[u8] = match (set.interval, set.timed, set.disjoint) {
         (false, false, false) => return Ok(()),
@@ -191,7 +191,7 @@ fn write_flags(set: &SetDecl, out: &mut Vec<u8>) -> Result<(), Memory>
 /// Appends the item `timeout`, where a set has one.
 fn write_timeout(timeout: Option<u64>, out: &mut Vec<u8>) -> Result<(), Memory>
     ensures ok { OnOk result (out.new.items ≡ out.old.items ++ timeout_line timeout) }
-    ensures kept { Keeps out.old.items out.new.items }
+    ensures kept { KeepsBytes out.old.items out.new.items }
 {
     match timeout {
         None => Ok(()),
@@ -203,7 +203,7 @@ fn write_timeout(timeout: Option<u64>, out: &mut Vec<u8>) -> Result<(), Memory>
 fn write_items(set: &SetDecl, image: &SetImage, now: u64, out: &mut Vec<u8>) -> Result<(), Memory>
     requires { image.now.kinds ≡ set.now.kinds }
     ensures ok { OnOk result (out.new.items ≡ out.old.items ++ items_text now set.now image.now) }
-    ensures kept { Keeps out.old.items out.new.items }
+    ensures kept { KeepsBytes out.old.items out.new.items }
 {
     write_type(set, out)?;
     write_size(set.size, out)?;
@@ -215,8 +215,8 @@ fn write_items(set: &SetDecl, image: &SetImage, now: u64, out: &mut Vec<u8>) -> 
 /// Appends a set.
 fn write_set(set: &SetDecl, image: &SetImage, now: u64, out: &mut Vec<u8>) -> Result<(), Memory>
     requires { image.now.kinds ≡ set.now.kinds }
-    ensures ok { OnOk result (out.new.items ≡ out.old.items ++ set_block now (set.now, image.now)) }
-    ensures kept { Keeps out.old.items out.new.items }
+    ensures ok { OnOk result (out.new.items ≡ out.old.items ++ listed_set now (set.now, image.now)) }
+    ensures kept { KeepsBytes out.old.items out.new.items }
 {
     write(
         &[Word(b"\tset "), Word(set.name.as_slice()), Word(b" {\n")],
@@ -234,8 +234,8 @@ fn write_kept_set(
     out: &mut Vec<u8>,
 ) -> Result<(), Memory>
     requires { set.now.kinds ≡ declared.now.kinds }
-    ensures ok { OnOk result (out.new.items ≡ out.old.items ++ set_block now (declared.now, set.now)) }
-    ensures kept { Keeps out.old.items out.new.items }
+    ensures ok { OnOk result (out.new.items ≡ out.old.items ++ listed_set now (declared.now, set.now)) }
+    ensures kept { KeepsBytes out.old.items out.new.items }
 {
     let image = set.closed_up(*out.allocator())?;
     write_set(declared, &image, now, out)
@@ -258,8 +258,8 @@ fn write_sets(
     out: &mut Vec<u8>,
 ) -> Result<(), Memory>
     requires { AreSetsOf schema.now generation.now.sets }
-    ensures ok { OnOk result (out.new.items ≡ out.old.items ++ join_by (set_block now) (codes "\n") (sets_beside first.now (zip schema.now generation.now.sets))) }
-    ensures kept { Keeps out.old.items out.new.items }
+    ensures ok { OnOk result (out.new.items ≡ out.old.items ++ join_by (listed_set now) (codes "\n") (sets_beside first.now (zip schema.now generation.now.sets))) }
+    ensures kept { KeepsBytes out.old.items out.new.items }
 {
     let mut separator: &[u8] = b"";
     'sets: for place in 0..schema.len() {
@@ -283,8 +283,8 @@ fn write_table(
     out: &mut Vec<u8>,
 ) -> Result<(), Memory>
     requires { AreSetsOf schema.now generation.now.sets }
-    ensures ok { OnOk result (out.new.items ≡ out.old.items ++ table_block (zip schema.now generation.now.sets) now first.now) }
-    ensures kept { Keeps out.old.items out.new.items }
+    ensures ok { OnOk result (out.new.items ≡ out.old.items ++ listed_table (zip schema.now generation.now.sets) now first.now) }
+    ensures kept { KeepsBytes out.old.items out.new.items }
 {
     write(
         &[
@@ -319,7 +319,7 @@ fn write_tables(
 ) -> Result<(), Memory>
     requires { AreSetsOf schema.now generation.now.sets }
     ensures ok { OnOk result (out.new.items ≡ out.old.items ++ list_text schema.now generation.now.sets now) }
-    ensures kept { Keeps out.old.items out.new.items }
+    ensures kept { KeepsBytes out.old.items out.new.items }
 {
     let mut separator: &[u8] = b"";
     'tables: for place in 0..schema.len() {

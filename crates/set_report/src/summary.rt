@@ -20,19 +20,10 @@ fn count_elements(sets: &Sets) -> u128
     count
 }
 
-fn is_refusal(event: &Event) -> bool
-    ensures { result ≡ refuses event.now }
-{
-    match event {
-        Event::Refused { .. } => true,
-        Event::Committed { .. } | Event::Aborted { .. } | Event::Dropped { .. } => false,
-    }
-}
-
 fn count_refusals(events: &[Event]) -> u64
     ensures { result ≡ count_by refuses events.now }
 {
-    events.iter().filter(|event| is_refusal(event)).count() as u64
+    events.iter().filter(|event| event.is_refusal()).count() as u64
 }
 
 fn is_match(verdict: Verdict) -> bool

@@ -37,7 +37,7 @@ use Rattle.set_script.specs.declared.words.ItemWord.TheVariants as items
 use Rattle.set_script.specs.Values.{IsPart}
 use Rattle.set_script.specs.Limits.{most_sets}
 use Rattle.set_script.specs.Names.{is_set, set_place, may_declare, new_name, kind_of, kind_behind, has_room, key_bytes}
-use Rattle.set_script.specs.Changes.{empty, declaration, declared, with_flag, change, committed, ended}
+use Rattle.set_script.specs.Changes.{empty, declaration, declared, with_flag, change, with_commit, ended}
 use Rattle.set_script.specs.Script as form
 use Rattle.set_script.specs.ScriptText.{IsScriptText}
 use Rattle.set_model.specs.Runnable.{HasFields, IsRunnableStep, is_open, EndsClosed, IsRunnable}
@@ -265,7 +265,7 @@ add_keeps d d1 adds.Set x k (p, x1, y1, e1, w1, (n, x2, y2, e2, (t, et, given), 
 add_keeps d d1 adds.Element x k w = changes_keep d d1 verbs.Add x k w
 
 -- the end of a section
-ended_keeps : (sets : List (List Kind)) (now : ℕ) (steps : List Step) → AreOf sets steps → AreOf sets (committed now steps)
+ended_keeps : (sets : List (List Kind)) (now : ℕ) (steps : List Step) → AreOf sets steps → AreOf sets (with_commit now steps)
 unfolding IsOf
 ended_keeps sets now steps k = go (is_open steps) where
   go : (b : Bool) → AreOf sets (cond b (steps ++ Commit now ∷ []) steps)
@@ -273,17 +273,17 @@ ended_keeps sets now steps k = go (is_open steps) where
   go false = k
 
 ended_sections : (d : Draft) → IsRunDraft d → All (AreOf (kinds_of d.schema)) (ended d)
-ended_sections d k = All-push (AreOf (kinds_of d.schema)) d.sections (committed d.moment d.steps) k.sections (ended_keeps (kinds_of d.schema) d.moment d.steps k.steps)
+ended_sections d k = All-push (AreOf (kinds_of d.schema)) d.sections (with_commit d.moment d.steps) k.sections (ended_keeps (kinds_of d.schema) d.moment d.steps k.steps)
 
 -- An open transaction is committed at the end of its section.
-committed_closed : (now : ℕ) (steps : List Step) → EndsClosed (committed now steps)
+committed_closed : (now : ℕ) (steps : List Step) → EndsClosed (with_commit now steps)
 committed_closed now steps = go (is_open steps) refl where
   go : (b : Bool) → is_open steps ≡ b → EndsClosed (cond b (steps ++ Commit now ∷ []) steps)
   go true e = closed-behind steps (Commit now) refl
   go false e = e
 
 ended_closed : (d : Draft) → IsRunDraft d → All EndsClosed (ended d)
-ended_closed d k = All-push EndsClosed d.sections (committed d.moment d.steps) k.closed (committed_closed d.moment d.steps)
+ended_closed d k = All-push EndsClosed d.sections (with_commit d.moment d.steps) k.closed (committed_closed d.moment d.steps)
 
 behind_keeps : (line : ℕ) (d d1 : Draft) (w : FirstWord) (x : List Lexeme) → IsRunDraft d → (form.statement_behind line d w).whole x d1 → IsRunDraft d1
 unfolding IsOf

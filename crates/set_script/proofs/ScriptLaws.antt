@@ -40,7 +40,7 @@ use Rattle.set_script.specs.declared.words.ItemWord.{ItemWord}
 use Rattle.set_script.specs.declared.words.ItemWord.TheVariants as items
 use Rattle.set_script.specs.Values.{IsPart, IsLife}
 use Rattle.set_script.specs.Names.{family_of}
-use Rattle.set_script.specs.Changes.{empty, no_options, declaration, declared, finished}
+use Rattle.set_script.specs.Changes.{empty, no_options, declaration, declared, finished_script}
 use Rattle.set_script.specs.Script as form
 use Rattle.set_script.specs.ScriptReading as reading
 use Rattle.set_script.specs.ScriptReading.{starts_element, starts_kind, starts_option, starts_flag}
@@ -448,7 +448,7 @@ statements_reads = many_reads _ _ _ _ _ (are_lines separates any_word any_word (
 
 pub body_reads : Reads form.body (λ _. line_more separates any_word) reading.body
 unfolding reading.body
-body_reads = bind_done_same (λ d. finished d.0) statements_reads
+body_reads = bind_done_same (λ d. finished_script d.0) statements_reads
 
 -- what takes a token at least
 pub list_item_shorter : {X : Type 0} (target : Target) (s : SetDecl) (r : List Step × Bool) (view : X → List Step × Bool) (result : Result X ReadError) (old new : List Lexeme)

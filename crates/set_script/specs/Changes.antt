@@ -140,17 +140,17 @@ abbrev pub abort : Draft → Draft
 abort d = record d { steps = d.steps ++ steps.Abort ∷ []; late = true }
 
 -- The end of a section commits an open transaction that has a change, at the moment of its place.
-abbrev pub committed : ℕ → List Step → List Step
-committed now ss = cond (is_open ss) (ss ++ steps.Commit now ∷ []) ss
+abbrev pub with_commit : ℕ → List Step → List Step
+with_commit now ss = cond (is_open ss) (ss ++ steps.Commit now ∷ []) ss
 
 -- the sections up to the end of the one that is being read
 abbrev pub ended : Draft → List (List Step)
-ended d = d.sections ++ committed d.moment d.steps ∷ []
+ended d = d.sections ++ with_commit d.moment d.steps ∷ []
 
 -- `round` ends a section, and the next one begins. No set may be declared behind it.
 abbrev pub round : Draft → Draft
 round d = record d { sections = ended d; steps = []; late = true }
 
 -- The end of a script ends its last section. There is section 0 always, and behind each `round` one more, also one without steps.
-abbrev pub finished : Draft → Script
-finished d = record { schema = d.schema; sections = ended d; last = d.moment }
+abbrev pub finished_script : Draft → Script
+finished_script d = record { schema = d.schema; sections = ended d; last = d.moment }

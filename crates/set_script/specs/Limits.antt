@@ -1,5 +1,7 @@
 -- How much a script may hold.
-use Rattle.std.specs.Prelude.{ℕ}
+use Rattle.std.specs.Prelude.{ℕ, ◌≤◌, IfSome}
+use Rattle.set_model.specs.declared.script.SetDecl.{SetDecl}
+use Rattle.addr_text.specs.Times.{longest_time}
 
 -- how many sets a script may declare
 abbrev pub most_sets : ℕ
@@ -12,3 +14,7 @@ last_moment = 1_000_000_000_000_000
 -- the largest size of a set that a script may name
 abbrev pub most_elements : ℕ
 most_elements = 4_294_967_295
+
+-- a set's timeout, where it has one, is a time that a text may stand for
+abbrev pub HasShortTimeout : SetDecl → Type 0
+HasShortTimeout s = IfSome s.timeout (λ t. t ≤ longest_time)

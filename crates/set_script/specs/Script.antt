@@ -24,12 +24,12 @@ use Rattle.set_script.specs.declared.words.OptionWord.TheVariants as options
 use Rattle.set_model.specs.declared.script.Verb.{Verb}
 use Rattle.set_model.specs.declared.script.Verb.TheVariants as verbs
 use Rattle.token_forms.specs.declared.token.Reason.TheVariants as reasons
-use Rattle.token_forms.specs.Form.{Form, done, nowhere, either, many, ◌>>=◌, ◌>>◌}
+use Rattle.token_forms.specs.Form.{Form, done, nowhere, either_form, many, ◌>>=◌, ◌>>◌}
 use Rattle.token_forms.specs.Words.{if_true, word, word_by, word_is, lined_word_is, name, mark, text, the_end, breaks, breaks_off, separators, separates, passed, line, lines}
 use Rattle.addr_text.specs.Times.{IsTime}
 use Rattle.set_script.specs.Values.{IsPart, IsLife, IsMoment, IsSize}
 use Rattle.set_script.specs.Names.{first_of, add_of, flush_of, family_of, kind_of, kind_behind, set_place, new_name, item_of, flag_of, is_policy, option_of}
-use Rattle.set_script.specs.Changes.{empty, no_options, declaration, with_flag, with_timeout, with_size, with_gc_interval, with_policy, with_comment, with_elements, change, with_steps, flush, declared, begun, at_moment, commit, abort, round, finished}
+use Rattle.set_script.specs.Changes.{empty, no_options, declaration, with_flag, with_timeout, with_size, with_gc_interval, with_policy, with_comment, with_elements, change, with_steps, flush, declared, begun, at_moment, commit, abort, round, finished_script}
 
 -- The family and the table. A word at the family's place that is a family is the family; without one it is `ip`.
 abbrev pub table_behind : List ℕ → Option Family → Form (Family × List ℕ)
@@ -101,7 +101,7 @@ option timed o = do
 
 -- an option, or a break
 abbrev pub option_or_break : Bool → Options → Form Options
-option_or_break timed o = either (passed breaks_off >> done o) (option timed o)
+option_or_break timed o = either_form (passed breaks_off >> done o) (option timed o)
 
 -- One element more: its intervals, and then options in any order.
 abbrev pub element : Target → SetDecl → List Step → Form (List Step)
@@ -294,7 +294,7 @@ statements = many (line separates statement) (empty, true)
 abbrev pub body : Form Script
 body = do
   d ← statements
-  done (finished d.0)
+  done (finished_script d.0)
 
 -- a script, and then the end of the text
 abbrev pub script : Form Script

@@ -32,7 +32,7 @@ use Rattle.token_forms.specs.WordReading.{Reading, word, word_by, lined_word_by,
 use Rattle.addr_text.specs.TimesRead.{time_of}
 use Rattle.set_script.specs.Values.{part_of, life_of, moment_of, size_of}
 use Rattle.set_script.specs.Names.{first_of, add_of, flush_of, family_of, kind_of, kind_behind, set_place, new_name, item_of, flag_of, is_policy, option_of}
-use Rattle.set_script.specs.Changes.{empty, no_options, declaration, with_flag, with_timeout, with_size, with_gc_interval, with_policy, with_comment, with_elements, change, with_steps, flush, declared, begun, at_moment, commit, abort, round, finished}
+use Rattle.set_script.specs.Changes.{empty, no_options, declaration, with_flag, with_timeout, with_size, with_gc_interval, with_policy, with_comment, with_elements, change, with_steps, flush, declared, begun, at_moment, commit, abort, round, finished_script}
 
 -- what starts one more
 abbrev pub any_word : Lexeme → Bool
@@ -351,7 +351,7 @@ statements = many (line_starts separates any_word) statement_line (empty, true)
 unfoldable pub body : Reading Script
 body = do
   d ← statements
-  done (finished d.0)
+  done (finished_script d.0)
 
 unfoldable pub script : Reading Script
 script = do

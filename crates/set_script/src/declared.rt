@@ -1,5 +1,5 @@
-ghost use Rattle.std.specs.Prelude.{◌≡◌, ◌<◌, ◌≤◌, [], ◌∷◌, ◌++◌, length, OnOk, nat_lt};
-ghost use Rattle.set_script.specs.Limits.{most_sets};
+ghost use Rattle.std.specs.Prelude.{◌≡◌, ◌<◌, ◌≤◌, [], ◌∷◌, ◌++◌, length, All, OnOk, nat_lt};
+ghost use Rattle.set_script.specs.Limits.{most_sets, HasShortTimeout};
 
 use set_model::{Listed, Memory, Schema, SetDecl};
 use std::alloc::Global;
@@ -7,25 +7,27 @@ use std::marker::Model;
 
 const MOST_SETS: u64 = 64;
 
-/// The sets that a script has declared so far, of which there are no more than it may declare.
+/// The sets that a script has declared so far, of which there are no more than it may declare, each with
+/// a timeout that a text may name, or none.
 #[derive(Drop)]
 pub struct Declared {
     sets: Schema,
 }
 
 impl Model for Declared {
-    ghost use Rattle.std.specs.Prelude.{List, ◌≤◌, length};
+    ghost use Rattle.std.specs.Prelude.{List, ◌≤◌, length, All};
     ghost use Rattle.set_model.specs.declared.script.SetDecl.{SetDecl};
-    ghost use Rattle.set_script.specs.Limits.{most_sets};
+    ghost use Rattle.set_script.specs.Limits.{most_sets, HasShortTimeout};
 
     ghost Value = { List SetDecl };
 
     ghost view = { λ d. d.sets };
 
-    ghost invariant = { λ d. length d.sets ≤ most_sets };
+    ghost invariant = { λ d. (length d.sets ≤ most_sets) × All HasShortTimeout d.sets };
 }
 
 impl Declared {
+    /// No sets. It takes no memory.
     pub fn new(alloc: Global) -> Self
         ensures { result ≡ [] }
     {
@@ -52,13 +54,15 @@ impl Declared {
     pub fn as_slice(&self) -> &[SetDecl]
         ensures sets { result.now ≡ self.now }
         ensures few { length result.now ≤ most_sets }
+        ensures short { All HasShortTimeout result.now }
     {
         self.sets.as_slice()
     }
 
     /// Declares one more set. After `Memory` the sets are as they were.
     pub fn push(&mut self, decl: SetDecl) -> Result<(), Memory>
-        requires { length self.old < most_sets }
+        requires room { length self.old < most_sets }
+        requires short { HasShortTimeout decl }
         ensures { OnOk result (self.new ≡ self.old ++ decl ∷ []) }
     {
         self.sets.push(decl)

@@ -1,7 +1,8 @@
 ghost use Rattle.std.specs.Prelude.{◌≡◌, ◌-◌, length, slice_get, OnOk, IfOk};
 ghost use Rattle.set_model.specs.Runnable.{is_open};
-ghost use Rattle.set_script.specs.Changes.{empty, declaration, committed, commit, abort, round, finished};
+ghost use Rattle.set_script.specs.Changes.{empty, declaration, with_commit, commit, abort, round, finished_script};
 
+use crate::clock::{Moment, Time};
 use crate::declared::Declared;
 use set_model::{
     Comment, Family, Kinds, Listed, Memory, Name, Script, Sections, SetDecl, Step, Steps, Verb,
@@ -18,8 +19,8 @@ pub struct Draft {
     pub sections: Sections,
     /// The steps of the section at this place.
     pub steps: Steps,
-    /// The moment at this place, in milliseconds.
-    pub moment: u64,
+    /// The moment at this place.
+    pub moment: Moment,
     /// Whether a statement has been read.
     pub begun: bool,
     /// Whether a `commit`, an `abort` or a `round` has been read, behind which no set is declared.
@@ -27,13 +28,14 @@ pub struct Draft {
 }
 
 /// Which changes the elements of a list make.
-#[derive(Clone, Copy)]
+#[derive(Drop)]
 pub struct Target {
     /// The place of their set among the declared sets.
     pub set: u32,
+    /// How they change their set.
     pub verb: Verb,
-    /// Their moment, in milliseconds.
-    pub now: u64,
+    /// Their moment.
+    pub now: Moment,
 }
 
 /// A set that is being declared, and which of its items have been read.
@@ -41,21 +43,30 @@ pub struct Target {
 pub struct Declaration {
     /// What its item `elements` adds to.
     pub target: Target,
+    /// What has been read of the set.
     pub decl: SetDecl,
+    /// Whether the item `flags` has been read.
     pub flags: bool,
     /// Whether the flag `timeout` is written, which the item `timeout` also sets.
     pub timeout_flag: bool,
+    /// Whether the item `gc-interval` has been read.
     pub gc_interval: bool,
+    /// Whether the item `policy` has been read.
     pub policy: bool,
+    /// Whether the item `comment` has been read.
     pub comment: bool,
+    /// Whether the item `elements` has been read, behind which none may stand.
     pub elements: bool,
 }
 
-/// The options of an element that have been read; times are milliseconds.
+/// The options of an element that have been read.
 #[derive(Drop)]
 pub struct Options {
-    pub timeout: Option<u64>,
-    pub expires: Option<u64>,
+    /// How long the element lives.
+    pub timeout: Option<Time>,
+    /// How much is left of its life.
+    pub expires: Option<Time>,
+    /// Its comment.
     pub comment: Option<Comment>,
 }
 
@@ -71,7 +82,7 @@ fn has_open_change(steps: &[Step]) -> bool
 
 /// Ends a section: commits its open transaction where that has a change.
 fn end_section(steps: &mut Steps, now: u64) -> Result<(), Memory>
-    ensures { OnOk result (steps.new ≡ committed now steps.old) }
+    ensures { OnOk result (steps.new ≡ with_commit now steps.old) }
 {
     if has_open_change(steps.as_slice()) {
         steps.push(Step::Commit { now })?;
@@ -80,6 +91,7 @@ fn end_section(steps: &mut Steps, now: u64) -> Result<(), Memory>
 }
 
 impl Draft {
+    /// A script of which nothing has been read.
     pub fn new(alloc: Global) -> Self
         ensures { result ≡ empty }
     {
@@ -87,7 +99,7 @@ impl Draft {
             schema: Declared::new(alloc),
             sections: Listed::new(alloc),
             steps: Listed::new(alloc),
-            moment: 0,
+            moment: Moment::new(0),
             begun: false,
             late: false,
         }
@@ -97,7 +109,8 @@ impl Draft {
     pub fn commit(&mut self) -> Result<(), Memory>
         ensures { OnOk result (self.new ≡ commit self.old) }
     {
-        self.steps.push(Step::Commit { now: self.moment })?;
+        let now = self.moment.ms();
+        self.steps.push(Step::Commit { now })?;
         self.late = true;
         Ok(())
     }
@@ -115,7 +128,7 @@ impl Draft {
     pub fn round(&mut self, alloc: Global) -> Result<(), Memory>
         ensures { OnOk result (self.new ≡ round self.old) }
     {
-        end_section(&mut self.steps, self.moment)?;
+        end_section(&mut self.steps, self.moment.ms())?;
         let steps = mem::replace(&mut self.steps, Listed::new(alloc));
         self.sections.push(steps)?;
         self.late = true;
@@ -124,7 +137,7 @@ impl Draft {
 
     /// The script, whose last section ends here.
     pub fn finish(self) -> Result<Script, Memory>
-        ensures { IfOk result (λ s. s ≡ finished self) }
+        ensures { IfOk result (λ s. s ≡ finished_script self) }
     {
         let Draft {
             schema,
@@ -133,12 +146,12 @@ impl Draft {
             moment,
             ..
         } = self;
-        end_section(&mut steps, moment)?;
+        end_section(&mut steps, moment.ms())?;
         sections.push(steps)?;
         Ok(Script {
             schema: schema.into_schema(),
             sections,
-            last: moment,
+            last: moment.ms(),
         })
     }
 }

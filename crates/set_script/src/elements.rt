@@ -1,12 +1,15 @@
-ghost use Rattle.std.specs.Prelude.{◌≡◌, ◌+◌, ◌<◌, List, length, true, OnOk, IfOk};
+ghost use Rattle.std.specs.Prelude.{◌≡◌, ◌+◌, ◌<◌, ◌≤◌, List, length, true, OnOk, IfOk, IfSome};
 ghost use Rattle.set_model.specs.declared.script.Step.{Step};
 ghost use Rattle.token_forms.specs.Gives.{Gives};
 ghost use Rattle.token_forms.specs.View.{lexeme_of};
+ghost use Rattle.addr_text.specs.Times.{longest_time};
+ghost use Rattle.set_script.specs.Limits.{last_moment, HasShortTimeout};
 ghost use Rattle.set_script.specs.ScriptReading as reading;
 ghost use Rattle.set_script.specs.ScriptReading.{starts_element, starts_option};
 ghost use Rattle.set_script.specs.Changes.{no_options, life_expiry, life, expiry, comment_of, adds, change};
 ghost use Rattle.set_script.specs.declared.draft.Options.{Options as Chosen};
 
+use crate::clock::Time;
 use crate::draft::{Options, Target};
 use crate::parts::all_parts;
 use crate::values;
@@ -130,40 +133,45 @@ fn all_options(reader: &mut Reader, alloc: Global, timed: bool) -> Result<Option
     Ok(o)
 }
 
-/// The moment a time after another. Moments and times of texts are so small that there is one.
-fn later(now: u64, time: u64) -> Result<u64, Memory>
-    ensures { IfOk result (λ moment. moment ≡ now + time) }
+/// The moment a time after another.
+fn later(now: u64, time: u64) -> u64
+    requires now { now ≤ last_moment }
+    requires time { time ≤ longest_time }
+    ensures { result ≡ now + time }
 {
-    match now.checked_add(time) {
-        Some(moment) => Ok(moment),
-        None => Err(Memory),
-    }
+    now + time
 }
 
-fn expiry_by_life(now: u64, life: Option<u64>) -> Result<Option<u64>, Memory>
-    ensures { IfOk result (λ e. e ≡ life_expiry now life) }
+fn expiry_by_life(now: u64, life: Option<u64>) -> Option<u64>
+    requires now { now ≤ last_moment }
+    requires life { IfSome life (λ time. time ≤ longest_time) }
+    ensures { result ≡ life_expiry now life }
 {
     match life {
-        Some(time) if 0 < time => Ok(Some(later(now, time)?)),
-        _ => Ok(None),
+        Some(time) if 0 < time => Some(later(now, time)),
+        _ => None,
     }
 }
 
-fn life_of(default: Option<u64>, own: Option<u64>) -> Option<u64>
-    ensures { result ≡ life default own }
+fn life_of(default: Option<u64>, own: Option<Time>) -> Option<u64>
+    requires { IfSome default (λ time. time ≤ longest_time) }
+    ensures life { result ≡ life default own }
+    ensures within { IfSome result (λ time. time ≤ longest_time) }
 {
     match own {
-        Some(time) => Some(time),
+        Some(time) => Some(time.ms()),
         None => default,
     }
 }
 
 /// The expiry of an added element, by its options and its set's timeout.
-fn expiry_of(now: u64, default: Option<u64>, o: &Options) -> Result<Option<u64>, Memory>
-    ensures { IfOk result (λ e. e ≡ expiry now default o.now) }
+fn expiry_of(now: u64, default: Option<u64>, o: &Options) -> Option<u64>
+    requires now { now ≤ last_moment }
+    requires default { IfSome default (λ time. time ≤ longest_time) }
+    ensures { result ≡ expiry now default o.now }
 {
     match o.expires {
-        Some(time) => Ok(Some(later(now, time)?)),
+        Some(time) => Some(later(now, time.ms())),
         None => expiry_by_life(now, life_of(default, o.timeout)),
     }
 }
@@ -189,17 +197,18 @@ fn own_comment(alloc: Global, comment: Option<Comment>) -> Comment
 /// The change of an element.
 fn change_of(
     alloc: Global,
-    target: Target,
+    target: &Target,
     decl: &SetDecl,
     line: u64,
     parts: Parts,
     o: Options,
-) -> Result<Step, Memory>
-    ensures { IfOk result (λ step. step ≡ change target decl.now line parts o) }
+) -> Step
+    requires { HasShortTimeout decl.now }
+    ensures { result ≡ change target.entry.now decl.now line parts o }
 {
     let adds = is_addition(target.verb);
     let expiry = if adds {
-        expiry_of(target.now, decl.timeout, &o)?
+        expiry_of(target.now.ms(), decl.timeout, &o)
     } else {
         None
     };
@@ -208,7 +217,7 @@ fn change_of(
     } else {
         Comment::new(alloc)
     };
-    Ok(Step::Change {
+    Step::Change {
         line,
         set: target.set,
         verb: target.verb,
@@ -217,8 +226,8 @@ fn change_of(
             expiry,
             comment,
         },
-        now: target.now,
-    })
+        now: target.now.ms(),
+    }
 }
 
 /// One element more.
@@ -226,16 +235,16 @@ fn change_of(
 fn element(
     reader: &mut Reader,
     alloc: Global,
-    target: Target,
+    target: &Target,
     decl: &SetDecl,
     steps: &mut Steps,
 ) -> Result<(), ReadError>
-    ensures { Gives (λ _. steps.new) result reader.new (reading.element target decl.now steps.old reader.old) }
+    requires { HasShortTimeout decl.now }
+    ensures { Gives (λ _. steps.new) result reader.new (reading.element target.entry.now decl.now steps.old reader.old) }
 {
     let (line, parts) = all_parts(reader, alloc, decl.interval, decl.kinds.as_slice())?;
     let o = all_options(reader, alloc, decl.timed)?;
-    let step = change_of(alloc, target, decl, line, parts, o)?;
-    steps.push(step)?;
+    steps.push(change_of(alloc, target, decl, line, parts, o))?;
     Ok(())
 }
 
@@ -244,12 +253,13 @@ fn element(
 fn list_item(
     reader: &mut Reader,
     alloc: Global,
-    target: Target,
+    target: &Target,
     decl: &SetDecl,
     steps: &mut Steps,
     next: bool,
 ) -> Result<bool, ReadError>
-    ensures { Gives (λ x. (steps.new, x)) result reader.new (reading.list_item target decl.now (steps.old, next) reader.old) }
+    requires { HasShortTimeout decl.now }
+    ensures { Gives (λ x. (steps.new, x)) result reader.new (reading.list_item target.entry.now decl.now (steps.old, next) reader.old) }
 {
     if next {
         element(reader, alloc, target, decl, steps)?;
@@ -264,12 +274,13 @@ fn list_item(
 fn next_list_item(
     reader: &mut Reader,
     alloc: Global,
-    target: Target,
+    target: &Target,
     decl: &SetDecl,
     steps: &mut Steps,
     next: bool,
 ) -> Result<bool, ReadError>
-    ensures gives { Gives (λ x. (steps.new, x)) result reader.new (reading.list_item target decl.now (steps.old, next) reader.old) }
+    requires { HasShortTimeout decl.now }
+    ensures gives { Gives (λ x. (steps.new, x)) result reader.new (reading.list_item target.entry.now decl.now (steps.old, next) reader.old) }
     ensures shorter { OnOk result (length reader.new < length reader.old) }
 {
     list_item(reader, alloc, target, decl, steps, next)
@@ -284,11 +295,12 @@ fn starts_a_list_item(t: &Seen, next: bool) -> bool
 fn list_items(
     reader: &mut Reader,
     alloc: Global,
-    target: Target,
+    target: &Target,
     decl: &SetDecl,
     steps: &mut Steps,
 ) -> Result<bool, ReadError>
-    ensures { Gives (λ x. (steps.new, x)) result reader.new (reading.list_items target decl.now (steps.old, true) reader.old) }
+    requires { HasShortTimeout decl.now }
+    ensures { Gives (λ x. (steps.new, x)) result reader.new (reading.list_items target.entry.now decl.now (steps.old, true) reader.old) }
 {
     let mut next = true;
     'items: while let Some(t) = reader.peek() {
@@ -309,11 +321,12 @@ fn list_items(
 pub fn list(
     reader: &mut Reader,
     alloc: Global,
-    target: Target,
+    target: &Target,
     decl: &SetDecl,
     steps: &mut Steps,
 ) -> Result<(), ReadError>
-    ensures { Gives (λ _. steps.new) result reader.new (reading.list target decl.now steps.old reader.old) }
+    requires { HasShortTimeout decl.now }
+    ensures { Gives (λ _. steps.new) result reader.new (reading.list target.entry.now decl.now steps.old reader.old) }
 {
     reader.mark(b'{')?;
     reader.breaks();

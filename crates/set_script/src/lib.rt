@@ -1,7 +1,16 @@
 //! The reader of scripts: the statements of nft(8) that declare sets and change their elements, and the transactions and
 //! sections that they stand in.
+//!
+//! [`read_script`] gives the script that a text stands for where it is in the grammar, and else the
+//! line of its bad token and the first reason that applies. [`bad_token`] tells that token's place.
+//!
+//! **Definitions:** `specs/Script.antt` is the grammar as a table, `Names.antt`, `Values.antt` and
+//! `Limits.antt` say what its places ask for, `Changes.antt` what each row does, and `ScriptText.antt`
+//! what a text stands for. docs/formats.md tells it. **Proofs:** docs/proofs.md, "Grammars
+//! (`token_forms`)".
 #![tactic(auto)]
 
+mod clock;
 mod declared;
 mod draft;
 mod elements;

@@ -1,4 +1,4 @@
-ghost use Rattle.std.specs.Prelude.{◌≡◌, ◌<◌, List, ℕ, length, OnOk, IfOk, Err};
+ghost use Rattle.std.specs.Prelude.{◌≡◌, ◌<◌, List, ℕ, length, All, OnOk, IfOk, Err};
 ghost use Rattle.token_forms.specs.Gives.{Gives, IsReadAs};
 ghost use Rattle.token_forms.specs.TextTokens.{text_tokens};
 ghost use Rattle.token_forms.specs.Faults.{IsFault};
@@ -7,6 +7,7 @@ ghost use Rattle.token_forms.specs.BadTokens.{HasOneBadToken, IsBadTokenOf};
 ghost use Rattle.token_forms.specs.declared.token.Reason.{Reason};
 ghost use Rattle.token_forms.specs.declared.error.ReadError.TheVariants.{Bad};
 ghost use Rattle.set_model.specs.declared.script.Script.{Script};
+ghost use Rattle.set_script.specs.Limits.{HasShortTimeout};
 ghost use Rattle.set_script.specs.ScriptReading as reading;
 ghost use Rattle.set_script.specs.Script.{script};
 ghost use Rattle.set_script.specs.ScriptText.{IsScriptText};
@@ -41,11 +42,12 @@ fn add_word(reader: &mut Reader) -> Result<AddWord, ReadError>
 fn list_at(
     reader: &mut Reader,
     alloc: Global,
-    target: Target,
+    target: &Target,
     schema: &[SetDecl],
     steps: &mut Steps,
 ) -> Result<(), ReadError>
-    ensures { Gives (λ _. steps.new) result reader.new (reading.list_at target schema.now steps.old reader.old) }
+    requires { All HasShortTimeout schema.now }
+    ensures { Gives (λ _. steps.new) result reader.new (reading.list_at target.entry.now schema.now steps.old reader.old) }
 {
     match schema.get(target.set as usize) {
         None => Err(reader.next()?.refused(&[])),
@@ -65,7 +67,7 @@ fn changes(reader: &mut Reader, alloc: Global, d: &mut Draft, verb: Verb) -> Res
         verb,
         now: d.moment,
     };
-    list_at(reader, alloc, target, d.schema.as_slice(), &mut d.steps)?;
+    list_at(reader, alloc, &target, d.schema.as_slice(), &mut d.steps)?;
     Ok(())
 }
 
@@ -135,7 +137,7 @@ fn flush_behind(
             d.steps.push(Step::Flush {
                 line,
                 set: place as u32,
-                now: d.moment,
+                now: d.moment.ms(),
             })?;
             Ok(())
         }

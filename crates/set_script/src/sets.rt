@@ -9,7 +9,7 @@ ghost use Rattle.token_forms.specs.WordReading.{line_starts};
 ghost use Rattle.set_script.specs.ScriptReading as reading;
 ghost use Rattle.set_script.specs.ScriptReading.{starts_kind, starts_flag, any_word};
 ghost use Rattle.set_script.specs.Changes.{with_flag};
-ghost use Rattle.set_script.specs.Limits.{most_sets};
+ghost use Rattle.set_script.specs.Limits.{most_sets, HasShortTimeout};
 ghost use Rattle.set_script.specs.Names.{may_declare};
 ghost use Rattle.set_script.specs.declared.draft.Draft.{Draft as Drafted};
 ghost use Rattle.set_script.specs.declared.draft.Declaration.{Declaration as Declaring};
@@ -139,7 +139,8 @@ fn flag_word(reader: &mut Reader, b: &Declaration) -> Result<Flag, ReadError>
 }
 
 fn set_flag(b: &mut Declaration, flag: Flag)
-    ensures { b.new ≡ with_flag b.old flag }
+    ensures with { b.new ≡ with_flag b.old flag }
+    ensures timeout { b.new.decl.timeout ≡ b.old.decl.timeout }
 {
     match flag {
         Flag::Interval => b.decl.interval = true,
@@ -154,7 +155,9 @@ fn set_flag(b: &mut Declaration, flag: Flag)
 
 #[tactic(auto, using(token_forms::proofs::Refusals::refusals), unfolding(crate::specs::ScriptReading::flag))]
 fn flag(reader: &mut Reader, b: &mut Declaration) -> Result<(), ReadError>
-    ensures { Gives (λ _. b.new) result reader.new (reading.flag b.old reader.old) }
+    requires { HasShortTimeout b.old.decl }
+    ensures gives { Gives (λ _. b.new) result reader.new (reading.flag b.old reader.old) }
+    ensures short { OnOk result (HasShortTimeout b.new.decl) }
 {
     let word = flag_word(reader, b)?;
     set_flag(b, word);
@@ -163,14 +166,18 @@ fn flag(reader: &mut Reader, b: &mut Declaration) -> Result<(), ReadError>
 
 #[tactic(auto, using(token_forms::proofs::Refusals::refusals), unfolding(crate::specs::ScriptReading::more_flags))]
 fn more_flags(reader: &mut Reader, b: &mut Declaration) -> Result<(), ReadError>
-    ensures { Gives (λ _. b.new) result reader.new (reading.more_flags b.old reader.old) }
+    requires { HasShortTimeout b.old.decl }
+    ensures gives { Gives (λ _. b.new) result reader.new (reading.more_flags b.old reader.old) }
+    ensures short { OnOk result (HasShortTimeout b.new.decl) }
 {
     reader.mark(b',')?;
     flag(reader, b)
 }
 
 fn next_flag(reader: &mut Reader, b: &mut Declaration) -> Result<(), ReadError>
+    requires { HasShortTimeout b.old.decl }
     ensures gives { Gives (λ _. b.new) result reader.new (reading.more_flags b.old reader.old) }
+    ensures short { OnOk result (HasShortTimeout b.new.decl) }
     ensures shorter { OnOk result (length reader.new < length reader.old) }
 {
     more_flags(reader, b)
@@ -183,7 +190,9 @@ fn starts_a_flag(t: &Seen) -> bool
 }
 
 fn flags_behind(reader: &mut Reader, b: &mut Declaration) -> Result<(), ReadError>
-    ensures { Gives (λ _. b.new) result reader.new (reading.flags_behind b.old reader.old) }
+    requires { HasShortTimeout b.old.decl }
+    ensures gives { Gives (λ _. b.new) result reader.new (reading.flags_behind b.old reader.old) }
+    ensures short { OnOk result (HasShortTimeout b.new.decl) }
 {
     'flags: while let Some(t) = reader.peek() {
         let starts = starts_a_flag(&t);
@@ -219,10 +228,12 @@ fn elements_item(
     b: &mut Declaration,
     steps: &mut Steps,
 ) -> Result<(), ReadError>
-    ensures { Gives (λ _. (b.new, steps.new)) result reader.new (reading.elements_item (b.old, steps.old) reader.old) }
+    requires { HasShortTimeout b.old.decl }
+    ensures gives { Gives (λ _. (b.new, steps.new)) result reader.new (reading.elements_item (b.old, steps.old) reader.old) }
+    ensures short { OnOk result (HasShortTimeout b.new.decl) }
 {
     reader.mark(b'=')?;
-    list(reader, alloc, b.target, &b.decl, steps)?;
+    list(reader, alloc, &b.target, &b.decl, steps)?;
     b.elements = true;
     Ok(())
 }
@@ -235,7 +246,9 @@ fn item_behind(
     b: &mut Declaration,
     steps: &mut Steps,
 ) -> Result<(), ReadError>
-    ensures { Gives (λ _. (b.new, steps.new)) result reader.new (reading.item_behind (b.old, steps.old) word reader.old) }
+    requires { HasShortTimeout b.old.decl }
+    ensures gives { Gives (λ _. (b.new, steps.new)) result reader.new (reading.item_behind (b.old, steps.old) word reader.old) }
+    ensures short { OnOk result (HasShortTimeout b.new.decl) }
 {
     match word {
         ItemWord::Flags => {
@@ -246,7 +259,7 @@ fn item_behind(
         ItemWord::Timeout => {
             let time = values::time(reader)?;
             b.decl.timed = true;
-            b.decl.timeout = Some(time);
+            b.decl.timeout = Some(time.ms());
             Ok(())
         }
         ItemWord::Size => {
@@ -280,7 +293,9 @@ fn item(
     b: &mut Declaration,
     steps: &mut Steps,
 ) -> Result<(), ReadError>
-    ensures { Gives (λ _. (b.new, steps.new)) result reader.new (reading.item (b.old, steps.old) reader.old) }
+    requires { HasShortTimeout b.old.decl }
+    ensures gives { Gives (λ _. (b.new, steps.new)) result reader.new (reading.item (b.old, steps.old) reader.old) }
+    ensures short { OnOk result (HasShortTimeout b.new.decl) }
 {
     let word = item_word(reader, b)?;
     item_behind(reader, alloc, word, b, steps)
@@ -295,7 +310,9 @@ fn item_line(
     steps: &mut Steps,
     next: bool,
 ) -> Result<bool, ReadError>
-    ensures { Gives (λ x. ((b.new, steps.new), x)) result reader.new (reading.item_line ((b.old, steps.old), next) reader.old) }
+    requires { HasShortTimeout b.old.decl }
+    ensures gives { Gives (λ x. ((b.new, steps.new), x)) result reader.new (reading.item_line ((b.old, steps.old), next) reader.old) }
+    ensures short { OnOk result (HasShortTimeout b.new.decl) }
 {
     if next && !reader.is_at_separator() {
         item(reader, alloc, b, steps)?;
@@ -313,7 +330,9 @@ fn next_item_line(
     steps: &mut Steps,
     next: bool,
 ) -> Result<bool, ReadError>
+    requires { HasShortTimeout b.old.decl }
     ensures gives { Gives (λ x. ((b.new, steps.new), x)) result reader.new (reading.item_line ((b.old, steps.old), next) reader.old) }
+    ensures short { OnOk result (HasShortTimeout b.new.decl) }
     ensures shorter { OnOk result (length reader.new < length reader.old) }
 {
     item_line(reader, alloc, b, steps, next)
@@ -335,7 +354,9 @@ fn item_lines(
     b: &mut Declaration,
     steps: &mut Steps,
 ) -> Result<bool, ReadError>
-    ensures { Gives (λ x. ((b.new, steps.new), x)) result reader.new (reading.item_lines ((b.old, steps.old), false) reader.old) }
+    requires { HasShortTimeout b.old.decl }
+    ensures gives { Gives (λ x. ((b.new, steps.new), x)) result reader.new (reading.item_lines ((b.old, steps.old), false) reader.old) }
+    ensures short { OnOk result (HasShortTimeout b.new.decl) }
 {
     let mut next = false;
     'lines: while let Some(t) = reader.peek() {
@@ -359,7 +380,9 @@ fn all_items(
     b: &mut Declaration,
     steps: &mut Steps,
 ) -> Result<(), ReadError>
-    ensures { Gives (λ _. (b.new, steps.new)) result reader.new (reading.all_items (b.old, steps.old) reader.old) }
+    requires { HasShortTimeout b.old.decl }
+    ensures gives { Gives (λ _. (b.new, steps.new)) result reader.new (reading.all_items (b.old, steps.old) reader.old) }
+    ensures short { OnOk result (HasShortTimeout b.new.decl) }
 {
     item_lines(reader, alloc, b, steps)?;
     Ok(())

@@ -1,8 +1,11 @@
-ghost use Rattle.std.specs.Prelude.{◌≡◌};
+ghost use Rattle.std.specs.Prelude.{◌≡◌, ◌≤◌, IfSome};
+ghost use Rattle.addr_text.specs.Times.{longest_time};
 ghost use Rattle.token_forms.specs.Gives.{Gives};
 ghost use Rattle.set_script.specs.ScriptReading as reading;
+ghost use Rattle.set_script.specs.Limits.{last_moment};
 ghost use Rattle.set_script.specs.Values.{life_of, moment_of, size_of};
 
+use crate::clock::{Moment, Time};
 use addr_text::{read_number, read_time};
 use token_forms::{ReadError, Reader, Reason};
 
@@ -10,7 +13,8 @@ use token_forms::{ReadError, Reader, Reason};
 const LAST_MOMENT: u64 = 1_000_000_000_000_000;
 
 fn read_life(text: &[u8]) -> Option<u64>
-    ensures { result ≡ life_of text.now }
+    ensures value { result ≡ life_of text.now }
+    ensures within { IfSome result (λ life. life ≤ longest_time) }
 {
     if text == b"never".as_slice() {
         Some(0)
@@ -24,7 +28,8 @@ fn read_life(text: &[u8]) -> Option<u64>
 
 /// The moment that a text names, where it isn't before another.
 pub fn read_moment(before: u64, text: &[u8]) -> Option<u64>
-    ensures { result ≡ moment_of before text.now }
+    ensures value { result ≡ moment_of before text.now }
+    ensures within { IfSome result (λ moment. moment ≤ last_moment) }
 {
     match read_number(text, LAST_MOMENT) {
         Some(moment) if before <= moment => Some(moment),
@@ -43,36 +48,36 @@ fn read_size(text: &[u8]) -> Option<u32>
 
 /// Reads a time, in milliseconds.
 #[tactic(auto, unfolding(token_forms::specs::Gives::Refuses))]
-pub fn time(reader: &mut Reader) -> Result<u64, ReadError>
+pub fn time(reader: &mut Reader) -> Result<Time, ReadError>
     ensures { Gives (λ x. x) result reader.new (reading.time reader.old) }
 {
     let t = reader.next()?;
     match read_time(t.bytes) {
-        Ok(time) if t.is_word() => Ok(time),
+        Ok(time) if t.is_word() => Ok(Time::new(time)),
         _ => Err(t.refused(&[Reason::Time])),
     }
 }
 
 /// Reads a time or `never`, which is the time 0.
 #[tactic(auto, unfolding(token_forms::specs::Gives::Refuses))]
-pub fn life(reader: &mut Reader) -> Result<u64, ReadError>
+pub fn life(reader: &mut Reader) -> Result<Time, ReadError>
     ensures { Gives (λ x. x) result reader.new (reading.life_word reader.old) }
 {
     let t = reader.next()?;
     match read_life(t.bytes) {
-        Some(time) if t.is_word() => Ok(time),
+        Some(time) if t.is_word() => Ok(Time::new(time)),
         _ => Err(t.refused(&[Reason::Time])),
     }
 }
 
 /// Reads a moment that isn't before another.
 #[tactic(auto, unfolding(token_forms::specs::Gives::Refuses))]
-pub fn moment(reader: &mut Reader, before: u64) -> Result<u64, ReadError>
+pub fn moment(reader: &mut Reader, before: Moment) -> Result<Moment, ReadError>
     ensures { Gives (λ x. x) result reader.new (reading.moment_word before reader.old) }
 {
     let t = reader.next()?;
-    match read_moment(before, t.bytes) {
-        Some(moment) if t.is_word() => Ok(moment),
+    match read_moment(before.ms(), t.bytes) {
+        Some(moment) if t.is_word() => Ok(Moment::new(moment)),
         _ => Err(t.refused(&[Reason::Moment])),
     }
 }

@@ -62,6 +62,7 @@ pub enum OptionWord {
     Comment,
 }
 
+/// The statement that a word begins.
 pub fn first_word_of(text: &[u8]) -> Option<FirstWord>
     ensures { result ≡ first_of text.now }
 {
@@ -90,6 +91,7 @@ pub fn first_word_of(text: &[u8]) -> Option<FirstWord>
     }
 }
 
+/// What a word behind `add` adds.
 pub fn add_word_of(text: &[u8]) -> Option<AddWord>
     ensures { result ≡ add_of text.now }
 {
@@ -201,6 +203,7 @@ pub fn read_kind_behind(kinds: &[Kind], text: &[u8]) -> Option<Kind>
     }
 }
 
+/// The item of a set that a word begins: one that hasn't been read yet, and none behind `elements`.
 pub fn item_word_of(b: &Declaration, text: &[u8]) -> Option<ItemWord>
     ensures { result ≡ item_of b.now text.now }
 {
@@ -225,6 +228,7 @@ pub fn item_word_of(b: &Declaration, text: &[u8]) -> Option<ItemWord>
     }
 }
 
+/// The flag that a word is: one that hasn't been read yet.
 pub fn flag_of_word(b: &Declaration, text: &[u8]) -> Option<Flag>
     ensures { result ≡ flag_of b.now text.now }
 {
@@ -246,6 +250,8 @@ pub fn is_a_policy(text: &[u8]) -> bool
     text == b"performance".as_slice() || text == b"memory".as_slice()
 }
 
+/// The option of an element that a word begins: one that hasn't been read yet, and a time only where the set is
+/// `timed`.
 pub fn option_word_of(timed: bool, o: &Options, text: &[u8]) -> Option<OptionWord>
     ensures { result ≡ option_of timed o.now text.now }
 {

@@ -1,5 +1,5 @@
 -- What is decided of an image is what the set without the elements that left it answers.
-use Rattle.std.proofs.Common.{◌≡◌, refl, sym, ◌∙◌, ap, ℕ, ◌-◌, ◌<◌, ◌==◌, max, Bool, true, false, ◌||◌, not, List, Option, Some, None, Result, Ok, Err, length, arith}
+use Rattle.std.proofs.Common.{◌≡◌, refl, sym, ◌∙◌, ap, ℕ, ◌-◌, ◌<◌, ◌==◌, max, Bool, true, false, not, List, Option, Some, None, Result, Ok, Err, length, arith}
 use Rattle.std.specs.Prelude.{count_by, option_map, unwrap_or}
 use Rattle.std.proofs.lemmas.Bool.Decides.{nat_tests}
 use Rattle.std.proofs.lemmas.List.Filters.{length-filter_both}
@@ -20,7 +20,7 @@ use Rattle.pipapo_image.specs.declared.image.decision.Decision.TheVariants.{Stay
 use Rattle.pipapo_image.specs.Image.Decision.{IsDecision, comes}
 use Rattle.pipapo_image.specs.Image.Found.{found_at, exactly_found}
 use Rattle.pipapo_image.proofs.Purging.{all_stay}
-use Rattle.set_space.specs.LazyImage.{staying, moment, is_at_limit, wants_room, IsLazyDecision}
+use Rattle.set_space.specs.LazyImage.{staying, moment, is_at_limit, would_leave, wants_room, IsLazyDecision}
 use Rattle.set_space.proofs.KeptItems.{filter-both}
 use Rattle.set_space.proofs.KeptSets.{live-both, at_limit, kept_of, add-kept, removed-kept, marked-gone, whole-without}
 
@@ -53,20 +53,15 @@ plain-decision s e now (Ok decision) h = h
 plain-decision s e now (Err (errors.Refused why)) h = h
 plain-decision s e now (Err errors.Memory) h = tt
 
-neither : (a b : Bool) → (not a || b) ≡ false → (a ≡ true) × (b ≡ false)
-neither true b h = (refl, h)
-neither false b h = absurd (cc h)
+live-of : (b : Bool) → not b ≡ false → b ≡ true
+live-of true h = refl
+live-of false h = absurd (cc h)
 
--- Where no room is wanted, the image decides for the set.
+-- Where the element stays and no room is wanted, the image decides for the set.
 pub lazy_decision : (p : Option ℕ) (s : State) (e : NewElement) (now : ℕ) (r : Result Decision ChangeError)
-    → IsDecision s e (add s e (moment p now)) r → wants_room p e.expiry r ≡ false → IsLazyDecision p s e (add (staying p s) e now) r
-lazy_decision None s e now r h w = plain-decision s e now r h
-lazy_decision (Some m) s e now r h w = let both = neither (lives e.expiry m) (is_at_limit r) w in by-image m s e now r both.0 both.1 h
-
--- Where no element that left stands in the image, none is wanted.
-pub roomy : (p : Option ℕ) (expiry : Option ℕ) (r : Result Decision ChangeError) → p ≡ None → wants_room p expiry r ≡ false
-roomy None expiry r h = refl
-roomy (Some m) expiry r h = absurd (cc h)
+    → would_leave p e.expiry ≡ false → IsDecision s e (add s e (moment p now)) r → wants_room p r ≡ false → IsLazyDecision p s e (add (staying p s) e now) r
+lazy_decision None s e now r l h w = plain-decision s e now r h
+lazy_decision (Some m) s e now r l h w = by-image m s e now r (live-of (lives e.expiry m) l) w h
 
 -- ---- removals
 -- An element with the expiry 0 is deleted, where each other one of the set is live at that moment.

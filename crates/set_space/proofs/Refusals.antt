@@ -11,8 +11,8 @@ use Rattle.pipapo_image.specs.declared.answers.ChangeError.{ChangeError}
 use Rattle.pipapo_image.specs.declared.answers.ChangeError.TheVariants as errors
 use Rattle.pipapo_image.specs.declared.image.decision.Decision.{Decision}
 use Rattle.pipapo_image.specs.declared.image.decision.Decision.TheVariants.{Stays, Renews, Adds}
-use Rattle.pipapo_image.specs.Image.Decision.{comes, left, existing}
-use Rattle.pipapo_image.specs.Image.Insert.{IsAnswer, said}
+use Rattle.pipapo_image.specs.Image.Decision.{comes, set_left, existing}
+use Rattle.pipapo_image.specs.Image.Insert.{IsAnswer, addition_said}
 use Rattle.pipapo_image.specs.Image.Remove.{IsRemoval}
 use Rattle.pipapo_image.proofs.AddKeeps.{add_keeps}
 use Rattle.set_space.specs.LazyImage.{staying, IsLazyDecision}
@@ -47,7 +47,7 @@ module _ (p : Option ℕ) (image s : State) (e : NewElement) (now : ℕ) where
 
   -- What is done is the answer.
   pub insertion_done : (t : State) (decision : Decision) (came : Came) → IsLazyDecision p image e (add s e now) (Ok decision)
-      → said came ≡ comes decision image.next → t ≡ staying p (left image e decision) → IsAnswer (add s e now) (Ok came) s t
+      → addition_said came ≡ comes decision image.next → t ≡ staying p (set_left image e decision) → IsAnswer (add s e now) (Ok came) s t
   insertion_done t decision came h a b = (a ∙ ap (λ z. z.0) (sym h.1), b ∙ ap (λ z. z.1) (sym h.1))
 
 -- ---- a refused change leaves the set

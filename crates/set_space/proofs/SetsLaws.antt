@@ -11,7 +11,7 @@ use Rattle.set_model.specs.Control.{Generation, expired_count}
 use Rattle.set_space.specs.declared.open_set.OpenSet.{OpenSet}
 use Rattle.set_space.specs.declared.open_set.OpenSet.TheVariants.{Unchanged}
 use Rattle.set_space.specs.OpenSets.{open_state, open_states, IsSealed}
-use Rattle.set_space.specs.Open.{Open, FitsSet, with_set, IsChange}
+use Rattle.set_space.specs.Open.{Open, FitsSet, with_open_set, IsChange}
 
 module _ {X : Type 0} where
   pub set-same : (xs : List X) (i : ℕ) (x : X) → slice_get xs i ≡ Some x → slice_set xs i x ≡ xs
@@ -104,7 +104,7 @@ one-changed step g os i o n b w is h e at done = record {
   left = open_state n b;
   at = ap (λ (z : Open). slice_get z.sets i) (sym is) ∙ open-at os g.sets i o b h e at;
   changed = done;
-  others = ap (λ r. record { base = g; sets = r }) (open-set os g.sets i n b h at) ∙ ap (λ z. with_set z i (open_state n b)) is;
+  others = ap (λ r. record { base = g; sets = r }) (open-set os g.sets i n b h at) ∙ ap (λ z. with_open_set z i (open_state n b)) is;
 }
 
 -- A work whose set at a place was left.

@@ -1,5 +1,5 @@
 -- A set by its image, in which elements that left the set may stand yet.
-use Rattle.std.specs.Prelude.{◌≡◌, ℕ, max, Bool, true, false, not, ◌||◌, Option, Some, None, Result, Ok, Err}
+use Rattle.std.specs.Prelude.{◌≡◌, ℕ, max, Bool, true, false, not, Option, Some, None, Result, Ok, Err}
 use Rattle.set_model.specs.declared.element.NewElement.{NewElement}
 use Rattle.set_model.specs.declared.report.Why.TheVariants.{Full, RulesFull}
 use Rattle.set_model.specs.Expiry.{lives}
@@ -8,7 +8,7 @@ use Rattle.set_model.specs.SetState.Addition.{Refused}
 use Rattle.pipapo_image.specs.declared.answers.ChangeError.{ChangeError}
 use Rattle.pipapo_image.specs.declared.answers.ChangeError.TheVariants as errors
 use Rattle.pipapo_image.specs.declared.image.decision.Decision.{Decision}
-use Rattle.pipapo_image.specs.Image.Decision.{CanBeDone, comes, left}
+use Rattle.pipapo_image.specs.Image.Decision.{CanBeDone, comes, set_left}
 use Rattle.set_space.specs.declared.lazy_image.LazyImage.{LazyImage}
 
 -- A set by its image, in which elements that left it may stand yet: the set has those that are live at
@@ -32,15 +32,19 @@ is_at_limit (Err (errors.Refused Full)) = true
 is_at_limit (Err (errors.Refused (RulesFull f))) = true
 is_at_limit r = false
 
--- What the image decides of an element with this expiry needn't hold of the set: the element would be
--- taken for one that left, or a limit refuses it, which counts those that left.
-abbrev pub wants_room : Option ℕ → Option ℕ → Result Decision ChangeError → Bool
-wants_room None expiry r = false
-wants_room (Some m) expiry r = not (lives expiry m) || is_at_limit r
+-- An element with this expiry would be taken for one that left.
+abbrev pub would_leave : Option ℕ → Option ℕ → Bool
+would_leave None expiry = false
+would_leave (Some m) expiry = not (lives expiry m)
+
+-- A limit refuses the element, which counts those that left.
+abbrev pub wants_room : Option ℕ → Result Decision ChangeError → Bool
+wants_room None r = false
+wants_room (Some m) r = is_at_limit r
 
 -- This is to be done to the image, and the set without the elements that left answers so; or it is a
 -- refusal; or there was no memory.
 abbrev pub IsLazyDecision : Option ℕ → State → NewElement → Addition × State → Result Decision ChangeError → Type 0
-IsLazyDecision passed image e answer (Ok decision) = CanBeDone image e.parts decision × (answer ≡ (comes decision image.next, staying passed (left image e decision)))
+IsLazyDecision passed image e answer (Ok decision) = CanBeDone image e.parts decision × (answer ≡ (comes decision image.next, staying passed (set_left image e decision)))
 IsLazyDecision passed image e answer (Err (errors.Refused why)) = answer ≡ (Refused why, staying passed image)
 IsLazyDecision passed image e answer (Err errors.Memory) = Unit

@@ -17,8 +17,8 @@ abbrev pub opened : Generation → Open
 opened g = record { base = g; sets = g.sets }
 
 -- the work with another state of the set at a place
-abbrev pub with_set : Open → ℕ → State → Open
-with_set w set s = record w { sets = slice_set w.sets set s }
+abbrev pub with_open_set : Open → ℕ → State → Open
+with_open_set w set s = record w { sets = slice_set w.sets set s }
 
 -- A set that can be built: 1 to 16 fields.
 pub record CanBeBuilt (d : SetDecl) : Type 0 where
@@ -43,7 +43,7 @@ pub record IsChange (step : State → State → Type 0) (old : Open) (set : ℕ)
   pub left : State
   pub at : slice_get old.sets set ≡ Some state
   pub changed : step state left
-  pub others : new ≡ with_set old set left
+  pub others : new ≡ with_open_set old set left
 
 -- the control of a script at this work, with nothing told
 abbrev pub as_control : Open → Control

@@ -1,5 +1,5 @@
 -- What the sets of a work stand for, beside those of its base.
-use Rattle.std.specs.Prelude.{◌≡◌, ℕ, List, [], ◌∷◌, Option, Some, None, not, count_by, slice_get}
+use Rattle.std.specs.Prelude.{◌≡◌, ◌<◌, ◌^◌, ℕ, List, [], ◌∷◌, Option, Some, None, not, count_by, slice_get}
 use Rattle.std.specs.Arc.{arc_value}
 use Rattle.set_model.specs.SetState.{State, purged}
 use Rattle.set_model.specs.Expiry.{live}
@@ -20,14 +20,15 @@ open_states [] bases = []
 open_states (o ∷ os) [] = []
 open_states (o ∷ os) (base ∷ bases) = open_state o base ∷ open_states os bases
 
--- A set without its expired elements, and how many these are; nothing where none is expired.
+-- A set without its expired elements, and how many these are, fewer than 2^32; nothing where none is expired.
 abbrev pub IsPurgedAnew : State → ℕ → Option (State × ℕ) → Type 0
-IsPurgedAnew s now (Some (t, count)) = (t ≡ purged s now) × (count ≡ count_by (is_expired now) s.elements)
+IsPurgedAnew s now (Some (t, count)) = (t ≡ purged s now) × (count ≡ count_by (is_expired now) s.elements) × (count < 2 ^ 32)
 IsPurgedAnew s now None = count_by (is_expired now) s.elements ≡ 0
 
--- The state at a place, without its expired elements, and how many these are.
+-- The state at a place, without its expired elements, and how many these are, fewer than 2^32.
 pub record IsSealed (states : List State) (i now : ℕ) (published : State) (count : ℕ) : Type 0 where
   pub state : State
   pub at : slice_get states i ≡ Some state
   pub published_is : published ≡ purged state now
   pub expired : count ≡ count_by (λ e. not (live e now)) state.elements
+  pub few : count < 2 ^ 32

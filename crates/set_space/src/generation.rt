@@ -14,7 +14,9 @@ use std::sync::Arc;
 /// The sets as they stood at a commit, and the commit's number.
 #[derive(Drop)]
 pub struct Generation {
+    /// The number of the commit, from 0, which is the start.
     pub number: u64,
+    /// The declared sets, in their order.
     pub sets: Sets,
 }
 
@@ -68,11 +70,11 @@ impl Generation {
     }
 
     /// The shared set at a place.
-    pub(crate) fn shared(&self, set: u64) -> &Arc<KeptSet, Global>
+    pub(crate) fn shared(&self, set: u32) -> &Arc<KeptSet, Global>
         requires { set < length self.now.sets }
         ensures { slice_get self.now.sets set ≡ Some (arc_value result.now) }
     {
-        self.sets.shared(set)
+        self.sets.shared(u64::from(set))
     }
 
     pub(crate) fn len(&self) -> u64

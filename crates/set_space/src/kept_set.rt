@@ -57,7 +57,6 @@ fn settled(alloc: Global, lazy: &mut LazyImage) -> Result<RankedBits, Memory>
     ensures same { set_of lazy.new ≡ set_of lazy.old }
     ensures gaps { IfOk result (λ gaps. gaps ≡ gap_marks lazy.new.passed lazy.new.image) }
 {
-    lazy.find_soonest();
     lazy.image.settle()?;
     gaps_of(alloc, &lazy.image, lazy.passed)
 }
@@ -83,8 +82,8 @@ impl KeptSet {
         })
     }
 
-    /// A changed set, for generations to share and copies to share its elements. Where memory is
-    /// missing the same set comes back.
+    /// A changed set whose soonest expiries are found, for generations to share and copies to share its
+    /// elements. Where memory is missing the same set comes back.
     pub(crate) fn of(alloc: Global, mut lazy: LazyImage) -> Result<KeptSet, LazyImage>
         ensures ok { IfOk result (λ kept. kept ≡ set_of lazy) }
         ensures err { IfErr result (λ same. set_of same ≡ set_of lazy) }

@@ -1,4 +1,4 @@
-ghost use Rattle.std.specs.Prelude.{◌≡◌, length, count_by, None, IfOk, OnOk};
+ghost use Rattle.std.specs.Prelude.{◌≡◌, ◌<◌, ◌^◌, length, count_by, None, IfOk, OnOk};
 ghost use Rattle.set_model.specs.SetState.{purged, cleared};
 ghost use Rattle.expiry_scan.specs.Expired.{is_expired};
 ghost use Rattle.set_space.specs.LazyImage.{set_of, moment};
@@ -20,6 +20,15 @@ pub(crate) struct LazyImage {
     pub(crate) passed: Option<u64>,
     /// About how many elements that left stand in the image.
     left: u64,
+}
+
+/// A law, by what two calls that do nothing say: an image has fewer than 2^32 elements, since each has a
+/// rule in the last field.
+fn few_elements(image: &SetImage)
+    ensures { length image.now.elements < 2 ^ 32 }
+{
+    image.elements();
+    image.index().ends.len();
 }
 
 impl LazyImage {
@@ -103,10 +112,12 @@ impl LazyImage {
         }
     }
 
-    /// How many elements of the set are expired at `now`, in milliseconds.
+    /// How many elements of the set are expired at `now`, in milliseconds: fewer than 2^32.
     pub(crate) fn count_expired(&self, now: u64) -> u64
-        ensures { result ≡ count_by (is_expired now) (set_of self.now).elements }
+        ensures count { result ≡ count_by (is_expired now) (set_of self.now).elements }
+        ensures few { result < 2 ^ 32 }
     {
+        few_elements(&self.image);
         self.image.elements().count_leaving(self.passed, now)
     }
 

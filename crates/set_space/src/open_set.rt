@@ -1,4 +1,4 @@
-ghost use Rattle.std.specs.Prelude.{◌≡◌, true, None, Ok, Err, [], length, count_by, IfOk, IfErr, OnErr};
+ghost use Rattle.std.specs.Prelude.{◌≡◌, ◌<◌, ◌^◌, true, None, Ok, Err, [], length, count_by, IfOk, IfErr, OnErr};
 ghost use Rattle.std.specs.Arc.{arc_value};
 ghost use Rattle.set_model.specs.Key.{parts_fit};
 ghost use Rattle.set_model.specs.SetState.{State, add, removed, purged, cleared};
@@ -82,7 +82,8 @@ impl OpenSet {
         }
     }
 
-    /// Inserts into the set. One that isn't this work's alone is copied where something changes.
+    /// Inserts into the set. One that isn't this work's alone is copied where something changes, and where its
+    /// rule numbers close up before that is known.
     pub(crate) fn insert(
         &mut self,
         alloc: Global,
@@ -103,7 +104,7 @@ impl OpenSet {
     }
 
     /// Inserts into the set where no live element of the same intervals is there. One that isn't this
-    /// work's alone is copied where something changes.
+    /// work's alone is copied as by an insertion.
     pub(crate) fn create(
         &mut self,
         alloc: Global,
@@ -205,8 +206,8 @@ impl OpenSet {
     }
 
     /// The set as it is published at `now`, in milliseconds: without the elements that are expired
-    /// then, and how many these are. The open set stays as it is. A set of which none is expired is
-    /// shared and not copied.
+    /// then, and how many these are, fewer than 2^32. The open set stays as it is. A set of which none is
+    /// expired is shared and not copied.
     #[tactic(auto, using(pipapo_image::proofs::Purging::all_stay))]
     pub(crate) fn seal(
         &mut self,
@@ -215,7 +216,7 @@ impl OpenSet {
         now: u64,
     ) -> Result<(Arc<KeptSet, Global>, u64), Memory>
         ensures same { open_state self.new (arc_value base.now) ≡ open_state self.old (arc_value base.now) }
-        ensures sealed { IfOk result (λ r. (arc_value r.0 ≡ purged (open_state self.old (arc_value base.now)) now) × (r.1 ≡ count_by (is_expired now) (open_state self.old (arc_value base.now)).elements)) }
+        ensures sealed { IfOk result (λ r. (arc_value r.0 ≡ purged (open_state self.old (arc_value base.now)) now) × (r.1 ≡ count_by (is_expired now) (open_state self.old (arc_value base.now)).elements) × (r.1 < 2 ^ 32)) }
     {
         self.ready(alloc)?;
         match purged_anew(alloc, self.lazy(base), now)? {
@@ -235,7 +236,8 @@ fn purged_anew(alloc: Global, lazy: &LazyImage, now: u64) -> Result<Option<(Kept
     if count == 0 {
         return Ok(None);
     }
-    let rest = lazy.without_expired(alloc, now, count)?;
+    let mut rest = lazy.without_expired(alloc, now, count)?;
+    rest.find_soonest();
     match KeptSet::of(alloc, rest) {
         Ok(kept) => Ok(Some((kept, count))),
         Err(_) => Err(Memory),

@@ -1,4 +1,4 @@
-ghost use Rattle.std.specs.Prelude.{IfOk, All};
+ghost use Rattle.std.specs.Prelude.{◌≡◌, IfOk, All, length};
 ghost use Rattle.set_space.specs.Open.{CanBeBuilt};
 
 use crate::{Generation, Work};
@@ -32,7 +32,8 @@ fn port_set(alloc: Global, size: Option<u32>) -> Result<SetDecl, Memory>
 
 /// Two sets, the second of at most 600 elements.
 fn two_sets(alloc: Global) -> Result<Schema, Memory>
-    ensures { IfOk result (All CanBeBuilt) }
+    ensures built { IfOk result (All CanBeBuilt) }
+    ensures two { IfOk result (λ schema. length schema ≡ 2) }
 {
     let mut schema = Schema::new(alloc);
     schema.push(port_set(alloc, None)?)?;
@@ -153,8 +154,8 @@ fn count(rt: &impl Abort, work: &mut Work, set: u64) -> Result<u64, Memory> {
 }
 
 /// How many generations and works share a set of a generation.
-fn owners(rt: &impl Abort, generation: &Generation, set: u64) -> usize {
-    assert!(rt; set < generation.sets.len());
+fn owners(rt: &impl Abort, generation: &Generation, set: u32) -> usize {
+    assert!(rt; u64::from(set) < generation.sets.len());
     Arc::strong_count(generation.shared(set))
 }
 

@@ -1,4 +1,4 @@
-ghost use Rattle.std.specs.Prelude.{◌≡◌, ◌<◌, ◌^◌, ◌↔◌, IsTrue, length, map, IfOk, OnErr};
+ghost use Rattle.std.specs.Prelude.{◌≡◌, ◌<◌, ◌≤◌, ◌^◌, ◌↔◌, IsTrue, length, map, IfOk, OnErr};
 ghost use Rattle.std.specs.Arc.{arc_value};
 ghost use Rattle.set_model.specs.SetState.{add, removed, purged, cleared};
 ghost use Rattle.set_model.specs.Control.{expired_count};
@@ -31,7 +31,7 @@ pub struct Work {
 
 impl Model for Work {
     ghost use Rattle.std.specs.Arc.{arc_value};
-    ghost use Rattle.std.specs.Prelude.{◌≡◌, length};
+    ghost use Rattle.std.specs.Prelude.{◌≡◌, ◌≤◌, ◌^◌, length};
     ghost use Rattle.set_space.specs.Open.{Open};
 
     ghost Value = { Open };
@@ -40,7 +40,7 @@ impl Model for Work {
 
     ghost view = { λ a. record { base = arc_value a.base; sets = open_states a.sets.items (arc_value a.base).sets } };
 
-    ghost invariant = { λ a. length a.sets.items ≡ length (arc_value a.base).sets };
+    ghost invariant = { λ a. (length a.sets.items ≡ length (arc_value a.base).sets) × (length a.sets.items ≤ 2 ^ 32) };
 }
 
 /// The sets of a generation without a change.
@@ -73,7 +73,7 @@ fn seal_at(
     alloc: Global,
     sets: &mut [OpenSet],
     base: &Generation,
-    set: usize,
+    set: u32,
     now: u64,
 ) -> Result<(Arc<KeptSet, Global>, u64), Memory>
     requires long { length sets.old ≡ length base.now.sets }
@@ -82,8 +82,8 @@ fn seal_at(
     ensures same { open_states sets.new base.now.sets ≡ open_states sets.old base.now.sets }
     ensures sealed { IfOk result (λ r. IsSealed (open_states sets.old base.now.sets) set now (arc_value r.0) r.1) }
 {
-    let shared = base.shared(set as u64);
-    sets[set].seal(alloc, shared, now)
+    let shared = base.shared(set);
+    sets[set as usize].seal(alloc, shared, now)
 }
 
 /// The sets as they are published at `now`, and how many elements of all of them are expired then.
@@ -94,7 +94,8 @@ fn seal_all(
     base: &Generation,
     now: u64,
 ) -> Result<(Sets, u64), Memory>
-    requires { length sets.old ≡ length base.now.sets }
+    requires long { length sets.old ≡ length base.now.sets }
+    requires few { length sets.old ≤ 2 ^ 32 }
     ensures long { length sets.new ≡ length sets.old }
     ensures same { open_states sets.new base.now.sets ≡ open_states sets.old base.now.sets }
     ensures sealed { IfOk result (λ r. (r.0 ≡ map (λ s. purged s now) (open_states sets.old base.now.sets)) × (r.1 ≡ expired_count (open_states sets.old base.now.sets) now)) }
@@ -102,23 +103,21 @@ fn seal_all(
     let mut published = Sets::new(alloc);
     let mut expired = 0u64;
     'sets: for i in 0..sets.len() {
-        let (set, count) = seal_at(alloc, sets, base, i, now)?;
-        let Some(sum) = expired.checked_add(count) else {
-            return Err(Memory);
-        };
-        expired = sum;
+        let (set, count) = seal_at(alloc, sets, base, i as u32, now)?;
+        expired += count;
         published.push(set)?;
     }
     Ok((published, expired))
 }
 
 impl Work {
-    /// A work on a generation, with no open change.
+    /// A work on a generation of at most 2^32 sets, with no open change.
     ///
     /// # Errors
     ///
     /// `Memory` if there is none left.
     pub fn new(alloc: Global, base: Arc<Generation, Global>) -> Result<Work, Memory>
+        requires few { length (arc_value base).sets ≤ 2 ^ 32 }
         ensures { IfOk result (λ work. work ≡ opened (arc_value base)) }
     {
         let sets = unchanged(alloc, &base)?;

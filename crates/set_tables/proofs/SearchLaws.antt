@@ -17,7 +17,7 @@ use Rattle.set_model.specs.Blocks.{holds_value}
 use Rattle.set_model.specs.Key.{contains, parts_hold}
 use Rattle.set_model.specs.SetState.{holds, answers, field_rules, blocks_of, rules_limit}
 use Rattle.set_tables.specs.declared.Span.{Span}
-use Rattle.set_tables.specs.Core.{hits, held, holds_at, part_contains, passed, row_of, key_row}
+use Rattle.set_tables.specs.Core.{hits, held, holds_at, part_contains, passes_fields, row_of, key_row}
 use Rattle.set_tables.specs.Rows.{matched, refilled, led_to}
 use Rattle.set_tables.specs.Tables.{tables, split, spans, field_spans, last_ends}
 use Rattle.set_tables.specs.Search.{of_field, key_tests, row_behind, searched, AreShaped}
@@ -34,8 +34,8 @@ pub row-next : (kinds : List Kind) (es : List Element) (tests : ℕ → Block �
     → matched (tests (suc f)) (field_rules kinds (suc f) es) (refilled (field_spans kinds f es) (row_of kinds es tests f) (length (field_rules kinds (suc f) es)))
     ≡ row_of kinds es tests (suc f)
 row-next kinds es tests f =
-    ap (matched (tests (suc f)) (field_rules kinds (suc f) es)) (hits-refilled (split kinds f) (split kinds (suc f)) (passed kinds tests f) (tests f) 0 es)
-    ∙ marks-matched (split kinds (suc f)) (passed kinds tests (suc f)) (tests (suc f)) es
+    ap (matched (tests (suc f)) (field_rules kinds (suc f) es)) (hits-refilled (split kinds f) (split kinds (suc f)) (passes_fields kinds tests f) (tests f) 0 es)
+    ∙ marks-matched (split kinds (suc f)) (passes_fields kinds tests (suc f)) (tests (suc f)) es
 
 pub rules-at : (kinds : List Kind) (es : List Element) (f : ℕ) → f < length kinds → of_field (tables kinds es).rules f ≡ field_rules kinds f es
 rules-at kinds es f h = get_or-map-range_with_len (λ g. field_rules kinds g es) 0 (length kinds) f f [] h (zero-add f)
@@ -60,7 +60,7 @@ covers-field kinds key f e h =
     ap (λ k. list_any (key_tests key f) (blocks_of k (slice_get e.parts f))) (slice_get-get_or kinds f Ipv4 h)
     ∙ covers-part (get_or kinds f Ipv4) (slice_index key f) (slice_get e.parts f)
 
-pub passed-held : (kinds : List Kind) (key : List ℕ) (f : ℕ) (e : Element) → f ≤ length kinds → passed kinds (key_tests key) f e ≡ held key f e
+pub passed-held : (kinds : List Kind) (key : List ℕ) (f : ℕ) (e : Element) → f ≤ length kinds → passes_fields kinds (key_tests key) f e ≡ held key f e
 passed-held kinds key zero e h = refl
 passed-held kinds key (suc f) e h =
     ap (λ z. z && list_any (key_tests key f) (split kinds f e)) (passed-held kinds key f e (omega arith)) ∙ ap (λ z. held key f e && z) (covers-field kinds key f e (omega arith))
@@ -72,7 +72,7 @@ hits-same here mark other test (e ∷ es) h = rw (h e) (ap (λ z. map (λ b. oth
 
 -- the core, at the key's tests
 pub row-core : (kinds : List Kind) (es : List Element) (key : List ℕ) (f : ℕ) → f < length kinds → row_of kinds es (key_tests key) f ≡ key_row kinds es key f
-row-core kinds es key f h = hits-same (split kinds f) (passed kinds (key_tests key) f) (held key f) (key_tests key f) es (λ e. passed-held kinds key f e (omega arith))
+row-core kinds es key f h = hits-same (split kinds f) (passes_fields kinds (key_tests key) f) (held key f) (key_tests key f) es (λ e. passed-held kinds key f e (omega arith))
 
 pub core-behind : (kinds : List Kind) (es : List Element) (key : List ℕ) (f : ℕ) → f < length kinds
     → row_behind (key_tests key) (tables kinds es).rules (tables kinds es).maps f ≡ key_row kinds es key f
@@ -116,12 +116,12 @@ option-id (Some k) = ap Some (zero-add k)
 
 -- a walk leads to the first live element that passed all fields
 pub row-led : (kinds : List Kind) (es : List Element) (tests : ℕ → Block → Bool) (now : ℕ)
-    → led_to (last_ends kinds es) (row_of kinds es tests (length kinds - 1)) now ≡ position (λ e. live e now && passed kinds tests (suc (length kinds - 1)) e) es
+    → led_to (last_ends kinds es) (row_of kinds es tests (length kinds - 1)) now ≡ position (λ e. live e now && passes_fields kinds tests (suc (length kinds - 1)) e) es
 row-led kinds es tests now =
-    hits-led (split kinds (length kinds - 1)) (passed kinds tests (length kinds - 1)) (tests (length kinds - 1)) now 0 es ∙ option-id _
+    hits-led (split kinds (length kinds - 1)) (passes_fields kinds tests (length kinds - 1)) (tests (length kinds - 1)) now 0 es ∙ option-id _
 
 pub search-passed : (kinds : List Kind) (es : List Element) (tests : ℕ → Block → Bool) (now : ℕ) → 1 ≤ length kinds
-    → searched tests (tables kinds es) now ≡ position (λ e. live e now && passed kinds tests (suc (length kinds - 1)) e) es
+    → searched tests (tables kinds es) now ≡ position (λ e. live e now && passes_fields kinds tests (suc (length kinds - 1)) e) es
 search-passed kinds es tests now h =
     let n : length (tables kinds es).rules ≡ length kinds = length-map-range_with_len (λ f. field_rules kinds f es) 0 (length kinds) in
     ap (λ z. led_to (last_ends kinds es) (row_behind tests (tables kinds es).rules (tables kinds es).maps (z - 1)) now) n
@@ -129,10 +129,10 @@ search-passed kinds es tests now h =
     ∙ row-led kinds es tests now
 
 passed-holds : (kinds : List Kind) (key : List ℕ) (now : ℕ) (e : Element) → 1 ≤ length kinds → length key ≡ length kinds → length e.parts ≡ length kinds
-    → (live e now && passed kinds (key_tests key) (suc (length kinds - 1)) e) ≡ answers key now e
+    → (live e now && passes_fields kinds (key_tests key) (suc (length kinds - 1)) e) ≡ answers key now e
 passed-holds kinds key now e h k l =
     let n : suc (length kinds - 1) ≡ length kinds = omega arith in
-    ap (λ z. live e now && passed kinds (key_tests key) z e) n
+    ap (λ z. live e now && passes_fields kinds (key_tests key) z e) n
     ∙ ap (λ z. live e now && z) (passed-held kinds key (length kinds) e (omega arith) ∙ held-all e key (length kinds) l k)
 
 pub search-finds : (kinds : List Kind) (es : List Element) (key : List ℕ) (now : ℕ) → 1 ≤ length kinds → length key ≡ length kinds → All (λ e. length e.parts ≡ length kinds) es

@@ -20,7 +20,7 @@ use Rattle.set_model.specs.Blocks.{free_bits, blocks}
 use Rattle.set_model.specs.SetState.{blocks_of, is_sharing}
 use Rattle.set_model.proofs.BlockLaws.{blocks-first, blocks-none}
 use Rattle.range_expand.proofs.FirstBlock.{first-within}
-use Rattle.set_tables.specs.Core.{passed}
+use Rattle.set_tables.specs.Core.{passes_fields}
 use Rattle.set_tables.specs.Rows.{led_to}
 use Rattle.set_tables.specs.Core.{row_of}
 use Rattle.set_tables.specs.Tables.{tables, split, last_ends}
@@ -138,7 +138,7 @@ field-shares kinds parts f e fit mine h =
 
 -- ---- all fields
 passed-met : (kinds : List Kind) (parts : List Interval) (f : ℕ) (e : Element) → parts_fit kinds parts ≡ true → parts_fit kinds e.parts ≡ true → f ≤ length kinds
-    → passed kinds (share_tests kinds parts) f e ≡ met parts f e
+    → passes_fields kinds (share_tests kinds parts) f e ≡ met parts f e
 passed-met kinds parts zero e fit mine h = refl
 passed-met kinds parts (suc f) e fit mine h =
     ap (λ z. z && list_any (share_tests kinds parts f) (split kinds f e)) (passed-met kinds parts f e fit mine (omega arith))
@@ -165,12 +165,12 @@ met-all (p ∷ mine) (q ∷ parts) i x c h =
     met-first p q mine parts i x c (length parts) ∙ ap (λ z. (nat_le p.low q.high && nat_le q.low p.high) && z) (met-all mine parts i x c e)
 
 passed-shares : (kinds : List Kind) (parts : List Interval) (now : ℕ) (e : Element) → 1 ≤ length kinds → parts_fit kinds parts ≡ true → parts_fit kinds e.parts ≡ true
-    → (live e now && passed kinds (share_tests kinds parts) (suc (length kinds - 1)) e) ≡ is_sharing parts now e
+    → (live e now && passes_fields kinds (share_tests kinds parts) (suc (length kinds - 1)) e) ≡ is_sharing parts now e
 passed-shares kinds parts now e some fit mine =
     let n = long kinds parts fit in
     let m = long kinds e.parts mine in
     let all : suc (length kinds - 1) ≡ length parts = omega arith in
-    ap (λ z. live e now && passed kinds (share_tests kinds parts) z e) all
+    ap (λ z. live e now && passes_fields kinds (share_tests kinds parts) z e) all
     ∙ ap (λ z. live e now && z) (passed-met kinds parts (length parts) e fit mine (omega arith) ∙ met-all e.parts parts e.id e.expiry e.comment (m ∙ sym n))
 
 pub search-shares : (kinds : List Kind) (es : List Element) (parts : List Interval) (now : ℕ) → 1 ≤ length kinds → parts_fit kinds parts ≡ true → All (λ e. parts_fit kinds e.parts ≡ true) es

@@ -14,13 +14,13 @@ abbrev pub hits : (Element → List Block) → (Element → Bool) → (Block →
 hits here mark test es = flat_map (λ e. map (λ b. mark e && test b) (here e)) es
 
 -- An element has a block that passes in each field before f.
-abbrev pub passed : List Kind → (ℕ → Block → Bool) → ℕ → Element → Bool
-passed kinds tests zero e = true
-passed kinds tests (suc f) e = passed kinds tests f e && list_any (tests f) (split kinds f e)
+abbrev pub passes_fields : List Kind → (ℕ → Block → Bool) → ℕ → Element → Bool
+passes_fields kinds tests zero e = true
+passes_fields kinds tests (suc f) e = passes_fields kinds tests f e && list_any (tests f) (split kinds f e)
 
 -- the rules of field f that pass and belong to elements that passed all fields before
 abbrev pub row_of : List Kind → List Element → (ℕ → Block → Bool) → ℕ → List Bool
-row_of kinds es tests f = hits (split kinds f) (passed kinds tests f) (tests f) es
+row_of kinds es tests f = hits (split kinds f) (passes_fields kinds tests f) (tests f) es
 
 -- an interval, if there is one, holds a value
 abbrev pub part_contains : ℕ → Option Interval → Bool

@@ -2,6 +2,9 @@
 //!
 //! Each transaction copies the sets that it changes. A list that was settled is copied by one count a
 //! page and copies no item; a change makes the pages that it touches the list's own.
+//!
+//! **Definitions:** `specs/Paged.antt` has the items and whose the pages are, `Contents.antt` where a
+//! page's items stand. **Theory:** docs/architecture.md, "The classifier, by one example".
 #![tactic(auto)]
 
 mod page;

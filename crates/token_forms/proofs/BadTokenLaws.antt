@@ -5,7 +5,7 @@ use Rattle.token_forms.specs.View.{lexeme_of}
 use Rattle.token_forms.specs.TextTokens.{text_tokens, plain_tokens}
 use Rattle.token_forms.specs.Form.{Form}
 use Rattle.token_forms.specs.Faults.{IsFault}
-use Rattle.token_forms.specs.BadTokens.{IsSeen, IsBadTokenAmong, IsBadTokenOf, IsPlainBadTokenOf, bad_token_of}
+use Rattle.token_forms.specs.BadTokens.{IsLexemeSeen, IsBadTokenAmong, IsBadTokenOf, IsPlainBadTokenOf, bad_token_of}
 use Rattle.token_forms.specs.declared.bad_token.BadToken.{BadToken}
 use Rattle.token_forms.specs.declared.seen.Seen.{Seen}
 use Rattle.token_forms.specs.declared.token.Reason.{Reason}
@@ -15,7 +15,7 @@ pub record Passed (all reader ahead : List Lexeme) (n : ℕ) (last : Option Seen
   pub front : List Lexeme
   pub split : all ≡ front ++ reader
   pub count : length front + length ahead ≡ n
-  pub last_is : (q : List Lexeme) (t : Lexeme) → front ≡ q ++ t ∷ [] → IsSeen t last
+  pub last_is : (q : List Lexeme) (t : Lexeme) → front ≡ q ++ t ∷ [] → IsLexemeSeen t last
 
 no_last : (q : List Lexeme) (t : Lexeme) → [] ≡ q ++ t ∷ [] → ⊥
 no_last [] t e = cc e
@@ -48,7 +48,7 @@ same_front [] (u ∷ q) r s l e = absurd (omega arith)
 same_front (t ∷ p) [] r s l e = absurd (omega arith)
 same_front (t ∷ p) (u ∷ q) r s l e = let same : t ≡ u = cc e in let i : p ≡ q = same_front p q r s (omega arith) (cc e) in cc (same, i)
 
-pub passed-end : {all reader ahead : List Lexeme} {n : ℕ} {last : Option Seen} → Passed all reader ahead n last → ahead ≡ [] → (before : List Lexeme) (t : Lexeme) (rest : List Lexeme) → all ≡ before ++ t ∷ rest → n ≡ length before + 1 → IsSeen t last
+pub passed-end : {all reader ahead : List Lexeme} {n : ℕ} {last : Option Seen} → Passed all reader ahead n last → ahead ≡ [] → (before : List Lexeme) (t : Lexeme) (rest : List Lexeme) → all ≡ before ++ t ∷ rest → n ≡ length before + 1 → IsLexemeSeen t last
 passed-end {all} {reader} {ahead} {n} {last} p e before t rest s c =
     let size : length p.front ≡ length (before ++ t ∷ []) = omega (arith, ap length e, p.count, length-append before (t ∷ [])) in
     p.last_is before t (same_front p.front (before ++ t ∷ []) reader rest size (sym p.split ∙ s ∙ sym (append_assoc before (t ∷ []) rest)))

@@ -7,7 +7,7 @@ use Rattle.token_forms.specs.declared.token.TokenKind.TheVariants as kinds
 use Rattle.token_forms.specs.declared.piece.Piece.{Piece}
 use Rattle.token_forms.specs.Token.{Spelling, is_end}
 use Rattle.token_forms.specs.Bytes.{is_blank, is_mark_byte, is_word_byte, is_line_feed}
-use Rattle.token_forms.specs.Tokens.{tokens_from, piece, gap, token, joined_lines, string_piece, line_behind}
+use Rattle.token_forms.specs.Tokens.{tokens_from, piece, gap, token, joined_lines, string_piece, next_line}
 use Rattle.token_forms.specs.TextTokens.{is_change_word, linked, text_tokens, plain_tokens, tokens_by}
 use Rattle.token_forms.proofs.WholeLaws.{Ends}
 
@@ -66,10 +66,10 @@ ends_cons (Some k) line place bytes ts h e = record {
 
 tokens_end : (inside line place : ℕ) (bytes : List ℕ) → SpelledEnds (tokens_from inside line place bytes)
 tokens_end inside line place [] = record { others = []; last = record { kind = kinds.End; line = line; from = place; bytes = [] }; split = refl; is_end = refl; inner = tt }
-tokens_end (suc inside) line place (b ∷ bytes) = tokens_end inside (line_behind b line) (place + 1) bytes
+tokens_end (suc inside) line place (b ∷ bytes) = tokens_end inside (next_line b line) (place + 1) bytes
 tokens_end zero line place (b ∷ bytes) =
-    ends_cons (piece b bytes).kind line place (take (piece b bytes).size (b ∷ bytes)) (tokens_from ((piece b bytes).size - 1) (line_behind b line) (place + 1) bytes) ((piece_good b bytes).no_end)
-    (tokens_end ((piece b bytes).size - 1) (line_behind b line) (place + 1) bytes)
+    ends_cons (piece b bytes).kind line place (take (piece b bytes).size (b ∷ bytes)) (tokens_from ((piece b bytes).size - 1) (next_line b line) (place + 1) bytes) ((piece_good b bytes).no_end)
+    (tokens_end ((piece b bytes).size - 1) (next_line b line) (place + 1) bytes)
 
 linked_end : (plain behind : Bool) (others : List Spelling) (last : Spelling) → is_end last.kind ≡ true → NoEndSpelled others → Ends (linked plain behind (others ++ last ∷ []))
 linked_end plain behind [] last h k = record { others = []; last = record { kind = last.kind; line = last.line; from = last.from; bytes = last.bytes; behind = behind; plain = plain }; split = refl; is_end = h; inner = tt }

@@ -2,9 +2,9 @@
 use Rattle.std.proofs.Common.{◌≡◌, ◌⊎◌, inl, inr, refl, sym, ◌∙◌, ap, subst, ◌≤◌, ℕ, List, [], ◌∷◌, ◌++◌, Bool, true, false, arith, append_assoc}
 use Rattle.token_forms.specs.declared.token.Reason.{Reason}
 use Rattle.token_forms.specs.Token.{Lexeme}
-use Rattle.token_forms.specs.Form.{Form, one, done, nowhere, either, many, last, next, ◌>>=◌}
+use Rattle.token_forms.specs.Form.{Form, one, done, nowhere, either_form, many, last, next, ◌>>=◌}
 use Rattle.token_forms.specs.Words.{skip, line, lines}
-use Rattle.token_forms.specs.Faults.{IsBad, IsReason, IsFault, rank}
+use Rattle.token_forms.specs.Faults.{IsBad, IsReason, IsFault, reason_order}
 use Rattle.token_forms.specs.Fronts.{IsRefusedOnce}
 use Rattle.token_forms.specs.TextTokens.{text_tokens}
 use Rattle.token_forms.specs.BadTokens.{HasOneBadToken, HasOneBadTokenAmong, bad_token_of}
@@ -52,13 +52,13 @@ done_closed a = record { whole = λ x y b w. none_of x y w.0; front = none_of }
 pub nowhere_closed : {A : Type 0} → Closed (nowhere {A = A})
 nowhere_closed = record { whole = λ x y a w. absurd w; front = none_of }
 
-pub either_closed : {A : Type 0} {f g : Form A} → Closed f → Closed g → Closed (either f g)
+pub either_closed : {A : Type 0} {f g : Form A} → Closed f → Closed g → Closed (either_form f g)
 either_closed {A} {f} {g} k l = record { whole = whole; front = front } where
-  whole : (x y : List Lexeme) (a : A) → (either f g).whole (x ++ y) a → (either f g).front x
+  whole : (x y : List Lexeme) (a : A) → (either_form f g).whole (x ++ y) a → (either_form f g).front x
   whole x y a (inl w) = inl (k.whole x y a w)
   whole x y a (inr w) = inr (l.whole x y a w)
 
-  front : (x y : List Lexeme) → (either f g).front (x ++ y) → (either f g).front x
+  front : (x y : List Lexeme) → (either_form f g).front (x ++ y) → (either_form f g).front x
   front x y (inl p) = inl (k.front x y p)
   front x y (inr p) = inr (l.front x y p)
 
@@ -131,9 +131,9 @@ not_past {A} {f} k a b t bad p (r, h) = bad.no_front (k.front (a ++ t ∷ []) r 
 -- the first reason that applies is one
 one_reason : {A : Type 0} {f : Form A} (a : List Lexeme) (t : Lexeme) (p q : Reason) → IsReason f a t p → IsReason f a t q → p ≡ q
 one_reason a t p q i j =
-    let low : rank p ≤ rank q = i.first q j.applies in
-    let high : rank q ≤ rank p = j.first p i.applies in
-    let same : rank p ≡ rank q = omega arith in
+    let low : reason_order p ≤ reason_order q = i.first q j.applies in
+    let high : reason_order q ≤ reason_order p = j.first p i.applies in
+    let same : reason_order p ≡ reason_order q = omega arith in
     sym (rank_back p) ∙ ap of_rank same ∙ rank_back q
 
 -- tokens outside a form have one bad token

@@ -5,12 +5,12 @@ use Rattle.std.specs.Option.{option_map}
 use Rattle.std.proofs.lemmas.List.Sums.{sum_by-cons}
 use Rattle.token_forms.specs.Token.{Spelling}
 use Rattle.token_forms.specs.Bytes.{is_line_feed}
-use Rattle.token_forms.specs.Tokens.{tokens_from, first_piece, line_behind}
+use Rattle.token_forms.specs.Tokens.{tokens_from, first_piece, next_line}
 use Rattle.token_forms.specs.declared.piece.Piece.{Piece}
 use Rattle.token_forms.specs.declared.token.TokenKind.{TokenKind}
 use Rattle.token_forms.specs.TokensLeft.{tokens_left}
 
-behind-count : (b line : ℕ) (bytes : List ℕ) → line_behind b line + count_by is_line_feed bytes ≡ line + count_by is_line_feed (b ∷ bytes)
+behind-count : (b line : ℕ) (bytes : List ℕ) → next_line b line + count_by is_line_feed bytes ≡ line + count_by is_line_feed (b ∷ bytes)
 behind-count b line bytes = rw (sum_by-cons (λ x. cond (is_line_feed x) 1 0) b bytes) (go (is_line_feed b)) where
   go : (t : Bool) → cond t (line + 1) line + count_by is_line_feed bytes ≡ line + (cond t 1 0 + count_by is_line_feed bytes)
   go true = omega arith
@@ -25,7 +25,7 @@ tokens-inside (suc n) line place [] h = absurd (omega arith)
 tokens-inside (suc n) line place (b ∷ bytes) h =
     let below : n ≤ length bytes = omega arith in
     let moved : place + 1 + n ≡ place + suc n = omega arith in
-    tokens-inside n (line_behind b line) (place + 1) bytes below
+    tokens-inside n (next_line b line) (place + 1) bytes below
     ∙ ap (λ k. tokens_from 0 k (place + 1 + n) (drop n bytes)) (behind-count b line (take n bytes))
     ∙ ap (λ k. tokens_from 0 (line + count_by is_line_feed (b ∷ take n bytes)) k (drop n bytes)) moved
 
@@ -37,12 +37,12 @@ tokens-first : (line place : ℕ) (bytes : List ℕ) (p : Piece) → p ≡ first
 tokens-first line place [] p e some nonzero within = absurd (omega arith)
 tokens-first line place (b ∷ bytes) p e some nonzero within = rw (← e) (go p.size refl nonzero within) where
   go : (n : ℕ) → p.size ≡ n → 0 < n → n ≤ length (b ∷ bytes)
-      → with_piece p line place (b ∷ bytes) (tokens_from (p.size - 1) (line_behind b line) (place + 1) bytes)
+      → with_piece p line place (b ∷ bytes) (tokens_from (p.size - 1) (next_line b line) (place + 1) bytes)
       ≡ with_piece p line place (b ∷ bytes) (tokens_from 0 (line + count_by is_line_feed (take p.size (b ∷ bytes))) (place + p.size) (drop p.size (b ∷ bytes)))
   go zero h z w = absurd (omega arith)
   go (suc n) h z w =
       let less : suc n - 1 ≡ n = omega arith in
-      let inner : tokens_from (p.size - 1) (line_behind b line) (place + 1) bytes ≡ tokens_from 0 (line + count_by is_line_feed (take p.size (b ∷ bytes))) (place + p.size) (drop p.size (b ∷ bytes)) =
+      let inner : tokens_from (p.size - 1) (next_line b line) (place + 1) bytes ≡ tokens_from 0 (line + count_by is_line_feed (take p.size (b ∷ bytes))) (place + p.size) (drop p.size (b ∷ bytes)) =
       rw h (rw less (tokens-inside (suc n) line place (b ∷ bytes) w)) in
       ap (with_piece p line place (b ∷ bytes)) inner
 

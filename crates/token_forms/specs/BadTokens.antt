@@ -44,6 +44,6 @@ abbrev pub HasOneBadToken : {A : Type 0} → Form A → List ℕ → Type 0
 HasOneBadToken f text = HasOneBadTokenAmong f (text_tokens text) text
 
 -- the token of the code that stands for this one
-abbrev pub IsSeen : Lexeme → Option Seen → Type 0
-IsSeen t None = ⊥
-IsSeen t (Some s) = lexeme_of s ≡ t
+abbrev pub IsLexemeSeen : Lexeme → Option Seen → Type 0
+IsLexemeSeen t None = ⊥
+IsLexemeSeen t (Some s) = lexeme_of s ≡ t

@@ -51,16 +51,16 @@ holds_feeds None = true
 holds_feeds (Some kind) = is_break kind
 
 -- the line of what stands behind a byte
-abbrev pub line_behind : ℕ → ℕ → ℕ
-line_behind b line = if is_line_feed b then line + 1 else line
+abbrev pub next_line : ℕ → ℕ → ℕ
+next_line b line = if is_line_feed b then line + 1 else line
 
 -- The tokens of these bytes, the first of which stands in this line and at this place. Of what was begun before them, so many bytes are left.
 abbrev pub tokens_from : ℕ → ℕ → ℕ → List ℕ → List Spelling
 tokens_from inside line place [] = record { kind = End; line = line; from = place; bytes = [] } ∷ []
-tokens_from (suc inside) line place (b ∷ bytes) = tokens_from inside (line_behind b line) (place + 1) bytes
+tokens_from (suc inside) line place (b ∷ bytes) = tokens_from inside (next_line b line) (place + 1) bytes
 tokens_from zero line place (b ∷ bytes) =
     let p = piece b bytes in
-    cons_option (option_map (λ kind. record { kind = kind; line = line; from = place; bytes = take p.size (b ∷ bytes) }) p.kind) (tokens_from (p.size - 1) (line_behind b line) (place + 1) bytes)
+    cons_option (option_map (λ kind. record { kind = kind; line = line; from = place; bytes = take p.size (b ∷ bytes) }) p.kind) (tokens_from (p.size - 1) (next_line b line) (place + 1) bytes)
 
 -- the tokens of a text: lines count from 1, and the end is the last token
 abbrev pub tokens : List ℕ → List Spelling

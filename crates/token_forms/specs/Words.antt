@@ -3,7 +3,7 @@ use Rattle.std.specs.Prelude.{◌≡◌, ℕ, List, [], ◌∷◌, length, take,
 use Rattle.token_forms.specs.declared.token.TokenKind.TheVariants as kinds
 use Rattle.token_forms.specs.declared.token.Reason.{Reason}
 use Rattle.token_forms.specs.Token.{Lexeme, is_word, is_end, is_break, is_mark, is_text}
-use Rattle.token_forms.specs.Form.{Form, one, done, either, many, ◌>>=◌, ◌>>◌}
+use Rattle.token_forms.specs.Form.{Form, one, done, either_form, many, ◌>>=◌, ◌>>◌}
 
 abbrev pub if_true : Bool → Option (Unit {0})
 if_true true = Some tt
@@ -93,7 +93,7 @@ separators = skip separates
 
 -- Lines: statements with separators between them, and any number of separators before the first and after the last. `open`: a statement may come next.
 abbrev pub line : {S : Type 0} → (Lexeme → Bool) → (S → Form S) → S × Bool → Form (S × Bool)
-line test statement (s, true) = either (passed test >> done (s, true)) (statement s >>= λ s1. done (s1, false))
+line test statement (s, true) = either_form (passed test >> done (s, true)) (statement s >>= λ s1. done (s1, false))
 line test statement (s, false) = passed test >> done (s, true)
 
 abbrev pub lines : {S : Type 0} → (Lexeme → Bool) → (S → Form S) → S × Bool → Form S

@@ -3,7 +3,7 @@ ghost use Rattle.std.specs.List.{prefix_len};
 ghost use Rattle.token_forms.specs.Bytes.{is_line_feed};
 ghost use Rattle.token_forms.specs.Token.{Lexeme};
 ghost use Rattle.token_forms.specs.TextTokens.{text_tokens, plain_tokens, tokens_by};
-ghost use Rattle.token_forms.specs.BadTokens.{IsSeen, column_at, bad_token_of};
+ghost use Rattle.token_forms.specs.BadTokens.{IsLexemeSeen, column_at, bad_token_of};
 
 use crate::reader::Reader;
 use crate::seen::Seen;
@@ -20,6 +20,7 @@ pub struct BadToken {
     pub line: u64,
     /// 1 plus the number of bytes between the start of its line and its first byte. Bytes are counted, not characters.
     pub column: u64,
+    /// Why it doesn't fit: the first reason that applies.
     pub reason: Reason,
 }
 
@@ -55,7 +56,7 @@ fn skipped<'a>(ahead: Reader<'a>, left: Reader) -> Reader<'a>
 /// The last of the first tokens of a text, where these are as many as a reader has.
 fn last_of<'a>(text: &'a [u8], plain: bool, ahead: Reader) -> Option<Seen<'a>>
     requires { length ahead ≤ length (tokens_by plain text.now) }
-    ensures { (before : List Lexeme) (t : Lexeme) (rest : List Lexeme) → tokens_by plain text.now ≡ before ++ t ∷ rest → length ahead.entry ≡ length before + 1 → IsSeen t result }
+    ensures { (before : List Lexeme) (t : Lexeme) (rest : List Lexeme) → tokens_by plain text.now ≡ before ++ t ∷ rest → length ahead.entry ≡ length before + 1 → IsLexemeSeen t result }
 {
     let mut ahead = ahead;
     let mut reader = Reader::at_first(text, plain);
@@ -69,7 +70,7 @@ fn last_of<'a>(text: &'a [u8], plain: bool, ahead: Reader) -> Option<Seen<'a>>
 /// The token of a text behind which these are left.
 fn token_before<'a>(text: &'a [u8], plain: bool, left: Reader) -> Option<Seen<'a>>
     requires { length left ≤ length (tokens_by plain text.now) }
-    ensures { (before : List Lexeme) (t : Lexeme) → tokens_by plain text.now ≡ before ++ t ∷ left.entry → IsSeen t result }
+    ensures { (before : List Lexeme) (t : Lexeme) → tokens_by plain text.now ≡ before ++ t ∷ left.entry → IsLexemeSeen t result }
 {
     last_of(text, plain, skipped(Reader::at_first(text, plain), left))
 }

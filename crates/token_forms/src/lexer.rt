@@ -9,9 +9,13 @@ use std::marker::Model;
 /// A token with its bytes.
 #[derive(Clone, Copy, Debug)]
 pub struct Spelled<'a> {
+    /// What it is.
     pub kind: TokenKind,
+    /// 1 plus the number of line feeds before its first byte.
     pub line: u64,
+    /// The place of its first byte in the text.
     pub from: u64,
+    /// Its bytes.
     pub bytes: &'a [u8],
 }
 
@@ -39,6 +43,7 @@ impl<'a> Model for Lexer<'a> {
 impl<'a> Lexer<'a> {
     ghost use Rattle.token_forms.specs.View.{spelling_of};
 
+    /// All tokens of a text.
     pub fn new(text: &'a [u8]) -> Self
         ensures { result ≡ tokens text.now }
     {

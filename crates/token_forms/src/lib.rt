@@ -1,5 +1,13 @@
 //! Tokens of scripts and key files, and the forms that texts of them have: which lists of tokens are whole, what they
 //! stand for, and which token is the first that doesn't fit.
+//!
+//! A grammar is a table of forms; a [`Reader`] over [`Tokens`] reads along it. [`bad_token_before`]
+//! gives the place, the length and the reason of the token by which a text is refused.
+//!
+//! **Definitions:** `specs/Bytes.antt`, `Token.antt`, `Tokens.antt` and `TextTokens.antt` cut a text
+//! into tokens; `Form.antt` and `Words.antt` are the forms; `Faults.antt`, `Reasons.antt` and
+//! `BadTokens.antt` say which token is bad and why; `Fronts.antt` what holds of every grammar.
+//! **Proofs:** docs/proofs.md, "Grammars (`token_forms`)".
 #![tactic(auto)]
 
 mod bad_token;

@@ -8,7 +8,9 @@ use crate::token::TokenKind;
 /// What a text begins with: a token, or a gap, which is a blank or a comment; and how many bytes it has.
 #[derive(Clone, Copy, Debug, PartialEq, Eq)]
 pub struct Piece {
+    /// What token it is; `None` where it is a gap.
     pub kind: Option<TokenKind>,
+    /// How many bytes it has.
     pub size: usize,
 }
 

@@ -12,11 +12,13 @@ use crate::token::{Reason, TokenKind};
 /// A token as a reader sees it.
 #[derive(Clone, Copy, Debug)]
 pub struct Seen<'a> {
+    /// What it is.
     pub kind: TokenKind,
     /// 1 plus the number of line feeds before its first byte.
     pub line: u64,
     /// The place of its first byte in the text.
     pub from: u64,
+    /// Its bytes.
     pub bytes: &'a [u8],
     /// Whether the token before it is the word `delete`, `destroy` or `create`, behind which the words `set` and
     /// `table` belong to a part of nft's language that is left out.

@@ -18,10 +18,13 @@ pub enum TokenKind {
 /// A token of a text: its bytes stand from place `from` up to place `to`, which isn't included.
 #[derive(Clone, Copy, Debug, PartialEq, Eq)]
 pub struct Token {
+    /// What it is.
     pub kind: TokenKind,
     /// 1 plus the number of line feeds before its first byte.
     pub line: u64,
+    /// The place of its first byte in the text.
     pub from: u64,
+    /// The place behind its last byte.
     pub to: u64,
 }
 

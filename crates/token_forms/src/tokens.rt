@@ -23,6 +23,7 @@ impl<'a> Tokens<'a> {
     ghost use Rattle.std.specs.Prelude.{◌≡◌};
     ghost use Rattle.token_forms.specs.TextTokens.{placed_tokens};
 
+    /// All tokens of a text. It takes no memory.
     pub fn new(text: &'a [u8]) -> Self
         ensures { result ≡ placed_tokens text.now }
     {

@@ -17,7 +17,7 @@ use Rattle.set_model.specs.declared.block.Block.{Block}
 use Rattle.field_groups.specs.Groups.{every, group, agrees, fixed, first_agreeing, agreeing_count}
 use Rattle.field_groups.proofs.RunLaws.{agrees-run}
 use Rattle.std.proofs.lemmas.Bool.{and_parts, leb-true, ltb-true}
-use Rattle.word_summary.specs.Marks.{share, IsMarked, IsPageMarked, Keeps, is_candidate, IsSingle, AreCandidates}
+use Rattle.word_summary.specs.Marks.{share, HasNewMarks, IsPageMarked, ClearsNone, is_candidate, IsSingle, AreCandidates}
 
 -- ---- one mark
 
@@ -82,7 +82,7 @@ run-above word first n marks i low high small =
     ∙ ap (bit word) e
 
 pub line-marked : (old : List ℕ) (line first n marks : ℕ) → line < length old → first < 64 → first + n ≤ 64 → ((k : ℕ) → n ≤ k → k < 64 → bit marks k ≡ false)
-    → IsMarked line first n marks old (set old line (bit_or (bit_and (slice_index old line) (1 * 2 ^ first % 2 ^ 64 - 1)) (bit_or (slice_index old line / 2 ^ first / 2 ^ n * 2 ^ n % 2 ^ 64) marks * 2 ^ first % 2 ^ 64)))
+    → HasNewMarks line first n marks old (set old line (bit_or (bit_and (slice_index old line) (1 * 2 ^ first % 2 ^ 64 - 1)) (bit_or (slice_index old line / 2 ^ first / 2 ^ n * 2 ^ n % 2 ^ 64) marks * 2 ^ first % 2 ^ 64)))
 line-marked old line first n marks h low within small = record {
   long = length-set old line _;
   others = λ i out. get_or-set_other old line i _ 0 out;
@@ -104,7 +104,7 @@ one-mark false i = bit-zero i ∙ sym (and-false (nat_lt i 1))
 pub page-none : (k : ℕ) (lines old : List ℕ) → IsPageMarked k 0 lines old old
 page-none k lines old = record { long = refl; here = λ j h. absurd (omega arith); others = λ j i h differs. refl }
 
-pub page-more : (k j mark : ℕ) (lines old top new : List ℕ) → bit mark 0 ≡ not (slice_index lines j == 0) → IsMarked j k 1 mark top new → IsPageMarked k j lines old top → IsPageMarked k (j + 1) lines old new
+pub page-more : (k j mark : ℕ) (lines old top new : List ℕ) → bit mark 0 ≡ not (slice_index lines j == 0) → HasNewMarks j k 1 mark top new → IsPageMarked k j lines old top → IsPageMarked k (j + 1) lines old new
 page-more k j mark lines old top new is marked so_far = record {
   long = marked.long ∙ so_far.long;
   here = λ i h. here i h (same_or_not i j);
@@ -129,13 +129,13 @@ page-more k j mark lines old top new is marked so_far = record {
 
 -- ---- a block's lines
 
-pub keeps-none : (old : List ℕ) → Keeps old old
+pub keeps-none : (old : List ℕ) → ClearsNone old old
 keeps-none old = record { long = refl; marks = λ j i h. h }
 
-pub keeps-both : (old lines new : List ℕ) → Keeps old lines → Keeps lines new → Keeps old new
+pub keeps-both : (old lines new : List ℕ) → ClearsNone old lines → ClearsNone lines new → ClearsNone old new
 keeps-both old lines new first second = record { long = second.long ∙ first.long; marks = λ j i h. second.marks j i (first.marks j i h) }
 
-pub keeps-set : (old : List ℕ) (j m : ℕ) → j < length old → Keeps old (set old j (bit_or (slice_index old j) m))
+pub keeps-set : (old : List ℕ) (j m : ℕ) → j < length old → ClearsNone old (set old j (bit_or (slice_index old j) m))
 keeps-set old j m h = record { long = length-set old j (bit_or (slice_index old j) m); marks = λ i n s. go i n s (same_or_not i j) } where
   go : (i n : ℕ) → bit (slice_index old i) n ≡ true → (i ≡ j) ⊎ ((i < j) ⊎ (j < i)) → bit (slice_index (set old j (bit_or (slice_index old j) m)) i) n ≡ true
   go i n s (inl same) =
@@ -151,7 +151,7 @@ set-there old j k h l =
     ∙ or-set (bit (slice_index old j) k) (bit (1 * 2 ^ k % 2 ^ 64) k) (bit-one k k l ∙ ap (λ t. t && nat_lt (k - k) 1) (leb k k (omega arith)) ∙ lt-ltb (k - k) 1 (omega arith))
 
 -- a line of those up to this one
-pub same-line : (old new : List ℕ) (w k j : ℕ) → Keeps old new → bit (slice_index new w) k ≡ true → (j < w → bit (slice_index old j) k ≡ true) → j < w + 1 → bit (slice_index new j) k ≡ true
+pub same-line : (old new : List ℕ) (w k j : ℕ) → ClearsNone old new → bit (slice_index new w) k ≡ true → (j < w → bit (slice_index old j) k ≡ true) → j < w + 1 → bit (slice_index new j) k ≡ true
 same-line old new w k j keeps here before h = go (cases_lt j w) where
   go : (j < w) ⊎ (w ≤ j) → bit (slice_index new j) k ≡ true
   go (inl l) = keeps.marks j k (before l)

@@ -12,11 +12,11 @@ abbrev pub share : ℕ → ℕ → Bool
 share a b = not (bit_and a b == 0)
 
 -- one line for each byte and value
-pub record IsPage (bits : ℕ) (page : List ℕ) : Type 0 where
+pub record IsMarkPage (bits : ℕ) (page : List ℕ) : Type 0 where
   pub long : length page ≡ bits / 8 * 256
 
 -- The line's n marks from mark `first` on are made anew. The other marks, and the other lines, are as they were.
-pub record IsMarked (line first n marks : ℕ) (old new : List ℕ) : Type 0 where
+pub record HasNewMarks (line first n marks : ℕ) (old new : List ℕ) : Type 0 where
   pub long : length new ≡ length old
   pub others : (i : ℕ) → (i ≡ line → ⊥) → slice_index new i ≡ slice_index old i
   pub below : (k : ℕ) → k < first → bit (slice_index new line) k ≡ bit (slice_index old line) k
@@ -31,13 +31,13 @@ pub record IsPageMarked (k n : ℕ) (lines old new : List ℕ) : Type 0 where
   pub others : (j i : ℕ) → i < 64 → (i ≡ k → ⊥) → bit (slice_index new j) i ≡ bit (slice_index old j) i
 
 -- what is set stays set
-pub record Keeps (old new : List ℕ) : Type 0 where
+pub record ClearsNone (old new : List ℕ) : Type 0 where
   pub long : length new ≡ length old
   pub marks : (j i : ℕ) → bit (slice_index old j) i ≡ true → bit (slice_index new j) i ≡ true
 
 -- Word k is marked in each line whose value agrees with the block, and what was marked stays marked.
-pub record IsBlockMarked (bits : ℕ) (block : Block) (k : ℕ) (old new : List ℕ) : Type 0 where
-  pub kept : Keeps old new
+pub record IsWordMarked (bits : ℕ) (block : Block) (k : ℕ) (old new : List ℕ) : Type 0 where
+  pub kept : ClearsNone old new
   pub set : (g v : ℕ) → g < bits / 8 → v < 256 → agrees 8 bits block g v ≡ true → bit (slice_index new (g * 256 + v)) k ≡ true
 
 -- word k of the page is marked in the line of each byte of the value

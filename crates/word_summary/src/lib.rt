@@ -12,6 +12,11 @@
 //!
 //! Pages may have pages of the same form above them, called tops, in which bit `k` of a line stands for
 //! page `k` and tells whether the page has a mark in that line.
+//!
+//! **Definitions:** `specs/Marks.antt`; that no word with a rule that holds a value is left out stands
+//! in `lookup_table`, `specs/Summary.antt` and `Candidates.antt`. **Theory:** docs/architecture.md,
+//! "The classifier, by one example". **Proofs:** docs/proofs.md, "Tables (`field_groups`,
+//! `lookup_table`)".
 #![tactic(auto)]
 
 mod marks;

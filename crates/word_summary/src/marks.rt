@@ -1,7 +1,7 @@
 ghost use Rattle.std.specs.Prelude.{◌≡◌, ℕ, ◌+◌, ◌-◌, ◌*◌, ◌/◌, ◌^◌, ◌<◌, ◌≤◌, ◌&&◌, true, false, nat_lt, length, slice_index, replicate, IfOk};
 ghost use Rattle.bit_rows.specs.Row.{bit};
 ghost use Rattle.field_groups.specs.Groups.{IsWidth};
-ghost use Rattle.word_summary.specs.Marks.{share, IsPage, IsMarked, IsPageMarked, Keeps, IsBlockMarked, IsSingle, AreCandidates};
+ghost use Rattle.word_summary.specs.Marks.{share, IsMarkPage, HasNewMarks, IsPageMarked, ClearsNone, IsWordMarked, IsSingle, AreCandidates};
 ghost use Rattle.set_model.specs.Blocks.{IsWithin};
 
 use field_groups::{group_mask, group_value};
@@ -28,7 +28,7 @@ pub fn new_page(alloc: Global, bits: u32) -> Result<Page<u64>, Memory>
 #[inline(always)]
 pub fn candidates(lines: &[u64], value: u128, bits: u32) -> u64
     requires groups { IsWidth 8 bits }
-    requires page { IsPage bits lines.now }
+    requires page { IsMarkPage bits lines.now }
     requires value { value < 2 ^ bits }
     ensures { AreCandidates bits lines.now value result }
 {
@@ -82,7 +82,7 @@ pub fn mark_line(page: &mut Page<u64>, line: usize, first: u32, n: u32, marks: u
     requires within { first + n ≤ 64 }
     requires marks { (k : ℕ) → n ≤ k → k < 64 → bit marks k ≡ false }
     ensures own { page.new.own ≡ true }
-    ensures marked { IsMarked line first n marks page.old.items page.new.items }
+    ensures marked { HasNewMarks line first n marks page.old.items page.new.items }
 {
     let before = page.as_slice()[line];
     let low = before & ((1u64 << first) - 1);
@@ -108,11 +108,11 @@ pub fn mark_page(top: &mut Page<u64>, lines: &[u64], k: u32)
 pub fn mark_block(page: &mut Page<u64>, block: Block, bits: u32, k: u32)
     requires own { page.old.own ≡ true }
     requires groups { IsWidth 8 bits }
-    requires page { IsPage bits page.old.items }
+    requires page { IsMarkPage bits page.old.items }
     requires word { k < 64 }
     requires block { IsWithin bits block }
     ensures own { page.new.own ≡ true }
-    ensures marked { IsBlockMarked bits block k page.old.items page.new.items }
+    ensures marked { IsWordMarked bits block k page.old.items page.new.items }
 {
     'groups: for g in 0..bits / 8 {
         let (base, mask) = group_mask(block, 8, bits, g);
@@ -128,7 +128,7 @@ pub fn mark_run(page: &mut Page<u64>, first: usize, last: usize, k: u32)
     requires lines { last ≤ length page.old.items }
     requires word { k < 64 }
     ensures own { page.new.own ≡ true }
-    ensures kept { Keeps page.old.items page.new.items }
+    ensures kept { ClearsNone page.old.items page.new.items }
     ensures set { (j : ℕ) → first ≤ j → j < last → bit (slice_index page.new.items j) k ≡ true }
 {
     'lines: for j in first..last {

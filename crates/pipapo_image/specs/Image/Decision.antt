@@ -32,10 +32,10 @@ existing (Renews i id) = Some id
 existing (Adds columns) = None
 
 -- the set that is left
-abbrev pub left : State → NewElement → Decision → State
-left s e (Stays id) = s
-left s e (Renews i id) = renewed s i e.expiry
-left s e (Adds columns) = with_element s e
+abbrev pub set_left : State → NewElement → Decision → State
+set_left s e (Stays id) = s
+set_left s e (Renews i id) = renewed s i e.expiry
+set_left s e (Adds columns) = with_element s e
 
 -- It can be done.
 abbrev pub CanBeDone : State → List Interval → Decision → Type 0
@@ -45,6 +45,6 @@ CanBeDone s parts (Adds columns) = IsWithinLimits s parts columns.items
 
 -- This is to be done; or it is a refusal; or there was no memory.
 abbrev pub IsDecision : State → NewElement → Addition × State → Result Decision ChangeError → Type 0
-IsDecision s e answer (Ok decision) = CanBeDone s e.parts decision × (answer ≡ (comes decision s.next, left s e decision))
+IsDecision s e answer (Ok decision) = CanBeDone s e.parts decision × (answer ≡ (comes decision s.next, set_left s e decision))
 IsDecision s e answer (Err (errors.Refused why)) = answer ≡ (Refused why, s)
 IsDecision s e answer (Err errors.Memory) = Unit

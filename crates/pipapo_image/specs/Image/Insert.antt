@@ -8,13 +8,13 @@ use Rattle.pipapo_image.specs.declared.answers.ChangeError.{ChangeError}
 use Rattle.pipapo_image.specs.declared.answers.ChangeError.TheVariants as errors
 
 -- what the answer of a call says, where there was memory
-abbrev pub said : Came → Addition
-said (CameNew id) = New id
-said (CameAlready id) = Already id
-said (CameRenewed id) = Renewed id
+abbrev pub addition_said : Came → Addition
+addition_said (CameNew id) = New id
+addition_said (CameAlready id) = Already id
+addition_said (CameRenewed id) = Renewed id
 
 -- The call gives this answer and leaves this set; or there was no memory, and the set is as it was.
 abbrev pub IsAnswer : Addition × State → Result Came ChangeError → State → State → Type 0
-IsAnswer answer (Ok came) old new = (said came ≡ answer.0) × (new ≡ answer.1)
+IsAnswer answer (Ok came) old new = (addition_said came ≡ answer.0) × (new ≡ answer.1)
 IsAnswer answer (Err (errors.Refused why)) old new = (Refused why ≡ answer.0) × (new ≡ answer.1)
 IsAnswer answer (Err errors.Memory) old new = new ≡ old

@@ -24,7 +24,7 @@ pub record IsSameIndex (old new : Index) : Type 0 where
   pub ends : new.ends.items ≡ old.ends.items
 
 -- Each part has room for its column.
-pub record IsRoomy (index : Index) (columns : List (List Block)) : Type 0 where
+pub record HasRoomFor (index : Index) (columns : List (List Block)) : Type 0 where
   pub fields : (f : ℕ) (t : FieldTable) → f < length index.fields → HasSpare (length (of_field columns f)) (get_or index.fields f t)
   pub maps : (f : ℕ) (m : Spared Span) → f < length index.maps → length (of_field columns f) ≤ (get_or index.maps f m).spare
   pub ends : length (of_field columns (length columns - 1)) ≤ index.ends.spare

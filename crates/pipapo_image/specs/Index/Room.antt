@@ -1,14 +1,15 @@
 -- Room for a field's rules.
-use Rattle.std.specs.Prelude.{◌≡◌, ◌+◌, ◌≤◌, length}
+use Rattle.std.specs.Prelude.{◌≡◌, ◌+◌, length}
 use Rattle.bit_rows.specs.Row.{Row}
 use Rattle.set_model.specs.SetState.{rules_limit}
 use Rattle.fused_lookup.specs.Filled.{IsClear}
 
--- The row has room for as many rules as a field can have.
+-- The row has room for as many rules as a field can have, and for no more: what took more would show.
 pub record HasRoomForRules (row : Row) : Type 0 where
-  pub room : rules_limit ≤ length row.bits + row.spare
+  pub room : length row.bits + row.spare ≡ rules_limit
 
--- The row has as many places as a field can have rules, and none is set.
+-- The row has as many places as a field can have rules and room for no more, and none is set.
 pub record IsBlank (row : Row) : Type 0 where
   pub long : length row.bits ≡ rules_limit
+  pub full : row.spare ≡ 0
   pub clear : IsClear row.bits

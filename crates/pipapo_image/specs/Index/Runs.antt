@@ -7,13 +7,13 @@ use Rattle.set_tables.specs.declared.Span.{Span}
 use Rattle.pipapo_image.specs.Index.Built.{Built}
 
 -- The rules of the element at place i in field f: those behind the rules of the elements before it.
-pub record IsRun (kinds : List Kind) (es : List Element) (i f : ℕ) (run : Span) : Type 0 where
+pub record IsElementRun (kinds : List Kind) (es : List Element) (i f : ℕ) (run : Span) : Type 0 where
   pub begins : run.first ≡ length (field_rules kinds f (take i es))
   pub ends : run.first + run.count ≡ length (field_rules kinds f (take (i + 1) es))
 
 -- its rules in each of the first n fields
 abbrev pub AreRuns : List Kind → List Element → ℕ → List Span → ℕ → Type 0
-AreRuns kinds es i runs n = Built (IsRun kinds es i) runs n
+AreRuns kinds es i runs n = Built (IsElementRun kinds es i) runs n
 
 -- the run of field f
 abbrev pub run_at : List Span → ℕ → Span

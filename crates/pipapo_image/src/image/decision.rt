@@ -1,10 +1,9 @@
-ghost use Rattle.std.specs.Prelude.{◌≡◌, ◌-◌, ◌<◌, ◌^◌, ◌==◌, ◌&&◌, true, false, List, length, IfOk, Some, Ok};
+ghost use Rattle.std.specs.Prelude.{◌≡◌, ◌-◌, ◌<◌, ◌^◌, ◌==◌, ◌&&◌, true, false, List, length, Some, None, Ok};
 ghost use Rattle.std.specs.List.{list_all, zip};
 ghost use Rattle.set_model.specs.Key.{parts_fit, start_key, end_key, same_parts};
 ghost use Rattle.set_model.specs.SetState.{add, element_at, place, twin_place, sharing_place, is_full, crowded_field};
 ghost use Rattle.pipapo_image.specs.Index.Built.{Built};
 ghost use Rattle.pipapo_image.specs.Index.Grow.{IsColumn};
-ghost use Rattle.pipapo_image.specs.Image.Found.{IsPlace};
 ghost use Rattle.pipapo_image.specs.Image.Decision.{IsDecision};
 ghost use Rattle.pipapo_image.specs.Image.Deciding.{IsTest, IsTwinPlace, by_start, by_twin, by_way, by_size, by_rules, at_start, add_again};
 
@@ -12,7 +11,7 @@ use crate::answers::ChangeError;
 use crate::image::SetImage;
 use crate::index::columns::{columns, crowded_field};
 use crate::index::scratch::Scratch;
-use set_model::{Block, Interval, Key, Listed, Memory, NewElement, Parts, Why};
+use set_model::{Block, Interval, Listed, NewElement, Parts, Why};
 use std::alloc::Global;
 
 /// What an insertion does, where nothing refuses it.
@@ -57,24 +56,11 @@ fn all_same(a: &[Interval], b: &[Interval]) -> bool
         .all(|(x, y)| x.low == y.low && x.high == y.high)
 }
 
-fn lows(alloc: Global, parts: &Parts) -> Result<Key, Memory>
-    ensures { IfOk result (λ key. key ≡ start_key parts.now) }
+/// Whether each interval has one value, so that the end key is the start key.
+fn is_single(parts: &[Interval]) -> bool
+    ensures { result ≡ list_all (λ part. part.low == part.high) parts.now }
 {
-    let mut key = Listed::new(alloc);
-    'parts: for part in parts.as_slice() {
-        key.push(part.low)?;
-    }
-    Ok(key)
-}
-
-fn highs(alloc: Global, parts: &Parts) -> Result<Key, Memory>
-    ensures { IfOk result (λ key. key ≡ end_key parts.now) }
-{
-    let mut key = Listed::new(alloc);
-    'parts: for part in parts.as_slice() {
-        key.push(part.high)?;
-    }
-    Ok(key)
+    parts.iter().all(|part| part.low == part.high)
 }
 
 impl SetImage {
@@ -112,7 +98,7 @@ impl SetImage {
         requires { parts_fit self.now.kinds element.now.parts ≡ true }
         ensures { IsDecision self.now element.now (by_twin self.now element.now now (twin_place self.now element.now.parts now)) result }
     {
-        match self.twin_place(alloc, &element.parts, now, scratch)? {
+        match self.twin_place(&element.parts, now, scratch) {
             Some(i) => Ok(self.decide_again(i, element)),
             None => Ok(Decision::Adds {
                 columns: self.columns_unshared(alloc, &element.parts, now, scratch)?,
@@ -132,7 +118,7 @@ impl SetImage {
         requires { parts_fit self.now.kinds element.now.parts ≡ true }
         ensures { IsDecision self.now element.now (by_start self.now element.now now (place self.now (start_key element.now.parts) now)) result }
     {
-        match self.start_place(alloc, &element.parts, now, scratch)? {
+        match self.start_place(&element.parts, now, scratch) {
             Some(i) => self.decide_at(i, element),
             None => Ok(Decision::Adds {
                 columns: self.columns_apart(alloc, &element.parts, now, scratch)?,
@@ -142,19 +128,13 @@ impl SetImage {
 
     /// The place of the element that is there already: the first live one that holds the start key,
     /// where it has the same intervals.
-    fn twin_place(
-        &self,
-        alloc: Global,
-        parts: &Parts,
-        now: u64,
-        scratch: &mut Scratch,
-    ) -> Result<Option<u64>, Memory>
+    fn twin_place(&self, parts: &Parts, now: u64, scratch: &mut Scratch) -> Option<u64>
         requires { parts_fit self.now.kinds parts.now ≡ true }
-        ensures { IfOk result (IsTwinPlace self.now parts.now now) }
+        ensures { IsTwinPlace self.now parts.now now result }
     {
-        match self.start_place(alloc, parts, now, scratch)? {
-            Some(i) if self.has_parts(i, parts) => Ok(Some(i)),
-            _ => Ok(None),
+        match self.start_place(parts, now, scratch) {
+            Some(i) if self.has_parts(i, parts) => Some(i),
+            _ => None,
         }
     }
 
@@ -164,36 +144,6 @@ impl SetImage {
         ensures { result ≡ same_parts (element_at self.now i).parts parts.now }
     {
         is_same(self.elements.at(i).parts.as_slice(), parts.as_slice())
-    }
-
-    /// The place of the first live element that holds the start key.
-    fn start_place(
-        &self,
-        alloc: Global,
-        parts: &Parts,
-        now: u64,
-        scratch: &mut Scratch,
-    ) -> Result<Option<u64>, Memory>
-        requires { parts_fit self.now.kinds parts.now ≡ true }
-        ensures { IfOk result (IsPlace self.now (start_key parts.now) now) }
-    {
-        let key = lows(alloc, parts)?;
-        Ok(self.place(key.as_slice(), now, scratch))
-    }
-
-    /// The place of the first live element that holds the end key.
-    fn end_place(
-        &self,
-        alloc: Global,
-        parts: &Parts,
-        now: u64,
-        scratch: &mut Scratch,
-    ) -> Result<Option<u64>, Memory>
-        requires { parts_fit self.now.kinds parts.now ≡ true }
-        ensures { IfOk result (IsPlace self.now (end_key parts.now) now) }
-    {
-        let key = highs(alloc, parts)?;
-        Ok(self.place(key.as_slice(), now, scratch))
     }
 
     fn id_at(&self, i: u64) -> u64
@@ -228,7 +178,8 @@ impl SetImage {
         }
     }
 
-    /// The rules of a new element, where no live element holds the start key.
+    /// The rules of a new element, where no live element holds the start key. An end key that is the
+    /// start key isn't looked up again.
     fn columns_apart(
         &self,
         alloc: Global,
@@ -236,10 +187,14 @@ impl SetImage {
         now: u64,
         scratch: &mut Scratch,
     ) -> Result<Vec<Listed<Block>>, ChangeError>
-        requires { parts_fit self.now.kinds parts.now ≡ true }
+        requires fit { parts_fit self.now.kinds parts.now ≡ true }
+        requires start { place self.now (start_key parts.now) now ≡ None }
         ensures { IsTest self.now parts.now (by_way self.now parts.now (place self.now (end_key parts.now) now)) result }
     {
-        match self.end_place(alloc, parts, now, scratch)? {
+        if is_single(parts.as_slice()) {
+            return self.columns_within(alloc, parts);
+        }
+        match self.end_place(parts, now, scratch) {
             Some(i) => Err(ChangeError::Refused(Why::Overlap { id: self.id_at(i) })),
             None => self.columns_within(alloc, parts),
         }

@@ -1,5 +1,4 @@
-ghost use Rattle.std.specs.Prelude.{◌≡◌, ℕ, ◌+◌, ◌≤◌, ◌<◌, false, length, take, OnErr, IfOk};
-ghost use Rattle.set_model.specs.Key.{start_key};
+ghost use Rattle.std.specs.Prelude.{◌≡◌, ℕ, ◌+◌, ◌<◌, false, length, OnErr, IfOk};
 ghost use Rattle.set_model.specs.SetState.{is_exactly, removed, element_at, without_at};
 ghost use Rattle.pipapo_image.specs.Image.Found.{exactly_found};
 ghost use Rattle.pipapo_image.specs.Image.Remove.{IsRemoval, IsExactPlace};
@@ -9,18 +8,6 @@ use crate::image::SetImage;
 use crate::index::scratch::Scratch;
 use set_model::{Found, Memory, Parts, Why, is_live, parts_fit};
 use std::alloc::Global;
-
-/// The key with which intervals start, and zeros behind it.
-fn starts(parts: &Parts) -> [u128; 16]
-    requires { length parts.now ≤ 16 }
-    ensures { take (length parts.now) result ≡ start_key parts.now }
-{
-    let mut lows = [0; 16];
-    'fields: for f in 0..parts.len() {
-        lows[f as usize] = parts.at(f).low;
-    }
-    lows
-}
 
 impl SetImage {
     /// The first element that is live at `now`, in milliseconds, and has exactly these intervals.
@@ -62,9 +49,7 @@ impl SetImage {
         if !parts_fit(&self.kinds, parts) {
             return None;
         }
-        let lows = starts(parts);
-        let key = &lows[..parts.len() as usize];
-        match self.place(key, now, scratch) {
+        match self.start_place(parts, now, scratch) {
             Some(i) if self.has_parts(i, parts) => Some(i),
             Some(i) => self.exact_behind(i, parts, now),
             None => None,

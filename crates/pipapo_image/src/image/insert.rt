@@ -3,8 +3,8 @@ ghost use Rattle.set_model.specs.Key.{parts_fit};
 ghost use Rattle.set_model.specs.SetState.{add, crowded_field, renewed, with_element};
 ghost use Rattle.pipapo_image.specs.Index.Built.{Built};
 ghost use Rattle.pipapo_image.specs.Index.Grow.{IsColumn};
-ghost use Rattle.pipapo_image.specs.Image.Insert.{IsAnswer, said};
-ghost use Rattle.pipapo_image.specs.Image.Decision.{CanBeDone, comes, left};
+ghost use Rattle.pipapo_image.specs.Image.Insert.{IsAnswer, addition_said};
+ghost use Rattle.pipapo_image.specs.Image.Decision.{CanBeDone, comes, set_left};
 
 use crate::answers::{Added, ChangeError};
 use crate::image::SetImage;
@@ -49,8 +49,8 @@ impl SetImage {
     ) -> Result<Added, Memory>
         requires fit { parts_fit self.old.kinds element.now.parts ≡ true }
         requires can { CanBeDone self.old element.now.parts decision }
-        ensures came { IfOk result (λ came. said came ≡ comes decision self.old.next) }
-        ensures left { IfOk result (λ _. self.new ≡ left self.old element.now decision) }
+        ensures came { IfOk result (λ came. addition_said came ≡ comes decision self.old.next) }
+        ensures left { IfOk result (λ _. self.new ≡ set_left self.old element.now decision) }
         ensures err { OnErr result (self.new ≡ self.old) }
     {
         match decision {

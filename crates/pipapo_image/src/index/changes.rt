@@ -9,7 +9,7 @@ use set_tables::End;
 
 impl Index {
     ghost use Rattle.pipapo_image.specs.Index.{IsShapedIndex};
-    ghost use Rattle.pipapo_image.specs.Index.Changes.{AreColumnsOf, IsSameIndex, IsRoomy, AreReady, IsAppended};
+    ghost use Rattle.pipapo_image.specs.Index.Changes.{AreColumnsOf, IsSameIndex, HasRoomFor, AreReady, IsAppended};
 
     /// Takes room for the columns of a new element. Nothing else changes.
     ///
@@ -19,7 +19,7 @@ impl Index {
         requires shaped { IsShapedIndex self.old }
         requires columns { AreColumnsOf self.old columns.now }
         ensures kept { IsSameIndex self.old self.new }
-        ensures room { OnOk result (IsRoomy self.new columns.now) }
+        ensures room { OnOk result (HasRoomFor self.new columns.now) }
     {
         let last = columns[columns.len() - 1].len() as u32;
         reserve_columns(&mut self.fields, columns)?;
@@ -38,7 +38,7 @@ impl Index {
     )
         requires shaped { IsShapedIndex self.old }
         requires columns { AreColumnsOf self.old columns.now }
-        requires room { IsRoomy self.old columns.now }
+        requires room { HasRoomFor self.old columns.now }
         requires ready { AreReady self.old others.old columns.now }
         ensures { IsAppended self.old self.new others.old columns.now end }
     {

@@ -3,7 +3,7 @@ ghost use Rattle.std.specs.List.{range_with_len};
 ghost use Rattle.set_model.specs.Key.{parts_fit};
 ghost use Rattle.set_model.specs.Blocks.{blocks};
 ghost use Rattle.set_model.specs.SetState.{rules_limit};
-ghost use Rattle.range_expand.specs.Split.{IsInterval};
+ghost use Rattle.range_expand.specs.Split.{IsFieldInterval};
 ghost use Rattle.lookup_table.specs.declared.table.FieldTable.{FieldTable as Table};
 ghost use Rattle.pipapo_image.specs.Index.Built.{Built};
 ghost use Rattle.pipapo_image.specs.Index.Grow.{IsColumn, counts, is_over};
@@ -16,7 +16,7 @@ use std::alloc::Global;
 
 /// The blocks of an interval.
 fn split(alloc: Global, low: u128, high: u128, bits: u32) -> Result<Vec<Block>, Memory>
-    requires { IsInterval low high bits }
+    requires { IsFieldInterval low high bits }
     ensures { IfOk result (λ v. v.items ≡ blocks low high bits) }
 {
     Ok(Blocks::new(low, high, bits).collect(alloc)?)

@@ -63,6 +63,7 @@ fn walk_fields(
     ensures reached { (kinds : List OneKind) (es : List Element) → AreFieldsOf kinds es fields.now → AreMapsOf kinds es maps.now
         → row.new.bits ≡ refilled (field_spans kinds (length maps.now - 1) es) (row_of kinds es (key_tests key.now) (length maps.now - 1)) (length row.new.bits) }
     ensures length { length row.new.bits ≡ rules_limit }
+    ensures spare { row.new.spare ≡ 0 }
     ensures window { IsWindow row.new.bits result }
     ensures next { IsBlank next.new }
 {

@@ -9,8 +9,9 @@ use std::marker::Model;
 /// The most rules that a field has.
 pub(crate) const MOST_RULES: u32 = 1_048_576;
 
-/// The rows that a lookup works in, with room for as many rules as a field can have. One is made for
-/// many lookups; what it holds between two of them is of no account.
+/// The rows that a lookup works in, each with room for as many rules as a field can have, and for no
+/// more: so a lookup leaves no memory taken. One is made for many lookups; what it holds between two
+/// of them is of no account.
 #[derive(Drop)]
 pub struct Scratch {
     pub(crate) row: BitRow,
@@ -41,25 +42,20 @@ impl Scratch {
     /// `Memory` if there is none left.
     pub fn new(alloc: Global) -> Result<Scratch, Memory> {
         Ok(Scratch {
-            row: roomy_row(alloc)?,
-            next: roomy_row(alloc)?,
-            rest: roomy_row(alloc)?,
-            sum: roomy_row(alloc)?,
+            row: blank_row(alloc)?,
+            next: blank_row(alloc)?,
+            rest: blank_row(alloc)?,
+            sum: blank_row(alloc)?,
             here: blank_row(alloc)?,
             beyond: blank_row(alloc)?,
         })
     }
 }
 
-fn roomy_row(alloc: Global) -> Result<BitRow, Memory>
-    ensures { IfOk result (λ row. HasRoomForRules row) }
-{
-    let row = BitRow::zeros(alloc, MOST_RULES)?;
-    Ok(row)
-}
-
+/// A row of the most rules, with room for no more.
 fn blank_row(alloc: Global) -> Result<BitRow, Memory>
-    ensures { IfOk result (λ row. IsBlank row) }
+    ensures blank { IfOk result (λ row. IsBlank row) }
+    ensures room { IfOk result (λ row. HasRoomForRules row) }
 {
     let row = BitRow::zeros(alloc, MOST_RULES)?;
     Ok(row)

@@ -3,7 +3,7 @@ ghost use Rattle.bit_rows.specs.Row.{at};
 ghost use Rattle.lookup_table.specs.declared.table.FieldTable.{FieldTable as Table};
 ghost use Rattle.lookup_table.specs.Rules.{Stands};
 ghost use Rattle.lookup_table.specs.Table.{block_at};
-ghost use Rattle.range_expand.specs.Split.{IsInterval};
+ghost use Rattle.range_expand.specs.Split.{IsFieldInterval};
 ghost use Rattle.set_model.specs.declared.kind.Kind.{Kind as OneKind};
 ghost use Rattle.set_model.specs.declared.element.Element.{Element};
 ghost use Rattle.set_model.specs.declared.block.Block.{Block};
@@ -128,7 +128,7 @@ fn share_field(
     sum: &mut BitRow,
 )
     requires few { table.now.rules ≤ rules_limit }
-    requires interval { IsInterval part.low part.high table.now.bits }
+    requires interval { IsFieldInterval part.low part.high table.now.bits }
     requires length { length row.old.bits ≡ table.now.rules }
     requires one_room { HasRoomForRules one.old }
     requires rest_room { HasRoomForRules rest.old }

@@ -1,7 +1,7 @@
 // The buckets of a field's table, as lines of runs with the same bitmap.
 ghost use Rattle.std.specs.Prelude.{◌≡◌, ℕ, ◌+◌, ◌/◌, ◌^◌, ◌<◌, ◌≤◌, [], ◌∷◌, ◌++◌, length, slice_get, Some, IfOk, OnOk, OnErr};
 ghost use Rattle.set_model.specs.Text.{line_feed};
-ghost use Rattle.set_report.specs.DumpText.{bitmap_text, run_text, runs_from, runs_text};
+ghost use Rattle.set_report.specs.DumpText.{bitmap_text, run_line, runs_from, runs_text};
 ghost use Rattle.set_report.specs.DumpBuckets.{bits_at, bitmaps_of, bitmaps_at, AreRowsFrom, buckets_text, all_buckets_text};
 ghost use Rattle.text_pieces.specs.Appends.{AppendsPart};
 
@@ -25,8 +25,8 @@ fn write_bitmap_to_end(row: &BitRow, out: &mut Vec<u8>) -> Result<(), Memory>
 
 /// Appends the line of the buckets `from` to `to` of group `g`, which all have this bitmap.
 fn write_run(g: u32, from: u64, to: u64, row: &BitRow, out: &mut Vec<u8>) -> Result<(), Memory>
-    ensures ok { OnOk result (out.new.items ≡ out.old.items ++ run_text g (record { from = from; to = to; bitmap = row.now.bits })) }
-    ensures err { OnErr result (AppendsPart out.old.items out.new.items (run_text g (record { from = from; to = to; bitmap = row.now.bits }))) }
+    ensures ok { OnOk result (out.new.items ≡ out.old.items ++ run_line g (record { from = from; to = to; bitmap = row.now.bits })) }
+    ensures err { OnErr result (AppendsPart out.old.items out.new.items (run_line g (record { from = from; to = to; bitmap = row.now.bits }))) }
 {
     append_pieces(
         &[

@@ -3,16 +3,14 @@ ghost use Rattle.set_model.specs.Key.{parts_fit};
 ghost use Rattle.set_model.specs.SetState.{add, removed, element_at, purged, without_at};
 ghost use Rattle.pipapo_image.specs.Image.Insert.{IsAnswer};
 ghost use Rattle.pipapo_image.specs.Image.Remove.{IsRemoval};
-ghost use Rattle.set_space.specs.LazyImage.{staying, set_of, is_at_limit, wants_room, IsLazyDecision};
+ghost use Rattle.set_space.specs.LazyImage.{staying, set_of, is_at_limit, would_leave, wants_room, IsLazyDecision};
 ghost use Rattle.set_space.specs.Answers.{IsCreation};
 
 use crate::lazy_image::LazyImage;
 use pipapo_image::{Added, ChangeError, Decision, Scratch};
 use set_model::{Memory, NewElement, Parts, Why, is_live};
+use shared_pages::PAGE;
 use std::alloc::Global;
-
-/// How many elements lie in a page. Behind one of so many last elements little closes up.
-const PAGE: u64 = 512;
 
 /// Whether the set's size or a field's rules refuse an element.
 fn is_at_limit(answer: &Result<Decision, ChangeError>) -> bool
@@ -91,7 +89,8 @@ impl LazyImage {
     }
 
     /// Decides what an insertion of this element does to the image. `now` is in milliseconds. Where that
-    /// needn't hold of the set, the rule numbers close up before.
+    /// needn't hold of the set, the rule numbers close up before: it is looked up once more only behind a
+    /// limit's refusal.
     ///
     /// # Errors
     /// As of an insertion. The set is as it was.
@@ -106,13 +105,25 @@ impl LazyImage {
         ensures same { set_of self.new ≡ set_of self.old }
         ensures decided { IsLazyDecision self.new.passed self.new.image element.now (add (set_of self.old) element.now now) result }
     {
-        self.close_gaps(alloc)?;
+        self.make_way(alloc, element)?;
         let answer = self.foresee(alloc, element, now, scratch);
-        if self.wants_room(element, &answer) {
+        if self.wants_room(&answer) {
             self.close_up(alloc)?;
             return self.foresee(alloc, element, now, scratch);
         }
         answer
+    }
+
+    /// Closes the rule numbers up where many elements left, or this one would be taken for one that did.
+    fn make_way(&mut self, alloc: Global, element: &NewElement) -> Result<(), Memory>
+        ensures same { set_of self.new ≡ set_of self.old }
+        ensures stays { OnOk result (would_leave self.new.passed element.now.expiry ≡ false) }
+    {
+        self.close_gaps(alloc)?;
+        if self.would_leave(element) {
+            self.close_up(alloc)?;
+        }
+        Ok(())
     }
 
     /// What the image decides of an insertion of this element. `None` where that needn't hold of the set, so
@@ -127,8 +138,11 @@ impl LazyImage {
         requires { parts_fit self.now.image.kinds element.now.parts ≡ true }
         ensures { IfSome result (λ answer. IsLazyDecision self.now.passed self.now.image element.now (add (set_of self.now) element.now now) answer) }
     {
+        if self.would_leave(element) {
+            return None;
+        }
         let answer = self.foresee(alloc, element, now, scratch);
-        if self.wants_room(element, &answer) {
+        if self.wants_room(&answer) {
             None
         } else {
             Some(answer)
@@ -143,21 +157,28 @@ impl LazyImage {
         now: u64,
         scratch: &mut Scratch,
     ) -> Result<Decision, ChangeError>
-        requires { parts_fit self.now.image.kinds element.now.parts ≡ true }
-        ensures { wants_room self.now.passed element.now.expiry result ≡ false → IsLazyDecision self.now.passed self.now.image element.now (add (set_of self.now) element.now now) result }
+        requires fit { parts_fit self.now.image.kinds element.now.parts ≡ true }
+        requires stays { would_leave self.now.passed element.now.expiry ≡ false }
+        ensures { wants_room self.now.passed result ≡ false → IsLazyDecision self.now.passed self.now.image element.now (add (set_of self.now) element.now now) result }
     {
         self.image.decide(alloc, element, self.moment(now), scratch)
     }
 
-    /// Whether what the image decides of this element needn't hold of the set: where the element would be
-    /// taken for one that left, or where a limit refuses it, which counts those that left.
-    fn wants_room(&self, element: &NewElement, answer: &Result<Decision, ChangeError>) -> bool
-        ensures { result ≡ wants_room self.now.passed element.now.expiry answer.now }
+    /// Whether the element would be taken for one that left.
+    fn would_leave(&self, element: &NewElement) -> bool
+        ensures { result ≡ would_leave self.now.passed element.now.expiry }
     {
         match self.passed {
-            Some(passed) => !is_live(element.expiry, passed) || is_at_limit(answer),
+            Some(passed) => !is_live(element.expiry, passed),
             None => false,
         }
+    }
+
+    /// Whether a limit refuses an element where others that left count.
+    fn wants_room(&self, answer: &Result<Decision, ChangeError>) -> bool
+        ensures { result ≡ wants_room self.now.passed answer.now }
+    {
+        self.passed.is_some() && is_at_limit(answer)
     }
 
     /// Takes the element at place `i` of the image out of the set, and answers its id.
@@ -178,14 +199,14 @@ impl LazyImage {
     }
 
     /// Whether the element at place `i` of the image, when it is deleted, stands there until the numbers
-    /// close up together: not where little closes up behind it, nor in a full image, whose numbers each
-    /// addition would close up.
+    /// close up together: not where little closes up behind it, at most a page of elements, nor in a full
+    /// image, whose numbers each addition would close up.
     fn waits(&self, i: u64) -> bool
         requires { i < length self.now.image.elements }
         ensures { result ≡ true → set_of self.now ≡ purged self.now.image (unwrap_or self.now.passed 0) }
     {
         let behind = self.image.elements().len() - i;
-        behind > PAGE && !self.image.is_full() && self.can_wait()
+        behind > PAGE as u64 && !self.image.is_full() && self.can_wait()
     }
 
     /// Whether each element of the set is live at the moment by which others left, so that one with the

@@ -1,8 +1,8 @@
 ghost use Rattle.std.specs.Prelude.{◌≡◌, ◌<◌, true, None, Err, length, IfOk};
 ghost use Rattle.set_model.specs.Key.{parts_fit};
 ghost use Rattle.set_model.specs.SetState.{add, removed, element_at, without_at};
-ghost use Rattle.pipapo_image.specs.Image.Insert.{said, IsAnswer};
-ghost use Rattle.pipapo_image.specs.Image.Decision.{CanBeDone, comes, left};
+ghost use Rattle.pipapo_image.specs.Image.Insert.{addition_said, IsAnswer};
+ghost use Rattle.pipapo_image.specs.Image.Decision.{CanBeDone, comes, set_left};
 ghost use Rattle.set_space.specs.Answers.{IsCreation};
 ghost use Rattle.set_space.specs.LazyImage.{staying, set_of};
 ghost use Rattle.set_space.specs.Copies.{copied, IsTakenOut};
@@ -53,8 +53,8 @@ impl LazyImage {
     ) -> Result<(Added, Option<LazyImage>), Memory>
         requires fit { parts_fit self.now.image.kinds element.now.parts ≡ true }
         requires can { CanBeDone self.now.image element.now.parts decision }
-        ensures came { IfOk result (λ r. said r.0 ≡ comes decision self.now.image.next) }
-        ensures left { IfOk result (λ r. copied r.1 (set_of self.now) ≡ staying self.now.passed (left self.now.image element.now decision)) }
+        ensures came { IfOk result (λ r. addition_said r.0 ≡ comes decision self.now.image.next) }
+        ensures left { IfOk result (λ r. copied r.1 (set_of self.now) ≡ staying self.now.passed (set_left self.now.image element.now decision)) }
     {
         if let Decision::Stays { id } = decision {
             return Ok((Added::Already { id }, None));
@@ -99,7 +99,7 @@ impl LazyImage {
     ) -> Result<(Result<u64, ChangeError>, Option<LazyImage>), Memory>
         requires fit { parts_fit self.now.image.kinds element.now.parts ≡ true }
         requires can { CanBeDone self.now.image element.now.parts decision }
-        ensures { IfOk result (λ r. IsCreation (comes decision self.now.image.next, staying self.now.passed (left self.now.image element.now decision)) r.0 (set_of self.now) (copied r.1 (set_of self.now))) }
+        ensures { IfOk result (λ r. IsCreation (comes decision self.now.image.next, staying self.now.passed (set_left self.now.image element.now decision)) r.0 (set_of self.now) (copied r.1 (set_of self.now))) }
     {
         if let Some(id) = decision.existing() {
             return Ok((Err(ChangeError::Refused(Why::Exists { id })), None));
@@ -119,8 +119,8 @@ impl LazyImage {
     ) -> Result<(Added, LazyImage), Memory>
         requires fit { parts_fit self.now.image.kinds element.now.parts ≡ true }
         requires can { CanBeDone self.now.image element.now.parts decision }
-        ensures came { IfOk result (λ r. said r.0 ≡ comes decision self.now.image.next) }
-        ensures left { IfOk result (λ r. set_of r.1 ≡ staying self.now.passed (left self.now.image element.now decision)) }
+        ensures came { IfOk result (λ r. addition_said r.0 ≡ comes decision self.now.image.next) }
+        ensures left { IfOk result (λ r. set_of r.1 ≡ staying self.now.passed (set_left self.now.image element.now decision)) }
     {
         let mut changed = self.copy(alloc)?;
         let came = changed.image.carry_out(alloc, decision, element)?;

@@ -1,5 +1,5 @@
 use Rattle.std.proofs.Common.{◌≡◌, ◌+◌, ◌*◌, ap, arith}
-use Rattle.bit_rows.specs.Words.{bits_of}
+use Rattle.bit_rows.specs.Words.{first_bits}
 use Rattle.bit_rows.specs.Ranked.{rank}
 use Rattle.bit_rows.proofs.Ranks.{rank-in}
 use Rattle.bit_rows.proofs.ranked.ones_in.Goals as goal
@@ -16,7 +16,7 @@ words-preserved c =
       counted = λ len h.
           let more = rank-in words len w 64 (omega arith) (omega (arith, h)) in
           let before = c.words.invariant.counted len (omega (arith, h)) in
-          let same = ap (rank (bits_of words len)) on in
+          let same = ap (rank (first_bits words len)) on in
           omega (arith, more, before, same, c.ones-count.ensures.value);
       bound = omega (arith, c.words.invariant.bound, c.ones-count.ensures.bound);
     }

@@ -4,7 +4,7 @@ use Rattle.std.proofs.lemmas.Bool.{cases_lt}
 use Rattle.std.proofs.lemmas.List.{get_or-set_same, get_or-set_other}
 use Rattle.set_model.specs.declared.element.Element.{Element}
 use Rattle.bit_rows.specs.Row.{bit}
-use Rattle.bit_rows.specs.Words.{place}
+use Rattle.bit_rows.specs.Words.{bit_in}
 use Rattle.bit_rows.proofs.Bits.{place-is}
 use Rattle.expiry_scan.specs.Expired.{stays}
 use Rattle.expiry_scan.proofs.page_ends.left_in.Goals as goal
@@ -16,7 +16,7 @@ words-preserved c =
     let w = c.words.w in
     let word = c.left_word.result in
     let new = set words w word in
-    let marked : (k : ℕ) (e : Element) → (k < 64 * w) ⊎ (64 * w ≤ k) → k < 64 * (w + 1) → slice_get es (512 * c.args.page + k) ≡ Some e → place new k ≡ not (stays c.args.passed e) = λ k e. elim [
+    let marked : (k : ℕ) (e : Element) → (k < 64 * w) ⊎ (64 * w ≤ k) → k < 64 * (w + 1) → slice_get es (512 * c.args.page + k) ≡ Some e → bit_in new k ≡ not (stays c.args.passed e) = λ k e. elim [
       | inl low ↦ λ l at. place-is new k ∙ ap (λ x. bit x (k % 64)) (get_or-set_other words w (k / 64) word 0 (λ same. absurd (omega (arith, low, same)))) ∙ sym (place-is words k) ∙ c.words.invariant.1 k e low at
       | inr high ↦ λ l at.
           let here : k / 64 ≡ w = omega (arith, high, l) in

@@ -1,7 +1,7 @@
 use Rattle.std.proofs.Common.{◌≡◌, ℕ, ◌+◌, ◌*◌, ◌<◌, ◌∙◌, ap, length, Some, slice_get, arith}
 use Rattle.std.proofs.lemmas.Option.{slice_get_within}
 use Rattle.set_model.specs.declared.element.Element.{Element}
-use Rattle.bit_rows.specs.Words.{place}
+use Rattle.bit_rows.specs.Words.{bit_in}
 use Rattle.expiry_scan.specs.Soonest.{AreEndsOf}
 use Rattle.expiry_scan.proofs.EndLaws.{none-left}
 use Rattle.expiry_scan.proofs.page_ends.page_ends.Goals as goal
@@ -16,6 +16,6 @@ returns-else-ends-unwrap_or c =
       marks = λ some. (
         ap length c.elements.invariant.marks,
         λ k e l at.
-            ap (λ z. place z k) c.elements.invariant.marks ∙ none-left c.args.passed e k c.elements.ends.all (omega (arith, c.if-ends-unwrap_or.false, c.unwrap_or.ensures)) (ends k e l at).0,
+            ap (λ z. bit_in z k) c.elements.invariant.marks ∙ none-left c.args.passed e k c.elements.ends.all (omega (arith, c.if-ends-unwrap_or.false, c.unwrap_or.ensures)) (ends k e l at).0,
       );
     }

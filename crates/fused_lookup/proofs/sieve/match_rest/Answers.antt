@@ -6,7 +6,7 @@ use Rattle.field_groups.proofs.RangeTests.{every-fails}
 use Rattle.lookup_table.specs.Table.{bucket_at, bucket_place, cell}
 use Rattle.lookup_table.proofs.RowsLaws.{bucket-found, All-bucket, cell-is}
 use Rattle.lookup_table.proofs.WordLaws.{word-none, word-more}
-use Rattle.fused_lookup.specs.Sieve.{is_set}
+use Rattle.fused_lookup.specs.Sieve.{is_rule_set}
 use Rattle.fused_lookup.proofs.sieve.match_rest.Goals as goal
 
 pub groups-init : goal.groups-init
@@ -27,11 +27,11 @@ groups-preserved c =
 
 pub returns-then-left-eq0 : goal.returns-then-left-eq0
 returns-then-left-eq0 c = λ k h.
-    let p = is_set c.args.table.now c.args.value (64 * c.args.i + k) in
+    let p = is_rule_set c.args.table.now c.args.value (64 * c.args.i + k) in
     let empty : (bit c.args.word k && every p c.groups.g) ≡ false = sym (c.groups.invariant.at k h) ∙ ap (λ x. bit x k) c.if-left-eq0.true ∙ bit-zero k in
     bit-zero k ∙ sym (every-fails p c.groups.g c.args.n (bit c.args.word k) (omega arith) empty)
 
 pub returns : goal.returns
 returns c = λ k h.
     let e : c.groups.g ≡ c.args.n = omega arith in
-    c.groups.invariant.at k h ∙ ap (λ m. bit c.args.word k && every (is_set c.args.table.now c.args.value (64 * c.args.i + k)) m) e
+    c.groups.invariant.at k h ∙ ap (λ m. bit c.args.word k && every (is_rule_set c.args.table.now c.args.value (64 * c.args.i + k)) m) e

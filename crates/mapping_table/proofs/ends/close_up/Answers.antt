@@ -25,4 +25,5 @@ ends-preserved c =
           (ap lowered_place (sym (get_or_from_slice_get c.ends.ends.items (c.ends.i + c.args.n) c.at-end.result.now d c.at-end.ensures))));
       spare = c.set.ensures.spare ∙ c.ends.invariant.spare;
       own = c.set.ensures.own ∙ c.ends.invariant.own;
+      taken = c.set.ensures.taken ∙ c.ends.invariant.taken;
     }

@@ -8,4 +8,5 @@ invariant-ends l = record {
   items : IsMoved lowered_place l.first l.n (l.i + l.n) l.fn.ends.items l.ends.items;
   spare : l.ends.spare ≡ l.fn.ends.spare;
   own : l.ends.own ≡ l.fn.ends.own;
+  taken : l.ends.taken ≡ l.fn.ends.taken;
 }

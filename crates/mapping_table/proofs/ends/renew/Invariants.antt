@@ -8,4 +8,5 @@ invariant-ends l = record {
   items : IsMoved (end_renewed l.expiry) l.first 0 l.i l.fn.ends.items l.ends.items;
   spare : l.ends.spare ≡ l.fn.ends.spare;
   own : l.ends.own ≡ l.fn.ends.own;
+  taken : l.ends.taken ≡ l.fn.ends.taken;
 }

@@ -5,7 +5,7 @@ use Rattle.std.proofs.lemmas.Grind.{common_steps}
 use Rattle.std.proofs.lemmas.Bool.{cases_lt}
 use Rattle.std.proofs.lemmas.Option.{get_or_from_slice_get}
 use Rattle.set_tables.specs.declared.End.{End}
-use Rattle.mapping_table.specs.Latest.{moment_of}
+use Rattle.mapping_table.specs.Latest.{expiry_moment}
 use Rattle.mapping_table.proofs.LatestLaws.{latest-next, latest-whole}
 use Rattle.mapping_table.proofs.latest.latest_end.Goals as goal
 
@@ -19,7 +19,7 @@ ends-preserved c =
     let w = c.args.w in
     let n = c.ends.i - 64 * w in
     let place : c.ends.i + 1 - 64 * w ≡ n + 1 = omega arith in
-    let here = ap moment_of (get_or_from_slice_get ends c.ends.i c.at.result.now d c.at.ensures) in
+    let here = ap expiry_moment (get_or_from_slice_get ends c.ends.i c.at.result.now d c.at.ensures) in
     let next = latest-next ends w c.ends.i n d (omega arith) (omega arith) (omega arith) (omega arith) in
     rw place (c.max-latest.ensures ∙ max-is c.ends.latest c.moment_of.result ∙ omega (arith, next, here, c.ends.invariant, c.moment_of.ensures))
 

@@ -25,4 +25,5 @@ spans-preserved c =
           (ap (lowered c.args.k) (sym (get_or_from_slice_get c.spans.spans.items (c.spans.i + c.args.n) c.at-span.result.now d c.at-span.ensures))));
       spare = c.set.ensures.spare ∙ c.spans.invariant.spare;
       own = c.set.ensures.own ∙ c.spans.invariant.own;
+      taken = c.set.ensures.taken ∙ c.spans.invariant.taken;
     }

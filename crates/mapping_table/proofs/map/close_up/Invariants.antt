@@ -8,4 +8,5 @@ invariant-spans l = record {
   items : IsMoved (lowered l.k) l.first l.n (l.i + l.n) l.fn.spans.items l.spans.items;
   spare : l.spans.spare ≡ l.fn.spans.spare;
   own : l.spans.own ≡ l.fn.spans.own;
+  taken : l.spans.taken ≡ l.fn.spans.taken;
 }

@@ -9,7 +9,7 @@ use Rattle.set_report.proofs.dump.write_field.Goals as goal
 
 pub returns-in_err-write_table-clause-err : goal.returns-in_err-write_table-clause-err
 returns-in_err-write_table-clause-err c =
-    on_err c.from_residual.result (subst (λ t. AppendsPart c.args.out.now.items c.write_table.new.out.items t) (field-is c.args.set.now.kinds c.args.set.now.elements c.index-index.result.now c.args.f c.args.kind c.at.result.now c.index-index.ensures c.requires (cc c.at.ensures))
+    on_err c.from_residual.result (subst (λ t. AppendsPart c.args.out.now.items c.write_table.new.out.items t) (field-is c.args.set.now.kinds c.args.set.now.elements c.index-index.result.now c.args.f c.args.kind c.at.result.now c.index-index.ensures.tables c.requires (cc c.at.ensures))
     (first_part c.args.out.now.items c.write_table.new.out.items (heading_text c.args.f c.args.kind c.at.result.now.width c.at.result.now.rules ++ all_buckets_text c.at.result.now) (ways_text c.args.set.now.kinds c.args.set.now.elements c.args.f) c.in_err-write_table.ensures.err))
 
 pub returns-clause-ok : goal.returns-clause-ok
@@ -17,11 +17,11 @@ returns-clause-ok c =
     ok-with c.write_ways.result (λ h. h
     ∙ ap (λ m. m ++ (ways_text c.args.set.now.kinds c.args.set.now.elements c.args.f)) c.in_ok-write_table.ensures.ok
     ∙ append_assoc c.args.out.now.items (heading_text c.args.f c.args.kind c.at.result.now.width c.at.result.now.rules ++ all_buckets_text c.at.result.now) (ways_text c.args.set.now.kinds c.args.set.now.elements c.args.f)
-    ∙ ap (λ t. c.args.out.now.items ++ t) (field-is c.args.set.now.kinds c.args.set.now.elements c.index-index.result.now c.args.f c.args.kind c.at.result.now c.index-index.ensures c.requires (cc c.at.ensures)))
-    (c.write_ways.ensures.ok c.args.set.now.kinds c.args.set.now.elements c.index-index.ensures (kind-within c.args.set.now.kinds c.args.f c.args.kind c.requires))
+    ∙ ap (λ t. c.args.out.now.items ++ t) (field-is c.args.set.now.kinds c.args.set.now.elements c.index-index.result.now c.args.f c.args.kind c.at.result.now c.index-index.ensures.tables c.requires (cc c.at.ensures)))
+    (c.write_ways.ensures.ok c.args.set.now.kinds c.args.set.now.elements c.index-index.ensures.tables (kind-within c.args.set.now.kinds c.args.f c.args.kind c.requires))
 
 pub returns-clause-err : goal.returns-clause-err
 returns-clause-err c =
-    err-with c.write_ways.result (λ h. subst (λ t. AppendsPart c.args.out.now.items c.write_ways.new.out.items t) (field-is c.args.set.now.kinds c.args.set.now.elements c.index-index.result.now c.args.f c.args.kind c.at.result.now c.index-index.ensures c.requires (cc c.at.ensures))
+    err-with c.write_ways.result (λ h. subst (λ t. AppendsPart c.args.out.now.items c.write_ways.new.out.items t) (field-is c.args.set.now.kinds c.args.set.now.elements c.index-index.result.now c.args.f c.args.kind c.at.result.now c.index-index.ensures.tables c.requires (cc c.at.ensures))
     (second_part c.args.out.now.items c.write_table.new.out.items c.write_ways.new.out.items (heading_text c.args.f c.args.kind c.at.result.now.width c.at.result.now.rules ++ all_buckets_text c.at.result.now) (ways_text c.args.set.now.kinds c.args.set.now.elements c.args.f) c.in_ok-write_table.ensures.ok h))
-    (c.write_ways.ensures.err c.args.set.now.kinds c.args.set.now.elements c.index-index.ensures (kind-within c.args.set.now.kinds c.args.f c.args.kind c.requires))
+    (c.write_ways.ensures.err c.args.set.now.kinds c.args.set.now.elements c.index-index.ensures.tables (kind-within c.args.set.now.kinds c.args.f c.args.kind c.requires))

@@ -1,12 +1,12 @@
 use Rattle.std.proofs.Common.{◌≡◌, ℕ, ◌≤◌, ◌<◌, true}
 use Rattle.std.specs.Prelude.{slice_index}
 use Rattle.bit_rows.specs.Row.{bit}
-use Rattle.word_summary.specs.Marks.{Keeps}
+use Rattle.word_summary.specs.Marks.{ClearsNone}
 use Rattle.word_summary.proofs.marks.mark_run.Given as goal
 
 abbrev pub invariant-lines : goal.invariant-lines
 invariant-lines l = record {
   own : l.page.own ≡ true;
-  kept : Keeps l.initial.page.items l.page.items;
+  kept : ClearsNone l.initial.page.items l.page.items;
   set : (j : ℕ) → l.first ≤ j → j < l.j → bit (slice_index l.page.items j) l.k ≡ true;
 }

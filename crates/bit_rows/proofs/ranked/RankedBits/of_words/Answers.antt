@@ -1,5 +1,5 @@
 use Rattle.std.proofs.Common.{◌≡◌, ℕ, ◌+◌, ◌*◌, ◌++◌, ◌∷◌, [], Some, slice_get, ◌∙◌, ap, subst, length, length-append, ◌⊎◌, inl, inr, arith}
-use Rattle.bit_rows.specs.Words.{bits_of}
+use Rattle.bit_rows.specs.Words.{first_bits}
 use Rattle.bit_rows.specs.Ranked.{rank}
 use Rattle.bit_rows.proofs.Ranks.{pushed}
 use Rattle.bit_rows.proofs.ranked.RankedBits.of_words.Goals as goal
@@ -8,12 +8,12 @@ pub pages-preserved : goal.pages-preserved
 pages-preserved c =
     let words = c.args.words.items in
     let page = c.pages.page in
-    let bits = bits_of words c.args.len in
+    let bits = first_bits words c.args.len in
     let ranks = c.pages.ranks.items in
     let more = c.pages.rank + c.ones_in-rank.result in
     let now : c.push.new.self.items ≡ ranks ++ more ∷ [] = c.in_ok-push.ensures.items in
-    let at = ap (λ z. rank (bits_of z c.args.len) (64 * (8 * page))) c.as_slice.ensures.value in
-    let to = ap (λ z. rank (bits_of z c.args.len) (64 * (8 * page + 8))) c.as_slice.ensures.value in
+    let at = ap (λ z. rank (first_bits z c.args.len) (64 * (8 * page))) c.as_slice.ensures.value in
+    let to = ap (λ z. rank (first_bits z c.args.len) (64 * (8 * page + 8))) c.as_slice.ensures.value in
     let counted = c.ones_in-rank.ensures.counted c.args.len (omega arith) in
     let start : 64 * (8 * page) ≡ 512 * page = omega arith in
     let end : 64 * (8 * page + 8) ≡ 512 * page + 512 = omega arith in

@@ -1,5 +1,5 @@
 use Rattle.std.proofs.Common.{rules, ap, ◌∙◌, sym, subst}
-use Rattle.gen_turns.specs.TurnViews.{IsPlanned}
+use Rattle.gen_turns.specs.TurnViews.{IsWriterRole}
 use Rattle.gen_turns.proofs.NoteSteps.{meets, learns}
 use Rattle.gen_turns.proofs.publisher.Writer.hear.Goals as goal
 
@@ -13,7 +13,7 @@ pub invariant_of-self : goal.invariant_of-self
 invariant_of-self g c = let inv = c.self.invariant in let now = c.load.ensures.2.0 in let joined = c.join_seat.ensures.2 in (
   c.load.ensures.0 ∙ (c.join_seat.ensures.0 ∙ inv.0),
   (search rules, search rules),
-  subst IsPlanned (sym (ap (λ m. m.0.role) now ∙ ap (λ m. m.0.role) joined)) inv.2,
+  subst IsWriterRole (sym (ap (λ m. m.0.role) now ∙ ap (λ m. m.0.role) joined)) inv.2,
   ap (λ m. m.0.stage) now ∙ (ap (λ m. m.0.stage) joined ∙ inv.3),
   ap (λ m. m.1) now ∙ (ap (λ m. m.1) joined ∙ inv.4),
   c.load.ensures.2.4,

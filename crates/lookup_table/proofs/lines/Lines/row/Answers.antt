@@ -12,7 +12,7 @@ or_into-requires-clause-length c =
     let e = ap (λ (v : Lined). v.rows) c.self.view_is in
     let n = rows-length c.self.inside.pages.items c.self.inside.len c.self.inside.count in
     let m = ap length e in
-    ap length c.in_ok-row.ensures ∙ length-replicate c.self.inside.len false ∙ sym (row-length c.self.inside.pages.items c.self.inside.len c.self.inside.count c.args.j (omega arith)) ∙ ap (λ rs. length (bucket_at rs c.args.j).bits) e
+    ap length c.in_ok-row.ensures.zeros ∙ length-replicate c.self.inside.len false ∙ sym (row-length c.self.inside.pages.items c.self.inside.len c.self.inside.count c.args.j (omega arith)) ∙ ap (λ rs. length (bucket_at rs c.args.j).bits) e
 
 pub returns : goal.returns
 returns c =
@@ -20,4 +20,4 @@ returns c =
     let n = rows-length c.self.inside.pages.items c.self.inside.len c.self.inside.count in
     let m = ap length e in
     let long : c.self.inside.len ≡ length (bucket_at c.args.self.now.rows c.args.j).bits = sym (row-length c.self.inside.pages.items c.self.inside.len c.self.inside.count c.args.j (omega arith)) ∙ ap (λ rs. length (bucket_at rs c.args.j).bits) e in
-    c.or_into.ensures.bits ∙ ap (λ bs. either bs (bucket_at c.args.self.now.rows c.args.j).bits) (c.in_ok-row.ensures ∙ ap (λ k. replicate k false) long) ∙ either-zeros (bucket_at c.args.self.now.rows c.args.j).bits
+    c.or_into.ensures.bits ∙ ap (λ bs. either bs (bucket_at c.args.self.now.rows c.args.j).bits) (c.in_ok-row.ensures.zeros ∙ ap (λ k. replicate k false) long) ∙ either-zeros (bucket_at c.args.self.now.rows c.args.j).bits

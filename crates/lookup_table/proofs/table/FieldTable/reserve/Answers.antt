@@ -1,5 +1,5 @@
 use Rattle.std.proofs.Common.{ap, ◌∙◌, arith}
-use Rattle.lookup_table.specs.Table.{bits_of}
+use Rattle.lookup_table.specs.Table.{bucket_bits}
 use Rattle.lookup_table.specs.Lines.{Lined}
 use Rattle.lookup_table.proofs.RowsLaws.{grown-bits}
 use Rattle.lookup_table.proofs.RuleLaws.{grown-shape, grown-stands}
@@ -20,7 +20,7 @@ invariant_of-self c = record {
 }
 
 pub returns-in_err-take_pages-clause-bits : goal.returns-in_err-take_pages-clause-bits
-returns-in_err-take_pages-clause-bits c = ap (λ (l : Lined). bits_of l.rows) c.take_pages.ensures.buckets ∙ grown-bits _ _ c.reserve.ensures.grown
+returns-in_err-take_pages-clause-bits c = ap (λ (l : Lined). bucket_bits l.rows) c.take_pages.ensures.buckets ∙ grown-bits _ _ c.reserve.ensures.grown
 
 pub returns-in_err-take_pages-clause-stands : goal.returns-in_err-take_pages-clause-stands
 returns-in_err-take_pages-clause-stands c = λ blocks stands.
@@ -28,7 +28,7 @@ returns-in_err-take_pages-clause-stands c = λ blocks stands.
     rw (same.same.width, same.same.bits, same.rules, same.buckets) (grown-stands _ _ _ _ _ blocks c.args.self.now.shaped c.reserve.ensures.grown stands)
 
 pub returns-clause-bits : goal.returns-clause-bits
-returns-clause-bits c = ap (λ (l : Lined). bits_of l.rows) (c.own_summary.ensures.buckets ∙ c.take_pages.ensures.buckets) ∙ grown-bits _ _ c.reserve.ensures.grown
+returns-clause-bits c = ap (λ (l : Lined). bucket_bits l.rows) (c.own_summary.ensures.buckets ∙ c.take_pages.ensures.buckets) ∙ grown-bits _ _ c.reserve.ensures.grown
 
 pub returns-clause-stands : goal.returns-clause-stands
 returns-clause-stands c = λ blocks stands.

@@ -1,8 +1,6 @@
-use Rattle.std.proofs.Common.{◌≡◌, sym, ◌∙◌, ap, subst, true, false, take}
+use Rattle.std.proofs.Common.{◌≡◌, sym, ◌∙◌, ap, subst, true, false}
 use Rattle.std.specs.Prelude.{All}
-use Rattle.set_model.specs.Key.{start_key, key_fits, parts_fit}
-use Rattle.set_model.specs.SetState.{place}
-use Rattle.pipapo_image.proofs.AddLaws.{start-fits}
+use Rattle.set_model.specs.Key.{parts_fit}
 use Rattle.pipapo_image.proofs.ExactLaws.{exact-nowhere, exact-unfit, exact-first, none-up-to}
 use Rattle.pipapo_image.proofs.image.SetImage.exact_at.Goals as goal
 
@@ -12,26 +10,20 @@ returns-then-not-parts_fit c =
     exact-unfit c.args.self.now c.args.parts.now c.args.now (subst (λ s. All (λ e. parts_fit s.kinds e.parts ≡ true) s.elements) c.self.view_is c.self.invariant.fit)
     (ap (λ s. parts_fit s.kinds c.args.parts.now) (sym c.self.view_is) ∙ un)
 
-pub place-requires : goal.place-requires
-place-requires c =
-    let fit : parts_fit c.args.self.now.kinds c.args.parts.now ≡ true = ap (λ s. parts_fit s.kinds c.args.parts.now) (sym c.self.view_is) ∙ sym c.if-not-parts_fit.ensures in
-    let key : take c.len.result c.starts-lows.result ≡ start_key c.args.parts.now = ap (λ n. take n c.starts-lows.result) c.len.ensures ∙ c.starts-lows.ensures in
-    subst (λ z. key_fits c.args.self.now.kinds z ≡ true) (sym key) (start-fits c.args.self.now.kinds c.args.parts.now fit)
+pub start_place-requires : goal.start_place-requires
+start_place-requires c = ap (λ s. parts_fit s.kinds c.args.parts.now) (sym c.self.view_is) ∙ sym c.if-not-parts_fit.ensures
 
 pub exact_behind-requires-clause-none : goal.exact_behind-requires-clause-none
 exact_behind-requires-clause-none c =
     let fit : parts_fit c.args.self.now.kinds c.args.parts.now ≡ true = ap (λ s. parts_fit s.kinds c.args.parts.now) (sym c.self.view_is) ∙ sym c.if-not-parts_fit.ensures in
-    let key : take c.len.result c.starts-lows.result ≡ start_key c.args.parts.now = ap (λ n. take n c.starts-lows.result) c.len.ensures ∙ c.starts-lows.ensures in
-    none-up-to c.args.self.now c.args.parts.now c.args.now c.in-Some.i fit (sym c.in-Some.is ∙ c.place.ensures.value ∙ ap (λ z. place c.args.self.now z c.args.now) key) (sym c.has_parts.ensures ∙ c.if-has_parts.false)
+    none-up-to c.args.self.now c.args.parts.now c.args.now c.in-Some.i fit (sym c.in-Some.is ∙ c.start_place.ensures.value) (sym c.has_parts.ensures ∙ c.if-has_parts.false)
 
 pub returns-in-Some : goal.returns-in-Some
 returns-in-Some c =
     let fit : parts_fit c.args.self.now.kinds c.args.parts.now ≡ true = ap (λ s. parts_fit s.kinds c.args.parts.now) (sym c.self.view_is) ∙ sym c.if-not-parts_fit.ensures in
-    let key : take c.len.result c.starts-lows.result ≡ start_key c.args.parts.now = ap (λ n. take n c.starts-lows.result) c.len.ensures ∙ c.starts-lows.ensures in
-    exact-first c.args.self.now c.args.parts.now c.args.now c.in-Some.i fit (sym c.in-Some.is ∙ c.place.ensures.value ∙ ap (λ z. place c.args.self.now z c.args.now) key) (sym c.has_parts.ensures ∙ c.if-has_parts.true)
+    exact-first c.args.self.now c.args.parts.now c.args.now c.in-Some.i fit (sym c.in-Some.is ∙ c.start_place.ensures.value) (sym c.has_parts.ensures ∙ c.if-has_parts.true)
 
 pub returns-in-None : goal.returns-in-None
 returns-in-None c =
     let fit : parts_fit c.args.self.now.kinds c.args.parts.now ≡ true = ap (λ s. parts_fit s.kinds c.args.parts.now) (sym c.self.view_is) ∙ sym c.if-not-parts_fit.ensures in
-    let key : take c.len.result c.starts-lows.result ≡ start_key c.args.parts.now = ap (λ n. take n c.starts-lows.result) c.len.ensures ∙ c.starts-lows.ensures in
-    exact-nowhere c.args.self.now c.args.parts.now c.args.now fit (sym c.in-None.is ∙ c.place.ensures.value ∙ ap (λ z. place c.args.self.now z c.args.now) key)
+    exact-nowhere c.args.self.now c.args.parts.now c.args.now fit (sym c.in-None.is ∙ c.start_place.ensures.value)

@@ -3,7 +3,7 @@ use Rattle.set_tables.specs.declared.Span.{Span}
 use Rattle.set_tables.specs.Tables.{split}
 use Rattle.pipapo_image.specs.Index.Built.{Built}
 use Rattle.pipapo_image.specs.Image.{IsImage}
-use Rattle.pipapo_image.specs.Index.Runs.{IsRun}
+use Rattle.pipapo_image.specs.Index.Runs.{IsElementRun}
 use Rattle.pipapo_image.specs.Index.Standing.{AreMapsOf}
 use Rattle.pipapo_image.proofs.BuiltLaws.{built-none, built-more}
 use Rattle.pipapo_image.proofs.Items.{map-spans}
@@ -30,8 +30,8 @@ maps-init c =
     let b = c.first_rules-end.ensures s.kinds s.elements maps i.tables.ends i.fit in
     let n = rules-next (split s.kinds 0) s.elements c.args.i no_element c.requires in
     let run : Span = record { first = c.first_rules-first.result; count = c.first_rules-end.result - c.first_rules-first.result } in
-    let is : IsRun s.kinds s.elements c.args.i 0 run = record { begins = a; ends = omega arith } in
-    let P = IsRun s.kinds s.elements c.args.i in
+    let is : IsElementRun s.kinds s.elements c.args.i 0 run = record { begins = a; ends = omega arith } in
+    let P = IsElementRun s.kinds s.elements c.args.i in
     let pushed : c.push.new.self.items ≡ [] ++ run ∷ [] = c.in_ok-push.ensures.items ∙ ap (λ z. z ++ run ∷ []) c.new-runs.ensures.items in
     record { runs = subst (λ z. Built P z 1) (sym pushed) (built-more P [] 0 run (built-none P) is); run = is }
 
@@ -53,5 +53,5 @@ maps-preserved c =
     let next = c.at-run.result.now in
     let is = run-next s.kinds s.elements c.args.i c.maps.f c.maps.run next c.index-maps-f.result c.requires i.fit (omega (arith, c.maps-test.true))
     (map-spans s.kinds s.elements c.as_slice-maps.result.now c.maps.f c.index-maps-f.result maps c.maps-test.true c.index-maps-f.is) c.maps.invariant.run c.at-run.ensures in
-    let P = IsRun s.kinds s.elements c.args.i in
+    let P = IsElementRun s.kinds s.elements c.args.i in
     record { runs = subst (λ z. Built P z (c.maps.f + 1 + 1)) (sym c.in_ok-push-2.ensures.items) (built-more P c.maps.runs.items (c.maps.f + 1) next c.maps.invariant.runs is); run = is }

@@ -45,4 +45,4 @@ returns-clause-led c = λ kinds es s m.
     (c.walk_fields-window.ensures.reached kinds es s m) c.lead_from.ensures.led
 
 pub returns-clause-row : goal.returns-clause-row
-returns-clause-row c = record { long = c.lead_from.ensures.len ∙ c.walk_fields-window.ensures.length; clear = c.lead_from.ensures.clear }
+returns-clause-row c = record { long = c.lead_from.ensures.len ∙ c.walk_fields-window.ensures.length; full = c.lead_from.ensures.spare ∙ c.walk_fields-window.ensures.spare; clear = c.lead_from.ensures.clear }

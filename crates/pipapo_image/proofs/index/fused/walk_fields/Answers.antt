@@ -32,6 +32,7 @@ fields-init c =
           (map-spans kinds es c.args.maps.now 0 c.index-maps-0.result m c.requires.some c.index-maps-0.is)
           c.refill_from_first-window.ensures.refilled;
       long = c.refill_from_first-window.ensures.next_len ∙ c.requires.row.long;
+      full = c.refill_from_first-window.ensures.next_spare ∙ c.requires.row.full;
       window = c.refill_from_first-window.ensures.window;
       next = c.requires.next;
     }
@@ -70,8 +71,9 @@ fields-preserved c =
           ∙ ap (λ n. refilled (field_spans kinds n es) (row_of kinds es (key_tests c.args.key.now) n) (length next)) (sym back)
           ∙ ap (λ z. refilled (field_spans kinds (c.fields.f + 1 - 1) es) (row_of kinds es (key_tests c.args.key.now) (c.fields.f + 1 - 1)) (length z.bits)) (sym c.swap.ensures.x_after);
       long = ap (λ z. length z.bits) c.swap.ensures.x_after ∙ c.refill_from-window.ensures.next_len ∙ c.fields.invariant.next.long;
+      full = ap (λ z. z.spare) c.swap.ensures.x_after ∙ c.refill_from-window.ensures.next_spare ∙ c.fields.invariant.next.full;
       window = subst (λ z. IsWindow z.bits c.refill_from-window.result) (sym c.swap.ensures.x_after) c.refill_from-window.ensures.window;
-      next = subst P (sym c.swap.ensures.y_after) (record { long = c.refill_from-window.ensures.len ∙ c.fields.invariant.long; clear = c.refill_from-window.ensures.clear });
+      next = subst P (sym c.swap.ensures.y_after) (record { long = c.refill_from-window.ensures.len ∙ c.fields.invariant.long; full = c.refill_from-window.ensures.spare ∙ c.fields.invariant.full; clear = c.refill_from-window.ensures.clear });
     }
 
 pub returns-clause-reached : goal.returns-clause-reached

@@ -17,6 +17,7 @@ invariant-fields l = record {
   reached : (kinds : List Kind) (es : List Element) → AreFieldsOf kinds es l.fields → AreMapsOf kinds es l.maps
       → l.row.bits ≡ refilled (field_spans kinds (l.f - 1) es) (row_of kinds es (key_tests l.key) (l.f - 1)) (length l.row.bits);
   long : length l.row.bits ≡ rules_limit;
+  full : l.row.spare ≡ 0;
   window : IsWindow l.row.bits l.window;
   next : IsBlank l.next;
 }

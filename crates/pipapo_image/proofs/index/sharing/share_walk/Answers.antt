@@ -1,7 +1,7 @@
 use Rattle.std.proofs.Common.{◌≡◌, ◌+◌, ◌<◌, sym, ◌∙◌, ap, subst, arith, true, false, length, get_or}
 use Rattle.std.proofs.lemmas.List.{length-replicate}
 use Rattle.bit_rows.specs.Row.{Row}
-use Rattle.range_expand.specs.Split.{IsInterval}
+use Rattle.range_expand.specs.Split.{IsFieldInterval}
 use Rattle.set_model.specs.declared.kind.Interval.{Interval}
 use Rattle.set_model.specs.SetState.{field_rules}
 use Rattle.set_model.specs.Blocks.{blocks}
@@ -38,7 +38,7 @@ share_field-requires-in-fields-clause-interval c =
     let g : c.fields.f + 1 < length c.args.fields.now = omega (arith, c.requires.shaped.one_fewer, c.fields-test.true) in
     let d : Interval = record { low = 0; high = 0 } in
     let part = get_or c.args.parts.now (c.fields.f + 1) d in
-    subst (λ z. IsInterval part.low part.high z.bits) (sym c.index-fields-f.is) (c.requires.parts.within (c.fields.f + 1) c.index-fields-f.result d g)
+    subst (λ z. IsFieldInterval part.low part.high z.bits) (sym c.index-fields-f.is) (c.requires.parts.within (c.fields.f + 1) c.index-fields-f.result d g)
 
 pub fields-preserved : goal.fields-preserved
 fields-preserved c =

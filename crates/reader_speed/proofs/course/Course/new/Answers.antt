@@ -2,7 +2,7 @@ use Rattle.std.proofs.Common.{◌<◌, ◌≤◌, ◌∷◌, [], length, All, So
 use lib.ListN.{length-map}
 use Rattle.set_model.specs.Control.{first_generation}
 use Rattle.set_model.specs.Runnable.{IsFitting}
-use Rattle.gen_publish.specs.Publish.{AllFresh, Reading}
+use Rattle.gen_publish.specs.Publish.{AllFresh, ReaderView}
 use Rattle.std.proofs.lemmas.Option.{same_Some, slice_get-get_or}
 use Rattle.packet_pool.proofs.FreshReaders.{fresh_ready}
 use Rattle.reader_speed.proofs.course.Course.new.Goals as goal
@@ -29,5 +29,5 @@ returns g c =
       fitting = fitting;
       serve = λ k x within.
           let r = ran.ready.1 k _ (slice_get-get_or readers k x within) in λ d is.
-          subst (λ s. All (IsFitting s) packets) (sym r.3 ∙ ap (λ (z : Reading). z.schema) (same_Some r.0 d (sym r.1 ∙ is))) fitting;
+          subst (λ s. All (IsFitting s) packets) (sym r.3 ∙ ap (λ (z : ReaderView). z.schema) (same_Some r.0 d (sym r.1 ∙ is))) fitting;
     }

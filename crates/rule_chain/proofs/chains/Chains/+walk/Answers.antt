@@ -3,7 +3,7 @@ use Rattle.std.specs.List.{list_all}
 use Rattle.std.proofs.lemmas.Option.{slice_get-get_or}
 use Rattle.set_model.specs.Control.{Generation}
 use Rattle.rule_chain.specs.Chains.{Rules, AreChains, rule_count}
-use Rattle.rule_chain.specs.Judged.{fits, meets, decision_of}
+use Rattle.rule_chain.specs.Judged.{fits_rule, meets_test, decision_of}
 use Rattle.rule_chain.proofs.JudgedLaws.{walk_begins, next_unfit, next_passed, one_more_mark, marked, nothing_there}
 use Rattle.rule_chain.proofs.chains.Chains.+walk.Goals.{then-meets_all+in-Jump+then-not-passed-place+else-is_some, then-meets_all+in-Jump+else-not-passed-place, else-meets_all}
 use Rattle.rule_chain.proofs.chains.Chains.+walk.Goals as goal
@@ -18,7 +18,7 @@ rules-init g t c =
       same = refl;
       size = c.requires.size;
       number = omega arith;
-      ahead = λ x on. walk_begins c.args.self.now (fits c.args.self.now.schema x c.args.packet.now) c.args.chain c.at.result.now c.count_rules-first.result c.as_slice-rules.result.now sound at first c.as_slice-rules.ensures;
+      ahead = λ x on. walk_begins c.args.self.now (fits_rule c.args.self.now.schema x c.args.packet.now) c.args.chain c.at.result.now c.count_rules-first.result c.as_slice-rules.result.now sound at first c.as_slice-rules.ensures;
       passed = c.requires.passed;
     }
 
@@ -32,8 +32,8 @@ rules-preserved g t c =
     let rule = c.rule-item.result in
     let at : slice_get rules c.rules.rule-index ≡ Some rule = slice_get-get_or rules c.rules.rule-index rule (omega (arith, test, end)) ∙ ap (λ z. Some z) (sym c.rule-item.is) in
     let earlier_state = c.meets_all.ensures.same in
-    let fitting : (x : Generation) → g.L.Lookups.looks_in (g.L.Lookups.state c.rules.lookups) x → fits c.args.self.now.schema x c.args.packet.now rule ≡ c.meets_all.result =
-    λ x on. sym (c.meets_all.ensures.meets x on ∙ ap (λ z. list_all (meets z x c.args.packet.now) c.as_slice-in-rules-2.result.now) (c.as_slice-in-rules.ensures ∙ schema) ∙ ap (λ z. list_all (meets c.args.self.now.schema x c.args.packet.now) z) c.as_slice-in-rules-2.ensures) in
+    let fitting : (x : Generation) → g.L.Lookups.looks_in (g.L.Lookups.state c.rules.lookups) x → fits_rule c.args.self.now.schema x c.args.packet.now rule ≡ c.meets_all.result =
+    λ x on. sym (c.meets_all.ensures.meets x on ∙ ap (λ z. list_all (meets_test z x c.args.packet.now) c.as_slice-in-rules-2.result.now) (c.as_slice-in-rules.ensures ∙ schema) ∙ ap (λ z. list_all (meets_test c.args.self.now.schema x c.args.packet.now) z) c.as_slice-in-rules-2.ensures) in
     let number = i.number in
     elim c.if-meets_all.branch [
       | then-meets_all+in-Jump+then-not-passed-place+else-is_some w ↦
@@ -46,7 +46,7 @@ rules-preserved g t c =
             number = omega (arith, number);
             ahead = λ x on.
                 let before = subst (λ s. g.L.Lookups.looks_in s x) same on in
-                next_passed (fits c.args.self.now.schema x c.args.packet.now) (decision_of c.args.self.now x c.args.packet.now) c.rules.number c.rules.rule-index rules rule at _ w.in-Jump.earlier (i.ahead x before)
+                next_passed (fits_rule c.args.self.now.schema x c.args.packet.now) (decision_of c.args.self.now x c.args.packet.now) c.rules.number c.rules.rule-index rules rule at _ w.in-Jump.earlier (i.ahead x before)
                 (fitting x before ∙ w.if-meets_all.true) w.in-Jump.is (none x (subst (λ s. g.L.Lookups.looks_in s x) walked on));
             passed = λ x on chain h.
                 let behind = subst (λ s. g.L.Lookups.looks_in s x) walked on in
@@ -59,7 +59,7 @@ rules-preserved g t c =
             number = omega (arith, number);
             ahead = λ x on.
                 let before = subst (λ s. g.L.Lookups.looks_in s x) same on in
-                next_passed (fits c.args.self.now.schema x c.args.packet.now) (decision_of c.args.self.now x c.args.packet.now) c.rules.number c.rules.rule-index rules rule at _ w.in-Jump.earlier (i.ahead x before)
+                next_passed (fits_rule c.args.self.now.schema x c.args.packet.now) (decision_of c.args.self.now x c.args.packet.now) c.rules.number c.rules.rule-index rules rule at _ w.in-Jump.earlier (i.ahead x before)
                 (fitting x before ∙ w.if-meets_all.true) w.in-Jump.is (i.passed x before w.in-Jump.earlier (marked c.rules.passed w.in-Jump.earlier w.if-not-passed-place.false));
             passed = λ x on chain h. i.passed x (subst (λ s. g.L.Lookups.looks_in s x) same on) chain (ap (λ z. slice_get z chain) (sym w.passed-is) ∙ h);
           }
@@ -70,7 +70,7 @@ rules-preserved g t c =
             number = omega (arith, number);
             ahead = λ x on.
                 let before = subst (λ s. g.L.Lookups.looks_in s x) same on in
-                next_unfit (fits c.args.self.now.schema x c.args.packet.now) (decision_of c.args.self.now x c.args.packet.now) c.rules.number c.rules.rule-index rules rule at _ (i.ahead x before) (fitting x before ∙ w.if-meets_all.false);
+                next_unfit (fits_rule c.args.self.now.schema x c.args.packet.now) (decision_of c.args.self.now x c.args.packet.now) c.rules.number c.rules.rule-index rules rule at _ (i.ahead x before) (fitting x before ∙ w.if-meets_all.false);
             passed = λ x on chain h. i.passed x (subst (λ s. g.L.Lookups.looks_in s x) same on) chain (ap (λ z. slice_get z chain) (sym w.passed-is) ∙ h);
           }
     ]

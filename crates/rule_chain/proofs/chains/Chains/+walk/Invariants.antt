@@ -1,6 +1,6 @@
 use Rattle.std.proofs.Common.{◌≡◌, ◌+◌, length, drop}
 use Rattle.set_model.specs.Control.{Generation}
-use Rattle.rule_chain.specs.Judged.{fits, walk, decision_of, DecideNothing}
+use Rattle.rule_chain.specs.Judged.{fits_rule, walk, decision_of, DecideNothing}
 use Rattle.rule_chain.proofs.chains.Chains.+walk.Given as goal
 
 -- jumps lead to earlier chains alone
@@ -13,6 +13,6 @@ invariant-rules g l = record {
   same : g.L.Lookups.state l.lookups ≡ g.L.Lookups.state l.initial.lookups;
   size : length l.passed ≡ 4;
   number : l.number ≡ l.first + l.rule-index;
-  ahead : (x : Generation) → g.L.Lookups.looks_in (g.L.Lookups.state l.lookups) x → decision_of l.self x l.packet l.chain ≡ walk (fits l.self.schema x l.packet) (decision_of l.self x l.packet) l.number (drop l.rule-index l.rules);
+  ahead : (x : Generation) → g.L.Lookups.looks_in (g.L.Lookups.state l.lookups) x → decision_of l.self x l.packet l.chain ≡ walk (fits_rule l.self.schema x l.packet) (decision_of l.self x l.packet) l.number (drop l.rule-index l.rules);
   passed : (x : Generation) → g.L.Lookups.looks_in (g.L.Lookups.state l.lookups) x → DecideNothing l.self x l.packet l.passed;
 }

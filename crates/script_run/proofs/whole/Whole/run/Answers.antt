@@ -2,7 +2,7 @@ use Rattle.std.proofs.Common.{◌∙◌, [], List, All, subst, sym, take, false}
 use Rattle.set_model.specs.declared.report.Event.{Event}
 use Rattle.set_model.specs.declared.script.SetDecl.{SetDecl}
 use Rattle.set_model.specs.Control.{mode_of, start}
-use Rattle.packet_pool.specs.Running.{Stands, run}
+use Rattle.packet_pool.specs.Running.{StandsAt, run}
 use Rattle.set_model.specs.Runnable.{EndsClosed, IsRunnableStep}
 use Rattle.script_run.proofs.Lists.{of-place}
 use Rattle.script_run.proofs.TranscriptLaws.{events_declared, sets_declared, start_stands, next_stands}
@@ -10,7 +10,7 @@ use Rattle.script_run.proofs.whole.Whole.run.Goals as goal
 
 pub sections-init : goal.sections-init
 sections-init g c = let e = c.in_ok-control.ensures.control in record {
-  stands = subst (λ (z : List Event). Stands [] (start c.args.script.schema) (run c.in_ok-control.control false z)) (sym c.new-events.ensures) (start_stands c.args.script.schema c.in_ok-control.control e.2 e.3);
+  stands = subst (λ (z : List Event). StandsAt [] (start c.args.script.schema) (run c.in_ok-control.control false z)) (sym c.new-events.ensures) (start_stands c.args.script.schema c.in_ok-control.control e.2 e.3);
   schema_is = e.0;
 }
 

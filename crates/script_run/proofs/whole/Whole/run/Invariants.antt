@@ -1,11 +1,11 @@
 use Rattle.std.proofs.Common.{◌≡◌, [], false, take}
 use Rattle.set_model.specs.Control.{mode_of, history}
-use Rattle.packet_pool.specs.Running.{run, Stands}
+use Rattle.packet_pool.specs.Running.{run, StandsAt}
 use Rattle.script_run.proofs.whole.Whole.run.Given as goal
 
 -- the sections so far are done
 abbrev pub invariant-sections : goal.invariant-sections
 invariant-sections g l = record {
-  stands : Stands [] (history (mode_of l.keep_going) l.fn.script.schema (take l.steps-index l.steps-items)) (run l.control false l.events);
+  stands : StandsAt [] (history (mode_of l.keep_going) l.fn.script.schema (take l.steps-index l.steps-items)) (run l.control false l.events);
   schema_is : l.control.schema ≡ l.fn.script.schema;
 }

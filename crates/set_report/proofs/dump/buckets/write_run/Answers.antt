@@ -1,6 +1,6 @@
 use Rattle.std.proofs.Common.{◌≡◌, sym, ◌∙◌, ap, subst, List, ℕ, Bool, ◌++◌}
 use Rattle.set_model.specs.Text.{line_feed}
-use Rattle.set_report.specs.DumpText.{bitmap_text, run_text}
+use Rattle.set_report.specs.DumpText.{bitmap_text, run_line}
 use Rattle.text_pieces.specs.Appends.{AppendsPart}
 use Rattle.text_pieces.proofs.PartLaws.{on_err}
 use Rattle.text_pieces.proofs.TwoParts.{first_part, second_part, err-with}
@@ -8,7 +8,7 @@ use Rattle.set_report.proofs.DumpLines.{run_head, run-parts}
 use Rattle.set_report.proofs.dump.buckets.write_run.Goals as goal
 
 -- the line by the number as it was written
-line : (g n from to : ℕ) (bits : List Bool) → n ≡ g → run_head n from to ++ (bitmap_text bits ++ line_feed) ≡ run_text g (record { from = from; to = to; bitmap = bits })
+line : (g n from to : ℕ) (bits : List Bool) → n ≡ g → run_head n from to ++ (bitmap_text bits ++ line_feed) ≡ run_line g (record { from = from; to = to; bitmap = bits })
 line g n from to bits e = ap (λ m. run_head m from to ++ (bitmap_text bits ++ line_feed)) e ∙ sym (run-parts g from to bits)
 
 pub returns-in_err-append_pieces-clause-err : goal.returns-in_err-append_pieces-clause-err

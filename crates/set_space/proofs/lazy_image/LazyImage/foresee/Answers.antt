@@ -8,4 +8,4 @@ pub returns : goal.returns
 returns c =
     let image = c.args.self.now.image in
     let e = c.args.element.now in
-    lazy_decision c.args.self.now.passed image e c.args.now c.decide.result (subst (λ n. IsDecision image e (add image e n) c.decide.result) c.moment.ensures c.decide.ensures)
+    lazy_decision c.args.self.now.passed image e c.args.now c.decide.result c.requires.stays (subst (λ n. IsDecision image e (add image e n) c.decide.result) c.moment.ensures c.decide.ensures)

@@ -9,30 +9,30 @@ use Rattle.set_space.proofs.SetsLaws.{set-within, open-within, base-at, work-at,
 use Rattle.set_space.proofs.work.Work.create.Goals as goal
 
 pub set-base-requires : goal.set-base-requires
-set-base-requires c = set-within (arc_value c.self.inside.base) c.deref.result.now c.self.inside.sets.items c.args.set c.args.self.now c.self.view_is c.self.invariant c.deref.ensures c.requires.set
+set-base-requires c = set-within (arc_value c.self.inside.base) c.deref.result.now c.self.inside.sets.items c.args.set c.args.self.now c.self.view_is c.self.invariant.0 c.deref.ensures c.requires.set
 
 pub index_mut-requires : goal.index_mut-requires
 index_mut-requires c =
-    let h = open-within (arc_value c.self.inside.base) c.self.inside.sets.items c.args.set c.args.self.now c.self.view_is c.self.invariant c.requires.set in
+    let h = open-within (arc_value c.self.inside.base) c.self.inside.sets.items c.args.set c.args.self.now c.self.view_is c.self.invariant.0 c.requires.set in
     omega (arith, h, c.self.inside.sets.ok)
 
 pub create-requires : goal.create-requires
 create-requires c =
-    let within = open-within (arc_value c.self.inside.base) c.self.inside.sets.items c.args.set c.args.self.now c.self.view_is c.self.invariant c.requires.set in
+    let within = open-within (arc_value c.self.inside.base) c.self.inside.sets.items c.args.set c.args.self.now c.self.view_is c.self.invariant.0 c.requires.set in
     let base = base-at (arc_value c.self.inside.base) c.deref.result.now c.args.set c.set-base.result.now c.deref.ensures c.set-base.ensures in
     c.requires.fits (open_state c.index_mut.result.now c.set-base.result.now)
     (work-at (arc_value c.self.inside.base) c.self.inside.sets.items c.args.set c.index_mut.result.now c.set-base.result.now c.args.self.now c.self.view_is within c.index_mut.ensures.value base)
 
 pub returns-clause-change : goal.returns-clause-change
 returns-clause-change c =
-    let within = open-within (arc_value c.self.inside.base) c.self.inside.sets.items c.args.set c.args.self.now c.self.view_is c.self.invariant c.requires.set in
+    let within = open-within (arc_value c.self.inside.base) c.self.inside.sets.items c.args.set c.args.self.now c.self.view_is c.self.invariant.0 c.requires.set in
     let base = base-at (arc_value c.self.inside.base) c.deref.result.now c.args.set c.set-base.result.now c.deref.ensures c.set-base.ensures in
     one-changed (λ s t. IsCreation (add s c.args.element.now c.args.now) c.create.result s t) (arc_value c.self.inside.base) c.self.inside.sets.items c.args.set c.index_mut.result.now c.create.new.self c.set-base.result.now c.args.self.now
     c.self.view_is within c.index_mut.ensures.value base c.create.ensures
 
 pub returns-clause-refused : goal.returns-clause-refused
 returns-clause-refused c =
-    let within = open-within (arc_value c.self.inside.base) c.self.inside.sets.items c.args.set c.args.self.now c.self.view_is c.self.invariant c.requires.set in
+    let within = open-within (arc_value c.self.inside.base) c.self.inside.sets.items c.args.set c.args.self.now c.self.view_is c.self.invariant.0 c.requires.set in
     let base = base-at (arc_value c.self.inside.base) c.deref.result.now c.args.set c.set-base.result.now c.deref.ensures c.set-base.ensures in
     on_err_weaker c.create.result
     (λ same. none-changed (arc_value c.self.inside.base) c.self.inside.sets.items c.args.set c.index_mut.result.now c.create.new.self c.set-base.result.now c.args.self.now

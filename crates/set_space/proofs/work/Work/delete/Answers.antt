@@ -9,23 +9,23 @@ use Rattle.set_space.proofs.SetsLaws.{set-within, open-within, base-at, work-at,
 use Rattle.set_space.proofs.work.Work.delete.Goals as goal
 
 pub set-base-requires : goal.set-base-requires
-set-base-requires c = set-within (arc_value c.self.inside.base) c.deref.result.now c.self.inside.sets.items c.args.set c.args.self.now c.self.view_is c.self.invariant c.deref.ensures c.requires
+set-base-requires c = set-within (arc_value c.self.inside.base) c.deref.result.now c.self.inside.sets.items c.args.set c.args.self.now c.self.view_is c.self.invariant.0 c.deref.ensures c.requires
 
 pub index_mut-requires : goal.index_mut-requires
 index_mut-requires c =
-    let h = open-within (arc_value c.self.inside.base) c.self.inside.sets.items c.args.set c.args.self.now c.self.view_is c.self.invariant c.requires in
+    let h = open-within (arc_value c.self.inside.base) c.self.inside.sets.items c.args.set c.args.self.now c.self.view_is c.self.invariant.0 c.requires in
     omega (arith, h, c.self.inside.sets.ok)
 
 pub returns-clause-change : goal.returns-clause-change
 returns-clause-change c =
-    let within = open-within (arc_value c.self.inside.base) c.self.inside.sets.items c.args.set c.args.self.now c.self.view_is c.self.invariant c.requires in
+    let within = open-within (arc_value c.self.inside.base) c.self.inside.sets.items c.args.set c.args.self.now c.self.view_is c.self.invariant.0 c.requires in
     let base = base-at (arc_value c.self.inside.base) c.deref.result.now c.args.set c.set-base.result.now c.deref.ensures c.set-base.ensures in
     one-changed (λ s t. IsRemoval (removed s c.args.parts.now c.args.now) c.delete.result s t) (arc_value c.self.inside.base) c.self.inside.sets.items c.args.set c.index_mut.result.now c.delete.new.self c.set-base.result.now c.args.self.now
     c.self.view_is within c.index_mut.ensures.value base c.delete.ensures.removal
 
 pub returns-clause-missing : goal.returns-clause-missing
 returns-clause-missing c =
-    let within = open-within (arc_value c.self.inside.base) c.self.inside.sets.items c.args.set c.args.self.now c.self.view_is c.self.invariant c.requires in
+    let within = open-within (arc_value c.self.inside.base) c.self.inside.sets.items c.args.set c.args.self.now c.self.view_is c.self.invariant.0 c.requires in
     let base = base-at (arc_value c.self.inside.base) c.deref.result.now c.args.set c.set-base.result.now c.deref.ensures c.set-base.ensures in
     λ lacks. c.delete.ensures.missing
     (lacks (open_state c.index_mut.result.now c.set-base.result.now)
@@ -33,7 +33,7 @@ returns-clause-missing c =
 
 pub returns-clause-refused : goal.returns-clause-refused
 returns-clause-refused c =
-    let within = open-within (arc_value c.self.inside.base) c.self.inside.sets.items c.args.set c.args.self.now c.self.view_is c.self.invariant c.requires in
+    let within = open-within (arc_value c.self.inside.base) c.self.inside.sets.items c.args.set c.args.self.now c.self.view_is c.self.invariant.0 c.requires in
     let base = base-at (arc_value c.self.inside.base) c.deref.result.now c.args.set c.set-base.result.now c.deref.ensures c.set-base.ensures in
     on_err_weaker c.delete.result
     (λ same. none-changed (arc_value c.self.inside.base) c.self.inside.sets.items c.args.set c.index_mut.result.now c.delete.new.self c.set-base.result.now c.args.self.now

@@ -1,5 +1,5 @@
 use Rattle.std.proofs.Common.{◌≡◌, map, take, length}
-use Rattle.pipapo_image.proofs.image.delete.starts.Given as goal
+use Rattle.pipapo_image.proofs.image.keys.starts.Given as goal
 
 abbrev pub invariant-fields : goal.invariant-fields
 invariant-fields l = record {
