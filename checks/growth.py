@@ -2,7 +2,8 @@
 """Runs scripts of n and of 4n elements and changes: words PROGRAM.
 
 Each row of the table is one kind of script. It grows too fast where the processor time of 4n is more than eight times that of
-n, each the least of a few runs. No absolute time is looked at.
+n, each the least of a few runs, and so again when both are measured once more: on a busy machine one of them may be far off. No
+absolute time is looked at.
 """
 import os
 import resource
@@ -10,7 +11,7 @@ import subprocess
 import sys
 import tempfile
 
-MOST, TIMES, RUNS = 8, 4, 3
+MOST, TIMES, RUNS, TRIES = 8, 4, 3, 3
 
 
 # ---- scripts
@@ -173,13 +174,22 @@ def least(program, folder, lines, packets):
     return min(spent(program, ["run", script, keys]) for _ in range(RUNS))
 
 
+def growth(program, folder, maker, count, packets):
+    """How many times as long 4n take as n. What seems too much is measured again."""
+    for _ in range(TRIES):
+        more, less = (least(program, folder, maker(times * count), packets) for times in (TIMES, 1))
+        ratio = more / max(less, 0.001)
+        if ratio <= MOST:
+            break
+    return ratio
+
+
 def main():
     program = sys.argv[1]
     bad = 0
     with tempfile.TemporaryDirectory() as folder:
         for name, maker, count, packets in ROWS:
-            more, less = (least(program, folder, maker(times * count), packets) for times in (TIMES, 1))
-            ratio = more / max(less, 0.001)
+            ratio = growth(program, folder, maker, count, packets)
             grows = ratio > MOST
             bad += grows
             print(f"{name}: {TIMES * count} take {ratio:.1f} times as long as {count}{', too many' if grows else ''}")

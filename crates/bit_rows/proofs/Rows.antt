@@ -3,7 +3,8 @@ use Rattle.std.proofs.Common.{◌≡◌, refl, sym, ◌∙◌, ap, ℕ, zero, su
 use Rattle.std.proofs.lemmas.Bool.{cases_lt, cond-true, cond-false, lt-ltb}
 use Rattle.std.proofs.lemmas.List.{get_or_past, length-map, length-append, length-take, length-drop, length-replicate, get_or_append_left, get_or-append_right, get_or-replicate, get_or-take, get_or-drop, get_or_push, length_push}
 use Rattle.std.proofs.lemmas.Slice.Zip.{length-zip}
-use Rattle.bit_rows.specs.Row.{bit, at, both, either, with_run, without_run, lies, IsNextSet, IsCleared, IsWordPut, IsSpelling}
+use Rattle.set_model.specs.Runs.{without_run}
+use Rattle.bit_rows.specs.Row.{bit, at, both, either, with_run, lies, IsNextSet, IsCleared, IsWordPut, IsSpelling}
 use Rattle.bit_rows.specs.Words.{bit_in, first_bits, IsRow, IsClearFrom, IsNextPlace}
 use Rattle.bit_rows.proofs.Tests.{and-false, and-true, or-false, or-true, lies-in, lies-below, lies-above, by-run}
 use Rattle.bit_rows.proofs.Bits.{place-is, place-past, bits-same, bits-read, bits-at, length-bits}

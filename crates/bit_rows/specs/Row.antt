@@ -26,10 +26,6 @@ either xs ys = map (λ p. p.0 || p.1) (zip xs ys)
 abbrev pub with_run : List Bool → ℕ → ℕ → List Bool
 with_run bits from n = take from bits ++ (replicate n true ++ drop (from + n) bits)
 
--- the list without the n places from `from` on
-abbrev pub without_run : List Bool → ℕ → ℕ → List Bool
-without_run bits from n = take from bits ++ drop (from + n) bits
-
 -- r is the least set place from `from` on
 pub record IsNextSet (bits : List Bool) (from r : ℕ) : Type 0 where
   pub from_on : from ≤ r

@@ -1,5 +1,6 @@
 ghost use Rattle.std.specs.Prelude.{◌≡◌, ℕ, ◌+◌, ◌-◌, ◌*◌, ◌%◌, ◌^◌, ◌<◌, ◌≤◌, false, [], ◌∷◌, ◌++◌, length, replicate, cond, vec_capacity, IfOk, OnOk, OnErr, MatchOption};
-ghost use Rattle.bit_rows.specs.Row.{Row, at, both, either, with_run, without_run, bit, IsNextSet, IsCleared, IsWordPut, IsSpelling};
+ghost use Rattle.set_model.specs.Runs.{without_run};
+ghost use Rattle.bit_rows.specs.Row.{Row, at, both, either, with_run, bit, IsNextSet, IsCleared, IsWordPut, IsSpelling};
 ghost use Rattle.bit_rows.specs.Words.{first_bits, room_of, IsStored};
 
 use crate::{storage, words};

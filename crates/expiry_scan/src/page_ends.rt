@@ -1,11 +1,11 @@
-ghost use Rattle.std.specs.Prelude.{◌≡◌, ◌≤◌, ◌<◌, ◌+◌, ◌*◌, ◌^◌, ◌-◌, ℕ, Some, min, not, take, length, count_by, slice_get, unwrap_or};
+ghost use Rattle.std.specs.Prelude.{◌≡◌, ◌≤◌, ◌<◌, ◌+◌, ◌*◌, ◌^◌, ◌-◌, ℕ, Some, min, not, take, length, count_by, slice_get};
 ghost use Rattle.set_model.specs.declared.element.Element.{Element};
 ghost use Rattle.bit_rows.specs.Row.{bit};
 ghost use Rattle.expiry_scan.specs.Expired.{stays, is_leaving, is_by};
 ghost use Rattle.expiry_scan.specs.Soonest.{end_of, AreMarks, ArePageEnds, AreEnds};
 
 use crate::expired;
-use set_model::{Element, Memory};
+use set_model::{Element, Memory, expiry_moment};
 use shared_pages::Pages;
 
 /// How many elements lie in a page.
@@ -43,13 +43,6 @@ pub(crate) fn is_by(one: Option<u64>, other: Option<u64>) -> bool
     }
 }
 
-/// The moment that an expiry stands for: the last one there is where there is none.
-fn end_of(expiry: Option<u64>) -> u64
-    ensures { result ≡ unwrap_or expiry (2 ^ 64 - 1) }
-{
-    expiry.unwrap_or(u64::MAX)
-}
-
 /// Whether an element stays in a set that those have left which were expired at `passed`.
 fn stays(element: &Element, passed: Option<u64>) -> bool
     ensures { result ≡ stays passed element.now }
@@ -65,7 +58,7 @@ fn end_of_staying(element: &Element, passed: Option<u64>) -> u64
     ensures { result ≡ end_of passed element.now }
 {
     if stays(element, passed) {
-        end_of(element.expiry)
+        expiry_moment(element.expiry)
     } else {
         u64::MAX
     }
@@ -138,7 +131,7 @@ pub(crate) fn page_ends(elements: &Pages<Element>, page: u64, passed: Option<u64
     };
     'elements: for i in from..to {
         let element = elements.at(i);
-        ends.all = ends.all.min(end_of(element.expiry));
+        ends.all = ends.all.min(expiry_moment(element.expiry));
         ends.staying = ends.staying.min(end_of_staying(element, passed));
     }
     if ends.all <= passed.unwrap_or(0) {

@@ -1,4 +1,4 @@
-ghost use Rattle.std.specs.Prelude.{◌≡◌, ◌<◌, ◌*◌, ℕ, true, List, Option, [], ◌∷◌, ◌++◌, length, map, remove, slice_get, Some, count_by, IfOk, OnOk, OnErr};
+ghost use Rattle.std.specs.Prelude.{◌≡◌, ◌<◌, ◌-◌, ◌*◌, ◌^◌, ℕ, true, List, Option, [], ◌∷◌, ◌++◌, length, map, remove, slice_get, Some, count_by, IfOk, OnOk, OnErr};
 ghost use Rattle.set_model.specs.declared.element.Element.{Element};
 ghost use Rattle.set_model.specs.Expiry.{renewed_at};
 ghost use Rattle.expiry_scan.specs.Expired.{is_expired, is_leaving};
@@ -81,8 +81,12 @@ impl TimedElements {
         self.items.at(i)
     }
 
-    /// Adds an element at the end. After `Memory` the list is as it was.
+    /// Adds an element at the end.
+    ///
+    /// # Errors
+    /// `Memory` if there is none left. The list is as it was.
     pub fn push(&mut self, element: Element) -> Result<(), Memory>
+        requires { length self.old < 2 ^ 64 - 1 }
         ensures ok { OnOk result (self.new ≡ self.old ++ element ∷ []) }
         ensures err { OnErr result (self.new ≡ self.old) }
     {
@@ -231,12 +235,25 @@ mod tests {
         }
     }
 
+    /// Adds an element of one port at the end, if there is room for one more.
+    fn add(
+        alloc: Global,
+        elements: &mut TimedElements,
+        id: u64,
+        expiry: Option<u64>,
+    ) -> Result<(), Memory> {
+        if elements.len() < u64::MAX {
+            elements.push(element(alloc, id, expiry)?)?;
+        }
+        Ok(())
+    }
+
     /// Three elements, of which two expire.
     fn three(alloc: Global) -> Result<TimedElements, Memory> {
         let mut elements = TimedElements::new(alloc);
-        elements.push(element(alloc, 0, None)?)?;
-        elements.push(element(alloc, 1, Some(30))?)?;
-        elements.push(element(alloc, 2, Some(20))?)?;
+        add(alloc, &mut elements, 0, None)?;
+        add(alloc, &mut elements, 1, Some(30))?;
+        add(alloc, &mut elements, 2, Some(20))?;
         Ok(elements)
     }
 
@@ -296,7 +313,7 @@ mod tests {
         let mut elements = TimedElements::new(alloc);
         for id in 0..1100u64 {
             let expiry = if id % 500 == 11 { Some(id) } else { None };
-            elements.push(element(alloc, id, expiry)?)?;
+            add(alloc, &mut elements, id, expiry)?;
         }
         elements.find_soonest(None);
         assert!(rt; moments(&elements, 0) == Some((11, 11)));
@@ -325,7 +342,7 @@ mod tests {
         let mut elements = TimedElements::new(alloc);
         for id in 0..1100u64 {
             let expiry = if id % 500 == 11 { Some(id) } else { None };
-            elements.push(element(alloc, id, expiry)?)?;
+            add(alloc, &mut elements, id, expiry)?;
         }
         for passed in [None, Some(11), Some(511), Some(1011)] {
             elements.find_soonest(passed);

@@ -18,8 +18,8 @@ use Rattle.fused_lookup.specs.Filled.{IsClear, IsFilled, reached_by}
 abbrev pub no_span : Span
 no_span = record { first = 0; count = 0 }
 
-pub filled-none : (spans : List Span) (row next : List Bool) → IsClear next → IsFilled spans row 0 next
-filled-none spans row next clear = record { places = λ r. clear.places r }
+pub filled-none : (spans : List Span) (bits next : List Bool) → IsClear next → IsFilled spans bits 0 next
+filled-none spans bits next clear = record { places = λ r. clear.places r }
 
 -- behind the last rule nothing is added
 past-all : (spans : List Span) (row : List Bool) (n r : ℕ) → length row ≡ length spans → length spans ≤ n → reached_by spans row n r ≡ reached spans row r

@@ -6,9 +6,10 @@ use Rattle.std.proofs.lemmas.List.Elements.{All-append, All-take, All-drop, All-
 use Rattle.std.proofs.lemmas.Nat.{mul-add-lt}
 use Rattle.set_model.specs.declared.block.Block.{Block}
 use Rattle.set_model.specs.Blocks.{IsWithin}
+use Rattle.set_model.specs.Runs.{without_run}
 use Rattle.bit_rows.specs.Row.{Row, at}
 use Rattle.field_groups.specs.Groups.{agrees}
-use Rattle.lookup_table.specs.Table.{bucket_at, bucket_place, cell, block_at, IsShaped, StandsFor, without_blocks}
+use Rattle.lookup_table.specs.Table.{bucket_at, bucket_place, cell, block_at, IsShaped, StandsFor}
 use Rattle.lookup_table.specs.Rows.{Each, IsRaised, IsClosedUp, IsGrown, IsSameSize, HasBlockRules}
 use Rattle.lookup_table.proofs.RowsLaws.{cell-is, All-bucket, bucket-All, length-raised}
 
@@ -113,7 +114,7 @@ closed-shape width bits rules first n old new fits shape closed =
     ap length (closed.at j h).bits ∙ omega (arith, length-without (bucket_at old j).bits first n (omega arith)))
 
 pub closed-stands : (width bits rules first n : ℕ) (old new : List Row) (blocks : List Block) → first + n ≤ rules → IsShaped width bits rules old → Each (IsClosedUp first n) old new
-    → StandsFor width bits rules old blocks → StandsFor width bits (rules - n) new (without_blocks blocks first n)
+    → StandsFor width bits rules old blocks → StandsFor width bits (rules - n) new (without_run blocks first n)
 closed-stands width bits rules first n old new blocks fits shape closed stands = record {
   one_each = omega (arith, length-without blocks first n (omega (arith, stands.one_each)), stands.one_each);
   within = All-append (IsWithin bits) (take first blocks) (drop (first + n) blocks) (All-take (IsWithin bits) first blocks stands.within) (All-drop (IsWithin bits) (first + n) blocks stands.within);
@@ -125,7 +126,7 @@ closed-stands width bits rules first n old new blocks fits shape closed stands =
     pick true = omega arith
     pick false = omega arith
 
-  bucket : (g v r : ℕ) → g < bits / width → v < 2 ^ width → cond (nat_lt r first) r (r + n) < rules → cell new (bucket_place width g v) r ≡ agrees width bits (block_at (without_blocks blocks first n) r) g v
+  bucket : (g v r : ℕ) → g < bits / width → v < 2 ^ width → cond (nat_lt r first) r (r + n) < rules → cell new (bucket_place width g v) r ≡ agrees width bits (block_at (without_run blocks first n) r) g v
   bucket g v r h k l =
       let within = place-within width bits rules g v old shape h k in
       let long = long-at width bits rules (bucket_place width g v) old shape within in

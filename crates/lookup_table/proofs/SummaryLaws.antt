@@ -90,6 +90,13 @@ few-rules width bits rules n room buckets shape spare rooms small =
     let b = All-bucket (λ (x : Row). room ≡ length x.bits + x.spare) buckets 0 rooms (omega arith) in
     omega arith
 
+pub rules-within : (width bits rules room : ℕ) (buckets : List Row) → IsShaped width bits rules buckets → All (λ row. room ≡ length row.bits + row.spare) buckets → rules ≤ room
+rules-within width bits rules room buckets shape rooms =
+    let some = buckets-some width bits buckets shape.groups shape.count in
+    let long = All-bucket (λ (x : Row). length x.bits ≡ rules) buckets 0 shape.rows (omega arith) in
+    let b = All-bucket (λ (x : Row). room ≡ length x.bits + x.spare) buckets 0 rooms (omega arith) in
+    omega arith
+
 -- the pages of rules that close up, and of the summary above them
 pub first-long : (width bits rules : ℕ) (buckets : List Row) → IsShaped width bits rules buckets → length (bucket_at buckets 0).bits ≡ rules
 first-long width bits rules buckets shape =

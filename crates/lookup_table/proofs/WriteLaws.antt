@@ -3,7 +3,8 @@ use Rattle.std.proofs.Common.{◌≡◌, refl, sym, ◌∙◌, ap, ℕ, zero, su
 use Rattle.std.specs.Prelude.{slice_index}
 use Rattle.std.proofs.lemmas.Bool.{cases_lt, cases_eq, lt-ltb, le-ltb, le-leb, lt-leb, cond-true, cond-false}
 use Rattle.std.proofs.lemmas.List.{get_or-set_same, get_or-set_other, length-set, get_or_default, get_or_past, ext_get_or, length-append, length-take, length-drop, length-replicate, get_or-replicate}
-use Rattle.bit_rows.specs.Row.{Row, at, bit, both, either, without_run, IsWordPut}
+use Rattle.set_model.specs.Runs.{without_run}
+use Rattle.bit_rows.specs.Row.{Row, at, bit, both, either, IsWordPut}
 use Rattle.bit_rows.proofs.Rows.{at-both, length-both, at-either, length-either}
 use Rattle.shared_pages.specs.Paged.{PageOf, owns_of}
 use Rattle.lookup_table.specs.Table.{bucket_at, cell}

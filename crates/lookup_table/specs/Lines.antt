@@ -59,6 +59,11 @@ pub record AreLines (count len : ℕ) (pages : List (PageOf ℕ)) : Type 0 where
   pub few : count < 2 ^ 20
   pub past : (j r : ℕ) → j < count → len ≤ r → line_bit pages j r ≡ false
 
+-- So do those of a list that has room for its pages and for no others.
+pub record AreKept (count len : ℕ) (pages : List (PageOf ℕ)) (capacity : ℕ) : Type 0 where
+  pub lines : AreLines count len pages
+  pub full : capacity ≡ length pages
+
 -- each page has line j
 pub record HasLine (j : ℕ) (pages : List (PageOf ℕ)) : Type 0 where
   pub line : (p : ℕ) → p < length pages → j * 8 + 8 ≤ length (words_at pages p)

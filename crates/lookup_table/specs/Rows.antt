@@ -2,7 +2,8 @@
 use Rattle.std.specs.Prelude.{◌≡◌, ℕ, ◌+◌, ◌-◌, ◌*◌, ◌/◌, ◌%◌, ◌^◌, ◌<◌, ◌≤◌, Bool, true, false, cond, ◌&&◌, ◌||◌, ◌==◌, nat_lt, List, ◌++◌, length, replicate, All}
 use Rattle.set_model.specs.declared.block.Block.{Block}
 use Rattle.set_model.specs.Blocks.{IsWithin}
-use Rattle.bit_rows.specs.Row.{Row, at, lies, without_run}
+use Rattle.set_model.specs.Runs.{without_run}
+use Rattle.bit_rows.specs.Row.{Row, at, lies}
 use Rattle.field_groups.specs.Groups.{agrees, some_from}
 use Rattle.lookup_table.specs.Table.{bucket_at, bucket_place, block_at, cell}
 

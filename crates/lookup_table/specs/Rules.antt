@@ -1,12 +1,13 @@
 -- What is said of a table, of its change and of a row of its rules.
 use Rattle.std.specs.Prelude.{◌≡◌, ℕ, ◌+◌, ◌*◌, ◌/◌, ◌<◌, ◌≤◌, Bool, true, ◌&&◌, List, ◌++◌, get_or}
 use Rattle.set_model.specs.declared.block.Block.{Block}
+use Rattle.set_model.specs.Runs.{without_run}
 use Rattle.bit_rows.specs.Row.{Row, at, bit}
 use Rattle.shared_pages.specs.Paged.{owns_of}
 use Rattle.field_groups.specs.Groups.{group}
 use Rattle.lookup_table.specs.declared.table.FieldTable.{FieldTable}
 use Rattle.lookup_table.specs.Lines.{OwnsNoPage}
-use Rattle.lookup_table.specs.Table.{StandsFor, bucket_place, block_at, without_blocks}
+use Rattle.lookup_table.specs.Table.{StandsFor, bucket_place, block_at}
 
 -- the table stands for these blocks, one per rule
 abbrev pub Stands : FieldTable → List Block → Type 0
@@ -45,7 +46,7 @@ AppendsRules old new added = (blocks : List Block) → Stands old blocks → Sta
 
 -- The new table stands for the blocks of the old one without the n from `first` on.
 abbrev pub DropsRules : FieldTable → FieldTable → ℕ → ℕ → Type 0
-DropsRules old new first n = (blocks : List Block) → Stands old blocks → Stands new (without_blocks blocks first n)
+DropsRules old new first n = (blocks : List Block) → Stands old blocks → Stands new (without_run blocks first n)
 
 -- where the bucket of a value's group g stands
 abbrev pub place_of : FieldTable → ℕ → ℕ → ℕ

@@ -3,7 +3,7 @@
 -- A table has one row of buckets per group and one bucket per value of the group, each a bitmap of
 -- the field's rules (the kernel's theory of operation of the pile of packet policies: "for each
 -- group ... bitmap ... set if the rule matches the value").
-use Rattle.std.specs.Prelude.{◌≡◌, ℕ, ◌+◌, ◌*◌, ◌/◌, ◌^◌, ◌<◌, Bool, List, [], ◌++◌, length, take, drop, get_or, map, All}
+use Rattle.std.specs.Prelude.{◌≡◌, ℕ, ◌+◌, ◌*◌, ◌/◌, ◌^◌, ◌<◌, Bool, List, [], length, get_or, map, All}
 use Rattle.set_model.specs.declared.block.Block.{Block}
 use Rattle.set_model.specs.Blocks.{IsWithin}
 use Rattle.bit_rows.specs.Row.{Row, at}
@@ -37,10 +37,6 @@ pub record StandsFor (width bits rules : ℕ) (buckets : List Row) (blocks : Lis
   pub one_each : length blocks ≡ rules
   pub within : All (IsWithin bits) blocks
   pub bucket : (g v r : ℕ) → g < bits / width → v < 2 ^ width → r < rules → cell buckets (bucket_place width g v) r ≡ agrees width bits (block_at blocks r) g v
-
--- the list without the n blocks from `first` on
-abbrev pub without_blocks : List Block → ℕ → ℕ → List Block
-without_blocks blocks first n = take first blocks ++ drop (first + n) blocks
 
 -- how many places each bucket can have without more memory
 abbrev pub rooms_of : List Row → List ℕ

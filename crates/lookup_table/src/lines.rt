@@ -1,4 +1,4 @@
-ghost use Rattle.std.specs.Prelude.{◌≡◌, ℕ, ◌+◌, ◌*◌, ◌/◌, ◌%◌, ◌^◌, ◌<◌, ◌≤◌, true, false, length, get_or, slice_index, replicate, All, IfOk, OnOk};
+ghost use Rattle.std.specs.Prelude.{◌≡◌, ℕ, ◌+◌, ◌*◌, ◌/◌, ◌%◌, ◌^◌, ◌<◌, ◌≤◌, true, false, length, get_or, slice_index, replicate, vec_capacity, All, IfOk, OnOk};
 ghost use Rattle.bit_rows.specs.Row.{bit, both, either};
 ghost use Rattle.shared_pages.specs.Paged.{owns_of};
 ghost use Rattle.lookup_table.specs.Table.{bucket_at, cell};
@@ -17,7 +17,8 @@ const PLACES: u32 = 512;
 const WORDS: usize = 8;
 
 /// The buckets of a table, in pages of 512 rules that copies share: a page has a line of eight words for
-/// each bucket. Contracts see the list of rows, and for each page whether it is this table's own.
+/// each bucket. Contracts see the list of rows, and for each page whether it is this table's own. The list of
+/// pages has room for its pages and for no others, so a call that leaves as many pages takes no memory.
 #[derive(Drop)]
 pub struct Lines {
     count: u32,
@@ -26,14 +27,15 @@ pub struct Lines {
 }
 
 impl Model for Lines {
-    ghost use Rattle.lookup_table.specs.Lines.{Lined, rows_of, AreLines};
+    ghost use Rattle.std.specs.Vec.{vec_capacity};
+    ghost use Rattle.lookup_table.specs.Lines.{Lined, rows_of, AreKept};
     ghost use Rattle.shared_pages.specs.Paged.{owns_of};
 
     ghost Value = { Lined };
 
     ghost view = { λ a. record { rows = rows_of a.pages.items a.len a.count; own = owns_of a.pages.items } };
 
-    ghost invariant = { λ a. AreLines a.count a.len a.pages.items };
+    ghost invariant = { λ a. AreKept a.count a.len a.pages.items (vec_capacity a.pages) };
 }
 
 impl Lines {
@@ -44,9 +46,10 @@ impl Lines {
         self.count as u64
     }
 
-    /// How many places each row can have without more memory.
+    /// How many places each row can have without more memory: at most 4,294,966,784.
     pub fn room(&self) -> u32
-        ensures { All (λ row. result ≡ length row.bits + row.spare) self.now.rows }
+        ensures rows { All (λ row. result ≡ length row.bits + row.spare) self.now.rows }
+        ensures most { result + 512 ≤ 2 ^ 32 }
     {
         let _len = self.len;
         self.pages.len() as u32 * PLACES
@@ -110,12 +113,13 @@ impl Lines {
         Ok(row)
     }
 
-    /// So many rows of `len` places, none of them set.
+    /// So many rows of `len` places, none of them set: at most 4,294,966,784 places.
     ///
     /// # Errors
     /// `Memory` if there is none left.
     pub(crate) fn zeros(alloc: Global, count: u32, len: u32) -> Result<Lines, Memory>
-        requires { count < 2 ^ 20 }
+        requires few { count < 2 ^ 20 }
+        requires most { len + 512 ≤ 2 ^ 32 }
         ensures long { IfOk result (λ lines. length lines.rows ≡ count) }
         ensures zeros { IfOk result (λ lines. All (λ row. row.bits ≡ replicate len false) lines.rows) }
         ensures own { IfOk result (λ lines. OwnsPlaces 0 len lines.own) }
@@ -125,12 +129,14 @@ impl Lines {
         Ok(Lines { count, len, pages })
     }
 
-    /// Takes room for `n` places more in each row, on pages that are the list's own.
+    /// Takes room for `n` places more in each row, on pages that are the list's own. A row has at most
+    /// 4,294,966,784 places.
     ///
     /// # Errors
     /// `Memory` if there is none left. The rows are as they were.
     pub(crate) fn reserve(&mut self, n: u32) -> Result<(), Memory>
-        requires { 1 ≤ length self.old.rows }
+        requires some { 1 ≤ length self.old.rows }
+        requires most { length (bucket_at self.old.rows 0).bits + n + 512 ≤ 2 ^ 32 }
         ensures grown { Each IsGrown self.old.rows self.new.rows }
         ensures room { OnOk result (All (λ row. n ≤ row.spare) self.new.rows) }
         ensures own { OnOk result (OwnsPlaces (length (bucket_at self.old.rows 0).bits) (length (bucket_at self.old.rows 0).bits + n) self.new.own) }
@@ -245,34 +251,31 @@ impl Lines {
 
 // The functions over the pages.
 
-/// The most pages that a list has: its places are counted by a u32.
-const MOST_PAGES: usize = 8_388_607;
-
 /// A page without rules for so many rows.
 fn zero_page(alloc: Global, count: u32) -> Result<Page<u64>, Memory>
     ensures words { IfOk result (λ page. page.items ≡ replicate (count * 8) 0) }
     ensures own { IfOk result (λ page. page.own ≡ true) }
 {
-    let mut words = Vec::new(alloc);
-    words.resize(count as usize * WORDS, 0u64)?;
-    Ok(Page::from_vec(words))
+    Page::filled(alloc, 0, count as usize * WORDS)
 }
 
-/// Adds pages without rules, up to `n` pages.
+/// Adds pages without rules, up to `n` pages, whose places a u32 counts, and takes room for no others.
 ///
 /// # Errors
 /// `Memory` if there is none left. The pages so far stay.
 fn add_pages(alloc: Global, pages: &mut Vec<Page<u64>>, count: u32, n: usize) -> Result<(), Memory>
+    requires full { vec_capacity pages.old ≡ length pages.old.items }
+    requires most { 512 * n < 2 ^ 32 }
     ensures more { IsMore count pages.old.items pages.new.items }
     ensures small { 512 * length pages.old.items < 2 ^ 32 → 512 * length pages.new.items < 2 ^ 32 }
     ensures room { OnOk result (n ≤ length pages.new.items) }
     ensures own { AreOwned (length pages.old.items) (length pages.new.items) pages.new.items }
+    ensures full { vec_capacity pages.new ≡ length pages.new.items }
 {
-    if n > MOST_PAGES {
-        return Err(Memory);
-    }
     'pages: for p in pages.len()..n {
-        pages.push(zero_page(alloc, count)?)?;
+        let page = zero_page(alloc, count)?;
+        pages.reserve_exact(1)?;
+        pages.push_reserved(page);
     }
     Ok(())
 }
@@ -288,10 +291,13 @@ fn open_pages(
     from: usize,
     end: usize,
 ) -> Result<(), Memory>
+    requires full { vec_capacity pages.old ≡ length pages.old.items }
+    requires most { 512 * end < 2 ^ 32 }
     ensures more { IsMore count pages.old.items pages.new.items }
     ensures small { 512 * length pages.old.items < 2 ^ 32 → 512 * length pages.new.items < 2 ^ 32 }
     ensures room { OnOk result (end ≤ length pages.new.items) }
     ensures own { OnOk result (AreOwned from end pages.new.items) }
+    ensures full { vec_capacity pages.new ≡ length pages.new.items }
 {
     add_pages(alloc, pages, count, end)?;
     own_plain_pages(alloc, pages, from, end)
@@ -328,7 +334,8 @@ fn write_word(pages: &mut Vec<Page<u64>>, p: usize, x: usize, word: u64)
     requires page { p < length pages.old.items }
     requires own { get_or (owns_of pages.old.items) p true ≡ true }
     requires word { x < length (words_at pages.old.items p) }
-    ensures { IsWordWritten p x word pages.old.items pages.new.items }
+    ensures written { IsWordWritten p x word pages.old.items pages.new.items }
+    ensures room { vec_capacity pages.new ≡ vec_capacity pages.old }
 {
     let page = &mut pages[p];
     page.put(x, word);
@@ -372,7 +379,8 @@ fn put_line(pages: &mut Vec<Page<u64>>, count: u32, j: usize, row: &BitRow)
     requires line { j < count }
     requires places { length row.now.bits ≤ 512 * length pages.old.items }
     requires own { (p : ℕ) → 512 * p < length row.now.bits → get_or (owns_of pages.old.items) p true ≡ true }
-    ensures { IsLinePut count j row.now.bits pages.old.items pages.new.items }
+    ensures put { IsLinePut count j row.now.bits pages.old.items pages.new.items }
+    ensures room { vec_capacity pages.new ≡ vec_capacity pages.old }
 {
     'words: for i in 0..row.len().div_ceil(64) {
         let i = i as usize;
@@ -390,7 +398,8 @@ fn close_pages(pages: &mut Vec<Page<u64>>, count: u32, first: usize, n: usize, e
     requires small { 512 * length pages.old.items < 2 ^ 32 }
     requires places { first + n < 2 ^ 32 }
     requires own { AreOwned (first / 512) end pages.old.items }
-    ensures { AreClosed count first n end 0 pages.old.items pages.new.items }
+    ensures closed { AreClosed count first n end 0 pages.old.items pages.new.items }
+    ensures room { vec_capacity pages.new ≡ vec_capacity pages.old }
 {
     'pages: for p in first / 512..end {
         'words: for x in 0..count as usize * WORDS {
@@ -408,7 +417,8 @@ fn close_word(pages: &mut Vec<Page<u64>>, p: usize, x: usize, first: usize, n: u
     requires places { first + n < 2 ^ 32 }
     requires word { x < 2 ^ 32 }
     requires own { get_or (owns_of pages.old.items) p true ≡ true }
-    ensures { IsWordClosed first n p x pages.old.items pages.new.items }
+    ensures closed { IsWordClosed first n p x pages.old.items pages.new.items }
+    ensures room { vec_capacity pages.new ≡ vec_capacity pages.old }
 {
     let i = p * WORDS + x % WORDS;
     if i < first / 64 {

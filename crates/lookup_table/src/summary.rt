@@ -1,4 +1,4 @@
-ghost use Rattle.std.specs.Prelude.{◌≡◌, ℕ, ◌+◌, ◌*◌, ◌/◌, ◌^◌, ◌<◌, ◌≤◌, true, nat_lt, length, get_or, All, IfOk};
+ghost use Rattle.std.specs.Prelude.{◌≡◌, ℕ, ◌+◌, ◌*◌, ◌/◌, ◌^◌, ◌<◌, ◌≤◌, true, nat_lt, length, get_or, vec_capacity, All, IfOk};
 ghost use Rattle.bit_rows.specs.Row.{bit};
 ghost use Rattle.lookup_table.specs.Table.{IsShaped};
 ghost use Rattle.lookup_table.specs.Lines.{IsWithinRoom};
@@ -67,6 +67,7 @@ pub(crate) fn renew_pages(
     requires summed { IsSummed 64 width bits (512 * from) buckets.now.rows pages.old.items }
     ensures summed { IsSummed 64 width bits (512 * end) buckets.now.rows pages.new.items }
     ensures own { owns_of pages.new.items ≡ owns_of pages.old.items }
+    ensures room { vec_capacity pages.new ≡ vec_capacity pages.old }
 {
     'words: for q in from..end {
         renew_at(pages, buckets, width, bits, q);
@@ -82,6 +83,7 @@ fn renew_at(pages: &mut Vec<Page<u64>>, buckets: &Lines, width: u32, bits: u32, 
     requires summed { IsSummed 64 width bits (512 * q) buckets.now.rows pages.old.items }
     ensures summed { IsSummed 64 width bits (512 * (q + 1)) buckets.now.rows pages.new.items }
     ensures own { owns_of pages.new.items ≡ owns_of pages.old.items }
+    ensures room { vec_capacity pages.new ≡ vec_capacity pages.old }
 {
     let p = q as usize / 8;
     if p >= pages.len() {
@@ -109,6 +111,7 @@ pub(crate) fn mark_added(
     ensures kept { KeepsMarks pages.old.items pages.new.items }
     ensures marked { AreRulesMarked unit bits first (length added.now) added.now pages.new.items }
     ensures own { owns_of pages.new.items ≡ owns_of pages.old.items }
+    ensures room { vec_capacity pages.new ≡ vec_capacity pages.old }
 {
     'rules: for (i, block) in added.iter().enumerate() {
         set_mark(pages, *block, bits, (first + i as u32) / unit);
@@ -125,6 +128,7 @@ fn set_mark(pages: &mut Vec<Page<u64>>, block: Block, bits: u32, m: u32)
     ensures pages { ArePages bits pages.new.items }
     ensures marked { IsMarkSet bits block m pages.new.items }
     ensures own { owns_of pages.new.items ≡ owns_of pages.old.items }
+    ensures room { vec_capacity pages.new ≡ vec_capacity pages.old }
 {
     let p = m as usize / 64;
     if p >= pages.len() {
@@ -154,7 +158,7 @@ fn summed_page(
     Ok(page)
 }
 
-/// Adds pages with their marks, up to `n` pages.
+/// Adds pages with their marks, up to `n` pages, and takes room for no others.
 ///
 /// # Errors
 /// `Memory` if there is none left. The pages so far are right.
@@ -170,10 +174,14 @@ pub(crate) fn add_pages(
     requires shape { IsShaped width bits rules buckets.now.rows }
     requires few { n ≤ 2 ^ 26 }
     requires summed { IsSummed 64 width bits rules buckets.now.rows pages.old.items }
-    ensures { IsSummed 64 width bits rules buckets.now.rows pages.new.items }
+    requires full { vec_capacity pages.old ≡ length pages.old.items }
+    ensures summed { IsSummed 64 width bits rules buckets.now.rows pages.new.items }
+    ensures full { vec_capacity pages.new ≡ length pages.new.items }
 {
     'pages: for p in pages.len()..n as usize {
-        pages.push(summed_page(alloc, buckets, width, bits, rules, p as u32)?)?;
+        let page = summed_page(alloc, buckets, width, bits, rules, p as u32)?;
+        pages.reserve_exact(1)?;
+        pages.push_reserved(page);
     }
     Ok(())
 }

@@ -1,3 +1,5 @@
+ghost use Rattle.std.specs.Prelude.{◌≡◌, length};
+ghost use Rattle.std.specs.Vec.{vec_capacity};
 ghost use Rattle.lookup_table.specs.Table.{IsShaped};
 ghost use Rattle.lookup_table.specs.Summary.{IsSummed};
 
@@ -27,7 +29,8 @@ use word_summary::candidates;
 ///
 /// The buckets lie in pages of 512 rules, and the summary in those of 4,096, which copies share once the
 /// table was settled. A change is made on pages that are the table's own: [`FieldTable::reserve`] and
-/// [`FieldTable::own_from`] make them so, before it.
+/// [`FieldTable::own_from`] make them so, before it. No list of pages has room for more pages than it has:
+/// so an addition or a deletion, which leaves them as many, takes no memory.
 #[derive(Drop)]
 pub struct FieldTable {
     /// How many bits a group has: 4 or 8.
@@ -47,6 +50,8 @@ pub struct FieldTable {
     pub ghost shaped: { IsShaped width bits rules buckets.rows },
     pub ghost summed: { IsSummed 64 width bits rules buckets.rows pages.items },
     pub ghost topped: { IsSummed 4096 width bits rules buckets.rows tops.items },
+    pub ghost full: { vec_capacity pages ≡ length pages.items },
+    pub ghost full_tops: { vec_capacity tops ≡ length tops.items },
 }
 
 impl FieldTable {
@@ -130,12 +135,12 @@ impl FieldTable {
     }
 
     /// Takes room for `n` rules more, on pages that are the table's own. It takes constant time where
-    /// there is that room already.
+    /// there is that room already. A table has at most 4,294,966,784 rules.
     ///
     /// # Errors
     /// `Memory` if there is none left. The table is as it was.
     pub fn reserve(&mut self, n: u32) -> Result<(), Memory>
-        requires { self.old.rules + n < 2 ^ 32 }
+        requires { self.old.rules + n + 512 ≤ 2 ^ 32 }
         ensures same { IsSameField self.old self.new }
         ensures rules { self.new.rules ≡ self.old.rules }
         ensures bits { bucket_bits self.new.buckets.rows ≡ bucket_bits self.old.buckets.rows }
@@ -445,6 +450,8 @@ impl FieldTable {
         ensures rules { IfOk result (λ t. t.rules ≡ self.now.rules) }
         ensures stands { IfOk result (KeepsRules self.now) }
     {
+        // The room is what bounds the number of rules.
+        let _room = self.buckets.room();
         let mut buckets = Lines::zeros(alloc, self.bits / 8 * 256, self.rules)?;
         'rows: for j in 0..self.bits / 8 * 256 {
             let row = self.wide_bucket(alloc, j as u64)?;
@@ -484,6 +491,8 @@ impl FieldTable {
         ensures rules { IfOk result (λ t. t.rules ≡ self.now.rules) }
         ensures stands { IfOk result (KeepsRules self.now) }
     {
+        // The room is what bounds the number of rules.
+        let _room = self.buckets.room();
         let mut buckets = Lines::zeros(alloc, self.bits / 4 * 16, self.rules)?;
         'rows: for j in 0..self.bits / 4 * 16 {
             let row = self.narrow_bucket(alloc, j as u64)?;

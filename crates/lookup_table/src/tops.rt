@@ -1,4 +1,4 @@
-ghost use Rattle.std.specs.Prelude.{◌≡◌, ℕ, ◌+◌, ◌*◌, ◌/◌, ◌^◌, ◌<◌, ◌≤◌, true, get_or};
+ghost use Rattle.std.specs.Prelude.{◌≡◌, ℕ, ◌+◌, ◌*◌, ◌/◌, ◌^◌, ◌<◌, ◌≤◌, true, length, get_or, vec_capacity};
 ghost use Rattle.field_groups.specs.Groups.{IsWidth};
 ghost use Rattle.shared_pages.specs.Paged.{owns_of};
 ghost use Rattle.word_summary.specs.Marks.{IsMarkPage};
@@ -30,6 +30,7 @@ pub(crate) fn renew_tops(
     requires own { (p : ℕ) → from ≤ p → p < to → get_or (owns_of tops.old.items) (p / 64) true ≡ true }
     ensures renewed { AreRenewed from to pages.now tops.old.items tops.new.items }
     ensures own { owns_of tops.new.items ≡ owns_of tops.old.items }
+    ensures room { vec_capacity tops.new ≡ vec_capacity tops.old }
 {
     'pages: for p in from..to {
         renew_top(tops, pages, bits, p);
@@ -44,6 +45,7 @@ fn renew_top(tops: &mut Vec<Page<u64>>, pages: &[Page<u64>], bits: u32, p: u32)
     ensures tops { ArePages bits tops.new.items }
     ensures renewed { AreRenewed p (p + 1) pages.now tops.old.items tops.new.items }
     ensures own { owns_of tops.new.items ≡ owns_of tops.old.items }
+    ensures room { vec_capacity tops.new ≡ vec_capacity tops.old }
 {
     let q = p as usize / 64;
     if q >= tops.len() {
@@ -68,7 +70,7 @@ fn mark_from(top: &mut Page<u64>, pages: &[Page<u64>], bits: u32, p: u32)
     }
 }
 
-/// Adds tops with the marks of their pages, up to `n` tops.
+/// Adds tops with the marks of their pages, up to `n` tops, and takes room for no others.
 ///
 /// # Errors
 /// `Memory` if there is none left. The tops so far are right.
@@ -84,11 +86,15 @@ pub(crate) fn add_tops(
     requires few { n ≤ 2 ^ 26 }
     requires pages { ArePages bits pages.now }
     requires tops { ArePages bits tops.old.items }
-    ensures { KeepsTops bits rules pages.now tops.old.items tops.new.items }
+    requires full { vec_capacity tops.old ≡ length tops.old.items }
+    ensures kept { KeepsTops bits rules pages.now tops.old.items tops.new.items }
+    ensures full { vec_capacity tops.new ≡ length tops.new.items }
 {
     let to = rules.div_ceil(4096);
     'tops: for q in tops.len()..n as usize {
-        tops.push(new_page(alloc, bits)?)?;
+        let top = new_page(alloc, bits)?;
+        tops.reserve_exact(1)?;
+        tops.push_reserved(top);
         let from = 64 * q as u32;
         renew_tops(tops, pages, bits, from, to.max(from));
     }

@@ -5,10 +5,10 @@ ghost use Rattle.set_model.specs.Expiry.{lives};
 ghost use Rattle.set_tables.specs.Rows.{ends_without, ends_renewed, lowered_place, end_renewed, is_led};
 ghost use Rattle.mapping_table.specs.Spared.{word_of, OwnsRange, OwnsFrom, KeepsOwn, TakesNone, IsCommon, IsMoved};
 
-use crate::latest::{find_latest, is_past, moment_of, raise, raise_word};
+use crate::latest::{find_latest, is_past, raise, raise_word};
 use crate::roomy::Roomy;
 use bit_rows::BitRow;
-use set_model::{Memory, is_live};
+use set_model::{Memory, expiry_moment, is_live};
 use set_tables::End;
 use std::alloc::Global;
 use std::marker::Model;
@@ -107,7 +107,7 @@ impl EndTable {
         ensures taken { self.new.taken ≡ self.old.taken }
     {
         let word = self.ends.len() as usize / 64;
-        raise_word(&mut self.latest, word, moment_of(item.expiry));
+        raise_word(&mut self.latest, word, expiry_moment(item.expiry));
         self.ends.push(item);
     }
 
@@ -186,7 +186,7 @@ impl EndTable {
         renew(&mut self.ends, first, n, expiry);
         let from = first as usize / 64;
         let to = (first as usize + n as usize).div_ceil(64);
-        raise(&mut self.latest, from, to, moment_of(expiry));
+        raise(&mut self.latest, from, to, expiry_moment(expiry));
     }
 
     /// Lets copies share the pages from now on. No page is copied.

@@ -1,17 +1,11 @@
-ghost use Rattle.std.specs.Prelude.{◌≡◌, ◌+◌, ◌-◌, ◌*◌, ◌/◌, ◌<◌, ◌≤◌, ◌^◌, ◌↔◌, length, max, unwrap_or, IsTrue};
+ghost use Rattle.std.specs.Prelude.{◌≡◌, ◌+◌, ◌-◌, ◌*◌, ◌/◌, ◌<◌, ◌≤◌, ◌^◌, ◌↔◌, length, max, IsTrue};
 ghost use Rattle.std.specs.Vec.{vec_capacity};
 ghost use Rattle.mapping_table.specs.Spared.{word_of};
 ghost use Rattle.mapping_table.specs.Latest.{latest_end, AreRaised, AreFound};
 
 use crate::roomy::Roomy;
+use set_model::expiry_moment;
 use set_tables::End;
-
-/// The moment that an expiry stands for: the last one there is where there is none.
-pub(crate) fn moment_of(expiry: Option<u64>) -> u64
-    ensures { result ≡ unwrap_or expiry (2 ^ 64 - 1) }
-{
-    expiry.unwrap_or(u64::MAX)
-}
 
 /// Whether each expiry up to `moment` has come at `now`. For the last moment there is that is never
 /// so, since it stands for no expiry, too.
@@ -32,7 +26,7 @@ fn latest_end(ends: &Roomy<End>, w: u32) -> u64
     let count = (len - first).min(64);
     let mut latest = 0;
     'ends: for i in first..first + count {
-        latest = latest.max(moment_of(ends.at(i).expiry));
+        latest = latest.max(expiry_moment(ends.at(i).expiry));
     }
     latest
 }

@@ -268,7 +268,7 @@ fn first_page<T: Copy + Drop>(alloc: Global, items: &[T]) -> Result<Page<T>, Mem
     ensures own { IfOk result (λ page. page.own ≡ true) }
 {
     let first = &items[..PAGE];
-    Ok(Page::from_vec(Vec::from_slice(alloc, first)?))
+    Page::from_slice(alloc, first)
 }
 
 /// Takes the first `n` items out. The others move down.

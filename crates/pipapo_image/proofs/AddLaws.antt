@@ -1,6 +1,6 @@
 -- An addition, by what the lookups of the start key and the end key found, or of the intervals.
-use Rattle.std.proofs.Common.{◌≡◌, refl, sym, ◌∙◌, ap, subst, ℕ, ◌^◌, Bool, true, false, ◌==◌, nat_le, nat_lt, List, [], ◌∷◌, length, Option, Some, None, Result, Ok, Err, arith}
-use Rattle.std.specs.Prelude.{option_map, if◌then◌else◌, IsErrAnd, find}
+use Rattle.std.proofs.Common.{◌≡◌, ◌+◌, refl, sym, ◌∙◌, ap, subst, ℕ, ◌^◌, Bool, true, false, ◌==◌, nat_le, nat_lt, List, [], ◌∷◌, length, Option, Some, None, Result, Ok, Err, arith}
+use Rattle.std.specs.Prelude.{◌&&◌, ◌||◌, not, option_map, if◌then◌else◌, cond, IsErrAnd, find, position}
 use Rattle.std.specs.List.{list_all}
 use Rattle.std.specs.Option.{option_or}
 use Rattle.std.proofs.lemmas.Bool.{and_parts, and_from}
@@ -10,13 +10,15 @@ use Rattle.std.specs.Global.{Vec}
 use Rattle.set_model.specs.declared.block.Block.{Block}
 use Rattle.set_model.specs.declared.kind.Kind.{Kind}
 use Rattle.set_model.specs.declared.kind.Interval.{Interval}
+use Rattle.set_model.specs.declared.element.Element.{Element}
 use Rattle.set_model.specs.declared.element.NewElement.{NewElement}
 use Rattle.set_model.specs.declared.report.Why.{Why}
 use Rattle.set_model.specs.declared.report.Why.TheVariants.{Overlap, Full}
 use Rattle.set_model.specs.Kind.{bits_of}
-use Rattle.set_model.specs.Key.{parts_fit, intervals_fit, key_fits, values_fit, is_good, is_value, start_key, end_key, same_parts}
-use Rattle.set_model.specs.SetState.{State, add, add_by, element_at, same_at, twin_place, place, sharing_place, is_sharing, is_full, crowded_field}
-use Rattle.set_tables.proofs.RowLaws.{find-at, find-none}
+use Rattle.set_model.specs.Key.{parts_fit, intervals_fit, key_fits, values_fit, is_good, is_value, start_key, end_key, parts_hold, same_parts, parts_share}
+use Rattle.set_model.specs.Expiry.{live}
+use Rattle.set_model.specs.SetState.{State, add, add_by, answers, element_at, same_at, twin_place, place, sharing_place, is_sharing, is_full, crowded_field}
+use Rattle.set_tables.proofs.RowLaws.{find-at, find-none, position-cons}
 use Rattle.pipapo_image.specs.declared.answers.Added.{Added as Came}
 use Rattle.pipapo_image.specs.declared.answers.ChangeError.{ChangeError}
 use Rattle.pipapo_image.specs.declared.answers.ChangeError.TheVariants as errors
@@ -87,16 +89,66 @@ add-apart s e now d =
     ap (λ t. add_by s e (twin_place s e.parts now) e.expiry (if t then None else at_start) (if t then None else at_end) (if t then sharing_place s e.parts now else None) (is_full s) (crowded_field s e.parts)) d
     ∙ twin-decides s e now (twin_place s e.parts now)
 
--- ---- what is decided
--- Where elements may share keys, the places decide.
-pub decision_by : (s : State) (e : NewElement) (now : ℕ) (r : Result Decision ChangeError) → s.disjoint ≡ false
-    → IsDecision s e (by_start s e now (place s (start_key e.parts) now)) r → IsDecision s e (add s e now) r
-decision_by s e now r d h = subst (λ z. IsDecision s e z r) (sym (add-by s e now d)) h
+-- ---- intervals of one value each
+-- They end with the key with which they start.
+single-key : (parts : List Interval) → list_all (λ part. part.low == part.high) parts ≡ true → end_key parts ≡ start_key parts
+single-key [] h = refl
+single-key (p ∷ parts) h =
+    let a = and_parts (p.low == p.high) (list_all (λ part. part.low == part.high) parts) h in
+    ap (λ v. v ∷ end_key parts) (from-equal p.low p.high a.0) ∙ ap (λ vs. p.low ∷ vs) (single-key parts a.1)
 
--- In a disjoint set the place of the element that is there already decides.
-pub decision_apart : (s : State) (e : NewElement) (now : ℕ) (r : Result Decision ChangeError) → s.disjoint ≡ true
+-- Where no element holds it, none is in the way.
+pub single-way : (s : State) (parts : List Interval) (now : ℕ) → list_all (λ part. part.low == part.high) parts ≡ true → place s (start_key parts) now ≡ None
+    → by_way s parts (place s (end_key parts) now) ≡ by_size s parts (is_full s)
+single-way s parts now one none = ap (λ key. by_way s parts (place s key now)) (single-key parts one) ∙ ap (by_way s parts) none
+
+-- They share a key with others exactly where these hold it.
+single-shares : (parts others : List Interval) → list_all (λ part. part.low == part.high) others ≡ true → parts_share parts others ≡ parts_hold parts (start_key others)
+single-shares [] others h = refl
+single-shares (p ∷ parts) [] h = refl
+single-shares (p ∷ parts) (o ∷ others) h =
+    let a = and_parts (o.low == o.high) (list_all (λ part. part.low == part.high) others) h in
+    ap (λ v. (nat_le p.low v && nat_le o.low p.high) && parts_share parts others) (from-equal o.low o.high a.0)
+    ∙ ap (λ t. (nat_le p.low o.low && nat_le o.low p.high) && t) (single-shares parts others a.1)
+
+-- So the first element that shares a key with them is the first that holds it.
+single-place : (parts : List Interval) (now : ℕ) (es : List Element) → list_all (λ part. part.low == part.high) parts ≡ true
+    → position (is_sharing parts now) es ≡ position (answers (start_key parts) now) es
+single-place parts now [] one = refl
+single-place parts now (e ∷ es) one =
+    position-cons (is_sharing parts now) e es
+    ∙ ap (λ t. cond (live e now && t) (Some 0) (option_map (λ i. 1 + i) (position (is_sharing parts now) es))) (single-shares e.parts parts one)
+    ∙ ap (λ o. cond (answers (start_key parts) now e) (Some 0) (option_map (λ i. 1 + i) o)) (single-place parts now es one)
+    ∙ sym (position-cons (answers (start_key parts) now) e es)
+
+-- In a disjoint set, too, the element that holds their one key decides.
+single-decides : (s : State) (e : NewElement) (now : ℕ) (o : Option ℕ) → list_all (λ part. part.low == part.high) e.parts ≡ true → place s (start_key e.parts) now ≡ o
+    → by_twin s e now (same_at s e.parts o) ≡ by_start s e now o
+single-decides s e now None one is =
+    ap (λ z. add_new s e (by_way s e.parts z)) (single-place e.parts now s.elements one ∙ ap (λ key. place s key now) (sym (single-key e.parts one)))
+single-decides s e now (Some i) one is = go (same_parts (element_at s i).parts e.parts) where
+  go : (t : Bool) → by_twin s e now (if t then Some i else None) ≡ at_start s i e.expiry t
+  go true = refl
+  go false = ap (λ z. add_new s e (by_way s e.parts z)) (single-place e.parts now s.elements one ∙ is)
+
+by-ends : (s : State) (e : NewElement) (now : ℕ) (t : Bool) → s.disjoint ≡ t → (not t || list_all (λ part. part.low == part.high) e.parts) ≡ true
+    → add s e now ≡ by_start s e now (place s (start_key e.parts) now)
+by-ends s e now false is h = add-by s e now is
+by-ends s e now true is h = add-apart s e now is ∙ single-decides s e now (place s (start_key e.parts) now) h refl
+
+-- ---- what is decided
+-- Where elements may share keys, and for one key alone, the places of the start key and the end key decide.
+pub decision_by : (s : State) (e : NewElement) (now : ℕ) (r : Result Decision ChangeError) → (not s.disjoint || list_all (λ part. part.low == part.high) e.parts) ≡ true
+    → IsDecision s e (by_start s e now (place s (start_key e.parts) now)) r → IsDecision s e (add s e now) r
+decision_by s e now r d h = subst (λ z. IsDecision s e z r) (sym (by-ends s e now s.disjoint refl d)) h
+
+-- Else the place of the element that is there already decides.
+pub decision_apart : (s : State) (e : NewElement) (now : ℕ) (r : Result Decision ChangeError) → (not s.disjoint || list_all (λ part. part.low == part.high) e.parts) ≡ false
     → IsDecision s e (by_twin s e now (twin_place s e.parts now)) r → IsDecision s e (add s e now) r
-decision_apart s e now r d h = subst (λ z. IsDecision s e z r) (sym (add-apart s e now d)) h
+decision_apart s e now r d h = go s.disjoint refl d where
+  go : (t : Bool) → s.disjoint ≡ t → (not t || list_all (λ part. part.low == part.high) e.parts) ≡ false → IsDecision s e (add s e now) r
+  go false is d = absurd (cc d)
+  go true is d = subst (λ z. IsDecision s e z r) (sym (add-apart s e now is)) h
 
 -- The element that is there already, or that none is, decides.
 pub decision_twin : (s : State) (e : NewElement) (now : ℕ) (o : Option ℕ) (r : Result Decision ChangeError) → o ≡ twin_place s e.parts now
@@ -133,19 +185,6 @@ pub refused : (s : State) (e : NewElement) (now : ℕ) (r : Result Came ChangeEr
     → IsDecision s e (add s e now) (Err error) → IsAnswer (add s e now) r s s
 refused s e now (Ok came) error is h = absurd is
 refused s e now (Err f) error is h = subst (λ z. IsAnswer (add s e now) (Err z) s s) (sym is) (refused_as s e now error h)
-
--- ---- intervals of one value each
--- They end with the key with which they start.
-single-key : (parts : List Interval) → list_all (λ part. part.low == part.high) parts ≡ true → end_key parts ≡ start_key parts
-single-key [] h = refl
-single-key (p ∷ parts) h =
-    let a = and_parts (p.low == p.high) (list_all (λ part. part.low == part.high) parts) h in
-    ap (λ v. v ∷ end_key parts) (from-equal p.low p.high a.0) ∙ ap (λ vs. p.low ∷ vs) (single-key parts a.1)
-
--- Where no element holds it, none is in the way.
-pub single-way : (s : State) (parts : List Interval) (now : ℕ) → list_all (λ part. part.low == part.high) parts ≡ true → place s (start_key parts) now ≡ None
-    → by_way s parts (place s (end_key parts) now) ≡ by_size s parts (is_full s)
-single-way s parts now one none = ap (λ key. by_way s parts (place s key now)) (single-key parts one) ∙ ap (by_way s parts) none
 
 -- ---- the keys of intervals that fit
 lt-from : (m n k : ℕ) → nat_le m n ≡ true → nat_lt n k ≡ true → nat_lt m k ≡ true

@@ -16,6 +16,7 @@ pub mod Renewal
 pub mod FusedLaws
 pub mod SpanLaws
 pub mod RunLaws
+pub mod FewLaws
 pub mod Shrinking
 pub mod Purging
 pub mod Leaving

@@ -13,8 +13,9 @@ use Rattle.set_model.specs.Kind.{bits_of}
 use Rattle.set_model.specs.Key.{parts_fit}
 use Rattle.set_model.specs.declared.kind.Interval.{Interval}
 use Rattle.set_model.specs.SetState.{State, field_rules, element_at, exact_place, removed, without_at}
+use Rattle.set_model.specs.Runs.{without_run}
 use Rattle.set_tables.specs.declared.Span.{Span}
-use Rattle.set_tables.specs.Rows.{without, spans_without, ends_without}
+use Rattle.set_tables.specs.Rows.{spans_without, ends_without}
 use Rattle.set_tables.specs.Tables.{split, field_spans, last_ends}
 use Rattle.set_tables.proofs.UpdateLaws.{rules-without, spans-without, ends-without, spans-later, ends-later}
 use Rattle.pipapo_image.specs.declared.index.Index.{Index}
@@ -108,7 +109,7 @@ droppable kinds es index i runs others image h r o own =
     }
 
 -- ---- after it
-length-without : {X : Type 0} (xs : List X) (first n : ℕ) → first + n ≤ length xs → length (without xs first n) + n ≡ length xs
+length-without : {X : Type 0} (xs : List X) (first n : ℕ) → first + n ≤ length xs → length (without_run xs first n) + n ≡ length xs
 length-without xs first n h =
     let a = length-append (take first xs) (drop (first + n) xs) in
     let b = length-take-le first xs (omega arith) in
@@ -116,12 +117,12 @@ length-without xs first n h =
     omega arith
 
 shrunk-table : (k : Kind) (rules : List Block) (run : Span) (t b : FieldTable) (o : Option FieldTable) → IsTableOf k rules t → IsOtherWithout run t o → IsShrunk run (chosen o t) b
-    → IsTableOf k (without rules run.first run.count) b
+    → IsTableOf k (without_run rules run.first run.count) b
 shrunk-table k rules run t b None s other g =
     let stands = g.stands rules s.stands in
     let m = s.stands.one_each in
     let q = g.rules in
-    let left : t.rules - run.count ≡ length (without rules run.first run.count) = (let e : t.rules - run.count ≡ b.rules = omega arith in e) ∙ sym stands.one_each in
+    let left : t.rules - run.count ≡ length (without_run rules run.first run.count) = (let e : t.rules - run.count ≡ b.rules = omega arith in e) ∙ sym stands.one_each in
     record {
       bits = g.bits ∙ s.bits;
       width = g.width ∙ other ∙ ap (λ z. width_of z (t.rules - run.count)) s.bits ∙ ap (λ z. width_of (bits_of k) z) left;
@@ -132,20 +133,20 @@ shrunk-table k rules run t b (Some u) s other g =
     let m = s.stands.one_each in
     let q = g.rules in
     let same = other.rules in
-    let left : t.rules - run.count ≡ length (without rules run.first run.count) = (let e : t.rules - run.count ≡ b.rules = omega arith in e) ∙ sym stands.one_each in
+    let left : t.rules - run.count ≡ length (without_run rules run.first run.count) = (let e : t.rules - run.count ≡ b.rules = omega arith in e) ∙ sym stands.one_each in
     record {
       bits = g.bits ∙ other.bits ∙ s.bits;
       width = g.width ∙ other.width ∙ ap (λ z. width_of z (t.rules - run.count)) s.bits ∙ ap (λ z. width_of (bits_of k) z) left;
       stands = stands;
     }
 
-rules-left : (kinds : List Kind) (es : List Element) (i f : ℕ) (run : Span) → i < length es → IsElementRun kinds es i f run → without (field_rules kinds f es) run.first run.count ≡ field_rules kinds f (remove es i)
+rules-left : (kinds : List Kind) (es : List Element) (i f : ℕ) (run : Span) → i < length es → IsElementRun kinds es i f run → without_run (field_rules kinds f es) run.first run.count ≡ field_rules kinds f (remove es i)
 rules-left kinds es i f run h r =
     let e = get_or es i no_element in
     let count = run-count kinds es i f run h r in
-    ap (λ z. without (field_rules kinds f es) z run.count) r.begins
-    ∙ ap (λ z. without (field_rules kinds f es) (length (field_rules kinds f (take i es))) z) count
-    ∙ ap (λ z. without (field_rules kinds f z) (length (field_rules kinds f (take i es))) (length (split kinds f e))) (apart es i no_element h)
+    ap (λ z. without_run (field_rules kinds f es) z run.count) r.begins
+    ∙ ap (λ z. without_run (field_rules kinds f es) (length (field_rules kinds f (take i es))) z) count
+    ∙ ap (λ z. without_run (field_rules kinds f z) (length (field_rules kinds f (take i es))) (length (split kinds f e))) (apart es i no_element h)
     ∙ rules-without (split kinds f) (take i es) (drop (suc i) es) e
 
 -- the elements' tables, without those of one

@@ -1,6 +1,6 @@
 ghost use Rattle.std.specs.Prelude.{◌≡◌, ◌+◌, ◌≤◌, ◌<◌, true, length, All, OnOk, OnErr, IfOk, IfSome};
 ghost use Rattle.set_model.specs.Key.{key_fits, parts_fit};
-ghost use Rattle.set_model.specs.SetState.{place, empty_set, cleared, element_at};
+ghost use Rattle.set_model.specs.SetState.{place, empty_set, cleared, element_at, rules_limit};
 ghost use Rattle.pipapo_image.specs.Image.Found.{found, found_at, IsPlace};
 
 pub(crate) mod append;
@@ -10,6 +10,7 @@ pub(crate) mod insert;
 pub(crate) mod keys;
 pub(crate) mod purge;
 pub(crate) mod runs;
+pub(crate) mod sharing;
 
 use crate::index::Index;
 use crate::index::scratch::Scratch;
@@ -90,6 +91,24 @@ impl SetImage {
         Ok(image)
     }
 
+    /// The same set once more. It shares the pages of the tables and of the elements that were settled
+    /// ([`SetImage::settle`]). The others are copied, but for the elements' intervals and comments.
+    ///
+    /// # Errors
+    /// `Memory` if there is none left.
+    pub fn copy(&self, alloc: Global) -> Result<SetImage, Memory>
+        ensures { IfOk result (λ set. set ≡ self.now) }
+    {
+        Ok(SetImage {
+            kinds: self.kinds.copy(alloc)?,
+            size: self.size,
+            disjoint: self.disjoint,
+            index: self.index.copy(alloc)?,
+            elements: self.elements.copy(alloc)?,
+            next: self.next,
+        })
+    }
+
     /// What each field of a key is.
     pub fn kinds(&self) -> &Kinds
         ensures { result.now ≡ self.now.kinds }
@@ -104,10 +123,12 @@ impl SetImage {
         self.disjoint
     }
 
-    /// The elements in order of insertion. Their intervals fit the kinds.
+    /// The elements in order of insertion. Their intervals fit the kinds. There are at most 1,048,576,
+    /// since each has a rule in each field.
     pub fn elements(&self) -> &TimedElements
         ensures same { result.now ≡ self.now.elements }
         ensures fit { All (λ e. parts_fit self.now.kinds e.parts ≡ true) self.now.elements }
+        ensures few { length self.now.elements ≤ rules_limit }
     {
         &self.elements
     }

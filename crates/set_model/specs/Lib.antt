@@ -1,5 +1,6 @@
 pub mod Contents
 pub mod Lent
+pub mod Runs
 pub mod Kind
 pub mod Key
 pub mod Blocks

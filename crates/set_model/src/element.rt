@@ -1,4 +1,4 @@
-ghost use Rattle.std.specs.Prelude.{◌≡◌, ◌<◌, length, slice_get, Some, slice_set};
+ghost use Rattle.std.specs.Prelude.{◌≡◌, ◌-◌, ◌<◌, ◌^◌, length, slice_get, Some, slice_set, unwrap_or};
 ghost use Rattle.set_model.specs.Expiry.{lives, renewed_at};
 
 use crate::kind::Interval;
@@ -68,6 +68,13 @@ pub fn is_live(expiry: Option<u64>, now: u64) -> bool
         None => true,
         Some(moment) => now < moment,
     }
+}
+
+/// The moment that an expiry stands for, in milliseconds: the last one there is where there is none.
+pub fn expiry_moment(expiry: Option<u64>) -> u64
+    ensures { result ≡ unwrap_or expiry (2 ^ 64 - 1) }
+{
+    expiry.unwrap_or(u64::MAX)
 }
 
 /// The elements of a set, in order of insertion.

@@ -18,7 +18,7 @@ mod script;
 mod shared;
 
 pub use block::Block;
-pub use element::{Comment, Element, Elements, NewElement, Parts, is_live};
+pub use element::{Comment, Element, Elements, NewElement, Parts, expiry_moment, is_live};
 pub use fitting::{fits, is_below, is_good, parts_fit};
 pub use kind::{Interval, Key, Kind, Kinds};
 pub use listed::{Duplicate, Listed};
@@ -26,4 +26,4 @@ pub use memory::Memory;
 pub use packet::{Found, Keys, Packet, Packets, Verdict};
 pub use report::{Event, Events, Line, Lines, Why};
 pub use script::{Family, Name, Schema, Script, Sections, SetDecl, Step, Steps, Verb};
-pub use shared::Shared;
+pub use shared::{Contents, Shared};

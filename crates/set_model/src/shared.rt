@@ -6,8 +6,8 @@ use std::alloc::Global;
 use std::marker::Model;
 use std::sync::Arc;
 
-/// Where the items of a `Shared` list stand: in the list itself while it is built, or in one place
-/// that all its copies point to.
+/// Where the items of a list stand whose copies may share them: in the list itself, or in one place that
+/// all its copies point to.
 #[derive(Drop)]
 pub enum Contents<T> {
     Own(Vec<T>),

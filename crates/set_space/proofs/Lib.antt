@@ -1,6 +1,5 @@
 pub mod KeptItems
 pub mod KeptSets
-pub mod FewLaws
 pub mod GapLaws
 pub mod LazyLaws
 pub mod Refusals

@@ -22,15 +22,6 @@ pub(crate) struct LazyImage {
     left: u64,
 }
 
-/// A law, by what two calls that do nothing say: an image has fewer than 2^32 elements, since each has a
-/// rule in the last field.
-fn few_elements(image: &SetImage)
-    ensures { length image.now.elements < 2 ^ 32 }
-{
-    image.elements();
-    image.index().ends.len();
-}
-
 impl LazyImage {
     /// A set that is its image.
     pub(crate) fn new(image: SetImage) -> LazyImage
@@ -117,7 +108,6 @@ impl LazyImage {
         ensures count { result ≡ count_by (is_expired now) (set_of self.now).elements }
         ensures few { result < 2 ^ 32 }
     {
-        few_elements(&self.image);
         self.image.elements().count_leaving(self.passed, now)
     }
 

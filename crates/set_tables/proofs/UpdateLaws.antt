@@ -8,9 +8,10 @@ use Rattle.std.proofs.lemmas.List.Elements.{All-append, All-replicate}
 use Rattle.std.specs.Prelude.{All}
 use Rattle.set_model.specs.declared.element.Element.{Element}
 use Rattle.set_model.specs.declared.block.Block.{Block}
+use Rattle.set_model.specs.Runs.{without_run}
 use Rattle.set_tables.specs.declared.Span.{Span}
 use Rattle.set_tables.specs.declared.End.{End}
-use Rattle.set_tables.specs.Rows.{without, lowered, lowered_place, spans_without, ends_without, end_renewed, ends_renewed}
+use Rattle.set_tables.specs.Rows.{lowered, lowered_place, spans_without, ends_without, end_renewed, ends_renewed}
 use Rattle.set_tables.specs.Tables.{spans, ends}
 
 pub length-spans : (here next : Element → List Block) (from : ℕ) (es : List Element) → length (spans here next from es) ≡ length (flat_map here es)
@@ -74,9 +75,9 @@ drop-front : {X : Type 0} (p m q : List X) (n k : ℕ) → length p ≡ n → le
 drop-front p m q n k h g = ap (drop (n + k)) (sym (append_assoc p m q)) ∙ drop_at (p ++ m) q (n + k) (length-append p m ∙ (let e : length p + length m ≡ n + k = omega arith in e))
 
 pub rules-without : (here : Element → List Block) (before after : List Element) (e : Element)
-    → without (flat_map here (before ++ e ∷ after)) (length (flat_map here before)) (length (here e)) ≡ flat_map here (before ++ after)
+    → without_run (flat_map here (before ++ e ∷ after)) (length (flat_map here before)) (length (here e)) ≡ flat_map here (before ++ after)
 rules-without here before after e =
-    ap (λ z. without z (length (flat_map here before)) (length (here e))) (flat_map-append here before (e ∷ after))
+    ap (λ z. without_run z (length (flat_map here before)) (length (here e))) (flat_map-append here before (e ∷ after))
     ∙ ap (λ z. z ++ drop (length (flat_map here before) + length (here e)) (flat_map here before ++ (here e ++ flat_map here after))) (take-front (flat_map here before) (here e) (flat_map here after) _ refl)
     ∙ ap (λ z. flat_map here before ++ z) (drop-front (flat_map here before) (here e) (flat_map here after) _ _ refl refl)
     ∙ sym (flat_map-append here before after)

@@ -34,10 +34,6 @@ is_led now p = p.1 && lives p.0.expiry now
 abbrev pub led_to : List End → List Bool → ℕ → Option ℕ
 led_to ends row now = option_map (λ p. p.0.place) (find (is_led now) (zip ends row))
 
--- the list without the n items from `first` on
-abbrev pub without : {X : Type 0} → List X → ℕ → ℕ → List X
-without xs first n = take first xs ++ drop (first + n) xs
-
 -- a span that begins k rules lower
 abbrev pub lowered : ℕ → Span → Span
 lowered k s = record { first = s.first - k; count = s.count }

@@ -3,7 +3,7 @@ use Rattle.std.proofs.Common.{◌≡◌, refl, sym, ◌∙◌, ap, ℕ, zero, su
 use Rattle.std.specs.Prelude.{insert, remove}
 use Rattle.std.proofs.lemmas.Bool.{cases_lt}
 use Rattle.std.proofs.Math.ListN.{set}
-use Rattle.std.proofs.lemmas.List.{get_or_append_left, get_or-append_right, set-append_left, set-append_right, take-append-le, take-append-drop, take_all}
+use Rattle.std.proofs.lemmas.List.{get_or_append_left, get_or-append_right, set-append_left, set-append_right, take-append-le, take-append-drop}
 use Rattle.std.proofs.Math.Seq.{take-append-add}
 use Rattle.std.proofs.lemmas.List.Edits.{insert-append_left, insert-append_right, length-remove}
 use Rattle.std.proofs.lemmas.List.Elements.{All-nil, All-cons, All-head, All-tail}
@@ -23,6 +23,10 @@ module _ {X : Type 0} where
       let h : length (items_in ls last) ≡ 512 * length ls + length last = items-length ls last (All-tail IsWhole l ls whole) in
       let e : length (items_in (l ∷ ls) last) ≡ length l.items + length (items_in ls last) = ap length (first l ls last) ∙ length-append l.items (items_in ls last) in
       omega arith
+
+  -- a list in pages has as many items as it counts
+  pub items_counted : (pages : List (PageOf X)) (last : List X) (len : ℕ) → IsPaged pages last len → length (items_in pages last) ≡ len
+  items_counted pages last len paged = omega (arith, items-length pages last paged.whole, paged.counted)
 
   page-get : (pages : List (PageOf X)) (last : List X) (p k i : ℕ) (m : PageOf X) (d : X) → All IsWhole pages → p < length pages → k < 512 → i ≡ 512 * p + k
       → get_or (items_in pages last) i d ≡ get_or (get_or pages p m).items k d

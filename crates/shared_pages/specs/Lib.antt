@@ -1,2 +1,2 @@
 pub mod Paged
-pub mod Contents
+pub mod Room

@@ -1,4 +1,4 @@
-ghost use Rattle.std.specs.Prelude.{◌≡◌, ◌<◌, ◌≤◌, ◌+◌, ◌*◌, ◌/◌, [], ◌∷◌, ◌++◌, true, length, map, All, IfOk, OnOk, OnErr, slice_get, slice_set, insert, remove, max, Some};
+ghost use Rattle.std.specs.Prelude.{◌≡◌, ◌<◌, ◌≤◌, ◌+◌, ◌-◌, ◌*◌, ◌/◌, ◌^◌, [], ◌∷◌, ◌++◌, true, length, map, All, IfOk, OnOk, OnErr, slice_get, slice_set, insert, remove, max, vec_capacity, Some};
 ghost use Rattle.shared_pages.specs.Paged.{items_in, owns_of, AreOwn, AreCommon, IsWhole};
 
 use crate::PAGE;
@@ -44,6 +44,7 @@ impl<T> Pages<T> {
     }
 
     /// How many items there are.
+    #[tactic(auto, using(crate::proofs::PageLaws::items_counted))]
     #[inline(always)]
     pub fn len(&self) -> u64
         ensures { result ≡ length self.now }
@@ -72,13 +73,12 @@ impl<T: Duplicate + Drop> Pages<T> {
     ///
     /// # Errors
     /// `Memory` if there is none left. The list is as it was.
+    #[tactic(auto, using(crate::proofs::PageLaws::items_counted))]
     pub fn push(&mut self, item: T) -> Result<(), Memory>
+        requires { length self.old < 2 ^ 64 - 1 }
         ensures ok { OnOk result (self.new ≡ self.old ++ item ∷ []) }
         ensures err { OnErr result (self.new ≡ self.old) }
     {
-        if self.len == u64::MAX {
-            return Err(Memory);
-        }
         if self.last.as_slice().len() < PAGE {
             self.last.push(self.alloc, item)?;
         } else {
@@ -200,6 +200,7 @@ fn own_pages<T: Duplicate + Drop>(
 /// `Memory` if there is none left. The items are as they were.
 pub fn settle_pages<T: Drop>(alloc: Global, pages: &mut Vec<Page<T>>) -> Result<(), Memory>
     ensures items { map (λ page. page.items) pages.new.items ≡ map (λ page. page.items) pages.old.items }
+    ensures room { vec_capacity pages.new ≡ vec_capacity pages.old }
     ensures common { OnOk result (AreCommon (length pages.new.items) pages.new.items) }
 {
     'pages: for k in 0..pages.len() {
@@ -214,6 +215,7 @@ fn take_out<T>(whole: &mut Vec<Page<T>>, last: &mut Page<T>, i: usize) -> T
     requires whole { All IsWhole whole.old.items }
     requires own { AreOwn (i / 512) whole.old.items }
     requires last { last.old.own ≡ true }
+    requires few { length last.old.items ≤ 512 }
     requires filled { 0 < length last.old.items }
     requires place { i < length (items_in whole.old.items last.old.items) }
     ensures item { insert (items_in whole.new.items last.new.items) i result ≡ items_in whole.old.items last.old.items }
@@ -237,6 +239,7 @@ fn take_behind<T>(whole: &mut Vec<Page<T>>, last: &mut Page<T>, page: usize) -> 
     requires whole { All IsWhole whole.old.items }
     requires own { AreOwn page whole.old.items }
     requires last { last.old.own ≡ true }
+    requires few { length last.old.items ≤ 512 }
     requires filled { 0 < length last.old.items }
     ensures item { insert (items_in whole.new.items last.new.items) (512 * page + 512) result ≡ items_in whole.old.items last.old.items }
     ensures whole { All IsWhole whole.new.items }

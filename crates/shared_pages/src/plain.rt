@@ -1,11 +1,11 @@
-ghost use Rattle.std.specs.Prelude.{◌≡◌, ℕ, ◌<◌, ◌≤◌, true, length, map, get_or, IfOk, OnOk};
+ghost use Rattle.std.specs.Prelude.{◌≡◌, ℕ, ◌<◌, ◌≤◌, true, length, map, get_or, vec_capacity, IfOk, OnOk};
 ghost use Rattle.shared_pages.specs.Paged.{owns_of};
 
 use crate::page::Page;
 use set_model::Memory;
 use std::alloc::Global;
 
-/// The pages of plain items once more: one count for each that was settled.
+/// The pages of plain items once more: one count for each that was settled. The list has room for no others.
 ///
 /// # Errors
 /// `Memory` if there is none left.
@@ -13,16 +13,18 @@ pub fn copy_plain_pages<T: Copy + Drop>(
     alloc: Global,
     pages: &[Page<T>],
 ) -> Result<Vec<Page<T>>, Memory>
-    ensures { IfOk result (λ others. others.items ≡ pages.now) }
+    ensures pages { IfOk result (λ others. others.items ≡ pages.now) }
+    ensures room { IfOk result (λ others. vec_capacity others ≡ length pages.now) }
 {
     let mut others = Vec::with_capacity(alloc, pages.len())?;
     'pages: for page in pages {
-        others.push(page.copy_plain(alloc)?)?;
+        others.push_reserved(page.copy_plain(alloc)?);
     }
     Ok(others)
 }
 
-/// Makes the pages of plain items from page `from` up to page `to` this list's own.
+/// Makes the pages of plain items from page `from` up to page `to` this list's own. The list has room for
+/// as many pages as before.
 ///
 /// # Errors
 /// `Memory` if there is none left. The items are as they were, and what was own still is.
@@ -35,6 +37,7 @@ pub fn own_plain_pages<T: Copy + Drop>(
     requires { to ≤ length pages.old.items }
     ensures items { map (λ page. page.items) pages.new.items ≡ map (λ page. page.items) pages.old.items }
     ensures own { OnOk result ((k : ℕ) → from ≤ k → k < to → get_or (owns_of pages.new.items) k true ≡ true) }
+    ensures room { vec_capacity pages.new ≡ vec_capacity pages.old }
     ensures kept { (k : ℕ) → get_or (owns_of pages.old.items) k true ≡ true → get_or (owns_of pages.new.items) k true ≡ true }
 {
     'pages: for k in from..to {

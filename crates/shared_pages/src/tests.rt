@@ -11,11 +11,19 @@ fn number(alloc: Global, n: u64) -> Result<Shared<u64>, Memory> {
     Ok(one)
 }
 
+/// Adds a number at the end, if there is room for one more.
+fn push(alloc: Global, numbers: &mut Numbers, n: u64) -> Result<(), Memory> {
+    if numbers.len() < u64::MAX {
+        numbers.push(number(alloc, n)?)?;
+    }
+    Ok(())
+}
+
 /// The numbers below `n`, in order.
 fn below(alloc: Global, n: u64) -> Result<Numbers, Memory> {
     let mut numbers = Pages::new(alloc);
     for k in 0..n {
-        numbers.push(number(alloc, k)?)?;
+        push(alloc, &mut numbers, k)?;
     }
     Ok(numbers)
 }
@@ -72,7 +80,7 @@ fn copies_live_on_beside_each_other(rt: HostRuntime) -> Result<(), Fail> {
         let mut numbers = below(alloc, n)?;
         numbers.settle()?;
         let mut longer = numbers.copy(alloc)?;
-        longer.push(number(alloc, n)?)?;
+        push(alloc, &mut longer, n)?;
         for i in [0u64, 510, 511, 512, 513, 1023, 1024] {
             longer.settle()?;
             let mut shorter = longer.copy(alloc)?;

@@ -18,9 +18,7 @@ pub fn new_page(alloc: Global, bits: u32) -> Result<Page<u64>, Memory>
     ensures lines { IfOk result (λ page. page.items ≡ replicate (bits / 8 * 256) 0) }
     ensures own { IfOk result (λ page. page.own ≡ true) }
 {
-    let mut lines = Vec::new(alloc);
-    lines.resize(bits as usize / 8 * 256, 0u64)?;
-    Ok(Page::from_vec(lines))
+    Page::filled(alloc, 0, bits as usize / 8 * 256)
 }
 
 /// The words that may have a rule which holds the value: those that are marked for each of its bytes, or

@@ -1,4 +1,4 @@
-ghost use Rattle.std.specs.Prelude.{◌≡◌, ◌-◌, ◌<◌, ◌^◌, ◌==◌, ◌&&◌, true, false, List, length, Some, None, Ok};
+ghost use Rattle.std.specs.Prelude.{◌≡◌, ◌-◌, ◌<◌, ◌^◌, ◌==◌, ◌&&◌, ◌||◌, not, true, false, List, length, Some, None, Ok};
 ghost use Rattle.std.specs.List.{list_all, zip};
 ghost use Rattle.set_model.specs.Key.{parts_fit, start_key, end_key, same_parts};
 ghost use Rattle.set_model.specs.SetState.{add, element_at, place, twin_place, sharing_place, is_full, crowded_field};
@@ -79,11 +79,19 @@ impl SetImage {
         requires { parts_fit self.now.kinds element.now.parts ≡ true }
         ensures { IsDecision self.now element.now (add self.now element.now now) result }
     {
-        if self.disjoint {
-            self.decide_apart(alloc, element, now, scratch)
+        if self.is_by_ends(&element.parts) {
+            self.decide_by_ends(alloc, element, now, scratch)
         } else {
-            self.decide_overlapping(alloc, element, now, scratch)
+            self.decide_apart(alloc, element, now, scratch)
         }
+    }
+
+    /// Whether only elements that hold the start key or the end key can be in the way: where others may
+    /// share keys, and where the intervals hold one key alone.
+    fn is_by_ends(&self, parts: &Parts) -> bool
+        ensures { result ≡ (not self.now.disjoint || list_all (λ part. part.low == part.high) parts.now) }
+    {
+        !self.disjoint || is_single(parts.as_slice())
     }
 
     /// Decides where no two live elements may share a key.
@@ -106,9 +114,9 @@ impl SetImage {
         }
     }
 
-    /// Decides where elements may share keys.
+    /// Decides where only elements that hold the start key or the end key can be in the way.
     #[tactic(auto, using(crate::proofs::AddLaws::decides))]
-    fn decide_overlapping(
+    fn decide_by_ends(
         &self,
         alloc: Global,
         element: &NewElement,

@@ -30,7 +30,8 @@ impl SetImage {
     {
         let count = self.elements.count_expired(now);
         if count > 0 {
-            let kept = self.live_part(alloc, now)?;
+            let mut kept = self.live_part(alloc, now)?;
+            kept.find_soonest(None);
             *self = kept;
         }
         Ok(count)
@@ -61,7 +62,6 @@ impl SetImage {
         'places: for k in 0..count {
             kept.remove_expired_at(alloc, count - 1 - k, now)?;
         }
-        kept.find_soonest(None);
         Ok(kept)
     }
 

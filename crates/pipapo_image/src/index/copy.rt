@@ -6,7 +6,6 @@ ghost use Rattle.pipapo_image.specs.Index.Built.{Built};
 ghost use Rattle.pipapo_image.specs.Index.Grow.{IsKept};
 ghost use Rattle.pipapo_image.specs.Index.Copied.{AreFieldsAgain, AreMapsAgain};
 
-use crate::image::SetImage;
 use crate::index::{Fields, Index, Maps};
 use lookup_table::FieldTable;
 use mapping_table::MapTable;
@@ -55,26 +54,6 @@ impl Index {
             fields: fields_again(alloc, self.fields.as_slice())?,
             maps: maps_again(alloc, self.maps.as_slice())?,
             ends: self.ends.copy(alloc)?,
-        })
-    }
-}
-
-impl SetImage {
-    /// The same set once more. It shares the pages of the tables and of the elements that were settled
-    /// ([`SetImage::settle`]). The others are copied, but for the elements' intervals and comments.
-    ///
-    /// # Errors
-    /// `Memory` if there is none left.
-    pub fn copy(&self, alloc: Global) -> Result<SetImage, Memory>
-        ensures { IfOk result (λ set. set ≡ self.now) }
-    {
-        Ok(SetImage {
-            kinds: self.kinds.copy(alloc)?,
-            size: self.size,
-            disjoint: self.disjoint,
-            index: self.index.copy(alloc)?,
-            elements: self.elements.copy(alloc)?,
-            next: self.next,
         })
     }
 }

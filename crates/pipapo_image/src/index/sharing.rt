@@ -1,4 +1,4 @@
-ghost use Rattle.std.specs.Prelude.{◌≡◌, ◌+◌, ◌≤◌, ◌<◌, true, List, ℕ, length, position, All, get_or, option_map, find};
+ghost use Rattle.std.specs.Prelude.{◌≡◌, ◌+◌, ◌≤◌, ◌<◌, true, List, ℕ, length, position, All, get_or};
 ghost use Rattle.bit_rows.specs.Row.{at};
 ghost use Rattle.lookup_table.specs.declared.table.FieldTable.{FieldTable as Table};
 ghost use Rattle.lookup_table.specs.Rules.{Stands};
@@ -16,16 +16,15 @@ ghost use Rattle.set_tables.specs.Sharing.{shares_some, share_tests};
 ghost use Rattle.pipapo_image.specs.Index.Room.{HasRoomForRules};
 ghost use Rattle.pipapo_image.specs.Index.Walk.{IsWalk};
 ghost use Rattle.pipapo_image.specs.Index.Standing.{AreFieldsOf, AreMapsOf};
-ghost use Rattle.pipapo_image.specs.Index.Sharing.{AreIntervalsOf, IsSharingPlace, sharing_found};
+ghost use Rattle.pipapo_image.specs.Index.Sharing.{AreIntervalsOf};
 
-use crate::image::SetImage;
 use crate::index::scratch::Scratch;
 use crate::index::{Index, led};
 use bit_rows::BitRow;
 use lookup_table::FieldTable;
 use mapping_table::MapTable;
 use range_expand::Blocks;
-use set_model::{Found, Interval, Parts};
+use set_model::{Interval, Parts};
 
 impl Index {
     ghost use Rattle.pipapo_image.specs.Index.{IsShapedIndex, IsIndexOf};
@@ -50,32 +49,6 @@ impl Index {
             &mut scratch.sum,
         );
         led(&self.ends, row, now)
-    }
-}
-
-impl SetImage {
-    /// The first element of the list that is live at `now`, in milliseconds, and shares a key with
-    /// the intervals. `None` where there is none. It is found in the tables alone, and takes no
-    /// memory.
-    pub fn first_sharing(&self, parts: &Parts, now: u64, scratch: &mut Scratch) -> Option<Found>
-        requires { parts_fit self.now.kinds parts.now ≡ true }
-        ensures found { result ≡ sharing_found self.now parts.now now }
-        ensures first { option_map (λ found. found.id) result ≡ option_map (λ e. e.id) (find (is_sharing parts.now now) self.now.elements) }
-    {
-        self.found_at(self.sharing_place(parts, now, scratch))
-    }
-
-    /// The place of the first live element that shares a key with the intervals.
-    pub(crate) fn sharing_place(
-        &self,
-        parts: &Parts,
-        now: u64,
-        scratch: &mut Scratch,
-    ) -> Option<u64>
-        requires { parts_fit self.now.kinds parts.now ≡ true }
-        ensures { IsSharingPlace self.now parts.now now result }
-    {
-        self.index.find_sharing(parts, now, scratch)
     }
 }
 

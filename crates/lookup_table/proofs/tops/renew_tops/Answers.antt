@@ -7,6 +7,7 @@ pages-preserved c = record {
   tops = c.renew_top.ensures.tops;
   renewed = renewed-both c.args.from c.pages.p _ _ _ _ (omega arith) c.pages.invariant.renewed c.renew_top.ensures.renewed;
   own = c.renew_top.ensures.own ∙ c.pages.invariant.own;
+  room = c.renew_top.ensures.room ∙ c.pages.invariant.room;
 }
 
 pub returns-clause-renewed : goal.returns-clause-renewed

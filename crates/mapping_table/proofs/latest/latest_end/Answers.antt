@@ -21,7 +21,7 @@ ends-preserved c =
     let place : c.ends.i + 1 - 64 * w ≡ n + 1 = omega arith in
     let here = ap expiry_moment (get_or_from_slice_get ends c.ends.i c.at.result.now d c.at.ensures) in
     let next = latest-next ends w c.ends.i n d (omega arith) (omega arith) (omega arith) (omega arith) in
-    rw place (c.max-latest.ensures ∙ max-is c.ends.latest c.moment_of.result ∙ omega (arith, next, here, c.ends.invariant, c.moment_of.ensures))
+    rw place (c.max-latest.ensures ∙ max-is c.ends.latest c.expiry_moment.result ∙ omega (arith, next, here, c.ends.invariant, c.expiry_moment.ensures))
 
 pub returns : goal.returns
 returns c =

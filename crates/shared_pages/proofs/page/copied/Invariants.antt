@@ -1,5 +1,8 @@
-use Rattle.std.proofs.Common.{◌≡◌, take}
+use Rattle.std.proofs.Common.{◌≡◌, take, vec_capacity}
 use Rattle.shared_pages.proofs.page.copied.Given as goal
 
 abbrev pub invariant-items : goal.invariant-items
-invariant-items g l = l.all.items ≡ take l.item-index l.items
+invariant-items g l = record {
+  items : l.all.items ≡ take l.item-index l.items;
+  room : vec_capacity l.all ≡ vec_capacity l.initial.all;
+}

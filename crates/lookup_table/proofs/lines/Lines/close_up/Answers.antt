@@ -12,7 +12,7 @@ close_pages-requires-clause-order c =
     let n = rows-length c.self.inside.pages.items c.self.inside.len c.self.inside.count in
     let m = ap length e in
     let p = first-within c.self.inside.pages.items c.self.inside.len c.self.inside.count (c.args.first + c.args.n) (omega arith) (rw (← e) at c.requires.within) in
-    let t = c.self.invariant.within in
+    let t = c.self.invariant.lines.within in
     omega arith
 
 pub close_pages-requires-clause-places : goal.close_pages-requires-clause-places
@@ -21,8 +21,8 @@ close_pages-requires-clause-places c =
     let n = rows-length c.self.inside.pages.items c.self.inside.len c.self.inside.count in
     let m = ap length e in
     let p = first-within c.self.inside.pages.items c.self.inside.len c.self.inside.count (c.args.first + c.args.n) (omega arith) (rw (← e) at c.requires.within) in
-    let t = c.self.invariant.within in
-    let s = c.self.invariant.small in
+    let t = c.self.invariant.lines.within in
+    let s = c.self.invariant.lines.small in
     omega arith
 
 pub close_pages-requires-clause-own : goal.close_pages-requires-clause-own
@@ -41,7 +41,7 @@ overflow_sub-self c =
     let n = rows-length c.self.inside.pages.items c.self.inside.len c.self.inside.count in
     let m = ap length e in
     let p = first-within c.self.inside.pages.items c.self.inside.len c.self.inside.count (c.args.first + c.args.n) (omega arith) (rw (← e) at c.requires.within) in
-    let t = c.self.invariant.within in
+    let t = c.self.invariant.lines.within in
     omega arith
 
 pub invariant_of-self : goal.invariant_of-self
@@ -50,8 +50,8 @@ invariant_of-self c =
     let n = rows-length c.self.inside.pages.items c.self.inside.len c.self.inside.count in
     let m = ap length e in
     let p = first-within c.self.inside.pages.items c.self.inside.len c.self.inside.count (c.args.first + c.args.n) (omega arith) (rw (← e) at c.requires.within) in
-    let t = c.self.invariant.within in
-    closed-lines c.self.inside.count c.self.inside.len c.args.first c.args.n _ c.self.inside.pages.items c.close_pages.new.pages.items c.self.invariant p (omega arith) c.close_pages.ensures
+    let t = c.self.invariant.lines.within in
+    record { lines = closed-lines c.self.inside.count c.self.inside.len c.args.first c.args.n _ c.self.inside.pages.items c.close_pages.new.pages.items c.self.invariant.lines p (omega arith) c.close_pages.ensures.closed; full = omega (arith, c.close_pages.ensures.room, c.self.invariant.full, c.close_pages.ensures.closed.alike.long) }
 
 pub returns-clause-rows : goal.returns-clause-rows
 returns-clause-rows c =
@@ -59,5 +59,5 @@ returns-clause-rows c =
     let n = rows-length c.self.inside.pages.items c.self.inside.len c.self.inside.count in
     let m = ap length e in
     let p = first-within c.self.inside.pages.items c.self.inside.len c.self.inside.count (c.args.first + c.args.n) (omega arith) (rw (← e) at c.requires.within) in
-    let t = c.self.invariant.within in
-    rw (← e) (closed-rows c.self.inside.count c.self.inside.len c.args.first c.args.n _ c.self.inside.pages.items c.close_pages.new.pages.items c.self.invariant p (omega arith) c.close_pages.ensures)
+    let t = c.self.invariant.lines.within in
+    rw (← e) (closed-rows c.self.inside.count c.self.inside.len c.args.first c.args.n _ c.self.inside.pages.items c.close_pages.new.pages.items c.self.invariant.lines p (omega arith) c.close_pages.ensures.closed)

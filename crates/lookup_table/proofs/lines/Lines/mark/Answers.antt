@@ -1,4 +1,4 @@
-use Rattle.std.proofs.Common.{sym, ◌∙◌, ap, ◌/◌, length, get_or, arith, true}
+use Rattle.std.proofs.Common.{sym, ◌∙◌, ap, ◌/◌, length, get_or, arith, true, rules}
 use Rattle.lookup_table.specs.Lines.{Lined}
 use Rattle.lookup_table.proofs.LineLaws.{rows-length, page-long, lines-kept, rows-marked, place-within}
 use Rattle.lookup_table.proofs.WriteLaws.{owns-same, own-page}
@@ -10,7 +10,7 @@ index_mut-page-requires c =
     let n = rows-length c.self.inside.pages.items c.self.inside.len c.self.inside.count in
     let m = ap length e in
     let p = place-within c.self.inside.pages.items c.self.inside.len c.self.inside.count c.args.r (omega arith) (rw (← e) at c.requires.place) in
-    let t = c.self.invariant.within in
+    let t = c.self.invariant.lines.within in
     omega arith
 
 pub mark_lines-requires-clause-own : goal.mark_lines-requires-clause-own
@@ -19,7 +19,7 @@ mark_lines-requires-clause-own c =
     let n = rows-length c.self.inside.pages.items c.self.inside.len c.self.inside.count in
     let m = ap length e in
     let p = place-within c.self.inside.pages.items c.self.inside.len c.self.inside.count c.args.r (omega arith) (rw (← e) at c.requires.place) in
-    let t = c.self.invariant.within in
+    let t = c.self.invariant.lines.within in
     own-page c.self.inside.pages.items (c.args.r / 512) c.index_mut-page.result.now (omega arith) c.index_mut-page.ensures.value
     (ap (λ (v : Lined). get_or v.own (c.args.r / 512) true) c.self.view_is ∙ c.requires.own.each c.args.r (omega arith) (omega arith))
 
@@ -29,8 +29,8 @@ mark_lines-requires-clause-lines c =
     let n = rows-length c.self.inside.pages.items c.self.inside.len c.self.inside.count in
     let m = ap length e in
     let p = place-within c.self.inside.pages.items c.self.inside.len c.self.inside.count c.args.r (omega arith) (rw (← e) at c.requires.place) in
-    let t = c.self.invariant.within in
-    let l = page-long c.self.inside.pages.items c.self.inside.count c.self.inside.len (c.args.r / 512) c.index_mut-page.result.now c.self.invariant (omega arith) c.index_mut-page.ensures.value in
+    let t = c.self.invariant.lines.within in
+    let l = page-long c.self.inside.pages.items c.self.inside.count c.self.inside.len (c.args.r / 512) c.index_mut-page.result.now c.self.invariant.lines (omega arith) c.index_mut-page.ensures.value in
     let f = c.requires.within in
     omega arith
 
@@ -39,7 +39,7 @@ mark_lines-requires-clause-small c =
     let e = ap (λ (v : Lined). v.rows) c.self.view_is in
     let n = rows-length c.self.inside.pages.items c.self.inside.len c.self.inside.count in
     let m = ap length e in
-    let f = c.self.invariant.few in
+    let f = c.self.invariant.lines.few in
     let h = c.requires.within in
     omega arith
 
@@ -49,8 +49,8 @@ invariant_of-self c =
     let n = rows-length c.self.inside.pages.items c.self.inside.len c.self.inside.count in
     let m = ap length e in
     let p = place-within c.self.inside.pages.items c.self.inside.len c.self.inside.count c.args.r (omega arith) (rw (← e) at c.requires.place) in
-    let t = c.self.invariant.within in
-    lines-kept c.self.inside.pages.items c.self.inside.count c.self.inside.len c.args.from c.args.to c.args.r c.index_mut-page.result.now c.mark_lines.new.page c.self.invariant p c.index_mut-page.ensures.value c.mark_lines.ensures.marked
+    let t = c.self.invariant.lines.within in
+    record { lines = lines-kept c.self.inside.pages.items c.self.inside.count c.self.inside.len c.args.from c.args.to c.args.r c.index_mut-page.result.now c.mark_lines.new.page c.self.invariant.lines p c.index_mut-page.ensures.value c.mark_lines.ensures.marked; full = search rules }
 
 pub returns-clause-rows : goal.returns-clause-rows
 returns-clause-rows c =
@@ -58,9 +58,9 @@ returns-clause-rows c =
     let n = rows-length c.self.inside.pages.items c.self.inside.len c.self.inside.count in
     let m = ap length e in
     let p = place-within c.self.inside.pages.items c.self.inside.len c.self.inside.count c.args.r (omega arith) (rw (← e) at c.requires.place) in
-    let t = c.self.invariant.within in
+    let t = c.self.invariant.lines.within in
     let f = c.requires.within in
-    rw (← e) (rows-marked c.self.inside.pages.items c.self.inside.count c.self.inside.len c.args.from c.args.to c.args.r c.index_mut-page.result.now c.mark_lines.new.page c.self.invariant p (omega arith) c.index_mut-page.ensures.value c.mark_lines.ensures.marked)
+    rw (← e) (rows-marked c.self.inside.pages.items c.self.inside.count c.self.inside.len c.args.from c.args.to c.args.r c.index_mut-page.result.now c.mark_lines.new.page c.self.invariant.lines p (omega arith) c.index_mut-page.ensures.value c.mark_lines.ensures.marked)
 
 pub returns-clause-own : goal.returns-clause-own
 returns-clause-own c =
@@ -68,7 +68,7 @@ returns-clause-own c =
     let n = rows-length c.self.inside.pages.items c.self.inside.len c.self.inside.count in
     let m = ap length e in
     let p = place-within c.self.inside.pages.items c.self.inside.len c.self.inside.count c.args.r (omega arith) (rw (← e) at c.requires.place) in
-    let t = c.self.invariant.within in
+    let t = c.self.invariant.lines.within in
     let was = own-page c.self.inside.pages.items (c.args.r / 512) c.index_mut-page.result.now (omega arith) c.index_mut-page.ensures.value
     (ap (λ (v : Lined). get_or v.own (c.args.r / 512) true) c.self.view_is ∙ c.requires.own.each c.args.r (omega arith) (omega arith)) in
     owns-same c.self.inside.pages.items (c.args.r / 512) c.index_mut-page.result.now c.mark_lines.new.page c.index_mut-page.ensures.value (c.mark_lines.ensures.own ∙ sym was) ∙ ap (λ (v : Lined). v.own) c.self.view_is

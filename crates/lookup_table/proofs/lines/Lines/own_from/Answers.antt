@@ -1,3 +1,4 @@
+use Rattle.shared_pages.proofs.PageLaws.{copied-length}
 use Rattle.std.proofs.Common.{◌≡◌, sym, ◌∙◌, ap, length, arith}
 use Rattle.lookup_table.specs.Table.{bucket_at}
 use Rattle.lookup_table.specs.Lines.{Lined}
@@ -5,13 +6,13 @@ use Rattle.lookup_table.proofs.LineLaws.{rows-length, first-length, same-lines, 
 use Rattle.lookup_table.proofs.lines.Lines.own_from.Goals as goal
 
 pub invariant_of-self : goal.invariant_of-self
-invariant_of-self c = same-lines c.self.inside.pages.items c.own_plain_pages.new.pages.items c.self.inside.count c.self.inside.len c.own_plain_pages.ensures.items c.self.invariant
+invariant_of-self c = record { lines = same-lines c.self.inside.pages.items c.own_plain_pages.new.pages.items c.self.inside.count c.self.inside.len c.own_plain_pages.ensures.items c.self.invariant.lines; full = c.own_plain_pages.ensures.room ∙ c.self.invariant.full ∙ sym (copied-length c.own_plain_pages.new.pages.items c.self.inside.pages.items c.own_plain_pages.ensures.items) }
 
 pub returns-in_err-own_plain_pages-clause-rows : goal.returns-in_err-own_plain_pages-clause-rows
 returns-in_err-own_plain_pages-clause-rows c = same-rows c.self.inside.pages.items c.own_plain_pages.new.pages.items c.self.inside.len c.self.inside.count c.own_plain_pages.ensures.items ∙ ap (λ (v : Lined). v.rows) c.self.view_is
 
 pub invariant_of-self-2 : goal.invariant_of-self-2
-invariant_of-self-2 c = same-lines c.self.inside.pages.items c.own_plain_pages.new.pages.items c.self.inside.count c.self.inside.len c.own_plain_pages.ensures.items c.self.invariant
+invariant_of-self-2 c = record { lines = same-lines c.self.inside.pages.items c.own_plain_pages.new.pages.items c.self.inside.count c.self.inside.len c.own_plain_pages.ensures.items c.self.invariant.lines; full = c.own_plain_pages.ensures.room ∙ c.self.invariant.full ∙ sym (copied-length c.own_plain_pages.new.pages.items c.self.inside.pages.items c.own_plain_pages.ensures.items) }
 
 pub returns-clause-rows : goal.returns-clause-rows
 returns-clause-rows c = same-rows c.self.inside.pages.items c.own_plain_pages.new.pages.items c.self.inside.len c.self.inside.count c.own_plain_pages.ensures.items ∙ ap (λ (v : Lined). v.rows) c.self.view_is

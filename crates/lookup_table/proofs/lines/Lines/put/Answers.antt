@@ -19,7 +19,7 @@ put_line-requires-clause-places c =
     let m = ap length e in
     let line : c.args.j < c.self.inside.count = omega (arith, c.requires.row) in
     let long : length c.args.row.now.bits ≡ c.self.inside.len = c.requires.length ∙ ap (λ rs. length (bucket_at rs c.args.j).bits) (sym e) ∙ row-length c.self.inside.pages.items c.self.inside.len c.self.inside.count c.args.j line in
-    let t = c.self.invariant.within in
+    let t = c.self.invariant.lines.within in
     omega arith
 
 pub put_line-requires-clause-own : goal.put_line-requires-clause-own
@@ -34,8 +34,8 @@ invariant_of-self c =
     let m = ap length e in
     let line : c.args.j < c.self.inside.count = omega (arith, c.requires.row) in
     let long : length c.args.row.now.bits ≡ c.self.inside.len = c.requires.length ∙ ap (λ rs. length (bucket_at rs c.args.j).bits) (sym e) ∙ row-length c.self.inside.pages.items c.self.inside.len c.self.inside.count c.args.j line in
-    let t = c.self.invariant.within in
-    put-lines c.self.inside.count c.self.inside.len c.args.j c.args.row.now.bits c.self.inside.pages.items c.put_line.new.pages.items long c.self.invariant c.put_line.ensures
+    let t = c.self.invariant.lines.within in
+    record { lines = put-lines c.self.inside.count c.self.inside.len c.args.j c.args.row.now.bits c.self.inside.pages.items c.put_line.new.pages.items long c.self.invariant.lines c.put_line.ensures.put; full = c.put_line.ensures.room ∙ c.self.invariant.full ∙ sym c.put_line.ensures.put.alike.long }
 
 pub returns-clause-rows : goal.returns-clause-rows
 returns-clause-rows c =
@@ -44,5 +44,5 @@ returns-clause-rows c =
     let m = ap length e in
     let line : c.args.j < c.self.inside.count = omega (arith, c.requires.row) in
     let long : length c.args.row.now.bits ≡ c.self.inside.len = c.requires.length ∙ ap (λ rs. length (bucket_at rs c.args.j).bits) (sym e) ∙ row-length c.self.inside.pages.items c.self.inside.len c.self.inside.count c.args.j line in
-    let t = c.self.invariant.within in
-    rw (← e) (put-rows c.self.inside.count c.self.inside.len c.args.j c.args.row.now.bits c.self.inside.pages.items c.put_line.new.pages.items long line c.put_line.ensures)
+    let t = c.self.invariant.lines.within in
+    rw (← e) (put-rows c.self.inside.count c.self.inside.len c.args.j c.args.row.now.bits c.self.inside.pages.items c.put_line.new.pages.items long line c.put_line.ensures.put)

@@ -9,8 +9,8 @@ overflow_add-self c =
     let n = rows-length c.self.inside.pages.items c.self.inside.len c.self.inside.count in
     let m = ap length e in
     let r = raise-room c.self.inside.pages.items c.self.inside.len c.self.inside.count c.args.n (omega arith) (rw (← e) at c.requires.room) in
-    let s = c.self.invariant.small in
-    let w = c.self.invariant.within in
+    let s = c.self.invariant.lines.small in
+    let w = c.self.invariant.lines.within in
     omega arith
 
 pub invariant_of-self : goal.invariant_of-self
@@ -19,8 +19,8 @@ invariant_of-self c =
     let n = rows-length c.self.inside.pages.items c.self.inside.len c.self.inside.count in
     let m = ap length e in
     let r = raise-room c.self.inside.pages.items c.self.inside.len c.self.inside.count c.args.n (omega arith) (rw (← e) at c.requires.room) in
-    let w = c.self.invariant.within in
-    record { each = c.self.invariant.each; within = omega arith; small = c.self.invariant.small; few = c.self.invariant.few; past = λ j r h l. c.self.invariant.past j r h (omega arith) }
+    let w = c.self.invariant.lines.within in
+    record { lines = record { each = c.self.invariant.lines.each; within = omega arith; small = c.self.invariant.lines.small; few = c.self.invariant.lines.few; past = λ j r h l. c.self.invariant.lines.past j r h (omega arith) }; full = omega (arith, c.self.invariant.full) }
 
 pub returns-clause-rows : goal.returns-clause-rows
 returns-clause-rows c =
@@ -28,4 +28,4 @@ returns-clause-rows c =
     let n = rows-length c.self.inside.pages.items c.self.inside.len c.self.inside.count in
     let m = ap length e in
     let r = raise-room c.self.inside.pages.items c.self.inside.len c.self.inside.count c.args.n (omega arith) (rw (← e) at c.requires.room) in
-    rw (← e) (raised c.self.inside.pages.items c.self.inside.len c.self.inside.count c.args.n c.self.invariant r)
+    rw (← e) (raised c.self.inside.pages.items c.self.inside.len c.self.inside.count c.args.n c.self.invariant.lines r)

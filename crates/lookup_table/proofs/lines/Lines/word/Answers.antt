@@ -10,13 +10,13 @@ pub word_of-requires-clause-line : goal.word_of-requires-clause-line
 word_of-requires-clause-line c =
     let m = ap (λ (v : Lined). length v.rows) c.self.view_is in
     let n = rows-length c.self.inside.pages.items c.self.inside.len c.self.inside.count in
-    subst (HasLine c.args.j) (sym c.as_slice.ensures.value) (page-line c.self.inside.pages.items c.self.inside.count c.args.j c.self.invariant.each (omega arith))
+    subst (HasLine c.args.j) (sym c.as_slice.ensures.value) (page-line c.self.inside.pages.items c.self.inside.count c.args.j c.self.invariant.lines.each (omega arith))
 
 pub word_of-requires-clause-small : goal.word_of-requires-clause-small
 word_of-requires-clause-small c =
     let m = ap (λ (v : Lined). length v.rows) c.self.view_is in
     let n = rows-length c.self.inside.pages.items c.self.inside.len c.self.inside.count in
-    let f = c.self.invariant.few in
+    let f = c.self.invariant.lines.few in
     omega arith
 
 pub returns : goal.returns
@@ -24,6 +24,6 @@ returns c = λ k h.
     let e = ap (λ (v : Lined). v.rows) c.self.view_is in
     let m = ap length e in
     let n = rows-length c.self.inside.pages.items c.self.inside.len c.self.inside.count in
-    word-cell c.self.inside.pages.items c.self.inside.len c.self.inside.count c.args.j c.args.i c.word_of.result c.self.invariant (omega arith)
+    word-cell c.self.inside.pages.items c.self.inside.len c.self.inside.count c.args.j c.args.i c.word_of.result c.self.invariant.lines (omega arith)
     (c.word_of.ensures ∙ ap (λ ps. slice_index (words_at ps (c.args.i / 8)) (c.args.j * 8 + c.args.i % 8)) c.as_slice.ensures.value) k h
     ∙ ap (λ rs. cell rs c.args.j (64 * c.args.i + k)) e

@@ -5,7 +5,7 @@ use Rattle.lookup_table.proofs.lines.Lines.zeros.Goals as goal
 pub invariant_of-result : goal.invariant_of-result
 invariant_of-result c =
     let none : 512 * length c.new-pages.result.items < 2 ^ 32 = omega (arith, ap length c.new-pages.ensures.items) in
-    lines-zero _ _ _ _ c.new-pages.ensures.items c.add_pages.ensures.more c.requires (omega (arith, c.in_ok-add_pages.ensures.room, c.div_ceil.ensures)) (c.add_pages.ensures.small none)
+    record { lines = lines-zero _ _ _ _ c.new-pages.ensures.items c.add_pages.ensures.more c.requires.few (omega (arith, c.in_ok-add_pages.ensures.room, c.div_ceil.ensures)) (c.add_pages.ensures.small none); full = c.add_pages.ensures.full }
 
 pub returns-clause-long : goal.returns-clause-long
 returns-clause-long c = rows-length _ _ _

@@ -7,22 +7,22 @@ use Rattle.lookup_table.proofs.SummaryLaws.{few-rules, cells-raised, fresh-raise
 use Rattle.lookup_table.proofs.table.FieldTable.add_blocks.Goals as goal
 
 pub overflow_cast-count : goal.overflow_cast-count
-overflow_cast-count c = let few = few-rules _ _ _ (length c.args.added.now) _ _ c.args.self.now.shaped c.requires.spare c.room-room.ensures c.room-room.type_inv in omega arith
+overflow_cast-count c = let few = few-rules _ _ _ (length c.args.added.now) _ _ c.args.self.now.shaped c.requires.spare c.room-room.ensures.rows c.room-room.type_inv in omega arith
 
 pub mark_blocks-requires-clause-count : goal.mark_blocks-requires-clause-count
-mark_blocks-requires-clause-count c = few-rules _ _ _ (length c.args.added.now) _ _ c.args.self.now.shaped c.requires.spare c.room-room.ensures c.room-room.type_inv
+mark_blocks-requires-clause-count c = few-rules _ _ _ (length c.args.added.now) _ _ c.args.self.now.shaped c.requires.spare c.room-room.ensures.rows c.room-room.type_inv
 
 pub mark_blocks-requires-clause-shape : goal.mark_blocks-requires-clause-shape
 mark_blocks-requires-clause-shape c = raised-shape _ _ _ _ _ _ c.args.self.now.shaped c.raise.ensures.rows
 
 pub overflow_add-self : goal.overflow_add-self
-overflow_add-self c = let few = few-rules _ _ _ (length c.args.added.now) _ _ c.args.self.now.shaped c.requires.spare c.room-room.ensures c.room-room.type_inv in omega arith
+overflow_add-self c = let few = few-rules _ _ _ (length c.args.added.now) _ _ c.args.self.now.shaped c.requires.spare c.room-room.ensures.rows c.room-room.type_inv in omega arith
 
 pub mark_added-requires-clause-few : goal.mark_added-requires-clause-few
-mark_added-requires-clause-few c = few-rules _ _ _ (length c.args.added.now) _ _ c.args.self.now.shaped c.requires.spare c.room-room.ensures c.room-room.type_inv
+mark_added-requires-clause-few c = few-rules _ _ _ (length c.args.added.now) _ _ c.args.self.now.shaped c.requires.spare c.room-room.ensures.rows c.room-room.type_inv
 
 pub mark_added-requires-2-clause-few : goal.mark_added-requires-2-clause-few
-mark_added-requires-2-clause-few c = few-rules _ _ _ (length c.args.added.now) _ _ c.args.self.now.shaped c.requires.spare c.room-room.ensures c.room-room.type_inv
+mark_added-requires-2-clause-few c = few-rules _ _ _ (length c.args.added.now) _ _ c.args.self.now.shaped c.requires.spare c.room-room.ensures.rows c.room-room.type_inv
 
 pub mark_added-requires-clause-own : goal.mark_added-requires-clause-own
 mark_added-requires-clause-own c = λ r low high.
@@ -50,6 +50,8 @@ invariant_of-self c = record {
       c.mark_blocks.ensures.only c.mark_added.ensures.kept c.mark_added.ensures.marked;
   topped = summed-added _ _ _ _ _ _ _ _ _ _ c.args.self.now.shaped.groups c.args.self.now.topped (cells-both _ _ _ _ (cells-raised _ _ _ _ _ _ c.args.self.now.shaped c.raise.ensures.rows) c.mark_blocks.ensures.kept)
       c.mark_blocks.ensures.only c.mark_added-2.ensures.kept c.mark_added-2.ensures.marked;
+  full = omega (arith, c.mark_added.ensures.room, c.args.self.now.full, c.mark_added.ensures.kept.long);
+  full_tops = omega (arith, c.mark_added-2.ensures.room, c.args.self.now.full_tops, c.mark_added-2.ensures.kept.long);
 }
 
 pub returns-clause-room : goal.returns-clause-room

@@ -1,5 +1,5 @@
-use Rattle.std.proofs.Common.{rules, ◌≡◌, ◌∙◌, ap, ◌+◌, ◌≤◌, ◌*◌, ◌/◌, ◌++◌, take, drop, arith}
-use Rattle.std.proofs.lemmas.List.{take-append-drop}
+use Rattle.std.proofs.Common.{rules, ◌≡◌, ◌∙◌, ap, ◌+◌, ◌≤◌, ◌*◌, ◌/◌, ◌++◌, take, drop, arith, sym, length}
+use Rattle.std.proofs.lemmas.List.{take-append-drop, length-map}
 use Rattle.lookup_table.specs.Rows.{IsClosedUp, Each}
 use Rattle.lookup_table.proofs.RowsLaws.{closed-rooms}
 use Rattle.lookup_table.proofs.RuleLaws.{closed-shape, closed-stands}
@@ -53,6 +53,11 @@ invariant_of-self c = record {
       let within : 4096 * (c.args.first / 4096) ≤ c.args.self.now.rules = omega (arith, c.requires.within) in
       summed-renewed _ _ _ (4096 * (c.args.first / 4096)) _ _ _ _ _ _ (omega (arith, c.div_ceil-end.ensures, c.div_ceil.ensures)) (λ r h l. omega arith) (summed-weaker _ _ _ _ _ _ _ (omega (arith, c.div_ceil-end.ensures)) c.renew_pages.ensures.summed)
       (summed-kept _ _ _ _ _ _ _ _ within (cells-fewer _ _ _ _ before (cells-closed _ _ _ _ _ _ _ c.requires.within c.args.self.now.shaped c.close_up.ensures.rows)) c.args.self.now.topped) (rw c.as_slice.ensures.value at c.renew_tops.ensures.renewed);
+  full =
+      let long : length c.renew_pages.new.pages.items ≡ length c.args.self.now.pages.items =
+      sym (length-map c.renew_pages.new.pages.items (λ page. page.own)) ∙ ap length c.renew_pages.ensures.own ∙ length-map c.args.self.now.pages.items (λ page. page.own) in
+      omega (arith, c.renew_pages.ensures.room, c.args.self.now.full, long);
+  full_tops = omega (arith, c.renew_tops.ensures.room, c.args.self.now.full_tops, c.renew_tops.ensures.renewed.long);
 }
 
 pub returns-clause-room : goal.returns-clause-room

@@ -1,10 +1,10 @@
-use Rattle.std.proofs.Common.{◌≡◌, sym, subst, ℕ, ◌*◌, ◌/◌, arith}
+use Rattle.std.proofs.Common.{◌≡◌, sym, subst, ℕ, ◌*◌, ◌/◌, arith, ◌∙◌, ap, length}
 use Rattle.field_groups.specs.Groups.{IsWidth}
 use Rattle.lookup_table.specs.Table.{IsShaped}
 use Rattle.lookup_table.specs.Lines.{OwnsPlaces}
 use Rattle.lookup_table.proofs.WideLaws.{made-none, made-more}
 use Rattle.lookup_table.proofs.NarrowLaws.{IsNarrow, narrow-same, narrow-shape, narrow-stands}
-use Rattle.lookup_table.proofs.SummaryLaws.{summed-none}
+use Rattle.lookup_table.proofs.SummaryLaws.{summed-none, rules-within}
 use Rattle.lookup_table.proofs.table.FieldTable.narrowed.Goals as goal
 
 pub rows-init : goal.rows-init
@@ -20,7 +20,7 @@ pub invariant_of-table : goal.invariant_of-table
 invariant_of-table c =
     let shape : IsShaped 8 c.args.self.now.bits c.args.self.now.rules c.args.self.now.buckets.rows =
     subst (λ (w : ℕ). IsShaped w c.args.self.now.bits c.args.self.now.rules c.args.self.now.buckets.rows) c.requires c.args.self.now.shaped in
-    record { shaped = narrow-shape _ _ _ _ _ shape c.rows.invariant.made; summed = summed-none _ _ _ _ _ _ c.new.ensures.items; topped = summed-none _ _ _ _ _ _ c.new-2.ensures.items }
+    record { shaped = narrow-shape _ _ _ _ _ shape c.rows.invariant.made; summed = summed-none _ _ _ _ _ _ c.new.ensures.items; topped = summed-none _ _ _ _ _ _ c.new-2.ensures.items; full = c.new.ensures.capacity ∙ sym (ap length c.new.ensures.items); full_tops = c.new-2.ensures.capacity ∙ sym (ap length c.new-2.ensures.items) }
 
 pub returns-clause-stands : goal.returns-clause-stands
 returns-clause-stands c = λ blocks stands.
@@ -28,3 +28,6 @@ returns-clause-stands c = λ blocks stands.
     let groups : IsWidth 8 c.args.self.now.bits = subst (λ (w : ℕ). IsWidth w c.args.self.now.bits) c.requires c.args.self.now.shaped.groups in
     let same = c.take_pages.ensures in
     rw (same.same.width, same.same.bits, same.rules, same.buckets) (narrow-stands _ _ _ _ blocks groups (rw all at c.rows.invariant.made) (rw c.requires at stands))
+
+pub zeros-requires-clause-most : goal.zeros-requires-clause-most
+zeros-requires-clause-most c = let few = rules-within _ _ _ _ _ c.args.self.now.shaped c.room-room.ensures.rows in omega (arith, few, c.room-room.ensures.most)

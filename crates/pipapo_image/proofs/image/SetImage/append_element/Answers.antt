@@ -1,4 +1,4 @@
-use Rattle.std.proofs.Common.{sym, ap, subst, List, length, get_or}
+use Rattle.std.proofs.Common.{sym, ap, subst, List, length, get_or, arith}
 use Rattle.lookup_table.specs.declared.table.FieldTable.{FieldTable}
 use Rattle.set_model.specs.SetState.{State}
 use Rattle.set_tables.specs.declared.End.{End}
@@ -6,6 +6,7 @@ use Rattle.set_tables.specs.Search.{of_field}
 use Rattle.pipapo_image.specs.Index.Built.{Built}
 use Rattle.pipapo_image.specs.Index.Grow.{IsOther}
 use Rattle.pipapo_image.specs.Index.Changes.{AreReady, IsAppended}
+use Rattle.pipapo_image.proofs.FewLaws.{few_elements}
 use Rattle.pipapo_image.proofs.ImageUse.{image-shaped}
 use Rattle.pipapo_image.proofs.ImageGrowth.{columns-of, image-kept, ready, growth}
 use Rattle.pipapo_image.proofs.image.SetImage.append_element.Goals as goal
@@ -27,6 +28,9 @@ pub reserve-requires-clause-columns : goal.reserve-requires-clause-columns
 reserve-requires-clause-columns c =
     let s : State = record { kinds = c.self.inside.kinds; size = c.self.inside.size; disjoint = c.self.inside.disjoint; elements = c.self.inside.elements; next = c.self.inside.next } in
     columns-of s c.self.inside.index c.args.element.parts c.args.columns.now c.self.invariant (rw (← c.self.view_is) at c.requires.columns) (rw (← c.self.view_is) at c.requires.few)
+
+pub push-requires : goal.push-requires
+push-requires c = omega (arith, few_elements c.self.inside.kinds c.self.inside.elements c.self.inside.index c.self.invariant)
 
 pub invariant_of-self : goal.invariant_of-self
 invariant_of-self c = image-kept c.self.inside.kinds c.self.inside.elements c.self.inside.index c.reserve.new.self c.self.invariant c.reserve.ensures.kept

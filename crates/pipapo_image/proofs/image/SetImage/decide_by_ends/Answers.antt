@@ -1,6 +1,6 @@
 use Rattle.std.proofs.Common.{rules}
 use Rattle.pipapo_image.proofs.AddLaws.{decision_at}
-use Rattle.pipapo_image.proofs.image.SetImage.decide_overlapping.Goals as goal
+use Rattle.pipapo_image.proofs.image.SetImage.decide_by_ends.Goals as goal
 
 pub returns-in-Some : goal.returns-in-Some
 returns-in-Some c =
