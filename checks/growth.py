@@ -2,8 +2,8 @@
 """Runs scripts of n and of 4n elements and changes: words PROGRAM.
 
 Each row of the table is one kind of script. It grows too fast where the processor time of 4n is more than eight times that of
-n, each the least of a few runs, and so again when both are measured once more: on a busy machine one of them may be far off. No
-absolute time is looked at.
+n, each the least of a few runs. What seems to grow too fast is measured again, twice at most, since on a busy machine one of the
+two may be far off. No absolute time is looked at.
 """
 import os
 import resource
