@@ -26,6 +26,3 @@ pub use time::{one_time_law, read_time, time_of_law};
 pub use time_text::{write_time, written_time_law};
 pub use value::{BadValue, one_value_law, read_number, read_value, value_bits_law, value_of_law};
 pub use value_text::{write_value, written_value_law};
-
-#[cfg(test)]
-mod tests;

@@ -11,8 +11,6 @@
 mod help;
 mod page;
 mod shape;
-#[cfg(test)]
-mod tests;
 mod words;
 
 pub use page::{Page, page_of};

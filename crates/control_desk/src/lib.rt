@@ -15,8 +15,6 @@ mod clerk;
 mod entry;
 mod opening;
 mod run;
-#[cfg(test)]
-mod tests;
 mod transaction;
 mod work;
 

@@ -10,8 +10,6 @@
 
 mod gate_bell;
 mod running;
-#[cfg(test)]
-mod tests;
 mod text;
 mod whole;
 

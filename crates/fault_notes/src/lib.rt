@@ -20,8 +20,6 @@ mod note;
 mod refusals;
 mod refused;
 mod source;
-#[cfg(test)]
-mod tests;
 mod told;
 
 pub use bad::bad_text_note;

@@ -63,6 +63,3 @@ pub use note::Note;
 pub use reader::{Held, Reader};
 pub use receipt::Receipt;
 pub use starting::start;
-
-#[cfg(test)]
-mod tests;

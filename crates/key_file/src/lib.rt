@@ -12,8 +12,6 @@ mod draft;
 mod keys;
 mod lines;
 mod packets;
-#[cfg(test)]
-mod tests;
 
 pub use keys::{
     KeyError, bad_token, key_file_fronts_law, one_key_file_fault_law, one_key_file_law, read_keys,

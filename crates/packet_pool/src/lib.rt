@@ -23,8 +23,6 @@ mod lookup_judge;
 mod readers;
 mod section;
 mod steps;
-#[cfg(test)]
-mod tests;
 mod traffic;
 mod worker;
 

@@ -20,8 +20,6 @@ mod keys;
 mod packet;
 mod plan;
 mod selector;
-#[cfg(test)]
-mod tests;
 mod wire;
 
 pub use capture::read_capture;

@@ -5,9 +5,6 @@ ghost use Rattle.set_space.specs.Open.{opened};
 ghost use Rattle.packet_pool.specs.Work.{AllReady};
 ghost use Rattle.script_run.specs.Drill.{drill_text, IsDrilled};
 
-#[cfg(test)]
-mod tests;
-
 use crate::numbers::has_numbers;
 use crate::output::Output;
 use crate::telling::Telling;

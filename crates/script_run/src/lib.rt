@@ -9,19 +9,11 @@
 //! "One section, step by step". **Proofs:** docs/proofs.md, "A run (`packet_pool`, `script_run`)".
 #![tactic(auto)]
 
-#[cfg(test)]
-mod beside;
 mod drilling;
-#[cfg(test)]
-mod fixture;
 mod numbers;
 mod output;
-#[cfg(test)]
-mod sections;
 mod teller;
 mod telling;
-#[cfg(test)]
-mod tests;
 mod whole;
 
 pub use drilling::drill;

@@ -16,12 +16,8 @@ mod draft;
 mod elements;
 mod parts;
 mod place;
-#[cfg(test)]
-mod refusal_tests;
 mod script;
 mod sets;
-#[cfg(test)]
-mod tests;
 mod values;
 mod words;
 

@@ -1,5 +1,0 @@
-use Rattle.std.proofs.Common.{◌≡◌, ◌++◌, map, Some}
-use Rattle.packet_pool.proofs.tests.at_places.Given as goal
-
-abbrev pub invariant-loop-reader : goal.invariant-loop-reader
-invariant-loop-reader l = l.places.items ≡ map Some l.yielded
