@@ -2,9 +2,9 @@ ghost use Rattle.std.specs.Prelude.{◌≤◌, length, IfOk};
 ghost use Rattle.set_model.specs.Runnable.{IsRunnable};
 ghost use Rattle.set_script.specs.Limits.{most_sets};
 
-use crate::fixture::{place, ports};
+use crate::fixture::place;
 use key_file::{KeyError, bad_token, read_keys};
-use set_model::{Keys, Memory, Schema, Script};
+use set_model::{Family, Keys, Kind, Kinds, Memory, Name, Schema, Script, SetDecl};
 use set_script::read_script;
 use std::alloc::Global;
 use std::test::Fail;
@@ -17,6 +17,21 @@ fn script(alloc: Global) -> Result<Script, Fail>
         alloc,
         b"add set ip at round { type ipv4_addr . inet_service ; flags interval ; }",
     )?)
+}
+
+/// A set of ports in a table of the family `ip`.
+fn ports(alloc: Global, table: &[u8], name: &[u8]) -> Result<SetDecl, Memory> {
+    Ok(SetDecl {
+        family: Family::Ip,
+        table: Name::from_vec(Vec::from_slice(alloc, table)?),
+        name: Name::from_vec(Vec::from_slice(alloc, name)?),
+        kinds: Kinds::from_vec(vec![in alloc; Kind::Service]?),
+        interval: true,
+        timed: false,
+        disjoint: false,
+        timeout: None,
+        size: None,
+    })
 }
 
 /// The sets `ip t p`, `ip at t1` and `ip round x`, of ports.

@@ -1,5 +1,5 @@
-//! Tests of the texts that are read and told: addresses and times, scripts, key files, chains of rules, captures and
-//! their plans, notes of faults, and the words of a command.
+//! Tests of the texts that are read and told: addresses and times, scripts, key files, captures and their plans, notes of
+//! faults, and the words of a command.
 //!
 //! **Definitions:** none; it has tests alone. **Theory:** docs/formats.md.
 #![tactic(auto)]
@@ -8,8 +8,6 @@
 mod addresses;
 #[cfg(test)]
 mod captures;
-#[cfg(test)]
-mod chains;
 #[cfg(test)]
 mod fixture;
 #[cfg(test)]

@@ -2,20 +2,36 @@ ghost use Rattle.std.specs.Prelude.{◌≤◌, length, IfOk};
 ghost use Rattle.set_model.specs.Runnable.{IsFitting};
 ghost use Rattle.set_script.specs.Limits.{most_sets};
 
-use crate::fixture::ports;
-use rule_chain::{Act, Lookups, RulesError, Test, read_rules};
-use set_model::{Duplicate, Key, Memory, Packet, Schema, Verdict, fits};
+use crate::{Act, Lookups, RulesError, Test, read_rules};
+use set_model::{
+    Duplicate, Family, Key, Kind, Kinds, Memory, Name, Packet, Schema, SetDecl, Verdict, fits,
+};
 use std::alloc::Global;
 use std::test::Fail;
 use token_forms::Reason;
+
+/// A set of ports of the table `ip t`.
+fn ports(alloc: Global, name: &[u8]) -> Result<SetDecl, Memory> {
+    Ok(SetDecl {
+        family: Family::Ip,
+        table: Name::from_vec(Vec::from_slice(alloc, b"t")?),
+        name: Name::from_vec(Vec::from_slice(alloc, name)?),
+        kinds: Kinds::from_vec(vec![in alloc; Kind::Service]?),
+        interval: true,
+        timed: false,
+        disjoint: false,
+        timeout: None,
+        size: None,
+    })
+}
 
 /// The sets `ip t ok` and `ip t bad`.
 fn two_sets(alloc: Global) -> Result<Schema, Memory>
     ensures { IfOk result (λ schema. length schema ≤ most_sets) }
 {
     let mut schema = Schema::new(alloc);
-    schema.push(ports(alloc, b"t", b"ok")?)?;
-    schema.push(ports(alloc, b"t", b"bad")?)?;
+    schema.push(ports(alloc, b"ok")?)?;
+    schema.push(ports(alloc, b"bad")?)?;
     Ok(schema)
 }
 
