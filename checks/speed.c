@@ -189,9 +189,6 @@ static double timed_change(const struct call *c, uint32_t rounds, uint32_t chang
 /* The milliseconds of a copy with its change. The time of a call that makes none is taken off. */
 static double change_ms(const struct call *c, uint32_t change) {
     double build = 1e9, with = 1e9;
-    /* Memory that a copy gave back is taken again, and not asked of the system anew. */
-    mallopt(M_TRIM_THRESHOLD, 1 << 30);
-    mallopt(M_MMAP_THRESHOLD, 1 << 30);
     for (int i = 0; i < 5; ++i) {
         double time = timed_change(c, 0, change);
         if (time < build) build = time;
@@ -274,8 +271,16 @@ static void bench_plain(const struct workload *w) {
     if (sum == 1) fail("a sum that is there to be used");
 }
 
+/* Memory that a call gave back is taken again, and not asked of the system anew: otherwise it would hang on which block
+   lies last whether each build of a set pays for pages that are new. */
+static void keep_memory(void) {
+    mallopt(M_TRIM_THRESHOLD, 1 << 30);
+    mallopt(M_MMAP_THRESHOLD, 1 << 30);
+}
+
 int main(int argc, char **argv) {
     struct workload w = {0};
+    keep_memory();
     if (argc != 3) fail("usage: verdict FILE | bench FILE | textbook FILE | plain FILE | changes FILE | disjoint FILE");
     read_workload(&w, argv[2]);
     struct call c = {.w = &w};
