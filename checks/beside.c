@@ -2,10 +2,9 @@
  * machine disturbs all alike. It tells the best round, and those that a tenth, a quarter and half of the rounds were better than. */
 #include <dlfcn.h>
 #include <inttypes.h>
-#include <malloc.h>
 
 #define PROGRAM "checks/speed"
-#include "workload.h"
+#include "called.h"
 
 enum { LIBRARIES = 8, ROUNDS = 40, KEYS_ROUNDS_MOST = 20000 };
 
@@ -17,16 +16,6 @@ struct library {
     run_call run;
     double build[ROUNDS], with[ROUNDS];
 };
-
-static uint64_t *words_of(const value_t *values, size_t n) {
-    uint64_t *words = malloc(n * 16);
-    if (!words) fail("want of memory");
-    for (size_t i = 0; i < n; ++i) {
-        words[2 * i] = (uint64_t)values[i];
-        words[2 * i + 1] = (uint64_t)(values[i] >> 64);
-    }
-    return words;
-}
 
 static run_call opened(const char *name) {
     void *library = dlopen(name, RTLD_NOW | RTLD_LOCAL);
@@ -60,14 +49,13 @@ int main(int argc, char **argv) {
     struct workload w = {0};
     int n = argc - 2;
     if (n < 1 || n > LIBRARIES) fail("usage: beside FILE LIBRARY ..");
+    keep_memory();
     read_workload(&w, argv[1]);
     struct call c = {.w = &w};
     c.elements = words_of(w.elements, w.element_count * w.fields * 2);
     c.keys = words_of(w.keys, w.key_count * w.fields);
     c.answers = calloc(w.key_count, 8);
     if (!c.answers) fail("want of memory");
-    mallopt(M_TRIM_THRESHOLD, 1 << 30);
-    mallopt(M_MMAP_THRESHOLD, 1 << 30);
     for (int i = 0; i < n; ++i) {
         const char *folder_end = strrchr(argv[2 + i], '/');
         libraries[i].name = folder_end ? folder_end + 1 : argv[2 + i];

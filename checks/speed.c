@@ -1,9 +1,8 @@
 /* The driver of checks/speed: reads a workload, and calls the library or its own textbook loop. */
 #include <inttypes.h>
-#include <malloc.h>
 
 #define PROGRAM "checks/speed"
-#include "workload.h"
+#include "called.h"
 
 /* crates/pipapo_speed: a slice crosses as a pointer and a count. */
 extern uint64_t pipapo_run(const uint32_t *kinds, size_t kind_count, const uint64_t *elements,
@@ -145,16 +144,6 @@ static uint64_t find_plain(struct table *t, const value_t *key) {
 
 /* ---- what is measured */
 
-static uint64_t *words_of(const value_t *values, size_t n) {
-    uint64_t *words = malloc(n * 16);
-    if (!words) fail("want of memory");
-    for (size_t i = 0; i < n; ++i) {
-        words[2 * i] = (uint64_t)values[i];
-        words[2 * i + 1] = (uint64_t)(values[i] >> 64);
-    }
-    return words;
-}
-
 struct call {
     const struct workload *w;
     uint64_t *elements, *keys, *answers;
@@ -269,13 +258,6 @@ static void bench_plain(const struct workload *w) {
     printf("lookups_per_s=%.0f inserts_per_s=%.0f table_bytes=%zu\n", w->key_count / best,
            w->element_count / build, bytes);
     if (sum == 1) fail("a sum that is there to be used");
-}
-
-/* Memory that a call gave back is taken again, and not asked of the system anew: otherwise it would hang on which block
-   lies last whether each build of a set pays for pages that are new. */
-static void keep_memory(void) {
-    mallopt(M_TRIM_THRESHOLD, 1 << 30);
-    mallopt(M_MMAP_THRESHOLD, 1 << 30);
 }
 
 int main(int argc, char **argv) {
