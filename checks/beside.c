@@ -1,4 +1,4 @@
-/* The driver of `checks/speed beside`: runs the calls of several libraries in turns, each a tenth of a second, so that a busy
+/* The driver of `checks/speed beside`: runs the calls of several libraries in turns, each a tenth of a second or more, so that a busy
  * machine disturbs all alike. It tells the best round, and those that a tenth, a quarter and half of the rounds were better than. */
 #include <dlfcn.h>
 #include <inttypes.h>
@@ -64,7 +64,8 @@ int main(int argc, char **argv) {
     }
     double build = timed(&c, libraries[0].run, 0);
     uint32_t rounds = 1;
-    while (timed(&c, libraries[0].run, rounds) < build + 0.1 && rounds < KEYS_ROUNDS_MOST) rounds *= 2;
+    /* The building of a large set is taken off, so the lookups must take longer than what it differs by from round to round. */
+    while (timed(&c, libraries[0].run, rounds) < 3 * build + 0.1 && rounds < KEYS_ROUNDS_MOST) rounds *= 2;
     for (int r = 0; r < ROUNDS; ++r)
         for (int i = 0; i < n; ++i) {
             struct library *l = &libraries[(r + i) % n];
