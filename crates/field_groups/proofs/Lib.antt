@@ -3,3 +3,4 @@ pub mod GroupLaws
 pub mod RunLaws
 pub mod ShareLaws
 pub mod HalfLaws
+pub mod LastLaws

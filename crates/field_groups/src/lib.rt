@@ -16,12 +16,14 @@ ghost use Rattle.field_groups.specs.Groups.{group, fixed, IsWidth};
 use set_model::Block;
 
 mod laws;
+mod places;
 #[cfg(test)]
 mod tests;
 
 pub use laws::{
     agreeing_halves, agreeing_run, fixed_by_mask, held_by_groups, shared_by_groups, shared_is_held,
 };
+pub use places::{LastFour, group_count, last_four};
 
 /// Group `g` of a value of a field of `bits` bits, in groups of `width` bits. Group 0 is the most
 /// significant one.

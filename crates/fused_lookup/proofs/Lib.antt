@@ -1,3 +1,4 @@
+pub mod AllLaws
 pub mod BitLaws
 pub mod FillLaws
 pub mod LedLaws

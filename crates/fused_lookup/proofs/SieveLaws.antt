@@ -8,6 +8,8 @@ use Rattle.std.proofs.Math.Bool.{and_comm, and_assoc}
 use Rattle.bit_rows.specs.Row.{Row, at, bit}
 use Rattle.bit_rows.proofs.Bits.{bit-ones}
 use Rattle.field_groups.specs.Groups.{IsWidth, every}
+use Rattle.field_groups.specs.LastFour.{IsGroupPlace, AreLastFour}
+use Rattle.field_groups.specs.declared.places.LastFour.{LastFour}
 use Rattle.set_model.specs.declared.block.Block.{Block}
 use Rattle.set_model.specs.Blocks.{holds_value}
 use Rattle.lookup_table.specs.declared.table.FieldTable.{FieldTable}
@@ -18,34 +20,37 @@ use Rattle.lookup_table.proofs.RowsLaws.{cell-is, All-bucket}
 use Rattle.lookup_table.proofs.MatchLaws.{held-by-buckets}
 use Rattle.set_tables.specs.Rows.{matched}
 use Rattle.fused_lookup.specs.Words.{IsWordOf}
-use Rattle.fused_lookup.specs.Sieve.{is_rule_set, IsBucket, AreLastFour, HaveLines, in_all, KeepsWhereSet, NoneHolds}
-use Rattle.fused_lookup.specs.declared.sieve.LastFour.{LastFour}
+use Rattle.fused_lookup.specs.Sieve.{is_rule_set, HaveLines, in_all, KeepsWhereSet, NoneHolds}
 use Rattle.fused_lookup.proofs.MatchLaws.{left-at, length-left, word-left, ones-left}
 
 -- a field has a group
 pub some-group : (width bits : ℕ) → IsWidth width bits → 1 ≤ bits / width
 some-group width bits w = le-div 1 bits width (omega (arith, w.four)) (omega (arith, w.some, w.eight))
 
+-- a bucket's place is among the rows
+among : (t : FieldTable) (value g place : ℕ) → IsGroupPlace t.width t.bits value g place → place < length t.buckets.rows
+among t value g place bucket = let count = t.shaped.count in let within = bucket.within in omega arith
+
 -- a bit of a word of a page
-page-bit : (t : FieldTable) (value g place i k : ℕ) (words : List ℕ) → IsPage t.buckets.rows (i / 8) words → IsBucket t value g place → k < 64 → bit (slice_index words (place * 8 + i % 8)) k ≡ is_rule_set t value (64 * i + k) g
+page-bit : (t : FieldTable) (value g place i k : ℕ) (words : List ℕ) → IsPage t.buckets.rows (i / 8) words → IsGroupPlace t.width t.bits value g place → k < 64 → bit (slice_index words (place * 8 + i % 8)) k ≡ is_rule_set t value (64 * i + k) g
 page-bit t value g place i k words page bucket h =
     let at : 512 * (i / 8) + 64 * (i % 8) + k ≡ 64 * i + k = omega arith in
-    page.bits place (i % 8) k bucket.within (omega arith) h ∙ ap (cell t.buckets.rows place) at ∙ ap (λ p. cell t.buckets.rows p (64 * i + k)) bucket.at
+    page.bits place (i % 8) k (among t value g place bucket) (omega arith) h ∙ ap (cell t.buckets.rows place) at ∙ ap (λ p. cell t.buckets.rows p (64 * i + k)) bucket.at
 
 -- no rule is set past the last one
-bucket-past : (t : FieldTable) (value g place r : ℕ) → IsBucket t value g place → t.rules ≤ r → is_rule_set t value r g ≡ false
+bucket-past : (t : FieldTable) (value g place r : ℕ) → IsGroupPlace t.width t.bits value g place → t.rules ≤ r → is_rule_set t value r g ≡ false
 bucket-past t value g place r bucket past =
-    let within : place_of t g value < length t.buckets.rows = subst (λ (p : ℕ). p < length t.buckets.rows) bucket.at bucket.within in
+    let within : place_of t g value < length t.buckets.rows = subst (λ (p : ℕ). p < length t.buckets.rows) bucket.at (among t value g place bucket) in
     let long = All-bucket (λ (x : Row). length x.bits ≡ t.rules) t.buckets.rows (place_of t g value) t.shaped.rows within in
     cell-is t.buckets.rows (place_of t g value) r ∙ get_or_past (bucket_at t.buckets.rows (place_of t g value)).bits r false (omega arith)
 
-pub have-lines : (t : FieldTable) (value : ℕ) (buckets : LastFour) (p : ℕ) (words : List ℕ) → AreLastFour t value buckets → IsPage t.buckets.rows p words → HaveLines (length words) buckets
+pub have-lines : (t : FieldTable) (value : ℕ) (buckets : LastFour) (p : ℕ) (words : List ℕ) → AreLastFour t.width t.bits value buckets → IsPage t.buckets.rows p words → HaveLines (length words) buckets
 have-lines t value buckets p words are page =
     let n = page.long in
-    let a = are.four.within in
-    let b = are.three.within in
-    let c = are.two.within in
-    let d = are.one.within in
+    let a = among t value _ buckets.fourth are.four in
+    let b = among t value _ buckets.third are.three in
+    let c = among t value _ buckets.second are.two in
+    let d = among t value _ buckets.last are.one in
     record { four = omega arith; three = omega arith; two = omega arith; one = omega arith }
 
 -- ---- all groups are the last four and those before them
@@ -94,7 +99,7 @@ last-four p (suc (suc (suc (suc m)))) h =
 
 -- ---- a word
 
-in-four : (t : FieldTable) (value : ℕ) (buckets : LastFour) (i k : ℕ) (words : List ℕ) → AreLastFour t value buckets → IsPage t.buckets.rows (i / 8) words → k < 64
+in-four : (t : FieldTable) (value : ℕ) (buckets : LastFour) (i k : ℕ) (words : List ℕ) → AreLastFour t.width t.bits value buckets → IsPage t.buckets.rows (i / 8) words → k < 64
     → in_all words buckets (i % 8) k
     ≡ (((is_rule_set t value (64 * i + k) (t.bits / t.width - 4) && is_rule_set t value (64 * i + k) (t.bits / t.width - 3)) && is_rule_set t value (64 * i + k) (t.bits / t.width - 2))
     && is_rule_set t value (64 * i + k) (t.bits / t.width - 1))
@@ -104,7 +109,7 @@ in-four t value buckets i k words are page h =
       two x y = cc
 
 -- what is left of a rule in all groups
-pub in-groups : (t : FieldTable) (value : ℕ) (buckets : LastFour) (words : List ℕ) (blocks : List Block) (i k : ℕ) → AreLastFour t value buckets → IsPage t.buckets.rows (i / 8) words → Stands t blocks → value < 2 ^ t.bits
+pub in-groups : (t : FieldTable) (value : ℕ) (buckets : LastFour) (words : List ℕ) (blocks : List Block) (i k : ℕ) → AreLastFour t.width t.bits value buckets → IsPage t.buckets.rows (i / 8) words → Stands t blocks → value < 2 ^ t.bits
     → k < 64 → 64 * i + k < t.rules → (in_all words buckets (i % 8) k && every (is_rule_set t value (64 * i + k)) (t.bits / t.width - 4)) ≡ holds_value (block_at blocks (64 * i + k)) value
 in-groups t value buckets words blocks i k are page stands small h r =
     ap (λ x. x && every (is_rule_set t value (64 * i + k)) (t.bits / t.width - 4)) (in-four t value buckets i k words are page h)
@@ -119,7 +124,7 @@ pub rest-left : (t : FieldTable) (value i left word n : ℕ) → KeepsWhereSet t
 rest-left t value i left word n keeps is k h = keeps k h ∙ ap (λ m. bit left k && every (is_rule_set t value (64 * i + k)) m) is
 
 -- a word of the rules that hold the value
-pub word-held : (t : FieldTable) (value : ℕ) (buckets : LastFour) (words : List ℕ) (blocks : List Block) (i left word : ℕ) → AreLastFour t value buckets → IsPage t.buckets.rows (i / 8) words → Stands t blocks → value < 2 ^ t.bits
+pub word-held : (t : FieldTable) (value : ℕ) (buckets : LastFour) (words : List ℕ) (blocks : List Block) (i left word : ℕ) → AreLastFour t.width t.bits value buckets → IsPage t.buckets.rows (i / 8) words → Stands t blocks → value < 2 ^ t.bits
     → ((k : ℕ) → k < 64 → bit left k ≡ in_all words buckets (i % 8) k) → ((k : ℕ) → k < 64 → bit word k ≡ (bit left k && every (is_rule_set t value (64 * i + k)) (t.bits / t.width - 4)))
     → (k : ℕ) → k < 64 → 64 * i + k < t.rules → bit word k ≡ (bit (2 ^ 64 - 1) k && holds_value (block_at blocks (64 * i + k)) value)
 word-held t value buckets words blocks i left word are page stands small all rest k h r =
@@ -127,7 +132,7 @@ word-held t value buckets words blocks i left word are page stands small all res
     ∙ in-groups t value buckets words blocks i k are page stands small h r
     ∙ sym (ap (λ x. x && holds_value (block_at blocks (64 * i + k)) value) (bit-ones 64 k ∙ lt-ltb k 64 h))
 
-pub word-past : (t : FieldTable) (value : ℕ) (buckets : LastFour) (words : List ℕ) (i left word : ℕ) → AreLastFour t value buckets → IsPage t.buckets.rows (i / 8) words
+pub word-past : (t : FieldTable) (value : ℕ) (buckets : LastFour) (words : List ℕ) (i left word : ℕ) → AreLastFour t.width t.bits value buckets → IsPage t.buckets.rows (i / 8) words
     → ((k : ℕ) → k < 64 → bit left k ≡ in_all words buckets (i % 8) k) → ((k : ℕ) → k < 64 → bit word k ≡ (bit left k && every (is_rule_set t value (64 * i + k)) (t.bits / t.width - 4)))
     → (k : ℕ) → k < 64 → t.rules ≤ 64 * i + k → bit word k ≡ false
 word-past t value buckets words i left word are page all rest k h p =

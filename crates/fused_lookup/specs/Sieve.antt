@@ -7,27 +7,13 @@ use Rattle.set_model.specs.Blocks.{holds_value}
 use Rattle.lookup_table.specs.declared.table.FieldTable.{FieldTable}
 use Rattle.lookup_table.specs.Table.{cell, block_at}
 use Rattle.lookup_table.specs.Rules.{Stands, place_of}
-use Rattle.fused_lookup.specs.declared.sieve.LastFour.{LastFour}
+use Rattle.field_groups.specs.declared.places.LastFour.{LastFour}
 
 -- Rule r is set in the bucket of the value's group g.
 abbrev pub is_rule_set : FieldTable → ℕ → ℕ → ℕ → Bool
 is_rule_set t value r g = cell t.buckets.rows (place_of t g value) r
 
--- where the bucket of a value's group g stands
-pub record IsBucket (t : FieldTable) (value g place : ℕ) : Type 0 where
-  pub at : place ≡ place_of t g value
-  pub within : place < length t.buckets.rows
-
--- The buckets of a value's last four groups, and the number of groups before them. A field of fewer groups
--- has its first one more than once.
-pub record AreLastFour (t : FieldTable) (value : ℕ) (buckets : LastFour) : Type 0 where
-  pub four : IsBucket t value (t.bits / t.width - 4) buckets.fourth
-  pub three : IsBucket t value (t.bits / t.width - 3) buckets.third
-  pub two : IsBucket t value (t.bits / t.width - 2) buckets.second
-  pub one : IsBucket t value (t.bits / t.width - 1) buckets.last
-  pub rest : buckets.rest ≡ t.bits / t.width - 4
-
--- Each has its line of eight in a page of n words.
+-- Each of four buckets has its line of eight in a page of n words.
 pub record HaveLines (n : ℕ) (buckets : LastFour) : Type 0 where
   pub four : buckets.fourth * 8 + 8 ≤ n
   pub three : buckets.third * 8 + 8 ≤ n

@@ -2,15 +2,16 @@ ghost use Rattle.std.specs.Prelude.{◌≡◌, ◌+◌, ◌-◌, ◌*◌, ◌/�
 ghost use Rattle.set_model.specs.Blocks.{holds_value};
 ghost use Rattle.fused_lookup.specs.Filled.{Refills, RefillsWords, IsClear};
 ghost use Rattle.fused_lookup.specs.Led.{Leads, LeadsWords};
-ghost use Rattle.fused_lookup.specs.Sieve.{AreLastFour};
+ghost use Rattle.field_groups.specs.LastFour.{AreLastFour};
 ghost use Rattle.fused_lookup.specs.Window.{IsWindow};
 
 use crate::bits::next_bit;
 use crate::led::first_live;
 use crate::refill::refill_word;
-use crate::sieve::{LastFour, last_four, match_at};
+use crate::sieve::match_at;
 use crate::window::Window;
 use bit_rows::BitRow;
+use field_groups::{LastFour, last_four};
 use lookup_table::FieldTable;
 use mapping_table::{EndTable, MapTable};
 
@@ -31,10 +32,18 @@ pub fn refill_from_first(
     ensures next_len { length next.new.bits ≡ length next.old.bits }
     ensures next_spare { next.new.spare ≡ next.old.spare }
 {
-    let buckets = last_four(table, value);
+    let buckets = last_four(value, table.width, table.bits);
+    let lines = last_four(value, 8, table.bits);
     let mut reached = Window::none();
+    if table.tops.is_empty() {
+        // Every page is a candidate.
+        'pages: for p in 0..table.rules.div_ceil(4096) {
+            reached = refill_page(table, spans, value, buckets, lines, p, next, reached);
+        }
+        return reached;
+    }
     'tops: for q in 0..table.rules.div_ceil(262_144) {
-        reached = refill_pages(table, spans, value, buckets, q, next, reached);
+        reached = refill_pages(table, spans, value, buckets, lines, q, next, reached);
     }
     reached
 }
@@ -46,6 +55,7 @@ fn refill_pages(
     spans: &MapTable,
     value: u128,
     buckets: LastFour,
+    lines: LastFour,
     q: u32,
     next: &mut BitRow,
     window: Window,
@@ -53,7 +63,8 @@ fn refill_pages(
     requires value { value < 2 ^ table.now.bits }
     requires rules { length spans.now.items ≡ table.now.rules }
     requires inside { All (λ s. s.first + s.count ≤ length next.old.bits) spans.now.items }
-    requires four { AreLastFour table.now value buckets }
+    requires buckets { AreLastFour table.now.width table.now.bits value buckets }
+    requires lines { AreLastFour 8 table.now.bits value lines }
     requires top { 262144 * q < table.now.rules }
     requires window { IsWindow next.old.bits window }
     ensures filled { RefillsWords table.now spans.now.items (λ rule. holds_value rule value) (64 * (64 * q)) (64 * (64 * (q + 1))) next.old.bits next.new.bits }
@@ -62,11 +73,20 @@ fn refill_pages(
     ensures spare { next.new.spare ≡ next.old.spare }
 {
     let _rules = table.rules;
-    let candidates = table.candidate_pages(value, q);
+    let candidates = table.candidate_pages(value, lines, q);
     let mut window = window;
     let mut from = 0;
     'pages: while let Some(k) = next_bit(candidates, from) {
-        window = refill_page(table, spans, value, buckets, 64 * q + k, next, window);
+        window = refill_page(
+            table,
+            spans,
+            value,
+            buckets,
+            lines,
+            64 * q + k,
+            next,
+            window,
+        );
         from = k + 1;
     }
     window
@@ -79,6 +99,7 @@ fn refill_page(
     spans: &MapTable,
     value: u128,
     buckets: LastFour,
+    lines: LastFour,
     p: u32,
     next: &mut BitRow,
     window: Window,
@@ -86,7 +107,8 @@ fn refill_page(
     requires value { value < 2 ^ table.now.bits }
     requires rules { length spans.now.items ≡ table.now.rules }
     requires inside { All (λ s. s.first + s.count ≤ length next.old.bits) spans.now.items }
-    requires four { AreLastFour table.now value buckets }
+    requires buckets { AreLastFour table.now.width table.now.bits value buckets }
+    requires lines { AreLastFour 8 table.now.bits value lines }
     requires page { 4096 * p < table.now.rules }
     requires window { IsWindow next.old.bits window }
     ensures filled { RefillsWords table.now spans.now.items (λ rule. holds_value rule value) (64 * p) (64 * (p + 1)) next.old.bits next.new.bits }
@@ -95,7 +117,7 @@ fn refill_page(
     ensures spare { next.new.spare ≡ next.old.spare }
 {
     let _rules = table.rules;
-    let candidates = table.candidates(value, p);
+    let candidates = table.candidates(value, lines, p);
     let mut window = window;
     let mut from = 0;
     'words: while let Some(k) = next_bit(candidates, from) {
@@ -114,9 +136,19 @@ pub fn lead_from_first(table: &FieldTable, ends: &EndTable, value: u128, now: u6
     requires rules { length ends.now.items ≡ table.now.rules }
     ensures { Leads table.now ends.now.items (λ rule. holds_value rule value) (replicate table.now.rules true) now result }
 {
-    let buckets = last_four(table, value);
+    let buckets = last_four(value, table.width, table.bits);
+    let lines = last_four(value, 8, table.bits);
+    if table.tops.is_empty() {
+        // Every page is a candidate.
+        'pages: for p in 0..table.rules.div_ceil(4096) {
+            if let Some(place) = lead_page(table, ends, value, buckets, lines, p, now) {
+                return Some(place);
+            }
+        }
+        return None;
+    }
     'tops: for q in 0..table.rules.div_ceil(262_144) {
-        if let Some(place) = lead_pages(table, ends, value, buckets, q, now) {
+        if let Some(place) = lead_pages(table, ends, value, buckets, lines, q, now) {
             return Some(place);
         }
     }
@@ -130,20 +162,22 @@ fn lead_pages(
     ends: &EndTable,
     value: u128,
     buckets: LastFour,
+    lines: LastFour,
     q: u32,
     now: u64,
 ) -> Option<u64>
     requires value { value < 2 ^ table.now.bits }
     requires rules { length ends.now.items ≡ table.now.rules }
-    requires four { AreLastFour table.now value buckets }
+    requires buckets { AreLastFour table.now.width table.now.bits value buckets }
+    requires lines { AreLastFour 8 table.now.bits value lines }
     requires top { 262144 * q < table.now.rules }
     ensures { LeadsWords table.now ends.now.items (λ rule. holds_value rule value) (64 * (64 * q)) (64 * (64 * (q + 1))) now result }
 {
     let _rules = table.rules;
-    let candidates = table.candidate_pages(value, q);
+    let candidates = table.candidate_pages(value, lines, q);
     let mut from = 0;
     'pages: while let Some(k) = next_bit(candidates, from) {
-        if let Some(place) = lead_page(table, ends, value, buckets, 64 * q + k, now) {
+        if let Some(place) = lead_page(table, ends, value, buckets, lines, 64 * q + k, now) {
             return Some(place);
         }
         from = k + 1;
@@ -158,17 +192,19 @@ fn lead_page(
     ends: &EndTable,
     value: u128,
     buckets: LastFour,
+    lines: LastFour,
     p: u32,
     now: u64,
 ) -> Option<u64>
     requires value { value < 2 ^ table.now.bits }
     requires rules { length ends.now.items ≡ table.now.rules }
-    requires four { AreLastFour table.now value buckets }
+    requires buckets { AreLastFour table.now.width table.now.bits value buckets }
+    requires lines { AreLastFour 8 table.now.bits value lines }
     requires page { 4096 * p < table.now.rules }
     ensures { LeadsWords table.now ends.now.items (λ rule. holds_value rule value) (64 * p) (64 * (p + 1)) now result }
 {
     let _rules = table.rules;
-    let candidates = table.candidates(value, p);
+    let candidates = table.candidates(value, lines, p);
     let mut from = 0;
     'words: while let Some(k) = next_bit(candidates, from) {
         let i = 64 * p + k;

@@ -29,6 +29,9 @@ pub(crate) fn refill_word(
     ensures spare { next.new.spare ≡ next.old.spare }
 {
     let _len = next.len();
+    if word == 0 {
+        return window;
+    }
     let word_spans = spans.word(i);
     let mut window = window;
     let mut from = 0;

@@ -2,49 +2,16 @@ ghost use Rattle.std.specs.Prelude.{◌≡◌, ℕ, ◌+◌, ◌-◌, ◌*◌, �
 ghost use Rattle.bit_rows.specs.Row.{bit};
 ghost use Rattle.set_model.specs.Blocks.{holds_value};
 ghost use Rattle.lookup_table.specs.Rules.{KeepsBitsWhere};
-ghost use Rattle.fused_lookup.specs.Sieve.{IsBucket, AreLastFour, HaveLines, in_all, KeepsWhereSet};
+ghost use Rattle.field_groups.specs.LastFour.{AreLastFour};
+ghost use Rattle.fused_lookup.specs.Sieve.{HaveLines, in_all, KeepsWhereSet};
 ghost use Rattle.lookup_table.specs.Lines.{IsPage};
 
+use field_groups::LastFour;
 use lookup_table::FieldTable;
 
 // A value's last four groups tell most rules apart. So their buckets are ANDed first, and the other
-// groups are looked up only for a word in which something is left.
-
-/// Where the buckets of a value's last four groups stand, and how many groups there are before them.
-#[derive(Clone, Copy)]
-pub(crate) struct LastFour {
-    fourth: usize,
-    third: usize,
-    second: usize,
-    last: usize,
-    rest: u32,
-}
-
-/// Where the bucket of a value's group `g` stands.
-#[inline(always)]
-fn bucket_place(table: &FieldTable, value: u128, g: u32) -> usize
-    requires group { g < table.now.bits / table.now.width }
-    requires value { value < 2 ^ table.now.bits }
-    ensures { IsBucket table.now value g result }
-{
-    table.place(value, g)
-}
-
-/// A value's last four buckets. A field of fewer groups has its first one more than once.
-#[inline(always)]
-pub(crate) fn last_four(table: &FieldTable, value: u128) -> LastFour
-    requires { value < 2 ^ table.now.bits }
-    ensures { AreLastFour table.now value result }
-{
-    let groups = table.groups();
-    LastFour {
-        fourth: bucket_place(table, value, groups.saturating_sub(4)),
-        third: bucket_place(table, value, groups.saturating_sub(3)),
-        second: bucket_place(table, value, groups.saturating_sub(2)),
-        last: bucket_place(table, value, groups - 1),
-        rest: groups.saturating_sub(4),
-    }
-}
+// groups are looked up only for a word in which something is left. Where these buckets stand is found once
+// for all words.
 
 /// What is left of word `w` of a page in four buckets.
 #[inline(always)]
@@ -80,7 +47,7 @@ fn match_rest(table: &FieldTable, words: &[u64], value: u128, n: u32, i: u32, wo
 #[inline(always)]
 pub(crate) fn match_at(table: &FieldTable, value: u128, buckets: LastFour, i: u32) -> u64
     requires value { value < 2 ^ table.now.bits }
-    requires four { AreLastFour table.now value buckets }
+    requires buckets { AreLastFour table.now.width table.now.bits value buckets }
     requires word { 64 * i < table.now.rules }
     ensures held { KeepsBitsWhere table.now (λ rule. holds_value rule value) i (2 ^ 64 - 1) result }
     ensures past { (k : ℕ) → k < 64 → table.now.rules ≤ 64 * i + k → bit result k ≡ false }

@@ -202,6 +202,10 @@ pub(crate) fn pages_for(is_summed: bool, rules: u32) -> u32
 pub(crate) fn words_of(rules: u32, p: u32) -> u64
     ensures { (k : ℕ) → k < 64 → bit result k ≡ nat_lt (64 * (64 * p + k)) rules }
 {
+    if rules / 4096 > p {
+        // The page is full.
+        return u64::MAX;
+    }
     let words = (rules as u64).div_ceil(64).saturating_sub(64 * p as u64);
     if words < 64 {
         (1u64 << words) - 1

@@ -9,7 +9,7 @@ use crate::summary::{add_pages, mark_added, pages_for, renew_pages, words_of};
 use crate::tops::{RULES_WITHOUT_TOPS, add_tops, renew_tops, tops_for};
 use crate::widths::halves_of;
 use bit_rows::BitRow;
-use field_groups::{group_mask, group_value};
+use field_groups::{LastFour, group_count, group_mask, group_value};
 use set_model::{Block, Memory};
 use shared_pages::{Page, copy_plain_pages, own_plain_pages, settle_plain_pages};
 use std::alloc::Global;
@@ -60,6 +60,7 @@ impl FieldTable {
     ghost use Rattle.set_model.specs.Blocks.{holds_value, IsWithin};
     ghost use Rattle.bit_rows.specs.Row.{bit};
     ghost use Rattle.field_groups.specs.Groups.{IsWidth, meets, share_value};
+    ghost use Rattle.field_groups.specs.LastFour.{AreLastFour};
     ghost use Rattle.shared_pages.specs.Paged.{owns_of};
     ghost use Rattle.lookup_table.specs.Table.{rooms_of, bucket_bits};
     ghost use Rattle.lookup_table.specs.Lines.{IsPage};
@@ -106,11 +107,7 @@ impl FieldTable {
     pub fn groups(&self) -> u32
         ensures { result ≡ self.now.bits / self.now.width }
     {
-        if self.width == 8 {
-            self.bits / 8
-        } else {
-            self.bits / 4
-        }
+        group_count(self.width, self.bits)
     }
 
     /// Where the bucket of a value's group `g` stands.
@@ -307,24 +304,28 @@ impl FieldTable {
 
     /// The words of rules, of the 64 from word `64 * p` on, that may have a rule whose block holds the
     /// value. Bit 0 stands for the first. In a table without a summary they are all that have rules.
+    /// `lines` is where the lines of the value's last four bytes stand.
     #[inline(always)]
-    pub fn candidates(&self, value: u128, p: u32) -> u64
+    pub fn candidates(&self, value: u128, lines: LastFour, p: u32) -> u64
         requires value { value < 2 ^ self.now.bits }
+        requires lines { AreLastFour 8 self.now.bits value lines }
         ensures none { LeavesNone self.now value 64 p result }
         ensures within { (k : ℕ) → k < 64 → bit result k ≡ true → 64 * (64 * p + k) < self.now.rules }
     {
         let words = words_of(self.rules, p);
         match self.pages.get(p as usize) {
-            Some(page) => words & candidates(page.as_slice(), value, self.bits),
+            Some(page) => words & candidates(page.as_slice(), value, self.bits, lines),
             None => words,
         }
     }
 
     /// The pages of 4,096 rules, of the 64 from page `64 * q` on, that may have a rule whose block holds the
     /// value. Bit 0 stands for the first. In a table without tops they are all that have rules.
+    /// `lines` is where the lines of the value's last four bytes stand.
     #[inline(always)]
-    pub fn candidate_pages(&self, value: u128, q: u32) -> u64
+    pub fn candidate_pages(&self, value: u128, lines: LastFour, q: u32) -> u64
         requires value { value < 2 ^ self.now.bits }
+        requires lines { AreLastFour 8 self.now.bits value lines }
         ensures none { LeavesNone self.now value 4096 q result }
         ensures within { (k : ℕ) → k < 64 → bit result k ≡ true → 4096 * (64 * q + k) < self.now.rules }
     {
@@ -334,7 +335,7 @@ impl FieldTable {
             return pages;
         }
         match self.tops.get(q as usize) {
-            Some(top) => pages & candidates(top.as_slice(), value, self.bits),
+            Some(top) => pages & candidates(top.as_slice(), value, self.bits, lines),
             None => pages,
         }
     }

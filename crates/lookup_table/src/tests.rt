@@ -5,6 +5,7 @@ ghost use Rattle.set_model.specs.Blocks.{IsWithin};
 
 use super::*;
 use bit_rows::BitRow;
+use field_groups::last_four;
 use set_model::Block;
 use std::alloc::Global;
 use std::process::Abort;
@@ -262,22 +263,30 @@ fn copies_live_on_beside_each_other(rt: HostRuntime) -> Result<(), Fail> {
     Ok(())
 }
 
+/// The first 64 pages of a table of addresses that may match one.
+fn candidate_pages(table: &FieldTable, address: u128) -> u64
+    requires bits { table.now.bits ≡ 32 }
+    requires address { address < 2 ^ 32 }
+{
+    table.candidate_pages(address, last_four(address, 8, 32), 0)
+}
+
 #[test]
 fn tops_tell_which_pages_may_match(rt: HostRuntime) -> Result<(), Fail> {
     let mut table = hosts(&rt, rt.alloc(), 33_000)?;
     assert!(rt; table.bits == 32 && table.rules == 33_000);
     // 10.0.128.132 is rule 32,900, of page 8.
-    assert_eq!(rt; table.candidate_pages(0x0A00_8084, 0), 1 << 8);
-    assert_eq!(rt; table.candidate_pages(0x0A00_FF84, 0), 0);
+    assert_eq!(rt; candidate_pages(&table, 0x0A00_8084), 1 << 8);
+    assert_eq!(rt; candidate_pages(&table, 0x0A00_FF84), 0);
 
     // It becomes rule 32,700, of page 7.
     table.own_from(0)?;
     table.drop_rules(0, 200);
-    assert_eq!(rt; table.candidate_pages(0x0A00_8084, 0), 1 << 7);
+    assert_eq!(rt; candidate_pages(&table, 0x0A00_8084), 1 << 7);
 
     let narrow = table.with_width(rt.alloc(), 4)?;
     assert!(rt; narrow.bits == 32);
-    assert_eq!(rt; narrow.candidate_pages(0x0A00_8084, 0), 1 << 7);
+    assert_eq!(rt; candidate_pages(&narrow, 0x0A00_8084), 1 << 7);
     Ok(())
 }
 

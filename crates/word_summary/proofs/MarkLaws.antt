@@ -8,13 +8,15 @@ use Rattle.std.proofs.lemmas.Bool.{cases_lt, lt-ltb, le-ltb}
 use Rattle.std.proofs.lemmas.Bool.Decides.{nat_tests}
 use Rattle.std.proofs.Math.Bool.{and-true, and-false}
 use Rattle.std.proofs.Math.Nat.{mod-lt}
-use Rattle.std.proofs.lemmas.Nat.{div-add-mod', pow_pos}
+use Rattle.std.proofs.lemmas.Nat.{div-add-mod', pow_pos, le-div}
 use Rattle.std.proofs.lemmas.Nat.Bits.{bit_at_cat_low, bit_at_cat_high}
 use Rattle.bit_rows.specs.Row.{bit}
 use Rattle.bit_rows.proofs.Bits.{bit-or, bit-and, bit-shl, bit-shr, bit-zero, bit-ones, bit-low_ones}
 use Rattle.bit_rows.proofs.Marked.{bit-one, same_or_not, leb, not-leb, or-unset, or-set}
 use Rattle.set_model.specs.declared.block.Block.{Block}
-use Rattle.field_groups.specs.Groups.{every, group, agrees, fixed, first_agreeing, agreeing_count}
+use Rattle.field_groups.specs.Groups.{IsWidth, every, group, agrees, fixed, first_agreeing, agreeing_count}
+use Rattle.field_groups.specs.LastFour.{AreLastFour}
+use Rattle.field_groups.specs.declared.places.LastFour.{LastFour}
 use Rattle.field_groups.proofs.RunLaws.{agrees-run}
 use Rattle.std.proofs.lemmas.Bool.{and_parts, leb-true, ltb-true}
 use Rattle.word_summary.specs.Marks.{share, HasNewMarks, IsPageMarked, ClearsNone, is_candidate, IsSingle, AreCandidates}
@@ -184,8 +186,42 @@ pub record AreLeft (bits n : ℕ) (page : List ℕ) (value left : ℕ) : Type 0 
   pub all : (k : ℕ) → k < 64 → is_candidate bits page value k ≡ true → bit left k ≡ true
   pub marked : (k g : ℕ) → k < 64 → n ≤ g → g < bits / 8 → bit left k ≡ true → bit (slice_index page (g * 256 + group 8 bits g value)) k ≡ true
 
-pub left-none : (bits n : ℕ) (page : List ℕ) (value : ℕ) → bits / 8 ≤ n → AreLeft bits n page value (2 ^ 64 - 1)
-left-none bits n page value past = record { all = λ k h c. bit-ones 64 k ∙ lt-ltb k 64 h; marked = λ k g h low l set. absurd (omega arith) }
+-- the lines of the last four bytes
+pub left-last : (bits : ℕ) (page : List ℕ) (value : ℕ) (last : LastFour) → IsWidth 8 bits → AreLastFour 8 bits value last
+    → AreLeft bits last.rest page value (bit_and (bit_and (bit_and (slice_index page last.fourth) (slice_index page last.third)) (slice_index page last.second)) (slice_index page last.last))
+left-last bits page value last w are = record {
+  all = λ k h c. in-all k ∙ and-true-both _ _ (and-true-both _ _ (and-true-both _ _ (in-line (bits / 8 - 4) last.fourth k are.four.at (omega (arith, some)) c) (in-line (bits / 8 - 3) last.third k are.three.at (omega (arith, some)) c)) (in-line (bits / 8 - 2) last.second k are.two.at (omega (arith, some)) c)) (in-line (bits / 8 - 1) last.last k are.one.at (omega (arith, some)) c);
+  marked = λ k g h low l set.
+      let parts = and_parts _ _ (sym (in-all k) ∙ set) in
+      let three = and_parts _ _ parts.0 in
+      let two = and_parts _ _ three.0 in
+      let few = are.rest in
+      one k g (cases_lt g (bits / 8 - 3)) (cases_lt g (bits / 8 - 2)) (cases_lt g (bits / 8 - 1)) (omega (arith, low, few)) l two.0 two.1 three.1 parts.1;
+} where
+  some : 1 ≤ bits / 8
+  some = le-div 1 bits 8 (omega arith) (omega (arith, w.some))
+
+  in-all : (k : ℕ) → bit (bit_and (bit_and (bit_and (slice_index page last.fourth) (slice_index page last.third)) (slice_index page last.second)) (slice_index page last.last)) k
+      ≡ (((bit (slice_index page last.fourth) k && bit (slice_index page last.third) k) && bit (slice_index page last.second) k) && bit (slice_index page last.last) k)
+  in-all k =
+      bit-and (bit_and (bit_and (slice_index page last.fourth) (slice_index page last.third)) (slice_index page last.second)) (slice_index page last.last) k
+      ∙ ap (λ t. t && bit (slice_index page last.last) k)
+      (bit-and (bit_and (slice_index page last.fourth) (slice_index page last.third)) (slice_index page last.second) k
+      ∙ ap (λ t. t && bit (slice_index page last.second) k) (bit-and (slice_index page last.fourth) (slice_index page last.third) k))
+
+  in-line : (g place k : ℕ) → place ≡ g * 2 ^ 8 + group 8 bits g value → g < bits / 8 → is_candidate bits page value k ≡ true → bit (slice_index page place) k ≡ true
+  in-line g place k at within c = ap (λ p. bit (slice_index page p) k) at ∙ every-at (λ i. bit (slice_index page (i * 256 + group 8 bits i value)) k) (bits / 8) g within c
+
+  of-line : (g i place k : ℕ) → place ≡ i * 2 ^ 8 + group 8 bits i value → g ≡ i → bit (slice_index page place) k ≡ true → bit (slice_index page (g * 256 + group 8 bits g value)) k ≡ true
+  of-line g i place k at same set = ap (λ x. bit (slice_index page (x * 256 + group 8 bits x value)) k) same ∙ sym (ap (λ p. bit (slice_index page p) k) at) ∙ set
+
+  one : (k g : ℕ) → (g < bits / 8 - 3) ⊎ (bits / 8 - 3 ≤ g) → (g < bits / 8 - 2) ⊎ (bits / 8 - 2 ≤ g) → (g < bits / 8 - 1) ⊎ (bits / 8 - 1 ≤ g) → bits / 8 - 4 ≤ g → g < bits / 8
+      → bit (slice_index page last.fourth) k ≡ true → bit (slice_index page last.third) k ≡ true → bit (slice_index page last.second) k ≡ true → bit (slice_index page last.last) k ≡ true
+      → bit (slice_index page (g * 256 + group 8 bits g value)) k ≡ true
+  one k g (inl x) y z low l a b c d = of-line g (bits / 8 - 4) last.fourth k are.four.at (omega arith) a
+  one k g (inr x) (inl y) z low l a b c d = of-line g (bits / 8 - 3) last.third k are.three.at (omega arith) b
+  one k g (inr x) (inr y) (inl z) low l a b c d = of-line g (bits / 8 - 2) last.second k are.two.at (omega arith) c
+  one k g (inr x) (inr y) (inr z) low l a b c d = of-line g (bits / 8 - 1) last.last k are.one.at (omega arith) d
 
 pub left-more : (bits n g v : ℕ) (page : List ℕ) (value left : ℕ) → g + 1 ≡ n → g < bits / 8 → v ≡ group 8 bits g value → AreLeft bits n page value left → AreLeft bits g page value (bit_and left (slice_index page (g * 256 + v)))
 left-more bits n g v page value left next within is so_far = record {

@@ -1,10 +1,11 @@
 ghost use Rattle.std.specs.Prelude.{◌≡◌, ℕ, ◌+◌, ◌-◌, ◌*◌, ◌/◌, ◌^◌, ◌<◌, ◌≤◌, ◌&&◌, true, false, nat_lt, length, slice_index, replicate, IfOk};
 ghost use Rattle.bit_rows.specs.Row.{bit};
 ghost use Rattle.field_groups.specs.Groups.{IsWidth};
+ghost use Rattle.field_groups.specs.LastFour.{AreLastFour};
 ghost use Rattle.word_summary.specs.Marks.{share, IsMarkPage, HasNewMarks, IsPageMarked, ClearsNone, IsWordMarked, IsSingle, AreCandidates};
 ghost use Rattle.set_model.specs.Blocks.{IsWithin};
 
-use field_groups::{group_mask, group_value};
+use field_groups::{LastFour, group_mask, group_value};
 use set_model::{Block, Memory};
 use shared_pages::Page;
 use std::alloc::Global;
@@ -22,35 +23,34 @@ pub fn new_page(alloc: Global, bits: u32) -> Result<Page<u64>, Memory>
 }
 
 /// The words that may have a rule which holds the value: those that are marked for each of its bytes, or
-/// one word at most. Bit 0 stands for the first.
+/// one word at most. Bit 0 stands for the first. `last` is where the lines of its last four bytes stand.
 #[inline(always)]
-pub fn candidates(lines: &[u64], value: u128, bits: u32) -> u64
+pub fn candidates(lines: &[u64], value: u128, bits: u32, last: LastFour) -> u64
     requires groups { IsWidth 8 bits }
     requires page { IsMarkPage bits lines.now }
     requires value { value < 2 ^ bits }
+    requires last { AreLastFour 8 bits value last }
     ensures { AreCandidates bits lines.now value result }
 {
-    // The last bytes tell most rules apart.
-    let bytes = bits / 8;
-    let mut left = u64::MAX;
-    'bytes: for i in 0..bytes {
-        let g = bytes - 1 - i;
-        let v = group_value(value, 8, bits, g);
-        left &= lines[g as usize * 256 + v as usize];
-        if is_enough(i, left) {
+    // The last bytes tell most rules apart. In four of them there is no stop, where a wrong guess of it costs more than the bytes.
+    let mut left = lines[last.fourth] & lines[last.third] & lines[last.second] & lines[last.last];
+    'bytes: for i in 0..last.rest {
+        if is_single(left) {
             return left;
         }
+        let g = last.rest - 1 - i;
+        let v = group_value(value, 8, bits, g);
+        left &= lines[g as usize * 256 + v as usize];
     }
     left
 }
 
-/// Whether a look at more bytes than those up to the `i`-th pays no more: at most one word is left. In four
-/// bytes there is no stop, where a wrong guess of it costs more than the bytes.
+/// Whether a look at more bytes pays no more: at most one word is left.
 #[inline(always)]
-fn is_enough(i: u32, left: u64) -> bool
+fn is_single(left: u64) -> bool
     ensures { result ≡ true → IsSingle left }
 {
-    i >= 3 && left & left.wrapping_sub(1) == 0
+    left & left.wrapping_sub(1) == 0
 }
 
 /// Which of the eight words of two lines of a page have a bit in common. Bit 0 stands for the first.

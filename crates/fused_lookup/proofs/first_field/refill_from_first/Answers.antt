@@ -1,13 +1,45 @@
-use Rattle.std.proofs.Common.{◌≡◌, ◌*◌, ◌≤◌, refl, sym, ◌∙◌, arith, length, Bool, true}
-use Rattle.std.specs.Prelude.{replicate}
-use Rattle.std.proofs.lemmas.List.{length-replicate}
-use Rattle.set_model.specs.declared.block.Block.{Block}
+use Rattle.std.proofs.Common.{◌≤◌, ◌*◌, refl, ◌∙◌, arith, length}
 use Rattle.set_model.specs.Blocks.{holds_value}
-use Rattle.set_tables.specs.Rows.{matched}
-use Rattle.fused_lookup.proofs.FillLaws.{filled-none, filled-all}
-use Rattle.fused_lookup.proofs.MatchLaws.{length-left}
+use Rattle.fused_lookup.proofs.AllLaws.{all-refilled}
+use Rattle.fused_lookup.proofs.FillLaws.{inside-more}
 use Rattle.fused_lookup.proofs.WindowLaws.{clear-window}
 use Rattle.fused_lookup.proofs.first_field.refill_from_first.Goals as goal
+
+pub pages-init : goal.pages-init
+pages-init c = record {
+  filled = λ blocks s before. before;
+  window = clear-window c.args.next.now.bits c.none-reached.result c.none-reached.ensures c.requires.clear;
+  len = refl;
+  spare = refl;
+}
+
+pub refill_page-reached-requires-clause-inside : goal.refill_page-reached-requires-clause-inside
+refill_page-reached-requires-clause-inside c = inside-more c.args.spans.now.items (length c.args.next.now.bits) (length c.pages.next.bits) c.pages.invariant.len c.requires.inside
+
+pub refill_page-reached-requires-clause-window : goal.refill_page-reached-requires-clause-window
+refill_page-reached-requires-clause-window c = c.pages.invariant.window
+
+pub pages-preserved : goal.pages-preserved
+pages-preserved c = record {
+  filled = λ blocks s before. c.refill_page-reached.ensures.filled blocks s (c.pages.invariant.filled blocks s before);
+  window = c.refill_page-reached.ensures.window;
+  len = c.refill_page-reached.ensures.len ∙ c.pages.invariant.len;
+  spare = c.refill_page-reached.ensures.spare ∙ c.pages.invariant.spare;
+}
+
+pub returns-then-is_empty-clause-refilled : goal.returns-then-is_empty-clause-refilled
+returns-then-is_empty-clause-refilled c =
+    let past : c.args.table.now.rules ≤ 64 * (64 * c.pages.p) = omega (arith, c.div_ceil-p-end.ensures) in
+    all-refilled c.args.table.now c.args.spans.now.items (λ rule. holds_value rule c.args.value) (64 * c.pages.p) c.args.next.now.bits c.pages.next.bits c.requires.rules past c.requires.clear c.pages.invariant.filled
+
+pub returns-then-is_empty-clause-window : goal.returns-then-is_empty-clause-window
+returns-then-is_empty-clause-window c = c.pages.invariant.window
+
+pub returns-then-is_empty-clause-next_len : goal.returns-then-is_empty-clause-next_len
+returns-then-is_empty-clause-next_len c = c.pages.invariant.len
+
+pub returns-then-is_empty-clause-next_spare : goal.returns-then-is_empty-clause-next_spare
+returns-then-is_empty-clause-next_spare c = c.pages.invariant.spare
 
 pub tops-init : goal.tops-init
 tops-init c = record {
@@ -27,11 +59,6 @@ tops-preserved c =
     }
 
 pub returns-clause-refilled : goal.returns-clause-refilled
-returns-clause-refilled c = λ blocks s.
-    let test : Block → Bool = λ rule. holds_value rule c.args.value in
-    let ones = length-replicate c.args.table.now.rules true in
-    let n = s.one_each in
-    let m = matched test blocks (replicate c.args.table.now.rules true) in
-    let long : length m ≡ length c.args.spans.now.items = length-left test blocks (replicate c.args.table.now.rules true) (omega arith) ∙ n ∙ sym c.requires.rules in
-    let past : length c.args.spans.now.items ≤ 64 * (64 * (64 * c.tops.q)) = omega (arith, c.requires.rules, c.div_ceil-q-end.ensures) in
-    filled-all c.args.spans.now.items m (64 * (64 * (64 * c.tops.q))) c.tops.next.bits long past (c.tops.invariant.filled blocks s (filled-none c.args.spans.now.items m c.args.next.now.bits c.requires.clear))
+returns-clause-refilled c =
+    let past : c.args.table.now.rules ≤ 64 * (64 * (64 * c.tops.q)) = omega (arith, c.div_ceil-q-end.ensures) in
+    all-refilled c.args.table.now c.args.spans.now.items (λ rule. holds_value rule c.args.value) (64 * (64 * c.tops.q)) c.args.next.now.bits c.tops.next.bits c.requires.rules past c.requires.clear c.tops.invariant.filled

@@ -1,12 +1,20 @@
 use Rattle.std.proofs.Common.{◌≡◌, subst, ◌∙◌, ap, ◌+◌, ◌*◌, ◌<◌, ◌≤◌, length, get_or, arith}
-use Rattle.bit_rows.specs.Row.{with_run}
+use Rattle.bit_rows.specs.Row.{bit, with_run}
+use Rattle.bit_rows.proofs.Bits.{bit-zero}
 use Rattle.bit_rows.proofs.Rows.{length-run}
 use Rattle.mapping_table.proofs.WordLaws.{word-within, word-read}
 use Rattle.fused_lookup.specs.Words.{IsNextBit}
+use Rattle.fused_lookup.specs.Filled.{IsFilled}
 use Rattle.fused_lookup.specs.Window.{IsWidened}
 use Rattle.fused_lookup.proofs.FillLaws.{no_span, filled-bit, filled-rest}
 use Rattle.fused_lookup.proofs.WindowLaws.{window-run}
 use Rattle.fused_lookup.proofs.refill.refill_word.Goals as goal
+
+pub returns-then-word-eq0-clause-filled : goal.returns-then-word-eq0-clause-filled
+returns-then-word-eq0-clause-filled c = λ row long is before.
+    let start : 64 * c.args.i ≡ 64 * c.args.i + 0 = omega arith in
+    filled-rest c.args.spans.now.items row c.args.i c.args.word 0 c.args.next.now.bits long is (omega arith) (λ k a b. ap (λ m. bit m k) c.if-word-eq0.true ∙ bit-zero k)
+    (subst (λ n. IsFilled c.args.spans.now.items row n c.args.next.now.bits) start before)
 
 pub bounds-word_spans-k : goal.bounds-word_spans-k
 bounds-word_spans-k c =

@@ -1,16 +1,16 @@
-use Rattle.std.proofs.Common.{rules}
+use Rattle.std.proofs.Common.{rules, ◌/◌}
 use Rattle.fused_lookup.proofs.SieveLaws.{have-lines, rest-left, word-held, word-past}
 use Rattle.fused_lookup.proofs.sieve.match_at.Goals as goal
 
 pub left_at-left-requires-clause-lines : goal.left_at-left-requires-clause-lines
-left_at-left-requires-clause-lines c = have-lines _ _ _ _ _ c.requires.four c.page-words.ensures
+left_at-left-requires-clause-lines c = have-lines c.args.table.now c.args.value c.args.buckets (c.args.i / 8) c.page-words.result.now c.requires.buckets c.page-words.ensures
 
 pub returns-clause-held : goal.returns-clause-held
 returns-clause-held c = λ blocks stands.
-    word-held c.args.table.now c.args.value _ c.page-words.result.now blocks c.args.i c.left_at-left.result c.match_rest.result c.requires.four c.page-words.ensures stands c.requires.value
-    c.left_at-left.ensures (rest-left c.args.table.now c.args.value c.args.i c.left_at-left.result c.match_rest.result c.args.buckets.rest (search (rules, c.match_rest.ensures)) c.requires.four.rest)
+    word-held c.args.table.now c.args.value _ c.page-words.result.now blocks c.args.i c.left_at-left.result c.match_rest.result c.requires.buckets c.page-words.ensures stands c.requires.value
+    c.left_at-left.ensures (rest-left c.args.table.now c.args.value c.args.i c.left_at-left.result c.match_rest.result c.args.buckets.rest (search (rules, c.match_rest.ensures)) c.requires.buckets.rest)
 
 pub returns-clause-past : goal.returns-clause-past
 returns-clause-past c =
-    word-past c.args.table.now c.args.value _ c.page-words.result.now c.args.i c.left_at-left.result c.match_rest.result c.requires.four c.page-words.ensures
-    c.left_at-left.ensures (rest-left c.args.table.now c.args.value c.args.i c.left_at-left.result c.match_rest.result c.args.buckets.rest (search (rules, c.match_rest.ensures)) c.requires.four.rest)
+    word-past c.args.table.now c.args.value _ c.page-words.result.now c.args.i c.left_at-left.result c.match_rest.result c.requires.buckets c.page-words.ensures
+    c.left_at-left.ensures (rest-left c.args.table.now c.args.value c.args.i c.left_at-left.result c.match_rest.result c.args.buckets.rest (search (rules, c.match_rest.ensures)) c.requires.buckets.rest)
