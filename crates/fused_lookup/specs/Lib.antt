@@ -3,3 +3,4 @@ pub mod Window
 pub mod Filled
 pub mod Led
 pub mod Sieve
+pub mod Probe

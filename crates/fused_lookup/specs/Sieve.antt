@@ -1,5 +1,5 @@
 -- The buckets of a value's groups, word by word, and the rules that they leave.
-use Rattle.std.specs.Prelude.{◌≡◌, ℕ, ◌+◌, ◌-◌, ◌*◌, ◌/◌, ◌<◌, ◌≤◌, Bool, false, ◌&&◌, List, length, slice_index}
+use Rattle.std.specs.Prelude.{◌≡◌, ℕ, ◌+◌, ◌*◌, ◌<◌, ◌≤◌, Bool, false, ◌&&◌, List, slice_index}
 use Rattle.bit_rows.specs.Row.{bit}
 use Rattle.field_groups.specs.Groups.{every}
 use Rattle.set_model.specs.declared.block.Block.{Block}

@@ -13,6 +13,7 @@ mod bits;
 mod first_field;
 mod later_field;
 mod led;
+mod probe;
 mod refill;
 mod sieve;
 mod window;

@@ -2,16 +2,16 @@ ghost use Rattle.std.specs.Prelude.{◌≡◌, ℕ, ◌+◌, ◌-◌, ◌*◌, �
 ghost use Rattle.bit_rows.specs.Row.{bit};
 ghost use Rattle.set_model.specs.Blocks.{holds_value};
 ghost use Rattle.lookup_table.specs.Rules.{KeepsBitsWhere};
-ghost use Rattle.field_groups.specs.LastFour.{AreLastFour};
+ghost use Rattle.fused_lookup.specs.Probe.{IsProbe};
 ghost use Rattle.fused_lookup.specs.Sieve.{HaveLines, in_all, KeepsWhereSet};
 ghost use Rattle.lookup_table.specs.Lines.{IsPage};
 
+use crate::probe::Probe;
 use field_groups::LastFour;
 use lookup_table::FieldTable;
 
 // A value's last four groups tell most rules apart. So their buckets are ANDed first, and the other
-// groups are looked up only for a word in which something is left. Where these buckets stand is found once
-// for all words.
+// groups are looked up only for a word in which something is left.
 
 /// What is left of word `w` of a page in four buckets.
 #[inline(always)]
@@ -45,14 +45,13 @@ fn match_rest(table: &FieldTable, words: &[u64], value: u128, n: u32, i: u32, wo
 
 /// Word `i` of the rules that hold the value.
 #[inline(always)]
-pub(crate) fn match_at(table: &FieldTable, value: u128, buckets: LastFour, i: u32) -> u64
-    requires value { value < 2 ^ table.now.bits }
-    requires buckets { AreLastFour table.now.width table.now.bits value buckets }
+pub(crate) fn match_at(table: &FieldTable, probe: Probe, i: u32) -> u64
+    requires probe { IsProbe table.now probe }
     requires word { 64 * i < table.now.rules }
-    ensures held { KeepsBitsWhere table.now (λ rule. holds_value rule value) i (2 ^ 64 - 1) result }
+    ensures held { KeepsBitsWhere table.now (λ rule. holds_value rule probe.value) i (2 ^ 64 - 1) result }
     ensures past { (k : ℕ) → k < 64 → table.now.rules ≤ 64 * i + k → bit result k ≡ false }
 {
     let words = table.page(i);
-    let left = left_at(words, buckets, i as usize % 8);
-    match_rest(table, words, value, buckets.rest, i, left)
+    let left = left_at(words, probe.buckets, i as usize % 8);
+    match_rest(table, words, probe.value, probe.buckets.rest, i, left)
 }

@@ -23,14 +23,14 @@ first_live-requires c = has-rules (length c.args.ends.now.items) (64 * c.args.p 
 pub returns-in-Some-first_live : goal.returns-in-Some-first_live
 returns-in-Some-first_live c = λ blocks s before.
     let next : IsNextBit c.candidates-candidates.result c.words.from c.in-Some.k = c.in-Some.ensures in
-    let test : Block → Bool = λ rule. holds_value rule c.args.value in
+    let test : Block → Bool = λ rule. holds_value rule c.args.probe.value in
     let ones = length-replicate c.args.table.now.rules true in
     let n = s.one_each in
     let m = matched test blocks (replicate c.args.table.now.rules true) in
     let long : length m ≡ length c.args.ends.now.items = length-left test blocks (replicate c.args.table.now.rules true) (omega arith) ∙ n ∙ sym c.requires.rules in
     let high : c.in-Some.k < 64 = next.within in
     let skipped = nowhere-skip c.args.ends.now.items m c.args.now (64 * (64 * c.args.p + c.words.from)) (64 * (64 * c.args.p + c.in-Some.k)) long
-    (none-matched c.args.table.now c.args.value blocks _ _ s (none-between c.args.table.now c.args.value c.args.p c.candidates-candidates.result c.words.from c.in-Some.k c.candidates-candidates.ensures.none (omega arith) next.least))
+    (none-matched c.args.table.now c.args.probe.value blocks _ _ s (none-between c.args.table.now c.args.probe.value c.args.p c.candidates-candidates.result c.words.from c.in-Some.k c.candidates-candidates.ensures.none (omega arith) next.least))
     (c.words.invariant.nowhere blocks s before) in
     let word = word-matched c.args.table.now test blocks (64 * c.args.p + c.in-Some.k) c.match_at-word.result s (c.match_at-word.ensures.held blocks s) c.match_at-word.ensures.past in
     c.in-Some-first_live.ensures m long word skipped
@@ -40,14 +40,14 @@ words-preserved c = record {
   low = omega (arith, c.in-Some.ensures.within);
   nowhere = λ blocks s before.
       let next : IsNextBit c.candidates-candidates.result c.words.from c.in-Some.k = c.in-Some.ensures in
-      let test : Block → Bool = λ rule. holds_value rule c.args.value in
+      let test : Block → Bool = λ rule. holds_value rule c.args.probe.value in
       let ones = length-replicate c.args.table.now.rules true in
       let n = s.one_each in
       let m = matched test blocks (replicate c.args.table.now.rules true) in
       let long : length m ≡ length c.args.ends.now.items = length-left test blocks (replicate c.args.table.now.rules true) (omega arith) ∙ n ∙ sym c.requires.rules in
       let high : c.in-Some.k < 64 = next.within in
       let skipped = nowhere-skip c.args.ends.now.items m c.args.now (64 * (64 * c.args.p + c.words.from)) (64 * (64 * c.args.p + c.in-Some.k)) long
-      (none-matched c.args.table.now c.args.value blocks _ _ s (none-between c.args.table.now c.args.value c.args.p c.candidates-candidates.result c.words.from c.in-Some.k c.candidates-candidates.ensures.none (omega arith) next.least))
+      (none-matched c.args.table.now c.args.probe.value blocks _ _ s (none-between c.args.table.now c.args.probe.value c.args.p c.candidates-candidates.result c.words.from c.in-Some.k c.candidates-candidates.ensures.none (omega arith) next.least))
       (c.words.invariant.nowhere blocks s before) in
       let word = word-matched c.args.table.now test blocks (64 * c.args.p + c.in-Some.k) c.match_at-word.result s (c.match_at-word.ensures.held blocks s) c.match_at-word.ensures.past in
       let up : 64 * c.args.p + c.in-Some.k + 1 ≡ 64 * c.args.p + (c.in-Some.k + 1) = omega arith in
@@ -56,7 +56,7 @@ words-preserved c = record {
 
 pub returns : goal.returns
 returns c = λ blocks s before.
-    let test : Block → Bool = λ rule. holds_value rule c.args.value in
+    let test : Block → Bool = λ rule. holds_value rule c.args.probe.value in
     let low : c.words.from ≤ 64 = c.words.invariant.low in
     let ones = length-replicate c.args.table.now.rules true in
     let n = s.one_each in
@@ -65,5 +65,5 @@ returns c = λ blocks s before.
     let up : 64 * c.args.p + 64 ≡ 64 * (c.args.p + 1) = omega arith in
     subst (λ z. LeadsNowhere c.args.ends.now.items m c.args.now (64 * z)) up
     (nowhere-skip c.args.ends.now.items m c.args.now (64 * (64 * c.args.p + c.words.from)) (64 * (64 * c.args.p + 64)) long
-    (none-matched c.args.table.now c.args.value blocks _ _ s (none-between c.args.table.now c.args.value c.args.p c.candidates-candidates.result c.words.from 64 c.candidates-candidates.ensures.none (omega arith) c.in_default.ensures))
+    (none-matched c.args.table.now c.args.probe.value blocks _ _ s (none-between c.args.table.now c.args.probe.value c.args.p c.candidates-candidates.result c.words.from 64 c.candidates-candidates.ensures.none (omega arith) c.in_default.ensures))
     (c.words.invariant.nowhere blocks s before))

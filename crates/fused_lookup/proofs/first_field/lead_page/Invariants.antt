@@ -6,7 +6,7 @@ use Rattle.fused_lookup.proofs.first_field.lead_page.Given as goal
 abbrev pub invariant-words : goal.invariant-words
 invariant-words l = record {
   low : l.from ≤ 64;
-  nowhere : LeadsWords l.table l.ends.items (λ rule. holds_value rule l.value) (64 * l.p) (64 * l.p + l.from) l.now None;
+  nowhere : LeadsWords l.table l.ends.items (λ rule. holds_value rule l.probe.value) (64 * l.p) (64 * l.p + l.from) l.now None;
 }
 
 abbrev pub decreases-words : goal.decreases-words

@@ -20,7 +20,7 @@ lead_page-requires-clause-page c =
 pub returns-in-Some-lead_page : goal.returns-in-Some-lead_page
 returns-in-Some-lead_page c = λ blocks s before.
     let next : IsNextBit c.candidate_pages-candidates.result c.pages.from c.in-Some.k = c.in-Some.ensures in
-    let test : Block → Bool = λ rule. holds_value rule c.args.value in
+    let test : Block → Bool = λ rule. holds_value rule c.args.probe.value in
     let ones = length-replicate c.args.table.now.rules true in
     let n = s.one_each in
     let m = matched test blocks (replicate c.args.table.now.rules true) in
@@ -28,7 +28,7 @@ returns-in-Some-lead_page c = λ blocks s before.
     let high : c.in-Some.k < 64 = next.within in
     c.in-Some-lead_page.ensures blocks s
     (nowhere-skip c.args.ends.now.items m c.args.now (64 * (64 * (64 * c.args.q + c.pages.from))) (64 * (64 * (64 * c.args.q + c.in-Some.k))) long
-    (none-matched c.args.table.now c.args.value blocks _ _ s (no-page-between c.args.table.now c.args.value c.args.q c.candidate_pages-candidates.result c.pages.from c.in-Some.k c.candidate_pages-candidates.ensures.none (omega arith) next.least))
+    (none-matched c.args.table.now c.args.probe.value blocks _ _ s (no-page-between c.args.table.now c.args.probe.value c.args.q c.candidate_pages-candidates.result c.pages.from c.in-Some.k c.candidate_pages-candidates.ensures.none (omega arith) next.least))
     (c.pages.invariant.nowhere blocks s before))
 
 pub pages-preserved : goal.pages-preserved
@@ -36,14 +36,14 @@ pages-preserved c = record {
   low = omega (arith, c.in-Some.ensures.within);
   nowhere = λ blocks s before.
       let next : IsNextBit c.candidate_pages-candidates.result c.pages.from c.in-Some.k = c.in-Some.ensures in
-      let test : Block → Bool = λ rule. holds_value rule c.args.value in
+      let test : Block → Bool = λ rule. holds_value rule c.args.probe.value in
       let ones = length-replicate c.args.table.now.rules true in
       let n = s.one_each in
       let m = matched test blocks (replicate c.args.table.now.rules true) in
       let long : length m ≡ length c.args.ends.now.items = length-left test blocks (replicate c.args.table.now.rules true) (omega arith) ∙ n ∙ sym c.requires.rules in
       let high : c.in-Some.k < 64 = next.within in
       let skipped = nowhere-skip c.args.ends.now.items m c.args.now (64 * (64 * (64 * c.args.q + c.pages.from))) (64 * (64 * (64 * c.args.q + c.in-Some.k))) long
-      (none-matched c.args.table.now c.args.value blocks _ _ s (no-page-between c.args.table.now c.args.value c.args.q c.candidate_pages-candidates.result c.pages.from c.in-Some.k c.candidate_pages-candidates.ensures.none (omega arith) next.least))
+      (none-matched c.args.table.now c.args.probe.value blocks _ _ s (no-page-between c.args.table.now c.args.probe.value c.args.q c.candidate_pages-candidates.result c.pages.from c.in-Some.k c.candidate_pages-candidates.ensures.none (omega arith) next.least))
       (c.pages.invariant.nowhere blocks s before) in
       let up : 64 * c.args.q + c.in-Some.k + 1 ≡ 64 * c.args.q + (c.in-Some.k + 1) = omega arith in
       subst (λ z. LeadsNowhere c.args.ends.now.items m c.args.now (64 * (64 * z))) up (c.in_default-lead_page.ensures blocks s skipped);
@@ -51,7 +51,7 @@ pages-preserved c = record {
 
 pub returns : goal.returns
 returns c = λ blocks s before.
-    let test : Block → Bool = λ rule. holds_value rule c.args.value in
+    let test : Block → Bool = λ rule. holds_value rule c.args.probe.value in
     let low : c.pages.from ≤ 64 = c.pages.invariant.low in
     let ones = length-replicate c.args.table.now.rules true in
     let n = s.one_each in
@@ -60,5 +60,5 @@ returns c = λ blocks s before.
     let up : 64 * c.args.q + 64 ≡ 64 * (c.args.q + 1) = omega arith in
     subst (λ z. LeadsNowhere c.args.ends.now.items m c.args.now (64 * (64 * z))) up
     (nowhere-skip c.args.ends.now.items m c.args.now (64 * (64 * (64 * c.args.q + c.pages.from))) (64 * (64 * (64 * c.args.q + 64))) long
-    (none-matched c.args.table.now c.args.value blocks _ _ s (no-page-between c.args.table.now c.args.value c.args.q c.candidate_pages-candidates.result c.pages.from 64 c.candidate_pages-candidates.ensures.none (omega arith) c.in_default.ensures))
+    (none-matched c.args.table.now c.args.probe.value blocks _ _ s (no-page-between c.args.table.now c.args.probe.value c.args.q c.candidate_pages-candidates.result c.pages.from 64 c.candidate_pages-candidates.ensures.none (omega arith) c.in_default.ensures))
     (c.pages.invariant.nowhere blocks s before))

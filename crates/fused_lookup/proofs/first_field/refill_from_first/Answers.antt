@@ -1,5 +1,7 @@
-use Rattle.std.proofs.Common.{◌≤◌, ◌*◌, refl, ◌∙◌, arith, length}
+use Rattle.std.proofs.Common.{ℕ, ◌≤◌, ◌*◌, refl, ◌∙◌, subst, arith, length, true}
+use Rattle.std.specs.Prelude.{replicate}
 use Rattle.set_model.specs.Blocks.{holds_value}
+use Rattle.fused_lookup.specs.Filled.{Refills}
 use Rattle.fused_lookup.proofs.AllLaws.{all-refilled}
 use Rattle.fused_lookup.proofs.FillLaws.{inside-more}
 use Rattle.fused_lookup.proofs.WindowLaws.{clear-window}
@@ -30,7 +32,8 @@ pages-preserved c = record {
 pub returns-then-is_empty-clause-refilled : goal.returns-then-is_empty-clause-refilled
 returns-then-is_empty-clause-refilled c =
     let past : c.args.table.now.rules ≤ 64 * (64 * c.pages.p) = omega (arith, c.div_ceil-p-end.ensures) in
-    all-refilled c.args.table.now c.args.spans.now.items (λ rule. holds_value rule c.args.value) (64 * c.pages.p) c.args.next.now.bits c.pages.next.bits c.requires.rules past c.requires.clear c.pages.invariant.filled
+    subst (λ (v : ℕ). Refills c.args.table.now c.args.spans.now.items (λ rule. holds_value rule v) (replicate c.args.table.now.rules true) c.pages.next.bits) c.new-probe.ensures.value
+    (all-refilled c.args.table.now c.args.spans.now.items (λ rule. holds_value rule c.new-probe.result.value) (64 * c.pages.p) c.args.next.now.bits c.pages.next.bits c.requires.rules past c.requires.clear c.pages.invariant.filled)
 
 pub returns-then-is_empty-clause-window : goal.returns-then-is_empty-clause-window
 returns-then-is_empty-clause-window c = c.pages.invariant.window
@@ -61,4 +64,5 @@ tops-preserved c =
 pub returns-clause-refilled : goal.returns-clause-refilled
 returns-clause-refilled c =
     let past : c.args.table.now.rules ≤ 64 * (64 * (64 * c.tops.q)) = omega (arith, c.div_ceil-q-end.ensures) in
-    all-refilled c.args.table.now c.args.spans.now.items (λ rule. holds_value rule c.args.value) (64 * (64 * c.tops.q)) c.args.next.now.bits c.tops.next.bits c.requires.rules past c.requires.clear c.tops.invariant.filled
+    subst (λ (v : ℕ). Refills c.args.table.now c.args.spans.now.items (λ rule. holds_value rule v) (replicate c.args.table.now.rules true) c.tops.next.bits) c.new-probe.ensures.value
+    (all-refilled c.args.table.now c.args.spans.now.items (λ rule. holds_value rule c.new-probe.result.value) (64 * (64 * c.tops.q)) c.args.next.now.bits c.tops.next.bits c.requires.rules past c.requires.clear c.tops.invariant.filled)

@@ -31,14 +31,14 @@ words-preserved c = record {
       let next : IsNextBit c.candidates-candidates.result c.words.from c.in-Some.k = c.in-Some.ensures in
       let low : c.words.from ≤ c.in-Some.k = next.from_on in
       let high : c.in-Some.k < 64 = next.within in
-      let test : Block → Bool = λ rule. holds_value rule c.args.value in
+      let test : Block → Bool = λ rule. holds_value rule c.args.probe.value in
       let ones = length-replicate c.args.table.now.rules true in
       let n = s.one_each in
       let m = matched test blocks (replicate c.args.table.now.rules true) in
       let long : length m ≡ length c.args.spans.now.items = length-left test blocks (replicate c.args.table.now.rules true) (omega arith) ∙ n ∙ sym c.requires.rules in
       let up : 64 * c.args.p + c.in-Some.k + 1 ≡ 64 * c.args.p + (c.in-Some.k + 1) = omega arith in
       let skipped = filled-skip c.args.spans.now.items m (64 * (64 * c.args.p + c.words.from)) (64 * (64 * c.args.p + c.in-Some.k)) c.words.next.bits long (omega arith)
-      (none-matched c.args.table.now c.args.value blocks _ _ s (none-between c.args.table.now c.args.value c.args.p c.candidates-candidates.result c.words.from c.in-Some.k c.candidates-candidates.ensures.none (omega arith) next.least))
+      (none-matched c.args.table.now c.args.probe.value blocks _ _ s (none-between c.args.table.now c.args.probe.value c.args.p c.candidates-candidates.result c.words.from c.in-Some.k c.candidates-candidates.ensures.none (omega arith) next.least))
       (c.words.invariant.filled blocks s before) in
       subst (λ z. IsFilled c.args.spans.now.items m (64 * z) c.refill_word-window.new.next.bits) up
       (c.refill_word-window.ensures.filled m long
@@ -50,7 +50,7 @@ words-preserved c = record {
 
 pub returns-clause-filled : goal.returns-clause-filled
 returns-clause-filled c = λ blocks s before.
-    let test : Block → Bool = λ rule. holds_value rule c.args.value in
+    let test : Block → Bool = λ rule. holds_value rule c.args.probe.value in
     let low : c.words.from ≤ 64 = c.words.invariant.low in
     let ones = length-replicate c.args.table.now.rules true in
     let n = s.one_each in
@@ -59,5 +59,5 @@ returns-clause-filled c = λ blocks s before.
     let up : 64 * c.args.p + 64 ≡ 64 * (c.args.p + 1) = omega arith in
     subst (λ z. IsFilled c.args.spans.now.items m (64 * z) c.words.next.bits) up
     (filled-skip c.args.spans.now.items m (64 * (64 * c.args.p + c.words.from)) (64 * (64 * c.args.p + 64)) c.words.next.bits long (omega arith)
-    (none-matched c.args.table.now c.args.value blocks _ _ s (none-between c.args.table.now c.args.value c.args.p c.candidates-candidates.result c.words.from 64 c.candidates-candidates.ensures.none (omega arith) c.in_default.ensures))
+    (none-matched c.args.table.now c.args.probe.value blocks _ _ s (none-between c.args.table.now c.args.probe.value c.args.p c.candidates-candidates.result c.words.from 64 c.candidates-candidates.ensures.none (omega arith) c.in_default.ensures))
     (c.words.invariant.filled blocks s before))

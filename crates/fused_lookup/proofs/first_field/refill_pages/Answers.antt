@@ -27,14 +27,14 @@ pages-preserved c = record {
       let next : IsNextBit c.candidate_pages-candidates.result c.pages.from c.in-Some.k = c.in-Some.ensures in
       let low : c.pages.from ≤ c.in-Some.k = next.from_on in
       let high : c.in-Some.k < 64 = next.within in
-      let test : Block → Bool = λ rule. holds_value rule c.args.value in
+      let test : Block → Bool = λ rule. holds_value rule c.args.probe.value in
       let ones = length-replicate c.args.table.now.rules true in
       let n = s.one_each in
       let m = matched test blocks (replicate c.args.table.now.rules true) in
       let long : length m ≡ length c.args.spans.now.items = length-left test blocks (replicate c.args.table.now.rules true) (omega arith) ∙ n ∙ sym c.requires.rules in
       let up : 64 * c.args.q + c.in-Some.k + 1 ≡ 64 * c.args.q + (c.in-Some.k + 1) = omega arith in
       let skipped = filled-skip c.args.spans.now.items m (64 * (64 * (64 * c.args.q + c.pages.from))) (64 * (64 * (64 * c.args.q + c.in-Some.k))) c.pages.next.bits long (omega arith)
-      (none-matched c.args.table.now c.args.value blocks _ _ s (no-page-between c.args.table.now c.args.value c.args.q c.candidate_pages-candidates.result c.pages.from c.in-Some.k c.candidate_pages-candidates.ensures.none (omega arith) next.least))
+      (none-matched c.args.table.now c.args.probe.value blocks _ _ s (no-page-between c.args.table.now c.args.probe.value c.args.q c.candidate_pages-candidates.result c.pages.from c.in-Some.k c.candidate_pages-candidates.ensures.none (omega arith) next.least))
       (c.pages.invariant.filled blocks s before) in
       subst (λ z. IsFilled c.args.spans.now.items m (64 * (64 * z)) c.refill_page-window.new.next.bits) up (c.refill_page-window.ensures.filled blocks s skipped);
   window = c.refill_page-window.ensures.window;
@@ -44,7 +44,7 @@ pages-preserved c = record {
 
 pub returns-clause-filled : goal.returns-clause-filled
 returns-clause-filled c = λ blocks s before.
-    let test : Block → Bool = λ rule. holds_value rule c.args.value in
+    let test : Block → Bool = λ rule. holds_value rule c.args.probe.value in
     let low : c.pages.from ≤ 64 = c.pages.invariant.low in
     let ones = length-replicate c.args.table.now.rules true in
     let n = s.one_each in
@@ -53,5 +53,5 @@ returns-clause-filled c = λ blocks s before.
     let up : 64 * c.args.q + 64 ≡ 64 * (c.args.q + 1) = omega arith in
     subst (λ z. IsFilled c.args.spans.now.items m (64 * (64 * z)) c.pages.next.bits) up
     (filled-skip c.args.spans.now.items m (64 * (64 * (64 * c.args.q + c.pages.from))) (64 * (64 * (64 * c.args.q + 64))) c.pages.next.bits long (omega arith)
-    (none-matched c.args.table.now c.args.value blocks _ _ s (no-page-between c.args.table.now c.args.value c.args.q c.candidate_pages-candidates.result c.pages.from 64 c.candidate_pages-candidates.ensures.none (omega arith) c.in_default.ensures))
+    (none-matched c.args.table.now c.args.probe.value blocks _ _ s (no-page-between c.args.table.now c.args.probe.value c.args.q c.candidate_pages-candidates.result c.pages.from 64 c.candidate_pages-candidates.ensures.none (omega arith) c.in_default.ensures))
     (c.pages.invariant.filled blocks s before))
