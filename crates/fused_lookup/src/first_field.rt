@@ -35,7 +35,7 @@ pub fn refill_from_first(
     let probe = Probe::new(table, value);
     let mut reached = Window::none();
     if table.tops.is_empty() {
-        // Every page is a candidate.
+        // Every page is a candidate. Sets are small as a rule, and each lookup would pay for the question.
         'pages: for p in 0..table.rules.div_ceil(4096) {
             reached = refill_page(table, spans, probe, p, next, reached);
         }
@@ -120,7 +120,7 @@ pub fn lead_from_first(table: &FieldTable, ends: &EndTable, value: u128, now: u6
 {
     let probe = Probe::new(table, value);
     if table.tops.is_empty() {
-        // Every page is a candidate.
+        // Every page is a candidate. Sets are small as a rule, and each lookup would pay for the question.
         'pages: for p in 0..table.rules.div_ceil(4096) {
             if let Some(place) = lead_page(table, ends, probe, p, now) {
                 return Some(place);

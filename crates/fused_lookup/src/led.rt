@@ -15,6 +15,8 @@ pub(crate) fn first_live(ends: &EndTable, i: u32, word: u64, now: u64) -> Option
     requires { IsWithinRules (length ends.now.items) i word }
     ensures { LeadsWord ends.now.items i word now result }
 {
+    // The word's moment is eight bytes beside its neighbours', its ends are a kilobyte: asked only behind an expired end,
+    // each word of expired ends costs a line of memory more.
     if word == 0 || ends.is_word_expired(i, now) {
         return None;
     }

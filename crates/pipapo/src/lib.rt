@@ -21,7 +21,7 @@
 //! **What waits:** nothing. An enter and a leave are one atomic addition each, and a commit finds a free place for its
 //! generation within readers + 1 looks. A `Held` that is never left keeps its generation, and blocks nobody.
 //!
-//! **What takes memory:** `start`, the five changes and `commit`, each of which leaves everything as it was where memory is
+//! **What takes memory:** of these `start`, the five changes and `commit`, each of which leaves everything as it was where memory is
 //! wanting. `enter`, `lookup`, `leave`, `abort` and notes take none. A set is copied at its first change in a transaction,
 //! and at a commit where an element of it has expired: a copy shares all whole pages, and what is changed gets pages of its
 //! own. Elements that left a set may stand in its tables for a while, unseen, and leave them together.
@@ -29,6 +29,22 @@
 //!
 //! **What is asked:** a set that is declared, and intervals and values of its kinds. `Control::fits` and `Held::fits` test it;
 //! no call tests it again. Sets and fields are numbered from 0, and moments are milliseconds.
+//!
+//! # How a set is looked up
+//!
+//! A set of addresses and ports has two elements:
+//!
+//! ```text
+//! element 0:  10.0.0.5                    . 1024
+//! element 1:  192.168.1.0-192.168.2.1     . 2048
+//! ```
+//!
+//! Each interval is split into blocks whose values differ in their lowest bits alone, and each block is a rule of its field: the
+//! addresses have rule 0, 10.0.0.5, of element 0, and rules 1 and 2, 192.168.1.0/24 and 192.168.2.0/31, of element 1. For each byte of
+//! a field and each of its values a bitmap has a bit for each rule with which it agrees. A lookup ANDs one bitmap a byte: of
+//! 192.168.1.5 these are 011, 011, 010 and 110, rule 0 first, and 010 is left, rule 1. Each rule leads to those of its element in the
+//! next field, where the port's bitmaps follow, and in the last field to the element. No interval is compared, and the lowest rule
+//! that is left is of the earliest element.
 //!
 //! # A set by itself
 //!
@@ -43,8 +59,9 @@
 //! write.
 //!
 //! **Each call's promise and cost:** docs/library.md. **Definitions:** docs/definitions.md; the
-//! contracts stand in `gen_publish`. **Theory:** the first page of `gen_publish`, and
-//! docs/architecture.md, "The way of a packet" and "The way of a change".
+//! contracts of controls and readers stand in `gen_publish`, of a transaction in `set_space`, of a set in
+//! `pipapo_image`. **Theory:** the first page of `gen_publish`, and docs/architecture.md: "The way of a
+//! packet" and "The way of a change", and "The classifier, by one example" for how a set is looked up.
 //!
 //! # Example
 //!
@@ -106,14 +123,14 @@
 #![tactic(auto)]
 
 pub use gen_publish::{Control, Held, Note, Reader, Receipt, start};
-pub use key_file::{KeyError, read_keys};
+pub use key_file::{KeyError, Reason, read_keys};
 pub use packet_pool::{Gate, OpenGate, run_steps};
 pub use pipapo_image::{Added, ChangeError, Scratch, SetImage as Set};
 pub use script_run::{Output, dump, has_numbers, listing, transcript};
 pub use set_model::{
-    Comment, Event, Events, Family, Found, Interval, Key, Keys, Kind, Kinds, Memory, Name,
-    NewElement, Packet, Packets, Parts, Schema, Script, Sections, SetDecl, Step, Steps, Verb, Why,
-    fits, parts_fit,
+    Comment, Duplicate, Event, Events, Family, Found, Interval, Key, Keys, Kind, Kinds, Memory,
+    Name, NewElement, Packet, Packets, Parts, Schema, Script, Sections, SetDecl, Step, Steps, Verb,
+    Why, fits, parts_fit,
 };
 pub use set_report::{write_events, write_list};
 pub use set_script::{ScriptError, read_script};

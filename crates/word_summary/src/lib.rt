@@ -1,10 +1,10 @@
 //! A summary of the rules of a field: for each byte of the field's value and each value of the byte,
 //! which words of 64 rules have one that agrees.
 //!
-//! A lookup ANDs one line of marks for each byte of its key, from the last one on and until at most one
-//! word is left, and visits only the words that are left. They are candidates: a word in which some
-//! rule agrees with each byte, but no rule with all of them, is one too. No word with a rule that holds
-//! the key is left out.
+//! A lookup ANDs one line of marks for each byte of its key: those of the last four bytes, and of the bytes
+//! before them until at most one word is left. It visits only the words that are left. They are candidates:
+//! a word in which some rule agrees with each byte, but no rule with all of them, is one too. No word with a
+//! rule that holds the key is left out.
 //!
 //! The marks of 64 words of rules are a page of words that copies share: a line for each byte of a
 //! field's value and each of the byte's 256 values, line `g * 256 + v` for value `v` of byte `g`. Bit
