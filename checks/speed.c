@@ -7,7 +7,7 @@
 /* crates/pipapo_speed: a slice crosses as a pointer and a count. */
 extern uint64_t pipapo_run(const uint32_t *kinds, size_t kind_count, const uint64_t *elements,
                            size_t element_words, const uint64_t *keys, size_t key_words, uint32_t rounds,
-                           uint32_t textbook, uint64_t *answers, size_t answer_count);
+                           uint32_t lookups, uint64_t *answers, size_t answer_count);
 
 extern uint64_t pipapo_change(const uint32_t *kinds, size_t kind_count, const uint64_t *elements,
                               size_t element_words, uint32_t rounds, uint32_t change);
@@ -144,10 +144,12 @@ static uint64_t find_plain(struct table *t, const value_t *key) {
 
 /* ---- what is measured */
 
+enum { FUSED = 0, TEXTBOOK = 1, EXPIRED = 2 };
+
 struct call {
     const struct workload *w;
     uint64_t *elements, *keys, *answers;
-    uint32_t textbook;
+    uint32_t lookups; /* FUSED, TEXTBOOK or EXPIRED */
     uint64_t bytes;
 };
 
@@ -156,7 +158,7 @@ static double timed_run(struct call *c, uint32_t rounds) {
     memset(c->answers, 0, w->key_count * 8);
     double start = seconds();
     c->bytes = pipapo_run(w->kinds, w->fields, c->elements, w->element_count * w->fields * 4, c->keys,
-                          w->key_count * w->fields * 2, rounds, c->textbook, c->answers, w->key_count);
+                          w->key_count * w->fields * 2, rounds, c->lookups, c->answers, w->key_count);
     double time = seconds() - start;
     if (!c->bytes) fail("want of memory");
     return time;
@@ -263,7 +265,7 @@ static void bench_plain(const struct workload *w) {
 int main(int argc, char **argv) {
     struct workload w = {0};
     keep_memory();
-    if (argc != 3) fail("usage: verdict FILE | bench FILE | textbook FILE | plain FILE | changes FILE | disjoint FILE");
+    if (argc != 3) fail("usage: verdict FILE | bench FILE | textbook FILE | expired FILE | plain FILE | changes FILE | disjoint FILE");
     read_workload(&w, argv[2]);
     struct call c = {.w = &w};
     c.elements = words_of(w.elements, w.element_count * w.fields * 2);
@@ -278,7 +280,10 @@ int main(int argc, char **argv) {
     } else if (!strcmp(argv[1], "bench")) {
         bench(&c);
     } else if (!strcmp(argv[1], "textbook")) {
-        c.textbook = 1;
+        c.lookups = TEXTBOOK;
+        bench(&c);
+    } else if (!strcmp(argv[1], "expired")) {
+        c.lookups = EXPIRED;
         bench(&c);
     } else if (!strcmp(argv[1], "changes")) {
         changes(&c);
@@ -287,7 +292,7 @@ int main(int argc, char **argv) {
     } else if (!strcmp(argv[1], "plain")) {
         bench_plain(&w);
     } else {
-        fail("usage: verdict FILE | bench FILE | textbook FILE | plain FILE | changes FILE | disjoint FILE");
+        fail("usage: verdict FILE | bench FILE | textbook FILE | expired FILE | plain FILE | changes FILE | disjoint FILE");
     }
     return 0;
 }

@@ -4,6 +4,7 @@
 address-port   ranges of IPv4 addresses and of ports
 long-port      ranges of IPv6 addresses and of ports
 port-proto     small ranges of ports, and single protocols
+same-element   one range of addresses and one of ports over and over (for `checks/speed expired`)
 
 net_port port_net net6_port port_proto net6_port_mac net6_port_mac_proto net_mac net_port_100k
                as the performance part of the kernel's own test of these sets: each element has two values after the last
@@ -162,6 +163,8 @@ def drawn(name, count, share):
         kinds, elements = [NET6, PORT], ranges(rng, count, 128, 8)
     elif name == "port-proto":
         kinds, elements = [PORT, PROTO], port_proto(rng, count)
+    elif name == "same-element":
+        kinds, elements = [NET, PORT], [((10 << 24, (10 << 24) + 255), (80, 443))] * count
     else:
         sys.exit(__doc__)
     keys = []

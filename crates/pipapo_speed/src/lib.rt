@@ -10,10 +10,12 @@ mod numbers;
 mod run;
 mod workload;
 
+use run::Lookups;
 use std::alloc::Global;
 
-/// Builds a set of these elements and looks up all keys `rounds` times, by the textbook lookup where
-/// `textbook` isn't 0. It gives the bytes of the set's tables, and 0 where there is no memory or the
+/// Builds a set of these elements and looks up all keys `rounds` times: as packets do (`lookups` 0), by the
+/// textbook lookup (1), or as packets do where each element but the last expired before the next one came (2).
+/// It gives the bytes of the set's tables, and 0 where there is no memory or the
 /// workload is no good.
 ///
 /// `kinds` has a number for each field: 0 to 5 for `ipv4_addr`, `ipv6_addr`, `ether_addr`,
@@ -27,10 +29,15 @@ pub extern "C" fn pipapo_run(
     elements: &[u64],
     keys: &[u64],
     rounds: u32,
-    textbook: u32,
+    lookups: u32,
     answers: &mut [u64],
 ) -> u64 {
-    match run::run(alloc, kinds, elements, keys, rounds, textbook != 0, answers) {
+    let lookups = match lookups {
+        0 => Lookups::Fused,
+        1 => Lookups::Textbook,
+        _ => Lookups::Expired,
+    };
+    match run::run(alloc, kinds, elements, keys, rounds, lookups, answers) {
         Ok(bytes) => bytes,
         Err(_) => 0,
     }

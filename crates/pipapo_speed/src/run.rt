@@ -20,12 +20,26 @@ impl From<Memory> for Fault {
     }
 }
 
+/// Which lookups are measured, and in what set.
+#[derive(Clone, Copy, PartialEq, Eq)]
+pub(crate) enum Lookups {
+    /// Those that packets take.
+    Fused,
+    /// The textbook's.
+    Textbook,
+    /// Those that packets take, where each element but the last expired before the next one came.
+    Expired,
+}
+
 /// A set that is measured, with the number of each of its elements in the workload.
 #[derive(Drop)]
 struct Measured {
     set: SetImage,
     scratch: Scratch,
     numbers: Vec<u64>,
+    // The moment of the next addition, and behind the last one of all lookups.
+    now: u64,
+    lookups: Lookups,
     alloc: Global,
 }
 
@@ -36,24 +50,26 @@ pub(crate) fn run(
     elements: &[u64],
     keys: &[u64],
     rounds: u32,
-    textbook: bool,
+    lookups: Lookups,
     answers: &mut [u64],
 ) -> Result<u64, Fault> {
-    let mut measured = Measured::new(alloc, kinds)?;
+    let mut measured = Measured::new(alloc, kinds, lookups)?;
     measured.fill(elements, kinds.len())?;
-    measured.look_up(keys, rounds, textbook, answers)?;
+    measured.look_up(keys, rounds, answers)?;
     measured.number(answers);
     Ok(table_bytes(&measured.set))
 }
 
 impl Measured {
-    fn new(alloc: Global, kinds: &[u32]) -> Result<Measured, Fault> {
+    fn new(alloc: Global, kinds: &[u32], lookups: Lookups) -> Result<Measured, Fault> {
         let scratch = Scratch::new(alloc)?;
         match new_set(alloc, kinds, false) {
             Ok(set) => Ok(Measured {
                 set,
                 scratch,
                 numbers: Vec::new(alloc),
+                now: 0,
+                lookups,
                 alloc,
             }),
             Err(fault) => Err(fault),
@@ -69,8 +85,19 @@ impl Measured {
     }
 
     fn add_one(&mut self, elements: &[u64], fields: usize, e: usize) -> Result<(), Memory> {
-        let element = element_at(self.alloc, elements, fields, e, None)?;
-        match add(self.alloc, &mut self.set, &element, &mut self.scratch) {
+        let mut expiry = None;
+        if self.lookups == Lookups::Expired {
+            self.now = e as u64;
+            expiry = Some(self.now.saturating_add(1));
+        }
+        let element = element_at(self.alloc, elements, fields, e, expiry)?;
+        match add(
+            self.alloc,
+            &mut self.set,
+            &element,
+            self.now,
+            &mut self.scratch,
+        ) {
             Ok(true) => note(&mut self.numbers, e as u64),
             Ok(false) => Ok(()),
             Err(memory) => Err(memory),
@@ -78,21 +105,15 @@ impl Measured {
     }
 
     /// Looks all keys up so many times.
-    fn look_up(
-        &mut self,
-        keys: &[u64],
-        rounds: u32,
-        textbook: bool,
-        answers: &mut [u64],
-    ) -> Result<(), Memory> {
+    fn look_up(&mut self, keys: &[u64], rounds: u32, answers: &mut [u64]) -> Result<(), Memory> {
         let keys = keys_of(self.alloc, self.set.kinds(), keys, answers.len())?;
-        let scratch = &mut self.scratch;
         look_up_all(
             &self.set,
             keys.as_slice(),
-            scratch,
+            self.now,
             rounds,
-            textbook,
+            self.lookups,
+            &mut self.scratch,
             answers,
         );
         Ok(())
@@ -127,12 +148,13 @@ fn add(
     alloc: Global,
     set: &mut SetImage,
     element: &NewElement,
+    now: u64,
     scratch: &mut Scratch,
 ) -> Result<bool, Memory> {
     if !parts_fit(set.kinds(), &element.parts) {
         return Ok(false);
     }
-    match set.insert(alloc, element, 0, scratch) {
+    match set.insert(alloc, element, now, scratch) {
         Ok(Added::New { .. }) => Ok(true),
         Err(ChangeError::Memory) => Err(Memory),
         _ => Ok(false),
@@ -143,29 +165,30 @@ fn add(
 fn look_up_all(
     set: &SetImage,
     keys: &[Key],
-    scratch: &mut Scratch,
+    now: u64,
     rounds: u32,
-    textbook: bool,
+    lookups: Lookups,
+    scratch: &mut Scratch,
     answers: &mut [u64],
 )
     requires { All (λ key. key_fits set.now.kinds key ≡ true) keys.now }
 {
     for _ in 0..rounds {
-        if textbook {
-            plain_round(set, keys, scratch, answers);
+        if lookups == Lookups::Textbook {
+            plain_round(set, keys, now, scratch, answers);
         } else {
-            round(set, keys, scratch, answers);
+            round(set, keys, now, scratch, answers);
         }
     }
 }
 
 /// Looks each key up once. An answer is the place behind the element's, or 0.
 #[inline(never)]
-fn round(set: &SetImage, keys: &[Key], scratch: &mut Scratch, answers: &mut [u64])
+fn round(set: &SetImage, keys: &[Key], now: u64, scratch: &mut Scratch, answers: &mut [u64])
     requires { All (λ key. key_fits set.now.kinds key ≡ true) keys.now }
 {
     'keys: for (key, answer) in keys.iter().zip(answers.iter_mut()) {
-        *answer = match set.find(key, 0, scratch) {
+        *answer = match set.find(key, now, scratch) {
             Some(found) => found.place.saturating_add(1),
             None => 0,
         };
@@ -174,11 +197,11 @@ fn round(set: &SetImage, keys: &[Key], scratch: &mut Scratch, answers: &mut [u64
 
 /// The same by the textbook lookup.
 #[inline(never)]
-fn plain_round(set: &SetImage, keys: &[Key], scratch: &mut Scratch, answers: &mut [u64])
+fn plain_round(set: &SetImage, keys: &[Key], now: u64, scratch: &mut Scratch, answers: &mut [u64])
     requires { All (λ key. key_fits set.now.kinds key ≡ true) keys.now }
 {
     'keys: for (key, answer) in keys.iter().zip(answers.iter_mut()) {
-        *answer = match set.plain_place(key, 0, scratch) {
+        *answer = match set.plain_place(key, now, scratch) {
             Some(place) => place.saturating_add(1),
             None => 0,
         };
