@@ -165,7 +165,6 @@ impl EndTable {
         requires later { All (λ e. 1 ≤ e.place) (drop (first + n) self.old.items) }
         requires own { OwnsFrom first self.old }
         ensures items { self.new.items ≡ ends_without self.old.items first n }
-        ensures own { KeepsOwn self.old self.new }
         ensures taken { TakesNone (length self.new.items) self.old self.new }
     {
         close_up(&mut self.ends, first, n);

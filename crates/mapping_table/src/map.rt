@@ -119,7 +119,6 @@ impl MapTable {
         requires high { All (λ s. next_n ≤ s.first) (drop (first + n) self.old.items) }
         requires own { OwnsFrom first self.old }
         ensures items { self.new.items ≡ spans_without self.old.items first n next_n }
-        ensures own { KeepsOwn self.old self.new }
         ensures taken { TakesNone (length self.new.items) self.old self.new }
     {
         close_up(&mut self.spans, first, n, next_n);

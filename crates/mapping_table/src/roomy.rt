@@ -197,7 +197,6 @@ impl<T: Copy + Drop> Roomy<T> {
         requires own { OwnsFrom len self.old }
         ensures items { self.new.items ≡ take len self.old.items }
         ensures room { length self.new.items + self.new.spare ≤ length self.old.items + self.old.spare }
-        ensures own { KeepsOwn self.old self.new }
         ensures taken { TakesNone len self.old self.new }
     {
         self.reopen(len);
@@ -210,7 +209,6 @@ impl<T: Copy + Drop> Roomy<T> {
         requires own { OwnsRange len 1 self.old }
         ensures items { take len self.new.items ≡ take len self.old.items }
         ensures room { length self.new.items + self.new.spare ≤ length self.old.items + self.old.spare }
-        ensures own { KeepsOwn self.old self.new }
         ensures taken { TakesNone len self.old self.new }
     {
         let count = len as usize / PAGE;

@@ -1,6 +1,6 @@
-use Rattle.std.proofs.Common.{◌≡◌, ◌∙◌, ap, ◌+◌, ◌/◌, length, get_or, take, true, arith}
-use Rattle.shared_pages.proofs.PageLaws.{items-length, cut-page, own-front}
-use Rattle.std.proofs.lemmas.List.{take-set, length-take}
+use Rattle.std.proofs.Common.{◌≡◌, ◌∙◌, ap, sym, ◌+◌, ◌/◌, length, take, arith}
+use Rattle.shared_pages.proofs.PageLaws.{items-length, cut-page}
+use Rattle.std.proofs.lemmas.List.{take-set, take-map, length-take, length-map}
 use Rattle.std.proofs.lemmas.List.Elements.{All-take}
 use Rattle.shared_pages.specs.Paged.{items_in, owns_of, IsWhole}
 use Rattle.mapping_table.proofs.roomy.Roomy.reopen.Goals as goal
@@ -13,13 +13,6 @@ returns-clause-items g c =
     ap (λ pages. take c.args.len (items_in pages c.into_vec.result.items)) front ∙ ap (λ t. take c.args.len (items_in (take count c.self.inside.whole.items) t)) last
     ∙ cut-page c.self.inside.whole.items c.self.inside.rest.items count c.args.len c.index_mut-page.result.now c.self.invariant.whole (omega arith) c.index_mut-page.ensures.value (omega arith)
     ∙ ap (λ v. take c.args.len v.items) c.self.view_is
-
-pub returns-clause-own : goal.returns-clause-own
-returns-clause-own g c =
-    let count = c.args.len / 512 in
-    let front : c.truncate.new.self.items ≡ take (c.args.len / 512) c.self.inside.whole.items = c.truncate.ensures.items ∙ take-set c.self.inside.whole.items count _ in
-    let e = ap (λ v. v.own) c.self.view_is in
-    record { own = λ i h. ap (λ pages. get_or (owns_of pages) (i / 512) true) front ∙ own-front c.self.inside.whole.items count (i / 512) (ap (λ os. get_or os (i / 512) true) e ∙ h) }
 
 pub returns-clause-room : goal.returns-clause-room
 returns-clause-room g c =
@@ -34,3 +27,14 @@ returns-clause-room g c =
     let stood = ap (λ v. length v.items + v.spare) c.self.view_is in
     let same = ap (λ pages. length (items_in pages c.into_vec.result.items)) front in
     omega (arith, ap length last)
+
+pub returns-clause-taken : goal.returns-clause-taken
+returns-clause-taken g c =
+    let count = c.args.len / 512 in
+    let front : c.truncate.new.self.items ≡ take (c.args.len / 512) c.self.inside.whole.items = c.truncate.ensures.items ∙ take-set c.self.inside.whole.items count _ in
+    record {
+      own = ap owns_of front ∙ sym (take-map (λ page. page.own) count c.self.inside.whole.items) ∙ ap (λ v. take count v.own) c.self.view_is;
+      others = grind arith;
+      all = λ most. absurd (omega (arith, most, ap (λ v. length v.own) c.self.view_is, length-map c.self.inside.whole.items (λ page. page.own)));
+      opened = grind arith;
+    }
