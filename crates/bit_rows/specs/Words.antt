@@ -12,8 +12,8 @@ unfoldable pub first_bits : List ℕ → ℕ → List Bool
 first_bits words len = map (bit_in words) (range_with_len 0 len)
 
 -- how many places n words have, as a u32 says it
-abbrev pub room_of : ℕ → ℕ
-room_of n = min (64 * n) (2 ^ 32 - 1)
+abbrev pub places_in : ℕ → ℕ
+places_in n = min (64 * n) (2 ^ 32 - 1)
 
 -- the places from `len` on are not set
 abbrev pub IsClearFrom : List ℕ → ℕ → Type 0

@@ -1,7 +1,7 @@
 ghost use Rattle.std.specs.Prelude.{◌≡◌, ℕ, ◌+◌, ◌-◌, ◌*◌, ◌%◌, ◌^◌, ◌<◌, ◌≤◌, false, [], ◌∷◌, ◌++◌, length, replicate, cond, vec_capacity, IfOk, OnOk, OnErr, MatchOption};
 ghost use Rattle.set_model.specs.Runs.{without_run};
 ghost use Rattle.bit_rows.specs.Row.{Row, at, both, either, with_run, bit, IsNextSet, IsCleared, IsWordPut, IsSpelling};
-ghost use Rattle.bit_rows.specs.Words.{first_bits, room_of, IsStored};
+ghost use Rattle.bit_rows.specs.Words.{first_bits, places_in, IsStored};
 
 use crate::{storage, words};
 use set_model::Memory;
@@ -23,7 +23,7 @@ impl Model for BitRow {
 
     ghost view = { λ r. record {
       bits = first_bits r.words.items r.len;
-      spare = room_of (length r.words.items) - r.len;
+      spare = places_in (length r.words.items) - r.len;
     } };
 
     ghost invariant = { λ r. IsStored r.words.items r.len (vec_capacity r.words) };

@@ -92,16 +92,16 @@ first_seen : (schema : List SetDecl) → IsSeen schema (first_generation schema 
 first_seen schema = record { some = omega arith; grown = (refl, first_kinds schema, tt) }
 
 -- New passes make new readers, which have seen generation 0.
-pub new_seen : (z : TableId) (schema : List SetDecl) (made : List Generation) (k : ℕ) (ps : List (slots.Reading Generation)) → made ≡ first_generation schema ∷ [] → AllNew z made k ps → All (λ p. IsSeen schema p.seen) ps
+pub new_seen : (z : TableId) (schema : List SetDecl) (made : List Generation) (k : ℕ) (ps : List (slots.PassView Generation)) → made ≡ first_generation schema ∷ [] → AllNew z made k ps → All (λ p. IsSeen schema p.seen) ps
 new_seen z schema made k [] is new i d l = absurd (omega (arith, l))
 new_seen z schema made k (p ∷ ps) is new zero d l = subst (IsSeen schema) (sym is ∙ sym (ap (λ x. x.seen) new.0)) (first_seen schema)
 new_seen z schema made k (p ∷ ps) is new (suc i) d l = new_seen z schema made (k + 1) ps is new.1 i d (omega (arith, l))
 
-new_readers : (z : TableId) (schema : List SetDecl) (seen : List Generation) (k : ℕ) (ps : List (slots.Reading Generation)) → AllNew z seen k ps → AllFresh z schema seen k (map (reader_view schema) ps)
+new_readers : (z : TableId) (schema : List SetDecl) (seen : List Generation) (k : ℕ) (ps : List (slots.PassView Generation)) → AllNew z seen k ps → AllFresh z schema seen k (map (reader_view schema) ps)
 new_readers z schema seen k [] new = tt
 new_readers z schema seen k (p ∷ ps) new = (ap (reader_view schema) new.0, new_readers z schema seen (k + 1) ps new.1)
 
-pub fresh_as : (z of : TableId) (t schema : List SetDecl) (made seen : List Generation) (ps : List (slots.Reading Generation)) (rs : List ReaderView) → z ≡ of → t ≡ schema → made ≡ seen → rs ≡ map (reader_view t) ps → AllNew z made 0 ps
+pub fresh_as : (z of : TableId) (t schema : List SetDecl) (made seen : List Generation) (ps : List (slots.PassView Generation)) (rs : List ReaderView) → z ≡ of → t ≡ schema → made ≡ seen → rs ≡ map (reader_view t) ps → AllNew z made 0 ps
     → (length rs ≡ length ps) × AllFresh of schema seen 0 rs
 fresh_as z of t schema made seen ps rs same declared all readers new = (
   ap length readers ∙ length-map ps (reader_view t),

@@ -64,7 +64,7 @@ pub record ReaderView : Type 0 where
   pub moves : ℕ
 
 -- a reader of these declared sets over a pass
-abbrev pub reader_view : List SetDecl → slots.Reading Generation → ReaderView
+abbrev pub reader_view : List SetDecl → slots.PassView Generation → ReaderView
 reader_view schema p = record { of = p.of; schema = schema; seen = p.seen; reader = p.reader; moves = p.moves }
 
 -- Some generations were seen, from generation 0 on.

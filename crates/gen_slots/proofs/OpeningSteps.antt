@@ -20,13 +20,13 @@ use Rattle.gen_slots.specs.declared.board.Role.{Role}
 use Rattle.gen_slots.specs.declared.board.Role.TheVariants.{Idle, Out, Holds, Keeper}
 use Rattle.gen_slots.specs.SlotRule.{lags, Plays, Kept, seat_view, starting, first_plan, moves_of}
 use Rattle.gen_slots.specs.SlotSteps.{given_one, next_reader}
-use Rattle.gen_slots.specs.SlotViews.{AllNew, Reading, laid}
+use Rattle.gen_slots.specs.SlotViews.{AllNew, PassView, laid}
 use Rattle.gen_slots.proofs.Sums.{sum_below-zero, sum_below-zeros, zero_at}
 use Rattle.gen_slots.proofs.Stages.{count_start, count_kept, inside_start, inside_kept, laggards_start, laggards_less, laggards_plan}
 use Rattle.gen_slots.proofs.ReaderSteps.{plays}
 
 module _ {X : Type 0} where
-  pub all_new-snoc : (z : TableId) (seen : List X) (k : ℕ) (ps : List (Reading X)) (p : Reading X) → AllNew z seen k ps → p ≡ record { of = z; seen = seen; reader = k + length ps; moves = 0 } → AllNew z seen k (ps ++ p ∷ [])
+  pub all_new-snoc : (z : TableId) (seen : List X) (k : ℕ) (ps : List (PassView X)) (p : PassView X) → AllNew z seen k ps → p ≡ record { of = z; seen = seen; reader = k + length ps; moves = 0 } → AllNew z seen k (ps ++ p ∷ [])
   all_new-snoc z seen k [] p a e = let zero_more : k + 0 ≡ k = omega arith in (e ∙ (λ i. record { of = z; seen = seen; reader = zero_more i; moves = 0 }), tt)
   all_new-snoc z seen k (x ∷ xs) p a e = let one_more : k + suc (length xs) ≡ k + 1 + length xs = omega arith in (a.0, all_new-snoc z seen (k + 1) xs p a.1 (e ∙ (λ i. record { of = z; seen = seen; reader = one_more i; moves = 0 })))
 

@@ -31,15 +31,15 @@ abbrev pub holders : Machine → ℕ → ℕ
 holders m s = count_by (is_slot s) m.held
 
 -- the count of the slot rises by one, modulo 2 ^ 56
-abbrev pub one_more : List ℕ → ℕ → List ℕ
-one_more counts s = slice_set counts s ((slice_index counts s + 1) % 72057594037927936)
+abbrev pub incremented_at : List ℕ → ℕ → List ℕ
+incremented_at counts s = slice_set counts s ((slice_index counts s + 1) % 72057594037927936)
 
 -- the reader enters: it holds the published slot, whose count of enters rises
 abbrev pub entered_by : ℕ → Machine → Machine
-entered_by r m = record m { held = slice_set m.held r (Some m.published); entered = one_more m.entered m.published }
+entered_by r m = record m { held = slice_set m.held r (Some m.published); entered = incremented_at m.entered m.published }
 
 abbrev pub left_from : ℕ → Option ℕ → Machine → Machine
-left_from r (Some s) m = record m { held = slice_set m.held r None; done = one_more m.done s }
+left_from r (Some s) m = record m { held = slice_set m.held r None; done = incremented_at m.done s }
 left_from r None m = m
 
 -- the reader leaves: it holds nothing, and the count of leaves of its slot rises

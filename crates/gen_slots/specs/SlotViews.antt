@@ -7,15 +7,15 @@ use Rattle.gen_slots.specs.declared.board.Role.{Role}
 use Rattle.gen_slots.specs.declared.board.Role.TheVariants.{Keeper}
 use Rattle.gen_slots.specs.SlotSteps.{slot_states}
 
--- of a reader: which table it is of, the states that it has seen, its number, and how many atomic additions it has made
-pub record Reading (X : Type 0) : Type 0 where
+-- of a reader, holding or not: which table it is of, the states that it has seen, its number, and how many atomic additions it has made
+pub record PassView (X : Type 0) : Type 0 where
   pub of : TableId
   pub seen : List X
   pub reader : ℕ
   pub moves : ℕ
 
-abbrev pub reading : {X : Type 0} → TableId → SeatView X → ℕ → Reading X
-reading z d r = record { of = z; seen = d.seen; reader = r; moves = d.moves }
+abbrev pub pass_view : {X : Type 0} → TableId → SeatView X → ℕ → PassView X
+pass_view z d r = record { of = z; seen = d.seen; reader = r; moves = d.moves }
 
 -- of a note
 pub record Telling (X : Type 0) : Type 0 where
@@ -57,7 +57,7 @@ module _ {X : Type 0} where
   IsPlanAtRest readers published counts role = (p : Plan X) × (role ≡ Keeper p) × (p.readers ≡ readers) × (p.published ≡ published) × (p.counts ≡ counts) × (p.tried ≡ replicate 18 0) × (p.hand ≡ 0)
 
 -- new readers, numbered from k on
-abbrev pub AllNew : {X : Type 0} → TableId → List X → ℕ → List (Reading X) → Type 0
+abbrev pub AllNew : {X : Type 0} → TableId → List X → ℕ → List (PassView X) → Type 0
 AllNew z seen k [] = Unit {0}
 AllNew z seen k (p ∷ ps) = (p ≡ record { of = z; seen = seen; reader = k; moves = 0 }) × AllNew z seen (k + 1) ps
 

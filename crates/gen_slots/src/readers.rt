@@ -2,7 +2,7 @@
 ghost use Rattle.std.specs.Prelude.{◌≡◌, ◌+◌, ◌*◌, ◌≤◌, ◌<◌, [], ◌∷◌, None};
 ghost use Rattle.std.specs.Arc.{arc_value};
 ghost use Rattle.history_laws.specs.Histories.{StartsWith, EndsWith, Chain, longer};
-ghost use Rattle.gen_slots.specs.SlotViews.{IsSized, reading};
+ghost use Rattle.gen_slots.specs.SlotViews.{IsSized, pass_view};
 ghost use Rattle.gen_slots.specs.declared.board.Role.TheVariants.{Out};
 
 use crate::Version;
@@ -25,12 +25,12 @@ impl<T: Version + Drop> Model for Pass<T> {
     ghost use Rattle.std.specs.Prelude.{◌≡◌, ◌<◌, []};
     ghost use Rattle.std.specs.Arc.{arc_value};
     ghost use Rattle.history_laws.specs.Histories.{Chain};
-    ghost use Rattle.gen_slots.specs.SlotViews.{IsSized, Reading, reading};
+    ghost use Rattle.gen_slots.specs.SlotViews.{IsSized, PassView, pass_view};
     ghost use Rattle.gen_slots.specs.declared.board.Role.TheVariants.{Out};
 
-    ghost Value = { Reading T.State };
+    ghost Value = { PassView T.State };
 
-    ghost view = { λ p. reading p.place.table_id p.place.me.0 p.reader };
+    ghost view = { λ p. pass_view p.place.table_id p.place.me.0 p.reader };
 
     ghost invariant = { λ p. (p.place.table_id ≡ (arc_value p.board).shared.table_id) × IsSized p.place.table_id × (p.reader < 16) × (p.place.me.0.role ≡ Out p.reader) × (p.place.me.1 ≡ []) × Chain T.follows p.place.me.0.seen };
 }
@@ -50,12 +50,12 @@ impl<T: Version + Drop> Model for Held<T> {
     ghost use Rattle.std.specs.Prelude.{◌≡◌, ◌+◌, ◌*◌, ◌≤◌, ◌<◌, [], ◌∷◌, None};
     ghost use Rattle.std.specs.Arc.{arc_value};
     ghost use Rattle.history_laws.specs.Histories.{EndsWith, Chain};
-    ghost use Rattle.gen_slots.specs.SlotViews.{IsSized, Reading, reading};
+    ghost use Rattle.gen_slots.specs.SlotViews.{IsSized, PassView, pass_view};
     ghost use Rattle.gen_slots.specs.declared.board.Role.TheVariants.{Holds};
 
-    ghost Value = { Reading T.State };
+    ghost Value = { PassView T.State };
 
-    ghost view = { λ p. reading p.place.table_id p.place.me.0 p.reader };
+    ghost view = { λ p. pass_view p.place.table_id p.place.me.0 p.reader };
 
     ghost invariant = { λ p. (p.place.table_id ≡ (arc_value p.board).shared.table_id) × IsSized p.place.table_id × (p.reader < 16) × (32 * p.slot < p.place.table_id.slots + 64) × (p.place.me.0.role ≡ Holds p.reader p.slot) × (p.place.me.1 ≡ (32 * p.reader + p.slot, None) ∷ []) × EndsWith p.place.me.0.seen (T.state p.value) × Chain T.follows p.place.me.0.seen };
 }
@@ -64,7 +64,7 @@ impl<T: Version + Drop> Pass<T> {
     pub(crate) fn seated(board: Arc<Board<T>, Global>, place: Place<T>, reader: usize) -> Pass<T>
         requires table { (place.table_id ≡ (arc_value board).shared.table_id) × IsSized place.table_id × (reader < 16) }
         requires seat { (place.me.0.role ≡ Out reader) × (place.me.1 ≡ []) × Chain T.follows place.me.0.seen }
-        ensures { result ≡ reading place.table_id place.me.0 reader }
+        ensures { result ≡ pass_view place.table_id place.me.0 reader }
     {
         Pass {
             board,

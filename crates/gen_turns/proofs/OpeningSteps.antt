@@ -16,11 +16,11 @@ use Rattle.gen_turns.specs.declared.board.Role.{Role}
 use Rattle.gen_turns.specs.declared.board.Role.TheVariants.{Idle, Reader, Keeper}
 use Rattle.gen_turns.specs.TurnRule.{turns_at, Entry, HasNumber, stage_of, ticket_of, turns_of, IsStocked, Plays, Sits, Kept, seat_view, starting}
 use Rattle.gen_turns.specs.TurnSteps.{one_more, next_role, given_one, next_reader}
-use Rattle.gen_turns.specs.TurnViews.{AllNew, Reading}
+use Rattle.gen_turns.specs.TurnViews.{AllNew, PassView}
 use Rattle.gen_turns.proofs.SeatMoves.{plays}
 use Rattle.gen_turns.proofs.Stock.{stocked_none}
 
-pub all_new-snoc : {X : Type 0} (z : TableId) (seen : List X) (k : ℕ) (ps : List (Reading X)) (p : Reading X) → AllNew z seen k ps → p ≡ record { of = z; seen = seen; reader = k + length ps } → AllNew z seen k (ps ++ p ∷ [])
+pub all_new-snoc : {X : Type 0} (z : TableId) (seen : List X) (k : ℕ) (ps : List (PassView X)) (p : PassView X) → AllNew z seen k ps → p ≡ record { of = z; seen = seen; reader = k + length ps } → AllNew z seen k (ps ++ p ∷ [])
 all_new-snoc z seen k [] p a e = let zero_more : k + 0 ≡ k = omega arith in (e ∙ (λ i. record { of = z; seen = seen; reader = zero_more i }), tt)
 all_new-snoc z seen k (x ∷ xs) p a e = let one_more : k + suc (length xs) ≡ k + 1 + length xs = omega arith in (a.0, all_new-snoc z seen (k + 1) xs p a.1 (e ∙ (λ i. record { of = z; seen = seen; reader = one_more i })))
 

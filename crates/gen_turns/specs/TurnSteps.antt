@@ -11,6 +11,7 @@ use Rattle.gen_turns.specs.declared.board.Role.{Role}
 use Rattle.gen_turns.specs.declared.board.Role.TheVariants.{Idle, Reader, Keeper}
 use Rattle.gen_turns.specs.TurnRule.{Entry, ShowsLast, AreLast, seat_view}
 
+-- a reader more was given
 abbrev pub one_more : Role → Role
 one_more (Keeper q g) = Keeper q (g + 1)
 one_more role = role

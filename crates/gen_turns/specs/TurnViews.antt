@@ -7,14 +7,14 @@ use Rattle.gen_turns.specs.declared.board.Role.{Role}
 use Rattle.gen_turns.specs.declared.board.Role.TheVariants.{Keeper}
 use Rattle.gen_turns.specs.TurnRule.{Entry}
 
--- of a reader: which table it is of, the states that it has seen, and its number
-pub record Reading (X : Type 0) : Type 0 where
+-- of a reader, entered or not: which table it is of, the states that it has seen, and its number
+pub record PassView (X : Type 0) : Type 0 where
   pub of : TableId
   pub seen : List X
   pub reader : ℕ
 
-abbrev pub reading : {X : Type 0} → TableId → List X → ℕ → Reading X
-reading z seen r = record { of = z; seen = seen; reader = r }
+abbrev pub pass_view : {X : Type 0} → TableId → List X → ℕ → PassView X
+pass_view z seen r = record { of = z; seen = seen; reader = r }
 
 -- of a note
 pub record Telling (X : Type 0) : Type 0 where
@@ -48,6 +48,6 @@ abbrev pub IsLaid : {T : Type 0} → ℕ → List (Entry T) → Type 0
 IsLaid {T} n entry = (v : Vec (Option T)) × (entry ≡ Some v ∷ []) × (v.items ≡ replicate n None)
 
 -- new readers, numbered from k on
-abbrev pub AllNew : {X : Type 0} → TableId → List X → ℕ → List (Reading X) → Type 0
+abbrev pub AllNew : {X : Type 0} → TableId → List X → ℕ → List (PassView X) → Type 0
 AllNew z seen k [] = Unit {0}
 AllNew z seen k (p ∷ ps) = (p ≡ record { of = z; seen = seen; reader = k }) × AllNew z seen (k + 1) ps

@@ -2,7 +2,7 @@
 ghost use Rattle.std.specs.Prelude.{◌≡◌, ◌+◌, [], ◌∷◌, None, slice_set};
 ghost use Rattle.std.specs.Arc.{arc_value};
 ghost use Rattle.history_laws.specs.Histories.{StartsWith, EndsWith, Chain, longer};
-ghost use Rattle.gen_turns.specs.TurnViews.{IsSized, reading};
+ghost use Rattle.gen_turns.specs.TurnViews.{IsSized, pass_view};
 ghost use Rattle.gen_turns.specs.declared.board.Role.TheVariants.{Reader};
 
 use crate::Version;
@@ -27,12 +27,12 @@ impl<T: Version + Drop> Model for Pass<T> {
     ghost use Rattle.std.specs.Prelude.{◌≡◌, []};
     ghost use Rattle.std.specs.Arc.{arc_value};
     ghost use Rattle.history_laws.specs.Histories.{EndsWith, Chain};
-    ghost use Rattle.gen_turns.specs.TurnViews.{IsSized, Reading, reading};
+    ghost use Rattle.gen_turns.specs.TurnViews.{IsSized, PassView, pass_view};
     ghost use Rattle.gen_turns.specs.declared.board.Role.TheVariants.{Reader};
 
-    ghost Value = { Reading T.State };
+    ghost Value = { PassView T.State };
 
-    ghost view = { λ p. reading p.place.table_id p.place.me.0.seen p.reader };
+    ghost view = { λ p. pass_view p.place.table_id p.place.me.0.seen p.reader };
 
     ghost invariant = { λ p. (p.place.table_id ≡ (arc_value p.board).shared.table_id) × IsSized p.place.table_id × (p.place.me.0.role ≡ Reader p.reader) × (p.place.me.0.stage ≡ 1) × (p.place.me.1 ≡ []) × EndsWith p.place.me.0.entered (T.state p.value) × Chain T.follows p.place.me.0.seen };
 }
@@ -50,12 +50,12 @@ impl<T: Version + Drop> Model for Held<T> {
     ghost use Rattle.std.specs.Prelude.{◌≡◌, []};
     ghost use Rattle.std.specs.Arc.{arc_value};
     ghost use Rattle.history_laws.specs.Histories.{EndsWith, Chain};
-    ghost use Rattle.gen_turns.specs.TurnViews.{IsSized, Reading, reading};
+    ghost use Rattle.gen_turns.specs.TurnViews.{IsSized, PassView, pass_view};
     ghost use Rattle.gen_turns.specs.declared.board.Role.TheVariants.{Reader};
 
-    ghost Value = { Reading T.State };
+    ghost Value = { PassView T.State };
 
-    ghost view = { λ p. reading p.place.table_id p.place.me.0.seen p.reader };
+    ghost view = { λ p. pass_view p.place.table_id p.place.me.0.seen p.reader };
 
     ghost invariant = { λ p. (p.place.table_id ≡ (arc_value p.board).shared.table_id) × IsSized p.place.table_id × (p.place.me.0.role ≡ Reader p.reader) × (p.place.me.0.stage ≡ 1) × (p.place.me.1 ≡ []) × (p.place.me.0.entered ≡ p.place.me.0.seen) × EndsWith p.place.me.0.seen (T.state p.value) × Chain T.follows p.place.me.0.seen };
 }
@@ -88,7 +88,7 @@ impl<T: Version + Drop> Pass<T> {
         requires table { (place.table_id ≡ (arc_value board).shared.table_id) × IsSized place.table_id }
         requires seat { (place.me.0.role ≡ Reader reader) × (place.me.0.stage ≡ 1) × (place.me.1 ≡ []) × Chain T.follows place.me.0.seen }
         requires value { EndsWith place.me.0.entered (T.state value) }
-        ensures { result ≡ reading place.table_id place.me.0.seen reader }
+        ensures { result ≡ pass_view place.table_id place.me.0.seen reader }
     {
         Pass {
             board,

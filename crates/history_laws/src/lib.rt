@@ -2,8 +2,8 @@
 //! of the views of a shared table, of which a step changes one.
 //!
 //! **Definitions:** `specs/Histories.antt` says when a list begins or ends another, and which is the
-//! longer; `States.antt` when values have one state. **Proofs:** docs/proofs.md, "Shared words
-//! (`gen_slots`, `gen_turns`)".
+//! longer; `States.antt` when values have one state. **Theory:** docs/architecture.md, "Readers beside
+//! a writer". **Proofs:** docs/proofs.md, "Shared words (`gen_slots`, `gen_turns`)".
 #![tactic(auto)]
 
 ghost use Rattle.history_laws.specs.Histories.{PrefixesOfOne};
