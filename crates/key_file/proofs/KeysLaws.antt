@@ -10,19 +10,19 @@ use Rattle.token_forms.specs.declared.error.ReadError.TheVariants as errors
 use Rattle.token_forms.specs.Token.{Lexeme}
 use Rattle.token_forms.specs.Form.{Form}
 use Rattle.token_forms.specs.Reading.{Outcome}
-use Rattle.token_forms.specs.Words.{breaks_off}
+use Rattle.token_forms.specs.Words.{any_word, breaks_off}
 use Rattle.token_forms.specs.Gives.{Gives}
 use Rattle.token_forms.specs.TextTokens.{text_tokens}
 use Rattle.token_forms.specs.BadTokens.{IsBadTokenOf}
 use Rattle.token_forms.proofs.BadTokenLaws.{IsRefusedAt}
-use Rattle.token_forms.proofs.FormLaws.{Reads, Begins, never, weaken, bind_definite, bind_begins, done_reads, nowhere_reads}
+use Rattle.token_forms.proofs.FormLaws.{Reads, Begins, never, weaken, bind_definite, bind_begins, done_reads, nowhere_reads, either_test}
 use Rattle.token_forms.proofs.EitherLaw.{maybe_reads}
 use Rattle.token_forms.proofs.ManyLaw.{many_reads}
 use Rattle.addr_text.specs.Values.{IsValue}
 use Rattle.addr_text.specs.ValuesRead.{value_of}
 use Rattle.addr_text.proofs.ValueLaws.{value_of_sound, value_of_complete}
 use Rattle.token_forms.proofs.ShorterLaws.{gives_shorter}
-use Rattle.token_forms.proofs.WordLaws.{any_word, TextDecides, word_is_reads, word_reads, breaks_no_end, bind_done_same, AreStatements, are_lines, line_more, word_by_reads, word_by_begins, name_reads}
+use Rattle.token_forms.proofs.WordLaws.{TextDecides, word_is_reads, word_reads, breaks_no_end, bind_done_same, AreStatements, are_lines, word_by_reads, word_by_begins, name_reads}
 use Rattle.token_forms.proofs.KindLaws.{word_no_break, break_no_word, end_no_break_line}
 use Rattle.token_forms.proofs.WholeLaws.{Ends, text_answer}
 use Rattle.token_forms.proofs.EndsLaw.{text_ends}
@@ -113,10 +113,10 @@ are_lines_of schema = record {
   goes_more = λ s s1 t h. h;
 }
 
-key_lines_reads : (schema : List SetDecl) → Reads (form.key_lines schema) (λ _. line_more breaks_off any_word) (reading.key_lines schema)
+key_lines_reads : (schema : List SetDecl) → Reads (form.key_lines schema) (λ _. either_test breaks_off any_word) (reading.key_lines schema)
 key_lines_reads schema = many_reads _ _ _ _ _ (are_lines breaks_off any_word any_word (λ _. goes) (form.key_line schema) (reading.key_line schema) (are_lines_of schema)) (no_keys, true)
 
-body_reads : (schema : List SetDecl) → Reads (form.body schema) (λ _. line_more breaks_off any_word) (reading.body schema)
+body_reads : (schema : List SetDecl) → Reads (form.body schema) (λ _. either_test breaks_off any_word) (reading.body schema)
 unfolding reading.body
 body_reads schema = bind_done_same (λ s. (next_section s.0).sections) (key_lines_reads schema)
 

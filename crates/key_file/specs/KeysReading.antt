@@ -14,9 +14,9 @@ use Rattle.key_file.specs.declared.draft.AtWord.TheVariants as ats
 use Rattle.key_file.specs.KeyNames.{key_word_of, at_of}
 use Rattle.addr_text.specs.ValuesRead.{value_of}
 use Rattle.token_forms.specs.Reading.{done_read as done, nowhere_read as nowhere, either_read, ◌>>=◌, ◌>>◌}
-use Rattle.token_forms.specs.Words.{breaks_off}
+use Rattle.token_forms.specs.Words.{any_word, breaks_off}
 use Rattle.token_forms.specs.WordReading.{Reading, word, word_by, name, the_end, line, line_starts, many}
-use Rattle.set_script.specs.ScriptReading.{any_word, used_set}
+use Rattle.set_script.specs.ScriptReading.{used_set}
 use Rattle.key_file.specs.Keys.{no_keys, with_packet, next_section}
 
 abbrev pub value : Kind → Reading ℕ

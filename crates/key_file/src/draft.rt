@@ -30,5 +30,5 @@ pub enum AtWord {
     /// A moment.
     Moment(u64),
     /// A set of the table `at`, by its place among the declared sets.
-    Set(usize),
+    Set(u32),
 }

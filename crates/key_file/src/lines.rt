@@ -1,22 +1,18 @@
 ghost use Rattle.std.specs.Prelude.{◌≡◌, ◌<◌, ◌≤◌, length, OnOk};
 ghost use Rattle.token_forms.specs.Gives.{Gives};
-ghost use Rattle.token_forms.specs.View.{lexeme_of};
-ghost use Rattle.token_forms.specs.Words.{breaks_off};
+ghost use Rattle.token_forms.specs.Words.{any_word};
 ghost use Rattle.token_forms.specs.Reading.{begins_with};
-ghost use Rattle.token_forms.specs.WordReading.{line_starts};
 ghost use Rattle.set_script.specs.Limits.{most_sets};
-ghost use Rattle.set_script.specs.ScriptReading.{any_word};
 ghost use Rattle.key_file.specs.KeysReading as reading;
 ghost use Rattle.key_file.specs.KeyNames.{key_word_of, at_of};
 ghost use Rattle.key_file.specs.Keys.{next_section};
-ghost use Rattle.key_file.specs.declared.draft.KeyDraft.{KeyDraft as Drafted};
 
 use crate::draft::{AtWord, KeyDraft, KeyWord};
 use crate::packets::{packet, packet_at};
 use set_model::{Family, Listed, Memory, SetDecl};
 use set_script::{place_of_set, read_family, read_moment};
 use std::alloc::Global;
-use token_forms::{ReadError, Reader, Reason, Seen};
+use token_forms::{ReadError, Reader, Reason};
 
 fn read_key_word(text: &[u8]) -> KeyWord
     ensures { result ≡ key_word_of text.now }
@@ -36,12 +32,13 @@ fn read_key_word(text: &[u8]) -> KeyWord
 }
 
 fn read_at_word(schema: &[SetDecl], text: &[u8]) -> Option<AtWord>
+    requires { length schema.now ≤ most_sets }
     ensures { result ≡ at_of schema.now text.now }
 {
     match read_moment(0, text) {
         Some(moment) => Some(AtWord::Moment(moment)),
         None => match place_of_set(schema, Family::Ip, b"at", text) {
-            Some(place) => Some(AtWord::Set(place)),
+            Some(set) => Some(AtWord::Set(set)),
             None => None,
         },
     }
@@ -50,6 +47,7 @@ fn read_at_word(schema: &[SetDecl], text: &[u8]) -> Option<AtWord>
 /// A moment, or the name of a set of the table `at`.
 #[tactic(auto, unfolding(token_forms::specs::Gives::Refuses))]
 fn at_word(reader: &mut Reader, schema: &[SetDecl]) -> Result<AtWord, ReadError>
+    requires { length schema.now ≤ most_sets }
     ensures { Gives (λ x. x) result reader.new (reading.at_word schema.now reader.old) }
 {
     let t = reader.next()?;
@@ -75,7 +73,7 @@ fn at_behind(
             d.moment = moment;
             Ok(())
         }
-        AtWord::Set(place) => packet_at(reader, alloc, schema, d, place),
+        AtWord::Set(set) => packet_at(reader, alloc, schema, d, set),
     }
 }
 
@@ -192,16 +190,6 @@ fn next_line(
     line_or_break(reader, alloc, schema, d, next)
 }
 
-fn starts_a_line(t: &Seen, next: bool) -> bool
-    ensures { (s : Drafted) → result ≡ line_starts breaks_off any_word (s, next) (lexeme_of t.now) }
-{
-    if next {
-        t.is_break() || t.is_word()
-    } else {
-        t.is_break()
-    }
-}
-
 /// The lines, as far as they go, and whether one more may come next.
 pub fn key_lines(
     reader: &mut Reader,
@@ -218,7 +206,7 @@ pub fn key_lines(
     };
     let mut next = true;
     'lines: while let Some(t) = reader.peek() {
-        let starts = starts_a_line(&t, next);
+        let starts = t.starts_line_or_break(next);
         if !starts {
             return Ok((d, next));
         }

@@ -54,12 +54,12 @@ fn some_values(
 }
 
 /// One value for each kind.
-#[tactic(auto, using(token_forms::proofs::Refusals::refusals), unfolding(crate::specs::KeysReading::all_values, token_forms::specs::Gives::Refuses))]
+#[tactic(auto, using(token_forms::proofs::Refusals::refusals), unfolding(crate::specs::KeysReading::all_values))]
 fn all_values(reader: &mut Reader, alloc: Global, kinds: &[Kind]) -> Result<Key, ReadError>
     ensures { Gives (λ x. x) result reader.new (reading.all_values kinds.now reader.old) }
 {
     match kinds {
-        [] => Err(reader.next()?.refused(&[])),
+        [] => Err(reader.refuse()),
         [kind, others @ ..] => some_values(reader, alloc, *kind, others),
     }
 }
@@ -71,17 +71,17 @@ pub fn packet_at(
     alloc: Global,
     schema: &[SetDecl],
     d: &mut KeyDraft,
-    place: usize,
+    set: u32,
 ) -> Result<(), ReadError>
     requires { length schema.now ≤ most_sets }
-    ensures { Gives (λ _. d.new) result reader.new (reading.packet_at schema.now d.old place reader.old) }
+    ensures { Gives (λ _. d.new) result reader.new (reading.packet_at schema.now d.old set reader.old) }
 {
-    match schema.get(place) {
-        None => Err(reader.next()?.refused(&[])),
+    match schema.get(set as usize) {
+        None => Err(reader.refuse()),
         Some(decl) => {
             let key = all_values(reader, alloc, decl.kinds.as_slice())?;
             d.packets.push(Packet {
-                set: place as u32,
+                set,
                 key,
                 now: d.moment,
             })?;
@@ -103,6 +103,6 @@ pub fn packet(
     requires { length schema.now ≤ most_sets }
     ensures { Gives (λ _. d.new) result reader.new (reading.packet schema.now d.old (family, table.now) reader.old) }
 {
-    let place = used_set(reader, schema, family, table)?;
-    packet_at(reader, alloc, schema, d, place)
+    let set = used_set(reader, schema, family, table)?;
+    packet_at(reader, alloc, schema, d, set)
 }

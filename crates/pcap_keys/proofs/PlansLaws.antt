@@ -7,15 +7,15 @@ use Rattle.token_forms.specs.declared.token.Reason.TheVariants as reasons
 use Rattle.token_forms.specs.declared.error.ReadError.{ReadError}
 use Rattle.token_forms.specs.declared.error.ReadError.TheVariants as errors
 use Rattle.token_forms.specs.Token.{Lexeme}
-use Rattle.token_forms.specs.Words.{breaks_off}
+use Rattle.token_forms.specs.Words.{any_word, breaks_off}
 use Rattle.token_forms.specs.Gives.{Gives}
 use Rattle.token_forms.specs.BadTokens.{IsPlainBadTokenOf}
 use Rattle.token_forms.specs.TextTokens.{plain_tokens}
 use Rattle.token_forms.proofs.BadTokenLaws.{IsRefusedAt}
-use Rattle.token_forms.proofs.FormLaws.{Reads, Begins, never, weaken, bind_reads, bind_definite, bind_begins, done_reads, nowhere_reads, nowhere_begins}
+use Rattle.token_forms.proofs.FormLaws.{Reads, Begins, never, weaken, bind_reads, bind_definite, bind_begins, done_reads, nowhere_reads, nowhere_begins, either_test}
 use Rattle.token_forms.proofs.ManyLaw.{many_reads}
 use Rattle.token_forms.proofs.ShorterLaws.{gives_shorter}
-use Rattle.token_forms.proofs.WordLaws.{any_word, word_reads, word_by_reads, breaks_no_end, AreStatements, are_lines, line_more}
+use Rattle.token_forms.proofs.WordLaws.{word_reads, word_by_reads, breaks_no_end, AreStatements, are_lines}
 use Rattle.token_forms.proofs.KindLaws.{word_no_break, end_no_break_line}
 use Rattle.token_forms.proofs.WholeLaws.{Ends, text_answer}
 use Rattle.token_forms.proofs.EndsLaw.{plain_ends}
@@ -74,12 +74,12 @@ are_lines_of schema = record {
   goes_more = λ s s1 t h. absurd (cc h);
 }
 
-plan_lines_reads : (schema : List SetDecl) → Reads (form.plan_lines schema) (λ _. line_more breaks_off any_word) (reading.plan_lines schema)
+plan_lines_reads : (schema : List SetDecl) → Reads (form.plan_lines schema) (λ _. either_test breaks_off any_word) (reading.plan_lines schema)
 plan_lines_reads schema = many_reads _ _ _ _ _ (are_lines breaks_off any_word any_word goes (form.plan_line schema) (reading.plan_line schema) (are_lines_of schema)) ([], true)
 
 -- the tokens that could go on with a plan
 abbrev more : {A : Type 0} → A → Lexeme → Bool
-more a = line_more breaks_off any_word
+more a = either_test breaks_off any_word
 
 some_lines_reads : (plan : List PlanLine) → Reads (form.some_lines plan) more (reading.some_lines plan)
 unfolding reading.some_lines

@@ -4,9 +4,9 @@ use Rattle.set_model.specs.declared.kind.Kind.{Kind}
 use Rattle.set_model.specs.declared.script.SetDecl.{SetDecl}
 use Rattle.token_forms.specs.declared.token.Reason.TheVariants as reasons
 use Rattle.token_forms.specs.Reading.{done_read as done, nowhere_read as nowhere, ◌>>=◌, ◌>>◌}
-use Rattle.token_forms.specs.Words.{breaks_off}
+use Rattle.token_forms.specs.Words.{any_word, breaks_off}
 use Rattle.token_forms.specs.WordReading.{Reading, word, word_by, the_end, line, line_starts, many}
-use Rattle.set_script.specs.ScriptReading.{any_word, table_place, used_set}
+use Rattle.set_script.specs.ScriptReading.{table_place, used_set}
 use Rattle.pcap_keys.specs.declared.selector.Selector.{Selector}
 use Rattle.pcap_keys.specs.declared.selector.PlanLine.{PlanLine}
 use Rattle.pcap_keys.specs.Selectors.{selector_of}

@@ -3,13 +3,9 @@ ghost use Rattle.token_forms.specs.Gives.{Gives, IsReadAs};
 ghost use Rattle.token_forms.specs.TextTokens.{plain_tokens};
 ghost use Rattle.token_forms.specs.Fronts.{AreFrontsClosed, IsRefusedOnce};
 ghost use Rattle.token_forms.specs.BadTokens.{IsPlainBadTokenOf, HasOneBadTokenAmong};
-ghost use Rattle.token_forms.specs.View.{lexeme_of};
-ghost use Rattle.token_forms.specs.Words.{breaks_off};
-ghost use Rattle.token_forms.specs.WordReading.{line_starts};
 ghost use Rattle.token_forms.specs.declared.token.Reason.{Reason};
 ghost use Rattle.token_forms.specs.declared.error.ReadError.TheVariants.{Bad};
 ghost use Rattle.set_script.specs.Limits.{most_sets};
-ghost use Rattle.set_script.specs.ScriptReading.{any_word};
 ghost use Rattle.pcap_keys.specs.declared.selector.PlanLine.{PlanLine as Lined};
 ghost use Rattle.pcap_keys.specs.PlansReading as reading;
 ghost use Rattle.pcap_keys.specs.Plans.{most_lines, plan};
@@ -20,7 +16,7 @@ use crate::selector::{Plan, PlanLine, Selector, Selectors, read_selector};
 use set_model::{Kind, Listed, Memory, Schema, SetDecl};
 use set_script::{table_place, used_set};
 use std::alloc::Global;
-use token_forms::{BadToken, ReadError, Reader, Reason, Seen, plain_bad_token_before};
+use token_forms::{BadToken, ReadError, Reader, Reason, plain_bad_token_before};
 
 /// Why a text isn't read as a plan.
 pub type PlanError = ReadError;
@@ -76,12 +72,12 @@ fn some_selectors(
 }
 
 /// One selector for each kind.
-#[tactic(auto, using(token_forms::proofs::Refusals::refusals), unfolding(crate::specs::PlansReading::all_selectors, token_forms::specs::Gives::Refuses))]
+#[tactic(auto, using(token_forms::proofs::Refusals::refusals), unfolding(crate::specs::PlansReading::all_selectors))]
 fn all_selectors(reader: &mut Reader, alloc: Global, kinds: &[Kind]) -> Result<Selectors, ReadError>
     ensures { Gives (λ x. x) result reader.new (reading.all_selectors kinds.now reader.old) }
 {
     match kinds {
-        [] => Err(reader.next()?.refused(&[])),
+        [] => Err(reader.refuse()),
         [kind, others @ ..] => some_selectors(reader, alloc, *kind, others),
     }
 }
@@ -93,19 +89,16 @@ fn line_at(
     alloc: Global,
     schema: &[SetDecl],
     lines: &mut Plan,
-    place: usize,
+    set: u32,
 ) -> Result<(), ReadError>
     requires { length schema.now ≤ most_sets }
-    ensures { Gives (λ _. lines.new) result reader.new (reading.line_at schema.now lines.old place reader.old) }
+    ensures { Gives (λ _. lines.new) result reader.new (reading.line_at schema.now lines.old set reader.old) }
 {
-    match schema.get(place) {
-        None => Err(reader.next()?.refused(&[])),
+    match schema.get(set as usize) {
+        None => Err(reader.refuse()),
         Some(decl) => {
             let selectors = all_selectors(reader, alloc, decl.kinds.as_slice())?;
-            lines.push(PlanLine {
-                set: place as u32,
-                selectors,
-            })?;
+            lines.push(PlanLine { set, selectors })?;
             Ok(())
         }
     }
@@ -123,12 +116,12 @@ fn set_line(
     ensures { Gives (λ _. lines.new) result reader.new (reading.set_line schema.now lines.old reader.old) }
 {
     let (family, table) = table_place(reader)?;
-    let place = used_set(reader, schema, family, table)?;
-    line_at(reader, alloc, schema, lines, place)
+    let set = used_set(reader, schema, family, table)?;
+    line_at(reader, alloc, schema, lines, set)
 }
 
 /// A line, where one more may stand.
-#[tactic(auto, using(token_forms::proofs::Refusals::refusals), unfolding(crate::specs::PlansReading::line_if, token_forms::specs::Gives::Refuses))]
+#[tactic(auto, using(token_forms::proofs::Refusals::refusals), unfolding(crate::specs::PlansReading::line_if))]
 fn line_if(
     reader: &mut Reader,
     alloc: Global,
@@ -142,7 +135,7 @@ fn line_if(
     if room {
         set_line(reader, alloc, schema, lines)
     } else {
-        Err(reader.next()?.refused(&[]))
+        Err(reader.refuse())
     }
 }
 
@@ -188,16 +181,6 @@ fn next_line(
     line_or_break(reader, alloc, schema, lines, next)
 }
 
-fn starts_a_line(t: &Seen, next: bool) -> bool
-    ensures { (s : List Lined) → result ≡ line_starts breaks_off any_word (s, next) (lexeme_of t.now) }
-{
-    if next {
-        t.is_break() || t.is_word()
-    } else {
-        t.is_break()
-    }
-}
-
 /// The lines, as far as they go, and whether one more may come next.
 fn plan_lines(
     reader: &mut Reader,
@@ -210,7 +193,7 @@ fn plan_lines(
     let mut lines = Plan::new(alloc);
     let mut next = true;
     'plan: while let Some(t) = reader.peek() {
-        let starts = starts_a_line(&t, next);
+        let starts = t.starts_line_or_break(next);
         if !starts {
             return Ok((lines, next));
         }
@@ -223,12 +206,12 @@ fn plan_lines(
 }
 
 /// The lines of a plan, which has one at least.
-#[tactic(auto, using(token_forms::proofs::Refusals::refusals), unfolding(crate::specs::PlansReading::some_lines, token_forms::specs::Gives::Refuses))]
+#[tactic(auto, using(token_forms::proofs::Refusals::refusals), unfolding(crate::specs::PlansReading::some_lines))]
 fn some_lines(reader: &mut Reader, lines: Plan) -> Result<Plan, ReadError>
     ensures { Gives (λ x. x) result reader.new (reading.some_lines lines reader.old) }
 {
     if lines.as_slice().is_empty() {
-        Err(reader.next()?.refused(&[]))
+        Err(reader.refuse())
     } else {
         Ok(lines)
     }

@@ -5,11 +5,11 @@ use Rattle.token_forms.specs.declared.token.Reason.{Reason}
 use Rattle.token_forms.specs.declared.error.ReadError.{ReadError}
 use Rattle.token_forms.specs.Token.{Lexeme, is_word}
 use Rattle.token_forms.specs.Form.{Form, done, many as many_form, ◌>>=◌ as ◌>>=f◌}
-use Rattle.token_forms.specs.Words.{separates, is_the_mark, word_value}
-use Rattle.token_forms.proofs.FormLaws.{Reads, Begins, Heads, Filled, never, weaken, bind_reads, bind_definite, bind_apart, bind_begins, bind_heads, bind_filled, done_reads, nowhere_reads, nowhere_begins, one_begins, both_tests}
+use Rattle.token_forms.specs.Words.{any_word, separates, is_the_mark, word_value}
+use Rattle.token_forms.proofs.FormLaws.{Reads, Begins, Heads, Filled, never, weaken, bind_reads, bind_definite, bind_apart, bind_begins, bind_heads, bind_filled, done_reads, nowhere_reads, nowhere_begins, one_begins, either_test}
 use Rattle.token_forms.proofs.EitherLaw.{widen}
 use Rattle.token_forms.proofs.ManyLaw.{AreItems, many_reads, many_heads}
-use Rattle.token_forms.proofs.WordLaws.{any_word, word_by_reads, word_by_begins, mark_reads, mark_begins, separates_no_end, AreStatements, are_lines, lines_reads, line_more, either_true, both, bytes_same}
+use Rattle.token_forms.proofs.WordLaws.{word_by_reads, word_by_begins, mark_reads, mark_begins, separates_no_end, AreStatements, are_lines, lines_reads, either_true, both, bytes_same}
 use Rattle.token_forms.proofs.KindLaws.{word_no_separator, closing_no_separator, mark_no_word, neither}
 use Rattle.set_script.proofs.ScriptLaws.{table_place_reads, used_set_reads}
 use Rattle.rule_chain.specs.declared.chains.Test.{Test}
@@ -114,13 +114,13 @@ rule_reads schema chains rules = bind_apart (all_tests_reads schema) (λ tests. 
 
 rule_begins : (schema : List SetDecl) (chains : List Chain) (rules : List Rule) → Begins (form.rule schema chains rules) any_word
 rule_begins schema chains rules = widen wide (record { starts = heads; filled = λ a w. full.empty a w }) where
-  heads : Heads (form.rule schema chains rules) (both_tests (starts_test []) begins_act)
+  heads : Heads (form.rule schema chains rules) (either_test (starts_test []) begins_act)
   heads = bind_heads (all_tests_reads schema) (many_heads starts_test (λ _. never) begins_test (form.test schema) (reading.test schema) (are_tests schema) []) (λ tests. (rule_end_begins chains rules tests).starts)
 
   full : Filled (form.rule schema chains rules)
   full = bind_filled (λ tests. record { empty = λ a w. (rule_end_begins chains rules tests).filled a w })
 
-  wide : (t : Lexeme) → both_tests (starts_test []) begins_act t ≡ true → any_word t ≡ true
+  wide : (t : Lexeme) → either_test (starts_test []) begins_act t ≡ true → any_word t ≡ true
   wide t h = elim (either_true (starts_test [] t) (begins_act t) h) [
     | inl k ↦ (both (is_word t.kind) (is_some (test_of 0 t.bytes)) k).0
     | inr k ↦ (both (is_word t.kind) (is_some (act_of t.bytes)) k).0
@@ -151,7 +151,7 @@ are_rules schema d = record {
 
 -- chains
 abbrev lines_more : Lexeme → Bool
-lines_more = line_more separates any_word
+lines_more = either_test separates any_word
 
 closing_no_lines : (t : Lexeme) → is_the_mark 125 t ≡ true → lines_more t ≡ false
 closing_no_lines t h = neither (separates t) (any_word t) (closing_no_separator t h) (mark_no_word 125 t h)
@@ -201,7 +201,7 @@ no_asks : (chains : List Chain) (policy : Option Bool) (q : Reason) → (form.fi
 no_asks chains None q h = h
 no_asks chains (Some accept) q h = h
 
-pub body_reads : (schema : List SetDecl) → Reads (form.body schema) (λ _. line_more separates any_word) (reading.body schema)
+pub body_reads : (schema : List SetDecl) → Reads (form.body schema) (λ _. either_test separates any_word) (reading.body schema)
 unfolding reading.body
 body_reads schema = bind_reads (form.statements schema) (λ _. lines_more) (reading.statements schema) (λ s. form.finished s.0.chains s.0.policy) (λ _. lines_more) (λ s. reading.finished s.0.chains s.0.policy)
     (statements_reads schema) (λ s. finished_reads s.0.chains s.0.policy) (record {

@@ -3,9 +3,9 @@ use Rattle.std.specs.Prelude.{ℕ, List, [], ◌∷◌, ◌++◌, length, Bool, 
 use Rattle.set_model.specs.declared.script.SetDecl.{SetDecl}
 use Rattle.token_forms.specs.Token.{Lexeme, is_word}
 use Rattle.token_forms.specs.Reading.{done_read as done, nowhere_read as nowhere, ◌>>=◌, ◌>>◌}
-use Rattle.token_forms.specs.Words.{separates}
+use Rattle.token_forms.specs.Words.{any_word, separates}
 use Rattle.token_forms.specs.WordReading.{Reading, word_by, mark, the_end, line, line_starts, lines, many}
-use Rattle.set_script.specs.ScriptReading.{any_word, table_place, used_set}
+use Rattle.set_script.specs.ScriptReading.{table_place, used_set}
 use Rattle.rule_chain.specs.declared.chains.Act.{Act}
 use Rattle.rule_chain.specs.declared.chains.Act.TheVariants as acts
 use Rattle.rule_chain.specs.declared.chains.Test.{Test}

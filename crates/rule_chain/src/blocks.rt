@@ -1,16 +1,10 @@
 //! Chains in braces, the policy, and the lines of both.
-ghost use Rattle.std.specs.Prelude.{◌≡◌, ◌<◌, ◌≤◌, List, length, IfOk, OnOk};
-ghost use Rattle.token_forms.specs.View.{lexeme_of};
-ghost use Rattle.token_forms.specs.Words.{separates};
-ghost use Rattle.token_forms.specs.WordReading.{line_starts};
+ghost use Rattle.std.specs.Prelude.{◌≡◌, ◌<◌, ◌≤◌, length, IfOk, OnOk};
 ghost use Rattle.set_script.specs.Limits.{most_sets};
-ghost use Rattle.set_script.specs.ScriptReading.{any_word};
 ghost use Rattle.token_forms.specs.Gives.{Gives};
 ghost use Rattle.rule_chain.specs.Chains.{most_chains};
 ghost use Rattle.rule_chain.specs.Rules.{with_chain};
 ghost use Rattle.rule_chain.specs.RulesReading as reading;
-ghost use Rattle.rule_chain.specs.declared.chains.Rule.{Rule as OneRule};
-ghost use Rattle.rule_chain.specs.declared.draft.RulesDraft.{RulesDraft as Drafted};
 ghost use Rattle.rule_chain.specs.declared.draft.RulesWord.TheVariants.{Chain as Begins};
 
 use crate::chains::{Chain, RuleList};
@@ -19,10 +13,10 @@ use crate::rules::rule;
 use crate::words::{is_a_new_chain, policy_word, rules_word};
 use set_model::{Listed, Memory, SetDecl};
 use std::alloc::Global;
-use token_forms::{ReadError, Reader, Seen};
+use token_forms::{ReadError, Reader};
 
 /// A rule, where there may be one more.
-#[tactic(auto, using(token_forms::proofs::Refusals::refusals), unfolding(crate::specs::RulesReading::rule_if, token_forms::specs::Gives::Refuses))]
+#[tactic(auto, using(token_forms::proofs::Refusals::refusals), unfolding(crate::specs::RulesReading::rule_if))]
 fn rule_if(
     reader: &mut Reader,
     alloc: Global,
@@ -38,7 +32,7 @@ fn rule_if(
     if room {
         rule(reader, alloc, schema, chains, rules)
     } else {
-        Err(reader.next()?.refused(&[]))
+        Err(reader.refuse())
     }
 }
 
@@ -82,16 +76,6 @@ fn next_rule_line(
     rule_line(reader, alloc, schema, d, rules, next)
 }
 
-fn starts_a_rule_line(t: &Seen, next: bool) -> bool
-    ensures { (s : List OneRule) → result ≡ line_starts separates any_word (s, next) (lexeme_of t.now) }
-{
-    if next {
-        t.is_separator() || t.is_word()
-    } else {
-        t.is_separator()
-    }
-}
-
 /// The rules of a chain, as far as they go, and whether one more may come next.
 fn rule_lines(
     reader: &mut Reader,
@@ -106,7 +90,7 @@ fn rule_lines(
     let mut rules = Listed::new(alloc);
     let mut next = true;
     'lines: while let Some(t) = reader.peek() {
-        let starts = starts_a_rule_line(&t, next);
+        let starts = t.starts_statement_line(next);
         if !starts {
             return Ok((rules, next));
         }
@@ -280,16 +264,6 @@ fn next_statement_line(
     statement_line(reader, alloc, schema, d, next)
 }
 
-fn starts_a_line(t: &Seen, next: bool) -> bool
-    ensures { (s : Drafted) → result ≡ line_starts separates any_word (s, next) (lexeme_of t.now) }
-{
-    if next {
-        t.is_separator() || t.is_word()
-    } else {
-        t.is_separator()
-    }
-}
-
 /// The statements, as far as they go, and whether one more may come next.
 pub fn statements(
     reader: &mut Reader,
@@ -302,7 +276,7 @@ pub fn statements(
     let mut d = nothing_read(alloc);
     let mut next = true;
     'lines: while let Some(t) = reader.peek() {
-        let starts = starts_a_line(&t, next);
+        let starts = t.starts_statement_line(next);
         if !starts {
             return Ok((d, next));
         }

@@ -24,13 +24,13 @@ use token_forms::{BadToken, ReadError, Reader, plain_bad_token_before};
 pub type RulesError = ReadError;
 
 /// The chains and the policy, which has to stand.
-#[tactic(auto, unfolding(crate::specs::RulesReading::finished, token_forms::specs::Gives::Refuses))]
+#[tactic(auto, using(token_forms::proofs::Refusals::refusals), unfolding(crate::specs::RulesReading::finished))]
 fn finished(reader: &mut Reader, d: RulesDraft) -> Result<(ChainList, bool), ReadError>
     ensures { Gives (λ x. (x.0, x.1)) result reader.new (reading.finished d.chains d.policy reader.old) }
 {
     match d.policy {
         Some(accept) => Ok((d.chains, accept)),
-        None => Err(reader.next()?.refused(&[])),
+        None => Err(reader.refuse()),
     }
 }
 

@@ -35,11 +35,8 @@ fn test(reader: &mut Reader, schema: &[SetDecl], tests: &mut Tests) -> Result<()
 {
     let inside = inside(reader, tests.len())?;
     let (family, table) = table_place(reader)?;
-    let place = used_set(reader, schema, family, table)?;
-    tests.push(Test {
-        set: place as u32,
-        inside,
-    })?;
+    let set = used_set(reader, schema, family, table)?;
+    tests.push(Test { set, inside })?;
     Ok(())
 }
 

@@ -12,13 +12,13 @@ use Rattle.token_forms.specs.Token.{Lexeme}
 use Rattle.token_forms.specs.Form.{Form, done, many as many_form, ◌>>◌ as ◌>>f◌, ◌>>=◌ as ◌>>=f◌}
 use Rattle.token_forms.specs.Reading.{Outcome, done_read, ◌>>◌ as ◌>>r◌, ◌>>=◌ as ◌>>=r◌}
 use Rattle.token_forms.specs.Words as words
-use Rattle.token_forms.specs.Words.{breaks_off, separates, is_the_mark}
+use Rattle.token_forms.specs.Words.{any_word, breaks_off, separates, is_the_mark}
 use Rattle.token_forms.specs.WordReading as wreading
 use Rattle.token_forms.specs.Gives.{Gives}
-use Rattle.token_forms.proofs.FormLaws.{Reads, Begins, Heads, Filled, never, weaken, bind_definite, bind_apart, bind_begins, bind_heads, bind_filled, done_reads, nowhere_reads, nowhere_begins, both_tests, or_left, or_right}
+use Rattle.token_forms.proofs.FormLaws.{Reads, Begins, Heads, Filled, never, weaken, bind_definite, bind_apart, bind_begins, bind_heads, bind_filled, done_reads, nowhere_reads, nowhere_begins, either_test, or_left, or_right}
 use Rattle.token_forms.proofs.EitherLaw.{either_reads, either_begins, widen}
 use Rattle.token_forms.proofs.ManyLaw.{AreItems, many_reads, many_heads}
-use Rattle.token_forms.proofs.WordLaws.{any_word, word_by_reads, word_by_begins, word_is_reads, word_is_begins, lined_word_is_reads, lined_word_is_begins, word_reads, word_begins, name_reads, mark_reads, mark_begins, breaks_reads, separators_reads, separates_no_end, bind_done_same, AreStatements, are_lines, lines_reads, lines_heads, line_more, either_true, text_reads, text_begins, passed_reads, passed_begins, breaks_no_end}
+use Rattle.token_forms.proofs.WordLaws.{word_by_reads, word_by_begins, word_is_reads, word_is_begins, lined_word_is_reads, lined_word_is_begins, word_reads, word_begins, name_reads, mark_reads, mark_begins, breaks_reads, separators_reads, separates_no_end, bind_done_same, AreStatements, are_lines, lines_reads, lines_heads, either_true, text_reads, text_begins, passed_reads, passed_begins, breaks_no_end}
 use Rattle.token_forms.proofs.KindLaws.{word_no_break, word_no_separator, mark_no_break, mark_no_word, closing_no_comma, closing_no_separator, neither, word_or_closing_no_break, separator_or_closing_no_word, text_no_break, separator_no_comma}
 use Rattle.token_forms.proofs.ShorterLaws.{gives_shorter}
 use Rattle.set_script.specs.declared.draft.Draft.{Draft}
@@ -233,9 +233,9 @@ list_end target s before = many_form (form.list_item target s) (before, true) >>
 list_end_reads : (target : Target) (s : SetDecl) (before : List Step) → Reads (list_end target s before) never (reading.list_items target s (before, true) >>=r λ r. wreading.mark 125 >>r done_read r.0)
 list_end_reads target s before = bind_apart (elements_reads target s (before, true)) (λ r. closed_reads r.0) (λ r. closed_begins r.0) (λ _. closing_no_list)
 
-list_end_begins : (target : Target) (s : SetDecl) (before : List Step) → Begins (list_end target s before) (both_tests any_word (is_the_mark 125))
+list_end_begins : (target : Target) (s : SetDecl) (before : List Step) → Begins (list_end target s before) (either_test any_word (is_the_mark 125))
 list_end_begins target s before = record { starts = heads; filled = λ a w. full.empty a w } where
-  heads : Heads (list_end target s before) (both_tests any_word (is_the_mark 125))
+  heads : Heads (list_end target s before) (either_test any_word (is_the_mark 125))
   heads = bind_heads (elements_reads target s (before, true))
       (many_heads starts_element list_goes list_more (form.list_item target s) (reading.list_item target s) (are_elements target s) (before, true)) (λ r. (closed_begins r.0).starts)
 
@@ -327,13 +327,13 @@ are_items = record {
 }
 
 abbrev items_more : Lexeme → Bool
-items_more = line_more separates item_more
+items_more = either_test separates item_more
 
 closing_no_items : (t : Lexeme) → is_the_mark 125 t ≡ true → items_more t ≡ false
 closing_no_items t h = neither (separates t) (item_more t) (closing_no_separator t h) (neither (any_word t) (is_the_mark 44 t) (mark_no_word 125 t h) (closing_no_comma t h))
 
 abbrev lines_more : Lexeme → Bool
-lines_more = line_more separates any_word
+lines_more = either_test separates any_word
 
 closing_no_lines : (t : Lexeme) → is_the_mark 125 t ≡ true → lines_more t ≡ false
 closing_no_lines t h = neither (separates t) (any_word t) (closing_no_separator t h) (mark_no_word 125 t h)
@@ -345,9 +345,9 @@ items_end d s = words.lines separates form.item (s, false) >>=f λ s1. closed (d
 items_end_reads : (d : Draft) (s : Declaration × List Step) → Reads (items_end d s) never (reading.all_items s >>=r λ s1. wreading.mark 125 >>r done_read (declared s1.0 s1.1 d))
 items_end_reads d s = bind_apart (lines_reads separates any_word item_more item_goes form.item reading.item are_items (s, false)) (λ s1. closed_reads (declared s1.0 s1.1 d)) (λ s1. closed_begins (declared s1.0 s1.1 d)) (λ _. closing_no_items)
 
-items_end_begins : (d : Draft) (s : Declaration × List Step) → Begins (items_end d s) (both_tests separates (is_the_mark 125))
+items_end_begins : (d : Draft) (s : Declaration × List Step) → Begins (items_end d s) (either_test separates (is_the_mark 125))
 items_end_begins d s = record { starts = heads; filled = λ a w. full.empty a w } where
-  heads : Heads (items_end d s) (both_tests separates (is_the_mark 125))
+  heads : Heads (items_end d s) (either_test separates (is_the_mark 125))
   heads = bind_heads (lines_reads separates any_word item_more item_goes form.item reading.item are_items (s, false))
       (lines_heads separates any_word item_more item_goes form.item reading.item are_items (s, false)) (λ s1. (closed_begins (declared s1.0 s1.1 d)).starts)
 
@@ -446,7 +446,7 @@ are_statements = record {
 statements_reads : Reads form.statements (λ _. lines_more) reading.statements
 statements_reads = many_reads _ _ _ _ _ (are_lines separates any_word any_word (λ _. never) form.statement reading.statement are_statements) (empty, true)
 
-pub body_reads : Reads form.body (λ _. line_more separates any_word) reading.body
+pub body_reads : Reads form.body (λ _. either_test separates any_word) reading.body
 unfolding reading.body
 body_reads = bind_done_same (λ d. finished_script d.0) statements_reads
 

@@ -25,9 +25,9 @@ use Rattle.set_script.specs.declared.words.OptionWord.TheVariants as options
 use Rattle.set_model.specs.declared.script.Verb.{Verb}
 use Rattle.set_model.specs.declared.script.Verb.TheVariants as verbs
 use Rattle.token_forms.specs.declared.token.Reason.TheVariants as reasons
-use Rattle.token_forms.specs.Token.{Lexeme, is_word}
+use Rattle.token_forms.specs.Token.{Lexeme}
 use Rattle.token_forms.specs.Reading.{done_read as done, nowhere_read as nowhere, either_read, ◌>>=◌, ◌>>◌}
-use Rattle.token_forms.specs.Words.{if_true, breaks_off, separates, is_the_mark}
+use Rattle.token_forms.specs.Words.{if_true, any_word, breaks_off, separates, is_the_mark}
 use Rattle.token_forms.specs.WordReading.{Reading, word, word_by, lined_word_by, name, mark, text, the_end, breaks, separators, passed, line, line_starts, lines, many}
 use Rattle.addr_text.specs.TimesRead.{time_of}
 use Rattle.set_script.specs.Values.{part_of, life_of, moment_of, size_of}
@@ -35,9 +35,6 @@ use Rattle.set_script.specs.Names.{first_of, add_of, flush_of, family_of, kind_o
 use Rattle.set_script.specs.Changes.{empty, no_options, declaration, with_flag, with_timeout, with_size, with_gc_interval, with_policy, with_comment, with_elements, change, with_steps, flush, declared, begun, at_moment, commit, abort, round, finished_script}
 
 -- what starts one more
-abbrev pub any_word : Lexeme → Bool
-any_word t = is_word t.kind
-
 abbrev pub starts_element : List Step × Bool → Lexeme → Bool
 starts_element (before, true) t = any_word t
 starts_element (before, false) t = is_the_mark 44 t

@@ -90,7 +90,7 @@ fn some_parts(
 }
 
 /// One interval for each kind, and the line of the first.
-#[tactic(auto, using(token_forms::proofs::Refusals::refusals), unfolding(crate::specs::ScriptReading::all_parts, token_forms::specs::Gives::Refuses))]
+#[tactic(auto, using(token_forms::proofs::Refusals::refusals), unfolding(crate::specs::ScriptReading::all_parts))]
 pub fn all_parts(
     reader: &mut Reader,
     alloc: Global,
@@ -100,7 +100,7 @@ pub fn all_parts(
     ensures { Gives (λ x. (x.0, x.1)) result reader.new (reading.all_parts wide kinds.now reader.old) }
 {
     match kinds {
-        [] => Err(reader.next()?.refused(&[])),
+        [] => Err(reader.refuse()),
         [kind, others @ ..] => some_parts(reader, alloc, wide, *kind, others),
     }
 }

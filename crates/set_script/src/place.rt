@@ -1,5 +1,6 @@
-ghost use Rattle.std.specs.Prelude.{◌≡◌, ◌<◌, length, IfSome, IfOk};
+ghost use Rattle.std.specs.Prelude.{◌≡◌, ◌<◌, ◌≤◌, length, IfSome, IfOk};
 ghost use Rattle.token_forms.specs.Gives.{Gives};
+ghost use Rattle.set_script.specs.Limits.{most_sets};
 ghost use Rattle.set_script.specs.Names.{family_number, is_set, set_place};
 ghost use Rattle.set_script.specs.ScriptReading as reading;
 
@@ -28,14 +29,25 @@ fn is_the_set(family: Family, table: &[u8], name: &[u8], decl: &SetDecl) -> bool
         && decl.name.as_slice() == name
 }
 
-/// The place of a set among the declared sets.
-pub fn place_of_set(schema: &[SetDecl], family: Family, table: &[u8], name: &[u8]) -> Option<usize>
+fn index_of_set(schema: &[SetDecl], family: Family, table: &[u8], name: &[u8]) -> Option<usize>
     ensures place { result ≡ set_place schema.now family table.now name.now }
     ensures within { IfSome result (λ i. i < length schema.now) }
 {
     schema
         .iter()
         .position(|decl| is_the_set(family, table, name, decl))
+}
+
+/// The place of a set among the declared sets, which is the set's number.
+pub fn place_of_set(schema: &[SetDecl], family: Family, table: &[u8], name: &[u8]) -> Option<u32>
+    requires { length schema.now ≤ most_sets }
+    ensures place { result ≡ set_place schema.now family table.now name.now }
+    ensures within { IfSome result (λ i. i < length schema.now) }
+{
+    match index_of_set(schema, family, table, name) {
+        Some(index) => Some(index as u32),
+        None => None,
+    }
 }
 
 #[tactic(auto, using(token_forms::proofs::Refusals::refusals), unfolding(crate::specs::ScriptReading::table_behind))]
@@ -71,7 +83,8 @@ pub fn used_set(
     schema: &[SetDecl],
     family: Family,
     table: &[u8],
-) -> Result<usize, ReadError>
+) -> Result<u32, ReadError>
+    requires { length schema.now ≤ most_sets }
     ensures gives { Gives (λ x. x) result reader.new (reading.used_set schema.now (family, table.now) reader.old) }
     ensures within { IfOk result (λ place. place < length schema.now) }
 {

@@ -16,7 +16,7 @@ ghost use Rattle.set_model.specs.Runnable.{IsRunnable};
 use crate::draft::{Draft, Target};
 use crate::elements::list;
 use crate::place::{table_place, used_set};
-use crate::sets::{new_set, set_body, starts_a_line, table_block};
+use crate::sets::{new_set, set_body, table_block};
 use crate::values;
 use crate::words::{AddWord, FirstWord, FlushWord, add_word_of, first_word_of, flush_word_of};
 use set_model::{Memory, Script, SetDecl, Step, Steps, Verb};
@@ -50,7 +50,7 @@ fn list_at(
     ensures { Gives (λ _. steps.new) result reader.new (reading.list_at target.entry.now schema.now steps.old reader.old) }
 {
     match schema.get(target.set as usize) {
-        None => Err(reader.next()?.refused(&[])),
+        None => Err(reader.refuse()),
         Some(decl) => list(reader, alloc, target, decl, steps),
     }
 }
@@ -61,9 +61,9 @@ fn changes(reader: &mut Reader, alloc: Global, d: &mut Draft, verb: Verb) -> Res
     ensures { Gives (λ _. d.new) result reader.new (reading.changes d.old verb reader.old) }
 {
     let (family, table) = table_place(reader)?;
-    let place = used_set(reader, d.schema.as_slice(), family, table)?;
+    let set = used_set(reader, d.schema.as_slice(), family, table)?;
     let target = Target {
-        set: place as u32,
+        set,
         verb,
         now: d.moment,
     };
@@ -133,10 +133,10 @@ fn flush_behind(
     match word {
         FlushWord::Set => {
             let (family, table) = table_place(reader)?;
-            let place = used_set(reader, d.schema.as_slice(), family, table)?;
+            let set = used_set(reader, d.schema.as_slice(), family, table)?;
             d.steps.push(Step::Flush {
                 line,
-                set: place as u32,
+                set,
                 now: d.moment.ms(),
             })?;
             Ok(())
@@ -238,7 +238,7 @@ fn statements(reader: &mut Reader, alloc: Global) -> Result<(Draft, bool), ReadE
     let mut d = Draft::new(alloc);
     let mut next = true;
     'lines: while let Some(t) = reader.peek() {
-        let starts = starts_a_line(&t, next);
+        let starts = t.starts_statement_line(next);
         if !starts {
             return Ok((d, next));
         }

@@ -1,17 +1,13 @@
 ghost use Rattle.std.specs.Prelude.{◌≡◌, ◌<◌, List, length, true, false, OnOk};
 ghost use Rattle.std.specs.Bool.{OnTrue};
 ghost use Rattle.set_model.specs.declared.kind.Kind.{Kind as KindOf};
-ghost use Rattle.set_model.specs.declared.script.Step.{Step};
 ghost use Rattle.token_forms.specs.Gives.{Gives};
 ghost use Rattle.token_forms.specs.View.{lexeme_of};
-ghost use Rattle.token_forms.specs.Words.{separates};
-ghost use Rattle.token_forms.specs.WordReading.{line_starts};
 ghost use Rattle.set_script.specs.ScriptReading as reading;
-ghost use Rattle.set_script.specs.ScriptReading.{starts_kind, starts_flag, any_word};
+ghost use Rattle.set_script.specs.ScriptReading.{starts_kind, starts_flag};
 ghost use Rattle.set_script.specs.Changes.{with_flag};
 ghost use Rattle.set_script.specs.Limits.{most_sets, HasShortTimeout};
 ghost use Rattle.set_script.specs.Names.{may_declare};
-ghost use Rattle.set_script.specs.declared.draft.Draft.{Draft as Drafted};
 ghost use Rattle.set_script.specs.declared.draft.Declaration.{Declaration as Declaring};
 
 use crate::draft::{Declaration, Draft, begin_declaration};
@@ -338,16 +334,6 @@ fn next_item_line(
     item_line(reader, alloc, b, steps, next)
 }
 
-fn starts_an_item_line(t: &Seen, next: bool) -> bool
-    ensures { (s : Declaring × List Step) → result ≡ line_starts separates any_word (s, next) (lexeme_of t.now) }
-{
-    if next {
-        t.is_separator() || t.is_word()
-    } else {
-        t.is_separator()
-    }
-}
-
 fn item_lines(
     reader: &mut Reader,
     alloc: Global,
@@ -360,7 +346,7 @@ fn item_lines(
 {
     let mut next = false;
     'lines: while let Some(t) = reader.peek() {
-        let starts = starts_an_item_line(&t, next);
+        let starts = t.starts_statement_line(next);
         if !starts {
             return Ok(next);
         }
@@ -461,17 +447,6 @@ fn next_block_line(
     block_line(reader, alloc, d, family, table, next)
 }
 
-/// Whether this token is a separator, or a word where a statement or a set block may come next.
-pub fn starts_a_line(t: &Seen, next: bool) -> bool
-    ensures { (s : Drafted) → result ≡ line_starts separates any_word (s, next) (lexeme_of t.now) }
-{
-    if next {
-        t.is_separator() || t.is_word()
-    } else {
-        t.is_separator()
-    }
-}
-
 fn block_lines(
     reader: &mut Reader,
     alloc: Global,
@@ -483,7 +458,7 @@ fn block_lines(
 {
     let mut next = true;
     'lines: while let Some(t) = reader.peek() {
-        let starts = starts_a_line(&t, next);
+        let starts = t.starts_statement_line(next);
         if !starts {
             return Ok(next);
         }

@@ -1,9 +1,9 @@
 -- A token is of one kind: a word is no break, no mark and no end, and one mark is no other.
 use Rattle.std.proofs.Common.{◌≡◌, inl, inr, refl, ℕ, [], ◌∷◌, Bool, true, false, ◌||◌}
 use Rattle.token_forms.specs.Token.{Lexeme, is_end}
-use Rattle.token_forms.specs.Words.{is_the_mark, breaks_off, separates}
-use Rattle.token_forms.proofs.FormLaws.{both_tests}
-use Rattle.token_forms.proofs.WordLaws.{any_word, any_text, word_kind, mark_kind, break_kind, text_kind, end_kind, both, either_true, bytes_same, line_more}
+use Rattle.token_forms.specs.Words.{any_word, is_the_mark, breaks_off, separates}
+use Rattle.token_forms.proofs.FormLaws.{either_test}
+use Rattle.token_forms.proofs.WordLaws.{any_text, word_kind, mark_kind, break_kind, text_kind, end_kind, both, either_true, bytes_same}
 
 pub word_no_break : (t : Lexeme) → any_word t ≡ true → breaks_off t ≡ false
 word_no_break t h = rw (word_kind t.kind h) refl
@@ -51,16 +51,16 @@ pub neither : (a b : Bool) → a ≡ false → b ≡ false → (a || b) ≡ fals
 neither a b h k = rw (h, k) refl
 
 -- a word or `}` is no break
-pub word_or_closing_no_break : (t : Lexeme) → both_tests any_word (is_the_mark 125) t ≡ true → breaks_off t ≡ false
+pub word_or_closing_no_break : (t : Lexeme) → either_test any_word (is_the_mark 125) t ≡ true → breaks_off t ≡ false
 word_or_closing_no_break t h = elim (either_true _ _ h) [ inl k ↦ word_no_break t k | inr k ↦ mark_no_break 125 t k ]
 
 -- a separator or `}` is no word
-pub separator_or_closing_no_word : (t : Lexeme) → both_tests separates (is_the_mark 125) t ≡ true → any_word t ≡ false
+pub separator_or_closing_no_word : (t : Lexeme) → either_test separates (is_the_mark 125) t ≡ true → any_word t ≡ false
 separator_or_closing_no_word t h = elim (either_true _ _ h) [ inl k ↦ separator_no_word t k | inr k ↦ mark_no_word 125 t k ]
 
 -- the end separates nothing and begins no statement
-pub end_no_line : (t : Lexeme) → is_end t.kind ≡ true → line_more separates any_word t ≡ false
+pub end_no_line : (t : Lexeme) → is_end t.kind ≡ true → either_test separates any_word t ≡ false
 end_no_line t h = rw (end_kind t.kind h) refl
 
-pub end_no_break_line : (t : Lexeme) → is_end t.kind ≡ true → line_more breaks_off any_word t ≡ false
+pub end_no_break_line : (t : Lexeme) → is_end t.kind ≡ true → either_test breaks_off any_word t ≡ false
 end_no_break_line t h = rw (end_kind t.kind h) refl

@@ -9,9 +9,9 @@ use Rattle.token_forms.specs.Token.{Lexeme, is_word, is_end, is_break, is_mark, 
 use Rattle.token_forms.specs.Form.{Form, done, ◌>>=◌ as ◌>>=f◌}
 use Rattle.token_forms.specs.Reading.{Outcome, done_read, ◌>>=◌ as ◌>>=r◌}
 use Rattle.token_forms.specs.Words as form
-use Rattle.token_forms.specs.Words.{word_value, this_word, is_the_mark, if_true, text_value, separates, breaks_off}
+use Rattle.token_forms.specs.Words.{word_value, this_word, is_the_mark, if_true, text_value, any_word, separates, breaks_off}
 use Rattle.token_forms.specs.WordReading as reading
-use Rattle.token_forms.proofs.FormLaws.{Reads, Decides, Begins, Heads, never, one_reads, one_begins, one_heads, bind_begins, bind_definite, bind_reads, done_reads, weaken, Stops, or_left, or_right}
+use Rattle.token_forms.proofs.FormLaws.{Reads, Decides, Begins, Heads, never, one_reads, one_begins, one_heads, bind_begins, bind_definite, bind_reads, done_reads, weaken, Stops, either_test, or_left, or_right}
 use Rattle.token_forms.proofs.EitherLaw.{either_reads, either_begins, widen}
 use Rattle.token_forms.proofs.ManyLaw.{AreItems, many_reads, many_heads}
 
@@ -86,9 +86,6 @@ word_decides value = record { sound = λ t a h. h; complete = λ t a h. h; no_en
 
 pub word_by_reads : {A : Type 0} (sorts : List Reason) (value : Lexeme → Option A) → Reads (form.word_by sorts value) never (reading.word_by sorts value)
 word_by_reads sorts value = one_reads sorts (word_decides value)
-
-abbrev pub any_word : Lexeme → Bool
-any_word t = is_word t.kind
 
 pub word_by_begins : {A : Type 0} (sorts : List Reason) (value : Lexeme → Option A) → Begins (form.word_by sorts value) any_word
 word_by_begins sorts value = one_heads sorts any_word (λ t a h. word_some value t a h) (λ q t i w. w)
@@ -269,9 +266,6 @@ line_goes goes (s, true) (s1, false) t = goes s s1 t
 line_goes goes (s, true) (s1, true) t = false
 line_goes goes (s, false) s1 t = false
 
-abbrev pub line_more : (Lexeme → Bool) → (Lexeme → Bool) → Lexeme → Bool
-line_more test more t = test t || more t
-
 module _ {S : Type 0} (test starts more : Lexeme → Bool) (goes : S → S → Lexeme → Bool) (statement : S → Form S) (read : S → List Lexeme → Outcome S) (k : AreStatements test starts more goes statement read) where
   pass_law : (s : S) → Reads {A = S × Bool} (form.passed test >>=f λ _. done (s, true)) never (reading.passed test >>=r λ _. done_read (s, true))
   pass_law s = bind_definite (passed_reads test k.no_end) (λ _. done_reads {A = S × Bool} (s, true))
@@ -290,10 +284,10 @@ module _ {S : Type 0} (test starts more : Lexeme → Bool) (goes : S → S → L
   line_laws s false = pass_law s
 
   starts_true : (s : S) (t : Lexeme) → test t ≡ true → reading.line_starts test starts (s, true) t ≡ true
-  starts_true s t h = rw (h, reading.line_starts) refl
+  starts_true s t h = rw (h, reading.is_line_start) refl
 
   starts_also : (s : S) (t : Lexeme) → starts t ≡ true → reading.line_starts test starts (s, true) t ≡ true
-  starts_also s t h = rw (k.apart t h, reading.line_starts) h
+  starts_also s t h = rw (k.apart t h, reading.is_line_start) h
 
   pub line_begins : (s : S) (b : Bool) → Begins (form.line test statement (s, b)) (reading.line_starts test starts (s, b))
   line_begins s true = either_begins (widen (starts_true s) (pass_begins s)) (widen (starts_also s) (statement_begins s))
@@ -311,16 +305,16 @@ module _ {S : Type 0} (test starts more : Lexeme → Bool) (goes : S → S → L
   line_apart s true s1 true t h = refl
   line_apart s false s1 b1 t h = refl
 
-  more_cases : (t : Lexeme) → (test t ≡ true) ⊎ (starts t ≡ true) → line_more test more t ≡ true
+  more_cases : (t : Lexeme) → (test t ≡ true) ⊎ (starts t ≡ true) → either_test test more t ≡ true
   more_cases t (inl h) = or_left (test t) (more t) h
   more_cases t (inr h) = or_right (test t) (more t) (k.starts_more t h)
 
-  goes_cases : (s : S) (b : Bool) (s1 : S) (b1 : Bool) (t : Lexeme) → line_goes goes (s, b) (s1, b1) t ≡ true → line_more test more t ≡ true
+  goes_cases : (s : S) (b : Bool) (s1 : S) (b1 : Bool) (t : Lexeme) → line_goes goes (s, b) (s1, b1) t ≡ true → either_test test more t ≡ true
   goes_cases s true s1 false t h = or_right (test t) (more t) (k.goes_more s s1 t h)
   goes_cases s true s1 true t h = absurd (cc h)
   goes_cases s false s1 b1 t h = absurd (cc h)
 
-  pub are_lines : AreItems (reading.line_starts test starts) (line_goes goes) (line_more test more) (form.line test statement) (reading.line test read)
+  pub are_lines : AreItems (reading.line_starts test starts) (line_goes goes) (either_test test more) (form.line test statement) (reading.line test read)
   are_lines = record {
     laws = λ s. line_laws s.0 s.1;
     begins = λ s. line_begins s.0 s.1;
@@ -329,10 +323,10 @@ module _ {S : Type 0} (test starts more : Lexeme → Bool) (goes : S → S → L
     goes_more = λ s s1 t h. goes_cases s.0 s.1 s1.0 s1.1 t h;
   }
 
-  pub lines_reads : (s : S × Bool) → Reads (form.lines test statement s) (λ _. line_more test more) (reading.lines test starts read s)
-  lines_reads s = bind_done_same (λ s1. s1.0) (many_reads (reading.line_starts test starts) (line_goes goes) (line_more test more) (form.line test statement) (reading.line test read) are_lines s)
+  pub lines_reads : (s : S × Bool) → Reads (form.lines test statement s) (λ _. either_test test more) (reading.lines test starts read s)
+  lines_reads s = bind_done_same (λ s1. s1.0) (many_reads (reading.line_starts test starts) (line_goes goes) (either_test test more) (form.line test statement) (reading.line test read) are_lines s)
 
   pub lines_heads : (s : S × Bool) → Heads (form.lines test statement s) (reading.line_starts test starts s)
   lines_heads s = heads_done (λ s1. s1.0)
-      (many_reads (reading.line_starts test starts) (line_goes goes) (line_more test more) (form.line test statement) (reading.line test read) are_lines s)
-      (many_heads (reading.line_starts test starts) (line_goes goes) (line_more test more) (form.line test statement) (reading.line test read) are_lines s)
+      (many_reads (reading.line_starts test starts) (line_goes goes) (either_test test more) (form.line test statement) (reading.line test read) are_lines s)
+      (many_heads (reading.line_starts test starts) (line_goes goes) (either_test test more) (form.line test statement) (reading.line test read) are_lines s)

@@ -71,6 +71,10 @@ text = one [] (λ t a. text_value t ≡ Some a)
 abbrev pub the_end : Form (Unit {0})
 the_end = one [] (λ t a. is_end t.kind ≡ true)
 
+-- any word at all
+abbrev pub any_word : Lexeme → Bool
+any_word t = is_word t.kind
+
 -- breaks and separators
 abbrev pub breaks_off : Lexeme → Bool
 breaks_off t = is_break t.kind

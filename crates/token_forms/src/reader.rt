@@ -1,6 +1,6 @@
 ghost use Rattle.std.specs.Prelude.{◌≡◌, ◌∷◌, [], IsNone, IfSome, IfOk, IfErr, OnErr};
 ghost use Rattle.token_forms.specs.declared.token.Reason.TheVariants.{Statement};
-ghost use Rattle.token_forms.specs.declared.error.ReadError.TheVariants.{Bad};
+ghost use Rattle.token_forms.specs.declared.error.ReadError.TheVariants.{Bad, Memory};
 ghost use Rattle.token_forms.specs.TextTokens.{text_tokens, plain_tokens, tokens_by, is_change_word};
 ghost use Rattle.token_forms.specs.View.{lexeme_of};
 ghost use Rattle.token_forms.specs.Words.{inside_quotes, is_name, separates, breaks_off};
@@ -47,8 +47,8 @@ fn is_a_change_word(t: &Spelled) -> bool
 
 impl<'a> Reader<'a> {
     ghost use Rattle.token_forms.specs.View.{IsFirst};
-    ghost use Rattle.token_forms.specs.Gives.{Gives};
-    ghost use Rattle.token_forms.specs.Reading.{Read, begins_with};
+    ghost use Rattle.token_forms.specs.Gives.{Gives, Refuses};
+    ghost use Rattle.token_forms.specs.Reading.{Read, nowhere_read, begins_with};
     ghost use Rattle.token_forms.specs.WordReading as reading;
 
     /// At the first token of a text in nft's language.
@@ -132,6 +132,20 @@ impl<'a> Reader<'a> {
         match self.take() {
             Some(t) => Ok(t),
             None => Err(short()),
+        }
+    }
+
+    /// Takes the next token where none fits, and gives the error of it, or of a text that is too short.
+    #[tactic(auto, unfolding(crate::specs::Gives::Refuses))]
+    pub fn refuse(&mut self) -> ReadError
+        ensures refuses { Refuses result self.new (nowhere_read {A = Unit {0}} self.old) }
+        ensures end { self.old ≡ [] → result ≡ Bad 0 Statement }
+        // It takes no memory.
+        ensures bad { result ≡ Memory → ⊥ }
+    {
+        match self.take() {
+            Some(t) => t.refused(&[]),
+            None => short(),
         }
     }
 

@@ -1,6 +1,7 @@
 ghost use Rattle.std.specs.Prelude.{◌≡◌};
 ghost use Rattle.token_forms.specs.Token.{is_word};
-ghost use Rattle.token_forms.specs.Words.{separates, breaks_off, is_the_mark};
+ghost use Rattle.token_forms.specs.Words.{any_word, separates, breaks_off, is_the_mark};
+ghost use Rattle.token_forms.specs.WordReading.{is_line_start};
 ghost use Rattle.token_forms.specs.Reasons.{reason_of};
 ghost use Rattle.token_forms.specs.View.{lexeme_of};
 ghost use Rattle.token_forms.specs.declared.error.ReadError.TheVariants.{Bad};
@@ -54,6 +55,20 @@ impl<'a> Seen<'a> {
         ensures { result ≡ separates (lexeme_of self.now) }
     {
         self.is_break() || self.is_mark(b';')
+    }
+
+    /// Whether it starts a line of a text with separators: a separator, or a word where a statement may come next.
+    pub fn starts_statement_line(&self, next: bool) -> bool
+        ensures { result ≡ is_line_start separates any_word next (lexeme_of self.now) }
+    {
+        self.is_separator() || (next && self.is_word())
+    }
+
+    /// Whether it starts a line of a text with line breaks alone: a break, or a word where a line may come next.
+    pub fn starts_line_or_break(&self, next: bool) -> bool
+        ensures { result ≡ is_line_start breaks_off any_word next (lexeme_of self.now) }
+    {
+        self.is_break() || (next && self.is_word())
     }
 
     /// The error where this token doesn't fit. Its place asks for words of these sorts.

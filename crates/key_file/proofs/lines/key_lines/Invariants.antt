@@ -1,8 +1,7 @@
 use Rattle.std.proofs.Common.{length}
-use Rattle.token_forms.specs.Words.{breaks_off}
+use Rattle.token_forms.specs.Words.{any_word, breaks_off}
 use Rattle.token_forms.specs.WordReading.{line_starts}
 use Rattle.token_forms.proofs.LoopLaws.{Left}
-use Rattle.set_script.specs.ScriptReading.{any_word}
 use Rattle.key_file.specs.KeysReading as reading
 use Rattle.key_file.proofs.lines.key_lines.Given as goal
 

@@ -1,8 +1,7 @@
 use Rattle.std.proofs.Common.{length}
-use Rattle.token_forms.specs.Words.{separates}
+use Rattle.token_forms.specs.Words.{any_word, separates}
 use Rattle.token_forms.specs.WordReading.{line_starts}
 use Rattle.token_forms.proofs.LoopLaws.{Left}
-use Rattle.set_script.specs.ScriptReading.{any_word}
 use Rattle.rule_chain.specs.RulesReading as reading
 use Rattle.rule_chain.proofs.blocks.rule_lines.Given as goal
 

@@ -1,7 +1,6 @@
 use Rattle.std.proofs.Common.{length, true}
-use Rattle.token_forms.specs.Words.{separates}
+use Rattle.token_forms.specs.Words.{any_word, separates}
 use Rattle.token_forms.specs.WordReading.{line_starts}
-use Rattle.set_script.specs.ScriptReading.{any_word}
 use Rattle.token_forms.proofs.LoopLaws.{Left}
 use Rattle.set_script.specs.ScriptReading as reading
 use Rattle.set_script.proofs.sets.block_lines.Given as goal
