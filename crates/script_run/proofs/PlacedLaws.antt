@@ -5,6 +5,7 @@ use Rattle.std.proofs.lemmas.List.{length-map, length-append}
 use Rattle.std.proofs.lemmas.Option.{slice_get_within}
 use Rattle.set_model.specs.declared.packet.Packet.{Packet}
 use Rattle.set_model.specs.Legal.{Placed, placed_from}
+use Rattle.set_model.specs.Text.{packets_up_to}
 use Rattle.script_run.specs.Telling.{section_at}
 use Rattle.script_run.proofs.Lists.{All-head, All-tail, append-either, take-first, drop-take-behind, numbered, of-item, length-enumerate}
 
@@ -15,35 +16,31 @@ in_section j p = record { section = j; place = p.0; packet = p.1 }
 abbrev pub placed_in : ℕ → List Packet → List Placed
 placed_in j packets = map (in_section j) (enumerate_from 0 packets)
 
--- how many packets the first sections have
-abbrev pub count_of : List (List Packet) → ℕ → ℕ
-count_of keys j = length (flat_map (λ packets. packets) (take j keys))
-
 placed-long : (j : ℕ) (packets : List Packet) → length (placed_in j packets) ≡ length packets
 placed-long j packets = length-map (enumerate_from 0 packets) (in_section j) ∙ length-enumerate 0 packets
 
-count-cons : (packets : List Packet) (keys : List (List Packet)) (j : ℕ) → count_of (packets ∷ keys) (suc j) ≡ length packets + count_of keys j
+count-cons : (packets : List Packet) (keys : List (List Packet)) (j : ℕ) → packets_up_to (packets ∷ keys) (suc j) ≡ length packets + packets_up_to keys j
 count-cons packets keys j = length-append packets (flat_map (λ ps. ps) (take j keys))
 
 -- the packets of one section among all
-pub section-placed : (s j : ℕ) (keys : List (List Packet)) → drop (count_of keys j) (take (count_of keys (suc j)) (placed_from s keys)) ≡ placed_in (s + j) (section_at keys j)
+pub section-placed : (s j : ℕ) (keys : List (List Packet)) → drop (packets_up_to keys j) (take (packets_up_to keys (suc j)) (placed_from s keys)) ≡ placed_in (s + j) (section_at keys j)
 section-placed s zero [] = refl
 section-placed s (suc j) [] = refl
 section-placed s zero (packets ∷ keys) =
-    let size : count_of (packets ∷ keys) 1 ≡ length (placed_in s packets) = ap length (append-nil packets) ∙ sym (placed-long s packets) in
+    let size : packets_up_to (packets ∷ keys) 1 ≡ length (placed_in s packets) = ap length (append-nil packets) ∙ sym (placed-long s packets) in
     ap (λ n. take n (placed_from s (packets ∷ keys))) size ∙ take-first (placed_in s packets) (placed_from (s + 1) keys) ∙ ap (λ n. placed_in n packets) (sym (add-zero s))
 section-placed s (suc j) (packets ∷ keys) =
     let long = placed-long s packets in
-    let a : count_of (packets ∷ keys) (suc j) ≡ length (placed_in s packets) + count_of keys j = count-cons packets keys j ∙ ap (λ n. n + count_of keys j) (sym long) in
-    let b : count_of (packets ∷ keys) (suc (suc j)) ≡ length (placed_in s packets) + count_of keys (suc j) = count-cons packets keys (suc j) ∙ ap (λ n. n + count_of keys (suc j)) (sym long) in
-    ap (λ n. drop n (take (count_of (packets ∷ keys) (suc (suc j))) (placed_from s (packets ∷ keys)))) a
-    ∙ ap (λ n. drop (length (placed_in s packets) + count_of keys j) (take n (placed_from s (packets ∷ keys)))) b
-    ∙ drop-take-behind (placed_in s packets) (placed_from (s + 1) keys) (count_of keys j) (count_of keys (suc j))
+    let a : packets_up_to (packets ∷ keys) (suc j) ≡ length (placed_in s packets) + packets_up_to keys j = count-cons packets keys j ∙ ap (λ n. n + packets_up_to keys j) (sym long) in
+    let b : packets_up_to (packets ∷ keys) (suc (suc j)) ≡ length (placed_in s packets) + packets_up_to keys (suc j) = count-cons packets keys (suc j) ∙ ap (λ n. n + packets_up_to keys (suc j)) (sym long) in
+    ap (λ n. drop n (take (packets_up_to (packets ∷ keys) (suc (suc j))) (placed_from s (packets ∷ keys)))) a
+    ∙ ap (λ n. drop (length (placed_in s packets) + packets_up_to keys j) (take n (placed_from s (packets ∷ keys)))) b
+    ∙ drop-take-behind (placed_in s packets) (placed_from (s + 1) keys) (packets_up_to keys j) (packets_up_to keys (suc j))
     ∙ section-placed (s + 1) j keys
     ∙ ap (λ n. placed_in n (section_at keys j)) (omega arith)
 
 -- one section more is so many packets more
-pub count-next : (keys : List (List Packet)) (j : ℕ) → count_of keys (suc j) ≡ count_of keys j + length (section_at keys j)
+pub count-next : (keys : List (List Packet)) (j : ℕ) → packets_up_to keys (suc j) ≡ packets_up_to keys j + length (section_at keys j)
 count-next [] zero = refl
 count-next [] (suc j) = refl
 count-next (packets ∷ keys) zero = ap length (append-nil packets) ∙ omega arith
@@ -105,21 +102,21 @@ part-at (x ∷ xs) (suc a) zero q h = absurd (omega (arith, h))
 part-at (x ∷ xs) (suc a) (suc b) q h = let same : suc a + q ≡ suc (a + q) = omega arith in rw same (part-at xs a b q (omega (arith, h)))
 
 -- A packet that stands among those of section j + 1 is that section's.
-pub placed-here : (j q : ℕ) (keys : List (List Packet)) (at : Placed) → q < length (section_at keys j) → slice_get (placed_from 1 keys) (count_of keys j + q) ≡ Some at
+pub placed-here : (j q : ℕ) (keys : List (List Packet)) (at : Placed) → q < length (section_at keys j) → slice_get (placed_from 1 keys) (packets_up_to keys j + q) ≡ Some at
     → (p : Packet) × (slice_get (section_at keys j) q ≡ Some p) × (in_section (1 + j) (q, p) ≡ at)
 placed-here j q keys at within e =
     let more = count-next keys j in
-    let part = part-at (placed_from 1 keys) (count_of keys j) (count_of keys (suc j)) q (omega (arith, more, within)) in
+    let part = part-at (placed_from 1 keys) (packets_up_to keys j) (packets_up_to keys (suc j)) q (omega (arith, more, within)) in
     let here : slice_get (placed_in (1 + j) (section_at keys j)) q ≡ Some at = ap (λ xs. slice_get xs q) (sym (section-placed 1 j keys)) ∙ part ∙ e in
     numbered (in_section (1 + j)) (section_at keys j) q at here
 
 -- A packet before those is of an earlier section.
-pub placed-before : (s j p : ℕ) (keys : List (List Packet)) (at : Placed) → slice_get (placed_from s keys) p ≡ Some at → p < count_of keys j → at.section < s + j
+pub placed-before : (s j p : ℕ) (keys : List (List Packet)) (at : Placed) → slice_get (placed_from s keys) p ≡ Some at → p < packets_up_to keys j → at.section < s + j
 placed-before s j p [] at e lt = absurd (cc e)
 placed-before s zero p (packets ∷ keys) at e lt = absurd (omega (arith, lt))
 placed-before s (suc j) p (packets ∷ keys) at e lt = go (append-either (placed_in s packets) (placed_from (s + 1) keys) p at e) (λ q k l. placed-before (s + 1) j q keys at k l) where
   go : (slice_get (placed_in s packets) p ≡ Some at) ⊎ ((q : ℕ) × (slice_get (placed_from (s + 1) keys) q ≡ Some at) × (p ≡ length (placed_in s packets) + q))
-      → ((q : ℕ) → slice_get (placed_from (s + 1) keys) q ≡ Some at → q < count_of keys j → at.section < s + 1 + j) → at.section < s + suc j
+      → ((q : ℕ) → slice_get (placed_from (s + 1) keys) q ≡ Some at → q < packets_up_to keys j → at.section < s + 1 + j) → at.section < s + suc j
   go (inl k) rest = let is = in-first s p packets at k in omega (arith, is)
   go (inr k) rest = let long = placed-long s packets in let more = count-cons packets keys j in let place = k.2 in let r = rest k.0 k.1 (omega (arith, long, more, place, lt)) in omega (arith, r)
 
@@ -129,6 +126,6 @@ placed-count s [] = refl
 placed-count s (packets ∷ keys) =
     let a = length-append (placed_in s packets) (placed_from (s + 1) keys) in let b = length-append packets (flat_map (λ ps. ps) keys) in let long = placed-long s packets in let rest = placed-count (s + 1) keys in omega (arith, a, b, long, rest)
 
-pub count-rises : (keys : List (List Packet)) (j d : ℕ) → count_of keys j ≤ count_of keys (j + d)
+pub count-rises : (keys : List (List Packet)) (j d : ℕ) → packets_up_to keys j ≤ packets_up_to keys (j + d)
 count-rises keys j zero = rw add-zero (omega arith)
 count-rises keys j (suc d) = let so_far = count-rises keys j d in let more = count-next keys (j + d) in let same : j + suc d ≡ suc (j + d) = omega arith in rw same (omega (arith, so_far, more))

@@ -28,7 +28,7 @@ use Rattle.set_model.proofs.ClosedLaws.{closed-section}
 use Rattle.script_run.proofs.ControlLaws.{history-next, history_numbered, section_later, history_of, history_sets}
 use Rattle.script_run.proofs.Lists.{list_any-append, append-either, drop-take-behind, of-item}
 use Rattle.script_run.proofs.SectionLaws.{grown_at}
-use Rattle.script_run.proofs.PlacedLaws.{in_section, count_of, count-next, of-placed, placed-here, placed-before, placed-count, count-rises}
+use Rattle.script_run.proofs.PlacedLaws.{in_section, count-next, of-placed, placed-here, placed-before, placed-count, count-rises}
 
 -- one section more of a script
 pub after-next : (mode : Mode) (script : Script) (j : ℕ) → after mode script j ≡ section mode (before mode script j) (section_at script.sections j)
@@ -62,7 +62,7 @@ count-more : (keys : List (List Packet)) (n : ℕ) → packets_before keys n + l
 count-more keys zero = refl
 count-more keys (suc j) =
     let same : suc j + 1 - 1 ≡ suc j = omega arith in
-    ap (λ m. count_of keys m + length (section_at keys j)) (one-less j) ∙ sym (count-next keys j) ∙ ap (count_of keys) (sym same)
+    ap (λ m. packets_up_to keys m + length (section_at keys j)) (one-less j) ∙ sym (count-next keys j) ∙ ap (packets_up_to keys) (sym same)
 
 range-more : {A : Type 0} (f : ℕ → List A) (from n : ℕ) → flat_map f (range_with_len from (suc n)) ≡ flat_map f (range_with_len from n) ++ f (from + n)
 range-more f from zero = append-nil (f from) ∙ ap f (omega arith)
@@ -95,7 +95,7 @@ lines-here : (keys : List (List Packet)) (n : ℕ) (lines more : List Line) → 
 lines-here keys n lines more long size =
     let counts = count-more keys n in
     let same : n + 1 - 1 ≡ n = omega arith in
-    let to : packets_up_to keys n ≡ length lines + length more = (let e = ap (count_of keys) same in omega (arith, counts, e, long, size)) in
+    let to : packets_up_to keys n ≡ length lines + length more = (let e = ap (packets_up_to keys) same in omega (arith, counts, e, long, size)) in
     let from : packets_before keys n ≡ length lines + 0 = omega (arith, long) in
     (λ i. drop (from i) (take (to i) (lines ++ more))) ∙ drop-take-behind lines more 0 (length more) ∙ take_all (length more) more (omega arith)
 
@@ -111,8 +111,8 @@ none-legal verdict mode script keys threads = record { each = λ p at line e f. 
 
 -- The lines of one section more.
 module _ (verdict : Generation → Packet → Verdict) (mode : Mode) (script : Script) (keys : List (List Packet)) (fits : All (All (IsFitting script.schema)) keys) (threads j : ℕ) (lines more : List Line)
-    (long : length lines ≡ count_of keys j) (so_far : IsLegalSoFar verdict mode script keys threads lines)
-    (answers : IsSection verdict (section_at keys j) (count_of keys j) threads (length (before mode script (suc j)).committed) (after mode script (suc j)).committed more)
+    (long : length lines ≡ packets_up_to keys j) (so_far : IsLegalSoFar verdict mode script keys threads lines)
+    (answers : IsSection verdict (section_at keys j) (packets_up_to keys j) threads (length (before mode script (suc j)).committed) (after mode script (suc j)).committed more)
     (grown : Grown script.schema 0 (after mode script (suc j)).committed) where
   abbrev Says : Generation → Packet → Verdict → Type 0
   Says = IsAnsweredBy verdict script.schema
@@ -128,7 +128,7 @@ module _ (verdict : Generation → Packet → Verdict) (mode : Mode) (script : S
       let sets = grown_at script.schema 0 (after mode script (suc j)).committed grown line.generation answer.0 answer.1 in
       record { generation = answer.0; is_committed = answer.1; says = record { sets = sets; fits = fit; answer_is = answer.2 } }
 
-  new-line : (q : ℕ) (packet : Packet) (line : Line) → IsFitting script.schema packet → IsSectionLine verdict (section_at keys j) (count_of keys j) threads (length (before mode script (suc j)).committed) (after mode script (suc j)).committed q packet line
+  new-line : (q : ℕ) (packet : Packet) (line : Line) → IsFitting script.schema packet → IsSectionLine verdict (section_at keys j) (packets_up_to keys j) threads (length (before mode script (suc j)).committed) (after mode script (suc j)).committed q packet line
       → IsLegalLine Says mode script threads (length lines + q) (in_section (1 + j) (q, packet)) line
   new-line q packet line fit l =
       let one : 1 + j ≡ suc j = omega arith in
@@ -223,8 +223,8 @@ module _ (verdict : Generation → Packet → Verdict) (packets_text : List Line
   legal-more fits zero lines [] long so_far answers grown = subst (λ (z : List Line). IsLegalSoFar verdict mode script keys threads z) (sym (append-nil lines)) so_far
   legal-more fits zero lines (x ∷ more) long so_far answers grown = let size = answers.one_each in absurd (omega (arith, size))
   legal-more fits (suc j) lines more long so_far answers grown =
-      more-legal verdict mode script keys fits threads j lines more (long ∙ ap (count_of keys) (one-less j)) so_far
-      (subst (λ (n : ℕ). IsSection verdict (section_at keys j) (count_of keys n) threads (length (before mode script (suc j)).committed) (after mode script (suc j)).committed more) (one-less j) answers)
+      more-legal verdict mode script keys fits threads j lines more (long ∙ ap (packets_up_to keys) (one-less j)) so_far
+      (subst (λ (n : ℕ). IsSection verdict (section_at keys j) (packets_up_to keys n) threads (length (before mode script (suc j)).committed) (after mode script (suc j)).committed more) (one-less j) answers)
       grown
 
   told_more : (fits : All (All (IsFitting script.schema)) keys) (n : ℕ) (t new : Telling) → IsToldUpTo verdict packets_text keep_going script keys threads n t → EndsClosed (section_at script.sections n)

@@ -3,7 +3,7 @@ use Rattle.std.proofs.lemmas.List.{length-map}
 use Rattle.set_model.specs.Control.{Generation}
 use Rattle.set_model.specs.declared.script.SetDecl.{SetDecl}
 use Rattle.gen_publish.specs.Publish.{AllFresh}
-use Rattle.script_run.proofs.SectionLaws.{fresh_ready}
+use Rattle.packet_pool.proofs.FreshReaders.{fresh_ready}
 use Rattle.script_run.proofs.telling.Telling.new.Goals as goal
 
 pub returns : goal.returns
