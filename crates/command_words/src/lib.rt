@@ -5,7 +5,8 @@
 //! text. A test of the words' shape takes no memory.
 //!
 //! **Definitions:** `specs/Words.antt` says which words are a command and which ask for help,
-//! `WordForms.antt` how their shape is tested. **Proofs:** docs/proofs.md, "Words (`command_words`)".
+//! `WordForms.antt` how their shape is tested. **Theory:** docs/formats.md, "Words, statuses and fault
+//! lines". **Proofs:** docs/proofs.md, "Words (`command_words`)".
 #![tactic(auto)]
 
 mod help;

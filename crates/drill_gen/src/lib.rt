@@ -2,7 +2,7 @@
 //! one line.
 //!
 //! **Definitions:** `specs/Drill.antt` draws the workload, element by element and packet by packet, and
-//! `Drawing.antt` says how far it is drawn.
+//! `Drawing.antt` says how far it is drawn. **Theory:** docs/formats.md, "`drill`".
 #![tactic(auto)]
 
 mod draws;

@@ -6,7 +6,8 @@
 //! terminal.
 //!
 //! **Definitions:** `specs/Shown.antt` says how a byte is shown and what a note begins with,
-//! `Told.antt` that one note is told or nothing.
+//! `Told.antt` that one note is told or nothing. **Theory:** docs/formats.md, "The standard error", and
+//! docs/DECISIONS.md, "What a person is told".
 #![tactic(auto)]
 
 mod bad;

@@ -5,7 +5,8 @@ use addr_text::read_number;
 /// The greatest number that a line tells of a line, a field or an element.
 const MOST: u64 = 1_000_000_000_000_000;
 
-/// Why a change was refused.
+/// Why a change was refused: the word of the model's `Why` alone, without the element's id or the field's number. A note finds
+/// the element in the script instead, since the ids that lines give begin anew behind an abort.
 #[derive(Clone, Copy, PartialEq, Eq)]
 pub(crate) enum Cause {
     Overlap,

@@ -2,7 +2,7 @@
 //! same.
 //!
 //! **Definitions:** none; it has tests alone. What a listing is stands in `set_report`,
-//! `specs/ListText.antt`.
+//! `specs/ListText.antt`. **Theory:** docs/formats.md, "`list`".
 #![tactic(auto)]
 
 #[cfg(test)]

@@ -7,7 +7,8 @@
 //! **Definitions:** `specs/Bytes.antt`, `Token.antt`, `Tokens.antt` and `TextTokens.antt` cut a text
 //! into tokens; `Form.antt` and `Words.antt` are the forms; `Faults.antt`, `Reasons.antt` and
 //! `BadTokens.antt` say which token is bad and why; `Fronts.antt` what holds of every grammar.
-//! **Proofs:** docs/proofs.md, "Grammars (`token_forms`)".
+//! **Theory:** docs/formats.md, "Tokens" and "The place and reason of a refusal". **Proofs:**
+//! docs/proofs.md, "Grammars (`token_forms`)".
 #![tactic(auto)]
 
 mod bad_token;
