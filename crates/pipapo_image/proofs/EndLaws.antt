@@ -1,6 +1,5 @@
 -- Where the rules of an element lie among the ends.
 use Rattle.std.proofs.Common.{◌≡◌, ◌∙◌, ap, ℕ, zero, suc, ◌+◌, ◌-◌, ◌<◌, ◌≤◌, ◌⊎◌, inl, inr, List, [], ◌∷◌, ◌++◌, length, take, get_or, arith, flat_map, length-append}
-use Rattle.std.specs.Prelude.{replicate}
 use Rattle.std.proofs.lemmas.Bool.{cases_lt}
 use Rattle.std.proofs.lemmas.List.{length-replicate, get_or_append_left, get_or-append_right, get_or-replicate}
 use Rattle.set_model.specs.declared.kind.Kind.{Kind}
@@ -9,10 +8,7 @@ use Rattle.set_model.specs.declared.block.Block.{Block}
 use Rattle.set_model.specs.SetState.{field_rules}
 use Rattle.set_tables.specs.declared.End.{End}
 use Rattle.set_tables.specs.Tables.{split, ends, last_ends}
-use Rattle.set_tables.proofs.UpdateLaws.{length-ends, ends-from}
-
-abbrev mine : (Element → List Block) → ℕ → Element → List End
-mine here i e = replicate (length (here e)) (record { place = i; expiry = e.expiry })
+use Rattle.set_tables.proofs.UpdateLaws.{one_end, length-ends, ends-from}
 
 pub end-below : (here : Element → List Block) (i : ℕ) (es : List Element) (p k : ℕ) (d : End) → k < length (flat_map here (take p es)) → (get_or (ends here i es) k d).place < i + p
 end-below here i [] zero k d h = absurd (omega arith)
@@ -20,15 +16,15 @@ end-below here i [] (suc p) k d h = absurd (omega arith)
 end-below here i (e ∷ es) zero k d h = absurd (omega arith)
 end-below here i (e ∷ es) (suc p) k d h = go (cases_lt k (length (here e))) (λ g. end-below here (i + 1) es p (k - length (here e)) d g) where
   go : (k < length (here e)) ⊎ (length (here e) ≤ k) → (k - length (here e) < length (flat_map here (take p es)) → (get_or (ends here (i + 1) es) (k - length (here e)) d).place < (i + 1) + p)
-      → (get_or (mine here i e ++ ends here (i + 1) es) k d).place < i + suc p
+      → (get_or (one_end here i e ++ ends here (i + 1) es) k d).place < i + suc p
   go (inl a) ih =
       let m = length-replicate (length (here e)) (let x : End = record { place = i; expiry = e.expiry } in x) in
-      let q = get_or_append_left (mine here i e) (ends here (i + 1) es) d k (omega arith) ∙ get_or-replicate (length (here e)) k (record { place = i; expiry = e.expiry }) d a in
+      let q = get_or_append_left (one_end here i e) (ends here (i + 1) es) d k (omega arith) ∙ get_or-replicate (length (here e)) k (record { place = i; expiry = e.expiry }) d a in
       let r = ap (λ z. z.place) q in
       omega arith
   go (inr a) ih =
       let m = length-replicate (length (here e)) (let x : End = record { place = i; expiry = e.expiry } in x) in
-      let q = get_or-append_right (mine here i e) (ends here (i + 1) es) (length (here e)) k d m a in
+      let q = get_or-append_right (one_end here i e) (ends here (i + 1) es) (length (here e)) k d m a in
       let r = ap (λ z. z.place) q in
       let h2 : k < length (here e ++ flat_map here (take p es)) = h in
       let n2 = length-append (here e) (flat_map here (take p es)) in
@@ -41,10 +37,10 @@ end-above here i (e ∷ es) zero k d h l = let a = ends-from here i i (e ∷ es)
 end-above here i (e ∷ es) (suc p) k d h l =
     let n = length-append (here e) (flat_map here (take p es)) in
     let h2 : length (here e ++ flat_map here (take p es)) ≤ k = h in
-    let l2 : k < length (mine here i e ++ ends here (i + 1) es) = l in
+    let l2 : k < length (one_end here i e ++ ends here (i + 1) es) = l in
     let m = length-replicate (length (here e)) (let x : End = record { place = i; expiry = e.expiry } in x) in
-    let t = length-append (mine here i e) (ends here (i + 1) es) in
-    let q = get_or-append_right (mine here i e) (ends here (i + 1) es) (length (here e)) k d m (omega arith) in
+    let t = length-append (one_end here i e) (ends here (i + 1) es) in
+    let q = get_or-append_right (one_end here i e) (ends here (i + 1) es) (length (here e)) k d m (omega arith) in
     let r = ap (λ z. z.place) q in
     let ih = end-above here (i + 1) es p (k - length (here e)) d (omega arith) (omega arith) in
     omega arith

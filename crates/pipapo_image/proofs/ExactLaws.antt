@@ -14,8 +14,9 @@ use Rattle.set_model.specs.declared.element.Element.{Element}
 use Rattle.set_model.specs.Expiry.{live}
 use Rattle.set_model.specs.Key.{parts_fit, intervals_fit, is_good, is_value, contains, parts_hold, same_parts, start_key}
 use Rattle.set_model.specs.SetState.{State, answers, holds, place, is_exactly, element_at}
-use Rattle.pipapo_image.specs.Image.Remove.{IsExactPlace}
-use Rattle.pipapo_image.proofs.Renewal.{no_element}
+use Rattle.expiry_scan.proofs.PlaceLaws.{no_element}
+use Rattle.pipapo_image.specs.Image.Steps.{IsExactPlace}
+use Rattle.pipapo_image.proofs.ImageUse.{parts-long}
 
 same-low : (xl pl : ℕ) → (xl == pl) ≡ true → nat_le xl pl ≡ true
 same-low xl pl a = grind (arith, nat_tests)
@@ -37,16 +38,13 @@ same-hold (k ∷ kinds) (x ∷ xs) (p ∷ ps) n fit same =
     and_from (contains x p.low) (parts_hold xs (start_key ps)) (and_from (nat_le x.low p.low) (nat_le p.low x.high) (same-low x.low p.low t.0) (below-same x.high p.high p.low t.1 b.0))
     (same-hold kinds xs ps (omega arith) a.1 s.1)
 
-pub parts-long : (kinds : List Kind) (parts : List Interval) → parts_fit kinds parts ≡ true → length kinds ≡ length parts
-parts-long kinds parts h = let a = (and_parts (length kinds == length parts) (intervals_fit kinds parts) h).0 in grind (arith, nat_tests)
-
 -- an element of exactly these intervals holds the key with which they start
 exact-holds : (kinds : List Kind) (parts : List Interval) (now : ℕ) (e : Element) → parts_fit kinds parts ≡ true → is_exactly parts now e ≡ true → answers (start_key parts) now e ≡ true
 exact-holds kinds parts now e fit is =
     let a = and_parts (length kinds == length parts) (intervals_fit kinds parts) fit in
     let b = and_parts (live e now) (same_parts e.parts parts) is in
     let c = and_parts (length e.parts == length parts) (list_all (λ p. (p.0.low == p.1.low) && (p.0.high == p.1.high)) (zip e.parts parts)) b.1 in
-    and_from (live e now) (holds e (start_key parts)) b.0 (same-hold kinds e.parts parts (parts-long kinds parts fit) a.1 c.1)
+    and_from (live e now) (holds e (start_key parts)) b.0 (same-hold kinds e.parts parts (sym (parts-long kinds parts fit)) a.1 c.1)
 
 not-exact : (kinds : List Kind) (parts : List Interval) (now : ℕ) (e : Element) → parts_fit kinds parts ≡ true → answers (start_key parts) now e ≡ false → is_exactly parts now e ≡ false
 not-exact kinds parts now e fit un = go (is_exactly parts now e) refl where
@@ -119,7 +117,7 @@ exact-unfit s parts now fit un = record {
       let a = and_parts (length s.kinds == length e.parts) (intervals_fit s.kinds e.parts) f in
       let b = and_parts (live e now) (same_parts e.parts parts) h in
       let c = and_parts (length e.parts == length parts) (list_all (λ p. (p.0.low == p.1.low) && (p.0.high == p.1.high)) (zip e.parts parts)) b.1 in
-      let n : length s.kinds ≡ length e.parts = parts-long s.kinds e.parts f in
+      let n : length s.kinds ≡ length e.parts = sym (parts-long s.kinds e.parts f) in
       let m : length e.parts ≡ length parts = grind (arith, nat_tests, c.0) in
       let r : (length s.kinds == length parts) ≡ true = grind (arith, nat_tests, n, m) in
       absurd (cc (and_from (length s.kinds == length parts) (intervals_fit s.kinds parts) r (same-fit s.kinds e.parts parts n m a.1 c.1), un))

@@ -6,8 +6,8 @@ use Rattle.std.proofs.lemmas.List.Edits.{remove-append_right}
 use Rattle.set_model.specs.declared.element.Element.{Element}
 use Rattle.set_model.specs.Expiry.{live}
 use Rattle.set_model.specs.SetState.{State, without_at}
-use Rattle.pipapo_image.specs.Image.Remove.{without_expired_at}
-use Rattle.pipapo_image.proofs.Renewal.{no_element}
+use Rattle.expiry_scan.proofs.PlaceLaws.{no_element}
+use Rattle.pipapo_image.specs.Image.Steps.{without_expired_at}
 
 -- the set without those of its elements from place n on that are expired
 abbrev pub purged_from : State → ℕ → ℕ → State

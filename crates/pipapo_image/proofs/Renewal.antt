@@ -1,5 +1,5 @@
 -- An image with another expiry of an element is an image.
-use Rattle.std.proofs.Common.{◌≡◌, refl, sym, ◌∙◌, ap, subst, ℕ, zero, suc, ◌+◌, ◌-◌, ◌<◌, ◌≤◌, true, List, [], ◌∷◌, ◌++◌, length, take, drop, get_or, Option, None, arith, flat_map, length-append, append-nil, add-one}
+use Rattle.std.proofs.Common.{◌≡◌, refl, sym, ◌∙◌, ap, subst, ℕ, zero, suc, ◌+◌, ◌-◌, ◌<◌, ◌≤◌, true, List, [], ◌∷◌, ◌++◌, length, take, drop, get_or, Option, arith, flat_map, length-append, append-nil, add-one}
 use Rattle.std.specs.Prelude.{All}
 use Rattle.std.proofs.lemmas.List.{set_split, take-append-drop, drop_more}
 use Rattle.std.proofs.lemmas.List.Elements.{All-set, All-get_or}
@@ -15,12 +15,10 @@ use Rattle.set_tables.specs.declared.End.{End}
 use Rattle.set_tables.specs.Rows.{ends_renewed}
 use Rattle.set_tables.specs.Tables.{split, field_spans, last_ends}
 use Rattle.set_tables.proofs.UpdateLaws.{with_expiry, rules-renewed, spans-renewed, ends-renewed}
+use Rattle.expiry_scan.proofs.PlaceLaws.{no_element}
 use Rattle.pipapo_image.specs.declared.index.Index.{Index}
 use Rattle.pipapo_image.specs.Index.Standing.{IsTableOf}
 use Rattle.pipapo_image.specs.Image.{IsImage}
-
-abbrev pub no_element : Element
-no_element = record { id = 0; parts = []; expiry = None; comment = [] }
 
 -- the list before, the element, and the list behind it
 pub apart : (es : List Element) (i : ℕ) (d : Element) → i < length es → es ≡ take i es ++ get_or es i d ∷ drop (suc i) es

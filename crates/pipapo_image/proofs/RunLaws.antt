@@ -16,11 +16,12 @@ use Rattle.set_tables.specs.declared.Span.{Span}
 use Rattle.set_tables.specs.Tables.{split, field_spans}
 use Rattle.set_tables.proofs.UpdateLaws.{length-spans}
 use Rattle.mapping_table.specs.Spared.{Spared}
+use Rattle.expiry_scan.proofs.PlaceLaws.{no_element}
 use Rattle.pipapo_image.specs.Index.Runs.{IsElementRun}
 use Rattle.pipapo_image.proofs.EndLaws.{rules-front}
 use Rattle.pipapo_image.proofs.GrowLaws.{interval-at, column-of}
 use Rattle.pipapo_image.proofs.ImageUse.{parts-long}
-use Rattle.pipapo_image.proofs.Renewal.{no_element, rules-next}
+use Rattle.pipapo_image.proofs.Renewal.{rules-next}
 use Rattle.pipapo_image.proofs.SpanLaws.{span-at}
 
 -- intervals that fit have at least one rule in each field

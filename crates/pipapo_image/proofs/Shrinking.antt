@@ -18,6 +18,7 @@ use Rattle.set_tables.specs.declared.Span.{Span}
 use Rattle.set_tables.specs.Rows.{spans_without, ends_without}
 use Rattle.set_tables.specs.Tables.{split, field_spans, last_ends}
 use Rattle.set_tables.proofs.UpdateLaws.{rules-without, spans-without, ends-without, spans-later, ends-later}
+use Rattle.expiry_scan.proofs.PlaceLaws.{no_element}
 use Rattle.pipapo_image.specs.declared.index.Index.{Index}
 use Rattle.pipapo_image.specs.Index.Grow.{chosen}
 use Rattle.pipapo_image.specs.Index.Standing.{IsTableOf}
@@ -27,7 +28,7 @@ use Rattle.pipapo_image.specs.Index.Runs.{IsElementRun, AreRuns, run_at}
 use Rattle.pipapo_image.specs.Index.Shrink.{IsOtherWithout, AreOthersWithout, IsShrunk, OwnsRuns, IsDroppable, IsDropped}
 use Rattle.pipapo_image.proofs.ImageUse.{field-rules, image-shaped}
 use Rattle.pipapo_image.proofs.Items.{a-table}
-use Rattle.pipapo_image.proofs.Renewal.{no_element, apart}
+use Rattle.pipapo_image.proofs.Renewal.{apart}
 use Rattle.pipapo_image.proofs.RunLaws.{run-count, run-within}
 
 -- ---- before the change

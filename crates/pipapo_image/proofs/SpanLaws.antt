@@ -1,6 +1,6 @@
 -- Where the rules of an element lie among the spans of a field.
 use Rattle.std.proofs.Common.{◌≡◌, sym, ◌∙◌, ap, ℕ, zero, suc, ◌+◌, ◌-◌, ◌<◌, ◌≤◌, ◌⊎◌, inl, inr, List, [], ◌∷◌, ◌++◌, length, take, get_or, arith, flat_map, length-append, add-zero}
-use Rattle.std.specs.Prelude.{All, replicate}
+use Rattle.std.specs.Prelude.{All}
 use Rattle.std.proofs.lemmas.Bool.{cases_lt}
 use Rattle.std.proofs.lemmas.List.{length-replicate, get_or_append_left, get_or-append_right, get_or-replicate}
 use Rattle.std.proofs.lemmas.List.Elements.{All-head, All-tail}
@@ -8,11 +8,8 @@ use Rattle.set_model.specs.declared.element.Element.{Element}
 use Rattle.set_model.specs.declared.block.Block.{Block}
 use Rattle.set_tables.specs.declared.Span.{Span}
 use Rattle.set_tables.specs.Tables.{spans}
-use Rattle.set_tables.proofs.UpdateLaws.{length-spans, spans-from}
+use Rattle.set_tables.proofs.UpdateLaws.{one_span, length-spans, spans-from}
 use Rattle.pipapo_image.proofs.EndLaws.{rules-front}
-
-abbrev mine : (Element → List Block) → (Element → List Block) → ℕ → Element → List Span
-mine here next from e = replicate (length (here e)) (record { first = from; count = length (next e) })
 
 -- the first span of the element at a place: its rules in the next field
 pub span-at : (here next : Element → List Block) (from : ℕ) (es : List Element) (i : ℕ) (d : Element) (s : Span) → i < length es → 1 ≤ length (here (get_or es i d))
@@ -21,7 +18,7 @@ span-at here next from [] i d s h some = absurd (omega arith)
 span-at here next from (e ∷ es) zero d s h some =
     let m = length-replicate (length (here e)) (let x : Span = record { first = from; count = length (next e) } in x) in
     let make : ℕ → Span = λ n. record { first = n; count = length (next e) } in
-    get_or_append_left (mine here next from e) (spans here next (from + length (next e)) es) s 0 (omega arith)
+    get_or_append_left (one_span here next from e) (spans here next (from + length (next e)) es) s 0 (omega arith)
     ∙ get_or-replicate (length (here e)) 0 (record { first = from; count = length (next e) }) s some
     ∙ ap make (sym (add-zero from))
 span-at here next from (e ∷ es) (suc i) d s h some =
@@ -31,7 +28,7 @@ span-at here next from (e ∷ es) (suc i) d s h some =
     let make : ℕ → Span = λ k. record { first = k; count = length (next (get_or es i d)) } in
     let back : length (here e ++ flat_map here (take i es)) - length (here e) ≡ length (flat_map here (take i es)) = omega arith in
     let on : (from + length (next e)) + length (flat_map next (take i es)) ≡ from + length (next e ++ flat_map next (take i es)) = omega arith in
-    get_or-append_right (mine here next from e) (spans here next (from + length (next e)) es) (length (here e)) (length (here e ++ flat_map here (take i es))) s m (omega arith)
+    get_or-append_right (one_span here next from e) (spans here next (from + length (next e)) es) (length (here e)) (length (here e ++ flat_map here (take i es))) s m (omega arith)
     ∙ ap (λ k. get_or (spans here next (from + length (next e)) es) k s) back
     ∙ span-at here next (from + length (next e)) es i d s (omega arith) some
     ∙ ap make on
@@ -46,17 +43,17 @@ span-below here next from (e ∷ es) (suc p) k d some h =
     go (cases_lt k (length (here e))) (All-head P e es some) (λ g. span-below here next (from + length (next e)) es p (k - length (here e)) d (All-tail P e es some) g) where
       go : (k < length (here e)) ⊎ (length (here e) ≤ k) → 1 ≤ length (next e)
           → (k - length (here e) < length (flat_map here (take p es)) → (get_or (spans here next (from + length (next e)) es) (k - length (here e)) d).first < (from + length (next e)) + length (flat_map next (take p es)))
-          → (get_or (mine here next from e ++ spans here next (from + length (next e)) es) k d).first < from + length (next e ++ flat_map next (take p es))
+          → (get_or (one_span here next from e ++ spans here next (from + length (next e)) es) k d).first < from + length (next e ++ flat_map next (take p es))
       go (inl a) one ih =
           let m = length-replicate (length (here e)) (let x : Span = record { first = from; count = length (next e) } in x) in
-          let q = get_or_append_left (mine here next from e) (spans here next (from + length (next e)) es) d k (omega arith)
+          let q = get_or_append_left (one_span here next from e) (spans here next (from + length (next e)) es) d k (omega arith)
           ∙ get_or-replicate (length (here e)) k (record { first = from; count = length (next e) }) d a in
           let r = ap (λ z. z.first) q in
           let far = length-append (next e) (flat_map next (take p es)) in
           omega arith
       go (inr a) one ih =
           let m = length-replicate (length (here e)) (let x : Span = record { first = from; count = length (next e) } in x) in
-          let q = get_or-append_right (mine here next from e) (spans here next (from + length (next e)) es) (length (here e)) k d m a in
+          let q = get_or-append_right (one_span here next from e) (spans here next (from + length (next e)) es) (length (here e)) k d m a in
           let r = ap (λ z. z.first) q in
           let h2 : k < length (here e ++ flat_map here (take p es)) = h in
           let n2 = length-append (here e) (flat_map here (take p es)) in
@@ -72,10 +69,10 @@ span-above here next from (e ∷ es) (suc p) k d h l =
     let n = length-append (here e) (flat_map here (take p es)) in
     let far = length-append (next e) (flat_map next (take p es)) in
     let h2 : length (here e ++ flat_map here (take p es)) ≤ k = h in
-    let l2 : k < length (mine here next from e ++ spans here next (from + length (next e)) es) = l in
+    let l2 : k < length (one_span here next from e ++ spans here next (from + length (next e)) es) = l in
     let m = length-replicate (length (here e)) (let x : Span = record { first = from; count = length (next e) } in x) in
-    let t = length-append (mine here next from e) (spans here next (from + length (next e)) es) in
-    let q = get_or-append_right (mine here next from e) (spans here next (from + length (next e)) es) (length (here e)) k d m (omega arith) in
+    let t = length-append (one_span here next from e) (spans here next (from + length (next e)) es) in
+    let q = get_or-append_right (one_span here next from e) (spans here next (from + length (next e)) es) (length (here e)) k d m (omega arith) in
     let r = ap (λ z. z.first) q in
     let ih = span-above here next (from + length (next e)) es p (k - length (here e)) d (omega arith) (omega arith) in
     omega arith

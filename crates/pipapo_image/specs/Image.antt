@@ -6,6 +6,7 @@ pub mod Decision
 pub mod Found
 pub mod Insert
 pub mod Remove
+pub mod Steps
 use Rattle.std.specs.Prelude.{◌≡◌, ℕ, ◌<◌, ◌≤◌, true, List, length, All}
 use Rattle.set_model.specs.declared.kind.Kind.{Kind}
 use Rattle.set_model.specs.declared.element.Element.{Element}

@@ -82,7 +82,8 @@ rules-without here before after e =
     ∙ ap (λ z. flat_map here before ++ z) (drop-front (flat_map here before) (here e) (flat_map here after) _ _ refl refl)
     ∙ sym (flat_map-append here before after)
 
-abbrev one_span : (Element → List Block) → (Element → List Block) → ℕ → Element → List Span
+-- the spans of an element's rules: each is its rules of the next field, from rule `from` on
+abbrev pub one_span : (Element → List Block) → (Element → List Block) → ℕ → Element → List Span
 one_span here next from e = replicate (length (here e)) (record { first = from; count = length (next e) })
 
 pub spans-without : (here next : Element → List Block) (before after : List Element) (e : Element)
@@ -99,7 +100,8 @@ spans-without here next before after e =
     ∙ ap (λ z. spans here next 0 before ++ z) (lowered-spans here next (length (next e)) (0 + n) after)
     ∙ sym (spans-append here next 0 before after)
 
-abbrev one_end : (Element → List Block) → ℕ → Element → List End
+-- the ends of an element's rules: each tells its place and its expiry
+abbrev pub one_end : (Element → List Block) → ℕ → Element → List End
 one_end here i e = replicate (length (here e)) (record { place = i; expiry = e.expiry })
 
 pub ends-without : (here : Element → List Block) (before after : List Element) (e : Element)

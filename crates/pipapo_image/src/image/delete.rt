@@ -1,7 +1,8 @@
 ghost use Rattle.std.specs.Prelude.{◌≡◌, ℕ, ◌+◌, ◌<◌, false, length, OnErr, IfOk};
 ghost use Rattle.set_model.specs.SetState.{is_exactly, removed, element_at, without_at};
 ghost use Rattle.pipapo_image.specs.Image.Found.{exactly_found};
-ghost use Rattle.pipapo_image.specs.Image.Remove.{IsRemoval, IsExactPlace};
+ghost use Rattle.pipapo_image.specs.Image.Remove.{IsRemoval};
+ghost use Rattle.pipapo_image.specs.Image.Steps.{IsExactPlace};
 
 use crate::answers::ChangeError;
 use crate::image::SetImage;

@@ -1,7 +1,7 @@
 ghost use Rattle.std.specs.Prelude.{◌≡◌, ◌<◌, length, IfOk, OnOk, OnErr, count_by};
 ghost use Rattle.set_model.specs.SetState.{purged, cleared};
 ghost use Rattle.expiry_scan.specs.Expired.{is_expired};
-ghost use Rattle.pipapo_image.specs.Image.Remove.{without_expired_at};
+ghost use Rattle.pipapo_image.specs.Image.Steps.{without_expired_at};
 
 use crate::image::SetImage;
 use crate::index::Index;
@@ -30,7 +30,7 @@ impl SetImage {
     {
         let count = self.elements.count_expired(now);
         if count > 0 {
-            let mut kept = self.live_part(alloc, now)?;
+            let mut kept = self.without_expired(alloc, now, count)?;
             kept.find_soonest(None);
             *self = kept;
         }
@@ -46,7 +46,15 @@ impl SetImage {
     pub fn live_part(&self, alloc: Global, now: u64) -> Result<SetImage, Memory>
         ensures { IfOk result (λ set. set ≡ purged self.now now) }
     {
-        if is_few(self.elements.count_expired(now), self.elements.len()) {
+        self.without_expired(alloc, now, self.elements.count_expired(now))
+    }
+
+    /// The same set without the elements that are expired at `now`, of which there are `count`.
+    fn without_expired(&self, alloc: Global, now: u64, count: u64) -> Result<SetImage, Memory>
+        requires { count ≡ count_by (is_expired now) self.now.elements }
+        ensures { IfOk result (λ set. set ≡ purged self.now now) }
+    {
+        if is_few(count, self.elements.len()) {
             self.copy_without_expired(alloc, now)
         } else {
             self.made_anew(alloc, now)

@@ -1,6 +1,6 @@
 use Rattle.std.proofs.Common.{◌≡◌, ◌<◌, sym, ◌∙◌, ap, ◌+◌, ◌-◌, length, arith}
 use Rattle.set_model.specs.SetState.{State}
-use Rattle.pipapo_image.specs.Image.Remove.{without_expired_at}
+use Rattle.pipapo_image.specs.Image.Steps.{without_expired_at}
 use Rattle.pipapo_image.proofs.Leaving.{purged_from, one_looked_at}
 use Rattle.pipapo_image.proofs.image.SetImage.copy_without_expired.Goals as goal
 

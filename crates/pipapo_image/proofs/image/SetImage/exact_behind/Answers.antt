@@ -1,7 +1,7 @@
 use Rattle.std.proofs.Common.{rules, sym, ◌∙◌, ap, length, arith}
 use Rattle.set_model.specs.SetState.{is_exactly}
 use Rattle.mapping_table.proofs.LedLaws.{position-first, position-nowhere}
-use Rattle.pipapo_image.proofs.Renewal.{no_element}
+use Rattle.expiry_scan.proofs.PlaceLaws.{no_element}
 use Rattle.pipapo_image.proofs.image.SetImage.exact_behind.Goals as goal
 
 pub returns-then-is_exactly_at : goal.returns-then-is_exactly_at

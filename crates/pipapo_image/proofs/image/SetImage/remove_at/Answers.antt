@@ -4,11 +4,11 @@ use Rattle.lookup_table.specs.declared.table.FieldTable.{FieldTable}
 use Rattle.set_model.specs.declared.element.Element.{Element}
 use Rattle.set_model.specs.SetState.{State}
 use Rattle.set_tables.specs.declared.Span.{Span}
+use Rattle.expiry_scan.proofs.PlaceLaws.{no_element}
 use Rattle.pipapo_image.specs.Image.{IsImage}
 use Rattle.pipapo_image.specs.Index.Runs.{AreRuns, run_at}
 use Rattle.pipapo_image.specs.Index.Shrink.{AreOthersWithout, OwnsRuns, IsDroppable, IsDropped}
 use Rattle.pipapo_image.proofs.ImageGrowth.{image-kept}
-use Rattle.pipapo_image.proofs.Renewal.{no_element}
 use Rattle.pipapo_image.proofs.Shrinking.{runs-few, droppable, shrink}
 use Rattle.pipapo_image.proofs.image.SetImage.remove_at.Goals as goal
 

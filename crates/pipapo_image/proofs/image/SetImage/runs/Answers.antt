@@ -1,13 +1,14 @@
 use Rattle.std.proofs.Common.{◌≡◌, ◌+◌, ◌-◌, sym, ◌∙◌, ap, subst, arith, [], ◌∷◌, ◌++◌}
 use Rattle.set_tables.specs.declared.Span.{Span}
 use Rattle.set_tables.specs.Tables.{split}
+use Rattle.expiry_scan.proofs.PlaceLaws.{no_element}
 use Rattle.pipapo_image.specs.Index.Built.{Built}
 use Rattle.pipapo_image.specs.Image.{IsImage}
 use Rattle.pipapo_image.specs.Index.Runs.{IsElementRun}
 use Rattle.pipapo_image.specs.Index.Standing.{AreMapsOf}
 use Rattle.pipapo_image.proofs.BuiltLaws.{built-none, built-more}
 use Rattle.pipapo_image.proofs.Items.{map-spans}
-use Rattle.pipapo_image.proofs.Renewal.{no_element, rules-next}
+use Rattle.pipapo_image.proofs.Renewal.{rules-next}
 use Rattle.pipapo_image.proofs.RunLaws.{run-inside, run-next}
 use Rattle.pipapo_image.proofs.image.SetImage.runs.Goals as goal
 
