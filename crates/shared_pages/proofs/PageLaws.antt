@@ -309,12 +309,6 @@ module _ {X : Type 0} where
   own-pushed (l ∷ ls) page e zero h = h
   own-pushed (l ∷ ls) page e (suc k) h = own-pushed ls page e k h
 
-  pub own-front : (pages : List (PageOf X)) (p k : ℕ) → get_or (owns_of pages) k true ≡ true → get_or (owns_of (take p pages)) k true ≡ true
-  own-front pages zero k h = refl
-  own-front [] (suc p) k h = refl
-  own-front (l ∷ ls) (suc p) zero h = h
-  own-front (l ∷ ls) (suc p) (suc k) h = own-front ls p k h
-
   pub own-same : (pages : List (PageOf X)) (p : ℕ) (m n : PageOf X) → m ≡ get_or pages p m → n.own ≡ m.own → owns_of (set pages p n) ≡ owns_of pages
   own-same [] p m n at e = refl
   own-same (l ∷ ls) zero m n at e = ap (λ o. o ∷ owns_of ls) (e ∙ ap (λ z. z.own) at)
