@@ -2,11 +2,12 @@ ghost use Rattle.std.specs.Prelude.{◌≤◌, length, IfOk};
 ghost use Rattle.set_model.specs.Runnable.{IsFitting};
 ghost use Rattle.set_script.specs.Limits.{most_sets};
 
-use crate::{Act, Lookups, RulesError, Test, read_rules};
+use crate::{Act, ChainList, Chains, Lookups, RulesError, Test, read_rules};
 use set_model::{
     Duplicate, Family, Key, Kind, Kinds, Memory, Name, Packet, Schema, SetDecl, Verdict, fits,
 };
 use std::alloc::Global;
+use std::process::Abort;
 use std::test::Fail;
 use token_forms::Reason;
 
@@ -54,13 +55,8 @@ fn long_chain(alloc: Global, rules: u64) -> Result<Vec<u8>, Memory> {
     Ok(text)
 }
 
-#[test]
-fn chains_and_their_rules_are_read(rt: HostRuntime) -> Result<(), Fail> {
-    let alloc = rt.alloc();
-    let schema = two_sets(alloc)?;
-    let text =
-        b"# block first\nchain block { in ip t bad drop }\n\nchain main { jump block ; out t bad in ip t ok accept\n}\npolicy drop\n";
-    let rules = read_rules(alloc, &schema, text)?;
+/// Asserts what the chains `block` and `main` of the text below have.
+fn assert_chains_are_read(rt: &impl Abort, rules: &Chains) {
     assert_eq!(rt; rules.accept, false);
     assert_eq!(rt; rules.chains.len(), 2);
     let main = &rules.chains.at(1).rules;
@@ -70,19 +66,20 @@ fn chains_and_their_rules_are_read(rt: HostRuntime) -> Result<(), Fail> {
     assert_eq!(rt; tests.len(), 2);
     assert_eq!(rt; (tests.at(0).set, tests.at(0).inside), (1, false));
     assert_eq!(rt; (tests.at(1).set, tests.at(1).inside), (0, true));
-    Ok(())
 }
 
 #[test]
-fn a_copy_has_the_same_rules(rt: HostRuntime) -> Result<(), Fail> {
+fn chains_and_their_rules_are_read(rt: HostRuntime) -> Result<(), Fail> {
     let alloc = rt.alloc();
     let schema = two_sets(alloc)?;
-    let rules = read_rules(
-        alloc,
-        &schema,
-        b"chain main { out t bad accept }\npolicy drop\n",
-    )?;
-    let chains = rules.chains.copy(alloc)?;
+    let text =
+        b"# block first\nchain block { in ip t bad drop }\n\nchain main { jump block ; out t bad in ip t ok accept\n}\npolicy drop\n";
+    assert_chains_are_read(&rt, &read_rules(alloc, &schema, text)?);
+    Ok(())
+}
+
+/// Asserts that a chain `main` of the rule `out t bad accept` is there alone.
+fn assert_is_main(rt: &impl Abort, chains: &ChainList) {
     assert_eq!(rt; chains.len(), 1);
     let main = chains.at(0);
     assert_eq!(rt; main.name.as_slice(), b"main".as_slice());
@@ -97,6 +94,18 @@ fn a_copy_has_the_same_rules(rt: HostRuntime) -> Result<(), Fail> {
         }]
         .as_slice()
     );
+}
+
+#[test]
+fn a_copy_has_the_same_rules(rt: HostRuntime) -> Result<(), Fail> {
+    let alloc = rt.alloc();
+    let schema = two_sets(alloc)?;
+    let rules = read_rules(
+        alloc,
+        &schema,
+        b"chain main { out t bad accept }\npolicy drop\n",
+    )?;
+    assert_is_main(&rt, &rules.chains.copy(alloc)?);
     Ok(())
 }
 

@@ -16,6 +16,7 @@ use Rattle.set_model.specs.declared.report.Why.TheVariants.{Overlap, Full, Rules
 use Rattle.set_model.specs.Key.{start_key, end_key, same_parts}
 use Rattle.set_model.specs.Expiry.{lives, live, renewed_at, renewed_element}
 use Rattle.set_model.specs.SetState.{State, Addition, New, Already, Renewed, Refused, holds, shares, answers, is_sharing, is_exactly, element_at, place, same_at, twin_place, sharing_place, start_in_the_way, end_in_the_way, sharing_in_the_way, is_full, is_crowded, crowded_field, field_blocks, field_rules, rules_limit, with_element, renewed, add, add_by, exact_place, without_at, removed, purged}
+use Rattle.expiry_scan.proofs.PlaceLaws.{no_element}
 use Rattle.pipapo_image.proofs.Purging.{filter-fewer}
 use Rattle.set_space.proofs.KeptItems.{moved, moved-within, get_or-kept, remove-kept, set-kept, set-gone, remove-whole, position-both}
 
@@ -26,9 +27,6 @@ stays m e = live e m
 -- its place among these
 abbrev moved_in : ℕ → State → ℕ → ℕ
 moved_in m s i = moved (stays m) s.elements i
-
-abbrev no_element : Element
-no_element = record { id = 0; parts = []; expiry = None; comment = [] }
 
 -- a place of an element that is live at the moment, where it is one
 abbrev StaysAt : ℕ → State → Option ℕ → Type 0

@@ -95,30 +95,31 @@ pub open-within : (g : Generation) (os : List OpenSet) (i : ℕ) (w : Open) → 
     → length os ≡ length g.sets → i < length w.sets → i < length os
 open-within g os i w is long h = subst (λ n. i < n) (sym long) (set-within g g os i w is long refl h)
 
--- A work whose set at a place was changed.
-pub one-changed : (step : State → State → Type 0) (g : Generation) (os : List OpenSet) (i : ℕ) (o n : OpenSet) (b : State) (w : Open)
-    → record { base = g; sets = open_states os g.sets } ≡ w → i < length os → o ≡ get_or os i o → slice_get g.sets i ≡ Some b
-    → step (open_state o b) (open_state n b) → IsChange step w i (record { base = g; sets = open_states (slice_set os i n) g.sets })
-one-changed step g os i o n b w is h e at done = record {
-  state = open_state o b;
-  left = open_state n b;
-  at = ap (λ (z : Open). slice_get z.sets i) (sym is) ∙ open-at os g.sets i o b h e at;
-  changed = done;
-  others = ap (λ r. record { base = g; sets = r }) (open-set os g.sets i n b h at) ∙ ap (λ z. with_open_set z i (open_state n b)) is;
-}
+-- ---- the set at a place of a work, as it is kept open beside the base's
+module _ (g d : Generation) (os : List OpenSet) (i : ℕ) (o : OpenSet) (b : State) (w : Open) (is : record { base = g; sets = open_states os g.sets } ≡ w) (long : length os ≡ length g.sets) (same : d ≡ g) (inside : i < length w.sets) (here : o ≡ get_or os i o) (at : slice_get d.sets i ≡ Some b) where
+  in-open : i < length os
+  in-open = open-within g os i w is long inside
 
--- A work whose set at a place was left.
-pub none-changed : (g : Generation) (os : List OpenSet) (i : ℕ) (o n : OpenSet) (b : State) (w : Open)
-    → record { base = g; sets = open_states os g.sets } ≡ w → i < length os → o ≡ get_or os i o → slice_get g.sets i ≡ Some b
-    → open_state n b ≡ open_state o b → record { base = g; sets = open_states (slice_set os i n) g.sets } ≡ w
-none-changed g os i o n b w is h e at same =
-    ap (λ r. record { base = g; sets = r })
-    (open-set os g.sets i n b h at ∙ ap (λ z. slice_set (open_states os g.sets) i z) same ∙ set-same (open_states os g.sets) i (open_state o b) (open-at os g.sets i o b h e at))
-    ∙ is
+  in-base : slice_get g.sets i ≡ Some b
+  in-base = ap (λ (z : Generation). slice_get z.sets i) (sym same) ∙ at
 
--- the place in the base
-pub base-at : (g d : Generation) (i : ℕ) (b : State) → d ≡ g → slice_get d.sets i ≡ Some b → slice_get g.sets i ≡ Some b
-base-at g d i b same at = ap (λ (z : Generation). slice_get z.sets i) (sym same) ∙ at
+  -- its state
+  pub work-at : slice_get w.sets i ≡ Some (open_state o b)
+  work-at = ap (λ (z : Open). slice_get z.sets i) (sym is) ∙ open-at os g.sets i o b in-open here in-base
+
+  -- The work where it was changed.
+  pub one-changed : (step : State → State → Type 0) (n : OpenSet) → step (open_state o b) (open_state n b) → IsChange step w i (record { base = g; sets = open_states (slice_set os i n) g.sets })
+  one-changed step n done = record {
+    state = open_state o b;
+    left = open_state n b;
+    at = work-at;
+    changed = done;
+    others = ap (λ r. record { base = g; sets = r }) (open-set os g.sets i n b in-open in-base) ∙ ap (λ z. with_open_set z i (open_state n b)) is;
+  }
+
+  -- The work where it was left.
+  pub none-changed : (n : OpenSet) → open_state n b ≡ open_state o b → record { base = g; sets = open_states (slice_set os i n) g.sets } ≡ w
+  none-changed n left = ap (λ r. record { base = g; sets = r }) (open-kept os g.sets i o n b in-open here in-base left) ∙ is
 
 pub change-weaker : (P Q : State → State → Type 0) (old new : Open) (i : ℕ) → ((s t : State) → P s t → Q s t) → IsChange P old i new → IsChange Q old i new
 change-weaker P Q old new i more h = record { state = h.state; left = h.left; at = h.at; changed = more h.state h.left h.changed; others = h.others }
@@ -127,11 +128,6 @@ change-weaker P Q old new i more h = record { state = h.state; left = h.left; at
 pub work-long : (g d : Generation) (os : List OpenSet) (w : Open) → record { base = g; sets = open_states os g.sets } ≡ w → length os ≡ length g.sets → d ≡ g → length d.sets ≡ length w.sets
 work-long g d os w is long same =
     ap (λ (z : Generation). length z.sets) same ∙ sym (open-long os g.sets long) ∙ ap (λ (z : Open). length z.sets) is
-
--- the state at a place of a work
-pub work-at : (g : Generation) (os : List OpenSet) (i : ℕ) (o : OpenSet) (b : State) (w : Open) → record { base = g; sets = open_states os g.sets } ≡ w
-    → i < length os → o ≡ get_or os i o → slice_get g.sets i ≡ Some b → slice_get w.sets i ≡ Some (open_state o b)
-work-at g os i o b w is h e base = ap (λ (z : Open). slice_get z.sets i) (sym is) ∙ open-at os g.sets i o b h e base
 
 -- Intervals fit the set at a place exactly where they fit the kinds of its state.
 pub fits_at : (w : Open) (i : ℕ) (s : State) (parts : List Interval) (b : Bool) → slice_get w.sets i ≡ Some s → b ≡ parts_fit s.kinds parts → IsTrue b ↔ FitsSet w i parts

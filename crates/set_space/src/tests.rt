@@ -159,80 +159,108 @@ fn owners(rt: &impl Abort, generation: &Generation, set: u32) -> usize {
     Arc::strong_count(generation.shared(set))
 }
 
+/// Asserts that what is expired is created anew, and purged at the commit.
+fn assert_created_anew_and_purged(
+    rt: &impl Abort,
+    alloc: Global,
+    work: &mut Work,
+) -> Result<(), Fail> {
+    assert!(rt; inserted(rt, alloc, work, 0, Some(30_000))? == Some(0));
+    assert!(rt; created(rt, alloc, work, 29_999)?.is_none());
+    assert!(rt; created(rt, alloc, work, 30_000)? == Some(1));
+    let (generation, purged) = sealed(rt, work, 30_000)?;
+    assert_eq!(rt; purged, 1);
+    assert_eq!(rt; generation.number, 1);
+    assert_eq!(rt; count(rt, work, 0)?, 2);
+    Ok(())
+}
+
 #[test]
 fn what_is_expired_is_created_anew_and_purged(rt: HostRuntime) -> Result<(), Fail> {
     let alloc = rt.alloc();
-    let mut work = work_on_two_sets(alloc)?;
-    assert!(rt; inserted(&rt, alloc, &mut work, 0, Some(30_000))? == Some(0));
-    assert!(rt; created(&rt, alloc, &mut work, 29_999)?.is_none());
-    assert!(rt; created(&rt, alloc, &mut work, 30_000)? == Some(1));
-    let (generation, purged) = sealed(&rt, &mut work, 30_000)?;
-    assert_eq!(rt; purged, 1);
-    assert_eq!(rt; generation.number, 1);
-    assert_eq!(rt; count(&rt, &mut work, 0)?, 2);
+    assert_created_anew_and_purged(&rt, alloc, &mut work_on_two_sets(alloc)?)
+}
+
+/// Asserts that an element is destroyed where it is there, and told as missing where it is not.
+fn assert_destroyed_only_once(rt: &impl Abort, alloc: Global, work: &mut Work) -> Result<(), Fail> {
+    assert!(rt; destroyed(rt, alloc, work, 80)?.is_none());
+    assert!(rt; inserted(rt, alloc, work, 0, None)? == Some(0));
+    assert!(rt; destroyed(rt, alloc, work, 80)? == Some(0));
     Ok(())
 }
 
 #[test]
 fn a_missing_element_is_no_refusal_to_destroy(rt: HostRuntime) -> Result<(), Fail> {
     let alloc = rt.alloc();
-    let mut work = work_on_two_sets(alloc)?;
-    assert!(rt; destroyed(&rt, alloc, &mut work, 80)?.is_none());
-    assert!(rt; inserted(&rt, alloc, &mut work, 0, None)? == Some(0));
-    assert!(rt; destroyed(&rt, alloc, &mut work, 80)? == Some(0));
+    assert_destroyed_only_once(&rt, alloc, &mut work_on_two_sets(alloc)?)
+}
+
+/// Asserts that the sets are empty again after an abort.
+fn assert_abort_restores(rt: &impl Abort, alloc: Global, work: &mut Work) -> Result<(), Fail> {
+    assert!(rt; inserted(rt, alloc, work, 0, None)? == Some(0));
+    assert!(rt; inserted(rt, alloc, work, 1, None)? == Some(0));
+    work.abort();
+    assert_eq!(rt; count(rt, work, 0)?, 0);
+    assert_eq!(rt; count(rt, work, 1)?, 0);
     Ok(())
 }
 
 #[test]
 fn an_abort_restores_all_sets(rt: HostRuntime) -> Result<(), Fail> {
     let alloc = rt.alloc();
-    let mut work = work_on_two_sets(alloc)?;
-    assert!(rt; inserted(&rt, alloc, &mut work, 0, None)? == Some(0));
-    assert!(rt; inserted(&rt, alloc, &mut work, 1, None)? == Some(0));
-    work.abort();
-    assert_eq!(rt; count(&rt, &mut work, 0)?, 0);
-    assert_eq!(rt; count(&rt, &mut work, 1)?, 0);
+    assert_abort_restores(&rt, alloc, &mut work_on_two_sets(alloc)?)
+}
+
+/// Asserts who shares a changed and an unchanged set after two commits.
+fn assert_unchanged_is_shared(rt: &impl Abort, alloc: Global, work: &mut Work) -> Result<(), Fail> {
+    assert!(rt; inserted(rt, alloc, work, 0, None)? == Some(0));
+    let (first, _) = sealed(rt, work, 0)?;
+    let (again, _) = sealed(rt, work, 0)?;
+    // the changed set: of the work and both generations, and another one of the base
+    assert_eq!(rt; owners(rt, &again, 0), 3);
+    assert_eq!(rt; owners(rt, work.base(), 0), 1);
+    // the unchanged set: of the base and both generations
+    assert_eq!(rt; owners(rt, &first, 1), 3);
     Ok(())
 }
 
 #[test]
 fn an_unchanged_set_is_shared(rt: HostRuntime) -> Result<(), Fail> {
     let alloc = rt.alloc();
-    let mut work = work_on_two_sets(alloc)?;
-    assert!(rt; inserted(&rt, alloc, &mut work, 0, None)? == Some(0));
-    let (first, _) = sealed(&rt, &mut work, 0)?;
-    let (again, _) = sealed(&rt, &mut work, 0)?;
-    // the changed set: of the work and both generations, and another one of the base
-    assert_eq!(rt; owners(&rt, &again, 0), 3);
-    assert_eq!(rt; owners(&rt, work.base(), 0), 1);
-    // the unchanged set: of the base and both generations
-    assert_eq!(rt; owners(&rt, &first, 1), 3);
+    assert_unchanged_is_shared(&rt, alloc, &mut work_on_two_sets(alloc)?)
+}
+
+/// Asserts that a set stays shared where nothing changes it.
+fn assert_nothing_is_copied(rt: &impl Abort, alloc: Global, work: &mut Work) -> Result<(), Fail> {
+    assert!(rt; inserted(rt, alloc, work, 0, None)? == Some(0));
+    let (generation, _) = sealed(rt, work, 0)?;
+    change_nothing(rt, alloc, work)?;
+    // of the work and the generation
+    assert_eq!(rt; owners(rt, &generation, 0), 2);
     Ok(())
 }
 
 #[test]
 fn what_changes_nothing_leaves_the_set_shared(rt: HostRuntime) -> Result<(), Fail> {
     let alloc = rt.alloc();
-    let mut work = work_on_two_sets(alloc)?;
-    assert!(rt; inserted(&rt, alloc, &mut work, 0, None)? == Some(0));
-    let (generation, _) = sealed(&rt, &mut work, 0)?;
-    change_nothing(&rt, alloc, &mut work)?;
-    // of the work and the generation
-    assert_eq!(rt; owners(&rt, &generation, 0), 2);
+    assert_nothing_is_copied(&rt, alloc, &mut work_on_two_sets(alloc)?)
+}
+
+/// Asserts that a flush copies no set without elements.
+fn assert_empty_flush_shares(rt: &impl Abort, alloc: Global, work: &mut Work) -> Result<(), Fail> {
+    assert!(rt; inserted(rt, alloc, work, 1, None)? == Some(0));
+    assert_eq!(rt; flushed(rt, work, 0)?, 0);
+    assert_eq!(rt; flushed(rt, work, 1)?, 1);
+    let (generation, _) = sealed(rt, work, 0)?;
+    // of the base and the generation
+    assert_eq!(rt; owners(rt, &generation, 0), 2);
+    assert_eq!(rt; owners(rt, work.base(), 0), 2);
+    assert_eq!(rt; owners(rt, work.base(), 1), 1);
     Ok(())
 }
 
 #[test]
 fn a_flush_of_an_empty_set_leaves_it_shared(rt: HostRuntime) -> Result<(), Fail> {
     let alloc = rt.alloc();
-    let mut work = work_on_two_sets(alloc)?;
-    assert!(rt; inserted(&rt, alloc, &mut work, 1, None)? == Some(0));
-    assert_eq!(rt; flushed(&rt, &mut work, 0)?, 0);
-    assert_eq!(rt; flushed(&rt, &mut work, 1)?, 1);
-    let (generation, _) = sealed(&rt, &mut work, 0)?;
-    // of the base and the generation
-    assert_eq!(rt; owners(&rt, &generation, 0), 2);
-    assert_eq!(rt; owners(&rt, work.base(), 0), 2);
-    assert_eq!(rt; owners(&rt, work.base(), 1), 1);
-    Ok(())
+    assert_empty_flush_shares(&rt, alloc, &mut work_on_two_sets(alloc)?)
 }

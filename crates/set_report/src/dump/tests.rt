@@ -1,4 +1,4 @@
-ghost use Rattle.std.specs.Prelude.{◌≤◌, IfOk, length};
+ghost use Rattle.std.specs.Prelude.{◌≤◌, IfOk, All, length};
 ghost use Rattle.set_space.specs.Open.{CanBeBuilt};
 
 use crate::dump::{write_dump, write_table, write_tables};
@@ -32,6 +32,15 @@ fn declared(alloc: Global, name: &[u8], kinds: &[Kind]) -> Result<SetDecl, Memor
     })
 }
 
+/// A new element of these intervals alone.
+fn element(alloc: Global, parts: &[Interval]) -> Result<NewElement, Memory> {
+    Ok(NewElement {
+        parts: Parts::from_vec(alloc, Vec::from_slice(alloc, parts)?),
+        expiry: None,
+        comment: Comment::new(alloc),
+    })
+}
+
 /// Adds an element to a set.
 fn add(
     rt: &impl Abort,
@@ -39,27 +48,19 @@ fn add(
     set: &mut SetImage,
     parts: &[Interval],
 ) -> Result<(), Memory> {
-    let element = NewElement {
-        parts: Parts::from_vec(alloc, Vec::from_slice(alloc, parts)?),
-        expiry: None,
-        comment: Comment::new(alloc),
-    };
+    let element = element(alloc, parts)?;
     assert!(rt; parts_fit(set.kinds(), &element.parts));
-    let mut scratch = Scratch::new(alloc)?;
-    let answer = set.insert(alloc, &element, 0, &mut scratch);
+    let answer = set.insert(alloc, &element, 0, &mut Scratch::new(alloc)?);
     assert!(rt; answer.is_ok());
     Ok(())
 }
 
-#[test]
-fn the_tables_of_two_elements(rt: HostRuntime) -> Result<(), Fail> {
-    let alloc = rt.alloc();
-    let declared = declared(alloc, b"s", &[Kind::Ipv4, Kind::Service])?;
-    let mut set = SetImage::new(alloc, &declared.kinds, None, false)?;
+/// Adds `10.0.0.5 . 1024` and `192.168.1.0-192.168.2.1 . 2048`.
+fn add_two(rt: &impl Abort, alloc: Global, set: &mut SetImage) -> Result<(), Memory> {
     add(
-        &rt,
+        rt,
         alloc,
-        &mut set,
+        set,
         &[
             Interval {
                 low: 0x0a00_0005,
@@ -72,9 +73,9 @@ fn the_tables_of_two_elements(rt: HostRuntime) -> Result<(), Fail> {
         ],
     )?;
     add(
-        &rt,
+        rt,
         alloc,
-        &mut set,
+        set,
         &[
             Interval {
                 low: 0xc0a8_0100,
@@ -86,8 +87,18 @@ fn the_tables_of_two_elements(rt: HostRuntime) -> Result<(), Fail> {
             },
         ],
     )?;
+    Ok(())
+}
+
+/// Asserts which tables the set of these two elements has.
+fn assert_tables_of_two(
+    rt: &impl Abort,
+    alloc: Global,
+    declared: &SetDecl,
+    set: &SetImage,
+) -> Result<(), Fail> {
     let mut out = Vec::new(alloc);
-    write_tables(&declared, &set, &mut out)?;
+    write_tables(declared, set, &mut out)?;
     assert_eq!(rt;
         out.as_slice(),
         b"set ip filter s\n\
@@ -117,9 +128,27 @@ fn the_tables_of_two_elements(rt: HostRuntime) -> Result<(), Fail> {
     Ok(())
 }
 
+/// Asserts which tables this set has, with two elements.
+fn assert_tables(rt: &impl Abort, alloc: Global, declared: &SetDecl) -> Result<(), Fail>
+    requires { CanBeBuilt declared.now }
+{
+    let mut set = SetImage::new(alloc, &declared.kinds, None, false)?;
+    add_two(rt, alloc, &mut set)?;
+    assert_tables_of_two(rt, alloc, declared, &set)
+}
+
 #[test]
-fn groups_of_four_bits(rt: HostRuntime) -> Result<(), Fail> {
+fn the_tables_of_two_elements(rt: HostRuntime) -> Result<(), Fail> {
     let alloc = rt.alloc();
+    assert_tables(
+        &rt,
+        alloc,
+        &declared(alloc, b"s", &[Kind::Ipv4, Kind::Service])?,
+    )
+}
+
+/// A table of the values 5 and 4 to 7, in groups of four bits.
+fn four_bit_table(alloc: Global) -> Result<FieldTable, Memory> {
     let mut table = FieldTable::new(alloc, 8)?.with_width(alloc, 4)?;
     table.reserve(2)?;
     table.add_blocks(&[
@@ -132,8 +161,17 @@ fn groups_of_four_bits(rt: HostRuntime) -> Result<(), Fail> {
             free_bits: 2,
         },
     ]);
+    Ok(table)
+}
+
+/// Asserts which rows the table of these values has.
+fn assert_rows_of_four_bits(
+    rt: &impl Abort,
+    alloc: Global,
+    table: &FieldTable,
+) -> Result<(), Fail> {
     let mut out = Vec::new(alloc);
-    write_table(0, Kind::Proto, &table, &mut out)?;
+    write_table(0, Kind::Proto, table, &mut out)?;
     assert_eq!(rt;
         out.as_slice(),
         b"field 0 inet_proto width 4 rules 2\n\
@@ -147,12 +185,25 @@ fn groups_of_four_bits(rt: HostRuntime) -> Result<(), Fail> {
 }
 
 #[test]
+fn groups_of_four_bits(rt: HostRuntime) -> Result<(), Fail> {
+    let alloc = rt.alloc();
+    assert_rows_of_four_bits(&rt, alloc, &four_bit_table(alloc)?)
+}
+
+/// The sets `ports` and `marks`.
+fn two_sets(alloc: Global) -> Result<Schema, Memory>
+    ensures { IfOk result (All CanBeBuilt) }
+{
+    let mut schema = Schema::new(alloc);
+    schema.push(declared(alloc, b"ports", &[Kind::Service])?)?;
+    schema.push(declared(alloc, b"marks", &[Kind::Mark])?)?;
+    Ok(schema)
+}
+
+#[test]
 fn sets_without_rules_stand_one_after_another(rt: HostRuntime) -> Result<(), Fail> {
     let alloc = rt.alloc();
-    let schema = Schema::from_vec(vec![in alloc;
-        declared(alloc, b"ports", &[Kind::Service])?,
-        declared(alloc, b"marks", &[Kind::Mark])?,
-    ]?);
+    let schema = two_sets(alloc)?;
     let generation = Generation::first(alloc, &schema)?;
     let mut out = Vec::from_slice(alloc, b"# commit generation 1 purged 0\n")?;
     write_dump(&schema, &generation, &mut out)?;

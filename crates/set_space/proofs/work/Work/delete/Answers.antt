@@ -5,7 +5,7 @@ use Rattle.set_model.specs.SetState.{removed}
 use Rattle.pipapo_image.specs.Image.Remove.{IsRemoval}
 use Rattle.set_space.proofs.Refusals.{removal_err}
 use Rattle.set_space.specs.OpenSets.{open_state}
-use Rattle.set_space.proofs.SetsLaws.{set-within, open-within, base-at, work-at, one-changed, none-changed}
+use Rattle.set_space.proofs.SetsLaws.{set-within, open-within, work-at, one-changed, none-changed}
 use Rattle.set_space.proofs.work.Work.delete.Goals as goal
 
 pub set-base-requires : goal.set-base-requires
@@ -18,24 +18,20 @@ index_mut-requires c =
 
 pub returns-clause-change : goal.returns-clause-change
 returns-clause-change c =
-    let within = open-within (arc_value c.self.inside.base) c.self.inside.sets.items c.args.set c.args.self.now c.self.view_is c.self.invariant.0 c.requires in
-    let base = base-at (arc_value c.self.inside.base) c.deref.result.now c.args.set c.set-base.result.now c.deref.ensures c.set-base.ensures in
-    one-changed (λ s t. IsRemoval (removed s c.args.parts.now c.args.now) c.delete.result s t) (arc_value c.self.inside.base) c.self.inside.sets.items c.args.set c.index_mut.result.now c.delete.new.self c.set-base.result.now c.args.self.now
-    c.self.view_is within c.index_mut.ensures.value base c.delete.ensures.removal
+    one-changed (arc_value c.self.inside.base) c.deref.result.now c.self.inside.sets.items c.args.set c.index_mut.result.now c.set-base.result.now c.args.self.now
+    c.self.view_is c.self.invariant.0 c.deref.ensures c.requires c.index_mut.ensures.value c.set-base.ensures
+    (λ s t. IsRemoval (removed s c.args.parts.now c.args.now) c.delete.result s t) c.delete.new.self c.delete.ensures.removal
 
 pub returns-clause-missing : goal.returns-clause-missing
 returns-clause-missing c =
-    let within = open-within (arc_value c.self.inside.base) c.self.inside.sets.items c.args.set c.args.self.now c.self.view_is c.self.invariant.0 c.requires in
-    let base = base-at (arc_value c.self.inside.base) c.deref.result.now c.args.set c.set-base.result.now c.deref.ensures c.set-base.ensures in
     λ lacks. c.delete.ensures.missing
     (lacks (open_state c.index_mut.result.now c.set-base.result.now)
-    (work-at (arc_value c.self.inside.base) c.self.inside.sets.items c.args.set c.index_mut.result.now c.set-base.result.now c.args.self.now c.self.view_is within c.index_mut.ensures.value base))
+    (work-at (arc_value c.self.inside.base) c.deref.result.now c.self.inside.sets.items c.args.set c.index_mut.result.now c.set-base.result.now c.args.self.now
+    c.self.view_is c.self.invariant.0 c.deref.ensures c.requires c.index_mut.ensures.value c.set-base.ensures))
 
 pub returns-clause-refused : goal.returns-clause-refused
 returns-clause-refused c =
-    let within = open-within (arc_value c.self.inside.base) c.self.inside.sets.items c.args.set c.args.self.now c.self.view_is c.self.invariant.0 c.requires in
-    let base = base-at (arc_value c.self.inside.base) c.deref.result.now c.args.set c.set-base.result.now c.deref.ensures c.set-base.ensures in
     on_err_weaker c.delete.result
-    (λ same. none-changed (arc_value c.self.inside.base) c.self.inside.sets.items c.args.set c.index_mut.result.now c.delete.new.self c.set-base.result.now c.args.self.now
-    c.self.view_is within c.index_mut.ensures.value base same)
+    (none-changed (arc_value c.self.inside.base) c.deref.result.now c.self.inside.sets.items c.args.set c.index_mut.result.now c.set-base.result.now c.args.self.now
+    c.self.view_is c.self.invariant.0 c.deref.ensures c.requires c.index_mut.ensures.value c.set-base.ensures c.delete.new.self)
     (removal_err _ (open_state c.index_mut.result.now c.set-base.result.now) (open_state c.delete.new.self c.set-base.result.now) c.delete.result c.delete.ensures.removal)

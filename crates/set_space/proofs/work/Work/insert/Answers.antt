@@ -5,7 +5,7 @@ use Rattle.set_model.specs.SetState.{add}
 use Rattle.pipapo_image.specs.Image.Insert.{IsAnswer}
 use Rattle.set_space.proofs.Refusals.{insertion_err}
 use Rattle.set_space.specs.OpenSets.{open_state}
-use Rattle.set_space.proofs.SetsLaws.{set-within, open-within, base-at, work-at, one-changed, none-changed}
+use Rattle.set_space.proofs.SetsLaws.{set-within, open-within, work-at, one-changed, none-changed}
 use Rattle.set_space.proofs.work.Work.insert.Goals as goal
 
 pub set-base-requires : goal.set-base-requires
@@ -18,23 +18,19 @@ index_mut-requires c =
 
 pub insert-requires : goal.insert-requires
 insert-requires c =
-    let within = open-within (arc_value c.self.inside.base) c.self.inside.sets.items c.args.set c.args.self.now c.self.view_is c.self.invariant.0 c.requires.set in
-    let base = base-at (arc_value c.self.inside.base) c.deref.result.now c.args.set c.set-base.result.now c.deref.ensures c.set-base.ensures in
     c.requires.fits (open_state c.index_mut.result.now c.set-base.result.now)
-    (work-at (arc_value c.self.inside.base) c.self.inside.sets.items c.args.set c.index_mut.result.now c.set-base.result.now c.args.self.now c.self.view_is within c.index_mut.ensures.value base)
+    (work-at (arc_value c.self.inside.base) c.deref.result.now c.self.inside.sets.items c.args.set c.index_mut.result.now c.set-base.result.now c.args.self.now
+    c.self.view_is c.self.invariant.0 c.deref.ensures c.requires.set c.index_mut.ensures.value c.set-base.ensures)
 
 pub returns-clause-change : goal.returns-clause-change
 returns-clause-change c =
-    let within = open-within (arc_value c.self.inside.base) c.self.inside.sets.items c.args.set c.args.self.now c.self.view_is c.self.invariant.0 c.requires.set in
-    let base = base-at (arc_value c.self.inside.base) c.deref.result.now c.args.set c.set-base.result.now c.deref.ensures c.set-base.ensures in
-    one-changed (λ s t. IsAnswer (add s c.args.element.now c.args.now) c.insert.result s t) (arc_value c.self.inside.base) c.self.inside.sets.items c.args.set c.index_mut.result.now c.insert.new.self c.set-base.result.now c.args.self.now
-    c.self.view_is within c.index_mut.ensures.value base c.insert.ensures
+    one-changed (arc_value c.self.inside.base) c.deref.result.now c.self.inside.sets.items c.args.set c.index_mut.result.now c.set-base.result.now c.args.self.now
+    c.self.view_is c.self.invariant.0 c.deref.ensures c.requires.set c.index_mut.ensures.value c.set-base.ensures
+    (λ s t. IsAnswer (add s c.args.element.now c.args.now) c.insert.result s t) c.insert.new.self c.insert.ensures
 
 pub returns-clause-refused : goal.returns-clause-refused
 returns-clause-refused c =
-    let within = open-within (arc_value c.self.inside.base) c.self.inside.sets.items c.args.set c.args.self.now c.self.view_is c.self.invariant.0 c.requires.set in
-    let base = base-at (arc_value c.self.inside.base) c.deref.result.now c.args.set c.set-base.result.now c.deref.ensures c.set-base.ensures in
     on_err_weaker c.insert.result
-    (λ same. none-changed (arc_value c.self.inside.base) c.self.inside.sets.items c.args.set c.index_mut.result.now c.insert.new.self c.set-base.result.now c.args.self.now
-    c.self.view_is within c.index_mut.ensures.value base same)
+    (none-changed (arc_value c.self.inside.base) c.deref.result.now c.self.inside.sets.items c.args.set c.index_mut.result.now c.set-base.result.now c.args.self.now
+    c.self.view_is c.self.invariant.0 c.deref.ensures c.requires.set c.index_mut.ensures.value c.set-base.ensures c.insert.new.self)
     (insertion_err (open_state c.index_mut.result.now c.set-base.result.now) (open_state c.insert.new.self c.set-base.result.now) c.args.element.now c.args.now c.insert.result c.insert.ensures)
