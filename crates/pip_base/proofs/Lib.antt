@@ -1,2 +1,2 @@
-mod Bytes
+pub mod Bytes
 mod Shelves

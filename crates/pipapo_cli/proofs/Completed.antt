@@ -38,9 +38,9 @@ use Rattle.pipapo_cli.specs.Transcript.{IsTranscript, IsJudgement, AreRulesOf, I
 use Rattle.pipapo_cli.specs.Calls.{Call, IsQuiet}
 use Rattle.pipapo_cli.specs.Causes.{IsCause, no_command, of_file, too_many, no_memory}
 use Rattle.pipapo_cli.specs.Lines.{done_status, form_status, file_status, file_line, status_of, fault_line}
-use Rattle.pipapo_cli.specs.Answers.{Ends, written, cut, memory, IsDue, output, page, refusal, TellsReadFault, TellsFlaw, TellsTooMany}
+use Rattle.pipapo_cli.specs.Answers.{Ends, EndsDuly, written, cut, memory, IsDue, output, page, refusal, TellsReadFault, TellsFlaw, TellsTooMany}
 use Rattle.pipapo_cli.specs.Exactly.{HasScript, HasKeys, HasRules, HasCaptured, Completes, DeliversText, DeliversRun, DeliversJudgement, DeliversDesk, RanOut}
-use Rattle.pipapo_cli.proofs.Endings.{done-small, does, Wrote, TheEnd, HasWritten, drilled, page-told}
+use Rattle.pipapo_cli.proofs.Endings.{done-small, does, Wrote, HasWritten, drilled, page-told}
 
 -- The numbers that are a form's status, told apart from the others.
 is_form : ℕ → Bool
@@ -103,7 +103,7 @@ module _ (c : Call) where
   ends-fault result (cut status text due front rose) e = absurd (omega (arith, e))
   ends-fault result (memory due keeps quiet) e = absurd (omega (arith, e))
 
-  pub tells-read-fault : TheEnd c → c.status ≡ 5 → TellsReadFault c
+  pub tells-read-fault : EndsDuly c → c.status ≡ 5 → TellsReadFault c
   tells-read-fault ends e = ends-fault c.status ends e
 
   -- With the status of a form the line of what is wrong with a file of that form was told.
@@ -163,10 +163,10 @@ module _ (c : Call) where
   ends-many result (cut status text due front rose) e = absurd (omega (arith, e))
   ends-many result (memory due keeps quiet) e = absurd (omega (arith, e))
 
-  pub tells-too-many : TheEnd c → c.status ≡ 12 → TellsTooMany c
+  pub tells-too-many : EndsDuly c → c.status ≡ 12 → TellsTooMany c
   tells-too-many ends e = ends-many c.status ends e
 
-  pub tells-flaw : TheEnd c → (form : FileForm) → c.status ≡ form_status form → TellsFlaw form c
+  pub tells-flaw : EndsDuly c → (form : FileForm) → c.status ≡ form_status form → TellsFlaw form c
   tells-flaw ends form e = ends-flaw form c.status ends e
 
 -- The shelf's count rises only with a read fault, and the sink's only with a write fault.
@@ -275,7 +275,7 @@ given-plan told p f s packets h = record { text = h.plan.text; is_told = h.plan.
 given-capture : (told : List ℕ → Option (List ℕ)) (p f : List ℕ) (s : Script) (packets : List Packet) → HasCaptured told p f s packets → Has told f (IsOf forms.capture s.schema)
 given-capture told p f s packets h = record { text = h.capture.text; is_told = h.capture.is_told; fits = h.capture.fits; holds = (h.frames, h.capture.holds) }
 
-module _ (c : Call) (ends : TheEnd c) (quiet : IsQuiet c) where
+module _ (c : Call) (ends : EndsDuly c) (quiet : IsQuiet c) where
   -- a command whose files are given
   pub ended : (d : Command) (sets : List SetDecl) → IsCommand c.words d → AreGiven c.shelf.told sets (inputs d) → HasFew c.shelf.told d → HasWritten c ⊎ RanOut c
   ended d sets is_d given few = given-done c.words c.shelf quiet.shelf d is_d sets given few c.taken_before c.taken_now c.faults_before c.faults_now c.status ends quiet.sink

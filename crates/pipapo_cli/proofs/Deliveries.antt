@@ -1,16 +1,11 @@
 -- What is written in pieces.
-use Rattle.std.proofs.Common.{◌≡◌, refl, ◌∙◌, ap, ℕ, ◌+◌, ◌≤◌, zero-add, suc-add, Result, Ok, Err, OnErr, List, [], ◌∷◌, ◌++◌, length, take, Option, Some, None, arith, append_assoc}
+use Rattle.std.proofs.Common.{◌≡◌, refl, ap, ℕ, ◌+◌, ◌≤◌, zero-add, suc-add, Result, Ok, Err, OnErr, List, [], ◌∷◌, ◌++◌, length, take, Option, Some, None, arith}
 use Rattle.std.proofs.lemmas.List.{length-append, take-append-le}
 use Rattle.std.specs.Io.KnownBytes.{Appends, Keeps}
 use Rattle.pip_base.specs.Causes.{Rose}
 use Rattle.pip_base.specs.Whole.{AppendsFront}
+use Rattle.pip_base.proofs.Bytes.{appends-more}
 use Rattle.pipapo_cli.specs.Answers.{Ends, written, cut, memory, IsExactly}
-
-pub appends-more : (a b c : Option (List ℕ)) (xs ys : List ℕ) → Appends a b xs → Appends b c ys → Appends a c (xs ++ ys)
-appends-more None b c xs ys h k = tt
-appends-more (Some as') None c xs ys h k = absurd h
-appends-more (Some as') (Some bs) None xs ys h k = absurd k
-appends-more (Some as') (Some bs) (Some cs) xs ys h k = k ∙ ap (λ z. z ++ ys) h ∙ append_assoc as' xs ys
 
 -- a front of the first piece is one of both
 pub front-first : (a b : Option (List ℕ)) (xs ys : List ℕ) → AppendsFront a b xs → AppendsFront a b (xs ++ ys)

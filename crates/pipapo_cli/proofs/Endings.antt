@@ -20,7 +20,7 @@ use Rattle.pipapo_cli.specs.Transcript.{IsOutput, IsTranscript, IsJudgement, IsC
 use Rattle.pipapo_cli.specs.Calls.{Call}
 use Rattle.pipapo_cli.specs.Causes.{IsCause, no_command, of_file, too_many, no_memory}
 use Rattle.pipapo_cli.specs.Lines.{done_status, form_status, file_status, status_of, fault_line}
-use Rattle.pipapo_cli.specs.Answers.{Ends, written, cut, memory, IsDue, output, page, refusal, IsExactly, HasOutput, IsComplete, Writes, Transcribes, Judges, Captures, Lists, Dumps, Weaves, Drills, Delivers, TellsPage}
+use Rattle.pipapo_cli.specs.Answers.{Ends, EndsDuly, written, cut, memory, IsDue, output, page, refusal, IsExactly, HasOutput, IsComplete, Writes, Transcribes, Judges, Captures, Lists, Dumps, Weaves, Drills, Delivers, TellsPage}
 
 -- the status of an output is 0 or 1, and that of a fault greater
 pub done-small : (refused : Bool) → done_status refused ≤ 1
@@ -98,9 +98,6 @@ module _ (words : List (List ℕ)) (shelf : Shelved) (p : Page) (asks : AsksFor 
   page-ends taken_before taken_now b n result (memory due keeps quiet) not_six = absurd (let d = (due-page 7 [] due).0 in omega (arith, d))
 
 module _ (c : Call) where
-  abbrev pub TheEnd : Type 0
-  TheEnd = Ends (IsDue c.words c.shelf) c.taken_before c.taken_now c.faults_before c.faults_now c.status
-
   abbrev pub HasWritten : Type 0
   HasWritten = Wrote c.words c.shelf c.taken_before c.taken_now c.status
 
@@ -109,38 +106,38 @@ module _ (c : Call) where
       let grown : new ≡ old ++ w.text = subst (λ (o : Option (List ℕ)). Appends (Some old) o w.text) is_new (subst (λ (o : Option (List ℕ)). Appends o c.taken_now w.text) is_old w.appends) in
       (w.refused, w.text, w.status, grown, is_text)
 
-  of-command : TheEnd → IsComplete c.status → (d : Command) → IsCommand c.words d → HasWritten
+  of-command : EndsDuly c → IsComplete c.status → (d : Command) → IsCommand c.words d → HasWritten
   of-command ends e d is_d = wrote c.words c.shelf c.taken_before c.taken_now c.faults_before c.faults_now c.status ends e (λ p asks. page-no-command c.words p d asks is_d)
 
   -- The headline, and the same of the other commands.
-  pub transcribes : TheEnd → IsComplete c.status → Transcribes c
+  pub transcribes : EndsDuly c → IsComplete c.status → Transcribes c
   transcribes ends e script keys script_text keys_text threads keep_going is_run at at_keys =
       let w = of-command ends e (run script keys threads keep_going) is_run in
       writes (IsTranscript script_text keys_text threads (mode_of keep_going)) w (does c.words c.shelf (run script keys threads keep_going) w.refused w.text is_run w.has script_text keys_text at at_keys)
 
-  pub judges : TheEnd → IsComplete c.status → Judges c
+  pub judges : EndsDuly c → IsComplete c.status → Judges c
   judges ends e script rules keys script_text rules_text keys_text threads keep_going is_judge at at_rules at_keys =
       let d = judge script rules keys threads keep_going in
       let w = of-command ends e d is_judge in
       writes (IsJudgement script_text rules_text keys_text threads (mode_of keep_going)) w (does c.words c.shelf d w.refused w.text is_judge w.has script_text rules_text keys_text at at_rules at_keys)
 
-  pub captures : TheEnd → IsComplete c.status → Captures c
+  pub captures : EndsDuly c → IsComplete c.status → Captures c
   captures ends e script plan packets script_text plan_text capture_text threads keep_going is_capture at at_plan at_capture =
       let d = capture script plan packets threads keep_going in
       let w = of-command ends e d is_capture in
       writes (IsCaptured script_text plan_text capture_text threads (mode_of keep_going)) w (does c.words c.shelf d w.refused w.text is_capture w.has script_text plan_text capture_text at at_plan at_capture)
 
-  pub lists : TheEnd → IsComplete c.status → Lists c
+  pub lists : EndsDuly c → IsComplete c.status → Lists c
   lists ends e script script_text keep_going is_list at =
       let w = of-command ends e (list script keep_going) is_list in
       writes (IsListing script_text (mode_of keep_going)) w (does c.words c.shelf (list script keep_going) w.refused w.text is_list w.has script_text at)
 
-  pub dumps : TheEnd → IsComplete c.status → Dumps c
+  pub dumps : EndsDuly c → IsComplete c.status → Dumps c
   dumps ends e script script_text keep_going is_dump at =
       let w = of-command ends e (dump script keep_going) is_dump in
       writes (IsTables script_text (mode_of keep_going)) w (does c.words c.shelf (dump script keep_going) w.refused w.text is_dump w.has script_text at)
 
-  pub weaves : TheEnd → IsComplete c.status → Weaves c
+  pub weaves : EndsDuly c → IsComplete c.status → Weaves c
   weaves ends e script script_text keep_going is_desk at =
       let w = of-command ends e (desk script keep_going) is_desk in
       writes (IsWovenOf script_text keep_going) w (does c.words c.shelf (desk script keep_going) w.refused w.text is_desk w.has script_text at)
@@ -150,17 +147,17 @@ module _ (c : Call) where
       let d = does c.words c.shelf (drill seed count threads) w.refused w.text is_drill w.has in
       record { written = subst (λ (o : List ℕ). Appends c.taken_before c.taken_now o) d.1 w.appends; status = w.status ∙ ap done_status d.0 }
 
-  pub drills : TheEnd → IsComplete c.status → Drills c
+  pub drills : EndsDuly c → IsComplete c.status → Drills c
   drills ends e seed count threads is_drill = drilled seed count threads is_drill (of-command ends e (drill seed count threads) is_drill)
 
-  paged : TheEnd → (c.status ≡ 6 → ⊥) → TellsPage c
+  paged : EndsDuly c → (c.status ≡ 6 → ⊥) → TellsPage c
   paged ends not_six p asks = let d = page-ends c.words c.shelf p asks c.taken_before c.taken_now c.faults_before c.faults_now c.status ends not_six in record { written = d.1; status = d.0 }
 
-  pub tells-page : TheEnd → IsComplete c.status → TellsPage c
+  pub tells-page : EndsDuly c → IsComplete c.status → TellsPage c
   tells-page ends e = paged ends (λ k. not-done c.status (rw k (omega arith)) e)
 
   -- Where the sink's count didn't rise, the page was written in any case.
-  pub page-told : TheEnd → (Rose c.faults_before c.faults_now → ⊥) → TellsPage c
+  pub page-told : EndsDuly c → (Rose c.faults_before c.faults_now → ⊥) → TellsPage c
   page-told ends quiet = paged ends (not-cut c.status ends) where
     not-cut : (result : ℕ) → Ends (IsDue c.words c.shelf) c.taken_before c.taken_now c.faults_before c.faults_now result → result ≡ 6 → ⊥
     not-cut result (cut status text due front rose) e = quiet rose

@@ -26,11 +26,11 @@ use Rattle.pipapo_cli.specs.declared.fault.Fault.TheVariants.{Usage, File, TooMa
 use Rattle.pipapo_cli.specs.Calls.{Call, IsQuiet}
 use Rattle.pipapo_cli.specs.Causes.{IsCause, no_command, of_file, too_many, no_memory}
 use Rattle.pipapo_cli.specs.Lines.{done_status, form_status, file_status, status_of}
-use Rattle.pipapo_cli.specs.Answers.{Ends, written, cut, memory, IsDue, output, page, refusal, Delivers}
+use Rattle.pipapo_cli.specs.Answers.{Ends, EndsDuly, written, cut, memory, IsDue, output, page, refusal, Delivers}
 use Rattle.pipapo_cli.specs.Exactly.{HasTurn, IsExact, IsStatus, Completes, DeliversText, DeliversRun, DeliversJudgement, DeliversDesk, HasScript, RanOut}
 use Rattle.pipapo_cli.specs.Promises.{Promises, Goes}
 use Rattle.pipapo_cli.proofs.Noting.{no-note}
-use Rattle.pipapo_cli.proofs.Endings.{TheEnd, does, page-told, transcribes, judges, captures, lists, dumps, weaves, drills, tells-page}
+use Rattle.pipapo_cli.proofs.Endings.{does, page-told, transcribes, judges, captures, lists, dumps, weaves, drills, tells-page}
 use Rattle.pipapo_cli.proofs.Completed.{completes, file-given, given-script, tells-read-fault, tells-flaw, tells-too-many, shelf-moved, sink-moved}
 
 -- A file that came to its turn, and is told.
@@ -161,7 +161,7 @@ module _ (words : List (List ℕ)) (shelf : Shelved) (none : IsNoCommand words) 
   ends-usage taken_before taken_now b n result (cut r text due front rose) sink = absurd (sink rose)
   ends-usage taken_before taken_now b n result (memory due keeps quiet) sink = absurd (let e = due-usage 7 [] due in omega (arith, e))
 
-module _ (c : Call) (ends : TheEnd c) (quiet : IsQuiet c) where
+module _ (c : Call) (ends : EndsDuly c) (quiet : IsQuiet c) where
   in-turn : (status : ℕ) (earlier : List Input) (i : Input) (text : List ℕ) (t : HasTurn c earlier i text) → (HasRead c.shelf t.command → ⊥) → ((fault : FileFault) → StopsAt c.shelf t.command fault → (file_status fault ≡ status) ⊎ (file_status fault ≡ 7)) → IsStatus status c
   in-turn status earlier i text t no_read of_stop = ends-status c.words c.shelf t.command t.is_command status no_read of_stop c.taken_before c.taken_now c.faults_before c.faults_now c.status ends quiet.sink
 

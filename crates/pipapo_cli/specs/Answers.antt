@@ -44,6 +44,10 @@ pub data Ends (due : ℕ → List ℕ → Type 0) (taken_before taken_now : Opti
   cut : (status : ℕ) (text : List ℕ) → due status text → AppendsFront taken_before taken_now text → Rose before now → Ends due taken_before taken_now before now 6
   memory : due 7 [] → Keeps taken_before taken_now → now ≡ before → Ends due taken_before taken_now before now 7
 
+-- A call ends with what is due to its words and files.
+abbrev pub EndsDuly : Call → Type 0
+EndsDuly c = Ends (IsDue c.words c.shelf) c.taken_before c.taken_now c.faults_before c.faults_now c.status
+
 -- the whole output was written
 abbrev pub IsComplete : ℕ → Type 0
 IsComplete result = (result ≡ 0) ⊎ (result ≡ 1)

@@ -5,20 +5,20 @@ use Rattle.input_files.specs.Inputs.{FileForm}
 use Rattle.pipapo_cli.specs.Calls.{Call, IsQuiet}
 use Rattle.pipapo_cli.specs.Lines.{form_status}
 use Rattle.pipapo_cli.specs.Names.{AsksInOrder, AsksForAll}
-use Rattle.pipapo_cli.specs.Answers.{Ends, IsDue, IsComplete, Transcribes, Judges, Captures, Lists, Dumps, Weaves, Drills, TellsPage, TellsReadFault, TellsFlaw, TellsTooMany}
+use Rattle.pipapo_cli.specs.Answers.{EndsDuly, IsComplete, Transcribes, Judges, Captures, Lists, Dumps, Weaves, Drills, TellsPage, TellsReadFault, TellsFlaw, TellsTooMany}
 use Rattle.pipapo_cli.specs.Exactly.{IsExact, Completes}
 use Rattle.pipapo_cli.specs.Noted.{IsNoted}
 
 -- What every other promise follows from: how the call ends, which files were read, and what a person was told.
 pub record Goes (c : Call) : Type 0 where
-  pub ends : Ends (IsDue c.words c.shelf) c.taken_before c.taken_now c.faults_before c.faults_now c.status
+  pub ends : EndsDuly c
   pub names : AsksInOrder c.words c.shelf
   pub all_read : IsComplete c.status → AsksForAll c.words c.shelf
   pub noted : IsNoted c
 
 pub record Promises (c : Call) : Type 0 where
   -- Every status has its cause, and what was written is due.
-  pub ends : Ends (IsDue c.words c.shelf) c.taken_before c.taken_now c.faults_before c.faults_now c.status
+  pub ends : EndsDuly c
   -- Where no count of faults rose, each status comes exactly where the words and the files are such, but for want of memory.
   pub exact : IsQuiet c → IsExact c
   -- Where moreover the files are of their forms, the output of exactly these files was written, or memory was wanting.
