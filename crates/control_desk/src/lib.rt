@@ -5,9 +5,9 @@
 //! control thread's, and submits transactions.
 //!
 //! **Definitions:** `specs/Woven.antt` says what a log is, `Books.antt` what a transaction does to the
-//! book, and `Turns.antt` and `Work.antt` what control threads do. **Theory:** docs/formats.md,
-//! "`desk`". **Proofs:** docs/proofs.md, "Several control threads (`ticket_line`, `log_turns`,
-//! `control_desk`)".
+//! book, and `Turns.antt` and `Work.antt` what control threads do. **Theory:** docs/architecture.md,
+//! "Several control threads". **Proofs:** docs/proofs.md, "Several control threads (`ticket_line`,
+//! `log_turns`, `control_desk`)".
 #![tactic(auto)]
 
 mod bell;

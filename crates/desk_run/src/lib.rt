@@ -5,7 +5,8 @@
 //! was done, and the last generation as a script.
 //!
 //! **Definitions:** `specs/DeskText.antt`, over `control_desk`'s `specs/Woven.antt`. **Theory:**
-//! docs/architecture.md, "The way of a run".
+//! docs/architecture.md, "The way of a run" and "Several control threads". **Proofs:** docs/proofs.md,
+//! "Several control threads (`ticket_line`, `log_turns`, `control_desk`)".
 #![tactic(auto)]
 
 mod gate_bell;

@@ -4,9 +4,8 @@
 //! The value stands in the one entry of a table, word 0 is the next ticket, and word 1 the one that is served.
 //!
 //! **Definitions:** `specs/LogRule.antt` is the rule, `LogSteps.antt` what each kind of step tells, and
-//! `LogLaws.antt` that each keeps the rule. **Theory:** docs/architecture.md, "The plain
-//! representation", of the ticket lock; docs/formats.md, "`desk`", of the control threads. **Proofs:**
-//! docs/proofs.md, "Several control threads (`ticket_line`, `log_turns`, `control_desk`)".
+//! `LogLaws.antt` that each keeps the rule. **Theory:** docs/architecture.md, "Several control threads".
+//! **Proofs:** docs/proofs.md, "Several control threads (`ticket_line`, `log_turns`, `control_desk`)".
 #![tactic(auto)]
 
 ghost use Rattle.std.specs.Prelude.{ℕ, List};

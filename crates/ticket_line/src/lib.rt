@@ -1,8 +1,8 @@
 //! Laws of the line of a ticket lock, whatever it locks: seats draw tickets, wait until theirs is served, and are done.
 //!
 //! **Definitions:** `specs/Tickets.antt` is the line, and `LineLaws.antt` what each step does to it.
-//! **Theory:** docs/architecture.md, "The plain representation". **Proofs:** docs/proofs.md, "Several
-//! control threads (`ticket_line`, `log_turns`, `control_desk`)".
+//! **Theory:** docs/architecture.md, "The plain representation" and "Several control threads".
+//! **Proofs:** docs/proofs.md, "Several control threads (`ticket_line`, `log_turns`, `control_desk`)".
 #![tactic(auto)]
 
 ghost use Rattle.ticket_line.specs.LineLaws.{Opens, DrawKeeps, LookKeeps, DoneKeeps, RestKeeps, StayKeeps, SeatKeeps};
