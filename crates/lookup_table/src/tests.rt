@@ -1,4 +1,4 @@
-ghost use Rattle.std.specs.Prelude.{◌≡◌, ◌<◌, ◌^◌, ◌≤◌, IfOk, length};
+ghost use Rattle.std.specs.Prelude.{◌≡◌, ◌<◌, ◌≤◌, IfOk, length};
 ghost use Rattle.bit_rows.specs.Row.{Row};
 ghost use Rattle.field_groups.specs.Groups.{IsWidth};
 ghost use Rattle.set_model.specs.Blocks.{IsWithin};
@@ -6,7 +6,7 @@ ghost use Rattle.set_model.specs.Blocks.{IsWithin};
 use super::*;
 use bit_rows::BitRow;
 use field_groups::last_four;
-use set_model::Block;
+use set_model::{Block, Memory};
 use std::alloc::Global;
 use std::process::Abort;
 use std::test::Fail;
@@ -27,6 +27,20 @@ fn block(rt: &impl Abort, bits: u32, base: u32, free_bits: u32) -> Block
     }
 }
 
+// Adds a block to a table of a field of so many bits.
+fn add(
+    rt: &impl Abort,
+    table: &mut FieldTable,
+    bits: u32,
+    base: u32,
+    free_bits: u32,
+) -> Result<(), Memory> {
+    assert!(rt; table.bits == bits && table.rules < 65_536);
+    table.reserve(1)?;
+    table.add_block(block(rt, bits, base, free_bits));
+    Ok(())
+}
+
 // The table of these bases and free bits.
 fn table_of(
     rt: &impl Abort,
@@ -38,9 +52,7 @@ fn table_of(
 {
     let mut table = FieldTable::new(alloc, bits)?;
     for (base, free_bits) in blocks {
-        assert!(rt; table.bits == bits && table.rules < 100);
-        table.reserve(1)?;
-        table.add_block(block(rt, bits, *base, *free_bits));
+        add(rt, &mut table, bits, *base, *free_bits)?;
     }
     Ok(table)
 }
@@ -81,6 +93,22 @@ fn holding(
     places(alloc, &row)
 }
 
+// Asserts which rules hold a value.
+fn assert_holding(
+    rt: &impl Abort,
+    alloc: Global,
+    table: &FieldTable,
+    value: u32,
+    rules: &[u32],
+) -> Result<(), Fail> {
+    assert_eq!(rt;
+        holding(rt, alloc, table, value)?.as_slice(),
+        rules,
+        "at {value}"
+    );
+    Ok(())
+}
+
 // The rules that share a value with a block.
 fn sharing(
     rt: &impl Abort,
@@ -93,6 +121,23 @@ fn sharing(
     let mut rest = ones(alloc, table.rules)?;
     table.share_into(block(rt, table.bits, base, free_bits), &mut row, &mut rest);
     places(alloc, &row)
+}
+
+// Asserts which rules share a value with a block.
+fn assert_sharing(
+    rt: &impl Abort,
+    alloc: Global,
+    table: &FieldTable,
+    base: u32,
+    free_bits: u32,
+    rules: &[u32],
+) -> Result<(), Fail> {
+    assert_eq!(rt;
+        sharing(rt, alloc, table, base, free_bits)?.as_slice(),
+        rules,
+        "at {base} with {free_bits} free bits"
+    );
+    Ok(())
 }
 
 // The blocks of 1 to 254.
@@ -113,77 +158,74 @@ const SPLIT: [(u32, u32); 14] = [
     (254, 0),
 ];
 
+// Asserts how many buckets a table of these blocks has, and which rules hold 100, 0 and 255.
+fn assert_split(
+    rt: &impl Abort,
+    alloc: Global,
+    table: &FieldTable,
+    buckets: u64,
+) -> Result<(), Fail> {
+    assert_eq!(rt; table.buckets.len(), buckets);
+    assert_eq!(rt; table.rules, 14);
+    assert_holding(rt, alloc, table, 100, &[6])?;
+    assert_holding(rt, alloc, table, 0, &[])?;
+    assert_holding(rt, alloc, table, 255, &[])
+}
+
+// Asserts that these blocks match alike in groups of eight bits, of four, and of eight again.
+fn assert_match_alike(rt: &impl Abort, alloc: Global, wide: &FieldTable) -> Result<(), Fail> {
+    assert_split(rt, alloc, wide, 256)?;
+    let narrow = wide.with_width(alloc, 4)?;
+    assert_split(rt, alloc, &narrow, 32)?;
+    assert_split(rt, alloc, &narrow.with_width(alloc, 8)?, 256)
+}
+
 #[test]
 fn block_match(rt: HostRuntime) -> Result<(), Fail> {
-    let wide = table_of(&rt, rt.alloc(), 8, &SPLIT)?;
-    assert_eq!(rt; wide.buckets.len(), 256);
-    let narrow = wide.with_width(rt.alloc(), 4)?;
-    assert_eq!(rt; narrow.buckets.len(), 32);
-    let again = narrow.with_width(rt.alloc(), 8)?;
-    for table in [&wide, &narrow, &again] {
-        assert_eq!(rt; table.rules, 14);
-        assert_eq!(rt;
-            holding(&rt, rt.alloc(), table, 100)?.as_slice(),
-            [6].as_slice()
-        );
-        assert_eq!(rt;
-            holding(&rt, rt.alloc(), table, 0)?.as_slice(),
-            [].as_slice()
-        );
-        assert_eq!(rt;
-            holding(&rt, rt.alloc(), table, 255)?.as_slice(),
-            [].as_slice()
-        );
-    }
-    Ok(())
+    let alloc = rt.alloc();
+    assert_match_alike(&rt, alloc, &table_of(&rt, alloc, 8, &SPLIT)?)
 }
 
 // 10.0.0.5, and 192.168.1.0 to 192.168.2.1.
 const ADDRESSES: [(u32, u32); 3] = [(0x0A00_0005, 0), (0xC0A8_0100, 8), (0xC0A8_0200, 1)];
 
-#[test]
-fn share_probe(rt: HostRuntime) -> Result<(), Fail> {
-    let wide = table_of(&rt, rt.alloc(), 32, &ADDRESSES)?;
-    let narrow = wide.with_width(rt.alloc(), 4)?;
-    let copied = wide.copy(rt.alloc())?;
-    for table in [&wide, &narrow, &copied] {
-        assert_eq!(rt;
-            sharing(&rt, rt.alloc(), table, 3_232_235_520, 16)?.as_slice(),
-            [1, 2].as_slice()
-        );
-        assert_eq!(rt;
-            sharing(&rt, rt.alloc(), table, 167_772_164, 2)?.as_slice(),
-            [0].as_slice()
-        );
-        assert_eq!(rt;
-            sharing(&rt, rt.alloc(), table, 0xC0A8_0200, 9)?.as_slice(),
-            [2].as_slice()
-        );
-        assert_eq!(rt;
-            sharing(&rt, rt.alloc(), table, 0xC0A8_0000, 8)?.as_slice(),
-            [].as_slice()
-        );
-    }
-    Ok(())
+// Asserts which of these addresses share a value with each of four blocks.
+fn assert_shared(rt: &impl Abort, alloc: Global, table: &FieldTable) -> Result<(), Fail> {
+    assert_sharing(rt, alloc, table, 3_232_235_520, 16, &[1, 2])?;
+    assert_sharing(rt, alloc, table, 167_772_164, 2, &[0])?;
+    assert_sharing(rt, alloc, table, 0xC0A8_0200, 9, &[2])?;
+    assert_sharing(rt, alloc, table, 0xC0A8_0000, 8, &[])
+}
+
+// Asserts that a table of these addresses, the same in groups of four bits, and a copy share alike.
+fn assert_share_alike(rt: &impl Abort, alloc: Global, wide: &FieldTable) -> Result<(), Fail> {
+    assert_shared(rt, alloc, wide)?;
+    assert_shared(rt, alloc, &wide.with_width(alloc, 4)?)?;
+    assert_shared(rt, alloc, &wide.copy(alloc)?)
 }
 
 #[test]
-fn rules_come_and_go(rt: HostRuntime) -> Result<(), Fail> {
-    let mut table = FieldTable::new(rt.alloc(), 32)?;
-    table.reserve(1)?;
-    let host = block(&rt, 32, 0x0A00_0005, 0);
-    let net = block(&rt, 32, 0xC0A8_0100, 8);
-    let pair = block(&rt, 32, 0xC0A8_0200, 1);
-    table.add_block(host);
+fn share_probe(rt: HostRuntime) -> Result<(), Fail> {
+    let alloc = rt.alloc();
+    assert_share_alike(&rt, alloc, &table_of(&rt, alloc, 32, &ADDRESSES)?)
+}
+
+// Adds 10.0.0.5 alone to a table without rules, and then 192.168.1.0 to 192.168.2.1 at once.
+fn add_addresses(rt: &impl Abort, table: &mut FieldTable) -> Result<(), Memory> {
+    add(rt, table, 32, 0x0A00_0005, 0)?;
+    let net = block(rt, 32, 0xC0A8_0100, 8);
+    let pair = block(rt, 32, 0xC0A8_0200, 1);
     assert!(rt; table.bits == 32 && table.rules == 1);
     table.reserve(2)?;
     table.add_blocks(&[net, pair]);
+    Ok(())
+}
+
+// Asserts that all three are in the table.
+fn assert_all_came(rt: &impl Abort, alloc: Global, table: &FieldTable) -> Result<(), Fail> {
     assert_eq!(rt; table.rules, 3);
     assert_eq!(rt; table.groups(), 4);
-    assert_eq!(rt;
-        holding(&rt, rt.alloc(), &table, 0xC0A8_0201)?.as_slice(),
-        [2].as_slice()
-    );
+    assert_holding(rt, alloc, table, 0xC0A8_0201, &[2])?;
 
     // The last byte of 10.0.0.5 agrees with the first two rules, and its first with one.
     assert!(rt; table.bits == 32 && table.groups() == 4);
@@ -193,24 +235,31 @@ fn rules_come_and_go(rt: HostRuntime) -> Result<(), Fail> {
     );
     assert!(rt; table.buckets.len() == 1024);
     assert_eq!(rt; table.buckets.word(0x0A, 0), 0b001);
+    Ok(())
+}
 
+// Asserts that the first and the third are left in the table.
+fn assert_second_went(rt: &impl Abort, alloc: Global, table: &FieldTable) -> Result<(), Fail> {
+    assert_eq!(rt; table.rules, 2);
+    assert_holding(rt, alloc, table, 0xC0A8_0201, &[1])?;
+    assert_holding(rt, alloc, table, 0xC0A8_0101, &[])?;
+    assert_holding(rt, alloc, table, 0x0A00_0005, &[0])
+}
+
+// Asserts that three rules come to a table without rules, and that the second of them goes.
+fn assert_come_and_go(rt: &impl Abort, alloc: Global, table: &mut FieldTable) -> Result<(), Fail> {
+    add_addresses(rt, table)?;
+    assert_all_came(rt, alloc, table)?;
     assert!(rt; table.rules == 3);
     table.own_from(1)?;
     table.drop_rules(1, 1);
-    assert_eq!(rt; table.rules, 2);
-    assert_eq!(rt;
-        holding(&rt, rt.alloc(), &table, 0xC0A8_0201)?.as_slice(),
-        [1].as_slice()
-    );
-    assert_eq!(rt;
-        holding(&rt, rt.alloc(), &table, 0xC0A8_0101)?.as_slice(),
-        [].as_slice()
-    );
-    assert_eq!(rt;
-        holding(&rt, rt.alloc(), &table, 0x0A00_0005)?.as_slice(),
-        [0].as_slice()
-    );
-    Ok(())
+    assert_second_went(rt, alloc, table)
+}
+
+#[test]
+fn rules_come_and_go(rt: HostRuntime) -> Result<(), Fail> {
+    let alloc = rt.alloc();
+    assert_come_and_go(&rt, alloc, &mut FieldTable::new(alloc, 32)?)
 }
 
 // A table of so many hosts, 10.0.0.0 and on.
@@ -218,76 +267,91 @@ fn hosts(rt: &impl Abort, alloc: Global, n: u32) -> Result<FieldTable, Fail> {
     let mut table = FieldTable::new(alloc, 32)?;
     table.set_summed(true);
     for i in 0..n {
-        assert!(rt; table.bits == 32 && table.rules < 65_536 && i < 65_536);
-        table.reserve(1)?;
-        table.add_block(block(rt, 32, 0x0A00_0000 + i, 0));
+        assert!(rt; i < 65_536);
+        add(rt, &mut table, 32, 0x0A00_0000 + i, 0)?;
     }
     Ok(table)
 }
 
+// Asserts that the second of n hosts has gone, and that no other came.
+fn assert_dropped(rt: &impl Abort, alloc: Global, table: &FieldTable, n: u32) -> Result<(), Fail>
+    requires { (1 < n) × (n < 4096) }
+{
+    assert_eq!(rt; table.rules, n - 1);
+    assert_holding(rt, alloc, table, 0x0A00_0001, &[])?;
+    assert_holding(rt, alloc, table, 0x0B00_0000, &[])?;
+    assert_holding(rt, alloc, table, 0x0A00_0000 + n - 1, &[n - 2])
+}
+
+// Asserts that all of n hosts are there, and the other one.
+fn assert_added(rt: &impl Abort, alloc: Global, table: &FieldTable, n: u32) -> Result<(), Fail>
+    requires { (1 < n) × (n < 4096) }
+{
+    assert_eq!(rt; table.rules, n + 1);
+    assert_holding(rt, alloc, table, 0x0A00_0001, &[1])?;
+    assert_holding(rt, alloc, table, 0x0A00_0000 + n - 1, &[n - 1])?;
+    assert_holding(rt, alloc, table, 0x0B00_0000, &[n])
+}
+
+// Asserts that a table of n hosts and a copy of it change each by itself.
+fn assert_live_on(
+    rt: &impl Abort,
+    alloc: Global,
+    table: &mut FieldTable,
+    copy: &mut FieldTable,
+    n: u32,
+) -> Result<(), Fail> {
+    assert!(rt; copy.rules == n && n < 4096 && n > 1);
+    add(rt, copy, 32, 0x0B00_0000, 0)?;
+    assert!(rt; table.rules == n);
+    table.own_from(1)?;
+    table.drop_rules(1, 1);
+    assert_dropped(rt, alloc, table, n)?;
+    assert_added(rt, alloc, copy, n)
+}
+
 #[test]
 fn copies_live_on_beside_each_other(rt: HostRuntime) -> Result<(), Fail> {
+    let alloc = rt.alloc();
     for n in [511, 512, 513, 1024] {
-        let alloc = rt.alloc();
         let mut table = hosts(&rt, alloc, n)?;
         table.settle()?;
-        let mut other = table.copy(alloc)?;
-        assert!(rt; other.bits == 32 && other.rules == n && n < 4096 && n > 1);
-        other.reserve(1)?;
-        other.add_block(block(&rt, 32, 0x0B00_0000, 0));
-        assert!(rt; table.rules == n);
-        table.own_from(1)?;
-        table.drop_rules(1, 1);
-
-        assert_eq!(rt; table.rules, n - 1);
-        assert_eq!(rt; holding(&rt, alloc, &table, 0x0A00_0001)?.len(), 0);
-        assert_eq!(rt; holding(&rt, alloc, &table, 0x0B00_0000)?.len(), 0);
-        assert_eq!(rt;
-            holding(&rt, alloc, &table, 0x0A00_0000 + n - 1)?.as_slice(),
-            [n - 2].as_slice()
-        );
-        assert_eq!(rt; other.rules, n + 1);
-        assert_eq!(rt;
-            holding(&rt, alloc, &other, 0x0A00_0001)?.as_slice(),
-            [1].as_slice()
-        );
-        assert_eq!(rt;
-            holding(&rt, alloc, &other, 0x0A00_0000 + n - 1)?.as_slice(),
-            [n - 1].as_slice()
-        );
-        assert_eq!(rt;
-            holding(&rt, alloc, &other, 0x0B00_0000)?.as_slice(),
-            [n].as_slice()
-        );
+        let mut copy = table.copy(alloc)?;
+        assert_live_on(&rt, alloc, &mut table, &mut copy, n)?;
     }
     Ok(())
 }
 
-/// The first 64 pages of a table of addresses that may match one.
-fn candidate_pages(table: &FieldTable, address: u128) -> u64
-    requires bits { table.now.bits ≡ 32 }
-    requires address { address < 2 ^ 32 }
-{
-    table.candidate_pages(address, last_four(address, 8, 32), 0)
+// Asserts which of the first 64 pages of a table of addresses may match one.
+fn assert_pages(rt: &impl Abort, table: &FieldTable, address: u32, pages: u64) {
+    assert!(rt; table.bits == 32);
+    let lines = last_four(address as u128, 8, 32);
+    assert_eq!(rt;
+        table.candidate_pages(address as u128, lines, 0),
+        pages,
+        "at {address}"
+    );
+}
+
+// Asserts which pages of a table of 33,000 hosts may match one, before its first 200 go and after.
+fn assert_tops_tell(rt: &impl Abort, alloc: Global, table: &mut FieldTable) -> Result<(), Fail> {
+    // 10.0.128.132 is rule 32,900, of page 8.
+    assert_pages(rt, table, 0x0A00_8084, 1 << 8);
+    assert_pages(rt, table, 0x0A00_FF84, 0);
+
+    // It becomes rule 32,700, of page 7.
+    assert!(rt; table.rules == 33_000);
+    table.own_from(0)?;
+    table.drop_rules(0, 200);
+    assert_pages(rt, table, 0x0A00_8084, 1 << 7);
+    assert_pages(rt, &table.with_width(alloc, 4)?, 0x0A00_8084, 1 << 7);
+    Ok(())
 }
 
 #[test]
 fn tops_tell_which_pages_may_match(rt: HostRuntime) -> Result<(), Fail> {
-    let mut table = hosts(&rt, rt.alloc(), 33_000)?;
-    assert!(rt; table.bits == 32 && table.rules == 33_000);
-    // 10.0.128.132 is rule 32,900, of page 8.
-    assert_eq!(rt; candidate_pages(&table, 0x0A00_8084), 1 << 8);
-    assert_eq!(rt; candidate_pages(&table, 0x0A00_FF84), 0);
-
-    // It becomes rule 32,700, of page 7.
-    table.own_from(0)?;
-    table.drop_rules(0, 200);
-    assert_eq!(rt; candidate_pages(&table, 0x0A00_8084), 1 << 7);
-
-    let narrow = table.with_width(rt.alloc(), 4)?;
-    assert!(rt; narrow.bits == 32);
-    assert_eq!(rt; candidate_pages(&narrow, 0x0A00_8084), 1 << 7);
-    Ok(())
+    let alloc = rt.alloc();
+    assert_tops_tell(&rt, alloc, &mut hosts(&rt, alloc, 33_000)?)
 }
 
 #[test]
