@@ -3,7 +3,7 @@
 use crate::lookups::{expiry_behind, intervals, key_near};
 use crate::plain::{PlainElement, PlainSet};
 use crate::random::Random;
-use crate::sets::Trial;
+use crate::sets::{Trial, on_new_set};
 use pipapo_image::ChangeError;
 use set_model::{Interval, Kind, Memory, Why};
 use std::alloc::Global;
@@ -112,14 +112,27 @@ fn step(
     }
 }
 
-fn check(rt: &impl Abort, alloc: Global, kinds: &[Kind], seed: u64) -> Result<(), Memory> {
-    let mut random = Random::new(seed);
-    let mut plain = PlainSet::new(alloc);
-    let mut trial = Trial::new(rt, alloc, kinds, None)?;
+/// Makes so many calls on both.
+fn compare(
+    rt: &impl Abort,
+    random: &mut Random,
+    kinds: &[Kind],
+    trial: &mut Trial,
+    plain: &mut PlainSet,
+) -> Result<(), Memory> {
     for _ in 0..1_500 {
-        step(rt, &mut random, kinds, &mut trial, &mut plain)?;
+        step(rt, random, kinds, trial, plain)?;
     }
     Ok(())
+}
+
+/// Compares a set with the plain list.
+fn check(rt: &impl Abort, alloc: Global, kinds: &[Kind], seed: u64) -> Result<(), Memory> {
+    on_new_set(rt, alloc, kinds, None, false, |trial| {
+        let mut random = Random::new(seed);
+        let mut plain = PlainSet::new(alloc);
+        compare(rt, &mut random, kinds, trial, &mut plain)
+    })
 }
 
 #[test]

@@ -3,7 +3,7 @@
 use crate::examples::{adds, finds};
 use crate::plain::{PlainElement, PlainSet, lows};
 use crate::random::{Random, Shape};
-use crate::sets::Trial;
+use crate::sets::{Trial, on_new_set};
 use pipapo_image::{Added, ChangeError};
 use set_model::{Found, Interval, Kind, Memory, Why};
 use std::alloc::Global;
@@ -139,6 +139,32 @@ fn check_set(
     Ok(())
 }
 
+/// Compares so many disjoint sets, and as many others.
+fn check_sets(
+    rt: &impl Abort,
+    random: &mut Random,
+    kinds: &[Kind],
+    trial: &mut Trial,
+    sets: u32,
+    tally: &mut Tally,
+) -> Result<(), Memory> {
+    for _ in 0..sets {
+        check_set(rt, random, kinds, trial, true, tally)?;
+        check_set(rt, random, kinds, trial, false, tally)?;
+    }
+    Ok(())
+}
+
+/// Sees that elements of so many disjoint sets, and as many others, both shared keys and didn't.
+fn expect_both(rt: &impl Abort, tally: &Tally, sets: u32) {
+    assert!(rt;
+        tally.shared > sets && tally.apart > sets,
+        "{} shared and {} apart",
+        tally.shared,
+        tally.apart
+    );
+}
+
 /// Compares so many disjoint sets, and as many others, and sees that elements both share keys and
 /// don't.
 fn check(
@@ -148,23 +174,15 @@ fn check(
     sets: u32,
     seed: u64,
 ) -> Result<(), Memory> {
-    let mut random = Random::new(seed);
-    let mut tally = Tally {
-        shared: 0,
-        apart: 0,
-    };
-    let mut trial = Trial::new(rt, alloc, kinds, None)?;
-    for _ in 0..sets {
-        check_set(rt, &mut random, kinds, &mut trial, true, &mut tally)?;
-        check_set(rt, &mut random, kinds, &mut trial, false, &mut tally)?;
-    }
-    assert!(rt;
-        tally.shared > sets && tally.apart > sets,
-        "{} shared and {} apart",
-        tally.shared,
-        tally.apart
-    );
-    Ok(())
+    on_new_set(rt, alloc, kinds, None, false, |trial| {
+        let mut random = Random::new(seed);
+        let mut tally = Tally {
+            shared: 0,
+            apart: 0,
+        };
+        check_sets(rt, &mut random, kinds, trial, sets, &mut tally)?;
+        Ok(expect_both(rt, &tally, sets))
+    })
 }
 
 #[test]
@@ -195,14 +213,15 @@ fn three_fields_apart(rt: HostRuntime) -> Result<(), Fail> {
 
 #[test]
 fn an_enclosing_interval_is_refused(rt: HostRuntime) -> Result<(), Fail> {
-    let mut trial = Trial::of(&rt, rt.alloc(), &[Kind::Service], None, true)?;
-    adds(&rt, &mut trial, 10, 20, None, Ok(Added::New { id: 0 }));
-    adds(&rt, &mut trial, 5, 9, None, Ok(Added::New { id: 1 }));
-    let refused = Err(ChangeError::Refused(Why::Overlap { id: 0 }));
-    adds(&rt, &mut trial, 5, 30, None, refused);
-    finds(&rt, &mut trial, 7, 0, Some(1));
-    finds(&rt, &mut trial, 30, 0, None);
-    Ok(())
+    Ok(on_new_set(&rt, rt.alloc(), &[Kind::Service], None, true, |trial| {
+        adds(&rt, trial, 10, 20, None, Ok(Added::New { id: 0 }));
+        adds(&rt, trial, 5, 9, None, Ok(Added::New { id: 1 }));
+        let refused = Err(ChangeError::Refused(Why::Overlap { id: 0 }));
+        adds(&rt, trial, 5, 30, None, refused);
+        finds(&rt, trial, 7, 0, Some(1));
+        finds(&rt, trial, 30, 0, None);
+        Ok(())
+    })?)
 }
 
 /// The network of an address's first byte, and of its second one where there is one.
@@ -235,14 +254,16 @@ fn adds_pair(
 
 #[test]
 fn pairs_share_a_key_in_both_fields(rt: HostRuntime) -> Result<(), Fail> {
-    let mut trial = Trial::of(&rt, rt.alloc(), &[Kind::Ipv4, Kind::Service], None, true)?;
-    let ten = network(10, None);
-    adds_pair(&rt, &mut trial, ten, 10, 20, Ok(Added::New { id: 0 }));
-    let inside = network(10, Some(1));
-    let refused = Err(ChangeError::Refused(Why::Overlap { id: 0 }));
-    adds_pair(&rt, &mut trial, inside, 5, 30, refused);
-    let eleven = network(11, None);
-    adds_pair(&rt, &mut trial, eleven, 5, 30, Ok(Added::New { id: 1 }));
-    adds_pair(&rt, &mut trial, ten, 21, 30, Ok(Added::New { id: 2 }));
-    Ok(())
+    let kinds = [Kind::Ipv4, Kind::Service];
+    Ok(on_new_set(&rt, rt.alloc(), &kinds, None, true, |trial| {
+        let ten = network(10, None);
+        adds_pair(&rt, trial, ten, 10, 20, Ok(Added::New { id: 0 }));
+        let inside = network(10, Some(1));
+        let refused = Err(ChangeError::Refused(Why::Overlap { id: 0 }));
+        adds_pair(&rt, trial, inside, 5, 30, refused);
+        let eleven = network(11, None);
+        adds_pair(&rt, trial, eleven, 5, 30, Ok(Added::New { id: 1 }));
+        adds_pair(&rt, trial, ten, 21, 30, Ok(Added::New { id: 2 }));
+        Ok(())
+    })?)
 }

@@ -1,5 +1,5 @@
 // Worked examples of a set: what an addition answers, and what is found behind it.
-use crate::sets::Trial;
+use crate::sets::{Trial, on_new_set};
 use pipapo_image::{Added, ChangeError};
 use set_model::{Interval, Kind, Why};
 use std::process::Abort;
@@ -37,77 +37,68 @@ pub(crate) fn finds(
 
 #[test]
 fn an_enclosing_interval_is_accepted(rt: HostRuntime) -> Result<(), Fail> {
-    let mut trial = Trial::new(&rt, rt.alloc(), &PORTS, None)?;
-    adds(&rt, &mut trial, 10, 20, None, Ok(Added::New { id: 0 }));
-    adds(&rt, &mut trial, 5, 30, None, Ok(Added::New { id: 1 }));
-    finds(&rt, &mut trial, 15, 0, Some(0));
-    finds(&rt, &mut trial, 7, 0, Some(1));
-    finds(&rt, &mut trial, 30, 0, Some(1));
-    finds(&rt, &mut trial, 31, 0, None);
-    Ok(())
+    Ok(on_new_set(&rt, rt.alloc(), &PORTS, None, false, |trial| {
+        adds(&rt, trial, 10, 20, None, Ok(Added::New { id: 0 }));
+        adds(&rt, trial, 5, 30, None, Ok(Added::New { id: 1 }));
+        finds(&rt, trial, 15, 0, Some(0));
+        finds(&rt, trial, 7, 0, Some(1));
+        finds(&rt, trial, 30, 0, Some(1));
+        finds(&rt, trial, 31, 0, None);
+        Ok(())
+    })?)
 }
 
 #[test]
 fn an_interval_inside_is_refused(rt: HostRuntime) -> Result<(), Fail> {
-    let mut trial = Trial::new(&rt, rt.alloc(), &PORTS, None)?;
-    adds(&rt, &mut trial, 5, 30, None, Ok(Added::New { id: 0 }));
-    let refused = Err(ChangeError::Refused(Why::Overlap { id: 0 }));
-    adds(&rt, &mut trial, 10, 20, None, refused);
-    adds(&rt, &mut trial, 1, 5, None, refused);
-    finds(&rt, &mut trial, 15, 0, Some(0));
-    finds(&rt, &mut trial, 1, 0, None);
-    Ok(())
+    Ok(on_new_set(&rt, rt.alloc(), &PORTS, None, false, |trial| {
+        adds(&rt, trial, 5, 30, None, Ok(Added::New { id: 0 }));
+        let refused = Err(ChangeError::Refused(Why::Overlap { id: 0 }));
+        adds(&rt, trial, 10, 20, None, refused);
+        adds(&rt, trial, 1, 5, None, refused);
+        finds(&rt, trial, 15, 0, Some(0));
+        finds(&rt, trial, 1, 0, None);
+        Ok(())
+    })?)
 }
 
 #[test]
 fn a_set_of_one_is_full(rt: HostRuntime) -> Result<(), Fail> {
-    let mut trial = Trial::new(&rt, rt.alloc(), &PORTS, Some(1))?;
-    adds(&rt, &mut trial, 80, 80, None, Ok(Added::New { id: 0 }));
-    adds(&rt, &mut trial, 80, 80, None, Ok(Added::Already { id: 0 }));
-    adds(
-        &rt,
-        &mut trial,
-        81,
-        81,
-        None,
-        Err(ChangeError::Refused(Why::Full)),
-    );
-    Ok(())
+    Ok(on_new_set(&rt, rt.alloc(), &PORTS, Some(1), false, |trial| {
+        adds(&rt, trial, 80, 80, None, Ok(Added::New { id: 0 }));
+        adds(&rt, trial, 80, 80, None, Ok(Added::Already { id: 0 }));
+        adds(
+            &rt,
+            trial,
+            81,
+            81,
+            None,
+            Err(ChangeError::Refused(Why::Full)),
+        );
+        Ok(())
+    })?)
 }
 
 #[test]
 fn an_element_is_expired_from_its_expiry_on(rt: HostRuntime) -> Result<(), Fail> {
-    let mut trial = Trial::new(&rt, rt.alloc(), &PORTS, None)?;
-    adds(
-        &rt,
-        &mut trial,
-        80,
-        90,
-        Some(30_000),
-        Ok(Added::New { id: 0 }),
-    );
-    finds(&rt, &mut trial, 80, 29_999, Some(0));
-    finds(&rt, &mut trial, 80, 30_000, None);
-    Ok(())
+    Ok(on_new_set(&rt, rt.alloc(), &PORTS, None, false, |trial| {
+        adds(&rt, trial, 80, 90, Some(30_000), Ok(Added::New { id: 0 }));
+        finds(&rt, trial, 80, 29_999, Some(0));
+        finds(&rt, trial, 80, 30_000, None);
+        Ok(())
+    })?)
 }
 
 #[test]
 fn a_renewal_reaches_every_rule(rt: HostRuntime) -> Result<(), Fail> {
-    let mut trial = Trial::new(&rt, rt.alloc(), &PORTS, None)?;
-    adds(&rt, &mut trial, 1, 254, Some(10), Ok(Added::New { id: 0 }));
-    adds(
-        &rt,
-        &mut trial,
-        1,
-        254,
-        Some(20),
-        Ok(Added::Renewed { id: 0 }),
-    );
-    for port in 1..255u64 {
-        finds(&rt, &mut trial, port as u128, 19, Some(0));
-        finds(&rt, &mut trial, port as u128, 20, None);
-    }
-    Ok(())
+    Ok(on_new_set(&rt, rt.alloc(), &PORTS, None, false, |trial| {
+        adds(&rt, trial, 1, 254, Some(10), Ok(Added::New { id: 0 }));
+        adds(&rt, trial, 1, 254, Some(20), Ok(Added::Renewed { id: 0 }));
+        for port in 1..255u64 {
+            finds(&rt, trial, port as u128, 19, Some(0));
+            finds(&rt, trial, port as u128, 20, None);
+        }
+        Ok(())
+    })?)
 }
 
 /// An address for each number, far from those of the numbers before and behind it.
@@ -144,12 +135,13 @@ pub(crate) fn has_width(rt: &impl Abort, trial: &Trial, width: u32) {
 
 #[test]
 fn one_address_more_wants_groups_of_four(rt: HostRuntime) -> Result<(), Fail> {
-    let mut trial = Trial::new(&rt, rt.alloc(), &[Kind::Ipv4], None)?;
-    add_addresses(&rt, &mut trial, 0, 16_384);
-    has_width(&rt, &trial, 8);
-    find_addresses(&rt, &mut trial, 16_384);
-    add_addresses(&rt, &mut trial, 16_384, 16_385);
-    has_width(&rt, &trial, 4);
-    find_addresses(&rt, &mut trial, 16_385);
-    Ok(())
+    Ok(on_new_set(&rt, rt.alloc(), &[Kind::Ipv4], None, false, |trial| {
+        add_addresses(&rt, trial, 0, 16_384);
+        has_width(&rt, trial, 8);
+        find_addresses(&rt, trial, 16_384);
+        add_addresses(&rt, trial, 16_384, 16_385);
+        has_width(&rt, trial, 4);
+        find_addresses(&rt, trial, 16_385);
+        Ok(())
+    })?)
 }

@@ -1,7 +1,7 @@
 // Lookups in sets of elements that look random, beside the plain list.
 use crate::plain::PlainSet;
 use crate::random::{Random, Shape};
-use crate::sets::Trial;
+use crate::sets::{Trial, on_new_set};
 use set_model::{Interval, Kind, Memory};
 use std::alloc::Global;
 use std::process::Abort;
@@ -99,7 +99,7 @@ fn look_up_one(
 }
 
 /// Adds so many elements to both, and looks so many keys up. How many were found.
-fn compare(
+fn hits(
     rt: &impl Abort,
     kinds: &[Kind],
     random: &mut Random,
@@ -118,14 +118,26 @@ fn compare(
     Ok(hits)
 }
 
-/// Compares a set with the plain list, and sees that keys are both found and not.
-fn check(rt: &impl Abort, alloc: Global, kinds: &[Kind], seed: u64) -> Result<(), Memory> {
-    let mut random = Random::new(seed);
-    let mut plain = PlainSet::new(alloc);
-    let mut trial = Trial::new(rt, alloc, kinds, None)?;
-    let hits = compare(rt, kinds, &mut random, &mut trial, &mut plain)?;
+/// Compares both, and sees that keys are both found and not.
+fn compare(
+    rt: &impl Abort,
+    kinds: &[Kind],
+    random: &mut Random,
+    trial: &mut Trial,
+    plain: &mut PlainSet,
+) -> Result<(), Memory> {
+    let hits = hits(rt, kinds, random, trial, plain)?;
     assert!(rt; 300 < hits && hits < 1_400, "{hits} hits");
     Ok(())
+}
+
+/// Compares a set with the plain list.
+fn check(rt: &impl Abort, alloc: Global, kinds: &[Kind], seed: u64) -> Result<(), Memory> {
+    on_new_set(rt, alloc, kinds, None, false, |trial| {
+        let mut random = Random::new(seed);
+        let mut plain = PlainSet::new(alloc);
+        compare(rt, kinds, &mut random, trial, &mut plain)
+    })
 }
 
 #[test]

@@ -18,18 +18,8 @@ pub(crate) struct Trial {
 }
 
 impl Trial {
-    /// A set without elements.
-    pub(crate) fn new(
-        rt: &impl Abort,
-        alloc: Global,
-        kinds: &[Kind],
-        size: Option<u32>,
-    ) -> Result<Trial, Memory> {
-        Trial::of(rt, alloc, kinds, size, false)
-    }
-
     /// A set without elements that is disjoint, or not.
-    pub(crate) fn of(
+    fn new(
         rt: &impl Abort,
         alloc: Global,
         kinds: &[Kind],
@@ -108,6 +98,21 @@ impl Trial {
         let parts = parts_of(self.alloc, parts)?;
         Ok(sharing_in(rt, &self.set, &mut self.scratch, &parts, now))
     }
+}
+
+/// Hands a set without elements, which is disjoint or not, to a check.
+pub(crate) fn on_new_set<F: FnOnce(&mut Trial) -> Result<(), Memory>>(
+    rt: &impl Abort,
+    alloc: Global,
+    kinds: &[Kind],
+    size: Option<u32>,
+    disjoint: bool,
+    check: F,
+) -> Result<(), Memory>
+    requires { F.IsAlwaysCallable check }
+{
+    let mut trial = Trial::new(rt, alloc, kinds, size, disjoint)?;
+    check(&mut trial)
 }
 
 fn new_set(

@@ -1,7 +1,7 @@
 // Sets about as large as a step of their tables and summary: a word of 64 rules, a page of 512, a page of
 // marks for 4,096, and 32,768, above which a second level stands. Copies of them live on beside each other.
 use crate::examples::{adds, finds};
-use crate::sets::Trial;
+use crate::sets::{Trial, on_new_set};
 use pipapo_image::{Added, SetImage};
 use set_model::{Interval, Kind, Memory};
 use std::alloc::Global;
@@ -59,34 +59,48 @@ fn purge_addresses(rt: &impl Abort, trial: &mut Trial, n: u64) {
     }
 }
 
-/// A copy of the set, with which it shares its pages.
-fn copy(trial: &mut Trial) -> Result<SetImage, Memory> {
+/// Hands the set, and a copy of it with which it shares its pages, to a check.
+fn on_copy<F: FnOnce(&mut Trial, &mut SetImage) -> Result<(), Memory>>(
+    trial: &mut Trial,
+    check: F,
+) -> Result<(), Memory>
+    requires { F.IsAlwaysCallable check }
+{
     trial.set.settle()?;
-    trial.set.copy(trial.alloc)
+    let mut copy = trial.set.copy(trial.alloc)?;
+    check(trial, &mut copy)
 }
 
 /// Adds `n` addresses, copies the set, and takes one of them out of the copy and the expired ones out of
 /// the set. The set as it was before the last address lives on.
-fn check(rt: &impl Abort, trial: &mut Trial, n: u64) -> Result<(), Fail> {
+fn check(rt: &impl Abort, trial: &mut Trial, n: u64) -> Result<(), Memory> {
     let last = n.saturating_sub(1);
     add_addresses(rt, trial, 0, last);
-    let mut before = copy(trial)?;
-    add_addresses(rt, trial, last, n);
-    find_addresses(rt, trial, n, None);
-    let mut other = copy(trial)?;
-    purge_addresses(rt, trial, n);
-    swap(&mut trial.set, &mut other);
-    delete_address(rt, trial, n / 2);
-    find_addresses(rt, trial, n, Some(n / 2));
-    swap(&mut trial.set, &mut before);
-    find_addresses(rt, trial, last, None);
-    Ok(())
+    on_copy(trial, |trial, before| {
+        add_addresses(rt, trial, last, n);
+        find_addresses(rt, trial, n, None);
+        on_copy(trial, |trial, other| {
+            purge_addresses(rt, trial, n);
+            swap(&mut trial.set, other);
+            delete_address(rt, trial, n / 2);
+            find_addresses(rt, trial, n, Some(n / 2));
+            swap(&mut trial.set, before);
+            find_addresses(rt, trial, last, None);
+            Ok(())
+        })
+    })
 }
 
 fn check_sizes(rt: &impl Abort, alloc: Global, kind: Kind, sizes: &[u64]) -> Result<(), Fail> {
     for n in sizes {
-        let mut trial = Trial::new(rt, alloc, &[kind], None)?;
-        check(rt, &mut trial, *n)?;
+        on_new_set(
+            rt,
+            alloc,
+            &[kind],
+            None,
+            false,
+            |trial| check(rt, trial, *n),
+        )?;
     }
     Ok(())
 }

@@ -1,6 +1,6 @@
 // The group width of a set of long addresses, as they come and go.
 use crate::examples::{adds, finds, has_width};
-use crate::sets::Trial;
+use crate::sets::{Trial, on_new_set};
 use pipapo_image::Added;
 use set_model::{Interval, Kind};
 use std::process::Abort;
@@ -35,16 +35,17 @@ fn delete_address(rt: &impl Abort, trial: &mut Trial, n: u64) {
 
 #[test]
 fn one_address_fewer_wants_groups_of_eight(rt: HostRuntime) -> Result<(), Fail> {
-    let mut trial = Trial::new(&rt, rt.alloc(), &[Kind::Ipv6], None)?;
-    add_addresses(&rt, &mut trial, 0, 4_096);
-    has_width(&rt, &trial, 8);
-    find_addresses(&rt, &mut trial, 0, 4_096);
-    add_addresses(&rt, &mut trial, 4_096, 4_097);
-    has_width(&rt, &trial, 4);
-    find_addresses(&rt, &mut trial, 0, 4_097);
-    delete_address(&rt, &mut trial, 1_000);
-    has_width(&rt, &trial, 8);
-    find_addresses(&rt, &mut trial, 0, 1_000);
-    find_addresses(&rt, &mut trial, 1_001, 4_097);
-    Ok(())
+    Ok(on_new_set(&rt, rt.alloc(), &[Kind::Ipv6], None, false, |trial| {
+        add_addresses(&rt, trial, 0, 4_096);
+        has_width(&rt, trial, 8);
+        find_addresses(&rt, trial, 0, 4_096);
+        add_addresses(&rt, trial, 4_096, 4_097);
+        has_width(&rt, trial, 4);
+        find_addresses(&rt, trial, 0, 4_097);
+        delete_address(&rt, trial, 1_000);
+        has_width(&rt, trial, 8);
+        find_addresses(&rt, trial, 0, 1_000);
+        find_addresses(&rt, trial, 1_001, 4_097);
+        Ok(())
+    })?)
 }
