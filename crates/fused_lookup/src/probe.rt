@@ -21,10 +21,17 @@ impl Probe {
         ensures probe { IsProbe table.now result }
         ensures value { result.value ≡ value }
     {
+        let buckets = last_four(value, table.width, table.bits);
+        // In groups of eight bits both are the places of bytes.
+        let lines = if table.width == 8 {
+            buckets
+        } else {
+            last_four(value, 8, table.bits)
+        };
         Probe {
             value,
-            buckets: last_four(value, table.width, table.bits),
-            lines: last_four(value, 8, table.bits),
+            buckets,
+            lines,
         }
     }
 }
