@@ -15,13 +15,13 @@ use Rattle.clap.specs.declared.parser.matches.ArgMatches.{ArgMatches}
 use Rattle.command_words.specs.WordForms.{ArePlain, HasFoundValues}
 use Rattle.command_words.specs.Words.{is_file_name, threads_word, keep_going_word, AreArguments, no_words, name_and, threads_and, mark_and, AreWords}
 
-abbrev first : Rule
+abbrev pub first : Rule
 first = new_rule (codes "first")
 
-abbrev second : Rule
+abbrev pub second : Rule
 second = new_rule (codes "second")
 
-abbrev third : Rule
+abbrev pub third : Rule
 third = new_rule (codes "third")
 
 abbrev pub threads_rule : Rule
@@ -33,19 +33,19 @@ keep_going_rule = record (new_rule (codes "keep-going")) { long = Some (codes "k
 abbrev pub program : App
 program = with_rule (with_rule (with_rule (with_rule (with_rule (on_top (λ s. record s { disable_help_flag = true }) (new_app (codes "pipapo"))) first) second) third) threads_rule) keep_going_rule
 
-abbrev rules : List Rule
+abbrev pub rules : List Rule
 rules = (built program).top.rules
 
-simple : is_simple program ≡ true
+pub simple : is_simple program ≡ true
 unfolding clap_on_literals
 simple = refl
 
 -- between two words, where no option waits for a value
-abbrev between : Held → ℕ → Walk
+abbrev pub between : Held → ℕ → Walk
 between h position = record { held = h; waiting = idle; position = position; is_trailing = false; stopped = None }
 
 -- a name goes to the next position
-name-step : (w : Text) (h : Held) (position : ℕ) → is_file_name w ≡ true → walked rules [] (between h position) w ≡ to_positional rules (arg_by_index rules position) w (between h position) h
+pub name-step : (w : Text) (h : Held) (position : ℕ) → is_file_name w ≡ true → walked rules [] (between h position) w ≡ to_positional rules (arg_by_index rules position) w (between h position) h
 unfolding walked
 name-step [] h position e = absurd (true≢false (sym e))
 name-step (b ∷ []) h position e = go (b == 45) refl where
@@ -58,18 +58,18 @@ name-step (b ∷ c ∷ bs) h position e = go (b == 45) refl e where
   go false eq f = rw (eq, eq) refl
 
 -- `--threads` waits for its value
-abbrev waiting-for : Held → ℕ → Walk
+abbrev pub waiting-for : Held → ℕ → Walk
 waiting-for h position = record (between (record (settled rules h) { pending = Some (codes "threads", []) }) position) { waiting = option (codes "threads") }
 
-threads-step : (h : Held) (position : ℕ) → walked rules [] (between h position) threads_word ≡ waiting-for h position
+pub threads-step : (h : Held) (position : ℕ) → walked rules [] (between h position) threads_word ≡ waiting-for h position
 unfolding clap_on_literals
 threads-step h position = refl
 
 -- and takes the next word, which begins with no dash
-abbrev counted : Held → Text → Held
+abbrev pub counted : Held → Text → Held
 counted h w = record (settled rules h) { pending = Some (codes "threads", w ∷ []) }
 
-count-step : (w : Text) (h : Held) (position : ℕ) → is_file_name w ≡ true → walked rules [] (waiting-for h position) w ≡ between (counted h w) position
+pub count-step : (w : Text) (h : Held) (position : ℕ) → is_file_name w ≡ true → walked rules [] (waiting-for h position) w ≡ between (counted h w) position
 unfolding walked
 count-step [] h position e = absurd (true≢false (sym e))
 count-step (b ∷ []) h position e = go (b == 45) refl where
@@ -81,15 +81,15 @@ count-step (b ∷ c ∷ bs) h position e = go (b == 45) refl e where
   go true eq f = absurd (true≢false (sym f))
   go false eq f = rw (eq, eq) refl
 
-abbrev marked : Held → Held
+abbrev pub marked : Held → Held
 marked h = reacted rules (with_index 4 (filled keep_going_rule)) [] h
 
-mark-step : (h : Held) (position : ℕ) → walked rules [] (between h position) keep_going_word ≡ between (marked h) position
+pub mark-step : (h : Held) (position : ℕ) → walked rules [] (between h position) keep_going_word ≡ between (marked h) position
 unfolding clap_on_literals
 mark-step h position = refl
 
 -- Rows: the first of an id, and one more at the end.
-abbrev is_of : Text → Row → Bool
+abbrev pub is_of : Text → Row → Bool
 is_of id r = bytes_eq r.id id
 
 module _ {X : Type 0} (p : X → Bool) where
@@ -108,7 +108,7 @@ module _ {X : Type 0} (p : X → Bool) where
   found-old [] x not_here = rw not_here refl
   found-old (y ∷ xs) x not_here = ap (λ o. cond (p y) (Some y) o) (found-old xs x not_here)
 
-  any-found : (xs : List X) → list_any p xs ≡ is_some (find p xs)
+  pub any-found : (xs : List X) → list_any p xs ≡ is_some (find p xs)
   any-found [] = refl
   any-found (x ∷ xs) = ap (λ b. p x || b) (any-found xs) ∙ go (p x) where
     go : (b : Bool) → (b || is_some (find p xs)) ≡ is_some (cond b (Some x) (find p xs))
@@ -138,33 +138,33 @@ mark_found true = Some mark_row
 mark_found false = None
 
 -- The rows are those of these arguments.
-record Finds (rows : List Row) (names : List Text) (threads : Option Text) (keep_going : Bool) : Type 0 where
-  first_is : find (is_of (codes "first")) rows ≡ option_map (name_row first) (slice_get names 0)
-  second_is : find (is_of (codes "second")) rows ≡ option_map (name_row second) (slice_get names 1)
-  third_is : find (is_of (codes "third")) rows ≡ option_map (name_row third) (slice_get names 2)
-  threads_are : find (is_of (codes "threads")) rows ≡ option_map (name_row threads_rule) threads
-  mark_is : find (is_of (codes "keep-going")) rows ≡ mark_found keep_going
+pub record Finds (rows : List Row) (names : List Text) (threads : Option Text) (keep_going : Bool) : Type 0 where
+  pub first_is : find (is_of (codes "first")) rows ≡ option_map (name_row first) (slice_get names 0)
+  pub second_is : find (is_of (codes "second")) rows ≡ option_map (name_row second) (slice_get names 1)
+  pub third_is : find (is_of (codes "third")) rows ≡ option_map (name_row third) (slice_get names 2)
+  pub threads_are : find (is_of (codes "threads")) rows ≡ option_map (name_row threads_rule) threads
+  pub mark_is : find (is_of (codes "keep-going")) rows ≡ mark_found keep_going
 
-abbrev held_rows : Held → List Row
+abbrev pub held_rows : Held → List Row
 held_rows h = (settled rules h).rows
 
-abbrev taken : Text → Held → Text → Held
+abbrev pub taken : Text → Held → Text → Held
 taken id h w = record (settled rules h) { pending = Some (id, w ∷ []) }
 
 -- A name's word is held for its position.
-first-taken : (h : Held) (w : Text) → to_positional rules (arg_by_index rules 1) w (between h 1) h ≡ between (taken (codes "first") h w) 2
+pub first-taken : (h : Held) (w : Text) → to_positional rules (arg_by_index rules 1) w (between h 1) h ≡ between (taken (codes "first") h w) 2
 first-taken h w = go (is_pending (with_index 1 (filled first)) h.pending) where
   go : (b : Bool) → between (pushed (codes "first") w (cond (b && false) h (settled rules h))) 2 ≡ between (taken (codes "first") h w) 2
   go true = refl
   go false = refl
 
-second-taken : (h : Held) (w : Text) → to_positional rules (arg_by_index rules 2) w (between h 2) h ≡ between (taken (codes "second") h w) 3
+pub second-taken : (h : Held) (w : Text) → to_positional rules (arg_by_index rules 2) w (between h 2) h ≡ between (taken (codes "second") h w) 3
 second-taken h w = go (is_pending (with_index 2 (filled second)) h.pending) where
   go : (b : Bool) → between (pushed (codes "second") w (cond (b && false) h (settled rules h))) 3 ≡ between (taken (codes "second") h w) 3
   go true = refl
   go false = refl
 
-third-taken : (h : Held) (w : Text) → to_positional rules (arg_by_index rules 3) w (between h 3) h ≡ between (taken (codes "third") h w) 4
+pub third-taken : (h : Held) (w : Text) → to_positional rules (arg_by_index rules 3) w (between h 3) h ≡ between (taken (codes "third") h w) 4
 third-taken h w = go (is_pending (with_index 3 (filled third)) h.pending) where
   go : (b : Bool) → between (pushed (codes "third") w (cond (b && false) h (settled rules h))) 4 ≡ between (taken (codes "third") h w) 4
   go true = refl
@@ -217,14 +217,34 @@ module _ (rows : List Row) where
     mark_is = found-new _ rows _ f.mark_is refl;
   }
 
--- The walk stands between two words, and holds these arguments.
-record Holds (at : Walk) (names : List Text) (threads : Option Text) (goes : Bool) : Type 0 where
-  held : Held
-  position : ℕ
-  at_is : at ≡ between held position
-  finds : Finds (held_rows held) names threads goes
+finds-of : (rows now : List Row) (names : List Text) (threads : Option Text) (goes : Bool) → now ≡ rows → Finds rows names threads goes → Finds now names threads goes
+finds-of rows now names threads goes same f = subst (λ (r : List Row). Finds r names threads goes) (sym same) f
 
-abbrev Plain : Option Text → Type 0
+-- What is held with one argument more.
+module _ (h : Held) (t : Option Text) (g : Bool) where
+  pub first-held : (w : Text) → Finds (held_rows h) [] t g → Finds (held_rows (taken (codes "first") h w)) (w ∷ []) t g
+  first-held w f = finds-of _ _ (w ∷ []) t g (first-use (codes "first") (reading_by (filled first)) CommandLine (w ∷ []) (held_rows h) f.first_is) (finds-first (held_rows h) w t g f)
+
+  pub second-held : (v w : Text) → Finds (held_rows h) (v ∷ []) t g → Finds (held_rows (taken (codes "second") h w)) (v ∷ w ∷ []) t g
+  second-held v w f = finds-of _ _ (v ∷ w ∷ []) t g (first-use (codes "second") (reading_by (filled second)) CommandLine (w ∷ []) (held_rows h) f.second_is) (finds-second (held_rows h) v w t g f)
+
+  pub third-held : (u v w : Text) → Finds (held_rows h) (u ∷ v ∷ []) t g → Finds (held_rows (taken (codes "third") h w)) (u ∷ v ∷ w ∷ []) t g
+  third-held u v w f = finds-of _ _ (u ∷ v ∷ w ∷ []) t g (first-use (codes "third") (reading_by (filled third)) CommandLine (w ∷ []) (held_rows h) f.third_is) (finds-third (held_rows h) u v w t g f)
+
+pub threads-held : (h : Held) (names : List Text) (w : Text) (g : Bool) → Finds (held_rows h) names None g → Finds (held_rows (counted h w)) names (Some w) g
+threads-held h names w g f = finds-of _ _ names (Some w) g (first-use (codes "threads") (reading_by (filled threads_rule)) CommandLine (w ∷ []) (held_rows h) f.threads_are) (finds-threads (held_rows h) names w g f)
+
+pub mark-held : (h : Held) (names : List Text) (t : Option Text) → Finds (held_rows h) names t false → Finds (held_rows (marked h)) names t true
+mark-held h names t f = finds-of _ _ names t true (first-use (codes "keep-going") (reading_by (filled keep_going_rule)) CommandLine (codes "true" ∷ []) (held_rows h) f.mark_is) (finds-mark (held_rows h) names t f)
+
+-- The walk stands between two words, and holds these arguments.
+pub record Holds (at : Walk) (names : List Text) (threads : Option Text) (goes : Bool) : Type 0 where
+  pub held : Held
+  pub position : ℕ
+  pub at_is : at ≡ between held position
+  pub finds : Finds (held_rows held) names threads goes
+
+abbrev pub Plain : Option Text → Type 0
 Plain threads = IfSome threads (λ w. is_file_name w ≡ true)
 
 abbrev either : Option Text → Option Text → Option Text
@@ -243,9 +263,6 @@ or-false false = refl
 onward : (rest names : List Text) (threads : Option Text) (goes : Bool) (p q : Walk) → p ≡ q → Holds (fold (walked rules []) q rest) names threads goes → Holds (fold (walked rules []) p rest) names threads goes
 onward rest names threads goes p q same h = subst (λ (at : Walk). Holds (fold (walked rules []) at rest) names threads goes) (sym same) h
 
-finds-of : (rows now : List Row) (names : List Text) (threads : Option Text) (goes : Bool) → now ≡ rows → Finds rows names threads goes → Finds now names threads goes
-finds-of rows now names threads goes same f = subst (λ (r : List Row). Finds r names threads goes) (sym same) f
-
 -- The walk over arguments holds them, behind those that it held before.
 through : (ws names : List Text) (threads : Option Text) (goes : Bool) → AreArguments ws names threads goes → (before : List Text) (t : Option Text) (g : Bool) (h : Held)
     → length before + length names ≤ 3 → Plain threads → (is_some threads ≡ true → t ≡ None) → (goes ≡ true → g ≡ false) → Finds (held_rows h) before t g
@@ -258,26 +275,21 @@ through ws names threads goes no_words before t g h few plain once mark f = reco
 }
 through ws names threads goes (name_and {word = word} {rest = rest} {names = more} e a) [] t g h few plain once mark f =
     onward rest (word ∷ more) (either t threads) (g || goes) _ (between (taken (codes "first") h word) 2) (name-step word h 1 e ∙ first-taken h word)
-    (through rest more threads goes a (word ∷ []) t g (taken (codes "first") h word) (omega (arith, few)) plain once mark
-    (finds-of _ _ (word ∷ []) t g (first-use (codes "first") (reading_by (filled first)) CommandLine (word ∷ []) (held_rows h) f.first_is) (finds-first (held_rows h) word t g f)))
+    (through rest more threads goes a (word ∷ []) t g (taken (codes "first") h word) (omega (arith, few)) plain once mark (first-held h t g word f))
 through ws names threads goes (name_and {word = word} {rest = rest} {names = more} e a) (v ∷ []) t g h few plain once mark f =
     onward rest (v ∷ word ∷ more) (either t threads) (g || goes) _ (between (taken (codes "second") h word) 3) (name-step word h 2 e ∙ second-taken h word)
-    (through rest more threads goes a (v ∷ word ∷ []) t g (taken (codes "second") h word) (omega (arith, few)) plain once mark
-    (finds-of _ _ (v ∷ word ∷ []) t g (first-use (codes "second") (reading_by (filled second)) CommandLine (word ∷ []) (held_rows h) f.second_is) (finds-second (held_rows h) v word t g f)))
+    (through rest more threads goes a (v ∷ word ∷ []) t g (taken (codes "second") h word) (omega (arith, few)) plain once mark (second-held h t g v word f))
 through ws names threads goes (name_and {word = word} {rest = rest} {names = more} e a) (u ∷ v ∷ []) t g h few plain once mark f =
     onward rest (u ∷ v ∷ word ∷ more) (either t threads) (g || goes) _ (between (taken (codes "third") h word) 4) (name-step word h 3 e ∙ third-taken h word)
-    (through rest more threads goes a (u ∷ v ∷ word ∷ []) t g (taken (codes "third") h word) (omega (arith, few)) plain once mark
-    (finds-of _ _ (u ∷ v ∷ word ∷ []) t g (first-use (codes "third") (reading_by (filled third)) CommandLine (word ∷ []) (held_rows h) f.third_is) (finds-third (held_rows h) u v word t g f)))
+    (through rest more threads goes a (u ∷ v ∷ word ∷ []) t g (taken (codes "third") h word) (omega (arith, few)) plain once mark (third-held h t g u v word f))
 through ws names threads goes (name_and e a) (u ∷ v ∷ w ∷ before) t g h few plain once mark f = absurd (omega (arith, few))
 through ws names threads goes (threads_and {count = count} {rest = rest} a) before None g h few plain once mark f =
     onward rest (before ++ names) (Some count) (g || goes) _ (between (counted h count) (1 + length before)) (ap (λ (at : Walk). walked rules [] at count) (threads-step h (1 + length before)) ∙ count-step count h (1 + length before) plain)
-    (through rest names None goes a before (Some count) g (counted h count) few tt (λ e. absurd (true≢false (sym e))) mark
-    (finds-of _ _ before (Some count) g (first-use (codes "threads") (reading_by (filled threads_rule)) CommandLine (count ∷ []) (held_rows h) f.threads_are) (finds-threads (held_rows h) before count g f)))
+    (through rest names None goes a before (Some count) g (counted h count) few tt (λ e. absurd (true≢false (sym e))) mark (threads-held h before count g f))
 through ws names threads goes (threads_and a) before (Some w) g h few plain once mark f = absurd (cc (once refl))
 through ws names threads goes (mark_and {rest = rest} a) before t false h few plain once mark f =
     onward rest (before ++ names) (either t threads) true _ (between (marked h) (1 + length before)) (mark-step h (1 + length before))
-    (through rest names threads false a before t true (marked h) few plain once (λ e. absurd (true≢false (sym e)))
-    (finds-of _ _ before t true (first-use (codes "keep-going") (reading_by (filled keep_going_rule)) CommandLine (codes "true" ∷ []) (held_rows h) f.mark_is) (finds-mark (held_rows h) before t f)))
+    (through rest names threads false a before t true (marked h) few plain once (λ e. absurd (true≢false (sym e))) (mark-held h before t f))
 through ws names threads goes (mark_and a) before t true h few plain once mark f = absurd (cc (mark refl))
 
 -- what `clap` gives by the ids
@@ -333,15 +345,18 @@ ends h names threads goes f =
     let four = no-default (has_row (codes "threads") (held_rows h)) (held_rows h) in
     rw (one, two, three, four) (with-default (held_rows h) names threads goes f)
 
-nothing-found : Finds [] [] None false
+pub nothing-found : Finds [] [] None false
 nothing-found = record { first_is = refl; second_is = refl; third_is = refl; threads_are = refl; mark_is = refl }
+
+-- The walk over the arguments of a command's words holds them.
+pub walk-holds : (words : List Text) (word : Text) (names : List Text) (threads : Option Text) (goes : Bool) → ArePlain names threads → (said : AreWords words word names threads goes)
+    → Holds (fold (walked rules []) (between nothing_held 1) said.rest) names threads goes
+walk-holds words word names threads goes plain said = let few = plain.few in through said.rest names threads goes said.arguments [] None false nothing_held (omega (arith, few)) plain.no_dash (λ e. refl) (λ e. refl) nothing-found
 
 -- Of the words of a command `clap` gives its values.
 pub gives-values : (words : List Text) (word : Text) (names : List Text) (threads : Option Text) (goes : Bool) (m : ArgMatches) → HasMatchesOf program words m → AreWords words word names threads goes → ArePlain names threads → HasFoundValues (found_of m) names threads goes
 gives-values words word names threads goes m matches said plain =
-    let few = plain.few in
-    let w = through said.rest names threads goes said.arguments [] None false nothing_held (omega (arith, few)) plain.no_dash (λ e. refl) (λ e. refl) nothing-found in
-    let held : Holds (fold (walked rules []) (between nothing_held 1) said.rest) names threads goes = w in
+    let held = walk-holds words word names threads goes plain said in
     let found : rows_of (found_of m) ≡ finished rules held.held = (matches simple).0 ∙ ap (matches_of program) said.words_are ∙ ap (λ (at : Walk). finished rules at.held) held.at_is in
     let given = subst (λ (r : List Row). GivesRows r names threads goes) (sym found) (ends held.held names threads goes held.finds) in record {
       first = first_value-rows (found_of m) (codes "first") ∙ given.first_is;

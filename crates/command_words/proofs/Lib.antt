@@ -1,4 +1,5 @@
 pub mod CommandWords
 mod ClapValues
+mod ClapPasses
 mod WordValues
 pub mod PageWords

@@ -1,5 +1,5 @@
 -- The command of the arguments that were found.
-use Rattle.std.proofs.Common.{◌≡◌, ◌≤◌, sym, ◌∙◌, ap, subst, ℕ, Bool, false, true, cond, List, [], ◌∷◌, length, codes, slice_get, Option, Some, None, option_map, arith, rules}
+use Rattle.std.proofs.Common.{◌≡◌, refl, ◌≤◌, sym, ◌∙◌, ap, subst, ℕ, Bool, false, true, cond, List, [], ◌∷◌, length, codes, slice_get, Option, Some, None, option_map, arith, rules}
 use Rattle.std.specs.Prelude.{IfSome, IsSome}
 use Rattle.std.specs.Borrow.{Bor}
 use Rattle.command_words.specs.declared.words.Arguments.{Arguments}
@@ -12,6 +12,39 @@ use Rattle.command_words.proofs.CommandWords.{number-is-name}
 plain-threads : (threads : Option (List ℕ)) (n : ℕ) → AreThreads threads n → IfSome threads (λ w. is_file_name w ≡ true)
 plain-threads None n h = tt
 plain-threads (Some word) n h = number-is-name 1 16 word n (omega arith) h
+
+-- The words are a word and plain arguments.
+pub record HavePlainArguments (words : List (List ℕ)) : Type 0 where
+  pub word : List ℕ
+  pub names : List (List ℕ)
+  pub threads : Option (List ℕ)
+  pub keep_going : Bool
+  pub said : AreWords words word names threads keep_going
+  pub plain : ArePlain names threads
+
+module _ (words : List (List ℕ)) where
+  some-arguments : (word : List ℕ) (names : List (List ℕ)) (threads : Option (List ℕ)) (goes : Bool) (n : ℕ) → length names ≤ 3 → AreThreads threads n → AreWords words word names threads goes → HavePlainArguments words
+  some-arguments word names threads goes n few threads_are said = record {
+    word = word;
+    names = names;
+    threads = threads;
+    keep_going = goes;
+    said = said;
+    plain = record { few = few; no_dash = plain-threads threads n threads_are };
+  }
+
+  arguments-of-command : (c : Command) → IsCommand words c → HavePlainArguments words
+  arguments-of-command (run script keys n goes) h = some-arguments (codes "run") (script ∷ keys ∷ []) h.0 goes n (omega arith) h.2 h.1
+  arguments-of-command (judge script rules keys n goes) h = some-arguments (codes "judge") (script ∷ rules ∷ keys ∷ []) h.0 goes n (omega arith) h.2 h.1
+  arguments-of-command (capture script plan file n goes) h = some-arguments (codes "capture") (script ∷ plan ∷ file ∷ []) h.0 goes n (omega arith) h.2 h.1
+  arguments-of-command (list script goes) h = some-arguments (codes "list") (script ∷ []) None goes 1 (omega arith) refl h
+  arguments-of-command (dump script goes) h = some-arguments (codes "dump") (script ∷ []) None goes 1 (omega arith) refl h
+  arguments-of-command (desk script goes) h = some-arguments (codes "desk") (script ∷ []) None goes 1 (omega arith) refl h
+  arguments-of-command (drill seed elements n) h = some-arguments (codes "drill") (h.1 ∷ h.2 ∷ []) h.0 false n (omega arith) h.6 h.3
+
+  -- The words of a command are such.
+  pub plain-arguments : (verb : Verb) → HasVerb words verb → HavePlainArguments words
+  plain-arguments verb h = arguments-of-command h.0 h.1
 
 -- a text that was found, where there is one
 abbrev Found : Type 0

@@ -1,11 +1,14 @@
-ghost use Rattle.std.specs.Prelude.{◌≡◌, Bool, List, ℕ, Option, map, Err, IfOk, option_map};
+ghost use Rattle.std.specs.Prelude.{◌≡◌, Bool, List, ℕ, Option, map, Err, IfOk, IfErr, option_map};
 ghost use Rattle.std.specs.String.{string_bytes};
 ghost use Rattle.clap.specs.Matches.{found_of};
+ghost use Rattle.clap.specs.Values.{kind_of};
+ghost use Rattle.clap.specs.declared.error.kind.ErrorKind.TheVariants as kinds;
 ghost use Rattle.command_words.specs.Words.{IsCommand, IsNumber, AreThreads, AreWords};
 ghost use Rattle.command_words.specs.WordForms.{HasVerb, HasFoundValues, HasArguments, ArePlain, plain};
 ghost use Rattle.command_words.specs.declared.words.WordsError.TheVariants as errors;
 
 use crate::shape::{MOST_ELEMENTS, MOST_THREADS, Verb, number_of, verb_of};
+use clap::error::ErrorKind;
 use clap::{Arg, ArgAction, ArgMatches, Error};
 use std::alloc::{AllocError, Global};
 
@@ -77,7 +80,8 @@ impl From<AllocError> for WordsError {
 
 /// The values of the words of a command, by their ids.
 fn values_of<'a>(alloc: Global, words: &'a [String]) -> Result<ArgMatches<'a>, Error>
-    ensures { IfOk result (λ m. (word : List ℕ) (names : List (List ℕ)) (threads : Option (List ℕ)) (keep_going : Bool) → AreWords (map string_bytes words.now) word names threads keep_going → ArePlain names threads → HasFoundValues (found_of m) names threads keep_going) }
+    ensures found { IfOk result (λ m. (word : List ℕ) (names : List (List ℕ)) (threads : Option (List ℕ)) (keep_going : Bool) → AreWords (map string_bytes words.now) word names threads keep_going → ArePlain names threads → HasFoundValues (found_of m) names threads keep_going) }
+    ensures memory { IfErr result (λ e. (word : List ℕ) (names : List (List ℕ)) (threads : Option (List ℕ)) (keep_going : Bool) → AreWords (map string_bytes words.now) word names threads keep_going → ArePlain names threads → kind_of e ≡ kinds.OutOfMemory) }
 {
     let first = Arg::new(alloc, "first");
     let second = Arg::new(alloc, "second");
@@ -129,6 +133,7 @@ struct Arguments<'a> {
 
 /// What stands behind the word of a command, or want of memory.
 fn arguments_of<'a>(alloc: Global, words: &'a [String]) -> Result<Arguments<'a>, AllocError>
+    requires { (verb : _) × HasVerb (map string_bytes words.now) verb }
     ensures { IfOk result (λ a. (word : List ℕ) (names : List (List ℕ)) (threads : Option (List ℕ)) (keep_going : Bool) → AreWords (map string_bytes words.now) word names threads keep_going → ArePlain names threads → HasArguments a names threads keep_going) }
 {
     match values_of(alloc, words) {
@@ -139,7 +144,8 @@ fn arguments_of<'a>(alloc: Global, words: &'a [String]) -> Result<Arguments<'a>,
             threads: values.get_str("threads"),
             keep_going: values.get_flag("keep-going"),
         }),
-        Err(_) => Err(AllocError),
+        Err(error) if error.kind() == ErrorKind::OutOfMemory => Err(AllocError),
+        Err(_) => unreachable!(),
     }
 }
 

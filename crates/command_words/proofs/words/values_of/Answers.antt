@@ -1,8 +1,10 @@
 use Rattle.std.proofs.Common.{rules, ◌≡◌, ◌∙◌, ap, ap₂, subst, codes, map, true}
 use Rattle.std.specs.String.{string_bytes}
-use Rattle.std.proofs.lemmas.Result.{IfOk-weaker}
+use Rattle.std.proofs.lemmas.Result.{IfOk-weaker, IfErr-weaker, err_from_is_err_and}
 use Rattle.clap.specs.Walk.{rule_of}
 use Rattle.clap.specs.Simple.{App, HasMatchesOf, app_of, app_of_fields, new_app, new_rule, on_top, with_rule}
+use Rattle.clap.specs.Takes.{takes}
+use Rattle.command_words.proofs.ClapPasses.{takes-words}
 use Rattle.command_words.proofs.ClapValues.{program, threads_rule, keep_going_rule, gives-values}
 use Rattle.command_words.proofs.words.values_of.Goals as goal
 
@@ -20,4 +22,13 @@ returns c =
     let with_third = c.in_ok-arg-3.ensures.shape (search rules) ∙ ap₂ with_rule with_second third_is in
     let with_threads = c.in_ok-arg-4.ensures.shape (search rules) ∙ ap₂ with_rule with_third threads_are in
     let whole : app_of c.in_ok-arg-5.field-0 ≡ program = c.in_ok-arg-5.ensures.shape (search rules) ∙ ap₂ with_rule with_threads keep_is in
-    IfOk-weaker c.try_get_matches_from.result _ _ (λ m h word names threads goes said plain. gives-values (map string_bytes c.args.words.now) word names threads goes m (subst (λ (a : App). HasMatchesOf a (map string_bytes c.args.words.now) m) whole h) said plain) c.try_get_matches_from.ensures.matches
+    let words = map string_bytes c.args.words.now in record {
+      found = IfOk-weaker c.try_get_matches_from.result _ _ (λ m h word names threads goes said plain. gives-values words word names threads goes m (subst (λ (a : App). HasMatchesOf a words m) whole h) said plain) c.try_get_matches_from.ensures.matches;
+      memory = IfErr-weaker c.try_get_matches_from.result _ _ (λ e h word names threads goes said plain. h (ap (λ (a : App). takes a words) whole ∙ takes-words words word names threads goes said plain)) c.try_get_matches_from.ensures.passes;
+    }
+
+-- where no memory is left for the fourth argument
+pub returns-in_err-arg-4-clause-memory : goal.returns-in_err-arg-4-clause-memory
+returns-in_err-arg-4-clause-memory c =
+    let k = err_from_is_err_and c.from_residual-in_err-arg-4.result c.from_residual-in_err-arg-4.ensures.1 in
+    rw k.1 (λ word names threads goes said plain. k.2)
