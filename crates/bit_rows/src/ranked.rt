@@ -132,6 +132,3 @@ impl RankedBits {
         }
     }
 }
-
-#[cfg(test)]
-mod tests;

@@ -262,6 +262,3 @@ impl BitRow {
         })
     }
 }
-
-#[cfg(test)]
-mod tests;

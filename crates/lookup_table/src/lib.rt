@@ -18,8 +18,6 @@ mod lines;
 mod marks;
 mod summary;
 mod table;
-#[cfg(test)]
-mod tests;
 mod tops;
 mod widths;
 

@@ -15,8 +15,6 @@ mod ends;
 mod latest;
 mod map;
 mod roomy;
-#[cfg(test)]
-mod tests;
 
 pub use ends::EndTable;
 pub use map::MapTable;

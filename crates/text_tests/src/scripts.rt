@@ -1,6 +1,7 @@
 use set_model::{Family, Interval, Kind, NewElement, Script, Step, Verb};
 use set_script::{TokenKind, Tokens, read_script};
 use std::alloc::{AllocError, Global};
+use std::process::Abort;
 use std::test::Fail;
 
 const H: &[u8] = b"add set ip filter s { type ipv4_addr . inet_service ; flags interval ; }\n";
@@ -135,24 +136,46 @@ fn one(value: u128) -> Interval {
     }
 }
 
-#[test]
-fn values_of_four_kinds(rt: HostRuntime) -> Result<(), Fail> {
-    let alloc = rt.alloc();
-    let script = read_script(
-        alloc,
-        b"add set inet t m { type ipv6_addr . ether_addr . inet_proto . mark ; }\nadd element inet t m { 2001:db8::1 . 0:1:2:a:b:c . tcp . 0xff }\n",
-    )?;
-    assert_eq!(rt; sizes(&script), (1, 1, 2));
+/// Asserts the line and the intervals of the change at a place of section 0.
+fn assert_change(rt: &impl Abort, script: &Script, place: usize, line: u64, parts: &[Interval]) {
+    assert_eq!(rt; change_at(script, place), Some((line, parts)), "{place}");
+}
+
+/// Asserts that a set has four kinds, and its element a value of each.
+fn assert_four_kinds(rt: &impl Abort, script: &Script) {
+    assert_eq!(rt; sizes(script), (1, 1, 2));
     let kinds = [Kind::Ipv6, Kind::Ether, Kind::Proto, Kind::Mark];
-    assert_eq!(rt; first_set(&script), (kinds.as_slice(), false));
+    assert_eq!(rt; first_set(script), (kinds.as_slice(), false));
     let parts = [
         one(0x2001_0db8_0000_0000_0000_0000_0000_0001),
         one(0x0001_020a_0b0c),
         one(6),
         one(255),
     ];
-    assert_eq!(rt; change_at(&script, 0), Some((2, parts.as_slice())));
+    assert_change(rt, script, 0, 2, &parts);
+}
+
+#[test]
+fn values_of_four_kinds(rt: HostRuntime) -> Result<(), Fail> {
+    let script = read_script(
+        rt.alloc(),
+        b"add set inet t m { type ipv6_addr . ether_addr . inet_proto . mark ; }\nadd element inet t m { 2001:db8::1 . 0:1:2:a:b:c . tcp . 0xff }\n",
+    )?;
+    assert_four_kinds(&rt, &script);
     Ok(())
+}
+
+/// Asserts that the set `allowed` of a family has two elements.
+fn assert_allowed(rt: &impl Abort, script: &Script, family: Family) {
+    assert_eq!(rt; sizes(script), (1, 1, 3));
+    for set in script.schema.as_slice() {
+        assert_eq!(rt; set.family, family);
+        assert_eq!(rt; set.table.as_slice(), b"fw".as_slice());
+        assert_eq!(rt; set.name.as_slice(), b"allowed".as_slice());
+    }
+    let net = 0x2001_0db8_0000_0000_0000_0000_0000_0000;
+    assert_change(rt, script, 0, 4, &[one(net + 1), one(6), one(443)]);
+    assert_change(rt, script, 1, 5, &[one(net + 2), one(17), one(53)]);
 }
 
 #[test]
@@ -168,20 +191,17 @@ fn a_listed_table(rt: HostRuntime) -> Result<(), Fail> {
             first,
             b"\tset allowed {\n\t\ttype ipv6_addr . inet_proto . inet_service\n\t\telements = { 2001:db8::1 . tcp . 443,\n\t\t\t     2001:db8::2 . udp . 53 }\n\t}\n}\n",
         )?;
-        let script = read_script(alloc, text.as_slice())?;
-        assert_eq!(rt; sizes(&script), (1, 1, 3));
-        for set in script.schema.as_slice() {
-            assert_eq!(rt; set.family, family);
-            assert_eq!(rt; set.table.as_slice(), b"fw".as_slice());
-            assert_eq!(rt; set.name.as_slice(), b"allowed".as_slice());
-        }
-        let net = 0x2001_0db8_0000_0000_0000_0000_0000_0000;
-        let web = [one(net + 1), one(6), one(443)];
-        let names = [one(net + 2), one(17), one(53)];
-        assert_eq!(rt; change_at(&script, 0), Some((4, web.as_slice())));
-        assert_eq!(rt; change_at(&script, 1), Some((5, names.as_slice())));
+        assert_allowed(&rt, &read_script(alloc, text.as_slice())?, family);
     }
     Ok(())
+}
+
+/// Asserts that a script adds 10.0.0.5, 10.0.0.6 and 10.0.0.7.
+fn assert_three_values(rt: &impl Abort, script: &Script) {
+    assert_eq!(rt; sizes(script), (1, 1, 4));
+    assert_change(rt, script, 0, 3, &[one(0x0a00_0005)]);
+    assert_change(rt, script, 1, 5, &[one(0x0a00_0006)]);
+    assert_change(rt, script, 2, 5, &[one(0x0a00_0007)]);
 }
 
 #[test]
@@ -196,20 +216,7 @@ fn lists_and_intervals_of_one_value(rt: HostRuntime) -> Result<(), Fail> {
             set,
             b"add element t s {\n10.0.0.5/32\n,\n10.0.0.6-10.0.0.6,10.0.0.7,}\nadd element t s { }",
         )?;
-        let script = read_script(alloc, text.as_slice())?;
-        assert_eq!(rt; sizes(&script), (1, 1, 4));
-        assert_eq!(rt;
-            change_at(&script, 0),
-            Some((3, [one(167772165)].as_slice()))
-        );
-        assert_eq!(rt;
-            change_at(&script, 1),
-            Some((5, [one(167772166)].as_slice()))
-        );
-        assert_eq!(rt;
-            change_at(&script, 2),
-            Some((5, [one(167772167)].as_slice()))
-        );
+        assert_three_values(&rt, &read_script(alloc, text.as_slice())?);
     }
     Ok(())
 }
@@ -250,16 +257,9 @@ fn change_made(script: &Script, place: usize) -> Option<(Option<u64>, &[u8], Ver
     }
 }
 
-#[test]
-fn expiries_of_elements(rt: HostRuntime) -> Result<(), Fail> {
-    let alloc = rt.alloc();
-    let text = joined(
-        alloc,
-        b"add set t s { type inet_service; flags timeout,interval; timeout 10s; size 9 }\nat 1000\n",
-        b"add element t s { 80, 81 timeout 30s, 82 timeout 30s\ncomment \"web\" expires 5s,\n83 timeout never, 84 timeout 0s, 85 expires 0s }\ndelete element t s { 80 timeout 5s comment \"none\" }",
-    )?;
-    let script = read_script(alloc, text.as_slice())?;
-    assert_eq!(rt; sizes(&script), (1, 1, 8));
+/// Asserts the expiries and comments of seven changes, all at moment 1,000.
+fn assert_expiries(rt: &impl Abort, script: &Script) {
+    assert_eq!(rt; sizes(script), (1, 1, 8));
     let none = b"".as_slice();
     for (place, expiry, comment, verb) in [
         (0, Some(11_000), none, Verb::Add),
@@ -271,36 +271,56 @@ fn expiries_of_elements(rt: HostRuntime) -> Result<(), Fail> {
         (6, None, none, Verb::Delete),
     ] {
         assert_eq!(rt;
-            change_made(&script, place),
+            change_made(script, place),
             Some((expiry, comment, verb, 1_000)),
             "{place}"
         );
     }
     assert_eq!(rt; script.last, 1_000);
-    Ok(())
 }
 
 #[test]
-fn ranges_sizes_and_flags(rt: HostRuntime) -> Result<(), Fail> {
+fn expiries_of_elements(rt: HostRuntime) -> Result<(), Fail> {
     let alloc = rt.alloc();
-    let script = read_script(
+    let text = joined(
         alloc,
-        b"table t {\nset s {\ntype ipv4_addr . inet_service\nsize 65535\nflags interval\ntimeout 1m\n}\n}\nadd element t s { 10.0.0.0/8 . 80-443 }\n",
+        b"add set t s { type inet_service; flags timeout,interval; timeout 10s; size 9 }\nat 1000\n",
+        b"add element t s { 80, 81 timeout 30s, 82 timeout 30s\ncomment \"web\" expires 5s,\n83 timeout never, 84 timeout 0s, 85 expires 0s }\ndelete element t s { 80 timeout 5s comment \"none\" }",
     )?;
-    let parts = [
-        Interval {
-            low: 0x0a00_0000,
-            high: 0x0aff_ffff,
-        },
-        Interval { low: 80, high: 443 },
-    ];
-    assert_eq!(rt; change_at(&script, 0), Some((9, parts.as_slice())));
+    assert_expiries(&rt, &read_script(alloc, text.as_slice())?);
+    Ok(())
+}
+
+/// Asserts that a timed set of intervals has a net and a range of ports.
+fn assert_net_and_ports(rt: &impl Abort, script: &Script) {
+    let net = Interval {
+        low: 0x0a00_0000,
+        high: 0x0aff_ffff,
+    };
+    assert_change(rt, script, 0, 9, &[net, Interval { low: 80, high: 443 }]);
     for set in script.schema.as_slice() {
         assert!(rt; set.interval && set.timed && !set.disjoint);
         assert_eq!(rt; set.timeout, Some(60_000));
         assert_eq!(rt; set.size, Some(65_535));
     }
+}
+
+#[test]
+fn ranges_sizes_and_flags(rt: HostRuntime) -> Result<(), Fail> {
+    let script = read_script(
+        rt.alloc(),
+        b"table t {\nset s {\ntype ipv4_addr . inet_service\nsize 65535\nflags interval\ntimeout 1m\n}\n}\nadd element t s { 10.0.0.0/8 . 80-443 }\n",
+    )?;
+    assert_net_and_ports(&rt, &script);
     Ok(())
+}
+
+/// Asserts that the script of a text has one set, and whether it is of intervals, timed and disjoint.
+fn assert_flags(rt: &impl Abort, script: &Script, text: &[u8], flags: (bool, bool, bool)) {
+    assert_eq!(rt; script.schema.len(), 1, "{text:?}");
+    for set in script.schema.as_slice() {
+        assert_eq!(rt; (set.interval, set.timed, set.disjoint), flags, "{text:?}");
+    }
 }
 
 #[test]
@@ -334,14 +354,7 @@ fn flags_in_any_order(rt: HostRuntime) -> Result<(), Fail> {
             let mut text = joined(alloc, front, items)?;
             text.extend_from_slice(back)?;
             let script = read_script(alloc, text.as_slice())?;
-            assert_eq!(rt; script.schema.len(), 1, "{text:?}");
-            for set in script.schema.as_slice() {
-                assert_eq!(rt;
-                    (set.interval, set.timed, set.disjoint),
-                    (interval, timed, disjoint),
-                    "{text:?}"
-                );
-            }
+            assert_flags(&rt, &script, text.as_slice(), (interval, timed, disjoint));
         }
     }
     Ok(())
@@ -457,67 +470,56 @@ fn four_verbs_with_options(rt: HostRuntime) -> Result<(), Fail> {
     Ok(())
 }
 
-#[test]
-fn a_listing_is_read(rt: HostRuntime) -> Result<(), Fail> {
-    let alloc = rt.alloc();
-    let script = read_script(
-        alloc,
-        b"table ip filter {\n\tset s {\n\t\ttype ipv4_addr . inet_service\n\t\tflags interval,timeout\n\t\telements = { 10.0.0.0/8 . 80 timeout 1h expires 59m30s comment \"web\",\n\t\t\t     192.168.1.0-192.168.2.1 . 1024-65535 timeout 1h expires 59m30s996ms }\n\t}\n}\n",
-    )?;
-    assert_eq!(rt; sizes(&script), (1, 1, 3));
+/// Asserts that an element is added at moment 0 with an expiry and a comment, by the change at a place of section 0.
+fn assert_added(rt: &impl Abort, script: &Script, place: usize, expiry: u64, comment: &[u8]) {
     assert_eq!(rt;
-        change_made(&script, 0),
-        Some((Some(3_570_000), b"web".as_slice(), Verb::Add, 0))
+        change_made(script, place),
+        Some((Some(expiry), comment, Verb::Add, 0)),
+        "{place}"
     );
-    assert_eq!(rt;
-        change_made(&script, 1),
-        Some((Some(3_570_996), b"".as_slice(), Verb::Add, 0))
-    );
-    Ok(())
 }
 
 #[test]
-fn all_that_nft_lists_of_a_set(rt: HostRuntime) -> Result<(), Fail> {
-    let alloc = rt.alloc();
+fn a_listing_is_read(rt: HostRuntime) -> Result<(), Fail> {
     let script = read_script(
-        alloc,
-        b"table inet fw { # handle 5\n\tset marks { # handle 6\n\t\ttype mark . ether_addr\n\t\tpolicy memory\n\t\tsize 65535\n\t\tflags interval,timeout\n\t\ttimeout 1d2h\n\t\tgc-interval 10s\n\t\tcomment \"G\xc3\xa4ste \xe5\xae\xa2\"\n\t\telements = { 0x00000100/24 . 00:00:5e:00:53:01 timeout 1h expires 59m comment \"\xc2\xb5 \xf0\x9f\x94\x92\",\n\t\t\t     0x00000200-0x000002ff . 0:0:5E:0:53:2 }\n\t}\n\n\tset empty { # handle 7\n\t\ttype inet_proto\n\t}\n}\n",
+        rt.alloc(),
+        b"table ip filter {\n\tset s {\n\t\ttype ipv4_addr . inet_service\n\t\tflags interval,timeout\n\t\telements = { 10.0.0.0/8 . 80 timeout 1h expires 59m30s comment \"web\",\n\t\t\t     192.168.1.0-192.168.2.1 . 1024-65535 timeout 1h expires 59m30s996ms }\n\t}\n}\n",
     )?;
-    assert_eq!(rt; sizes(&script), (2, 1, 3));
+    assert_eq!(rt; sizes(&script), (1, 1, 3));
+    assert_added(&rt, &script, 0, 3_570_000, b"web");
+    assert_added(&rt, &script, 1, 3_570_996, b"");
+    Ok(())
+}
+
+/// Asserts all that stands of the set `marks` and its two elements.
+fn assert_marks(rt: &impl Abort, script: &Script) {
+    assert_eq!(rt; sizes(script), (2, 1, 3));
     for set in script.schema.as_slice().iter().take(1) {
         assert!(rt; set.family == Family::Inet && set.interval && set.timed && !set.disjoint);
         assert_eq!(rt; set.timeout, Some(93_600_000));
         assert_eq!(rt; set.size, Some(65_535));
     }
-    let first = [
-        Interval {
-            low: 0x100,
-            high: 0x1ff,
-        },
-        one(0x0000_5e00_5301),
-    ];
-    let second = [
-        Interval {
-            low: 0x200,
-            high: 0x2ff,
-        },
-        one(0x0000_5e00_5302),
-    ];
-    assert_eq!(rt; change_at(&script, 0), Some((10, first.as_slice())));
-    assert_eq!(rt; change_at(&script, 1), Some((11, second.as_slice())));
-    assert_eq!(rt;
-        change_made(&script, 0),
-        Some((
-            Some(3_540_000),
-            b"\xc2\xb5 \xf0\x9f\x94\x92".as_slice(),
-            Verb::Add,
-            0
-        ))
-    );
-    assert_eq!(rt;
-        change_made(&script, 1),
-        Some((Some(93_600_000), b"".as_slice(), Verb::Add, 0))
-    );
+    let first = Interval {
+        low: 0x100,
+        high: 0x1ff,
+    };
+    let second = Interval {
+        low: 0x200,
+        high: 0x2ff,
+    };
+    assert_change(rt, script, 0, 10, &[first, one(0x0000_5e00_5301)]);
+    assert_change(rt, script, 1, 11, &[second, one(0x0000_5e00_5302)]);
+    assert_added(rt, script, 0, 3_540_000, b"\xc2\xb5 \xf0\x9f\x94\x92");
+    assert_added(rt, script, 1, 93_600_000, b"");
+}
+
+#[test]
+fn all_that_nft_lists_of_a_set(rt: HostRuntime) -> Result<(), Fail> {
+    let script = read_script(
+        rt.alloc(),
+        b"table inet fw { # handle 5\n\tset marks { # handle 6\n\t\ttype mark . ether_addr\n\t\tpolicy memory\n\t\tsize 65535\n\t\tflags interval,timeout\n\t\ttimeout 1d2h\n\t\tgc-interval 10s\n\t\tcomment \"G\xc3\xa4ste \xe5\xae\xa2\"\n\t\telements = { 0x00000100/24 . 00:00:5e:00:53:01 timeout 1h expires 59m comment \"\xc2\xb5 \xf0\x9f\x94\x92\",\n\t\t\t     0x00000200-0x000002ff . 0:0:5E:0:53:2 }\n\t}\n\n\tset empty { # handle 7\n\t\ttype inet_proto\n\t}\n}\n",
+    )?;
+    assert_marks(&rt, &script);
     Ok(())
 }
 

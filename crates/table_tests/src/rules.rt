@@ -3,9 +3,9 @@ ghost use Rattle.bit_rows.specs.Row.{Row};
 ghost use Rattle.field_groups.specs.Groups.{IsWidth};
 ghost use Rattle.set_model.specs.Blocks.{IsWithin};
 
-use super::*;
 use bit_rows::BitRow;
 use field_groups::last_four;
+use lookup_table::{FieldTable, width_for};
 use set_model::{Block, Memory};
 use std::alloc::Global;
 use std::process::Abort;

@@ -1,6 +1,6 @@
 // Each call beside the same change of a plain vector of bools, at lengths about the edges of words
 // and of steps of room.
-use crate::BitRow;
+use bit_rows::BitRow;
 use std::alloc::{AllocGlobal, Global};
 use std::process::Abort;
 use std::test::Fail;

@@ -1,6 +1,6 @@
 ghost use Rattle.std.specs.Prelude.{◌≡◌, ◌+◌, ◌<◌, ◌≤◌, length, All, IfOk};
 
-use crate::EndTable;
+use mapping_table::EndTable;
 use set_model::Memory;
 use set_tables::End;
 use std::alloc::Global;

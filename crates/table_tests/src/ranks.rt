@@ -1,5 +1,5 @@
 // Each rank beside a count over a plain vector of bools, at lengths about the edges of words and of pages.
-use crate::RankedBits;
+use bit_rows::RankedBits;
 use std::alloc::{AllocGlobal, Global};
 use std::process::Abort;
 use std::test::Fail;
