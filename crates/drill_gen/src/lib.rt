@@ -7,8 +7,6 @@
 
 mod draws;
 mod target;
-#[cfg(test)]
-mod tests;
 mod workload;
 
 pub use workload::generate;

@@ -58,6 +58,3 @@ pub fn count_expired(elements: &Elements, now: u64) -> u64
         .filter(|e| expired(e.expiry, now))
         .count() as u64
 }
-
-#[cfg(test)]
-mod tests;

@@ -17,8 +17,6 @@ use set_model::Block;
 
 mod laws;
 mod places;
-#[cfg(test)]
-mod tests;
 
 pub use laws::{
     agreeing_halves, agreeing_run, fixed_by_mask, held_by_groups, shared_by_groups, shared_is_held,

@@ -20,8 +20,6 @@ pub mod making;
 pub mod notes;
 pub mod publisher;
 pub mod readers;
-#[cfg(test)]
-mod tests;
 
 pub use counter::Steps;
 pub use machine::{SlotCore, Standing};

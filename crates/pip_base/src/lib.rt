@@ -11,8 +11,6 @@
 #![tactic(auto)]
 
 mod dir_shelf;
-#[cfg(test)]
-mod edge;
 mod err_notes;
 mod mem_notes;
 mod mem_shelf;
@@ -22,8 +20,6 @@ mod out_sink;
 mod schedule;
 mod shelf;
 mod sink;
-#[cfg(test)]
-mod tests;
 mod whole;
 
 pub use dir_shelf::DirShelf;

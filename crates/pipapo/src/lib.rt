@@ -135,6 +135,3 @@ pub use set_model::{
 pub use set_report::{write_events, write_list};
 pub use set_script::{ScriptError, read_script};
 pub use set_space::{Generation, KeptSet, Sets, Work as Transaction};
-
-#[cfg(test)]
-mod tests;

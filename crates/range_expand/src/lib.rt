@@ -16,9 +16,6 @@ ghost use Rattle.range_expand.specs.Split.{IsFieldInterval, IsHeldOnce};
 use set_model::Block;
 use std::marker::Model;
 
-#[cfg(test)]
-mod tests;
-
 /// The blocks of an interval that are still to come, the lowest first.
 ///
 /// At each base the largest block is taken whose size is a power of two, that is aligned at the

@@ -30,8 +30,8 @@ use Rattle.token_forms.specs.Gives.{Gives}
 use Rattle.token_forms.proofs.ShorterLaws.{gives_shorter}
 
 -- tests
-test_reads : (schema : List SetDecl) (tests : List Test) → Reads (form.test schema tests) never (reading.test schema tests)
-unfolding reading.test
+test_reads : (schema : List SetDecl) (tests : List Test) → Reads (form.test schema tests) never (reading.one_test schema tests)
+unfolding reading.one_test
 test_reads schema tests = bind_definite (word_by_reads [] _) (λ inside. bind_definite table_place_reads (λ p. bind_definite (used_set_reads schema p) (λ i. done_reads _)))
 
 -- a word that begins a test where one may stand
@@ -53,7 +53,7 @@ starts_begins tests t h = go (nat_lt (length tests) most_tests) h where
   go true h = h
   go false h = let k = both (is_word t.kind) false h in absurd (cc k.1)
 
-are_tests : (schema : List SetDecl) → AreItems starts_test (λ _. never) begins_test (form.test schema) (reading.test schema)
+are_tests : (schema : List SetDecl) → AreItems starts_test (λ _. never) begins_test (form.test schema) (reading.one_test schema)
 are_tests schema = record {
   laws = test_reads schema;
   begins = test_begins schema;
@@ -63,7 +63,7 @@ are_tests schema = record {
 }
 
 all_tests_reads : (schema : List SetDecl) → Reads (many_form (form.test schema) []) (λ _. begins_test) (reading.all_tests schema)
-all_tests_reads schema = many_reads starts_test (λ _. never) begins_test (form.test schema) (reading.test schema) (are_tests schema) []
+all_tests_reads schema = many_reads starts_test (λ _. never) begins_test (form.test schema) (reading.one_test schema) (are_tests schema) []
 
 -- acts
 act_behind_reads : (chains : List Chain) (w : ActWord) → Reads (form.act_behind chains w) never (reading.act_behind chains w)
@@ -115,7 +115,7 @@ rule_reads schema chains rules = bind_apart (all_tests_reads schema) (λ tests. 
 rule_begins : (schema : List SetDecl) (chains : List Chain) (rules : List Rule) → Begins (form.rule schema chains rules) any_word
 rule_begins schema chains rules = widen wide (record { starts = heads; filled = λ a w. full.empty a w }) where
   heads : Heads (form.rule schema chains rules) (either_test (starts_test []) begins_act)
-  heads = bind_heads (all_tests_reads schema) (many_heads starts_test (λ _. never) begins_test (form.test schema) (reading.test schema) (are_tests schema) []) (λ tests. (rule_end_begins chains rules tests).starts)
+  heads = bind_heads (all_tests_reads schema) (many_heads starts_test (λ _. never) begins_test (form.test schema) (reading.one_test schema) (are_tests schema) []) (λ tests. (rule_end_begins chains rules tests).starts)
 
   full : Filled (form.rule schema chains rules)
   full = bind_filled (λ tests. record { empty = λ a w. (rule_end_begins chains rules tests).filled a w })
@@ -212,7 +212,7 @@ body_reads schema = bind_reads (form.statements schema) (λ _. lines_more) (read
 
 -- what takes a token at least
 pub test_shorter : {X : Type 0} (schema : List SetDecl) (tests : List Test) (view : X → List Test) (result : Result X ReadError) (old new : List Lexeme)
-    → Gives view result new (reading.test schema tests old) → OnOk result (length new < length old)
+    → Gives view result new (reading.one_test schema tests old) → OnOk result (length new < length old)
 test_shorter schema tests view result old new g = gives_shorter (test_reads schema tests) (test_begins schema tests) view result old new g
 
 pub rule_line_shorter : {X : Type 0} (schema : List SetDecl) (d : RulesDraft) (s : List Rule × Bool) (view : X → List Rule × Bool) (result : Result X ReadError) (old new : List Lexeme)

@@ -26,15 +26,15 @@ starts_test tests t = is_word t.kind && is_some (test_of (length tests) t.bytes)
 abbrev pub inside : ℕ → Reading Bool
 inside tests = word_by [] (λ t. test_of tests t.bytes)
 
-unfoldable pub test : List SetDecl → List Test → Reading (List Test)
-test schema tests = do
+unfoldable pub one_test : List SetDecl → List Test → Reading (List Test)
+one_test schema tests = do
   inside ← inside (length tests)
   p ← table_place
   i ← used_set schema p
   done (tests ++ record { set = i; inside = inside } ∷ [])
 
 abbrev pub all_tests : List SetDecl → Reading (List Test)
-all_tests schema = many starts_test (test schema) []
+all_tests schema = many starts_test (one_test schema) []
 
 abbrev pub earlier_chain : List Chain → Reading ℕ
 earlier_chain chains = word_by [] (λ t. chain_place chains t.bytes)

@@ -17,8 +17,6 @@ mod file;
 mod lines;
 mod lookups;
 mod rules;
-#[cfg(test)]
-mod tests;
 mod words;
 
 pub use chains::{Act, Chain, ChainList, Chains, Rule, RuleList, Test, Tests};

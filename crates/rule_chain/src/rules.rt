@@ -28,10 +28,10 @@ fn inside(reader: &mut Reader, tests: u64) -> Result<bool, ReadError>
 }
 
 /// One test more.
-#[tactic(auto, using(token_forms::proofs::Refusals::refusals), unfolding(crate::specs::RulesReading::test))]
+#[tactic(auto, using(token_forms::proofs::Refusals::refusals), unfolding(crate::specs::RulesReading::one_test))]
 fn test(reader: &mut Reader, schema: &[SetDecl], tests: &mut Tests) -> Result<(), ReadError>
     requires { length schema.now ≤ most_sets }
-    ensures { Gives (λ _. tests.new) result reader.new (reading.test schema.now tests.old reader.old) }
+    ensures { Gives (λ _. tests.new) result reader.new (reading.one_test schema.now tests.old reader.old) }
 {
     let inside = inside(reader, tests.len())?;
     let (family, table) = table_place(reader)?;
@@ -42,7 +42,7 @@ fn test(reader: &mut Reader, schema: &[SetDecl], tests: &mut Tests) -> Result<()
 
 fn next_test(reader: &mut Reader, schema: &[SetDecl], tests: &mut Tests) -> Result<(), ReadError>
     requires { length schema.now ≤ most_sets }
-    ensures gives { Gives (λ _. tests.new) result reader.new (reading.test schema.now tests.old reader.old) }
+    ensures gives { Gives (λ _. tests.new) result reader.new (reading.one_test schema.now tests.old reader.old) }
     ensures shorter { OnOk result (length reader.new < length reader.old) }
 {
     test(reader, schema, tests)

@@ -10,8 +10,6 @@ ghost use Rattle.text_pieces.specs.Appends.{AppendsPart};
 
 mod bitmap;
 mod buckets;
-#[cfg(test)]
-mod tests;
 
 use crate::kinds::kind_word;
 use buckets::write_buckets;

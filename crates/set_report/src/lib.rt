@@ -24,6 +24,3 @@ pub use lines::{packet_line_law, write_lines};
 pub use list::write_list;
 pub use remarks::write_remarks;
 pub use summary::write_summary;
-
-#[cfg(test)]
-mod tests;

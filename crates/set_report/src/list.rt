@@ -9,9 +9,6 @@ ghost use Rattle.text_pieces.specs.Pieces.{piece_text};
 ghost use Rattle.set_report.specs.Writes.{AreSetsOf};
 ghost use Rattle.text_pieces.specs.Appends.{AppendsPart};
 
-#[cfg(test)]
-mod tests;
-
 use crate::kinds::kind_word;
 use addr_text::write_interval;
 use expiry_scan::TimedElements;

@@ -19,6 +19,3 @@ pub fn write_remarks(schema: &Schema, events: &Events, out: &mut Vec<u8>) -> Res
 {
     write_events(schema, events, b"# ", out)
 }
-
-#[cfg(test)]
-mod tests;

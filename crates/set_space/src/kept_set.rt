@@ -158,6 +158,3 @@ impl KeptSet {
         &self.lazy
     }
 }
-
-#[cfg(test)]
-mod tests;

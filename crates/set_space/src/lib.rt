@@ -28,6 +28,3 @@ pub use generation::Generation;
 pub use kept_set::KeptSet;
 pub use sets::Sets;
 pub use work::Work;
-
-#[cfg(test)]
-mod tests;

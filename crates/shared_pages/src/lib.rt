@@ -10,8 +10,6 @@
 mod page;
 mod pages;
 mod plain;
-#[cfg(test)]
-mod tests;
 
 pub use page::Page;
 pub use pages::{Pages, settle_pages as settle_plain_pages};

@@ -327,33 +327,3 @@ impl<T: Copy + Drop> Page<T> {
         Ok(Page { contents })
     }
 }
-
-#[cfg(test)]
-mod tests {
-    use super::*;
-    use std::test::Fail;
-
-    /// How many pages share the items; none where they are the page's own.
-    fn owners(page: &Page<u128>) -> usize {
-        match &page.contents {
-            Contents::Own(_) => 0,
-            Contents::Common(items) => Arc::strong_count(items),
-        }
-    }
-
-    #[test]
-    fn a_settled_page_is_shared_until_it_is_changed(rt: HostRuntime) -> Result<(), Fail> {
-        let alloc = rt.alloc();
-        let mut page = Page::new(alloc);
-        page.push(alloc, 7)?;
-        assert_eq!(rt; owners(&page.copy(alloc)?), 0);
-        page.settle(alloc)?;
-        let mut other = page.copy(alloc)?;
-        assert_eq!(rt; owners(&page), 2);
-        other.push(alloc, 8)?;
-        assert_eq!(rt; owners(&page), 1);
-        assert_eq!(rt; owners(&other), 0);
-        assert_eq!(rt; page.as_slice().len(), 1);
-        Ok(())
-    }
-}
