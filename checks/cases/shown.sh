@@ -2,9 +2,9 @@
 # for each folder with its command. A part without a file's text is only a pointer.
 . "$(dirname "$0")/../preamble.sh"
 
-# Whether a file's text is in a page, indented by four blanks.
+# Whether the text of a file is in a page, indented by four blanks, with blanks for its tabs.
 is_shown() { # FILE PAGE
-    sed 's/^\(.\)/    \1/' "$1" >"$room/block"
+    expand "$1" | sed 's/^\(.\)/    \1/' >"$room/block"
     awk 'NR == FNR { block = block $0 "\n"; next } { text = text $0 "\n" } END { exit index("\n" text, "\n" block) == 0 }' "$room/block" "$2"
 }
 
