@@ -177,6 +177,10 @@ def completion_faults(commands):
         "zsh": re.search(r"command:\(([a-z ]+)\)", texts["zsh"]),
         "fish": re.search(r"^set -l commands ([a-z ]+) help$", texts["fish"], re.M),
     }
+    described = {"zsh": re.findall(r"^    '([a-z]+):", texts["zsh"], re.M), "fish": re.findall(r" -a ([a-z]+) -d ", texts["fish"])}
+    for shell, found in described.items():
+        if found != [*words, "help"]:
+            yield f"the completion of {shell} describes the commands {' '.join(found)}"
     of_flags = {"bash": flags_by_bash, "zsh": flags_by_zsh, "fish": flags_by_fish}
     for shell, match in offered.items():
         if match is None or match[1].split() != words:
