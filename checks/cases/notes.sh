@@ -1,11 +1,11 @@
-# What the program tells a person on the standard error: of faulty files and refused changes what docs/formats.md promises, else
-# nothing; and that neither status nor output hangs on it, if the standard error is closed or full.
+# What the program prints on the standard error: what docs/formats.md promises of faulty files and refused changes, and nothing
+# else. Status and output are the same if the standard error is closed or full.
 . "$(dirname "$0")/../preamble.sh"
 needs python3
 needs_program
 python3 checks/scripts/notes.py "$program" docs/formats.md || exit 1
 
-# On a terminal it tells how far it is, and takes that away; the output is the same.
+# On a terminal it shows its progress and erases it. The output is the same.
 on_terminal() { # PATTERN WORDS ..
     python3 checks/scripts/terminal.py "$program" "$room" "$@" || exit 1
 }

@@ -23,7 +23,7 @@ expect 5 'pipapo: read fault: a-folder' run a-folder packets.keys
 expect 5 'pipapo: read fault: /proc/self/mem' run /proc/self/mem packets.keys
 expect 2 "$usage"
 expect 2 "$usage" run allow.nft "$(printf '\377')"
-# the standard input by the name -, as either file, also where a file has that name
+# the standard input by the name -, as either file, even if a file has that name
 echo 'no script' >-
 "$program" run allow.nft packets.keys >wanted
 "$program" run - packets.keys <allow.nft | cmp - wanted || bad=1
@@ -34,7 +34,7 @@ done
 expect 5 'pipapo: read fault: -' list - <a-folder
 echo 'add nothing' >bad.nft
 expect 3 'pipapo: script line 1: statement' list - <bad.nft
-# the files are read in the order of their names, each only where those before it are accepted
+# the files are read in the order of their names, each only if those before it are accepted
 echo 'chain main { in ip filter allowed accept } ; policy drop' >good.rules
 echo 'chain main { jump main } ; policy drop' >bad.rules
 echo 'ip filter allowed ip_saddr . dport' >source.plan
@@ -98,7 +98,7 @@ limited=$?
 numbered=$?
 [ $numbered -eq 5 ] && [ "$(cat written)" = 'pipapo: read fault: packets.keys' ] && [ "$(cat told)" = "packets.keys: it can't be read" ] || { echo "no number left for a file: status $numbered"; cat written told; bad=1; }
 (ulimit -n 5; exec "$program" run allow.nft packets.keys) | cmp - wanted || { echo "numbers for two files don't do"; bad=1; }
-# a line feed in a name stands in the line as it is in the name, which is all behind the first words; a person is told one line
+# a line feed in a name: the line has it as it is, and the name is all after the first words; the note is one line
 name=$(printf 'x\ncommit generation 1 purged 0')
 expect 5 "pipapo: read fault: $name" list "$name"
 expect 5 "pipapo: read fault: $name" run allow.nft "$name"
