@@ -1,0 +1,35 @@
+# `make install` into an empty folder: the installed program runs by itself, with its manual page and completions beside it, and
+# `make uninstall` leaves no file but one that was there before.
+. "$(dirname "$0")/../preamble.sh"
+needs make install
+needs_program
+place=$room/stage/opt/pipapo
+installed() {
+    (cd "$room/stage" && find . -type f | LC_ALL=C sort)
+}
+if ! make -s install DESTDIR="$room/stage" PREFIX=/opt/pipapo >"$room/told" 2>&1; then
+    complain "make install fails"
+    cat "$room/told"
+    finish
+fi
+installed >"$room/found"
+cat >"$room/wanted" <<END
+./opt/pipapo/bin/pipapo
+./opt/pipapo/share/bash-completion/completions/pipapo
+./opt/pipapo/share/fish/vendor_completions.d/pipapo.fish
+./opt/pipapo/share/man/man1/pipapo.1
+./opt/pipapo/share/zsh/site-functions/_pipapo
+END
+cmp -s "$room/wanted" "$room/found" || complain "other files are installed: $(tr '\n' ' ' <"$room/found")"
+(cd examples/allow && "$place/bin/pipapo" run allow.nft packets.keys) >"$room/written" || complain "the installed program fails"
+cmp -s examples/allow/transcript "$room/written" || complain "the installed program writes something else"
+cmp -s docs/pipapo.1 "$place/share/man/man1/pipapo.1" || complain "another manual page is installed"
+if has bash; then
+    bash -c '. "$1" && complete -p pipapo' bash "$place/share/bash-completion/completions/pipapo" >"$room/told" 2>&1 || complain "the installed completion isn't read by bash"
+else
+    skip_part "the installed completion, since bash isn't installed"
+fi
+echo kept >"$place/bin/another"
+make -s uninstall DESTDIR="$room/stage" PREFIX=/opt/pipapo >"$room/told" 2>&1 || complain "make uninstall fails"
+[ "$(installed)" = ./opt/pipapo/bin/another ] || complain "make uninstall leaves $(installed | tr '\n' ' ')"
+finish
