@@ -148,7 +148,9 @@ pub fn check_failing<R: Threads + Wait + Abort + Sync>(
     let mut sink = MemSink::new(alloc, 7, failing.room)?;
     sink.fail_at(failing.write)?;
     let mut notes = MemNotes::new(alloc);
-    let status = run_call(rt, alloc, words, &mut shelf, &mut sink, &mut notes, &OpenGate)?;
+    let status = run_call(
+        rt, alloc, words, &mut shelf, &mut sink, &mut notes, &OpenGate,
+    )?;
     compare(rt, wanted, status, sink.bytes(), notes.bytes());
     Ok(())
 }
@@ -162,7 +164,14 @@ pub fn check<R: Threads + Wait + Abort + Sync>(
     output: &[u8],
     status: u8,
 ) -> Result<(), Fail> {
-    check_failing(rt, alloc, words, files, NOTHING, Wanted::output(output, status))
+    check_failing(
+        rt,
+        alloc,
+        words,
+        files,
+        NOTHING,
+        Wanted::output(output, status),
+    )
 }
 
 /// Calls the program for each case.

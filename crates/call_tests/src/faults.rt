@@ -7,7 +7,8 @@ use std::sync::Wait;
 use std::test::Fail;
 use std::thread::Threads;
 
-const SCRIPT: &[u8] = b"table ip filter {\n\tset s {\n\t\ttype ipv4_addr . inet_service\n\t\tflags interval\n\t\telements = { 10.0.0.5 . 1024, 192.168.1.0-192.168.2.1 . 2048 }\n\t}\n}\n";
+const SCRIPT: &[u8] =
+    b"table ip filter {\n\tset s {\n\t\ttype ipv4_addr . inet_service\n\t\tflags interval\n\t\telements = { 10.0.0.5 . 1024, 192.168.1.0-192.168.2.1 . 2048 }\n\t}\n}\n";
 
 const KEYS: &[u8] = b"ip filter s 192.168.1.5 . 2048\n";
 
@@ -94,7 +95,14 @@ fn check_run<R: Threads + Wait + Abort + Sync>(
     status: u8,
 ) -> Result<(), Fail> {
     let files: [File<'_>; 2] = [("a.nft", SCRIPT), ("keys", KEYS)];
-    check_failing(rt, alloc, &RUN, &files, failing, Wanted::output(output, status))
+    check_failing(
+        rt,
+        alloc,
+        &RUN,
+        &files,
+        failing,
+        Wanted::output(output, status),
+    )
 }
 
 // Each file is opened and then read twice, the second time to its end.
@@ -109,7 +117,13 @@ fn each_call_of_the_shelf_may_fail(rt: HostRuntime) -> Result<(), Fail> {
         let failing = Failing { call, ..NOTHING };
         check_run(&rt, rt.alloc(), failing, line, 5)?;
     }
-    check_run(&rt, rt.alloc(), Failing { call: 7, ..NOTHING }, TRANSCRIPT, 0)
+    check_run(
+        &rt,
+        rt.alloc(),
+        Failing { call: 7, ..NOTHING },
+        TRANSCRIPT,
+        0,
+    )
 }
 
 // The transcript has 70 bytes, which are ten writes.
@@ -145,7 +159,14 @@ fn an_output_without_room(rt: HostRuntime) -> Result<(), Fail> {
     ];
     for (words, files, room, output) in calls {
         let failing = Failing { room, ..NOTHING };
-        check_failing(&rt, rt.alloc(), words, files, failing, Wanted::output(output, 6))?;
+        check_failing(
+            &rt,
+            rt.alloc(),
+            words,
+            files,
+            failing,
+            Wanted::output(output, 6),
+        )?;
     }
     Ok(())
 }
@@ -176,13 +197,26 @@ fn check_list<R: Threads + Wait + Abort + Sync>(
     output: &[u8],
     status: u8,
 ) -> Result<(), Fail> {
-    check(rt, alloc, &["list", "a.nft"], &[("a.nft", script)], output, status)
+    check(
+        rt,
+        alloc,
+        &["list", "a.nft"],
+        &[("a.nft", script)],
+        output,
+        status,
+    )
 }
 
 #[test]
 fn the_greatest_size_of_a_file(rt: HostRuntime) -> Result<(), Fail> {
     let mut line_feeds = vec![in rt.alloc(); 10u8; 67_108_865]?;
-    check_list(&rt, rt.alloc(), line_feeds.as_slice(), b"pipapo: too large: a.nft\n", 8)?;
+    check_list(
+        &rt,
+        rt.alloc(),
+        line_feeds.as_slice(),
+        b"pipapo: too large: a.nft\n",
+        8,
+    )?;
     let _ = line_feeds.pop();
     check_list(&rt, rt.alloc(), line_feeds.as_slice(), b"", 0)
 }

@@ -182,7 +182,7 @@ fn listings(rt: HostRuntime) -> Result<(), Fail> {
     check_all(&rt, rt.alloc(), &LISTED)
 }
 
-const OUTPUTS: [Case; 8] = [
+const OUTPUTS: [Case; 9] = [
     // refusals in each command
     Case {
         words: &RUN,
@@ -260,6 +260,13 @@ const OUTPUTS: [Case; 8] = [
         output: "drill elements 2 refused 0 generation 1 packets 2 matched 1 sum 1\n",
         status: 0,
     },
+    Case {
+        words: &["drill", "1", "--threads", "16", "2"],
+        script: "",
+        keys: "",
+        output: "drill elements 2 refused 0 generation 1 packets 2 matched 1 sum 1\n",
+        status: 0,
+    },
     // sets without rules
     Case {
         words: &["dump", "a.nft"],
@@ -295,4 +302,3 @@ const OUTPUTS: [Case; 8] = [
 fn dumps_drills_and_refusals(rt: HostRuntime) -> Result<(), Fail> {
     check_all(&rt, rt.alloc(), &OUTPUTS)
 }
-

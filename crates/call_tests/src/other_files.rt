@@ -2,7 +2,8 @@
 use crate::calls::{File, check};
 use std::test::Fail;
 
-const SETS: &[u8] = b"table ip filter {\n\tset s {\n\t\ttype ipv4_addr . inet_service\n\t\tflags interval\n\t\telements = { 10.0.0.5 . 1024, 192.168.1.0-192.168.2.1 . 2048 }\n\t}\n}\n";
+const SETS: &[u8] =
+    b"table ip filter {\n\tset s {\n\t\ttype ipv4_addr . inet_service\n\t\tflags interval\n\t\telements = { 10.0.0.5 . 1024, 192.168.1.0-192.168.2.1 . 2048 }\n\t}\n}\n";
 
 /// A capture of one UDP packet over raw IP, from 192.168.1.5, port 1234, to 10.0.0.5, port 2048.
 pub const UDP: [u8; 68] = [

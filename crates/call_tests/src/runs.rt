@@ -419,4 +419,3 @@ const LISTINGS: [Case; 4] = [
 fn listings_of_nft_are_scripts(rt: HostRuntime) -> Result<(), Fail> {
     check_all(&rt, rt.alloc(), &LISTINGS)
 }
-

@@ -64,7 +64,9 @@ fn check_meeting<R: Threads + Wait + Abort + Sync>(
     let mut shelf = shelf_of(alloc, files, 0)?;
     let mut sink = MemSink::new(alloc, 100, 10_000)?;
     let mut notes = MemNotes::new(alloc);
-    let status = run_call(rt, alloc, words, &mut shelf, &mut sink, &mut notes, &meeting)?;
+    let status = run_call(
+        rt, alloc, words, &mut shelf, &mut sink, &mut notes, &meeting,
+    )?;
     assert!(rt; status == 0);
     assert!(rt; meeting.come.load(Ordering::SeqCst) == 2);
     assert!(rt; meeting.given_up.load(Ordering::SeqCst) == 0);

@@ -3,8 +3,9 @@ ghost use Rattle.std.specs.Prelude.{◌≡◌, length, All, IfOk};
 ghost use Rattle.set_space.specs.Open.{CanBeBuilt};
 
 use pipapo::{
-    Comment, Control, Family, Held, Interval, Key, Kind, Kinds, Memory, Name, NewElement, OpenGate, Parts, Reader,
-    Schema, Scratch, Script, Set, SetDecl, fits, has_numbers, parts_fit, read_script, run_steps, start,
+    Comment, Control, Family, Held, Interval, Key, Kind, Kinds, Memory, Name, NewElement, OpenGate,
+    Parts, Reader, Schema, Scratch, Script, Set, SetDecl, fits, has_numbers, parts_fit,
+    read_script, run_steps, start,
 };
 use std::alloc::Global;
 use std::process::Abort;

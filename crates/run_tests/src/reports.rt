@@ -58,10 +58,7 @@ const REFUSALS: [(Why, &[u8]); 5] = [
         },
         b"line 2 refused exists inet filter allowed element 18446744073709551614\n",
     ),
-    (
-        Why::Full,
-        b"line 2 refused full inet filter allowed\n",
-    ),
+    (Why::Full, b"line 2 refused full inet filter allowed\n"),
     (
         Why::RulesFull { field: 15 },
         b"line 2 refused rules inet filter allowed field 15\n",
@@ -93,7 +90,13 @@ fn check_ends(rt: &impl Abort, alloc: Global, schema: &Schema) -> Result<(), Fai
         generation: 1,
         purged: 10,
     };
-    check_event(rt, alloc, schema, committed, b"commit generation 1 purged 10\n")?;
+    check_event(
+        rt,
+        alloc,
+        schema,
+        committed,
+        b"commit generation 1 purged 10\n",
+    )?;
     let aborted = Event::Aborted { generation: 1 };
     check_event(rt, alloc, schema, aborted, b"abort generation 1\n")?;
     let dropped = Event::Dropped { generation: 1 };
@@ -120,7 +123,9 @@ fn line(packet: u64, thread: u32, generation: u64, verdict: Verdict) -> Line {
 fn three_lines(alloc: Global, id: u64) -> Result<Lines, Memory> {
     let found = Verdict::Element { id };
     Ok(Lines::from_vec(vec![in alloc;
-        line(0, 15, 2, found), line(1, 0, 0, Verdict::None), line(2, 0, 0, found)
+        line(0, 15, 2, found),
+        line(1, 0, 0, Verdict::None),
+        line(2, 0, 0, found),
     ]?))
 }
 
