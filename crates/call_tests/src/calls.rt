@@ -92,7 +92,7 @@ pub fn shelf_of(alloc: Global, files: &[File<'_>], failing: u64) -> Result<MemSh
     ensures { IfOk result (λ shelf. shelf.asked ≡ []) }
 {
     let mut shelf = MemShelf::new(alloc);
-    for (name, bytes) in files {
+    'files: for (name, bytes) in files {
         if !shelf.has(name) {
             shelf.add(alloc, name, bytes)?;
         }
