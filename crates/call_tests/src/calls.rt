@@ -109,6 +109,11 @@ fn words_of(alloc: Global, words: &[&str]) -> Result<Vec<String>, Fail> {
     Ok(all)
 }
 
+/// So many bytes from the front, or all of them.
+pub fn front(bytes: &[u8], end: usize) -> &[u8] {
+    bytes.get(..end).unwrap_or(bytes)
+}
+
 /// Calls the program, and answers the status.
 pub fn run_call<R: Threads + Wait + Sync, G: Gate>(
     rt: &R,

@@ -1,5 +1,5 @@
 //! Words that are no command, and files and outputs that fail.
-use crate::calls::{Failing, File, NOTHING, RUN, Wanted, check, check_failing};
+use crate::calls::{Failing, File, NOTHING, RUN, Wanted, check, check_failing, front};
 use command_words::{Page, Verb};
 use std::alloc::Global;
 use std::process::Abort;
@@ -134,7 +134,7 @@ fn each_write_of_the_output_may_fail(rt: HostRuntime) -> Result<(), Fail> {
             write: before + 1,
             ..NOTHING
         };
-        let taken = &TRANSCRIPT[..7 * before as usize];
+        let taken = front(TRANSCRIPT, 7 * before as usize);
         check_run(&rt, rt.alloc(), failing, taken, 6)?;
     }
     let failing = Failing {
@@ -183,7 +183,7 @@ fn a_script_may_be_cut_anywhere(rt: HostRuntime) -> Result<(), Fail> {
         } else {
             Wanted::status(3)
         };
-        let files: [File<'_>; 2] = [("a.nft", &SCRIPT[..end]), ("keys", b"")];
+        let files: [File<'_>; 2] = [("a.nft", front(SCRIPT, end)), ("keys", b"")];
         check_failing(&rt, rt.alloc(), &RUN, &files, NOTHING, wanted)?;
     }
     Ok(())

@@ -1,5 +1,5 @@
 //! Worked examples of `capture` and `judge`.
-use crate::calls::{File, check};
+use crate::calls::{File, check, front};
 use std::test::Fail;
 
 const SETS: &[u8] =
@@ -35,7 +35,7 @@ fn captures(rt: HostRuntime) -> Result<(), Fail> {
         ),
     ];
     for (plan, end, output, status) in calls {
-        let files: [File<'_>; 3] = [("a.nft", SETS), ("plan", plan), ("pcap", &UDP[..end])];
+        let files: [File<'_>; 3] = [("a.nft", SETS), ("plan", plan), ("pcap", front(&UDP, end))];
         let words = ["capture", "a.nft", "plan", "pcap"];
         check(&rt, rt.alloc(), &words, &files, output, status)?;
     }
