@@ -65,8 +65,8 @@
 //!
 //! # Example
 //!
-//! A packet thread beside the control. `services` declares one set, of the kinds `Ipv4` and `Service`. The code stands in
-//! this crate's tests, and is proved.
+//! A packet thread beside the control. `services` declares one set, of the kinds `Ipv4` and `Service`. The code is a
+//! test in `run_tests` (`front_door.rt`), and is proved there.
 //!
 //! ```text
 //! /// Inserts the services of 192.0.2.0/24 at ports from `low` to `high`.

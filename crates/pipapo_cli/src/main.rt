@@ -1,46 +1,21 @@
 //! The command `pipapo`: packet filter sets under a script, and packets looked up in them.
 //!
-//! `call` is the program: it tells the words apart, reads a command's files, runs it, writes what it
-//! has to write in one piece, and gives the status. `main` hands it the system's words and files, and
-//! is under no clause (README.md, "What is trusted").
+//! `top_call::call::call` is the program, and its contract says what a run promises (`crates/top_call/specs/Promises.antt`).
+//! No contract covers `main`, which these lines are to be read for:
 //!
-//! **Definitions:** `specs/Promises.antt` says sentence by sentence what a call promises, `Calls.antt`
-//! what a call shows, `Transcript.antt`, `Lines.antt` and `Answers.antt` what is written with which
-//! status, `Exactly.antt` which status comes where, `Names.antt` and `Noted.antt` what is opened and
-//! told. docs/definitions.md lists what they lead to. **Theory:** docs/architecture.md, "The way of a
-//! run". **Proofs:** docs/proofs.md, "Causes and counts (`pip_base`, `input_files`, `pipapo_cli`)".
+//! - it passes on all words that the system gives but the program's name;
+//! - files are the system's, and the name `-` is the standard input;
+//! - output goes to the standard output, and notes for a person go to the standard error;
+//! - progress is shown on the standard error if that is a terminal, and nowhere else;
+//! - the status is the exit code.
 #![tactic(auto)]
 
-#[cfg(test)]
-mod beside;
-mod call;
-mod command;
-mod delivery;
-#[cfg(test)]
-mod desks;
-mod fault;
-#[cfg(test)]
-mod hostile;
-mod meter;
-#[cfg(test)]
-mod metered;
-#[cfg(test)]
-mod other_files;
-mod output;
-mod refusals;
-#[cfg(test)]
-mod tests;
-#[cfg(test)]
-mod told;
-#[cfg(test)]
-mod worked;
-
-use crate::call::{call, words_behind};
-use crate::meter::{InPlace, Meter};
 use pip_base::{DirShelf, ErrNotes, OutSink};
+use run_meter::{InPlace, Meter};
 use std::env;
 use std::io::IsTerminal;
 use std::process::ExitCode;
+use top_call::call::{call, words_behind};
 
 fn main(rt: HostRuntime) -> ExitCode {
     let words = words_behind(rt.alloc(), env::args(&rt));

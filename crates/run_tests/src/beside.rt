@@ -1,9 +1,12 @@
 //! Runs whose order is held by a gate: packet threads beside one another, and beside the control.
-use crate::fixture::{Act, keys, script};
-use crate::runs::expect;
+ghost use Rattle.std.specs.Prelude.{◌≤◌, ◌<◌, IfOk, All};
+ghost use Rattle.set_model.specs.Runnable.{IsFitting};
+
+use key_file::read_keys;
 use packet_pool::{Gate, OpenGate};
 use script_run::transcript;
-use set_model::Verb;
+use set_model::{Keys, Schema};
+use set_script::read_script;
 use std::alloc::Global;
 use std::process::Abort;
 use std::sync::atomic::{AtomicU64, Ordering};
@@ -112,91 +115,112 @@ impl Gate for Hold {
     }
 }
 
-/// Runs acts and packets in an order, and compares the transcript.
-fn expect_held<R: Threads + Sync + Abort>(
+/// The packets of a key file for these sets.
+fn keys_of(rt: &impl Abort, alloc: Global, schema: &Schema, text: &str) -> Result<Keys, Fail>
+    ensures { IfOk result (All (All (IsFitting schema.now))) }
+{
+    assert!(rt; schema.len() <= 64);
+    Ok(read_keys(alloc, schema, text.as_bytes())?)
+}
+
+/// The transcript of a script beside a key file.
+fn run<R: Threads + Sync + Abort, G: Gate>(
     rt: &R,
     alloc: Global,
-    acts: &[&[Act]],
-    ports: &[&[u16]],
+    script: &str,
+    keys: &str,
+    threads: u32,
+    gate: &G,
+) -> Result<Vec<u8>, Fail>
+    requires { (0 < threads) × (threads ≤ 16) }
+{
+    let script = read_script(alloc, script.as_bytes())?;
+    let keys = keys_of(rt, alloc, &script.schema, keys)?;
+    let output = transcript(rt, alloc, script, &keys, false, threads, gate)?;
+    Ok(output.text)
+}
+
+/// Runs a script beside packets in an order, and compares the transcript.
+fn check_held<R: Threads + Sync + Abort>(
+    rt: &R,
+    alloc: Global,
+    script: &str,
+    keys: &str,
     order: Order,
     text: &str,
 ) -> Result<(), Fail> {
-    let script = script(alloc, acts)?;
-    let keys = keys(alloc, &script.schema, ports)?;
     let hold = Hold::new(order);
-    let output = transcript(rt, alloc, script, &keys, false, 1, &hold)?;
-    expect(rt, output, text, false);
-    assert_eq!(rt; hold.given_up.load(Ordering::SeqCst), 0);
+    let written = run(rt, alloc, script, keys, 1, &hold)?;
+    assert!(rt; written.as_slice() == text.as_bytes());
+    assert!(rt; hold.given_up.load(Ordering::SeqCst) == 0);
     Ok(())
+}
+
+const PORTS: &str = "add set ip t p { type inet_service ; flags interval ; }\n";
+
+/// So many packets of port 55.
+fn packets(alloc: Global, count: u64) -> Result<String, Fail> {
+    let mut keys = String::new(alloc);
+    for _ in 0..count {
+        keys.push_str("ip t p 55\n")?;
+    }
+    Ok(keys)
+}
+
+fn count_lines(text: &[u8]) -> u64 {
+    text.iter().filter(|byte| **byte == b'\n').count() as u64
 }
 
 /// Runs packets of an empty set on two threads, where two of them meet, and counts the lines.
-fn expect_meeting<R: Threads + Sync + Abort>(
+fn check_meeting<R: Threads + Sync + Abort>(
     rt: &R,
     alloc: Global,
-    ports: &[u16],
+    keys: &str,
     one: u64,
     other: u64,
 ) -> Result<(), Fail> {
-    let script = script(alloc, &[])?;
-    let keys = keys(alloc, &script.schema, &[ports])?;
     let hold = Hold::new(Order::Meeting(one, other));
-    let output = transcript(rt, alloc, script, &keys, false, 2, &hold)?;
-    assert_eq!(rt;
-        output.text.iter().filter(|byte| **byte == b'\n').count(),
-        ports.len()
-    );
-    assert_eq!(rt; hold.given_up.load(Ordering::SeqCst), 0);
+    let written = run(rt, alloc, PORTS, keys, 2, &hold)?;
+    assert!(rt; count_lines(written.as_slice()) == 48);
+    assert!(rt; hold.given_up.load(Ordering::SeqCst) == 0);
     Ok(())
-}
-
-#[test]
-fn two_threads_at_once(rt: HostRuntime) -> Result<(), Fail> {
-    expect_meeting(&rt, rt.alloc(), &[80; 32], 0, 16)
 }
 
 #[test]
 fn drawn_batches_held(rt: HostRuntime) -> Result<(), Fail> {
-    let ports = [80; 48];
-    expect_meeting(&rt, rt.alloc(), &ports, 0, 16)?;
-    expect_meeting(&rt, rt.alloc(), &ports, 0, 32)?;
-    expect_meeting(&rt, rt.alloc(), &ports, 16, 32)
+    let keys = packets(rt.alloc(), 48)?;
+    for (one, other) in [(0, 16), (0, 32), (16, 32)] {
+        check_meeting(&rt, rt.alloc(), keys.as_str(), one, other)?;
+    }
+    Ok(())
 }
 
-#[test]
-fn commit_beside_packet(rt: HostRuntime) -> Result<(), Fail> {
-    expect_held(
-        &rt,
-        rt.alloc(),
-        &[&[], &[Act::Change(Verb::Add, 80, 80), Act::Commit]],
-        &[&[80, 80]],
+const ROUNDS: &str = "add set ip t p { type inet_service ; flags interval ; }\n\
+                      add element ip t p { 10-20 }\n\
+                      round\n\
+                      add element ip t p { 30-40 }\n\
+                      abort\n\
+                      add element ip t p { 50-60 }\n\
+                      round\n\
+                      delete element ip t p { 10-20 }\n";
+
+const PACKETS: &str = "ip t p 35\nip t p 55\nround\nip t p 55\nip t p 15\n";
+
+/// Scripts and key files, the order of the run, and the one transcript in that order.
+const HELD: [(&str, &str, Order, &str); 4] = [
+    (
+        "add set ip t p { type inet_service ; flags interval ; }\n\
+         round\n\
+         add element ip t p { 80 }\n",
+        "ip t p 80\nip t p 80\n",
         Order::Crossing,
         "commit generation 1 purged 0\n\
          packet 0 thread 0 generation 0 none\n\
          packet 1 thread 0 generation 1 element 0\n",
-    )
-}
-
-const ROUNDS: [&[Act]; 3] = [
-    &[Act::Change(Verb::Add, 10, 20), Act::Commit],
-    &[
-        Act::Change(Verb::Add, 30, 40),
-        Act::Abort,
-        Act::Change(Verb::Add, 50, 60),
-        Act::Commit,
-    ],
-    &[Act::Change(Verb::Delete, 10, 20), Act::Commit],
-];
-
-const PACKETS: [&[u16]; 2] = [&[35, 55], &[55, 15]];
-
-#[test]
-fn packets_behind_the_commits_of_their_round(rt: HostRuntime) -> Result<(), Fail> {
-    expect_held(
-        &rt,
-        rt.alloc(),
-        &ROUNDS,
-        &PACKETS,
+    ),
+    (
+        ROUNDS,
+        PACKETS,
         Order::CommitsFirst,
         "commit generation 1 purged 0\n\
          abort generation 1\n\
@@ -206,16 +230,10 @@ fn packets_behind_the_commits_of_their_round(rt: HostRuntime) -> Result<(), Fail
          commit generation 3 purged 0\n\
          packet 2 thread 0 generation 3 element 1\n\
          packet 3 thread 0 generation 3 none\n",
-    )
-}
-
-#[test]
-fn packets_before_the_commits_of_their_round(rt: HostRuntime) -> Result<(), Fail> {
-    expect_held(
-        &rt,
-        rt.alloc(),
-        &ROUNDS,
-        &PACKETS,
+    ),
+    (
+        ROUNDS,
+        PACKETS,
         Order::PacketsFirst,
         "commit generation 1 purged 0\n\
          abort generation 1\n\
@@ -225,63 +243,32 @@ fn packets_before_the_commits_of_their_round(rt: HostRuntime) -> Result<(), Fail
          commit generation 3 purged 0\n\
          packet 2 thread 0 generation 2 element 1\n\
          packet 3 thread 0 generation 2 element 0\n",
-    )
-}
-
-#[test]
-fn script_sections_go_on_behind_the_packets(rt: HostRuntime) -> Result<(), Fail> {
-    let more: &[Act] = &[Act::Commit];
-    expect_held(
-        &rt,
-        rt.alloc(),
-        &[more, more, more],
-        &[&[80]],
+    ),
+    // the script's sections go on behind those of the packets
+    (
+        "add set ip t p { type inet_service ; flags interval ; }\ncommit\nround\ncommit\nround\ncommit\n",
+        "ip t p 80\n",
         Order::CommitsFirst,
         "commit generation 1 purged 0\n\
          commit generation 2 purged 0\n\
          packet 0 thread 0 generation 2 none\n\
          commit generation 3 purged 0\n",
-    )
-}
+    ),
+];
 
 #[test]
-fn abort_beside_packets(rt: HostRuntime) -> Result<(), Fail> {
-    let alloc = rt.alloc();
-    let script = script(alloc, &ROUNDS[..2])?;
-    let keys = keys(alloc, &script.schema, &PACKETS[..1])?;
-    let output = transcript(&rt, alloc, script, &keys, false, 2, &OpenGate)?;
-    let mut is_legal = false;
-    for (thread, first, second, verdict) in [
-        (0, 1, 1, "none"),
-        (0, 1, 2, "element 1"),
-        (0, 2, 2, "element 1"),
-        (1, 1, 1, "none"),
-        (1, 1, 2, "element 1"),
-        (1, 2, 2, "element 1"),
-    ] {
-        let text = format!(in alloc;
-            "commit generation 1 purged 0\n\
-             abort generation 1\n\
-             commit generation 2 purged 0\n\
-             packet 0 thread {thread} generation {first} none\n\
-             packet 1 thread {thread} generation {second} {verdict}\n"
-        )?;
-        is_legal = is_legal || output.text.as_slice() == text.as_bytes();
+fn packets_and_commits_that_are_held(rt: HostRuntime) -> Result<(), Fail> {
+    for (script, keys, order, text) in HELD {
+        check_held(&rt, rt.alloc(), script, keys, order, text)?;
     }
-    assert!(rt; is_legal);
     Ok(())
 }
 
+// Four lines of the control, and a line for each packet.
 #[test]
 fn sixteen_threads(rt: HostRuntime) -> Result<(), Fail> {
-    let alloc = rt.alloc();
-    let script = script(alloc, &ROUNDS)?;
-    let ports = [55; 500];
-    let keys = keys(alloc, &script.schema, &[&ports, &ports])?;
-    let output = transcript(&rt, alloc, script, &keys, false, 16, &OpenGate)?;
-    assert_eq!(rt;
-        output.text.iter().filter(|byte| **byte == b'\n').count(),
-        1004
-    );
+    let keys = packets(rt.alloc(), 1_000)?;
+    let written = run(&rt, rt.alloc(), ROUNDS, keys.as_str(), 16, &OpenGate)?;
+    assert!(rt; count_lines(written.as_slice()) == 1_004);
     Ok(())
 }

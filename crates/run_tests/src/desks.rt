@@ -1,9 +1,8 @@
+//! Control threads that a bell holds for each other, and what a gate sees of a desk.
 use control_desk::{Bell, QuietBell};
 use desk_run::desk;
 use packet_pool::{Gate, OpenGate};
-use script_run::Output;
-use set_model::Memory;
-use set_script::{ScriptError, read_script};
+use set_script::read_script;
 use std::alloc::Global;
 use std::process::Abort;
 use std::sync::Wait;
@@ -75,174 +74,71 @@ impl Gate for Told {
     fn closed(&self, _generation: u64) {}
 }
 
-/// Runs the script of a text at a desk.
+/// Runs the script of a text at a desk, and answers its output.
 fn run<R: Threads + Wait + Sync + Abort, B: Bell, G: Gate>(
     rt: &R,
     alloc: Global,
     text: &str,
     bell: &B,
     gate: &G,
-) -> Result<Output, Memory> {
-    match read_script(alloc, text.as_bytes()) {
-        Ok(script) => {
-            assert!(rt; script.sections.len() <= 17);
-            desk(rt, alloc, script, false, bell, gate)
-        }
-        Err(ScriptError::Memory) => Err(Memory),
-        Err(ScriptError::Bad { line, .. }) => {
-            assert!(rt; false, "line {line} isn't read");
-            Err(Memory)
-        }
-    }
+) -> Result<Vec<u8>, Fail> {
+    let script = read_script(alloc, text.as_bytes())?;
+    assert!(rt; script.sections.len() <= 17);
+    let output = desk(rt, alloc, script, false, bell, gate)?;
+    Ok(output.text)
 }
 
-fn expect(rt: &impl Abort, output: Output, text: &str, refused: bool) {
-    assert_eq!(rt; output.text.as_slice(), text.as_bytes());
-    assert_eq!(rt; output.refused, refused);
-}
+const TWO: &str = "add set ip t p { type inet_service ; flags interval ; }\n\
+                   round\n\
+                   add element ip t p { 80 }\n\
+                   round\n\
+                   add element ip t p { 443 }\n";
+
+const ONE_FIRST: &[u8] = b"# clerk 1 commit generation 1 purged 0\n\
+                           # clerk 2 commit generation 2 purged 0\n\
+                           table ip t {\n\
+                           \tset p {\n\
+                           \t\ttype inet_service\n\
+                           \t\tflags interval\n\
+                           \t\telements = { 80,\n\
+                           \t\t\t     443 }\n\
+                           \t}\n\
+                           }\n";
+
+const TWO_FIRST: &[u8] = b"# clerk 2 commit generation 1 purged 0\n\
+                           # clerk 1 commit generation 2 purged 0\n\
+                           table ip t {\n\
+                           \tset p {\n\
+                           \t\ttype inet_service\n\
+                           \t\tflags interval\n\
+                           \t\telements = { 443,\n\
+                           \t\t\t     80 }\n\
+                           \t}\n\
+                           }\n";
 
 #[test]
 fn two_control_threads_at_once(rt: HostRuntime) -> Result<(), Fail> {
     let meeting = Meeting::new();
-    let output = run(
-        &rt,
-        rt.alloc(),
-        "add set ip t p { type inet_service ; flags interval ; }\n\
-         round\n\
-         add element ip t p { 80 }\n\
-         round\n\
-         add element ip t p { 443 }\n",
-        &meeting,
-        &OpenGate,
-    )?;
-    let one_first = "# clerk 1 commit generation 1 purged 0\n\
-                     # clerk 2 commit generation 2 purged 0\n\
-                     table ip t {\n\
-                     \tset p {\n\
-                     \t\ttype inet_service\n\
-                     \t\tflags interval\n\
-                     \t\telements = { 80,\n\
-                     \t\t\t     443 }\n\
-                     \t}\n\
-                     }\n";
-    let two_first = "# clerk 2 commit generation 1 purged 0\n\
-                     # clerk 1 commit generation 2 purged 0\n\
-                     table ip t {\n\
-                     \tset p {\n\
-                     \t\ttype inet_service\n\
-                     \t\tflags interval\n\
-                     \t\telements = { 443,\n\
-                     \t\t\t     80 }\n\
-                     \t}\n\
-                     }\n";
-    let text = output.text.as_slice();
-    assert!(rt; text == one_first.as_bytes() || text == two_first.as_bytes());
-    assert_eq!(rt; output.refused, false);
-    assert_eq!(rt; meeting.given_up.load(Ordering::SeqCst), 0);
+    let text = run(&rt, rt.alloc(), TWO, &meeting, &OpenGate)?;
+    assert!(rt; text.as_slice() == ONE_FIRST || text.as_slice() == TWO_FIRST);
+    assert!(rt; meeting.given_up.load(Ordering::SeqCst) == 0);
     Ok(())
 }
 
-#[test]
-fn the_first_section_alone(rt: HostRuntime) -> Result<(), Fail> {
-    let output = run(
-        &rt,
-        rt.alloc(),
-        "add set ip t p { type inet_service ; flags interval ; }\n\
-         add element ip t p { 80 }\n",
-        &QuietBell,
-        &OpenGate,
-    )?;
-    expect(
-        &rt,
-        output,
-        "# commit generation 1 purged 0\n\
-         table ip t {\n\
-         \tset p {\n\
-         \t\ttype inet_service\n\
-         \t\tflags interval\n\
-         \t\telements = { 80 }\n\
-         \t}\n\
-         }\n",
-        false,
-    );
-    Ok(())
-}
-
-#[test]
-fn a_control_thread_that_is_refused(rt: HostRuntime) -> Result<(), Fail> {
-    let output = run(
-        &rt,
-        rt.alloc(),
-        "add set ip t p { type inet_service ; flags interval ; }\n\
-         add element ip t p { 80 }\n\
-         round\n\
-         delete element ip t p { 443 }\n\
-         commit\n\
-         delete element ip t p { 80 }\n",
-        &QuietBell,
-        &OpenGate,
-    )?;
-    expect(
-        &rt,
-        output,
-        "# commit generation 1 purged 0\n\
-         # clerk 1 line 4 refused missing ip t p\n\
-         # clerk 1 fail generation 1\n\
-         # clerk 1 commit generation 2 purged 0\n\
-         table ip t {\n\
-         \tset p {\n\
-         \t\ttype inet_service\n\
-         \t\tflags interval\n\
-         \t}\n\
-         }\n",
-        true,
-    );
-    Ok(())
-}
-
-#[test]
-fn sixteen_control_threads_with_nothing_to_do(rt: HostRuntime) -> Result<(), Fail> {
-    let output = run(
-        &rt,
-        rt.alloc(),
-        "add set ip t p { type inet_service ; flags interval ; }\n\
-         round\nround\nround\nround\nround\nround\nround\nround\n\
-         round\nround\nround\nround\nround\nround\nround\nround\n",
-        &QuietBell,
-        &OpenGate,
-    )?;
-    expect(
-        &rt,
-        output,
-        "table ip t {\n\
-         \tset p {\n\
-         \t\ttype inet_service\n\
-         \t\tflags interval\n\
-         \t}\n\
-         }\n",
-        false,
-    );
-    Ok(())
-}
+const ONE_CLERK: &str = "add set ip t p { type inet_service ; flags interval ; }\n\
+                         add element ip t p { 80 }\n\
+                         round\n\
+                         round\n\
+                         delete element ip t p { 80 }\n\
+                         commit\n\
+                         add element ip t p { 443 }\n";
 
 #[test]
 fn a_gate_is_told_of_the_first_section_and_of_each_submission(rt: HostRuntime) -> Result<(), Fail> {
     let told = Told {
         digits: AtomicU64::new(1),
     };
-    let _output = run(
-        &rt,
-        rt.alloc(),
-        "add set ip t p { type inet_service ; flags interval ; }\n\
-         add element ip t p { 80 }\n\
-         round\n\
-         round\n\
-         delete element ip t p { 80 }\n\
-         commit\n\
-         add element ip t p { 443 }\n",
-        &QuietBell,
-        &told,
-    )?;
-    assert_eq!(rt; told.digits.load(Ordering::SeqCst), 1_02_22_22);
+    let _ = run(&rt, rt.alloc(), ONE_CLERK, &QuietBell, &told)?;
+    assert!(rt; told.digits.load(Ordering::SeqCst) == 1_02_22_22);
     Ok(())
 }

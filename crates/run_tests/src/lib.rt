@@ -1,6 +1,7 @@
-//! Tests of whole runs: of one control beside packet threads, of a drill, and of several control threads at one desk.
+//! Tests below the top call: packet threads and control threads that are held for one another, what a gate and a terminal show of a
+//! run, lines of reports, listings that are read again, generated workloads, and the library's front door.
 //!
-//! **Definitions:** none; it has tests alone. **Theory:** docs/architecture.md, "The way of a run".
+//! **Definitions:** none; this crate has only tests. **Theory:** docs/architecture.md, "The way of a run"; docs/formats.md.
 #![tactic(auto)]
 
 #[cfg(test)]
@@ -8,10 +9,18 @@ mod beside;
 #[cfg(test)]
 mod desks;
 #[cfg(test)]
-mod drills;
+mod front_door;
 #[cfg(test)]
-mod fixture;
+mod meters;
 #[cfg(test)]
-mod runs;
+mod random;
+#[cfg(test)]
+mod reports;
+#[cfg(test)]
+mod round_trips;
+#[cfg(test)]
+mod scripts;
 #[cfg(test)]
 mod sections;
+#[cfg(test)]
+mod workloads;

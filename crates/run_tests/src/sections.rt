@@ -1,14 +1,14 @@
-//! Sections, as a gate is told of them.
-use crate::fixture::{Act, script};
+//! Sections, as a gate sees them.
 use packet_pool::Gate;
 use script_run::{drill, dump, listing};
-use set_model::Verb;
+use set_script::read_script;
+use std::alloc::Global;
 use std::process::Abort;
 use std::sync::atomic::{AtomicU64, Ordering};
 use std::test::Fail;
 
-/// A gate that keeps what it was told of sections: behind a 1 three digits a section, its number, that of the last one, and how
-/// many packets it has; and it counts steps.
+/// A gate that keeps each section as three digits behind a 1: its number, that of the last one, and its count of packets. It counts
+/// steps, too.
 #[derive(Drop)]
 struct Told {
     digits: AtomicU64,
@@ -31,8 +31,9 @@ impl Told {
         );
     }
 
-    fn digits(&self) -> u64 {
-        self.digits.load(Ordering::SeqCst)
+    fn compare(&self, rt: &impl Abort, digits: u64, steps: u64) {
+        assert!(rt; self.digits.load(Ordering::SeqCst) == digits);
+        assert!(rt; self.steps.load(Ordering::SeqCst) == steps);
     }
 }
 
@@ -56,30 +57,36 @@ impl Gate for Told {
     fn closed(&self, _generation: u64) {}
 }
 
-const ACTS: [&[Act]; 3] = [
-    &[Act::Change(Verb::Add, 80, 80), Act::Commit],
-    &[],
-    &[Act::Abort],
-];
+const SCRIPT: &[u8] =
+    b"add set ip t p { type inet_service ; }\nadd element ip t p { 80 }\nround\nround\nabort\n";
 
-#[test]
-fn a_listing_and_a_dump_tell_each_section(rt: HostRuntime) -> Result<(), Fail> {
-    let alloc = rt.alloc();
-    let told = Told::new();
-    let _output = listing(alloc, script(alloc, &ACTS)?, false, &told)?;
-    assert_eq!(rt; told.digits(), 1_020_120_220);
-    assert_eq!(rt; told.steps.load(Ordering::SeqCst), 3);
-    let told = Told::new();
-    let _output = dump(alloc, script(alloc, &ACTS)?, false, &told)?;
-    assert_eq!(rt; told.digits(), 1_020_120_220);
-    assert_eq!(rt; told.steps.load(Ordering::SeqCst), 3);
+fn list(alloc: Global, told: &Told) -> Result<(), Fail> {
+    let _ = listing(alloc, read_script(alloc, SCRIPT)?, false, told)?;
     Ok(())
 }
 
+fn show(alloc: Global, told: &Told) -> Result<(), Fail> {
+    let _ = dump(alloc, read_script(alloc, SCRIPT)?, false, told)?;
+    Ok(())
+}
+
+// Two steps in the first section, an addition and its commit, and the abort in the third.
+#[test]
+fn a_listing_and_a_dump_tell_each_section(rt: HostRuntime) -> Result<(), Fail> {
+    let told = Told::new();
+    list(rt.alloc(), &told)?;
+    told.compare(&rt, 1_020_120_220, 3);
+    let told = Told::new();
+    show(rt.alloc(), &told)?;
+    told.compare(&rt, 1_020_120_220, 3);
+    Ok(())
+}
+
+// Six additions and a commit.
 #[test]
 fn a_drill_tells_its_steps_and_its_packets(rt: HostRuntime) -> Result<(), Fail> {
     let told = Told::new();
-    let _output = drill(&rt, rt.alloc(), 1, 6, 1, &told)?;
-    assert_eq!(rt; told.digits(), 1_010_116);
+    let _ = drill(&rt, rt.alloc(), 1, 6, 1, &told)?;
+    told.compare(&rt, 1_010_116, 7);
     Ok(())
 }

@@ -1,0 +1,24 @@
+//! Tests of the top call over files in memory: each command's worked examples, faults of words, files and outputs, notes, and packet
+//! threads held for one another.
+//!
+//! **Definitions:** none; this crate has only tests. **Theory:** docs/formats.md, and docs/architecture.md, "The way of a run".
+#![tactic(auto)]
+
+#[cfg(test)]
+mod calls;
+#[cfg(test)]
+mod desks;
+#[cfg(test)]
+mod faults;
+#[cfg(test)]
+mod listings;
+#[cfg(test)]
+mod notes;
+#[cfg(test)]
+mod other_files;
+#[cfg(test)]
+mod reasons;
+#[cfg(test)]
+mod runs;
+#[cfg(test)]
+mod threads;

@@ -1,0 +1,103 @@
+//! What a person reads beside the output.
+use crate::calls::{File, NOTHING, RUN, RUN_ON, Wanted, check_failing};
+use std::test::Fail;
+
+const PORTS: &[u8] = b"add set ip t p { type inet_service ; }\n";
+
+const OVERLAP: &[u8] =
+    b"table ip t {\n\tset s {\n\t\ttype ipv4_addr\n\t\tflags interval\n\t\telements = { 10.0.1.0/24,\n\t\t\t10.0.1.128/25 }\n\t}\n}\n";
+
+const EIGHTEEN_SECTIONS: &[u8] =
+    b"add set ip t p { type inet_service ; }\nround\nround\nround\nround\nround\nround\nround\nround\nround\nround\nround\nround\nround\nround\nround\nround\nround\n";
+
+/// A call and what a person reads of it.
+struct Noted {
+    words: &'static [&'static str],
+    files: &'static [File<'static>],
+    notes: &'static [u8],
+    output: &'static [u8],
+    status: u8,
+}
+
+const CALLS: [Noted; 9] = [
+    // the place of a bad token
+    Noted {
+        words: &["list", "a.nft"],
+        files: &[(
+            "a.nft",
+            b"table ip t {\n\tset s {\n\t\ttype ipv4_addr\n\t\tflags interval\n\t\tauto-merge\n\t}\n}\n",
+        )],
+        notes: b"a.nft:5:3: 'auto-merge' isn't read here (left out)\n\t\tauto-merge\n\t\t^^^^^^^^^^\nhelp: leave it out: intervals aren't merged, and one that overlaps is refused\n",
+        output: b"pipapo: script line 5: left out\n",
+        status: 3,
+    },
+    Noted {
+        words: &["run", "keys", "a.nft"],
+        files: &[("a.nft", PORTS), ("keys", b"ip t p 80\n")],
+        notes: b"keys:1:1: this looks like a key file: the script is named first, and then the key file\n",
+        output: b"pipapo: script line 1: statement\n",
+        status: 3,
+    },
+    Noted {
+        words: &RUN,
+        files: &[("a.nft", PORTS), ("keys", b"ip t p 80\nip t p x\n")],
+        notes: b"keys:2:8: 'x' is no value or interval of this field (value)\nip t p x\n       ^\nhelp: one value of the field's type, and no interval\n",
+        output: b"pipapo: keys line 2: value\n",
+        status: 4,
+    },
+    // a missing file, and one of another program
+    Noted {
+        words: &["dump", "a.nft"],
+        files: &[],
+        notes: b"a.nft: there is no file of this name\n",
+        output: b"pipapo: read fault: a.nft\n",
+        status: 5,
+    },
+    Noted {
+        words: &["dump", "a.nft"],
+        files: &[("a.nft", b"\x1f\x8b\x08\x00")],
+        notes: b"a.nft:1:1: this is a file that gzip has packed: unpack it first\n",
+        output: b"pipapo: script line 1: character\n",
+        status: 3,
+    },
+    // a refused change and the element in its way, in both modes
+    Noted {
+        words: &["list", "a.nft"],
+        files: &[("a.nft", OVERLAP)],
+        notes: b"a.nft:6:4: 10.0.1.128/25 overlaps 10.0.1.0/24 (line 5)\na.nft: the last transaction failed: what is written is the generation before it\n",
+        output: b"# line 6 refused overlap ip t s element 0\n# fail generation 0\ntable ip t {\n\tset s {\n\t\ttype ipv4_addr\n\t\tflags interval\n\t}\n}\n",
+        status: 1,
+    },
+    Noted {
+        words: &RUN_ON,
+        files: &[("a.nft", OVERLAP), ("keys", b"")],
+        notes: b"a.nft:6:4: 10.0.1.128/25 overlaps 10.0.1.0/24 (line 5)\n",
+        output: b"line 6 refused overlap ip t s element 0\ncommit generation 1 purged 0\n",
+        status: 1,
+    },
+    // nothing, if all is well
+    Noted {
+        words: &RUN,
+        files: &[("a.nft", PORTS), ("keys", b"ip t p 80\n")],
+        notes: b"",
+        output: b"packet 0 thread 0 generation 0 none\n",
+        status: 0,
+    },
+    // a desk with too many sections
+    Noted {
+        words: &["desk", "a.nft"],
+        files: &[("a.nft", EIGHTEEN_SECTIONS)],
+        notes: b"a.nft: the script has 18 sections, and desk runs 17 at most: the first, and one for each of 16 control threads; join some, by leaving lines 'round' out\n",
+        output: b"pipapo: too many clerks: a.nft\n",
+        status: 12,
+    },
+];
+
+#[test]
+fn notes_on_files_and_refused_changes(rt: HostRuntime) -> Result<(), Fail> {
+    for call in &CALLS {
+        let wanted = Wanted::noted(call.notes, call.output, call.status);
+        check_failing(&rt, rt.alloc(), call.words, call.files, NOTHING, wanted)?;
+    }
+    Ok(())
+}

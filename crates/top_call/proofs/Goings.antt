@@ -1,0 +1,101 @@
+-- A call goes by what its command comes to: an output, a fault or a page.
+use Rattle.std.specs.Borrow.{Bor}
+use Rattle.std.proofs.Common.{◌≡◌, subst, ℕ, Bool, true, List, [], Option, inr, inl}
+use Rattle.command_words.specs.declared.page.Page.{Page}
+use Rattle.command_words.specs.WordForms.{page_text}
+use Rattle.command_words.specs.Words.{Command, IsCommand, IsNoCommand, AsksFor, desk}
+use Rattle.command_words.proofs.PageWords.{page-no-command}
+use Rattle.fault_notes.specs.Shown.{Begins, name_text}
+use Rattle.fault_notes.specs.Told.{MayTell, nothing as no_note}
+use Rattle.input_files.specs.declared.fault.FileFault.{FileFault}
+use Rattle.input_files.specs.Noted.{StopsTelling}
+use Rattle.input_files.specs.Reads.{Shelved, HasRead}
+use Rattle.input_files.specs.declared.work.Work.{Work}
+use Rattle.input_files.specs.declared.work.Work.TheVariants as works
+use Rattle.input_files.specs.Inputs.{ReadsAs}
+use Rattle.input_files.specs.Works.{IsWork}
+use Rattle.set_script.specs.ScriptText.{IsScriptText}
+use Rattle.top_call.specs.declared.fault.Fault.{Fault}
+use Rattle.top_call.specs.declared.fault.Fault.TheVariants as faults
+use Rattle.top_call.specs.Transcript.{IsOutput, IsOverfull}
+use Rattle.top_call.specs.Calls.{Call}
+use Rattle.top_call.specs.Causes.{IsCause, HasManySections, no_command, of_file, too_many, no_memory}
+use Rattle.top_call.specs.Lines.{done_status, status_of, fault_line}
+use Rattle.top_call.specs.Names.{AsksInOrder}
+use Rattle.top_call.specs.Answers.{Ends, IsDue, IsExactly, HasOutput}
+use Rattle.top_call.specs.Noted.{IsNoted}
+use Rattle.top_call.specs.Promises.{Goes}
+use Rattle.top_call.proofs.Asking.{asks-nothing, asks-files, asks-until, asks-all}
+use Rattle.top_call.proofs.Deliveries.{ends-map}
+use Rattle.top_call.proofs.Endings.{due-of-output, due-refusal, due-of-page, fault-not-done}
+use Rattle.top_call.proofs.Noting.{ended-of, file-noted, sections-noted, changes-noted}
+
+-- A desk's script that was read has too many sections.
+pub many-sections : (words : List (List ℕ)) (shelf : Shelved) (c : Command) (work : Work) (name : Bor (List ℕ)) → IsCommand words c → HasRead shelf c → IsWork shelf.told c work → IsOverfull c work name → HasManySections words shelf name.now
+many-sections words shelf c work name is_c has_read is_work over =
+    let of_desk : IsWork shelf.told c (works.Desk over.script over.keep_going) = subst (λ (w : Work). IsWork shelf.told c w) over.is_work is_work in
+    let same : of_desk.0 ≡ name.now = cc (of_desk.1, over.is_name) in record {
+      keep_going = over.keep_going;
+      script = over.script;
+      is_desk = subst (λ (d : Command). IsCommand words d) over.is_name is_c;
+      has_read = subst (λ (d : Command). HasRead shelf d) over.is_name has_read;
+      reads = subst (λ (n : List ℕ). ReadsAs shelf.told n (λ text. IsScriptText text over.script)) same of_desk.2;
+      many = over.many;
+    }
+
+module _ (c : Call) where
+  abbrev EndsWith : ℕ → List ℕ → Type 0
+  EndsWith status text = Ends (IsExactly status text) c.taken_before c.taken_now c.faults_before c.faults_now c.status
+
+  abbrev Silent : Type 0
+  Silent = c.noted_now ≡ c.noted_before
+
+  pub goes-output : (d : Command) → IsCommand c.words d → HasRead c.shelf d → (refused : Bool) (text : List ℕ) → IsOutput d c.shelf.told refused text → EndsWith (done_status refused) text
+      → (mid : Option (List ℕ)) → mid ≡ c.noted_before → MayTell (λ (_ : List ℕ). refused ≡ true) mid c.noted_now → Goes c
+  goes-output d is_d r refused text is_output ends mid silent tells =
+      let has : HasOutput c.words c.shelf refused text = record { command = d; is_command = is_d; has_read = r; is_output = is_output } in
+      record {
+        ends = ends-map (IsExactly (done_status refused) text) (IsDue c.words c.shelf) c.taken_before c.taken_now c.faults_before c.faults_now c.status (due-of-output c.words c.shelf refused text has) ends;
+        names = asks-files c.words c.shelf d is_d r;
+        all_read = λ e. asks-all c.words c.shelf d is_d r;
+        noted = changes-noted c refused text has (ended-of (done_status refused) text c.taken_before c.taken_now c.faults_before c.faults_now c.status ends) mid silent tells;
+      }
+
+  goes-fault : (fault : Fault) → IsCause c.words c.shelf fault → AsksInOrder c.words c.shelf → EndsWith (status_of fault) (fault_line fault) → IsNoted c → Goes c
+  goes-fault fault cause names ends noted = record {
+    ends = ends-map (IsExactly (status_of fault) (fault_line fault)) (IsDue c.words c.shelf) c.taken_before c.taken_now c.faults_before c.faults_now c.status (due-refusal c.words c.shelf fault cause) ends;
+    names = names;
+    all_read = λ e. absurd (fault-not-done fault (fault_line fault) c.taken_before c.taken_now c.faults_before c.faults_now c.status ends e);
+    noted = noted;
+  }
+
+  -- the words are no command
+  pub goes-usage : IsNoCommand c.words → c.shelf.asked ≡ [] → c.shelf.faults_now ≡ c.shelf.faults_before → Silent → EndsWith (status_of faults.Usage) (fault_line faults.Usage) → Goes c
+  goes-usage none nothing quiet silent ends = goes-fault faults.Usage (no_command none nothing quiet) (asks-nothing c.words c.shelf nothing) ends (no_note silent)
+
+  -- a file can't be had
+  pub goes-file : (d : Command) (fault : FileFault) → IsCommand c.words d → StopsTelling c.shelf d c.noted_before c.noted_now fault → EndsWith (status_of (faults.File fault)) (fault_line (faults.File fault)) → Goes c
+  goes-file d fault is_d s ends =
+      goes-fault (faults.File fault) (of_file d fault is_d s.stops) (asks-until c.words c.shelf d fault is_d s.stops) ends
+      (file-noted c d fault is_d s (ended-of (status_of (faults.File fault)) (fault_line (faults.File fault)) c.taken_before c.taken_now c.faults_before c.faults_now c.status ends))
+
+  -- a desk's script has too many sections
+  pub goes-too-many : (name : Bor (List ℕ)) → HasManySections c.words c.shelf name.now → (mid : Option (List ℕ)) → mid ≡ c.noted_before → MayTell (Begins (name_text name.now)) mid c.noted_now → EndsWith (status_of (faults.TooManyClerks name)) (fault_line (faults.TooManyClerks name)) → Goes c
+  goes-too-many name h mid silent tells ends =
+      goes-fault (faults.TooManyClerks name) (too_many name h) (asks-files c.words c.shelf (desk name.now h.keep_going) h.is_desk h.has_read) ends
+      (sections-noted c name.now h (ended-of (status_of (faults.TooManyClerks name)) (fault_line (faults.TooManyClerks name)) c.taken_before c.taken_now c.faults_before c.faults_now c.status ends) mid silent tells)
+
+  -- memory was wanting for the words, or for the output
+  pub goes-early : (d : Command) → IsCommand c.words d → c.shelf.asked ≡ [] → c.shelf.faults_now ≡ c.shelf.faults_before → Silent → EndsWith (status_of faults.Memory) (fault_line faults.Memory) → Goes c
+  goes-early d is_d nothing quiet silent ends = goes-fault faults.Memory (no_memory d is_d (inl nothing) quiet) (asks-nothing c.words c.shelf nothing) ends (no_note silent)
+
+  pub goes-late : (d : Command) → IsCommand c.words d → HasRead c.shelf d → Silent → EndsWith (status_of faults.Memory) (fault_line faults.Memory) → Goes c
+  goes-late d is_d r silent ends = goes-fault faults.Memory (no_memory d is_d (inr r) r.quiet) (asks-files c.words c.shelf d is_d r) ends (no_note silent)
+
+  pub goes-page : (p : Page) → AsksFor c.words p → c.shelf.asked ≡ [] → c.shelf.faults_now ≡ c.shelf.faults_before → Silent → EndsWith 0 (page_text p) → Goes c
+  goes-page p asks nothing quiet silent ends = record {
+    ends = ends-map (IsExactly 0 (page_text p)) (IsDue c.words c.shelf) c.taken_before c.taken_now c.faults_before c.faults_now c.status (due-of-page c.words c.shelf p asks nothing quiet) ends;
+    names = asks-nothing c.words c.shelf nothing;
+    all_read = λ e d is_d. absurd (page-no-command c.words p d asks is_d);
+    noted = no_note silent;
+  }

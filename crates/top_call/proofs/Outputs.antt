@@ -1,0 +1,46 @@
+-- What a command's work gives is the command's output.
+use Rattle.std.proofs.Common.{refl, sym, subst, ℕ, Bool, List, Option}
+use Rattle.command_words.specs.Words.{Command}
+use Rattle.input_files.specs.declared.work.Work.{Work}
+use Rattle.input_files.specs.declared.work.Work.TheVariants as works
+use Rattle.input_files.specs.Works.{IsWork}
+use Rattle.pcap_keys.specs.Planned.{packets as planned_packets}
+use Rattle.top_call.specs.Transcript.{IsOutput, GivesText}
+
+pub is-output : (told : List ℕ → Option (List ℕ)) (c : Command) (w : Work) (refused : Bool) (text : List ℕ) → IsWork told c w → GivesText w refused text → IsOutput c told refused text
+is-output told c (works.Run s packets n g) refused text w h = subst (λ (x : Command). IsOutput x told refused text) (sym w.2) (λ script_text keys_text at at_keys. record {
+  script = s;
+  keys = packets;
+  lines = h.0.lines;
+  script_is = (w.3 script_text at).1;
+  keys_are = (w.4 keys_text at_keys).1;
+  legal = h.0.legal;
+  text = h.0.text_is;
+  refusal = h.1;
+})
+is-output told c (works.List s g) refused text w h = subst (λ (x : Command). IsOutput x told refused text) (sym w.1) (λ script_text at. record { script = s; script_is = (w.2 script_text at).1; text_is = h.0; refusal = h.1 })
+is-output told c (works.Dump s g) refused text w h = subst (λ (x : Command). IsOutput x told refused text) (sym w.1) (λ script_text at. record { script = s; script_is = (w.2 script_text at).1; text_is = h.0; refusal = h.1 })
+is-output told c (works.Capture s plan frames n g) refused text w h = subst (λ (x : Command). IsOutput x told refused text) (sym w.3) (λ script_text plan_text capture_text at at_plan at_capture. record {
+  script = s;
+  packets = planned_packets plan frames;
+  lines = h.0.lines;
+  script_is = (w.4 script_text at).1;
+  captured = record { plan = plan; frames = frames; is_plan = (w.5 plan_text at_plan).1; is_capture = (w.6 capture_text at_capture).1; made = refl };
+  legal = h.0.legal;
+  text = h.0.text_is;
+  refusal = h.1;
+})
+is-output told c (works.Judge s chains packets n g) refused text w h = subst (λ (x : Command). IsOutput x told refused text) (sym w.3) (λ script_text rules_text keys_text at at_rules at_keys. record {
+  script = s;
+  rules = record { schema = chains.schema; chains = chains.chains; accept = chains.accept };
+  keys = packets;
+  lines = h.0.lines;
+  script_is = (w.4 script_text at).1;
+  rules_are = record { over = h.0.over; is_text = (w.5 rules_text at_rules).1 };
+  keys_are = (w.6 keys_text at_keys).1;
+  legal = h.0.legal;
+  text = h.0.text_is;
+  refusal = h.1;
+})
+is-output told c (works.Desk s g) refused text w h = subst (λ (x : Command). IsOutput x told refused text) (sym w.1) (λ script_text at. record { script = s; script_is = (w.2 script_text at).1; few = h.1; is_desk = h.0 })
+is-output told c (works.Drill seed count n) refused text w h = subst (λ (x : Command). IsOutput x told refused text) (sym w) (h.1, h.0)

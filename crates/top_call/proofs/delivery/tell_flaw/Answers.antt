@@ -1,0 +1,10 @@
+use Rattle.top_call.proofs.delivery.tell_flaw.Goals as goal
+
+pub returns-in-Script : goal.returns-in-Script
+returns-in-Script g c = rw c.in-Script.is (search c.deliver_placed.ensures)
+
+pub returns-in-Keys : goal.returns-in-Keys
+returns-in-Keys g c = rw c.in-Keys.is (search c.deliver_placed-in-Keys.ensures)
+
+pub returns-in-Rules : goal.returns-in-Rules
+returns-in-Rules g c = rw c.in-Rules.is (search c.deliver_placed-in-Rules.ensures)

@@ -1,0 +1,111 @@
+-- The statuses, and the line of each fault.
+use Rattle.std.specs.Prelude.{Bool, true, false, ℕ, List, [], ◌++◌, codes, decimal}
+use Rattle.token_forms.specs.declared.token.Reason.{Reason}
+use Rattle.token_forms.specs.declared.token.Reason.TheVariants as reasons
+use Rattle.pcap_keys.specs.declared.error.CaptureReason.{CaptureReason}
+use Rattle.pcap_keys.specs.declared.error.CaptureReason.TheVariants as capture_reasons
+use Rattle.input_files.specs.declared.fault.Flaw.{Flaw}
+use Rattle.input_files.specs.declared.fault.Flaw.TheVariants as flaws
+use Rattle.input_files.specs.declared.fault.FileFault.{FileFault}
+use Rattle.input_files.specs.declared.fault.FileFault.TheVariants as files
+use Rattle.input_files.specs.Inputs.{FileForm, script, keys, rules, plan, capture, form_of}
+use Rattle.top_call.specs.declared.fault.Fault.{Fault}
+use Rattle.top_call.specs.declared.fault.Fault.TheVariants.{Usage, File, TooManyClerks, Memory}
+
+-- the status of an output: 1 where it tells a refusal, and else 0
+abbrev pub done_status : Bool → ℕ
+done_status true = 1
+done_status false = 0
+
+-- the status of a file that isn't of its form
+abbrev pub form_status : FileForm → ℕ
+form_status script = 3
+form_status keys = 4
+form_status rules = 9
+form_status plan = 11
+form_status capture = 10
+
+-- the status of a file that can't be had
+abbrev pub file_status : FileFault → ℕ
+file_status (files.Bad flaw) = form_status (form_of flaw)
+file_status (files.ReadFault name) = 5
+file_status (files.TooLarge name) = 8
+file_status files.Memory = 7
+
+-- the status of a fault
+abbrev pub status_of : Fault → ℕ
+status_of Usage = 2
+status_of (File fault) = file_status fault
+status_of (TooManyClerks name) = 12
+status_of Memory = 7
+
+abbrev pub usage_line : List ℕ
+usage_line = codes "pipapo: usage: run SCRIPT KEYS [--threads N] [--keep-going] | list SCRIPT [--keep-going] | dump SCRIPT [--keep-going] | drill SEED COUNT [--threads N] | judge SCRIPT RULES KEYS [--threads N] [--keep-going] | capture SCRIPT PLAN PCAP [--threads N] [--keep-going] | desk SCRIPT [--keep-going]\n"
+
+-- a line that ends with a name
+abbrev pub named_line : List ℕ → List ℕ → List ℕ
+named_line front name = (front ++ name) ++ codes "\n"
+
+-- the words of a reason
+abbrev pub reason_text : Reason → List ℕ
+reason_text reasons.Character = codes "character"
+reason_text reasons.End = codes "end"
+reason_text reasons.LeftOut = codes "left out"
+reason_text reasons.TypeWord = codes "type"
+reason_text reasons.Value = codes "value"
+reason_text reasons.Time = codes "time"
+reason_text reasons.Moment = codes "moment"
+reason_text reasons.Set = codes "set"
+reason_text reasons.Number = codes "number"
+reason_text reasons.Statement = codes "statement"
+
+-- what stands behind the number of a bad token's line
+abbrev pub reason_end : Reason → List ℕ
+reason_end reason = codes ": " ++ reason_text reason ++ codes "\n"
+
+-- a line that names the line of a bad token and the reason
+abbrev pub placed_line : List ℕ → ℕ → Reason → List ℕ
+placed_line front line reason = (front ++ decimal line) ++ reason_end reason
+
+-- what is wrong with a capture
+abbrev pub capture_reason_text : CaptureReason → List ℕ
+capture_reason_text capture_reasons.Magic = codes "magic"
+capture_reason_text capture_reasons.Cut = codes "cut"
+capture_reason_text capture_reasons.Version = codes "version"
+capture_reason_text capture_reasons.LinkType = codes "link type"
+
+-- what stands behind the number of a capture's byte
+abbrev pub capture_end : CaptureReason → List ℕ
+capture_end reason = codes ": " ++ capture_reason_text reason ++ codes "\n"
+
+-- the line of a text that isn't of its form
+abbrev pub flaw_line : Flaw → List ℕ
+flaw_line (flaws.Script line reason) = placed_line (codes "pipapo: script line ") line reason
+flaw_line (flaws.Keys line reason) = placed_line (codes "pipapo: keys line ") line reason
+flaw_line (flaws.Rules line reason) = placed_line (codes "pipapo: rules line ") line reason
+flaw_line (flaws.Plan line reason) = placed_line (codes "pipapo: plan line ") line reason
+flaw_line (flaws.Capture byte reason) = (codes "pipapo: capture byte " ++ decimal byte) ++ capture_end reason
+
+abbrev pub read_fault_line : List ℕ → List ℕ
+read_fault_line = named_line (codes "pipapo: read fault: ")
+
+abbrev pub too_large_line : List ℕ → List ℕ
+too_large_line = named_line (codes "pipapo: too large: ")
+
+-- the line of a script with more sections than a desk has control threads for
+abbrev pub too_many_line : List ℕ → List ℕ
+too_many_line = named_line (codes "pipapo: too many clerks: ")
+
+-- the line of a file that can't be had; want of memory has none
+abbrev pub file_line : FileFault → List ℕ
+file_line (files.Bad flaw) = flaw_line flaw
+file_line (files.ReadFault name) = read_fault_line name.now
+file_line (files.TooLarge name) = too_large_line name.now
+file_line files.Memory = []
+
+-- the line of a fault
+abbrev pub fault_line : Fault → List ℕ
+fault_line Usage = usage_line
+fault_line (File fault) = file_line fault
+fault_line (TooManyClerks name) = too_many_line name.now
+fault_line Memory = []

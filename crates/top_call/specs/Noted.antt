@@ -1,0 +1,28 @@
+-- What a person is told beside a call's output.
+use Rattle.std.specs.Prelude.{◌≡◌, ◌⊎◌, ℕ, true, List}
+use Rattle.command_words.specs.Words.{Command, IsCommand}
+use Rattle.fault_notes.specs.Shown.{Begins, name_text}
+use Rattle.fault_notes.specs.Told.{MayTell}
+use Rattle.input_files.specs.declared.fault.FileFault.{FileFault}
+use Rattle.input_files.specs.Noted.{IsNoteOn}
+use Rattle.input_files.specs.Reads.{Shelved, StopsAt}
+use Rattle.top_call.specs.Calls.{Call}
+use Rattle.top_call.specs.Causes.{HasManySections}
+use Rattle.top_call.specs.Lines.{file_status}
+use Rattle.top_call.specs.Answers.{HasOutput}
+
+-- A call has this status, or its sink failed.
+abbrev pub Ended : ℕ → ℕ → Type 0
+Ended due status = (status ≡ due) ⊎ (status ≡ 6)
+
+-- The notes that are due: one that begins with the name of a file which can't be had, in its turn, and the place of what is wrong with
+-- its text; or one that begins with the name of a desk's script which has too many sections; or one on the changes that an output
+-- tells to be refused.
+pub data IsDueNote (words : List (List ℕ)) (shelf : Shelved) (status : ℕ) : List ℕ → Type 0 where
+  on_file : (c : Command) (fault : FileFault) (stops : StopsAt shelf c fault) (text : List ℕ) → IsCommand words c → IsNoteOn shelf.told stops.sets stops.input.name fault text → Ended (file_status fault) status → IsDueNote words shelf status text
+  on_sections : (name text : List ℕ) → HasManySections words shelf name → Begins (name_text name) text → Ended 12 status → IsDueNote words shelf status text
+  on_changes : (output text : List ℕ) → HasOutput words shelf true output → Ended 1 status → IsDueNote words shelf status text
+
+-- A person was told nothing in a call, or one note that is due.
+abbrev pub IsNoted : Call → Type 0
+IsNoted c = MayTell (IsDueNote c.words c.shelf c.status) c.noted_before c.noted_now

@@ -1,0 +1,169 @@
+ghost use Rattle.std.specs.Prelude.{◌≡◌, [], List, ℕ, map, Option, None, IfSome};
+ghost use Rattle.std.specs.String.{string_bytes};
+ghost use Rattle.command_words.specs.Words.{IsCommand, AsksFor};
+ghost use Rattle.command_words.specs.WordForms.{plain};
+ghost use Rattle.top_call.specs.Lines.{done_status as status_of_done};
+ghost use Rattle.input_files.specs.Works.{IsWork};
+ghost use Rattle.top_call.specs.Promises.{Goes, Promises};
+ghost use Rattle.top_call.specs.Transcript.{HasFewClerks, IsOverfull};
+
+use crate::delivery::{deliver, deliver_page, tell};
+use crate::fault::Fault;
+use crate::output::output_of;
+use crate::refusals::{tell_refusals, tell_too_many};
+use command_words::{Command, WordsError, command_of, page_of};
+use input_files::{Work, work_of};
+use packet_pool::Gate;
+use pip_base::{Notes, Shelf, Sink};
+use std::alloc::Global;
+use std::sync::Wait;
+use std::thread::Threads;
+
+/// The status of an output.
+fn done_status(refused: bool) -> u8
+    ensures { result ≡ status_of_done refused }
+{
+    if refused { 1 } else { 0 }
+}
+
+/// The most sections of a desk's script: the first, and one for each control thread.
+const MOST_SECTIONS: u64 = 17;
+
+/// The name of the script of a desk that has more sections than there may be, and how many it has.
+fn overfull<'a>(command: Command<'a>, work: &Work) -> Option<(&'a str, u64)>
+    requires { (told : List ℕ → Option (List ℕ)) × IsWork told (plain command) work.now }
+    ensures some { IfSome result (λ r. IsOverfull (plain command.entry) work.now r.0) }
+    ensures none { result ≡ None → HasFewClerks work.now }
+{
+    match work {
+        Work::Desk { script, .. } if script.sections.len() > MOST_SECTIONS => match command {
+            Command::Script { script: name, .. } => Some((name, script.sections.len())),
+            Command::Drill { .. } => unreachable!(),
+        },
+        _ => None,
+    }
+}
+
+/// Does what a command asks for, writes what comes of it, tells a person what was wrong, and answers the status.
+fn do_command<'a, R: Threads + Wait + Sync, F: Shelf, K: Sink, N: Notes, G: Gate>(
+    rt: &R,
+    alloc: Global,
+    command: Command<'a>,
+    shelf: &mut F,
+    sink: &mut K,
+    notes: &mut N,
+    gate: &G,
+) -> u8
+    requires nothing { F.asked shelf.old ≡ [] }
+    requires is_command { (words : List (List ℕ)) × IsCommand words (plain command) }
+    ensures { (words : List (List ℕ)) → IsCommand words (plain command.entry) → Goes (record { words = words; shelf = record { told = F.told shelf.old; asked = F.asked shelf.new; faults_before = F.faults shelf.old; faults_now = F.faults shelf.new; picked_before = F.is_picked shelf.old; picked_now = F.is_picked shelf.new; left = F.left shelf.new }; taken_before = K.taken sink.old; taken_now = K.taken sink.new; faults_before = K.faults sink.old; faults_now = K.faults sink.new; noted_before = N.told notes.old; noted_now = N.told notes.new; status = result }) }
+{
+    let mut script_text = Vec::new(alloc);
+    match work_of(alloc, shelf, notes, &mut script_text, command) {
+        Ok(work) => match overfull(command, &work) {
+            Some((name, sections)) => {
+                tell_too_many(alloc, notes, name, sections);
+                tell(sink, Fault::TooManyClerks(name))
+            }
+            None => match output_of(rt, alloc, work, gate) {
+                Ok(output) => {
+                    let status = deliver(sink, done_status(output.refused), output.text.as_slice());
+                    tell_refusals(alloc, notes, command, script_text.as_slice(), &output);
+                    status
+                }
+                Err(_) => tell(sink, Fault::Memory),
+            },
+        },
+        Err(fault) => tell(sink, Fault::File(fault)),
+    }
+}
+
+/// Does what words ask for that ask for no page, writes what comes of it, and answers the status.
+fn carry_out_command<R: Threads + Wait + Sync, F: Shelf, K: Sink, N: Notes, G: Gate>(
+    rt: &R,
+    alloc: Global,
+    words: &[String],
+    shelf: &mut F,
+    sink: &mut K,
+    notes: &mut N,
+    gate: &G,
+) -> u8
+    requires nothing { F.asked shelf.old ≡ [] }
+    requires no_page { (p : _) → AsksFor (map string_bytes words.now) p → ⊥ }
+    ensures { Goes (record { words = map string_bytes words.now; shelf = record { told = F.told shelf.old; asked = F.asked shelf.new; faults_before = F.faults shelf.old; faults_now = F.faults shelf.new; picked_before = F.is_picked shelf.old; picked_now = F.is_picked shelf.new; left = F.left shelf.new }; taken_before = K.taken sink.old; taken_now = K.taken sink.new; faults_before = K.faults sink.old; faults_now = K.faults sink.new; noted_before = N.told notes.old; noted_now = N.told notes.new; status = result }) }
+{
+    match command_of(alloc, words) {
+        Ok(command) => do_command(rt, alloc, command, shelf, sink, notes, gate),
+        Err(WordsError::NoCommand) => tell(sink, Fault::Usage),
+        Err(WordsError::Memory) => tell(sink, Fault::Memory),
+    }
+}
+
+/// Does what the words ask for, writes what comes of it, and answers the status.
+fn carry_out<R: Threads + Wait + Sync, F: Shelf, K: Sink, N: Notes, G: Gate>(
+    rt: &R,
+    alloc: Global,
+    words: &[String],
+    shelf: &mut F,
+    sink: &mut K,
+    notes: &mut N,
+    gate: &G,
+) -> u8
+    requires { F.asked shelf.old ≡ [] }
+    ensures { Goes (record { words = map string_bytes words.now; shelf = record { told = F.told shelf.old; asked = F.asked shelf.new; faults_before = F.faults shelf.old; faults_now = F.faults shelf.new; picked_before = F.is_picked shelf.old; picked_now = F.is_picked shelf.new; left = F.left shelf.new }; taken_before = K.taken sink.old; taken_now = K.taken sink.new; faults_before = K.faults sink.old; faults_now = K.faults sink.new; noted_before = N.told notes.old; noted_now = N.told notes.new; status = result }) }
+{
+    match page_of(words) {
+        Some(page) => deliver_page(sink, page),
+        None => carry_out_command(rt, alloc, words, shelf, sink, notes, gate),
+    }
+}
+
+/// The command `pipapo`. Its words are one of these, the options in any order among the names:
+///
+/// - `run SCRIPT KEYS [--threads N] [--keep-going]` runs a script beside the packets of a key file, which
+///   N packet threads look up, 1 to 16 and else 1, and writes the transcript;
+/// - `list SCRIPT [--keep-going]` runs a script, and lists its last generation as a script;
+/// - `dump SCRIPT [--keep-going]` runs a script, and writes the tables of its last generation;
+/// - `drill SEED COUNT [--threads N]` runs a script of COUNT elements beside as many packets, all drawn from
+///   SEED, and writes one line of what came of them;
+/// - `judge SCRIPT RULES KEYS [--threads N] [--keep-going]` runs a script beside the packets of a key file, on which the
+///   chains of a rules file decide, and writes the transcript with the deciding rules;
+/// - `capture SCRIPT PLAN PCAP [--threads N] [--keep-going]` runs a script beside the packets that a plan takes from a
+///   capture, and writes the transcript;
+/// - `desk SCRIPT [--keep-going]` runs the first section of a script, and then each of the others by a control thread of
+///   its own, and writes what each transaction told, in the order in which they were done, and the last generation.
+///
+/// `help`, `--help` and `-h` alone, `help` before the word of a command and the other two behind it ask for help, and
+/// `--version` alone for the version: the page is written, with 0, and no file is asked for.
+///
+/// With `--keep-going` a refused change is skipped, and doesn't fail its transaction. Where the words,
+/// a file or its reading is at fault, one line is written in place of the output. Where a file is at fault or a change was
+/// refused, a person is told more by `notes`, if there is memory for it; neither status nor output hangs on that. The `gate`
+/// is told of each section, step, lookup and commit; the program tells a person by it how far it is. The status is:
+///
+/// - 0: the whole output was written, and tells no refusal;
+/// - 1: the whole output was written, and tells that a change was refused;
+/// - 2: the words are no command, and the usage line was written;
+/// - 3, 4, 9, 11: the script, the key file, the rules file, the plan isn't in its grammar;
+/// - 5: a file couldn't be opened or read;
+/// - 6: the sink failed, after a front of what was to be written;
+/// - 7: want of memory, and nothing was written;
+/// - 8: a file has more than 67,108,864 bytes;
+/// - 10: the capture is outside its form;
+/// - 12: the script of a desk has more than 17 sections.
+pub fn pipapo<R: Threads + Wait + Sync, F: Shelf, K: Sink, N: Notes, G: Gate>(
+    rt: &R,
+    alloc: Global,
+    words: &[String],
+    shelf: &mut F,
+    sink: &mut K,
+    notes: &mut N,
+    gate: &G,
+) -> u8
+    requires { F.asked shelf.old ≡ [] }
+
+    // A call is a record of what its outside shows, and what it promises is said of that, sentence by sentence.
+    ensures { Promises (record { words = map string_bytes words.now; shelf = record { told = F.told shelf.old; asked = F.asked shelf.new; faults_before = F.faults shelf.old; faults_now = F.faults shelf.new; picked_before = F.is_picked shelf.old; picked_now = F.is_picked shelf.new; left = F.left shelf.new }; taken_before = K.taken sink.old; taken_now = K.taken sink.new; faults_before = K.faults sink.old; faults_now = K.faults sink.new; noted_before = N.told notes.old; noted_now = N.told notes.new; status = result }) }
+{
+    carry_out(rt, alloc, words, shelf, sink, notes, gate)
+}

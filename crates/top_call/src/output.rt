@@ -1,0 +1,82 @@
+//! What a command gives: the work on what its files stand for.
+ghost use Rattle.std.specs.Prelude.{◌≡◌, [], ◌∷◌, All, List, IfOk};
+ghost use Rattle.set_model.specs.declared.script.SetDecl.{SetDecl as Declared};
+ghost use Rattle.set_model.specs.Runnable.{IsFitting};
+ghost use Rattle.pcap_keys.specs.Fitting.{HasValues, IsPlanned};
+ghost use Rattle.pcap_keys.specs.Planned as planned;
+ghost use Rattle.input_files.specs.Works.{IsDoable};
+ghost use Rattle.top_call.specs.Transcript.{GivesText, HasFewClerks};
+
+use control_desk::QuietBell;
+use desk_run::desk;
+use input_files::Work;
+use packet_pool::Gate;
+use pcap_keys::{Frames, Plan, keys_of};
+use script_run::{Output, drill, dump, judged, listing, transcript};
+use set_model::{Keys, Memory};
+use std::alloc::Global;
+use std::sync::Wait;
+use std::thread::Threads;
+
+/// The packets that a plan takes from a capture's frames, as the one section of a key file.
+fn captured(alloc: Global, plan: &Plan, frames: &Frames) -> Result<Keys, Memory>
+    ensures packets { IfOk result (λ keys. keys ≡ planned.packets plan.now frames.now ∷ []) }
+    ensures fit { (schema : List Declared) → All (IsPlanned schema) plan.now → All HasValues frames.now → IfOk result (All (All (IsFitting schema))) }
+{
+    let packets = keys_of(alloc, plan, frames)?;
+    let mut keys = Keys::new(alloc);
+    keys.push(packets)?;
+    Ok(keys)
+}
+
+/// The output of a command's work. The `gate` is told of each section, step, lookup and commit.
+///
+/// # Errors
+///
+/// `Memory` where there is none left.
+pub fn output_of<R: Threads + Wait + Sync, G: Gate>(
+    rt: &R,
+    alloc: Global,
+    work: Work,
+    gate: &G,
+) -> Result<Output, Memory>
+    requires doable { IsDoable work }
+    requires clerks { HasFewClerks work }
+    ensures { IfOk result (λ out. GivesText work out.refused out.text.items) }
+{
+    match work {
+        Work::Run {
+            script,
+            keys,
+            threads,
+            keep_going,
+        } => transcript(rt, alloc, script, &keys, keep_going, threads, gate),
+        Work::List { script, keep_going } => listing(alloc, script, keep_going, gate),
+        Work::Dump { script, keep_going } => dump(alloc, script, keep_going, gate),
+        Work::Drill {
+            seed,
+            count,
+            threads,
+        } => drill(rt, alloc, seed, count, threads, gate),
+        Work::Capture {
+            script,
+            plan,
+            frames,
+            threads,
+            keep_going,
+        } => {
+            let keys = captured(alloc, &plan, &frames)?;
+            transcript(rt, alloc, script, &keys, keep_going, threads, gate)
+        }
+        Work::Judge {
+            script,
+            chains,
+            keys,
+            threads,
+            keep_going,
+        } => judged(rt, alloc, script, chains, &keys, keep_going, threads, gate),
+        Work::Desk { script, keep_going } => {
+            desk(rt, alloc, script, keep_going, &QuietBell, gate)
+        },
+    }
+}
