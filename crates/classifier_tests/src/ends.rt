@@ -32,7 +32,10 @@ fn table(alloc: Global, n: u32, last: Option<u64>) -> Result<EndTable, Memory>
 /// Asserts which words are expired at which moments.
 fn assert_expired(rt: &impl Abort, ends: &EndTable, wanted: &[(u32, u64, bool)]) {
     for (word, now, expired) in wanted {
-        assert!(rt; ends.is_word_expired(*word, *now) == *expired, "word {word} at {now}");
+        assert!(rt;
+            ends.is_word_expired(*word, *now) == *expired,
+            "word {word} at {now}"
+        );
     }
 }
 

@@ -78,7 +78,12 @@ fn assert_expired(
     before: (u64, u64),
 ) -> Result<(), Memory> {
     same(rt, elements.count_expired(now), all, now);
-    same(rt, elements.count_leaving(Some(passed.0), now), passed.1, now);
+    same(
+        rt,
+        elements.count_leaving(Some(passed.0), now),
+        passed.1,
+        now,
+    );
     let marks = elements.expired_marks(alloc, now)?;
     assert!(rt; before.0 <= marks.len());
     same(rt, marks.rank(before.0), before.1, now);

@@ -127,14 +127,7 @@ fn masks_of_blocks(rt: HostRuntime) {
 }
 
 // Asserts in which places of a list the last four groups of a value stand, and how many groups there are before them.
-fn assert_last(
-    rt: &impl Abort,
-    value: u128,
-    width: u32,
-    bits: u32,
-    wanted: [u64; 4],
-    rest: u32,
-)
+fn assert_last(rt: &impl Abort, value: u128, width: u32, bits: u32, wanted: [u64; 4], rest: u32)
     requires { IsWidth width bits }
 {
     let four = last_four(value, width, bits);

@@ -12,6 +12,8 @@ mod changes;
 #[cfg(test)]
 mod disjoint;
 #[cfg(test)]
+mod drawn;
+#[cfg(test)]
 mod ends;
 #[cfg(test)]
 mod examples;
@@ -19,8 +21,6 @@ mod examples;
 mod expiries;
 #[cfg(test)]
 mod fields;
-#[cfg(test)]
-mod lookups;
 #[cfg(test)]
 mod paged;
 #[cfg(test)]
@@ -35,5 +35,3 @@ mod rules;
 mod sets;
 #[cfg(test)]
 mod summaries;
-#[cfg(test)]
-mod widths;

@@ -9,7 +9,12 @@ use std::test::Fail;
 #[test]
 fn room_comes_in_steps_of_512_places(rt: HostRuntime) -> Result<(), Fail> {
     for (len, room) in [(0, 0), (1, 512), (511, 512), (512, 512), (513, 1024)] {
-        same(&rt, BitRow::zeros(rt.alloc(), len)?.room() as u64, room, len as u64);
+        same(
+            &rt,
+            BitRow::zeros(rt.alloc(), len)?.room() as u64,
+            room,
+            len as u64,
+        );
     }
     Ok(())
 }
@@ -18,7 +23,12 @@ fn room_comes_in_steps_of_512_places(rt: HostRuntime) -> Result<(), Fail> {
 fn assert_row(rt: &impl Abort, row: &BitRow, len: u32, next: &[(u32, Option<u64>)]) {
     assert!(rt; row.len() == len);
     for (from, wanted) in next {
-        same_if_any(rt, row.next_set(*from).map(|i| i as u64), *wanted, *from as u64);
+        same_if_any(
+            rt,
+            row.next_set(*from).map(|i| i as u64),
+            *wanted,
+            *from as u64,
+        );
     }
 }
 
@@ -80,7 +90,15 @@ fn places_are_added_and_joined(rt: HostRuntime) -> Result<(), Fail> {
 
 // Asserts the ranks of a row in which each 64th place is set.
 fn assert_ranks(rt: &impl Abort, bits: &RankedBits) {
-    for (place, rank) in [(0, 0), (1, 1), (64, 1), (65, 2), (512, 8), (513, 9), (1024, 16)] {
+    for (place, rank) in [
+        (0, 0),
+        (1, 1),
+        (64, 1),
+        (65, 2),
+        (512, 8),
+        (513, 9),
+        (1024, 16),
+    ] {
         assert!(rt; place <= bits.len());
         same(rt, bits.rank(place), rank, place);
     }

@@ -102,7 +102,10 @@ fn assert_holding(
     value: u32,
     rules: &[u32],
 ) -> Result<(), Fail> {
-    assert!(rt; holding(rt, alloc, table, value)?.as_slice() == rules, "at {value}");
+    assert!(rt;
+        holding(rt, alloc, table, value)?.as_slice() == rules,
+        "at {value}"
+    );
     Ok(())
 }
 
