@@ -3,6 +3,7 @@ ghost use Rattle.bit_rows.specs.Row.{Row};
 ghost use Rattle.field_groups.specs.Groups.{IsWidth};
 ghost use Rattle.set_model.specs.Blocks.{IsWithin};
 
+use crate::asserts::same;
 use bit_rows::BitRow;
 use field_groups::last_four;
 use lookup_table::{FieldTable, width_for};
@@ -89,7 +90,7 @@ fn holding(
     assert!(rt; (value as u128) < 1u128 << table.bits);
     let mut row = ones(alloc, table.rules)?;
     table.match_into(value as u128, &mut row);
-    assert_eq!(rt; table.match_word(value as u128, 0, u64::MAX), row.word(0));
+    assert!(rt; table.match_word(value as u128, 0, u64::MAX) == row.word(0));
     places(alloc, &row)
 }
 
@@ -101,9 +102,8 @@ fn assert_holding(
     value: u32,
     rules: &[u32],
 ) -> Result<(), Fail> {
-    assert_eq!(rt;
-        holding(rt, alloc, table, value)?.as_slice(),
-        rules,
+    assert!(rt;
+        holding(rt, alloc, table, value)?.as_slice() == rules,
         "at {value}"
     );
     Ok(())
@@ -132,11 +132,8 @@ fn assert_sharing(
     free_bits: u32,
     rules: &[u32],
 ) -> Result<(), Fail> {
-    assert_eq!(rt;
-        sharing(rt, alloc, table, base, free_bits)?.as_slice(),
-        rules,
-        "at {base} with {free_bits} free bits"
-    );
+    let found = sharing(rt, alloc, table, base, free_bits)?;
+    assert!(rt; found.as_slice() == rules, "at {base}");
     Ok(())
 }
 
@@ -165,8 +162,8 @@ fn assert_split(
     table: &FieldTable,
     buckets: u64,
 ) -> Result<(), Fail> {
-    assert_eq!(rt; table.buckets.len(), buckets);
-    assert_eq!(rt; table.rules, 14);
+    assert!(rt; table.buckets.len() == buckets);
+    assert!(rt; table.rules == 14);
     assert_holding(rt, alloc, table, 100, &[6])?;
     assert_holding(rt, alloc, table, 0, &[])?;
     assert_holding(rt, alloc, table, 255, &[])
@@ -223,24 +220,20 @@ fn add_addresses(rt: &impl Abort, table: &mut FieldTable) -> Result<(), Memory> 
 
 // Asserts that all three are in the table.
 fn assert_all_came(rt: &impl Abort, alloc: Global, table: &FieldTable) -> Result<(), Fail> {
-    assert_eq!(rt; table.rules, 3);
-    assert_eq!(rt; table.groups(), 4);
+    assert!(rt; table.rules == 3);
     assert_holding(rt, alloc, table, 0xC0A8_0201, &[2])?;
 
     // The last byte of 10.0.0.5 agrees with the first two rules, and its first with one.
     assert!(rt; table.bits == 32 && table.groups() == 4);
-    assert_eq!(rt;
-        table.buckets.word(table.place(0x0A00_0005, 3) as u64, 0),
-        0b011
-    );
+    assert!(rt; table.buckets.word(table.place(0x0A00_0005, 3) as u64, 0) == 0b011);
     assert!(rt; table.buckets.len() == 1024);
-    assert_eq!(rt; table.buckets.word(0x0A, 0), 0b001);
+    assert!(rt; table.buckets.word(0x0A, 0) == 0b001);
     Ok(())
 }
 
 // Asserts that the first and the third are left in the table.
 fn assert_second_went(rt: &impl Abort, alloc: Global, table: &FieldTable) -> Result<(), Fail> {
-    assert_eq!(rt; table.rules, 2);
+    assert!(rt; table.rules == 2);
     assert_holding(rt, alloc, table, 0xC0A8_0201, &[1])?;
     assert_holding(rt, alloc, table, 0xC0A8_0101, &[])?;
     assert_holding(rt, alloc, table, 0x0A00_0005, &[0])
@@ -277,7 +270,7 @@ fn hosts(rt: &impl Abort, alloc: Global, n: u32) -> Result<FieldTable, Fail> {
 fn assert_dropped(rt: &impl Abort, alloc: Global, table: &FieldTable, n: u32) -> Result<(), Fail>
     requires { (1 < n) × (n < 4096) }
 {
-    assert_eq!(rt; table.rules, n - 1);
+    assert!(rt; table.rules == n - 1);
     assert_holding(rt, alloc, table, 0x0A00_0001, &[])?;
     assert_holding(rt, alloc, table, 0x0B00_0000, &[])?;
     assert_holding(rt, alloc, table, 0x0A00_0000 + n - 1, &[n - 2])
@@ -287,7 +280,7 @@ fn assert_dropped(rt: &impl Abort, alloc: Global, table: &FieldTable, n: u32) ->
 fn assert_added(rt: &impl Abort, alloc: Global, table: &FieldTable, n: u32) -> Result<(), Fail>
     requires { (1 < n) × (n < 4096) }
 {
-    assert_eq!(rt; table.rules, n + 1);
+    assert!(rt; table.rules == n + 1);
     assert_holding(rt, alloc, table, 0x0A00_0001, &[1])?;
     assert_holding(rt, alloc, table, 0x0A00_0000 + n - 1, &[n - 1])?;
     assert_holding(rt, alloc, table, 0x0B00_0000, &[n])
@@ -326,11 +319,8 @@ fn copies_live_on_beside_each_other(rt: HostRuntime) -> Result<(), Fail> {
 fn assert_pages(rt: &impl Abort, table: &FieldTable, address: u32, pages: u64) {
     assert!(rt; table.bits == 32);
     let lines = last_four(address as u128, 8, 32);
-    assert_eq!(rt;
-        table.candidate_pages(address as u128, lines, 0),
-        pages,
-        "at {address}"
-    );
+    let found = table.candidate_pages(address as u128, lines, 0);
+    same(rt, found, pages, address as u64);
 }
 
 // Asserts which pages of a table of 33,000 hosts may match one, before its first 200 go and after.
@@ -365,6 +355,6 @@ fn widths(rt: HostRuntime) {
         (16, 32_768, 8),
         (16, 32_769, 4),
     ] {
-        assert_eq!(rt; width_for(bits, rules), width, "{bits} bits, {rules} rules");
+        same(&rt, width_for(bits, rules) as u64, width, rules as u64);
     }
 }

@@ -1,8 +1,9 @@
 // Disjoint sets: worked examples, and elements that look random beside the plain list, at moments that
 // rise and fall.
+use crate::drawn::intervals;
 use crate::examples::{adds, finds};
 use crate::plain::{PlainElement, PlainSet, lows};
-use crate::random::{Random, Shape};
+use crate::random::Random;
 use crate::sets::{Trial, on_new_set};
 use pipapo_image::{Added, ChangeError};
 use set_model::{Found, Interval, Kind, Memory, Why};
@@ -62,28 +63,6 @@ impl PlainSet {
     }
 }
 
-/// How often an element shared a key, and how often none did.
-#[derive(Drop)]
-struct Tally {
-    shared: u32,
-    apart: u32,
-}
-
-/// An interval of each kind: a value, a few, many or all.
-fn intervals(alloc: Global, random: &mut Random, kinds: &[Kind]) -> Result<Vec<Interval>, Memory> {
-    let mut parts = Vec::new(alloc);
-    for kind in kinds {
-        let shape = match random.below(4) {
-            0 => Shape::Single,
-            1 => Shape::Narrow,
-            2 => Shape::Wide,
-            _ => Shape::Whole,
-        };
-        parts.push(random.interval(*kind, shape))?;
-    }
-    Ok(parts)
-}
-
 /// An expiry soon behind `now`, or none.
 fn expiry_of(random: &mut Random, now: u64) -> Option<u64> {
     match random.below(4) {
@@ -92,81 +71,79 @@ fn expiry_of(random: &mut Random, now: u64) -> Option<u64> {
     }
 }
 
+/// Adds an element at a moment to both, and compares what comes of it.
+fn add_one(
+    rt: &impl Abort,
+    trial: &mut Trial,
+    plain: &mut PlainSet,
+    parts: &[Interval],
+    expiry: Option<u64>,
+    now: u64,
+) {
+    let answer = trial.add(rt, parts, expiry, now);
+    let wanted = if trial.set.is_disjoint() {
+        plain.add_apart(parts, expiry, now)
+    } else {
+        plain.add(parts, expiry, now)
+    };
+    assert!(rt; answer == wanted);
+}
+
 /// Asks both for the first element that shares a key with some intervals, adds these to both at the
-/// same moment, and compares what comes of it.
+/// same moment, and answers how many such elements there were.
 fn step(
     rt: &impl Abort,
     random: &mut Random,
     kinds: &[Kind],
     trial: &mut Trial,
     plain: &mut PlainSet,
-    tally: &mut Tally,
-) -> Result<(), Memory> {
+) -> Result<u32, Memory> {
     let now = random.below(100);
-    let parts = intervals(trial.alloc, random, kinds)?;
+    let parts = intervals(trial.alloc, random, kinds, 8)?;
     let sharing = trial.first_sharing(rt, parts.as_slice(), now)?;
     assert!(rt; sharing == plain.first_sharing(parts.as_slice(), now));
-    if sharing.is_some() {
-        tally.shared = tally.shared.saturating_add(1);
-    } else {
-        tally.apart = tally.apart.saturating_add(1);
-    }
     let expiry = expiry_of(random, now);
-    let answer = trial.add(rt, parts.as_slice(), expiry, now);
-    let wanted = if trial.set.is_disjoint() {
-        plain.add_apart(parts.as_slice(), expiry, now)
-    } else {
-        plain.add(parts.as_slice(), expiry, now)
-    };
-    assert!(rt; answer == wanted);
-    Ok(())
+    add_one(rt, trial, plain, parts.as_slice(), expiry, now);
+    Ok(sharing.is_some() as u32)
 }
 
-/// Steps of a set without elements, which is disjoint or not.
+/// Twelve steps of a set without elements, which is disjoint or not. Answers how often an element shared a key.
 fn check_set(
     rt: &impl Abort,
     random: &mut Random,
     kinds: &[Kind],
     trial: &mut Trial,
     disjoint: bool,
-    tally: &mut Tally,
-) -> Result<(), Memory> {
+) -> Result<u32, Memory> {
     let mut plain = PlainSet::new(trial.alloc);
     trial.restart(rt, kinds, disjoint)?;
+    let mut shared = 0u32;
     for _ in 0..12 {
-        step(rt, random, kinds, trial, &mut plain, tally)?;
+        shared = shared.saturating_add(step(rt, random, kinds, trial, &mut plain)?);
     }
-    Ok(())
+    Ok(shared)
 }
 
-/// Compares so many disjoint sets, and as many others.
+/// Compares so many sets, every other one of them disjoint, and sees that elements both share keys and don't.
 fn check_sets(
     rt: &impl Abort,
     random: &mut Random,
     kinds: &[Kind],
     trial: &mut Trial,
     sets: u32,
-    tally: &mut Tally,
 ) -> Result<(), Memory> {
-    for _ in 0..sets {
-        check_set(rt, random, kinds, trial, true, tally)?;
-        check_set(rt, random, kinds, trial, false, tally)?;
+    let mut shared = 0u32;
+    for n in 0..sets {
+        shared = shared.saturating_add(check_set(rt, random, kinds, trial, n % 2 == 0)?);
     }
+    assert!(rt;
+        sets / 2 < shared && shared < sets.saturating_mul(11),
+        "{shared} shared"
+    );
     Ok(())
 }
 
-/// Sees that elements of so many disjoint sets, and as many others, both shared keys and didn't.
-fn expect_both(rt: &impl Abort, tally: &Tally, sets: u32) {
-    assert!(rt;
-        tally.shared > sets && tally.apart > sets,
-        "{} shared and {} apart",
-        tally.shared,
-        tally.apart
-    );
-}
-
-/// Compares so many disjoint sets, and as many others, and sees that elements both share keys and
-/// don't.
+/// Compares so many sets with the plain list.
 fn check(
     rt: &impl Abort,
     alloc: Global,
@@ -176,39 +153,21 @@ fn check(
 ) -> Result<(), Memory> {
     on_new_set(rt, alloc, kinds, None, false, |trial| {
         let mut random = Random::new(seed);
-        let mut tally = Tally {
-            shared: 0,
-            apart: 0,
-        };
-        check_sets(rt, &mut random, kinds, trial, sets, &mut tally)?;
-        Ok(expect_both(rt, &tally, sets))
+        check_sets(rt, &mut random, kinds, trial, sets)
     })
 }
 
 #[test]
-fn protocols_apart(rt: HostRuntime) -> Result<(), Fail> {
-    Ok(check(&rt, rt.alloc(), &[Kind::Proto], 600, 11)?)
+fn short_fields_apart(rt: HostRuntime) -> Result<(), Fail> {
+    check(&rt, rt.alloc(), &[Kind::Proto], 1_200, 11)?;
+    Ok(check(&rt, rt.alloc(), &[Kind::Ipv4, Kind::Service], 500, 12)?)
 }
 
 #[test]
-fn addresses_and_ports_apart(rt: HostRuntime) -> Result<(), Fail> {
-    Ok(check(&rt, rt.alloc(), &[Kind::Ipv4, Kind::Service], 250, 12)?)
-}
-
-#[test]
-fn long_addresses_apart(rt: HostRuntime) -> Result<(), Fail> {
-    Ok(check(&rt, rt.alloc(), &[Kind::Ipv6, Kind::Mark], 75, 13)?)
-}
-
-#[test]
-fn three_fields_apart(rt: HostRuntime) -> Result<(), Fail> {
-    Ok(check(
-        &rt,
-        rt.alloc(),
-        &[Kind::Ether, Kind::Proto, Kind::Service],
-        150,
-        14,
-    )?)
+fn many_and_long_fields_apart(rt: HostRuntime) -> Result<(), Fail> {
+    check(&rt, rt.alloc(), &[Kind::Ipv6, Kind::Mark], 150, 13)?;
+    let kinds = [Kind::Ether, Kind::Proto, Kind::Service];
+    Ok(check(&rt, rt.alloc(), &kinds, 300, 14)?)
 }
 
 #[test]

@@ -106,21 +106,38 @@ fn check_sizes(rt: &impl Abort, alloc: Global, kind: Kind, sizes: &[u64]) -> Res
 }
 
 #[test]
-fn steps_of_words(rt: HostRuntime) -> Result<(), Fail> {
-    check_sizes(
-        &rt,
-        rt.alloc(),
-        Kind::Ipv4,
-        &[64, 65, 66, 511, 512, 513, 1_024],
-    )
-}
-
-#[test]
-fn steps_of_pages(rt: HostRuntime) -> Result<(), Fail> {
-    check_sizes(&rt, rt.alloc(), Kind::Mark, &[4_096, 4_097])
+fn steps_of_words_and_pages(rt: HostRuntime) -> Result<(), Fail> {
+    let sizes = [64, 65, 66, 511, 512, 513, 1_024, 4_096, 4_097];
+    check_sizes(&rt, rt.alloc(), Kind::Ipv4, &sizes)
 }
 
 #[test]
 fn steps_of_the_second_level(rt: HostRuntime) -> Result<(), Fail> {
     check_sizes(&rt, rt.alloc(), Kind::Ipv4, &[32_768, 32_769])
+}
+
+/// Sees that the groups of the first field have so many bits.
+fn has_width(rt: &impl Abort, trial: &Trial, width: u32) {
+    assert!(rt; trial.set.index().fields.len() == 1);
+    assert!(rt; trial.set.index().fields.at(0).width == width);
+}
+
+/// A set of 4,096 long addresses has groups of eight bits, and of four with one more, until one goes.
+fn check_widths(rt: &impl Abort, trial: &mut Trial) {
+    add_addresses(rt, trial, 0, 4_096);
+    has_width(rt, trial, 8);
+    find_addresses(rt, trial, 4_096, None);
+    add_addresses(rt, trial, 4_096, 4_097);
+    has_width(rt, trial, 4);
+    find_addresses(rt, trial, 4_097, None);
+    delete_address(rt, trial, 1_000);
+    has_width(rt, trial, 8);
+    find_addresses(rt, trial, 4_097, Some(1_000));
+}
+
+#[test]
+fn one_address_fewer_wants_groups_of_eight(rt: HostRuntime) -> Result<(), Fail> {
+    Ok(on_new_set(&rt, rt.alloc(), &[Kind::Ipv6], None, false, |trial| {
+        Ok(check_widths(&rt, trial))
+    })?)
 }

@@ -1,5 +1,5 @@
 use Rattle.std.proofs.Common.{◌+◌, ◌-◌, ◌≤◌, length, All}
-use Rattle.table_tests.proofs.ends.table.Given as goal
+use Rattle.classifier_tests.proofs.ends.table.Given as goal
 
 abbrev pub invariant-ends : goal.invariant-ends
 invariant-ends l = record {

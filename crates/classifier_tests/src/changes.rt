@@ -1,6 +1,6 @@
 // Insertions, deletions, purges and lookups in an order that looks random, at moments that rise and
-// fall, beside the plain list.
-use crate::lookups::{expiry_behind, intervals, key_near};
+// fall, beside the plain list. Intervals are small at first and grow.
+use crate::drawn::{expiry_behind, intervals, key_near};
 use crate::plain::{PlainElement, PlainSet};
 use crate::random::Random;
 use crate::sets::{Trial, on_new_set};
@@ -51,8 +51,9 @@ fn insert_one(
     trial: &mut Trial,
     plain: &mut PlainSet,
     now: u64,
+    shapes: u64,
 ) -> Result<(), Memory> {
-    let parts = intervals(trial.alloc, random, kinds, 7)?;
+    let parts = intervals(trial.alloc, random, kinds, shapes)?;
     let expiry = expiry_behind(random, now);
     let answer = trial.add(rt, parts.as_slice(), expiry, now);
     let wanted = plain.add(parts.as_slice(), expiry, now);
@@ -76,6 +77,7 @@ fn delete_one(
     Ok(())
 }
 
+/// Looks a key up, and answers how many elements were found.
 fn look_up_one(
     rt: &impl Abort,
     random: &mut Random,
@@ -83,36 +85,54 @@ fn look_up_one(
     trial: &mut Trial,
     plain: &PlainSet,
     now: u64,
-) -> Result<(), Memory> {
+) -> Result<u32, Memory> {
     let key = key_near(trial.alloc, random, kinds, plain)?;
     let found = trial.find(rt, key.as_slice(), now)?;
     assert!(rt; found == plain.find(key.as_slice(), now));
-    Ok(())
+    Ok(found.is_some() as u32)
 }
 
-pub(crate) fn purge_both(rt: &impl Abort, trial: &mut Trial, plain: &mut PlainSet, now: u64) {
+fn purge_both(rt: &impl Abort, trial: &mut Trial, plain: &mut PlainSet, now: u64) {
     let answer = trial.set.purge(trial.alloc, now);
     assert!(rt; answer == Ok(plain.purge(now)));
 }
 
-/// One call of any kind, at a moment below 3,000; a purge once in many.
-fn step(
+/// One change of any kind, at a moment; a purge once in many.
+fn change(
     rt: &impl Abort,
     random: &mut Random,
     kinds: &[Kind],
     trial: &mut Trial,
     plain: &mut PlainSet,
+    now: u64,
+    shapes: u64,
 ) -> Result<(), Memory> {
-    let now = random.below(3_000);
-    match random.below(256) {
+    match random.below(128) {
         0 => Ok(purge_both(rt, trial, plain, now)),
-        1..=96 => insert_one(rt, random, kinds, trial, plain, now),
-        97..=144 => delete_one(rt, random, trial, plain, now),
-        _ => look_up_one(rt, random, kinds, trial, plain, now),
+        1..=84 => insert_one(rt, random, kinds, trial, plain, now, shapes),
+        _ => delete_one(rt, random, trial, plain, now),
     }
 }
 
-/// Makes so many calls on both.
+/// Makes 750 changes of both, each at a moment below 3,000, and a lookup behind each. Answers how many elements were found.
+fn hits(
+    rt: &impl Abort,
+    random: &mut Random,
+    kinds: &[Kind],
+    trial: &mut Trial,
+    plain: &mut PlainSet,
+) -> Result<u32, Memory> {
+    let mut hits = 0u32;
+    for n in 0..750u64 {
+        let now = random.below(3_000);
+        change(rt, random, kinds, trial, plain, now, 1 + n / 100)?;
+        let now = random.below(3_000);
+        hits = hits.saturating_add(look_up_one(rt, random, kinds, trial, plain, now)?);
+    }
+    Ok(hits)
+}
+
+/// Compares both, and sees that keys are both found and not.
 fn compare(
     rt: &impl Abort,
     random: &mut Random,
@@ -120,9 +140,8 @@ fn compare(
     trial: &mut Trial,
     plain: &mut PlainSet,
 ) -> Result<(), Memory> {
-    for _ in 0..1_500 {
-        step(rt, random, kinds, trial, plain)?;
-    }
+    let hits = hits(rt, random, kinds, trial, plain)?;
+    assert!(rt; 50 < hits && hits < 700, "{hits} hits");
     Ok(())
 }
 
@@ -136,16 +155,15 @@ fn check(rt: &impl Abort, alloc: Global, kinds: &[Kind], seed: u64) -> Result<()
 }
 
 #[test]
-fn changes_of_addresses_and_ports(rt: HostRuntime) -> Result<(), Fail> {
-    Ok(check(&rt, rt.alloc(), &[Kind::Ipv4, Kind::Service], 5)?)
+fn changes_of_short_fields(rt: HostRuntime) -> Result<(), Fail> {
+    check(&rt, rt.alloc(), &[Kind::Ipv4, Kind::Service], 5)?;
+    check(&rt, rt.alloc(), &[Kind::Service], 6)?;
+    Ok(check(&rt, rt.alloc(), &[Kind::Proto], 2)?)
 }
 
 #[test]
-fn changes_of_one_field(rt: HostRuntime) -> Result<(), Fail> {
-    Ok(check(&rt, rt.alloc(), &[Kind::Service], 6)?)
-}
-
-#[test]
-fn changes_of_three_fields(rt: HostRuntime) -> Result<(), Fail> {
-    Ok(check(&rt, rt.alloc(), &[Kind::Ether, Kind::Proto, Kind::Mark], 7)?)
+fn changes_of_many_and_long_fields(rt: HostRuntime) -> Result<(), Fail> {
+    check(&rt, rt.alloc(), &[Kind::Ether, Kind::Proto, Kind::Mark], 7)?;
+    check(&rt, rt.alloc(), &[Kind::Ipv6, Kind::Ether, Kind::Mark], 3)?;
+    Ok(check(&rt, rt.alloc(), &[Kind::Proto; 16], 4)?)
 }

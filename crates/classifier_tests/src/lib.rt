@@ -1,0 +1,37 @@
+//! Tests of the classifier: blocks, groups, rows of bits, pages, tables, ends and expiries by worked examples, and the image of a
+//! set beside a plain list of elements that look random.
+//!
+//! **Definitions:** none; it has tests alone. **Theory:** docs/architecture.md, "The classifier, by one
+//! example".
+#![tactic(auto)]
+
+#[cfg(test)]
+mod asserts;
+#[cfg(test)]
+mod changes;
+#[cfg(test)]
+mod disjoint;
+#[cfg(test)]
+mod drawn;
+#[cfg(test)]
+mod ends;
+#[cfg(test)]
+mod examples;
+#[cfg(test)]
+mod expiries;
+#[cfg(test)]
+mod fields;
+#[cfg(test)]
+mod paged;
+#[cfg(test)]
+mod plain;
+#[cfg(test)]
+mod random;
+#[cfg(test)]
+mod rows;
+#[cfg(test)]
+mod rules;
+#[cfg(test)]
+mod sets;
+#[cfg(test)]
+mod summaries;
