@@ -1,10 +1,9 @@
 //! The counted slots.
-ghost use Rattle.std.specs.Prelude.{◌≡◌, ◌^◌, ◌<◌, ◌∷◌, ◌++◌, [], length, IfOk};
+ghost use Rattle.std.specs.Prelude.{◌≡◌, ◌^◌, ◌<◌, IfOk};
 ghost use Rattle.gen_slots.specs.SlotMachine.{initial};
-ghost use Rattle.history_laws.specs.States.{AllShow};
 
 use crate::numbers::{Number, first_values, next_values, shown};
-use gen_slots::{Pass, SlotCore, Steps, Writer, make_at};
+use gen_slots::{Held, Pass, SlotCore, Steps, Writer, make_at};
 use set_model::Memory;
 use std::alloc::Global;
 use std::marker::Brand;
@@ -17,7 +16,7 @@ use std::thread::{Threads, join};
 /// The last count before counts wrap to 0.
 const LAST: u64 = 72_057_594_037_927_935;
 
-/// Asserts that a retired slot is free once its reader has left it, where the count of enters wraps in between.
+/// Asserts that a retired slot is free after its reader left it, if the count of enters wraps in between.
 fn assert_checked(rt: &impl Abort, core: &mut SlotCore)
     requires { core.old ≡ initial 1 72057594037927935 }
 {
@@ -49,6 +48,22 @@ fn made(alloc: Global, start: u64) -> Result<(Writer<Number>, Pass<Number>, Pass
     Ok((writer, first, second))
 }
 
+/// Publishes a number, and asserts what the first reader's berth of the slot held before: 99 if it was empty.
+fn assert_publishes<L: Ledger>(
+    rt: &impl Abort,
+    alloc: Global,
+    writer: &mut Writer<Number>,
+    steps: &mut Steps<L>,
+    x: u64,
+    before: u64,
+)
+    requires readers { writer.old.readers ≡ 2 }
+    ensures kept { (writer.new.readers ≡ 2) × (writer.new.of ≡ writer.old.of) }
+{
+    let found = publish(rt, alloc, writer, x, steps);
+    assert_eq!(rt; found, before);
+}
+
 /// Publishes a number. What the first reader's berth of the slot held before, or 99 if it was empty.
 fn publish<L: Ledger>(
     rt: &impl Abort,
@@ -65,18 +80,25 @@ fn publish<L: Ledger>(
     shown(&values[0])
 }
 
-/// The number that a reader enters.
-fn entered(pass: Pass<Number>) -> (Pass<Number>, u64)
-    ensures { result.0.of ≡ pass.of }
-{
-    let held = pass.enter();
+fn number(held: &Held<Number>) -> u64 {
     held.known();
-    let number = held.get().0;
-    (held.leave(), number)
+    held.get().0
 }
 
-/// Tells the second reader what the first has seen and what the writer has published, and the writer what the second
-/// has seen.
+fn assert_number(rt: &impl Abort, held: &Held<Number>, wanted: u64) {
+    assert_eq!(rt; number(held), wanted);
+}
+
+/// Asserts which number a reader enters.
+fn assert_enters(rt: &impl Abort, pass: Pass<Number>, wanted: u64) -> Pass<Number>
+    ensures { result.of ≡ pass.of }
+{
+    let held = pass.enter();
+    assert_number(rt, &held, wanted);
+    held.leave()
+}
+
+/// Gives the second reader the notes of the first reader and of the writer, and the writer the second reader's note.
 fn tell(writer: &mut Writer<Number>, first: &mut Pass<Number>, second: &mut Pass<Number>)
     requires { (first.old.of ≡ writer.old.of) × (second.old.of ≡ writer.old.of) }
     ensures { (writer.new.readers ≡ writer.old.readers) × (writer.new.of ≡ writer.old.of) }
@@ -102,32 +124,28 @@ fn assert_entered<L: Ledger>(
 )
     requires { (writer.old.readers ≡ 2) × (first.of ≡ writer.old.of) × (second.of ≡ writer.old.of) }
 {
-    let (first, start) = entered(first);
-    assert_eq!(rt; start, 0);
-    assert_eq!(rt; publish(rt, alloc, writer, 1, steps), 99);
-    let (mut first, next) = entered(first);
-    assert_eq!(rt; next, 1);
+    let first = assert_enters(rt, first, 0);
+    assert_publishes(rt, alloc, writer, steps, 1, 99);
+    let mut first = assert_enters(rt, first, 1);
     let mut second = second;
     tell(writer, &mut first, &mut second);
-    assert_told(rt, alloc, writer, second, steps);
-    assert_eq!(rt; entered(first).1, 4);
+    let second = assert_enters(rt, second, 1);
+    assert_publishes_more(rt, alloc, writer, steps);
+    assert_enters(rt, first, 4);
+    assert_enters(rt, second, 4);
 }
 
-fn assert_told<L: Ledger>(
+fn assert_publishes_more<L: Ledger>(
     rt: &impl Abort,
     alloc: Global,
     writer: &mut Writer<Number>,
-    second: Pass<Number>,
     steps: &mut Steps<L>,
 )
     requires { writer.old.readers ≡ 2 }
 {
-    let (second, told) = entered(second);
-    assert_eq!(rt; told, 1);
-    assert_eq!(rt; publish(rt, alloc, writer, 2, steps), 0);
-    assert_eq!(rt; publish(rt, alloc, writer, 3, steps), 1);
-    assert_eq!(rt; publish(rt, alloc, writer, 4, steps), 2);
-    assert_eq!(rt; entered(second).1, 4);
+    assert_publishes(rt, alloc, writer, steps, 2, 0);
+    assert_publishes(rt, alloc, writer, steps, 3, 1);
+    assert_publishes(rt, alloc, writer, steps, 4, 2);
 }
 
 fn enter_from<L: Ledger>(
@@ -177,10 +195,11 @@ fn steps_back(pass: Pass<Number>) -> u64 {
     let mut pass = pass;
     let (mut last, mut back) = (0, 0u64);
     for _ in 0..5000 {
-        let (next, now) = entered(pass);
+        let held = pass.enter();
+        let now = number(&held);
         back = back.wrapping_add((now < last) as u64);
         last = now;
-        pass = next;
+        pass = held.leave();
     }
     back
 }

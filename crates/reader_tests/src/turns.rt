@@ -1,9 +1,8 @@
 //! The ticket lock.
-ghost use Rattle.std.specs.Prelude.{◌≡◌, ◌∷◌, ◌++◌, [], length, IfOk};
-ghost use Rattle.history_laws.specs.States.{AllShow};
+ghost use Rattle.std.specs.Prelude.{◌≡◌, IfOk};
 
 use crate::numbers::{Number, first_values, next_values, shown};
-use gen_turns::{Pass, Writer, make};
+use gen_turns::{Held, Pass, Writer, make};
 use set_model::Memory;
 use std::alloc::Global;
 use std::process::Abort;
@@ -25,7 +24,7 @@ fn made(alloc: Global) -> Result<(Writer<Number>, Pass<Number>, Pass<Number>), M
     Ok((writer, first, second))
 }
 
-/// Publishes a number. What stood in both places before, or 99 if one was empty.
+/// Publishes a number. What both places held before, or 99 if one was empty.
 fn publish<R: Wait + Abort>(
     rt: &R,
     alloc: Global,
@@ -40,18 +39,40 @@ fn publish<R: Wait + Abort>(
     (shown(&values[0]), shown(&values[1]))
 }
 
-/// The number that a reader enters.
-fn entered<R: Wait>(rt: &R, pass: Pass<Number>) -> (Pass<Number>, u64)
-    ensures { result.0.of ≡ pass.of }
+/// Publishes a number, and asserts what both places held before: 99 if one was empty.
+fn assert_publishes<R: Wait + Abort>(
+    rt: &R,
+    alloc: Global,
+    writer: &mut Writer<Number>,
+    x: u64,
+    before: u64,
+)
+    requires readers { writer.old.readers ≡ 2 }
+    ensures kept { (writer.new.readers ≡ 2) × (writer.new.of ≡ writer.old.of) }
 {
-    let held = pass.enter(rt);
-    held.known();
-    let number = held.get().0;
-    (held.leave(), number)
+    let (first, second) = publish(rt, alloc, writer, x);
+    assert!(rt; first == before && second == before);
 }
 
-/// Tells the second reader what the first has seen and what the writer has published, and the writer what the second
-/// has seen.
+fn number(held: &Held<Number>) -> u64 {
+    held.known();
+    held.get().0
+}
+
+fn assert_number(rt: &impl Abort, held: &Held<Number>, wanted: u64) {
+    assert_eq!(rt; number(held), wanted);
+}
+
+/// Asserts which number a reader enters.
+fn assert_enters<R: Wait + Abort>(rt: &R, pass: Pass<Number>, wanted: u64) -> Pass<Number>
+    ensures { result.of ≡ pass.of }
+{
+    let held = pass.enter(rt);
+    assert_number(rt, &held, wanted);
+    held.leave()
+}
+
+/// Gives the second reader the notes of the first reader and of the writer, and the writer the second reader's note.
 fn tell(writer: &mut Writer<Number>, first: &mut Pass<Number>, second: &mut Pass<Number>)
     requires { (first.old.of ≡ writer.old.of) × (second.old.of ≡ writer.old.of) }
     ensures { (writer.new.readers ≡ writer.old.readers) × (writer.new.of ≡ writer.old.of) }
@@ -65,8 +86,8 @@ fn tell(writer: &mut Writer<Number>, first: &mut Pass<Number>, second: &mut Pass
     writer.known();
 }
 
-/// Asserts what both readers enter and what stood in the places. At the start the readers have their values and the
-/// places are empty. The first reader enters with state 1, and the second after it; nobody enters with state 2 or 3.
+/// Asserts what both readers enter and what the places held. At the start the readers have their values and the
+/// places are empty. Both enter with state 1; nobody enters with state 2 or 3.
 fn assert_entered<R: Wait + Abort>(
     rt: &R,
     alloc: Global,
@@ -76,31 +97,23 @@ fn assert_entered<R: Wait + Abort>(
 )
     requires { (writer.old.readers ≡ 2) × (first.of ≡ writer.old.of) × (second.of ≡ writer.old.of) }
 {
-    let (first, start) = entered(rt, first);
-    assert_eq!(rt; start, 0);
-    assert_eq!(rt; publish(rt, alloc, writer, 1), (99, 99));
-    let (mut first, next) = entered(rt, first);
-    assert_eq!(rt; next, 1);
+    let first = assert_enters(rt, first, 0);
+    assert_publishes(rt, alloc, writer, 1, 99);
+    let mut first = assert_enters(rt, first, 1);
     let mut second = second;
     tell(writer, &mut first, &mut second);
-    assert_told(rt, alloc, writer, second);
-    assert_eq!(rt; entered(rt, first).1, 4);
+    let second = assert_enters(rt, second, 1);
+    assert_publishes_more(rt, alloc, writer);
+    assert_enters(rt, first, 4);
+    assert_enters(rt, second, 4);
 }
 
-fn assert_told<R: Wait + Abort>(
-    rt: &R,
-    alloc: Global,
-    writer: &mut Writer<Number>,
-    second: Pass<Number>,
-)
+fn assert_publishes_more<R: Wait + Abort>(rt: &R, alloc: Global, writer: &mut Writer<Number>)
     requires { writer.old.readers ≡ 2 }
 {
-    let (second, told) = entered(rt, second);
-    assert_eq!(rt; told, 1);
-    assert_eq!(rt; publish(rt, alloc, writer, 2), (99, 99));
-    assert_eq!(rt; publish(rt, alloc, writer, 3), (2, 2));
-    assert_eq!(rt; publish(rt, alloc, writer, 4), (3, 3));
-    assert_eq!(rt; entered(rt, second).1, 4);
+    assert_publishes(rt, alloc, writer, 2, 99);
+    assert_publishes(rt, alloc, writer, 3, 2);
+    assert_publishes(rt, alloc, writer, 4, 3);
 }
 
 // `slots` makes the same calls, and its readers enter the same numbers.
@@ -125,10 +138,11 @@ fn steps_back<R: Wait>(rt: &R, pass: Pass<Number>) -> u64 {
     let mut pass = pass;
     let (mut last, mut back) = (0, 0u64);
     for _ in 0..2000 {
-        let (next, now) = entered(rt, pass);
+        let held = pass.enter(rt);
+        let now = number(&held);
         back = back.wrapping_add((now < last) as u64);
         last = now;
-        pass = next;
+        pass = held.leave();
     }
     back
 }
