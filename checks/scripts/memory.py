@@ -51,7 +51,7 @@ def main():
             count = f"{folder}/count"
             counted = run(program, words, folder, LD_PRELOAD=shim, FAIL_COUNT=count)
             with open(count) as file:
-                allocations = int(file.read())
+                allocations = int(file.readline())
             if counted != whole or allocations == 0:
                 bad += 1
                 print(f"{' '.join(words)}: writes otherwise under the count, or {allocations} allocations")

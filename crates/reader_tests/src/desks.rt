@@ -1,12 +1,15 @@
+//! Several control threads at one control.
 ghost use Rattle.std.specs.Prelude.{◌≡◌, length, All, IfOk};
 ghost use Rattle.set_model.specs.Runnable.{IsRunnableStep};
 ghost use Rattle.control_desk.specs.Woven.{IsTransaction};
 
 use crate::fixture::{addition, one_set};
-use control_desk::{Book, Clerk, DeskError, open_desk};
+use control_desk::{Book, Clerk, DeskError, Log, open_desk};
 use gen_publish::start;
 use set_model::{Duplicate, Event, Memory, Schema, Step, Steps};
 use std::alloc::Global;
+use std::process::Abort;
+use std::sync::Wait;
 use std::test::Fail;
 
 /// Adds a port, and commits.
@@ -36,7 +39,7 @@ impl Desk {
         ensures first { IfOk result (λ d. IsTransaction d.first × All (IsRunnableStep d.one.schema) d.first) }
         ensures second { IfOk result (λ d. IsTransaction d.second × All (IsRunnableStep d.two.schema) d.second) }
     {
-        let schema = one_set(alloc)?;
+        let schema = one_set(alloc, None)?;
         let first = transaction(alloc, &schema, 80)?;
         let second = transaction(alloc, &schema, 443)?;
         let (control, _readers) = start(alloc, schema, 1)?;
@@ -52,46 +55,71 @@ impl Desk {
     }
 }
 
+fn committed(generation: u64) -> Event {
+    Event::Committed {
+        generation,
+        purged: 0,
+    }
+}
+
+/// Asserts what both control threads are answered. The second has not seen the first's commit.
+fn assert_late<R: Wait + Abort>(rt: &R, desk: &mut Desk)
+    requires left { (desk.old.one.left ≡ 2) × (desk.old.two.left ≡ 2) }
+    requires first { IsTransaction desk.old.first × All (IsRunnableStep desk.old.one.schema) desk.old.first }
+    requires second { IsTransaction desk.old.second × All (IsRunnableStep desk.old.two.schema) desk.old.second }
+{
+    let first = desk.one.submit(rt, &desk.first, false);
+    assert_eq!(rt; first, Ok(committed(1)));
+    assert_again(rt, &mut desk.two, &desk.second);
+}
+
+fn assert_again<R: Wait + Abort>(rt: &R, clerk: &mut Clerk, steps: &Steps)
+    requires left { clerk.old.left ≡ 2 }
+    requires steps { IsTransaction steps.now × All (IsRunnableStep clerk.old.schema) steps.now }
+{
+    let late = clerk.submit(rt, steps, false);
+    assert_eq!(rt; late, Err(DeskError::Stale { newer: 1 }));
+    let again = clerk.submit(rt, steps, false);
+    assert_eq!(rt; again, Ok(committed(2)));
+}
+
 #[test]
 fn a_control_thread_that_comes_late_submits_again(rt: HostRuntime) -> Result<(), Fail> {
-    let mut desk = Desk::open(rt.alloc())?;
-    assert_eq!(rt;
-        desk.one.submit(&rt, &desk.first, false),
-        Ok(Event::Committed {
-            generation: 1,
-            purged: 0
-        })
-    );
-    assert_eq!(rt;
-        desk.two.submit(&rt, &desk.second, false),
-        Err(DeskError::Stale { newer: 1 })
-    );
-    assert_eq!(rt;
-        desk.two.submit(&rt, &desk.second, false),
-        Ok(Event::Committed {
-            generation: 2,
-            purged: 0
-        })
-    );
+    assert_late(&rt, &mut Desk::open(rt.alloc())?);
     Ok(())
+}
+
+/// A book of a new control, and a transaction for it.
+fn book(alloc: Global) -> Result<(Book, Steps), Memory>
+    ensures steps { IfOk result (λ r. IsTransaction r.1 × All (IsRunnableStep r.0.control.schema) r.1) }
+    ensures number { IfOk result (λ r. r.0.control.work.base.number ≡ 0) }
+{
+    let schema = one_set(alloc, None)?;
+    let steps = transaction(alloc, &schema, 80)?;
+    let (control, _readers) = start(alloc, schema, 1)?;
+    Ok((Book::new(alloc, control), steps))
+}
+
+/// Asserts that a log has one entry with all steps.
+fn assert_logged(rt: &impl Abort, log: &Log, steps: &Steps) {
+    assert_eq!(rt; log.len(), 1);
+    assert!(rt; log.len() > 0);
+    assert_eq!(rt; log.at(0).steps.len(), steps.len());
+}
+
+fn assert_applies(rt: &impl Abort, alloc: Global, book: &mut Book, steps: &Steps)
+    requires steps { IsTransaction steps.now × All (IsRunnableStep book.old.control.schema) steps.now }
+    requires number { book.old.control.work.base.number ≡ 0 }
+{
+    let end = book.apply(1, steps, false);
+    assert_eq!(rt; end, Ok(committed(1)));
+    assert_logged(rt, &book.log.copy(alloc).expect(rt, "memory"), steps);
 }
 
 #[test]
 fn a_book_logs_a_transaction(rt: HostRuntime) -> Result<(), Fail> {
     let alloc = rt.alloc();
-    let schema = one_set(alloc)?;
-    let steps = transaction(alloc, &schema, 80)?;
-    let (control, _readers) = start(alloc, schema, 1)?;
-    let mut book = Book::new(alloc, control);
-    assert_eq!(rt;
-        book.apply(1, &steps, false)?,
-        Event::Committed {
-            generation: 1,
-            purged: 0
-        }
-    );
-    let log = book.log.copy(alloc)?;
-    assert_eq!(rt; log.len(), 1);
-    assert_eq!(rt; log.at(0).steps.len(), steps.len());
+    let (mut book, steps) = book(alloc)?;
+    assert_applies(&rt, alloc, &mut book, &steps);
     Ok(())
 }

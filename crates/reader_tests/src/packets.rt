@@ -1,3 +1,4 @@
+//! Sections: a control's steps beside packets.
 ghost use Rattle.std.specs.Prelude.{◌≡◌, ◌<◌, ◌≤◌, length, map, All, IfOk, Some};
 ghost use Rattle.set_model.specs.Runnable.{IsRunnableStep, IsFitting};
 ghost use Rattle.packet_pool.specs.Running.{HasNumbers};
@@ -5,13 +6,14 @@ ghost use Rattle.packet_pool.specs.Work.{AllReady};
 
 use crate::fixture::{addition, one_set};
 use gen_publish::{Control, Held, Reader, start};
-use packet_pool::{Judge, LookupJudge, OpenGate, run_section, run_steps};
+use packet_pool::{Judge, LookupJudge, OpenGate, SectionResult, run_section, run_steps};
 use set_model::{
     Event, Events, Key, Line, Memory, Packet, Packets, Schema, Step, Steps, Verdict, Why, fits,
 };
 use std::alloc::Global;
 use std::process::Abort;
 use std::test::Fail;
+use std::thread::Threads;
 
 /// Answers every packet with the number of the generation that is held.
 struct NumberJudge;
@@ -96,7 +98,7 @@ fn prepare(alloc: Global, threads: u32, count: u64) -> Result<Prepared, Memory>
     ensures numbers { IfOk result (λ d. HasNumbers d.control d.steps) }
     ensures packets { IfOk result (λ d. All (IsFitting d.control.schema) d.packets × (length d.packets ≡ count)) }
 {
-    let schema = one_set(alloc)?;
+    let schema = one_set(alloc, None)?;
     let steps = steps(alloc, &schema)?;
     let packets = packets(alloc, &schema, count)?;
     let (control, readers) = start(alloc, schema, threads)?;
@@ -109,7 +111,7 @@ fn prepare(alloc: Global, threads: u32, count: u64) -> Result<Prepared, Memory>
 }
 
 /// Each line is its packet's, and has its generation's number for a verdict.
-fn expect_numbers(rt: &impl Abort, lines: &[Line]) {
+fn assert_numbers(rt: &impl Abort, lines: &[Line]) {
     for (p, line) in lines.iter().enumerate() {
         assert_eq!(rt; line.packet, 100 + p as u64);
         assert!(rt; line.thread < 2 && line.generation < 2);
@@ -122,58 +124,98 @@ fn expect_numbers(rt: &impl Abort, lines: &[Line]) {
     }
 }
 
-fn expect_found(rt: &impl Abort, lines: &[Line]) {
+/// Each line has generation 1 and element 0.
+fn assert_found(rt: &impl Abort, lines: &[Line]) {
     for line in lines {
         assert_eq!(rt; line.generation, 1);
         assert_eq!(rt; line.verdict, Verdict::Element { id: 0 });
     }
 }
 
-#[test]
-fn a_commit_beside_packets_and_packets_behind_it(rt: HostRuntime) -> Result<(), Fail> {
-    let alloc = rt.alloc();
-    let Prepared {
-        mut control,
-        mut readers,
-        steps,
-        packets,
-    } = prepare(alloc, 2, 33)?;
-    let first = run_section(
-        &rt,
+/// Answers 33 packets beside a commit, each with its generation's number.
+fn beside_commit<R: Threads + Abort + Sync>(
+    rt: &R,
+    alloc: Global,
+    given: &mut Prepared,
+) -> Result<SectionResult, Memory>
+    requires ready { (length given.old.readers.items ≡ 2) × AllReady given.old.control given.old.readers.items }
+    requires steps { All (IsRunnableStep given.old.control.schema) given.old.steps × HasNumbers given.old.control given.old.steps }
+    requires packets { All (IsFitting given.old.control.schema) given.old.packets × (length given.old.packets ≡ 33) }
+    ensures ready { IfOk result (λ _. (length given.new.readers.items ≡ 2) × AllReady given.new.control given.new.readers.items) }
+    ensures packets { IfOk result (λ _. All (IsFitting given.new.control.schema) given.new.packets × (length given.new.packets ≡ 33)) }
+{
+    run_section(
+        rt,
         alloc,
-        &mut control,
-        &steps,
+        &mut given.control,
+        &given.steps,
         false,
-        &mut readers,
-        &packets,
+        &mut given.readers,
+        &given.packets,
         100,
         &NumberJudge,
         &OpenGate,
-    )?;
-    assert_eq!(rt; first.events.len(), 1);
-    assert_eq!(rt; first.lines.len(), 33);
-    expect_numbers(&rt, first.lines.as_slice());
-    let second = run_section(
-        &rt,
+    )
+}
+
+/// Looks 33 packets up, without a step beside them.
+fn behind_commit<R: Threads + Abort + Sync>(
+    rt: &R,
+    alloc: Global,
+    given: &mut Prepared,
+) -> Result<SectionResult, Memory>
+    requires ready { (length given.old.readers.items ≡ 2) × AllReady given.old.control given.old.readers.items }
+    requires packets { All (IsFitting given.old.control.schema) given.old.packets × (length given.old.packets ≡ 33) }
+{
+    assert!(rt; given.control.number() < 1_000_000);
+    run_section(
+        rt,
         alloc,
-        &mut control,
+        &mut given.control,
         &Steps::new(alloc),
         false,
-        &mut readers,
-        &packets,
+        &mut given.readers,
+        &given.packets,
         133,
         &LookupJudge,
         &OpenGate,
-    )?;
-    assert_eq!(rt; second.events.len(), 0);
-    assert_eq!(rt; second.lines.len(), 33);
-    expect_found(&rt, second.lines.as_slice());
+    )
+}
+
+/// Asserts how many events and lines a section has.
+fn assert_counts(rt: &impl Abort, section: &SectionResult, events: u64) {
+    assert_eq!(rt; section.events.len() as u64, events);
+    assert_eq!(rt; section.lines.len() as u64, 33);
+}
+
+fn assert_sections<R: Threads + Abort + Sync>(
+    rt: &R,
+    alloc: Global,
+    given: &mut Prepared,
+) -> Result<(), Memory>
+    requires ready { (length given.old.readers.items ≡ 2) × AllReady given.old.control given.old.readers.items }
+    requires steps { All (IsRunnableStep given.old.control.schema) given.old.steps × HasNumbers given.old.control given.old.steps }
+    requires packets { All (IsFitting given.old.control.schema) given.old.packets × (length given.old.packets ≡ 33) }
+{
+    let first = beside_commit(rt, alloc, given)?;
+    assert_counts(rt, &first, 1);
+    assert_numbers(rt, first.lines.as_slice());
+    let second = behind_commit(rt, alloc, given)?;
+    assert_counts(rt, &second, 0);
+    assert_found(rt, second.lines.as_slice());
+    Ok(())
+}
+
+#[test]
+fn a_commit_beside_packets_and_packets_behind_it(rt: HostRuntime) -> Result<(), Fail> {
+    let alloc = rt.alloc();
+    assert_sections(&rt, alloc, &mut prepare(alloc, 2, 33)?)?;
     Ok(())
 }
 
 /// The events of an addition that is refused, and of a commit.
 fn refusal(alloc: Global, keep_going: bool) -> Result<Events, Memory> {
-    let schema = one_set(alloc)?;
+    let schema = one_set(alloc, None)?;
     let mut steps = Steps::new(alloc);
     steps.push(addition(alloc, &schema, 80, 80)?)?;
     steps.push(addition(alloc, &schema, 80, 90)?)?;

@@ -1,5 +1,0 @@
-use Rattle.std.proofs.Common.{ap, ◌∙◌}
-use Rattle.gen_tests.proofs.slots.publish.Goals as goal
-
-pub returns : goal.returns
-returns g c = let now = c.publish.ensures.made c.args.x c.requires.state in record { made = (ap (λ w. w.readers) now ∙ c.requires.readers.0, ap (λ w. w.of) now, ap (λ w. w.made) now) }
