@@ -3,6 +3,7 @@
 //! `top_call::call::call` is the program, and its contract says what a run promises (`crates/top_call/specs/Promises.antt`).
 //! No contract covers `main`, which these lines are to be read for:
 //!
+//! - before it opens a file, each closed standard descriptor gets a stand-in on which every call fails;
 //! - it passes on all words that the system gives but the program's name;
 //! - files are the system's, and the name `-` is the standard input;
 //! - output goes to the standard output, and notes for a person go to the standard error;
@@ -10,6 +11,9 @@
 //! - the status is the exit code.
 #![tactic(auto)]
 
+mod descriptors;
+
+use crate::descriptors::fill_closed;
 use pip_base::{DirShelf, ErrNotes, OutSink};
 use run_meter::{InPlace, Meter};
 use std::env;
@@ -18,6 +22,7 @@ use std::process::ExitCode;
 use top_call::call::{call, words_behind};
 
 fn main(rt: HostRuntime) -> ExitCode {
+    let _stand_ins = fill_closed(&rt, rt.alloc());
     let words = words_behind(rt.alloc(), env::args(&rt));
     let mut shelf = DirShelf::new(rt.alloc(), &rt, rt.stdin());
     let terminal = rt.stderr().is_terminal().then_some(rt.stderr());
