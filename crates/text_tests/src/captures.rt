@@ -222,6 +222,7 @@ const PLANS: &[u8] = b"\
     ip filter s\nip_saddr . dport|1 statement~\
     \nip filter s ip6_saddr . dport|2 type~\
     ip filter s ip_saddr . proto|1 type~\
+    ip filter s dport . ip_saddr|1 type~\
     ip filter t ip_saddr . dport|1 set~\
     ip6 filter s ip_saddr . dport|1 set~\
     5|1 statement~\
@@ -252,6 +253,6 @@ fn captures(rt: HostRuntime) {
 #[test]
 fn plans(rt: HostRuntime) {
     assert_told(&rt, rt.alloc(), PACKETS, 2, told_packets);
-    assert_told(&rt, rt.alloc(), PLANS, 17, plan_refusal);
+    assert_told(&rt, rt.alloc(), PLANS, 18, plan_refusal);
     assert_told(&rt, rt.alloc(), PLACES, 4, place);
 }
