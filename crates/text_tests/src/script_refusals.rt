@@ -1,497 +1,279 @@
-use crate::fixture::place;
+//! Scripts that are refused: the line of the bad token, and the first reason that applies.
+use crate::cases::{assert_told, joined, line_of, reason_word, told_place, told_refusal};
+use set_model::Memory;
 use set_script::{ScriptError, bad_token, read_script};
 use std::alloc::Global;
+use std::process::Abort;
 use std::test::Fail;
-use token_forms::Reason;
+use text_pieces::Piece;
 
-const H: &[u8] = b"add set ip filter s { type ipv4_addr . inet_service ; flags interval ; }\n";
-
-/// The line and the reason of a text that is refused.
-fn refusal(alloc: Global, text: &[u8]) -> Option<(u64, Reason)> {
+/// The line and the reason for which a script is refused.
+fn refusal(alloc: Global, text: &[u8]) -> Result<Vec<u8>, Memory> {
     match read_script(alloc, text) {
-        Err(ScriptError::Bad { line, reason }) => Some((line, reason)),
-        _ => None,
+        Ok(_) => line_of(alloc, &[Piece::Word(b"read")]),
+        Err(ScriptError::Bad { line, reason }) => told_refusal(alloc, line, reason_word(reason)),
+        Err(ScriptError::Memory) => Err(Memory),
     }
 }
 
+/// That of a statement behind a set of addresses and ports.
+fn statement_refusal(alloc: Global, text: &[u8]) -> Result<Vec<u8>, Memory> {
+    let set = b"add set ip filter s { type ipv4_addr . inet_service ; flags interval ; }\n";
+    refusal(alloc, &joined(alloc, set, text)?)
+}
+
+/// That of an element of this set.
+fn element_refusal(alloc: Global, text: &[u8]) -> Result<Vec<u8>, Memory> {
+    statement_refusal(
+        alloc,
+        &joined(alloc, b"create element ip filter s { ", text)?,
+    )
+}
+
+/// That of an element of a timed set of ports.
+fn option_refusal(alloc: Global, text: &[u8]) -> Result<Vec<u8>, Memory> {
+    let front = b"add set t s { type inet_service; flags timeout }; delete element t s { ";
+    refusal(alloc, &joined(alloc, front, text)?)
+}
+
+/// That of a set's kinds.
+fn type_refusal(alloc: Global, text: &[u8]) -> Result<Vec<u8>, Memory> {
+    refusal(alloc, &joined(alloc, b"add set t s { type ", text)?)
+}
+
+/// The place of a script's bad token.
+fn place(alloc: Global, text: &[u8]) -> Result<Vec<u8>, Memory> {
+    told_place(alloc, bad_token(alloc, text)?)
+}
+
+/// The place, the length, the line and the column of a bad token.
+const PLACES: &[u8] = b"\
+    at 5\nat 4|8 1 2 4 moment~\
+    table t {\nset s {\ntype mark\n\tauto-merge\n}\n}|29 10 4 2 left out~\
+    at 5 \\\n$|7 1 2 1 character~\
+    commit\nadd|10 0 2 4 end~\
+    add set ip t p { type inet_service ; comment \"\xc3\xa4\" x }|50 1 1 51 statement~\
+    at 5\ncommit|none~\
+";
+
+/// Each reason with its line.
+const REASONS: &[u8] = b"\
+    \xff|1 character~\
+    at 5\n\"|2 character~\
+    at 5 \\\n$|2 character~\
+    add set t s { type mark; elements = {\n\n|3 end~\
+    add set ip t p { type inet_service ; }\nadd rule ip t c drop|2 left out~\
+    \n\n*|3 left out~\
+    add set t s {\ntype mark . ifname\n}|2 type~\
+    add set ip t p { type inet_service ; flags interval ; }\nadd element ip t p { 10-|2 value~\
+    add set ip t p { type inet_service ; flags interval ; }\nadd element ip t p { 10|2 end~\
+    table t {\nset s {\ntype mark\ntimeout 1w\n}\n}|4 time~\
+    at 5\nat 4|2 moment~\
+    add set ip t p { type inet_service ; flags interval ; }\nadd element ip t q { 80 }|2 set~\
+    table t {\nset s {\ntype mark\nsize 0\n}\n}|4 number~\
+    commit\ncommit commit|2 statement~\
+    at 5\nadd\nset|2 statement~\
+";
+
+/// Sets and tables outside the grammar.
+const SETS: &[u8] = b"\
+    add element ip filter s { 10.0.0.5 . 1024 }|1 set~\
+    add set ip filter s { type ipv4_addr flags interval ; }|1 statement~\
+    add set ip filter s { flags interval; type ipv4_addr }|1 statement~\
+    add set ip filter s { type ipv4_addr; type ipv4_addr }|1 statement~\
+    add set ip filter s { type ipv4_addr; flags interval; flags timeout }|1 statement~\
+    add set ip filter s { type ipv4_addr; flags interval, }|1 statement~\
+    add set ip filter s { type ipv4_addr; flags timeout, timeout }|1 statement~\
+    add set ip filter s { type ipv4_addr; flags interval timeout }|1 statement~\
+    add set ip filter s { type ipv4_addr; flags disjoint, disjoint }|1 statement~\
+    add set ip filter s { type ipv4_addr; flags disjoint,interval,disjoint }|1 statement~\
+    add set ip filter s { type ipv4_addr; disjoint }|1 statement~\
+    add set ip filter s { type ipv4_addr; flags constant }|1 left out~\
+    add set ip filter s { type ipv4_addr; auto-merge }|1 left out~\
+    add set ip filter s { typeof ip saddr }|1 left out~\
+    add set ip filter s { type ipv4_addr; timeout 5s; timeout 5s }|1 statement~\
+    add set ip filter s { type ipv4_addr; timeout never }|1 time~\
+    add set ip filter s { type ipv4_addr; elements = { }; flags interval }|1 statement~\
+    add set ip filter s { type ipv4_addr; elements = { }; elements = { } }|1 statement~\
+    add set ip filter s { type ipv4_addr; elements { } }|1 statement~\
+    add set ip filter s { type ipv4_addr; elements =\n{ } }|1 statement~\
+    add set ip filter s { type ipv4_addr; size 05 }|1 number~\
+    add set ip filter s { type ipv4_addr; size 4294967296 }|1 number~\
+    add set ip filter s { type ipv4_addr; size }|1 statement~\
+    add set ip filter s { type ipv4_addr; size 5; size 5 }|1 statement~\
+    add set ip filter s { type ipv4_addr; gc-interval never }|1 time~\
+    add set ip filter s { type ipv4_addr; gc-interval 5s; gc-interval 5s }|1 statement~\
+    add set ip filter s { type ipv4_addr; policy fast }|1 statement~\
+    add set ip filter s { type ipv4_addr; policy memory; policy memory }|1 statement~\
+    add set ip filter s { type ipv4_addr; comment all }|1 statement~\
+    add set ip filter s { type ipv4_addr; comment \"a\"; comment \"a\" }|1 statement~\
+    add set ip filter 5 { type ipv4_addr }|1 set~\
+    add set ip 5 s { type ipv4_addr }|1 statement~\
+    add set ip s { type ipv4_addr }|1 statement~\
+    add set ip filter s { type ipv4_addr|1 end~\
+    table ip filter|1 end~\
+    table ip filter { set s { type ipv4_addr } set t { type ipv4_addr } }|1 statement~\
+    table ip filter { set s { type ipv4_addr }; set s { type ipv4_addr } }|1 set~\
+    table ip filter { } }|1 statement~\
+    table ip filter { chain c { } }|1 left out~\
+    add table ip|1 end~\
+    add table ip\n|1 statement~\
+    add chain t c|1 left out~\
+    flush ruleset; flush ruleset|1 statement~\
+    flush table t|1 statement~\
+";
+
+/// Types outside the grammar: 64 bytes and 16 fields are the most.
+const KINDS: &[u8] = b"\
+    ipv6_addr . ipv6_addr . ipv6_addr . ipv6_addr . inet_proto }|1 type~\
+    inet_proto . mark . mark . mark . mark . mark . mark . mark . mark . mark . mark . mark . mark . mark . mark . mark . mark }|1 type~\
+    ipv6_addr . ipv6_addr . ipv6_addr . ether_addr . ether_addr . inet_service }|1 type~\
+    integer }|1 type~\
+    map }|1 left out~\
+    }|1 statement~\
+    ipv4_addr . }|1 statement~\
+    ipv4_addr , mark }|1 statement~\
+";
+
+/// Statements outside the grammar.
+const STATEMENTS: &[u8] = b"\
+    add set ip filter s { type ipv4_addr }|2 set~\
+    add set filter s { type ipv4_addr }|2 set~\
+    table filter { set s { type ipv4_addr } }|2 set~\
+    commit; add set ip filter t { type ipv4_addr }|2 set~\
+    abort; add set ip filter t { type ipv4_addr }|2 set~\
+    round; table ip filter { set t { type ipv4_addr } }|2 set~\
+    add element ip filter t { 10.0.0.5 . 1024 }|2 set~\
+    add element ip nat s { 10.0.0.5 . 1024 }|2 set~\
+    add element inet filter s { 10.0.0.5 . 1024 }|2 set~\
+    add element delete set { 80 }|2 left out~\
+    create element ip filter t { 10.0.0.5 . 1024 }|2 set~\
+    destroy element ip filter t { 10.0.0.5 . 1024 }|2 set~\
+    flush set ip filter t|2 set~\
+    flush set ip filter map|2 left out~\
+    flush ip filter s|2 statement~\
+    flush ruleset|2 statement~\
+    create set ip filter t { type ipv4_addr }|2 left out~\
+    delete set ip filter s|2 left out~\
+    destroy table ip filter|2 left out~\
+    create rule ip filter c drop|2 left out~\
+    create ip filter s|2 statement~\
+    insert element ip filter s { 10.0.0.5 . 1024 }|2 statement~\
+    include \"other.nft\"|2 left out~\
+    add element ip filter s { 10.0.0.5 . 1024 } add|2 statement~\
+    add element ip filter s { 10.0.0.5 . 1024 } *|2 left out~\
+    add\nelement ip filter s { 10.0.0.5 . 1024 }|2 statement~\
+    at 05|2 moment~\
+    at 1000000000000001|2 moment~\
+    at 5 6|2 statement~\
+    at 5; round; at 4|2 moment~\
+    at chain|2 left out~\
+    at|2 end~\
+    at;|2 statement~\
+    commit 5|2 statement~\
+    abort {|2 statement~\
+    round round|2 statement~\
+";
+
+/// Elements outside the grammar.
+const ELEMENTS: &[u8] = b"\
+    10.0.0.5 }|2 statement~\
+    10.0.0.5 . 1024 . 1 }|2 statement~\
+    10.0.0.5 1024 }|2 statement~\
+    10.0.0.5 . 1024 10.0.0.6 . 1024 }|2 statement~\
+    10.0.0.5 . 1024,, 10.0.0.6 . 1024 }|2 statement~\
+    , 10.0.0.5 . 1024 }|2 statement~\
+    , }|2 statement~\
+    10.0.0 . 1024 }|2 value~\
+    10.0.0.05 . 1024 }|2 value~\
+    10.0.0.5 . 65536 }|2 value~\
+    10.0.0.5 . http }|2 value~\
+    10.0.0.5 . counter }|2 left out~\
+    10.0.0.5 . 1024, http }|2 value~\
+    10.0.0.6-10.0.0.5 . 1024 }|2 value~\
+    10.0.0.4/33 . 1024 }|2 value~\
+    10.0.0.5 - 10.0.0.6 . 1024 }|2 statement~\
+    10.0.0.5 . 1024 ; }|2 statement~\
+    10.0.0.5 . 1024 timeout 5s }|2 statement~\
+    10.0.0.5 . 1024 expires 5s }|2 statement~\
+    10.0.0.5 . 1024 counter packets 0 bytes 0 }|2 left out~\
+    10.0.0.5 . 1024 last used never }|2 statement~\
+    10.0.0.5 . 1024 comment \"a\" comment \"b\" }|2 statement~\
+    10.0.0.5 . 1024 comment a }|2 statement~\
+    10.0.0.5 . 1024 }}|2 statement~\
+    10.0.0.5 . 1024|2 end~\
+";
+
+/// An element's options outside the grammar.
+const OPTIONS: &[u8] = b"\
+    80-81 }|1 value~\
+    80/15 }|1 value~\
+    80 timeout 5x }|1 time~\
+    80 timeout }|1 statement~\
+    80 timeout limit }|1 left out~\
+    80 expires never }|1 time~\
+    80 expires 1000000000001 }|1 time~\
+    80 timeout 5s timeout 5s }|1 statement~\
+    80 timeout never expires 5s expires 5s }|1 statement~\
+";
+
+/// Comments of 128 and of 129 bytes.
+const COMMENTS: &[u8] = b"\
+    add set t s { type mark; comment \"12345678901234567890123456789012345678901234567890123456789012345678901234567890123456789012345678901234567890123456789012345678\" }|read~\
+    add set t s { type mark; comment \"123456789012345678901234567890123456789012345678901234567890123456789012345678901234567890123456789012345678901234567890123456789\" }|1 character~\
+";
+
+/// Names of up to 127 bytes, two of 128, and two that begin otherwise than a name.
+const NAMES: &[u8] = b"\
+    add set t _ { type mark }|read~\
+    add set t _2 { type mark }|read~\
+    add set t a23456789012345678901234567890123456789012345678901234567890123456789012345678901234567890123456789012345678901234567890123456 { type mark }|read~\
+    add set t a234567890123456789012345678901234567890123456789012345678901234567890123456789012345678901234567890123456789012345678901234567 { type mark }|read~\
+    add set t a2345678901234567890123456789012345678901234567890123456789012345678901234567890123456789012345678901234567890123456789012345678 { type mark }|1 set~\
+    add set t _2345678901234567890123456789012345678901234567890123456789012345678901234567890123456789012345678901234567890123456789012345678 { type mark }|1 set~\
+    add set t -2 { type mark }|1 set~\
+    add set t 12 { type mark }|1 set~\
+";
+
 #[test]
-fn bad_tokens_have_places(rt: HostRuntime) -> Result<(), Fail> {
-    let alloc = rt.alloc();
-    for (text, expected) in [
-        (b"at 5\nat 4".as_slice(), (8, 1, 2, 4, Reason::Moment)),
-        (
-            b"table t {\nset s {\ntype mark\n\tauto-merge\n}\n}",
-            (29, 10, 4, 2, Reason::LeftOut),
-        ),
-        (b"at 5 \\\n$", (7, 1, 2, 1, Reason::Character)),
-        (b"commit\nadd", (10, 0, 2, 4, Reason::End)),
-        (
-            b"add set ip t p { type inet_service ; comment \"\xc3\xa4\" x }",
-            (50, 1, 1, 51, Reason::Statement),
-        ),
-    ] {
-        assert_eq!(rt; place(bad_token(alloc, text)), Some(expected), "{text:?}");
-    }
-    Ok(())
+fn refused_scripts(rt: HostRuntime) {
+    assert_told(&rt, rt.alloc(), PLACES, 6, place);
+    assert_told(&rt, rt.alloc(), REASONS, 15, refusal);
+    assert_told(&rt, rt.alloc(), SETS, 44, refusal);
+    assert_told(&rt, rt.alloc(), COMMENTS, 2, refusal);
+    assert_told(&rt, rt.alloc(), NAMES, 8, refusal);
 }
 
 #[test]
-fn scripts_have_no_bad_token(rt: HostRuntime) -> Result<(), Fail> {
-    assert_eq!(rt; bad_token(rt.alloc(), b"at 5\ncommit"), Ok(None));
-    Ok(())
+fn refused_parts_of_scripts(rt: HostRuntime) {
+    assert_told(&rt, rt.alloc(), KINDS, 8, type_refusal);
+    assert_told(&rt, rt.alloc(), STATEMENTS, 36, statement_refusal);
+    assert_told(&rt, rt.alloc(), ELEMENTS, 25, element_refusal);
+    assert_told(&rt, rt.alloc(), OPTIONS, 9, option_refusal);
 }
 
-#[test]
-fn each_reason_with_its_line(rt: HostRuntime) -> Result<(), Fail> {
-    let alloc = rt.alloc();
-    for (text, line, reason) in [
-        (b"\xff".as_slice(), 1, Reason::Character),
-        (b"at 5\n\"", 2, Reason::Character),
-        (b"at 5 \\\n$", 2, Reason::Character),
-        (b"add set t s { type mark; elements = {\n\n", 3, Reason::End),
-        (
-            b"add set ip t p { type inet_service ; }\nadd rule ip t c drop",
-            2,
-            Reason::LeftOut,
-        ),
-        (b"\n\n*", 3, Reason::LeftOut),
-        (b"add set t s {\ntype mark . ifname\n}", 2, Reason::TypeWord),
-        (
-            b"add set ip t p { type inet_service ; flags interval ; }\nadd element ip t p { 10-",
-            2,
-            Reason::Value,
-        ),
-        (
-            b"add set ip t p { type inet_service ; flags interval ; }\nadd element ip t p { 10",
-            2,
-            Reason::End,
-        ),
-        (
-            b"table t {\nset s {\ntype mark\ntimeout 1w\n}\n}",
-            4,
-            Reason::Time,
-        ),
-        (b"at 5\nat 4", 2, Reason::Moment),
-        (
-            b"add set ip t p { type inet_service ; flags interval ; }\nadd element ip t q { 80 }",
-            2,
-            Reason::Set,
-        ),
-        (
-            b"table t {\nset s {\ntype mark\nsize 0\n}\n}",
-            4,
-            Reason::Number,
-        ),
-        (b"commit\ncommit commit", 2, Reason::Statement),
-        (b"at 5\nadd\nset", 2, Reason::Statement),
-    ] {
-        assert_eq!(rt; refusal(alloc, text), Some((line, reason)), "{text:?}");
-    }
-    Ok(())
-}
-
-#[test]
-fn sets_outside_the_grammar(rt: HostRuntime) -> Result<(), Fail> {
-    let alloc = rt.alloc();
-    for (text, reason) in [
-        (
-            b"add element ip filter s { 10.0.0.5 . 1024 }".as_slice(),
-            Reason::Set,
-        ),
-        (
-            b"add set ip filter s { type ipv4_addr flags interval ; }",
-            Reason::Statement,
-        ),
-        (
-            b"add set ip filter s { flags interval; type ipv4_addr }",
-            Reason::Statement,
-        ),
-        (
-            b"add set ip filter s { type ipv4_addr; type ipv4_addr }",
-            Reason::Statement,
-        ),
-        (
-            b"add set ip filter s { type ipv4_addr; flags interval; flags timeout }",
-            Reason::Statement,
-        ),
-        (
-            b"add set ip filter s { type ipv4_addr; flags interval, }",
-            Reason::Statement,
-        ),
-        (
-            b"add set ip filter s { type ipv4_addr; flags timeout, timeout }",
-            Reason::Statement,
-        ),
-        (
-            b"add set ip filter s { type ipv4_addr; flags interval timeout }",
-            Reason::Statement,
-        ),
-        (
-            b"add set ip filter s { type ipv4_addr; flags disjoint, disjoint }",
-            Reason::Statement,
-        ),
-        (
-            b"add set ip filter s { type ipv4_addr; flags disjoint,interval,disjoint }",
-            Reason::Statement,
-        ),
-        (
-            b"add set ip filter s { type ipv4_addr; disjoint }",
-            Reason::Statement,
-        ),
-        (
-            b"add set ip filter s { type ipv4_addr; flags constant }",
-            Reason::LeftOut,
-        ),
-        (
-            b"add set ip filter s { type ipv4_addr; auto-merge }",
-            Reason::LeftOut,
-        ),
-        (b"add set ip filter s { typeof ip saddr }", Reason::LeftOut),
-        (
-            b"add set ip filter s { type ipv4_addr; timeout 5s; timeout 5s }",
-            Reason::Statement,
-        ),
-        (
-            b"add set ip filter s { type ipv4_addr; timeout never }",
-            Reason::Time,
-        ),
-        (
-            b"add set ip filter s { type ipv4_addr; elements = { }; flags interval }",
-            Reason::Statement,
-        ),
-        (
-            b"add set ip filter s { type ipv4_addr; elements = { }; elements = { } }",
-            Reason::Statement,
-        ),
-        (
-            b"add set ip filter s { type ipv4_addr; elements { } }",
-            Reason::Statement,
-        ),
-        (
-            b"add set ip filter s { type ipv4_addr; elements =\n{ } }",
-            Reason::Statement,
-        ),
-        (
-            b"add set ip filter s { type ipv4_addr; size 05 }",
-            Reason::Number,
-        ),
-        (
-            b"add set ip filter s { type ipv4_addr; size 4294967296 }",
-            Reason::Number,
-        ),
-        (
-            b"add set ip filter s { type ipv4_addr; size }",
-            Reason::Statement,
-        ),
-        (
-            b"add set ip filter s { type ipv4_addr; size 5; size 5 }",
-            Reason::Statement,
-        ),
-        (
-            b"add set ip filter s { type ipv4_addr; gc-interval never }",
-            Reason::Time,
-        ),
-        (
-            b"add set ip filter s { type ipv4_addr; gc-interval 5s; gc-interval 5s }",
-            Reason::Statement,
-        ),
-        (
-            b"add set ip filter s { type ipv4_addr; policy fast }",
-            Reason::Statement,
-        ),
-        (
-            b"add set ip filter s { type ipv4_addr; policy memory; policy memory }",
-            Reason::Statement,
-        ),
-        (
-            b"add set ip filter s { type ipv4_addr; comment all }",
-            Reason::Statement,
-        ),
-        (
-            b"add set ip filter s { type ipv4_addr; comment \"a\"; comment \"a\" }",
-            Reason::Statement,
-        ),
-        (b"add set ip filter 5 { type ipv4_addr }", Reason::Set),
-        (b"add set ip 5 s { type ipv4_addr }", Reason::Statement),
-        (b"add set ip s { type ipv4_addr }", Reason::Statement),
-        (b"add set ip filter s { type ipv4_addr", Reason::End),
-        (b"table ip filter", Reason::End),
-        (
-            b"table ip filter { set s { type ipv4_addr } set t { type ipv4_addr } }",
-            Reason::Statement,
-        ),
-        (
-            b"table ip filter { set s { type ipv4_addr }; set s { type ipv4_addr } }",
-            Reason::Set,
-        ),
-        (b"table ip filter { } }", Reason::Statement),
-        (b"table ip filter { chain c { } }", Reason::LeftOut),
-        (b"add table ip", Reason::End),
-        (b"add table ip\n", Reason::Statement),
-        (b"add chain t c", Reason::LeftOut),
-        (b"flush ruleset; flush ruleset", Reason::Statement),
-        (b"flush table t", Reason::Statement),
-    ] {
-        assert_eq!(rt; refusal(alloc, text), Some((1, reason)), "{text:?}");
-    }
-    Ok(())
-}
-
-#[test]
-fn kinds_outside_the_grammar(rt: HostRuntime) -> Result<(), Fail> {
-    let alloc = rt.alloc();
-    for (text, reason) in [
-        (
-            b"ipv6_addr . ipv6_addr . ipv6_addr . ipv6_addr . inet_proto }".as_slice(),
-            Reason::TypeWord,
-        ),
-        (
-            b"inet_proto . mark . mark . mark . mark . mark . mark . mark . mark . mark . mark . mark . mark . mark . mark . mark . mark }",
-            Reason::TypeWord,
-        ),
-        (
-            b"ipv6_addr . ipv6_addr . ipv6_addr . ether_addr . ether_addr . inet_service }",
-            Reason::TypeWord,
-        ),
-        (b"integer }", Reason::TypeWord),
-        (b"map }", Reason::LeftOut),
-        (b"}", Reason::Statement),
-        (b"ipv4_addr . }", Reason::Statement),
-        (b"ipv4_addr , mark }", Reason::Statement),
-    ] {
-        let mut all = Vec::from_slice(alloc, b"add set t s { type ")?;
-        all.extend_from_slice(text)?;
-        assert_eq!(rt;
-            refusal(alloc, all.as_slice()),
-            Some((1, reason)),
-            "{text:?}"
-        );
-    }
-    Ok(())
-}
-
-#[test]
-fn statements_outside_the_grammar(rt: HostRuntime) -> Result<(), Fail> {
-    let alloc = rt.alloc();
-    for (behind, reason) in [
-        (
-            b"add set ip filter s { type ipv4_addr }".as_slice(),
-            Reason::Set,
-        ),
-        (b"add set filter s { type ipv4_addr }", Reason::Set),
-        (b"table filter { set s { type ipv4_addr } }", Reason::Set),
-        (
-            b"commit; add set ip filter t { type ipv4_addr }",
-            Reason::Set,
-        ),
-        (
-            b"abort; add set ip filter t { type ipv4_addr }",
-            Reason::Set,
-        ),
-        (
-            b"round; table ip filter { set t { type ipv4_addr } }",
-            Reason::Set,
-        ),
-        (b"add element ip filter t { 10.0.0.5 . 1024 }", Reason::Set),
-        (b"add element ip nat s { 10.0.0.5 . 1024 }", Reason::Set),
-        (
-            b"add element inet filter s { 10.0.0.5 . 1024 }",
-            Reason::Set,
-        ),
-        (b"add element delete set { 80 }", Reason::LeftOut),
-        (
-            b"create element ip filter t { 10.0.0.5 . 1024 }",
-            Reason::Set,
-        ),
-        (
-            b"destroy element ip filter t { 10.0.0.5 . 1024 }",
-            Reason::Set,
-        ),
-        (b"flush set ip filter t", Reason::Set),
-        (b"flush set ip filter map", Reason::LeftOut),
-        (b"flush ip filter s", Reason::Statement),
-        (b"flush ruleset", Reason::Statement),
-        (
-            b"create set ip filter t { type ipv4_addr }",
-            Reason::LeftOut,
-        ),
-        (b"delete set ip filter s", Reason::LeftOut),
-        (b"destroy table ip filter", Reason::LeftOut),
-        (b"create rule ip filter c drop", Reason::LeftOut),
-        (b"create ip filter s", Reason::Statement),
-        (
-            b"insert element ip filter s { 10.0.0.5 . 1024 }",
-            Reason::Statement,
-        ),
-        (b"include \"other.nft\"", Reason::LeftOut),
-        (
-            b"add element ip filter s { 10.0.0.5 . 1024 } add",
-            Reason::Statement,
-        ),
-        (
-            b"add element ip filter s { 10.0.0.5 . 1024 } *",
-            Reason::LeftOut,
-        ),
-        (
-            b"add\nelement ip filter s { 10.0.0.5 . 1024 }",
-            Reason::Statement,
-        ),
-        (b"at 05", Reason::Moment),
-        (b"at 1000000000000001", Reason::Moment),
-        (b"at 5 6", Reason::Statement),
-        (b"at 5; round; at 4", Reason::Moment),
-        (b"at chain", Reason::LeftOut),
-        (b"at", Reason::End),
-        (b"at;", Reason::Statement),
-        (b"commit 5", Reason::Statement),
-        (b"abort {", Reason::Statement),
-        (b"round round", Reason::Statement),
-    ] {
-        let mut text = Vec::from_slice(alloc, H)?;
-        text.extend_from_slice(behind)?;
-        assert_eq!(rt;
-            refusal(alloc, text.as_slice()),
-            Some((2, reason)),
-            "{behind:?}"
-        );
-    }
-    Ok(())
-}
-
-#[test]
-fn elements_outside_the_grammar(rt: HostRuntime) -> Result<(), Fail> {
-    let alloc = rt.alloc();
-    for (behind, reason) in [
-        (b"10.0.0.5 }".as_slice(), Reason::Statement),
-        (b"10.0.0.5 . 1024 . 1 }", Reason::Statement),
-        (b"10.0.0.5 1024 }", Reason::Statement),
-        (b"10.0.0.5 . 1024 10.0.0.6 . 1024 }", Reason::Statement),
-        (b"10.0.0.5 . 1024,, 10.0.0.6 . 1024 }", Reason::Statement),
-        (b", 10.0.0.5 . 1024 }", Reason::Statement),
-        (b", }", Reason::Statement),
-        (b"10.0.0 . 1024 }", Reason::Value),
-        (b"10.0.0.05 . 1024 }", Reason::Value),
-        (b"10.0.0.5 . 65536 }", Reason::Value),
-        (b"10.0.0.5 . http }", Reason::Value),
-        (b"10.0.0.5 . counter }", Reason::LeftOut),
-        (b"10.0.0.5 . 1024, http }", Reason::Value),
-        (b"10.0.0.6-10.0.0.5 . 1024 }", Reason::Value),
-        (b"10.0.0.4/33 . 1024 }", Reason::Value),
-        (b"10.0.0.5 - 10.0.0.6 . 1024 }", Reason::Statement),
-        (b"10.0.0.5 . 1024 ; }", Reason::Statement),
-        (b"10.0.0.5 . 1024 timeout 5s }", Reason::Statement),
-        (b"10.0.0.5 . 1024 expires 5s }", Reason::Statement),
-        (
-            b"10.0.0.5 . 1024 counter packets 0 bytes 0 }",
-            Reason::LeftOut,
-        ),
-        (b"10.0.0.5 . 1024 last used never }", Reason::Statement),
-        (
-            b"10.0.0.5 . 1024 comment \"a\" comment \"b\" }",
-            Reason::Statement,
-        ),
-        (b"10.0.0.5 . 1024 comment a }", Reason::Statement),
-        (b"10.0.0.5 . 1024 }}", Reason::Statement),
-        (b"10.0.0.5 . 1024", Reason::End),
-    ] {
-        let mut text = Vec::from_slice(alloc, H)?;
-        text.extend_from_slice(b"create element ip filter s { ")?;
-        text.extend_from_slice(behind)?;
-        assert_eq!(rt;
-            refusal(alloc, text.as_slice()),
-            Some((2, reason)),
-            "{behind:?}"
-        );
-    }
-    Ok(())
-}
-
-#[test]
-fn options_outside_the_grammar(rt: HostRuntime) -> Result<(), Fail> {
-    let alloc = rt.alloc();
-    for (behind, reason) in [
-        (b"80-81 }".as_slice(), Reason::Value),
-        (b"80/15 }", Reason::Value),
-        (b"80 timeout 5x }", Reason::Time),
-        (b"80 timeout }", Reason::Statement),
-        (b"80 timeout limit }", Reason::LeftOut),
-        (b"80 expires never }", Reason::Time),
-        (b"80 expires 1000000000001 }", Reason::Time),
-        (b"80 timeout 5s timeout 5s }", Reason::Statement),
-        (
-            b"80 timeout never expires 5s expires 5s }",
-            Reason::Statement,
-        ),
-    ] {
-        let mut text = Vec::from_slice(
-            alloc,
-            b"add set t s { type inet_service; flags timeout }; ",
-        )?;
-        text.extend_from_slice(b"delete element t s { ")?;
-        text.extend_from_slice(behind)?;
-        assert_eq!(rt;
-            refusal(alloc, text.as_slice()),
-            Some((1, reason)),
-            "{behind:?}"
-        );
-    }
-    Ok(())
-}
-
-#[test]
-fn comments_have_128_bytes(rt: HostRuntime) -> Result<(), Fail> {
-    let alloc = rt.alloc();
-    for (bytes, expected) in [(128, None), (129, Some((1, Reason::Character)))] {
-        let mut text = Vec::from_slice(alloc, b"add set t s { type mark; comment \"")?;
-        for _ in 0..bytes {
-            text.push(b'a')?;
+/// The declarations of 64 sets, a line each.
+fn declarations(alloc: Global) -> Result<Vec<u8>, Memory> {
+    let mut text = Vec::new(alloc);
+    for tens in b"01234567" {
+        for ones in b"01234567" {
+            text.extend_from_slice(b"add set t s")?;
+            text.extend_from_slice(&[*tens, *ones])?;
+            text.extend_from_slice(b" { type mark }\n")?;
         }
-        text.extend_from_slice(b"\" }")?;
-        assert_eq!(rt; refusal(alloc, text.as_slice()), expected);
     }
-    Ok(())
+    Ok(text)
 }
 
-#[test]
-fn names_have_127_bytes(rt: HostRuntime) -> Result<(), Fail> {
-    let alloc = rt.alloc();
-    let refused = Some((1, Reason::Set));
-    for (first, behind, expected) in [
-        (b'_', 0, None),
-        (b'_', 1, None),
-        (b'a', 125, None),
-        (b'a', 126, None),
-        (b'a', 127, refused),
-        (b'_', 127, refused),
-        (b'-', 1, refused),
-        (b'1', 1, refused),
-    ] {
-        let mut text = Vec::from_slice(alloc, b"add set t ")?;
-        text.push(first)?;
-        for _ in 0..behind {
-            text.push(b'a')?;
-        }
-        text.extend_from_slice(b" { type mark }")?;
-        assert_eq!(rt; refusal(alloc, text.as_slice()), expected);
-    }
+/// Asserts that a set behind these is refused in its line, if they are the most.
+fn assert_most(rt: &impl Abort, alloc: Global, sets: &[u8]) -> Result<(), Memory> {
+    assert!(rt; refusal(alloc, sets)?.as_slice() == b"read".as_slice());
+    let more = joined(alloc, sets, b"table t { set s { type mark } }")?;
+    assert!(rt; refusal(alloc, &more)?.as_slice() == b"65 set".as_slice());
     Ok(())
 }
 
 #[test]
 fn a_script_declares_64_sets(rt: HostRuntime) -> Result<(), Fail> {
-    let alloc = rt.alloc();
-    let mut text = Vec::new(alloc);
-    for tens in 0u8..8 {
-        for ones in 0u8..8 {
-            text.extend_from_slice(b"add set t s")?;
-            text.push(b'0' + tens)?;
-            text.push(b'0' + ones)?;
-            text.extend_from_slice(b" { type mark }\n")?;
-        }
-    }
-    let script = read_script(alloc, text.as_slice())?;
-    assert_eq!(rt; script.schema.len(), 64);
-    text.extend_from_slice(b"table t { set s { type mark } }")?;
-    assert_eq!(rt; refusal(alloc, text.as_slice()), Some((65, Reason::Set)));
-    Ok(())
+    Ok(assert_most(&rt, rt.alloc(), &declarations(rt.alloc())?)?)
 }

@@ -1,560 +1,324 @@
-use set_model::{Family, Interval, Kind, NewElement, Script, Step, Verb};
-use set_script::{TokenKind, Tokens, read_script};
-use std::alloc::{AllocError, Global};
-use std::process::Abort;
+//! Scripts that are read: their sets, their steps and their last moment.
+use crate::cases::{assert_told, line_of};
+use set_model::{Interval, Kind, Memory, NewElement, Script, SetDecl, Step, Steps, Verb};
+use set_script::{Token, TokenKind, Tokens, read_script};
+use std::alloc::Global;
 use std::test::Fail;
+use text_pieces::{Piece, append_pieces};
 
-const H: &[u8] = b"add set ip filter s { type ipv4_addr . inet_service ; flags interval ; }\n";
+fn kind_word(kind: Kind) -> &'static [u8] {
+    match kind {
+        Kind::Ipv4 => b" ipv4_addr",
+        Kind::Ipv6 => b" ipv6_addr",
+        Kind::Ether => b" ether_addr",
+        Kind::Proto => b" inet_proto",
+        Kind::Service => b" inet_service",
+        Kind::Mark => b" mark",
+    }
+}
 
-fn joined(alloc: Global, first: &[u8], second: &[u8]) -> Result<Vec<u8>, Fail> {
-    let mut text = Vec::from_slice(alloc, first)?;
-    text.extend_from_slice(second)?;
+fn append_kinds(kinds: &[Kind], told: &mut Vec<u8>) -> Result<(), Memory> {
+    for kind in kinds {
+        append_pieces(&[Piece::Word(kind_word(*kind))], told)?;
+    }
+    Ok(())
+}
+
+/// A word, or none.
+fn word_if(test: bool, word: &[u8]) -> Piece<'_> {
+    Piece::Word(if test { word } else { b"" })
+}
+
+/// Appends a word and a number, if there is one.
+fn append_option(word: &[u8], number: Option<u64>, told: &mut Vec<u8>) -> Result<(), Memory> {
+    match number {
+        Some(number) => append_pieces(&[Piece::Word(word), Piece::Number(number)], told),
+        None => Ok(()),
+    }
+}
+
+fn append_flags(set: &SetDecl, told: &mut Vec<u8>) -> Result<(), Memory> {
+    append_pieces(
+        &[
+            word_if(set.interval, b" interval"),
+            word_if(set.timed, b" timeout"),
+            word_if(set.disjoint, b" disjoint"),
+        ],
+        told,
+    )?;
+    append_option(b" life ", set.timeout, told)?;
+    append_option(b" size ", set.size.map(u64::from), told)
+}
+
+/// Appends a set with its kinds, its flags, the life of its elements and its size.
+fn append_set(set: &SetDecl, told: &mut Vec<u8>) -> Result<(), Memory> {
+    append_pieces(&[Piece::Set(set)], told)?;
+    append_kinds(set.kinds.as_slice(), told)?;
+    append_flags(set, told)?;
+    append_pieces(&[Piece::Word(b";")], told)
+}
+
+fn verb_word(verb: Verb) -> &'static [u8] {
+    match verb {
+        Verb::Add => b" add ",
+        Verb::Create => b" create ",
+        Verb::Delete => b" delete ",
+        Verb::Destroy => b" destroy ",
+    }
+}
+
+fn append_parts(parts: &[Interval], told: &mut Vec<u8>) -> Result<(), Memory> {
+    for part in parts {
+        append_pieces(
+            &[
+                Piece::Word(b" "),
+                Piece::Sum(part.low),
+                Piece::Word(b"-"),
+                Piece::Sum(part.high),
+            ],
+            told,
+        )?;
+    }
+    Ok(())
+}
+
+/// Appends the intervals of an element, a moment, its expiry and its comment.
+fn append_element(element: &NewElement, now: u64, told: &mut Vec<u8>) -> Result<(), Memory> {
+    append_parts(element.parts.as_slice(), told)?;
+    append_option(b" at ", Some(now), told)?;
+    append_option(b" until ", element.expiry, told)?;
+    let comment = element.comment.as_slice();
+    append_pieces(
+        &[
+            word_if(!comment.is_empty(), b" comment "),
+            Piece::Word(comment),
+        ],
+        told,
+    )
+}
+
+fn append_step(step: &Step, told: &mut Vec<u8>) -> Result<(), Memory> {
+    match step {
+        Step::Change {
+            line,
+            set,
+            verb,
+            element,
+            now,
+        } => {
+            append_pieces(
+                &[
+                    Piece::Number(*line),
+                    Piece::Word(verb_word(*verb)),
+                    Piece::Number(u64::from(*set)),
+                ],
+                told,
+            )?;
+            append_element(element, *now, told)
+        }
+        Step::Flush { line, set, now } => append_pieces(
+            &[
+                Piece::Number(*line),
+                Piece::Word(b" flush "),
+                Piece::Number(u64::from(*set)),
+                Piece::Word(b" at "),
+                Piece::Number(*now),
+            ],
+            told,
+        ),
+        Step::Commit { now } => append_option(b"commit at ", Some(*now), told),
+        Step::Abort => append_pieces(&[Piece::Word(b"abort")], told),
+    }
+}
+
+/// Appends the steps of a section, with a `/` before them.
+fn append_section(steps: &Steps, told: &mut Vec<u8>) -> Result<(), Memory> {
+    append_pieces(&[Piece::Word(b"/")], told)?;
+    for step in steps.as_slice() {
+        append_step(step, told)?;
+        append_pieces(&[Piece::Word(b";")], told)?;
+    }
+    Ok(())
+}
+
+fn told_script(alloc: Global, script: &Script) -> Result<Vec<u8>, Memory> {
+    let mut told = Vec::new(alloc);
+    for set in script.schema.as_slice() {
+        append_set(set, &mut told)?;
+    }
+    for section in script.sections.as_slice() {
+        append_section(section, &mut told)?;
+    }
+    append_option(b"last ", Some(script.last), &mut told)?;
+    Ok(told)
+}
+
+/// What is read of a script.
+fn told_text(alloc: Global, text: &[u8]) -> Result<Vec<u8>, Memory> {
+    match read_script(alloc, text) {
+        Ok(script) => told_script(alloc, &script),
+        Err(_) => line_of(alloc, &[Piece::Word(b"refused")]),
+    }
+}
+
+/// Sets without elements. The last three have types of 64, 64 and 48 bytes.
+const SETS: &[u8] = b"\
+    |/last 0~\
+    \x20\t\r\n;;\n# nothing\n\\\n|/last 0~\
+    add set ip filter s { type ipv4_addr . inet_service ; flags interval ; }\n|ip filter s ipv4_addr inet_service interval;/last 0~\
+    \n;add set ip t p {\n\ttype ipv4_addr . inet_service\n;\tflags interval\n}|ip t p ipv4_addr inet_service interval;/last 0~\
+    add set filter s { type inet_service }|ip filter s inet_service;/last 0~\
+    add set netdev ip s { type mark; elements = { }; }|netdev ip s mark;/last 0~\
+    table bridge t { }|/last 0~\
+    add table t|/last 0~\
+    add table ip6 t; add table ip ip|/last 0~\
+    \x20;# nft -f\n\nflush ruleset\nadd table t\n|/last 0~\
+    table arp t { set s { type mark }; set t { type mark } }\n|arp t s mark;arp t t mark;/last 0~\
+    add set t s { type mark }\nadd set t t { type mark }\nadd set ip6 t s { type mark }\nadd set u s { type mark }\n|ip t s mark;ip t t mark;ip6 t s mark;ip u s mark;/last 0~\
+    add set t s { type mark; comment \"all\"; policy performance; gc-interval 1m; flags timeout; timeout 5s; size 1; }|ip t s mark timeout life 5000 size 1;/last 0~\
+    add set t s { type mark; timeout 5s; flags timeout, interval; policy memory }|ip t s mark interval timeout life 5000;/last 0~\
+    add set delete set { type mark }; delete element delete set { }|ip delete set mark;/last 0~\
+    table ip ip { ;; set s { type ether_addr; elements = {\n} } }|ip ip s ether_addr;/last 0~\
+    add set t s { type ipv6_addr . ipv6_addr . ipv6_addr . ipv6_addr }|ip t s ipv6_addr ipv6_addr ipv6_addr ipv6_addr;/last 0~\
+    add set t s { type mark . mark . mark . mark . mark . mark . mark . mark . mark . mark . mark . mark . mark . mark . mark . mark }|ip t s mark mark mark mark mark mark mark mark mark mark mark mark mark mark mark mark;/last 0~\
+    add set t s { type ether_addr . ether_addr . ether_addr . ether_addr . ether_addr . ether_addr . ether_addr . ether_addr }|ip t s ether_addr ether_addr ether_addr ether_addr ether_addr ether_addr ether_addr ether_addr;/last 0~\
+";
+
+/// Flags in any order, of sets in a line and in a table.
+const FLAGS: &[u8] = b"\
+    add set t s { type mark ; }\n|ip t s mark;/last 0~\
+    table t {\nset s {\ntype mark\n}\n}\n|ip t s mark;/last 0~\
+    add set t s { type mark; flags interval ; }\n|ip t s mark interval;/last 0~\
+    table t {\nset s {\ntype mark; flags interval\n}\n}\n|ip t s mark interval;/last 0~\
+    add set t s { type mark; flags disjoint ; }\n|ip t s mark disjoint;/last 0~\
+    table t {\nset s {\ntype mark; flags disjoint\n}\n}\n|ip t s mark disjoint;/last 0~\
+    add set t s { type mark; flags interval,disjoint ; }\n|ip t s mark interval disjoint;/last 0~\
+    table t {\nset s {\ntype mark; flags interval,disjoint\n}\n}\n|ip t s mark interval disjoint;/last 0~\
+    add set t s { type mark; flags disjoint , interval ; }\n|ip t s mark interval disjoint;/last 0~\
+    table t {\nset s {\ntype mark; flags disjoint , interval\n}\n}\n|ip t s mark interval disjoint;/last 0~\
+    add set t s { type mark; timeout 5s; flags disjoint ; }\n|ip t s mark timeout disjoint life 5000;/last 0~\
+    table t {\nset s {\ntype mark; timeout 5s; flags disjoint\n}\n}\n|ip t s mark timeout disjoint life 5000;/last 0~\
+    add set t s { type mark; flags timeout,disjoint ; }\n|ip t s mark timeout disjoint;/last 0~\
+    table t {\nset s {\ntype mark; flags timeout,disjoint\n}\n}\n|ip t s mark timeout disjoint;/last 0~\
+    add set t s { type mark; flags disjoint,timeout,interval; timeout 5s ; }\n|ip t s mark interval timeout disjoint life 5000;/last 0~\
+    table t {\nset s {\ntype mark; flags disjoint,timeout,interval; timeout 5s\n}\n}\n|ip t s mark interval timeout disjoint life 5000;/last 0~\
+    add set t s { type mark; size 9; flags timeout,interval ; }\n|ip t s mark interval timeout size 9;/last 0~\
+    table t {\nset s {\ntype mark; size 9; flags timeout,interval\n}\n}\n|ip t s mark interval timeout size 9;/last 0~\
+";
+
+/// Elements of one value and of intervals, as they are added and as they are listed.
+const ELEMENTS: &[u8] = b"\
+    add set ip filter s { type ipv4_addr . inet_service ; flags interval ; }\nadd element ip filter s { 10.0.0.5 . 1024 }\nadd element ip filter s { 10.0.0.6 . 1024 }\n|ip filter s ipv4_addr inet_service interval;/2 add 0 167772165-167772165 1024-1024 at 0;3 add 0 167772166-167772166 1024-1024 at 0;commit at 0;last 0~\
+    add set inet t m { type ipv6_addr . ether_addr . inet_proto . mark ; }\nadd element inet t m { 2001:db8::1 . 0:1:2:a:b:c . tcp . 0xff }\n|inet t m ipv6_addr ether_addr inet_proto mark;/2 add 0 42540766411282592856903984951653826561-42540766411282592856903984951653826561 4329179916-4329179916 6-6 255-255 at 0;commit at 0;last 0~\
+    table ip6 fw {\n\tset allowed {\n\t\ttype ipv6_addr . inet_proto . inet_service\n\t\telements = { 2001:db8::1 . tcp . 443,\n\t\t\t     2001:db8::2 . udp . 53 }\n\t}\n}\n|ip6 fw allowed ipv6_addr inet_proto inet_service;/4 add 0 42540766411282592856903984951653826561-42540766411282592856903984951653826561 6-6 443-443 at 0;5 add 0 42540766411282592856903984951653826562-42540766411282592856903984951653826562 17-17 53-53 at 0;commit at 0;last 0~\
+    table inet fw {\n\tset allowed {\n\t\ttype ipv6_addr . inet_proto . inet_service\n\t\telements = { 2001:db8::1 . tcp . 443,\n\t\t\t     2001:db8::2 . udp . 53 }\n\t}\n}\n|inet fw allowed ipv6_addr inet_proto inet_service;/4 add 0 42540766411282592856903984951653826561-42540766411282592856903984951653826561 6-6 443-443 at 0;5 add 0 42540766411282592856903984951653826562-42540766411282592856903984951653826562 17-17 53-53 at 0;commit at 0;last 0~\
+    table fw {\n\tset allowed {\n\t\ttype ipv6_addr . inet_proto . inet_service\n\t\telements = { 2001:db8::1 . tcp . 443,\n\t\t\t     2001:db8::2 . udp . 53 }\n\t}\n}\n|ip fw allowed ipv6_addr inet_proto inet_service;/4 add 0 42540766411282592856903984951653826561-42540766411282592856903984951653826561 6-6 443-443 at 0;5 add 0 42540766411282592856903984951653826562-42540766411282592856903984951653826562 17-17 53-53 at 0;commit at 0;last 0~\
+    add set t s { type ipv4_addr; }\nadd element t s {\n10.0.0.5/32\n,\n10.0.0.6-10.0.0.6,10.0.0.7,}\nadd element t s { }|ip t s ipv4_addr;/3 add 0 167772165-167772165 at 0;5 add 0 167772166-167772166 at 0;5 add 0 167772167-167772167 at 0;commit at 0;last 0~\
+    add set t s { type ipv4_addr; flags interval; }\nadd element t s {\n10.0.0.5/32\n,\n10.0.0.6-10.0.0.6,10.0.0.7,}\nadd element t s { }|ip t s ipv4_addr interval;/3 add 0 167772165-167772165 at 0;5 add 0 167772166-167772166 at 0;5 add 0 167772167-167772167 at 0;commit at 0;last 0~\
+    table t {\nset s {\ntype ipv4_addr . inet_service\nsize 65535\nflags interval\ntimeout 1m\n}\n}\nadd element t s { 10.0.0.0/8 . 80-443 }\n|ip t s ipv4_addr inet_service interval timeout life 60000 size 65535;/9 add 0 167772160-184549375 80-443 at 0 until 60000;commit at 0;last 0~\
+";
+
+/// Times, comments and all that nft lists of a set.
+const OPTIONS: &[u8] = b"\
+    add set t s { type inet_service; flags timeout,interval; timeout 10s; size 9 }\nat 1000\nadd element t s { 80, 81 timeout 30s, 82 timeout 30s\ncomment \"web\" expires 5s,\n83 timeout never, 84 timeout 0s, 85 expires 0s }\ndelete element t s { 80 timeout 5s comment \"none\" }|ip t s inet_service interval timeout life 10000 size 9;/3 add 0 80-80 at 1000 until 11000;3 add 0 81-81 at 1000 until 31000;3 add 0 82-82 at 1000 until 6000 comment web;5 add 0 83-83 at 1000;5 add 0 84-84 at 1000;5 add 0 85-85 at 1000 until 1000;6 delete 0 80-80 at 1000;commit at 1000;last 1000~\
+    add set t s { type mark; flags timeout }\nadd element t s { 1 comment \"web\" timeout 30s }|ip t s mark timeout;/2 add 0 1-1 at 0 until 30000 comment web;commit at 0;last 0~\
+    add set t s { type mark; flags timeout }\ncreate element t s { 1 comment \"web\" timeout 30s }|ip t s mark timeout;/2 create 0 1-1 at 0 until 30000 comment web;commit at 0;last 0~\
+    add set t s { type mark; flags timeout }\ndelete element t s { 1 comment \"web\" timeout 30s }|ip t s mark timeout;/2 delete 0 1-1 at 0;commit at 0;last 0~\
+    add set t s { type mark; flags timeout }\ndestroy element t s { 1 comment \"web\" timeout 30s }|ip t s mark timeout;/2 destroy 0 1-1 at 0;commit at 0;last 0~\
+    table ip filter {\n\tset s {\n\t\ttype ipv4_addr . inet_service\n\t\tflags interval,timeout\n\t\telements = { 10.0.0.0/8 . 80 timeout 1h expires 59m30s comment \"web\",\n\t\t\t     192.168.1.0-192.168.2.1 . 1024-65535 timeout 1h expires 59m30s996ms }\n\t}\n}\n|ip filter s ipv4_addr inet_service interval timeout;/5 add 0 167772160-184549375 80-80 at 0 until 3570000 comment web;6 add 0 3232235776-3232236033 1024-65535 at 0 until 3570996;commit at 0;last 0~\
+    table inet fw { # handle 5\n\tset marks { # handle 6\n\t\ttype mark . ether_addr\n\t\tpolicy memory\n\t\tsize 65535\n\t\tflags interval,timeout\n\t\ttimeout 1d2h\n\t\tgc-interval 10s\n\t\tcomment \"G\xc3\xa4ste \xe5\xae\xa2\"\n\t\telements = { 0x00000100/24 . 00:00:5e:00:53:01 timeout 1h expires 59m comment \"\xc2\xb5 \xf0\x9f\x94\x92\",\n\t\t\t     0x00000200-0x000002ff . 0:0:5E:0:53:2 }\n\t}\n\n\tset empty { # handle 7\n\t\ttype inet_proto\n\t}\n}\n|inet fw marks mark ether_addr interval timeout life 93600000 size 65535;inet fw empty inet_proto;/10 add 0 256-511 1577079553-1577079553 at 0 until 3540000 comment \xc2\xb5 \xf0\x9f\x94\x92;11 add 0 512-767 1577079554-1577079554 at 0 until 93600000;commit at 0;last 0~\
+";
+
+/// Flushes, moments, transactions and sections.
+const STEPS: &[u8] = b"\
+    add set ip filter s { type ipv4_addr . inet_service ; flags interval ; }\nat 7\n\nflush set ip filter s; at 7; at 1000000000000000|ip filter s ipv4_addr inet_service interval;/4 flush 0 at 7;commit at 1000000000000000;last 1000000000000000~\
+    add set t s { type mark }\n|ip t s mark;/last 0~\
+    add set t s { type mark }\ncommit|ip t s mark;/commit at 0;last 0~\
+    add set t s { type mark }\nabort\nabort|ip t s mark;/abort;abort;last 0~\
+    add set t s { type mark }\nround|ip t s mark;//last 0~\
+    add set t s { type mark }\nat 5\nround\n\nround\n|ip t s mark;///last 5~\
+    add set t s { type mark }\nadd element t s { 1, 2 }\ncommit\nat 5\ncommit\n|ip t s mark;/2 add 0 1-1 at 0;2 add 0 2-2 at 0;commit at 0;commit at 5;last 5~\
+    add set t s { type mark }\ncreate element t s { 1 }\nat 3\nabort\ndestroy element t s { 1 }; at 4|ip t s mark;/2 create 0 1-1 at 0;abort;5 destroy 0 1-1 at 3;commit at 4;last 4~\
+    add set t s { type mark }\ndelete element t s { 1 }\nat 2\nround\nat 3\nflush set t s\nat 4\nround\nadd element t s { }\n|ip t s mark;/2 delete 0 1-1 at 0;commit at 2;/6 flush 0 at 3;commit at 4;/last 4~\
+    add set t s { type mark }\ncommit\nadd element t s { 1 }\nround\nround\ncommit\n|ip t s mark;/commit at 0;3 add 0 1-1 at 0;commit at 0;//commit at 0;last 0~\
+    add set t s { type mark }\nabort\ntable t { }\nadd table t\ndelete element t s { 1 }\nabort\nround\n|ip t s mark;/abort;5 delete 0 1-1 at 0;abort;/last 0~\
+";
+
+#[test]
+fn scripts(rt: HostRuntime) {
+    assert_told(&rt, rt.alloc(), SETS, 19, told_text);
+    assert_told(&rt, rt.alloc(), FLAGS, 18, told_text);
+    assert_told(&rt, rt.alloc(), ELEMENTS, 8, told_text);
+    assert_told(&rt, rt.alloc(), OPTIONS, 7, told_text);
+    assert_told(&rt, rt.alloc(), STEPS, 11, told_text);
+}
+
+/// A set of so many times the same element.
+fn long_list(alloc: Global, count: u32) -> Result<Vec<u8>, Memory> {
+    let mut text = Vec::from_slice(alloc, b"add set t s { type inet_service; elements = {")?;
+    for _ in 0..count {
+        text.extend_from_slice(b"1,")?;
+    }
+    text.extend_from_slice(b" } }\n")?;
     Ok(text)
 }
 
-/// The numbers of sets, of sections and of steps in section 0.
-fn sizes(script: &Script) -> (u64, u64, u64) {
-    let sections = script.sections.as_slice();
-    let steps = match sections.first() {
-        Some(section) => section.len(),
-        None => 0,
-    };
-    (script.schema.len(), script.sections.len(), steps)
-}
-
-#[test]
-fn two_single_values(rt: HostRuntime) -> Result<(), Fail> {
-    let alloc = rt.alloc();
-    let text = joined(
-        alloc,
-        H,
-        b"add element ip filter s { 10.0.0.5 . 1024 }\nadd element ip filter s { 10.0.0.6 . 1024 }\n",
-    )?;
-    let script = read_script(alloc, text.as_slice())?;
-    assert_eq!(rt; sizes(&script), (1, 1, 3));
-    for section in script.sections.as_slice() {
-        match section.as_slice() {
-            [
-                _,
-                Step::Change {
-                    line: 3,
-                    set: 0,
-                    verb: Verb::Add,
-                    element: NewElement {
-                        parts,
-                        expiry: None,
-                        ..
-                    },
-                    now: 0,
-                },
-                Step::Commit { now: 0 },
-            ] => {
-                let address = Interval {
-                    low: 167772166,
-                    high: 167772166,
-                };
-                let port = Interval {
-                    low: 1024,
-                    high: 1024,
-                };
-                assert_eq!(rt; parts.as_slice(), [address, port].as_slice());
-            }
-            _ => assert!(rt; false, "other steps"),
-        }
+/// How many steps the first section of a script has.
+fn step_count(alloc: Global, text: &[u8]) -> u64 {
+    match read_script(alloc, text) {
+        Ok(script) => script.sections.as_slice().first().map_or(0, Steps::len),
+        Err(_) => 0,
     }
-    Ok(())
-}
-
-#[test]
-fn scripts_without_changes(rt: HostRuntime) -> Result<(), Fail> {
-    let alloc = rt.alloc();
-    for (text, sets) in [
-        (b"".as_slice(), 0),
-        (b" \t\r\n;;\n# nothing\n\\\n", 0),
-        (H, 1),
-        (
-            b"\n;add set ip t p {\n\ttype ipv4_addr . inet_service\n;\tflags interval\n}".as_slice(),
-            1,
-        ),
-        (b"add set filter s { type inet_service }", 1),
-        (b"add set netdev ip s { type mark; elements = { }; }", 1),
-        (b"table bridge t { }", 0),
-        (b"add table t", 0),
-        (b"add table ip6 t; add table ip ip", 0),
-        (b" ;# nft -f\n\nflush ruleset\nadd table t\n", 0),
-        (
-            b"table arp t { set s { type mark }; set t { type mark } }\n",
-            2,
-        ),
-        (
-            b"add set t s { type mark }\nadd set t t { type mark }\nadd set ip6 t s { type mark }\nadd set u s { type mark }\n",
-            4,
-        ),
-        (
-            b"add set t s { type mark; comment \"all\"; policy performance; gc-interval 1m; flags timeout; timeout 5s; size 1; }",
-            1,
-        ),
-        (
-            b"add set t s { type mark; timeout 5s; flags timeout, interval; policy memory }",
-            1,
-        ),
-        (
-            b"add set delete set { type mark }; delete element delete set { }",
-            1,
-        ),
-        (
-            b"table ip ip { ;; set s { type ether_addr; elements = {\n} } }",
-            1,
-        ),
-    ] {
-        let script = read_script(alloc, text)?;
-        assert_eq!(rt; sizes(&script), (sets, 1, 0), "in {text:?}");
-    }
-    Ok(())
-}
-
-/// The kinds of the first set, and whether it has the flag `interval`.
-fn first_set(script: &Script) -> (&[Kind], bool) {
-    match script.schema.as_slice().first() {
-        Some(set) => (set.kinds.as_slice(), set.interval),
-        None => (&[], false),
-    }
-}
-
-/// The line and the lows of the change at a place of section 0.
-fn change_at(script: &Script, place: usize) -> Option<(u64, &[Interval])> {
-    match script.sections.as_slice().first()?.as_slice().get(place)? {
-        Step::Change { line, element, .. } => Some((*line, element.parts.as_slice())),
-        _ => None,
-    }
-}
-
-fn one(value: u128) -> Interval {
-    Interval {
-        low: value,
-        high: value,
-    }
-}
-
-/// Asserts the line and the intervals of the change at a place of section 0.
-fn assert_change(rt: &impl Abort, script: &Script, place: usize, line: u64, parts: &[Interval]) {
-    assert_eq!(rt; change_at(script, place), Some((line, parts)), "{place}");
-}
-
-/// Asserts that a set has four kinds, and its element a value of each.
-fn assert_four_kinds(rt: &impl Abort, script: &Script) {
-    assert_eq!(rt; sizes(script), (1, 1, 2));
-    let kinds = [Kind::Ipv6, Kind::Ether, Kind::Proto, Kind::Mark];
-    assert_eq!(rt; first_set(script), (kinds.as_slice(), false));
-    let parts = [
-        one(0x2001_0db8_0000_0000_0000_0000_0000_0001),
-        one(0x0001_020a_0b0c),
-        one(6),
-        one(255),
-    ];
-    assert_change(rt, script, 0, 2, &parts);
-}
-
-#[test]
-fn values_of_four_kinds(rt: HostRuntime) -> Result<(), Fail> {
-    let script = read_script(
-        rt.alloc(),
-        b"add set inet t m { type ipv6_addr . ether_addr . inet_proto . mark ; }\nadd element inet t m { 2001:db8::1 . 0:1:2:a:b:c . tcp . 0xff }\n",
-    )?;
-    assert_four_kinds(&rt, &script);
-    Ok(())
-}
-
-/// Asserts that the set `allowed` of a family has two elements.
-fn assert_allowed(rt: &impl Abort, script: &Script, family: Family) {
-    assert_eq!(rt; sizes(script), (1, 1, 3));
-    for set in script.schema.as_slice() {
-        assert_eq!(rt; set.family, family);
-        assert_eq!(rt; set.table.as_slice(), b"fw".as_slice());
-        assert_eq!(rt; set.name.as_slice(), b"allowed".as_slice());
-    }
-    let net = 0x2001_0db8_0000_0000_0000_0000_0000_0000;
-    assert_change(rt, script, 0, 4, &[one(net + 1), one(6), one(443)]);
-    assert_change(rt, script, 1, 5, &[one(net + 2), one(17), one(53)]);
-}
-
-#[test]
-fn a_listed_table(rt: HostRuntime) -> Result<(), Fail> {
-    let alloc = rt.alloc();
-    for (first, family) in [
-        (b"table ip6 fw {\n".as_slice(), Family::Ip6),
-        (b"table inet fw {\n".as_slice(), Family::Inet),
-        (b"table fw {\n".as_slice(), Family::Ip),
-    ] {
-        let text = joined(
-            alloc,
-            first,
-            b"\tset allowed {\n\t\ttype ipv6_addr . inet_proto . inet_service\n\t\telements = { 2001:db8::1 . tcp . 443,\n\t\t\t     2001:db8::2 . udp . 53 }\n\t}\n}\n",
-        )?;
-        assert_allowed(&rt, &read_script(alloc, text.as_slice())?, family);
-    }
-    Ok(())
-}
-
-/// Asserts that a script adds 10.0.0.5, 10.0.0.6 and 10.0.0.7.
-fn assert_three_values(rt: &impl Abort, script: &Script) {
-    assert_eq!(rt; sizes(script), (1, 1, 4));
-    assert_change(rt, script, 0, 3, &[one(0x0a00_0005)]);
-    assert_change(rt, script, 1, 5, &[one(0x0a00_0006)]);
-    assert_change(rt, script, 2, 5, &[one(0x0a00_0007)]);
-}
-
-#[test]
-fn lists_and_intervals_of_one_value(rt: HostRuntime) -> Result<(), Fail> {
-    let alloc = rt.alloc();
-    for set in [
-        b"add set t s { type ipv4_addr; }\n".as_slice(),
-        b"add set t s { type ipv4_addr; flags interval; }\n".as_slice(),
-    ] {
-        let text = joined(
-            alloc,
-            set,
-            b"add element t s {\n10.0.0.5/32\n,\n10.0.0.6-10.0.0.6,10.0.0.7,}\nadd element t s { }",
-        )?;
-        assert_three_values(&rt, &read_script(alloc, text.as_slice())?);
-    }
-    Ok(())
-}
-
-#[test]
-fn types_have_64_bytes(rt: HostRuntime) -> Result<(), Fail> {
-    let alloc = rt.alloc();
-    for (text, fields) in [
-        (
-            b"add set t s { type ipv6_addr . ipv6_addr . ipv6_addr . ipv6_addr }".as_slice(),
-            4,
-        ),
-        (
-            b"add set t s { type mark . mark . mark . mark . mark . mark . mark . mark . mark . mark . mark . mark . mark . mark . mark . mark }".as_slice(),
-            16,
-        ),
-        (
-            b"add set t s { type ether_addr . ether_addr . ether_addr . ether_addr . ether_addr . ether_addr . ether_addr . ether_addr }".as_slice(),
-            8,
-        ),
-    ] {
-        let script = read_script(alloc, text)?;
-        assert_eq!(rt; first_set(&script).0.len(), fields);
-    }
-    Ok(())
-}
-
-/// The expiry and the comment of the change at a place of section 0, its verb and its moment.
-fn change_made(script: &Script, place: usize) -> Option<(Option<u64>, &[u8], Verb, u64)> {
-    match script.sections.as_slice().first()?.as_slice().get(place)? {
-        Step::Change {
-            element,
-            verb,
-            now,
-            ..
-        } => Some((element.expiry, element.comment.as_slice(), *verb, *now)),
-        _ => None,
-    }
-}
-
-/// Asserts the expiries and comments of seven changes, all at moment 1,000.
-fn assert_expiries(rt: &impl Abort, script: &Script) {
-    assert_eq!(rt; sizes(script), (1, 1, 8));
-    let none = b"".as_slice();
-    for (place, expiry, comment, verb) in [
-        (0, Some(11_000), none, Verb::Add),
-        (1, Some(31_000), none, Verb::Add),
-        (2, Some(6_000), b"web".as_slice(), Verb::Add),
-        (3, None, none, Verb::Add),
-        (4, None, none, Verb::Add),
-        (5, Some(1_000), none, Verb::Add),
-        (6, None, none, Verb::Delete),
-    ] {
-        assert_eq!(rt;
-            change_made(script, place),
-            Some((expiry, comment, verb, 1_000)),
-            "{place}"
-        );
-    }
-    assert_eq!(rt; script.last, 1_000);
-}
-
-#[test]
-fn expiries_of_elements(rt: HostRuntime) -> Result<(), Fail> {
-    let alloc = rt.alloc();
-    let text = joined(
-        alloc,
-        b"add set t s { type inet_service; flags timeout,interval; timeout 10s; size 9 }\nat 1000\n",
-        b"add element t s { 80, 81 timeout 30s, 82 timeout 30s\ncomment \"web\" expires 5s,\n83 timeout never, 84 timeout 0s, 85 expires 0s }\ndelete element t s { 80 timeout 5s comment \"none\" }",
-    )?;
-    assert_expiries(&rt, &read_script(alloc, text.as_slice())?);
-    Ok(())
-}
-
-/// Asserts that a timed set of intervals has a net and a range of ports.
-fn assert_net_and_ports(rt: &impl Abort, script: &Script) {
-    let net = Interval {
-        low: 0x0a00_0000,
-        high: 0x0aff_ffff,
-    };
-    assert_change(rt, script, 0, 9, &[net, Interval { low: 80, high: 443 }]);
-    for set in script.schema.as_slice() {
-        assert!(rt; set.interval && set.timed && !set.disjoint);
-        assert_eq!(rt; set.timeout, Some(60_000));
-        assert_eq!(rt; set.size, Some(65_535));
-    }
-}
-
-#[test]
-fn ranges_sizes_and_flags(rt: HostRuntime) -> Result<(), Fail> {
-    let script = read_script(
-        rt.alloc(),
-        b"table t {\nset s {\ntype ipv4_addr . inet_service\nsize 65535\nflags interval\ntimeout 1m\n}\n}\nadd element t s { 10.0.0.0/8 . 80-443 }\n",
-    )?;
-    assert_net_and_ports(&rt, &script);
-    Ok(())
-}
-
-/// Asserts that the script of a text has one set, and whether it is of intervals, timed and disjoint.
-fn assert_flags(rt: &impl Abort, script: &Script, text: &[u8], flags: (bool, bool, bool)) {
-    assert_eq!(rt; script.schema.len(), 1, "{text:?}");
-    for set in script.schema.as_slice() {
-        assert_eq!(rt; (set.interval, set.timed, set.disjoint), flags, "{text:?}");
-    }
-}
-
-#[test]
-fn flags_in_any_order(rt: HostRuntime) -> Result<(), Fail> {
-    let alloc = rt.alloc();
-    for (items, interval, timed, disjoint) in [
-        (b"type mark".as_slice(), false, false, false),
-        (b"type mark; flags interval", true, false, false),
-        (b"type mark; flags disjoint", false, false, true),
-        (b"type mark; flags interval,disjoint", true, false, true),
-        (b"type mark; flags disjoint , interval", true, false, true),
-        (b"type mark; timeout 5s; flags disjoint", false, true, true),
-        (b"type mark; flags timeout,disjoint", false, true, true),
-        (
-            b"type mark; flags disjoint,timeout,interval; timeout 5s",
-            true,
-            true,
-            true,
-        ),
-        (
-            b"type mark; size 9; flags timeout,interval",
-            true,
-            true,
-            false,
-        ),
-    ] {
-        for (front, back) in [
-            (b"add set t s { ".as_slice(), b" ; }\n".as_slice()),
-            (b"table t {\nset s {\n", b"\n}\n}\n"),
-        ] {
-            let mut text = joined(alloc, front, items)?;
-            text.extend_from_slice(back)?;
-            let script = read_script(alloc, text.as_slice())?;
-            assert_flags(&rt, &script, text.as_slice(), (interval, timed, disjoint));
-        }
-    }
-    Ok(())
-}
-
-#[test]
-fn flushes_and_moments(rt: HostRuntime) -> Result<(), Fail> {
-    let alloc = rt.alloc();
-    let text = joined(
-        alloc,
-        H,
-        b"at 7\n\nflush set ip filter s; at 7; at 1000000000000000",
-    )?;
-    let script = read_script(alloc, text.as_slice())?;
-    assert_eq!(rt; script.last, 1_000_000_000_000_000);
-    for section in script.sections.as_slice() {
-        match section.as_slice() {
-            [
-                Step::Flush {
-                    line: 4,
-                    set: 0,
-                    now: 7,
-                },
-                Step::Commit {
-                    now: 1_000_000_000_000_000,
-                },
-            ] => {}
-            _ => assert!(rt; false, "other steps"),
-        }
-    }
-    Ok(())
-}
-
-/// A letter for each step, with its moment, and `|` between the sections.
-fn steps_of(alloc: Global, script: &Script) -> Result<Vec<(char, u64)>, AllocError> {
-    let mut steps = Vec::new(alloc);
-    for (i, section) in script.sections.as_slice().iter().enumerate() {
-        if i > 0 {
-            steps.push(('|', 0))?;
-        }
-        for step in section.as_slice() {
-            steps.push(match step {
-                Step::Change { verb, now, .. } => match verb {
-                    Verb::Add => ('a', *now),
-                    Verb::Create => ('c', *now),
-                    Verb::Delete => ('d', *now),
-                    Verb::Destroy => ('x', *now),
-                },
-                Step::Flush { now, .. } => ('f', *now),
-                Step::Commit { now } => ('C', *now),
-                Step::Abort => ('A', 0),
-            })?;
-        }
-    }
-    Ok(steps)
-}
-
-#[test]
-fn transactions_and_sections(rt: HostRuntime) -> Result<(), Fail> {
-    let alloc = rt.alloc();
-    for (text, expected) in [
-        (b"".as_slice(), [].as_slice()),
-        (b"commit", &[('C', 0)]),
-        (b"abort\nabort", &[('A', 0), ('A', 0)]),
-        (b"round", &[('|', 0)]),
-        (b"at 5\nround\n\nround\n", &[('|', 0), ('|', 0)]),
-        (
-            b"add element t s { 1, 2 }\ncommit\nat 5\ncommit\n",
-            &[('a', 0), ('a', 0), ('C', 0), ('C', 5)],
-        ),
-        (
-            b"create element t s { 1 }\nat 3\nabort\ndestroy element t s { 1 }; at 4",
-            &[('c', 0), ('A', 0), ('x', 3), ('C', 4)],
-        ),
-        (
-            b"delete element t s { 1 }\nat 2\nround\nat 3\nflush set t s\nat 4\nround\nadd element t s { }\n",
-            &[('d', 0), ('C', 2), ('|', 0), ('f', 3), ('C', 4), ('|', 0)],
-        ),
-        (
-            b"commit\nadd element t s { 1 }\nround\nround\ncommit\n",
-            &[('C', 0), ('a', 0), ('C', 0), ('|', 0), ('|', 0), ('C', 0)],
-        ),
-        (
-            b"abort\ntable t { }\nadd table t\ndelete element t s { 1 }\nabort\nround\n",
-            &[('A', 0), ('d', 0), ('A', 0), ('|', 0)],
-        ),
-    ] {
-        let text = joined(alloc, b"add set t s { type mark }\n", text)?;
-        let script = read_script(alloc, text.as_slice())?;
-        let steps = steps_of(alloc, &script)?;
-        assert_eq!(rt; steps.as_slice(), expected, "in {text:?}");
-    }
-    Ok(())
-}
-
-#[test]
-fn four_verbs_with_options(rt: HostRuntime) -> Result<(), Fail> {
-    let alloc = rt.alloc();
-    for (verb, expected) in [
-        (
-            b"add".as_slice(),
-            (Some(30_000), b"web".as_slice(), Verb::Add, 0),
-        ),
-        (b"create", (Some(30_000), b"web", Verb::Create, 0)),
-        (b"delete", (None, b"", Verb::Delete, 0)),
-        (b"destroy", (None, b"", Verb::Destroy, 0)),
-    ] {
-        let mut text = joined(alloc, b"add set t s { type mark; flags timeout }\n", verb)?;
-        text.extend_from_slice(b" element t s { 1 comment \"web\" timeout 30s }")?;
-        let script = read_script(alloc, text.as_slice())?;
-        assert_eq!(rt; change_made(&script, 0), Some(expected), "{verb:?}");
-    }
-    Ok(())
-}
-
-/// Asserts that an element is added at moment 0 with an expiry and a comment, by the change at a place of section 0.
-fn assert_added(rt: &impl Abort, script: &Script, place: usize, expiry: u64, comment: &[u8]) {
-    assert_eq!(rt;
-        change_made(script, place),
-        Some((Some(expiry), comment, Verb::Add, 0)),
-        "{place}"
-    );
-}
-
-#[test]
-fn a_listing_is_read(rt: HostRuntime) -> Result<(), Fail> {
-    let script = read_script(
-        rt.alloc(),
-        b"table ip filter {\n\tset s {\n\t\ttype ipv4_addr . inet_service\n\t\tflags interval,timeout\n\t\telements = { 10.0.0.0/8 . 80 timeout 1h expires 59m30s comment \"web\",\n\t\t\t     192.168.1.0-192.168.2.1 . 1024-65535 timeout 1h expires 59m30s996ms }\n\t}\n}\n",
-    )?;
-    assert_eq!(rt; sizes(&script), (1, 1, 3));
-    assert_added(&rt, &script, 0, 3_570_000, b"web");
-    assert_added(&rt, &script, 1, 3_570_996, b"");
-    Ok(())
-}
-
-/// Asserts all that stands of the set `marks` and its two elements.
-fn assert_marks(rt: &impl Abort, script: &Script) {
-    assert_eq!(rt; sizes(script), (2, 1, 3));
-    for set in script.schema.as_slice().iter().take(1) {
-        assert!(rt; set.family == Family::Inet && set.interval && set.timed && !set.disjoint);
-        assert_eq!(rt; set.timeout, Some(93_600_000));
-        assert_eq!(rt; set.size, Some(65_535));
-    }
-    let first = Interval {
-        low: 0x100,
-        high: 0x1ff,
-    };
-    let second = Interval {
-        low: 0x200,
-        high: 0x2ff,
-    };
-    assert_change(rt, script, 0, 10, &[first, one(0x0000_5e00_5301)]);
-    assert_change(rt, script, 1, 11, &[second, one(0x0000_5e00_5302)]);
-    assert_added(rt, script, 0, 3_540_000, b"\xc2\xb5 \xf0\x9f\x94\x92");
-    assert_added(rt, script, 1, 93_600_000, b"");
-}
-
-#[test]
-fn all_that_nft_lists_of_a_set(rt: HostRuntime) -> Result<(), Fail> {
-    let script = read_script(
-        rt.alloc(),
-        b"table inet fw { # handle 5\n\tset marks { # handle 6\n\t\ttype mark . ether_addr\n\t\tpolicy memory\n\t\tsize 65535\n\t\tflags interval,timeout\n\t\ttimeout 1d2h\n\t\tgc-interval 10s\n\t\tcomment \"G\xc3\xa4ste \xe5\xae\xa2\"\n\t\telements = { 0x00000100/24 . 00:00:5e:00:53:01 timeout 1h expires 59m comment \"\xc2\xb5 \xf0\x9f\x94\x92\",\n\t\t\t     0x00000200-0x000002ff . 0:0:5E:0:53:2 }\n\t}\n\n\tset empty { # handle 7\n\t\ttype inet_proto\n\t}\n}\n",
-    )?;
-    assert_marks(&rt, &script);
-    Ok(())
 }
 
 #[test]
 fn lists_have_any_length(rt: HostRuntime) -> Result<(), Fail> {
-    let alloc = rt.alloc();
-    let mut text = Vec::from_slice(alloc, b"add set t s { type inet_service; elements = { 1")?;
-    for _ in 0..4999 {
-        text.extend_from_slice(b",1")?;
-    }
-    text.extend_from_slice(b" } }\n")?;
-    let script = read_script(alloc, text.as_slice())?;
-    assert_eq!(rt; sizes(&script), (1, 1, 5001));
+    let text = long_list(rt.alloc(), 5_000)?;
+    assert_eq!(rt; step_count(rt.alloc(), &text), 5_001);
     Ok(())
 }
 
-#[test]
-fn tokens_have_lines_and_places(rt: HostRuntime) -> Result<(), Fail> {
-    let text = b"a.b \"x;\\\" # c\n{\\\n,$\"q\n";
-    let mut seen = Vec::new(rt.alloc());
-    for token in Tokens::new(text) {
-        seen.push((token.kind, token.line, token.from, token.to))?;
+fn token_word(kind: TokenKind) -> &'static [u8] {
+    match kind {
+        TokenKind::Word => b"word ",
+        TokenKind::Text => b"text ",
+        TokenKind::Break => b"break ",
+        TokenKind::Mark => b"mark ",
+        TokenKind::Faulty => b"faulty ",
+        TokenKind::End => b"end ",
     }
-    let expected = [
-        (TokenKind::Word, 1, 0, 3),
-        (TokenKind::Text, 1, 4, 9),
-        (TokenKind::Break, 1, 13, 14),
-        (TokenKind::Mark, 2, 14, 15),
-        (TokenKind::Mark, 3, 17, 18),
-        (TokenKind::Faulty, 3, 18, 19),
-        (TokenKind::Faulty, 3, 19, 20),
-        (TokenKind::Word, 3, 20, 21),
-        (TokenKind::Break, 3, 21, 22),
-        (TokenKind::End, 4, 22, 22),
-    ];
-    assert_eq!(rt; seen.as_slice(), expected.as_slice());
-    Ok(())
+}
+
+fn append_token(token: &Token, told: &mut Vec<u8>) -> Result<(), Memory> {
+    append_pieces(
+        &[
+            Piece::Word(token_word(token.kind)),
+            Piece::Number(token.line),
+            Piece::Word(b" "),
+            Piece::Number(token.from),
+            Piece::Word(b" "),
+            Piece::Number(token.to),
+            Piece::Word(b";"),
+        ],
+        told,
+    )
+}
+
+/// The tokens of a text: their kinds, their lines, and the places at which they begin and end.
+fn told_tokens(alloc: Global, text: &[u8]) -> Result<Vec<u8>, Memory> {
+    let mut told = Vec::new(alloc);
+    for token in Tokens::new(text) {
+        append_token(&token, &mut told)?;
+    }
+    Ok(told)
+}
+
+const TOKENS: &[u8] = b"\
+    a.b \"x;\\\" # c\n{\\\n,$\"q\n|\
+    word 1 0 3;text 1 4 9;break 1 13 14;mark 2 14 15;mark 3 17 18;faulty 3 18 19;faulty 3 19 20;word 3 20 21;\
+    break 3 21 22;end 4 22 22;~";
+
+#[test]
+fn tokens_have_lines_and_places(rt: HostRuntime) {
+    assert_told(&rt, rt.alloc(), TOKENS, 1, told_tokens);
 }

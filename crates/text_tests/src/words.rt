@@ -1,246 +1,250 @@
-use command_words::{Command, Page, Task, Verb, WordsError, command_of, page_of};
-use std::alloc::{AllocError, Global};
-use std::test::Fail;
+//! The words of a command.
+use crate::cases::{assert_told, cut, line_of};
+use command_words::{Command, Task, WordsError, command_of, page_of};
+use set_model::Memory;
+use std::alloc::Global;
+use std::str;
+use text_pieces::Piece;
 
-/// A command with its values, as plain text.
-fn plain(alloc: Global, command: Command<'_>) -> Result<String, AllocError> {
+/// The words of a line, with a space between them; none of an empty line.
+fn words_of(alloc: Global, line: &[u8]) -> Result<Vec<String>, Memory> {
+    let mut words = Vec::new(alloc);
+    if line.is_empty() {
+        return Ok(words);
+    }
+    for word in line.split(|byte| *byte == b' ') {
+        let word = str::from_utf8(word).unwrap_or("");
+        words.push(String::from_str(alloc, word)?)?;
+    }
+    Ok(words)
+}
+
+/// A verb, names, and what the options say.
+fn told_task<'a>(
+    alloc: Global,
+    verb: &'a [u8],
+    names: &[&'a str; 3],
+    threads: u32,
+    keep_going: bool,
+) -> Result<Vec<u8>, Memory> {
+    line_of(
+        alloc,
+        &[
+            Piece::Word(verb),
+            Piece::Word(names[0].as_bytes()),
+            Piece::Word(b" "),
+            Piece::Word(names[1].as_bytes()),
+            Piece::Word(b" "),
+            Piece::Word(names[2].as_bytes()),
+            Piece::Word(b" "),
+            Piece::Number(u64::from(threads)),
+            Piece::Word(if keep_going { b" true" } else { b" false" }),
+        ],
+    )
+}
+
+/// What is done with a script; a name or number of threads that it has not is told as empty or 0.
+fn told_script(
+    alloc: Global,
+    script: &str,
+    task: Task<'_>,
+    keep_going: bool,
+) -> Result<Vec<u8>, Memory> {
+    match task {
+        Task::Run { keys, threads } => {
+            told_task(alloc, b"run ", &[script, keys, ""], threads, keep_going)
+        }
+        Task::List => told_task(alloc, b"list ", &[script, "", ""], 0, keep_going),
+        Task::Dump => told_task(alloc, b"dump ", &[script, "", ""], 0, keep_going),
+        Task::Desk => told_task(alloc, b"desk ", &[script, "", ""], 0, keep_going),
+        Task::Judge {
+            rules,
+            keys,
+            threads,
+        } => told_task(
+            alloc,
+            b"judge ",
+            &[script, rules, keys],
+            threads,
+            keep_going,
+        ),
+        Task::Capture {
+            plan,
+            packets,
+            threads,
+        } => told_task(
+            alloc,
+            b"capture ",
+            &[script, plan, packets],
+            threads,
+            keep_going,
+        ),
+    }
+}
+
+fn told_command(alloc: Global, command: Command<'_>) -> Result<Vec<u8>, Memory> {
     match command {
         Command::Script {
             script,
             task,
             keep_going,
-        } => match task {
-            Task::Run { keys, threads } => {
-                format!(in alloc; "run {script} {keys} {threads} {keep_going}")
-            }
-            Task::List => format!(in alloc; "list {script} {keep_going}"),
-            Task::Dump => format!(in alloc; "dump {script} {keep_going}"),
-            Task::Desk => format!(in alloc; "desk {script} {keep_going}"),
-            Task::Judge {
-                rules,
-                keys,
-                threads,
-            } => format!(in alloc; "judge {script} {rules} {keys} {threads} {keep_going}"),
-            Task::Capture {
-                plan,
-                packets,
-                threads,
-            } => format!(in alloc; "capture {script} {plan} {packets} {threads} {keep_going}"),
-        },
+        } => told_script(alloc, script, task, keep_going),
         Command::Drill {
             seed,
             count,
             threads,
-        } => format!(in alloc; "drill {seed} {count} {threads}"),
+        } => line_of(
+            alloc,
+            &[
+                Piece::Word(b"drill "),
+                Piece::Number(seed),
+                Piece::Word(b" "),
+                Piece::Number(u64::from(count)),
+                Piece::Word(b" "),
+                Piece::Number(u64::from(threads)),
+            ],
+        ),
     }
 }
 
-/// What words ask for, as plain text: a page's, or the command with its values.
-fn asked(alloc: Global, words: &[&str]) -> Result<String, AllocError> {
-    let mut told = Vec::new(alloc);
-    for word in words {
-        told.push(String::from_str(alloc, word)?)?;
+/// The first line of the page that words ask for, or their command.
+fn told_words(alloc: Global, words: &[String]) -> Result<Vec<u8>, Memory> {
+    if let Some(page) = page_of(words) {
+        return line_of(alloc, &[Piece::Word(cut(page.text().as_bytes(), b'\n').0)]);
     }
-    if let Some(page) = page_of(told.as_slice()) {
-        return String::from_str(alloc, page.text());
-    }
-    match command_of(alloc, told.as_slice()) {
-        Ok(command) => plain(alloc, command),
-        Err(WordsError::NoCommand) => String::from_str(alloc, "no command"),
-        Err(WordsError::Memory) => Err(AllocError),
+    match command_of(alloc, words) {
+        Ok(command) => told_command(alloc, command),
+        Err(WordsError::NoCommand) => line_of(alloc, &[Piece::Word(b"no command")]),
+        Err(WordsError::Memory) => Err(Memory),
     }
 }
 
-#[test]
-fn words_that_are_no_command(rt: HostRuntime) -> Result<(), Fail> {
-    let commands: [&[&str]; 61] = [
-        &[],
-        &["run", "a"],
-        &["run", "a", "b", "c"],
-        &["run", "-a", "b"],
-        &["run", "a", ""],
-        &["run", "-", "-"],
-        &["run", "--keep-going", "-", "--threads", "2", "-"],
-        &["run", "a", "b", "--threads", "-"],
-        &["run", "a", "b", "--threads", "17"],
-        &["run", "a", "b", "--threads", "01"],
-        &["run", "a", "b", "--threads", "0"],
-        &["run", "a", "b", "--threads", "+1"],
-        &["run", "a", "b", "--threads", ""],
-        &["run", "a", "b", "--threads"],
-        &["run", "a", "b", "--threads", "--keep-going"],
-        &["run", "a", "b", "--threads", "1", "--threads", "1"],
-        &["run", "a", "b", "--threads=1"],
-        &["run", "a", "--threads", "b"],
-        &["run", "a", "b", "--keep-going", "--keep-going"],
-        &["run", "a", "b", "--keep-going=1"],
-        &["run", "--", "a", "b"],
-        &["--keep-going", "run", "a", "b"],
-        &["list"],
-        &["list", "a", "b"],
-        &["list", "a", "--threads", "1"],
-        &["dump", "--"],
-        &["dump", "a", "--keep"],
-        &["dump", "a", "--threads", "1"],
-        &["drill", "1"],
-        &["drill", "-", "1"],
-        &["drill", "1", "2", "3"],
-        &["drill", "1", "0"],
-        &["drill", "1", "20001"],
-        &["drill", "18446744073709551616", "1"],
-        &["drill", "01", "1"],
-        &["drill", "a", "1"],
-        &["drill", "1", "2", "--keep-going"],
-        &["judge", "a", "b"],
-        &["judge", "a", "b", "c", "d"],
-        &["judge", "a", "-", "-"],
-        &["judge", "-", "b", "-"],
-        &["judge", "a", "b", "--threads", "c"],
-        &["capture", "a", "b"],
-        &["capture", "-", "-", "c"],
-        &["capture", "a", "b", "c", "--threads", "17"],
-        &["desk"],
-        &["desk", "a", "b"],
-        &["desk", "a", "--threads", "2"],
-        &["desks", "a"],
-        &["lists", "a"],
-        &["help", "lists"],
-        &["help", "help"],
-        &["help", "--help"],
-        &["help", "run", "list"],
-        &["--help", "run"],
-        &["--help", "--help"],
-        &["run", "a", "--help"],
-        &["run", "--help", "a"],
-        &["--version", "run"],
-        &["run", "--version"],
-        &["-"],
-    ];
-    for words in commands {
-        assert_eq!(rt; asked(rt.alloc(), words)?.as_str(), "no command");
-    }
-    Ok(())
+/// What the words of a line ask for.
+fn asked(alloc: Global, line: &[u8]) -> Result<Vec<u8>, Memory> {
+    told_words(alloc, &words_of(alloc, line)?)
 }
 
-#[test]
-fn words_in_any_order(rt: HostRuntime) -> Result<(), Fail> {
-    let commands: [(&[&str], &str); 20] = [
-        (&["run", "help", "b"], "run help b 1 false"),
-        (&["run", "--threads", "16", "16", "b"], "run 16 b 16 false"),
-        (
-            &["run", "a", "--threads", "9", "--keep-going", "b"],
-            "run a b 9 true",
-        ),
-        (
-            &["run", "--keep-going", "a", "b", "--threads", "1"],
-            "run a b 1 true",
-        ),
-        (&["run", "-", "b"], "run - b 1 false"),
-        (&["run", "a", "-", "--keep-going"], "run a - 1 true"),
-        (&["list", "--keep-going", "c"], "list c true"),
-        (&["list", "run"], "list run false"),
-        (&["list", "-"], "list - false"),
-        (&["dump", "d", "--keep-going"], "dump d true"),
-        (&["dump", "--keep-going", "-"], "dump - true"),
-        (
-            &["drill", "18446744073709551615", "20000"],
-            "drill 18446744073709551615 20000 1",
-        ),
-        (&["drill", "0", "--threads", "4", "1"], "drill 0 1 4"),
-        (&["judge", "a", "b", "c"], "judge a b c 1 false"),
-        (
-            &["judge", "a", "--threads", "3", "-", "--keep-going", "c"],
-            "judge a - c 3 true",
-        ),
-        (&["capture", "a", "b", "-"], "capture a b - 1 false"),
-        (
-            &["capture", "--keep-going", "a", "b", "c", "--threads", "16"],
-            "capture a b c 16 true",
-        ),
-        (&["desk", "a"], "desk a false"),
-        (&["desk", "--keep-going", "desk"], "desk desk true"),
-        (&["desk", "-", "--keep-going"], "desk - true"),
-    ];
-    for (words, line) in commands {
-        assert_eq!(rt; asked(rt.alloc(), words)?.as_str(), line);
-    }
-    Ok(())
-}
+/// Words that are no command.
+const NO_COMMANDS: &[u8] = b"\
+    |no command~\
+    run a|no command~\
+    run a b c|no command~\
+    run -a b|no command~\
+    run a |no command~\
+    run - -|no command~\
+    run --keep-going - --threads 2 -|no command~\
+    run a b --threads -|no command~\
+    run a b --threads 17|no command~\
+    run a b --threads 01|no command~\
+    run a b --threads 0|no command~\
+    run a b --threads +1|no command~\
+    run a b --threads |no command~\
+    run a b --threads|no command~\
+    run a b --threads --keep-going|no command~\
+    run a b --threads 1 --threads 1|no command~\
+    run a b --threads=1|no command~\
+    run a --threads b|no command~\
+    run a b --keep-going --keep-going|no command~\
+    run a b --keep-going=1|no command~\
+    run -- a b|no command~\
+    --keep-going run a b|no command~\
+    list|no command~\
+    list a b|no command~\
+    list a --threads 1|no command~\
+    dump --|no command~\
+    dump a --keep|no command~\
+    dump a --threads 1|no command~\
+    drill 1|no command~\
+    drill - 1|no command~\
+    drill 1 2 3|no command~\
+    drill 1 0|no command~\
+    drill 1 20001|no command~\
+    drill 18446744073709551616 1|no command~\
+    drill 01 1|no command~\
+    drill a 1|no command~\
+    drill 1 2 --keep-going|no command~\
+    judge a b|no command~\
+    judge a b c d|no command~\
+    judge a - -|no command~\
+    judge - b -|no command~\
+    judge a b --threads c|no command~\
+    capture a b|no command~\
+    capture - - c|no command~\
+    capture a b c --threads 17|no command~\
+    desk|no command~\
+    desk a b|no command~\
+    desk a --threads 2|no command~\
+    desks a|no command~\
+    lists a|no command~\
+    help lists|no command~\
+    help help|no command~\
+    help --help|no command~\
+    help run list|no command~\
+    --help run|no command~\
+    --help --help|no command~\
+    run a --help|no command~\
+    run --help a|no command~\
+    --version run|no command~\
+    run --version|no command~\
+    -|no command~\
+";
 
-#[test]
-fn words_that_ask_for_a_page(rt: HostRuntime) -> Result<(), Fail> {
-    let pages: [(&[&str], Page); 25] = [
-        (&["help"], Page::Program),
-        (&["--help"], Page::Program),
-        (&["-h"], Page::Program),
-        (&["--version"], Page::Version),
-        (&["help", "run"], Page::Command(Verb::Run)),
-        (&["run", "--help"], Page::Command(Verb::Run)),
-        (&["run", "-h"], Page::Command(Verb::Run)),
-        (&["help", "list"], Page::Command(Verb::List)),
-        (&["list", "--help"], Page::Command(Verb::List)),
-        (&["list", "-h"], Page::Command(Verb::List)),
-        (&["help", "dump"], Page::Command(Verb::Dump)),
-        (&["dump", "--help"], Page::Command(Verb::Dump)),
-        (&["dump", "-h"], Page::Command(Verb::Dump)),
-        (&["help", "drill"], Page::Command(Verb::Drill)),
-        (&["drill", "--help"], Page::Command(Verb::Drill)),
-        (&["drill", "-h"], Page::Command(Verb::Drill)),
-        (&["help", "judge"], Page::Command(Verb::Judge)),
-        (&["judge", "--help"], Page::Command(Verb::Judge)),
-        (&["judge", "-h"], Page::Command(Verb::Judge)),
-        (&["help", "capture"], Page::Command(Verb::Capture)),
-        (&["capture", "--help"], Page::Command(Verb::Capture)),
-        (&["capture", "-h"], Page::Command(Verb::Capture)),
-        (&["help", "desk"], Page::Command(Verb::Desk)),
-        (&["desk", "--help"], Page::Command(Verb::Desk)),
-        (&["desk", "-h"], Page::Command(Verb::Desk)),
-    ];
-    for (words, page) in pages {
-        assert_eq!(rt; asked(rt.alloc(), words)?.as_str(), page.text());
-    }
-    Ok(())
-}
+/// Words in any order.
+const COMMANDS: &[u8] = b"\
+    run help b|run help b  1 false~\
+    run --threads 16 16 b|run 16 b  16 false~\
+    run a --threads 9 --keep-going b|run a b  9 true~\
+    run --keep-going a b --threads 1|run a b  1 true~\
+    run - b|run - b  1 false~\
+    run a - --keep-going|run a -  1 true~\
+    list --keep-going c|list c   0 true~\
+    list run|list run   0 false~\
+    list -|list -   0 false~\
+    dump d --keep-going|dump d   0 true~\
+    dump --keep-going -|dump -   0 true~\
+    drill 18446744073709551615 20000|drill 18446744073709551615 20000 1~\
+    drill 0 --threads 4 1|drill 0 1 4~\
+    judge a b c|judge a b c 1 false~\
+    judge a --threads 3 - --keep-going c|judge a - c 3 true~\
+    capture a b -|capture a b - 1 false~\
+    capture --keep-going a b c --threads 16|capture a b c 16 true~\
+    desk a|desk a   0 false~\
+    desk --keep-going desk|desk desk   0 true~\
+    desk - --keep-going|desk -   0 true~\
+";
+
+/// Words that ask for a page.
+const PAGES: &[u8] = b"\
+    help|pipapo runs nftables set scripts and looks packets up in the sets.~\
+    --help|pipapo runs nftables set scripts and looks packets up in the sets.~\
+    -h|pipapo runs nftables set scripts and looks packets up in the sets.~\
+    --version|pipapo 0.1.0~\
+    help run|usage: pipapo run SCRIPT KEYS [--threads N] [--keep-going]~\
+    run --help|usage: pipapo run SCRIPT KEYS [--threads N] [--keep-going]~\
+    run -h|usage: pipapo run SCRIPT KEYS [--threads N] [--keep-going]~\
+    help list|usage: pipapo list SCRIPT [--keep-going]~\
+    list --help|usage: pipapo list SCRIPT [--keep-going]~\
+    list -h|usage: pipapo list SCRIPT [--keep-going]~\
+    help dump|usage: pipapo dump SCRIPT [--keep-going]~\
+    dump --help|usage: pipapo dump SCRIPT [--keep-going]~\
+    dump -h|usage: pipapo dump SCRIPT [--keep-going]~\
+    help drill|usage: pipapo drill SEED COUNT [--threads N]~\
+    drill --help|usage: pipapo drill SEED COUNT [--threads N]~\
+    drill -h|usage: pipapo drill SEED COUNT [--threads N]~\
+    help judge|usage: pipapo judge SCRIPT RULES KEYS [--threads N] [--keep-going]~\
+    judge --help|usage: pipapo judge SCRIPT RULES KEYS [--threads N] [--keep-going]~\
+    judge -h|usage: pipapo judge SCRIPT RULES KEYS [--threads N] [--keep-going]~\
+    help capture|usage: pipapo capture SCRIPT PLAN PCAP [--threads N] [--keep-going]~\
+    capture --help|usage: pipapo capture SCRIPT PLAN PCAP [--threads N] [--keep-going]~\
+    capture -h|usage: pipapo capture SCRIPT PLAN PCAP [--threads N] [--keep-going]~\
+    help desk|usage: pipapo desk SCRIPT [--keep-going]~\
+    desk --help|usage: pipapo desk SCRIPT [--keep-going]~\
+    desk -h|usage: pipapo desk SCRIPT [--keep-going]~\
+";
 
 #[test]
-fn each_page_begins_with_its_own_line(rt: HostRuntime) -> Result<(), Fail> {
-    let pages: [(Page, &str); 9] = [
-        (
-            Page::Program,
-            "pipapo runs nftables set scripts and looks packets up in the sets.\n",
-        ),
-        (Page::Version, "pipapo 0.1.0\n"),
-        (
-            Page::Command(Verb::Run),
-            "usage: pipapo run SCRIPT KEYS [--threads N] [--keep-going]\n",
-        ),
-        (
-            Page::Command(Verb::List),
-            "usage: pipapo list SCRIPT [--keep-going]\n",
-        ),
-        (
-            Page::Command(Verb::Dump),
-            "usage: pipapo dump SCRIPT [--keep-going]\n",
-        ),
-        (
-            Page::Command(Verb::Drill),
-            "usage: pipapo drill SEED COUNT [--threads N]\n",
-        ),
-        (
-            Page::Command(Verb::Judge),
-            "usage: pipapo judge SCRIPT RULES KEYS [--threads N] [--keep-going]\n",
-        ),
-        (
-            Page::Command(Verb::Capture),
-            "usage: pipapo capture SCRIPT PLAN PCAP [--threads N] [--keep-going]\n",
-        ),
-        (
-            Page::Command(Verb::Desk),
-            "usage: pipapo desk SCRIPT [--keep-going]\n",
-        ),
-    ];
-    for (page, line) in pages {
-        assert!(rt; page.text().starts_with(line));
-    }
-    Ok(())
+fn words_of_a_command(rt: HostRuntime) {
+    assert_told(&rt, rt.alloc(), NO_COMMANDS, 61, asked);
+    assert_told(&rt, rt.alloc(), COMMANDS, 20, asked);
+    assert_told(&rt, rt.alloc(), PAGES, 25, asked);
 }
