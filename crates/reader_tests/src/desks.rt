@@ -1,5 +1,5 @@
 //! Several control threads at one control.
-ghost use Rattle.std.specs.Prelude.{◌≡◌, length, All, IfOk};
+ghost use Rattle.std.specs.Prelude.{◌≡◌, ◌<◌, ◌^◌, length, All, IfOk};
 ghost use Rattle.set_model.specs.Runnable.{IsRunnableStep};
 ghost use Rattle.control_desk.specs.Woven.{IsTransaction};
 
@@ -92,7 +92,7 @@ fn a_control_thread_that_comes_late_submits_again(rt: HostRuntime) -> Result<(),
 /// A book of a new control, and a transaction for it.
 fn book(alloc: Global) -> Result<(Book, Steps), Memory>
     ensures steps { IfOk result (λ r. IsTransaction r.1 × All (IsRunnableStep r.0.control.schema) r.1) }
-    ensures number { IfOk result (λ r. r.0.control.work.base.number ≡ 0) }
+    ensures number { IfOk result (λ r. r.0.control.work.base.number < 2 ^ 63) }
 {
     let schema = one_set(alloc, None)?;
     let steps = transaction(alloc, &schema, 80)?;
@@ -109,7 +109,7 @@ fn assert_logged(rt: &impl Abort, log: &Log, steps: &Steps) {
 
 fn assert_applies(rt: &impl Abort, alloc: Global, book: &mut Book, steps: &Steps)
     requires steps { IsTransaction steps.now × All (IsRunnableStep book.old.control.schema) steps.now }
-    requires number { book.old.control.work.base.number ≡ 0 }
+    requires number { book.old.control.work.base.number < 2 ^ 63 }
 {
     let end = book.apply(1, steps, false);
     assert_eq!(rt; end, Ok(committed(1)));

@@ -45,14 +45,15 @@ fn first_ports(rt: &impl Abort, alloc: Global) -> Vec<Key> {
 fn race<R: Threads + Abort + Sync>(
     rt: &R,
     alloc: Global,
-    control: &mut Control,
+    control: Control,
     early: Held,
     late: Held,
     keys: &[Key],
 ) -> u64 {
+    let mut control = control;
     let ((), (one, two)) = join(
         rt,
-        move || commit_ports(rt, alloc, control, 0, 300),
+        move || commit_ports(rt, alloc, &mut control, 0, 300),
         move || {
             join(
                 rt,
@@ -67,11 +68,11 @@ fn race<R: Threads + Abort + Sync>(
 #[test]
 fn readers_beside_a_control_see_whole_generations(rt: HostRuntime) -> Result<(), Fail> {
     let alloc = rt.alloc();
-    let (mut control, mut readers) = started(alloc, 2)?;
+    let (control, mut readers) = started(alloc, 2)?;
     let early = readers.pop().expect(&rt, "a reader").enter();
     let late = readers.pop().expect(&rt, "a reader").enter();
     let keys = first_ports(&rt, alloc);
-    let faults = race(&rt, alloc, &mut control, early, late, keys.as_slice());
+    let faults = race(&rt, alloc, control, early, late, keys.as_slice());
     assert_eq!(rt; faults, 0);
     Ok(())
 }
