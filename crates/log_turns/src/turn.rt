@@ -7,7 +7,24 @@ ghost use Rattle.log_turns.specs.LogSteps.{Finds, MayGive};
 use crate::Logged;
 use crate::board::{Done, Draw, Look, Place, Top};
 use std::sync::Wait;
-use std::thread;
+use std::thread::{self, Parker};
+use std::time::Duration;
+
+/// How long a thread sleeps between two looks, for each turn before its own but one, in microseconds.
+const PAUSE: u64 = 50;
+
+/// The most turns for which a pause grows.
+const LONGEST: u64 = 16;
+
+/// Lets other threads work until this one looks again, if so many turns come before its own. The next in line
+/// gives its time slice away and looks at once; each thread after it sleeps, the longer the later its turn is.
+fn pause<R: Wait>(rt: &R, parker: &Parker, turns: u64) {
+    if turns <= 1 {
+        thread::yield_now();
+    } else {
+        parker.park_timeout(rt, Duration::from_micros(PAUSE * (turns - 1).min(LONGEST)));
+    }
+}
 
 /// Draws a ticket, and waits until it is served. Then the seat has the value.
 pub fn take_turn<T: Logged + Drop, R: Wait>(rt: &R, top: &Top<T>, place: &mut Place<T>) -> (u64, T)
@@ -18,12 +35,15 @@ pub fn take_turn<T: Logged + Drop, R: Wait>(rt: &R, top: &Top<T>, place: &mut Pl
     ensures finds { Finds T.log T.base T.number T.clerk most place.old.me.0 result.1 }
 {
     let ticket = top.fetch_add::<Draw>(place, 0, 1);
+    // Nobody wakes this thread: it sleeps for its time.
+    let parker = Parker::new();
     for _ in rt.forever() {
-        if top.load::<Look>(place, 1) == ticket {
+        let served = top.load::<Look>(place, 1);
+        if served == ticket {
             let value = top.exchange(place, 0, None).unwrap();
             return (ticket, value);
         }
-        thread::yield_now();
+        pause(rt, &parker, ticket.wrapping_sub(served));
     }
     unreachable!()
 }
