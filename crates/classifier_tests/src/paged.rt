@@ -104,6 +104,7 @@ fn check_page(rt: &impl Abort, alloc: Global, page: &mut Page<Traced>) -> Result
     page.settle(alloc)?;
     let mut copy = page.copy(alloc)?;
     same_if_any(rt, copies(&copy), Some(0), 1);
+    assert!(rt; copy.as_slice().len() == 1);
     copy.set(alloc, 0, uncopied(8))?;
     same_if_any(rt, copies(page), Some(0), 2);
     Ok(())
