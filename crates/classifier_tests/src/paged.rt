@@ -33,7 +33,7 @@ impl Duplicate for Traced {
     }
 }
 
-fn traced(number: u64) -> Traced {
+fn uncopied(number: u64) -> Traced {
     Traced { number, copies: 0 }
 }
 
@@ -51,7 +51,7 @@ fn assert_at(rt: &impl Abort, numbers: &Numbers, wanted: &[(u64, u64)]) {
 fn add_numbers(rt: &impl Abort, numbers: &mut Numbers) -> Result<(), Memory> {
     for number in 0..1_025u64 {
         assert!(rt; numbers.len() < 1_025);
-        numbers.push(traced(number))?;
+        numbers.push(uncopied(number))?;
     }
     numbers.settle()
 }
@@ -61,9 +61,9 @@ fn change(rt: &impl Abort, numbers: &mut Numbers) -> Result<(), Memory> {
     assert!(rt; numbers.len() == 1_025);
     same(rt, numbers.remove(511)?.number, 511, 511);
     assert!(rt; numbers.len() == 1_024);
-    numbers.set(0, traced(7_777))?;
+    numbers.set(0, uncopied(7_777))?;
     assert!(rt; numbers.len() == 1_024);
-    numbers.set(1_023, traced(8_888))
+    numbers.set(1_023, uncopied(8_888))
 }
 
 /// Asserts that numbers change, and a copy of them doesn't.
@@ -104,7 +104,8 @@ fn check_page(rt: &impl Abort, alloc: Global, page: &mut Page<Traced>) -> Result
     page.settle(alloc)?;
     let mut copy = page.copy(alloc)?;
     same_if_any(rt, copies(&copy), Some(0), 1);
-    copy.set(alloc, 0, traced(8))?;
+    assert!(rt; copy.as_slice().len() == 1);
+    copy.set(alloc, 0, uncopied(8))?;
     same_if_any(rt, copies(page), Some(0), 2);
     Ok(())
 }
@@ -112,6 +113,6 @@ fn check_page(rt: &impl Abort, alloc: Global, page: &mut Page<Traced>) -> Result
 #[test]
 fn a_settled_page_is_shared(rt: HostRuntime) -> Result<(), Fail> {
     let mut page = Page::new(rt.alloc());
-    page.push(rt.alloc(), traced(7))?;
+    page.push(rt.alloc(), uncopied(7))?;
     Ok(check_page(&rt, rt.alloc(), &mut page)?)
 }

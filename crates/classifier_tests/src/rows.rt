@@ -43,9 +43,11 @@ fn check_ranges(rt: &impl Abort, row: &mut BitRow) {
     assert!(rt; row.len() == 130);
     row.set_range(60, 10);
     assert_row(rt, row, 130, &[(0, Some(60)), (65, Some(65)), (70, None)]);
+    assert!(rt; row.len() == 130);
     row.remove_range(62, 4);
     assert_row(rt, row, 126, &[(0, Some(60)), (66, None)]);
     assert_words(rt, row, 0xF << 60, 0b11);
+    assert!(rt; row.len() == 126);
     same(rt, row.take_word(0), 0xF << 60, 0);
     assert_words(rt, row, 0, 0b11);
 }
@@ -67,9 +69,12 @@ fn check_pushes(rt: &impl Abort, row: &mut BitRow) -> Result<(), Memory> {
 fn check_joins(rt: &impl Abort, ones: &mut BitRow, one: &mut BitRow) {
     assert!(rt; ones.len() == 66 && one.len() == 66);
     one.set_range(65, 1);
+    assert!(rt; ones.len() == one.len());
     ones.and_from(one);
     assert_words(rt, ones, 0, 0b10);
+    assert!(rt; ones.len() == 66);
     ones.set_range(0, 1);
+    assert!(rt; one.len() == ones.len());
     one.or_from(ones);
     assert_words(rt, one, 1, 0b10);
 }
