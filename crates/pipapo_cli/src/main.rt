@@ -1,7 +1,7 @@
 //! The command `pipapo`: packet filter sets under a script, and packets looked up in them.
 //!
 //! `top_call::call::call` is the program, and its contract says what a run promises (`crates/top_call/specs/Promises.antt`).
-//! No contract covers `main`, which these lines are to be read for:
+//! No contract covers `main`. Read its twenty lines for what is trusted of it (README.md, "What is trusted"):
 //!
 //! - before it opens a file, each closed standard descriptor gets a stand-in on which every call fails;
 //! - it passes on all words that the system gives but the program's name;

@@ -1,11 +1,10 @@
-//! What a user of the library writes: the example of its first page, and others by one thread.
+//! What a user of the library writes: the example of its first page, and a script that is loaded.
 ghost use Rattle.std.specs.Prelude.{◌≡◌, length, All, IfOk};
 ghost use Rattle.set_space.specs.Open.{CanBeBuilt};
 
 use pipapo::{
     Comment, Control, Family, Held, Interval, Key, Kind, Kinds, Memory, Name, NewElement, OpenGate,
-    Parts, Reader, Schema, Scratch, Script, Set, SetDecl, fits, has_numbers, parts_fit,
-    read_script, run_steps, start,
+    Parts, Reader, Schema, Script, SetDecl, has_numbers, read_script, run_steps, start,
 };
 use std::alloc::Global;
 use std::process::Abort;
@@ -87,82 +86,7 @@ fn example<R: Threads + Abort + Sync>(rt: &R, alloc: Global) -> (bool, bool) {
 
 #[test]
 fn packets_beside_a_control(rt: HostRuntime) {
-    assert_eq!(rt; example(&rt, rt.alloc()), (true, false));
-}
-
-/// One thread: services are opened, and others taken back. Whether a port is open before the commit
-/// and behind it, and whether one that was taken back is.
-fn in_turn(rt: &impl Abort, alloc: Global) -> (bool, bool, bool) {
-    let schema = services(alloc).expect(rt, "memory");
-    let (mut control, mut readers) = start(alloc, schema, 1).expect(rt, "memory");
-    let reader = readers.pop().expect(rt, "a reader");
-    open(rt, alloc, &mut control, 80, 443);
-    let mut held = reader.enter();
-    let before = is_open(rt, alloc, &mut held, 443);
-    let reader = held.leave();
-    assert!(rt; control.number() == 0);
-    let receipt = control.commit(0).expect(rt, "memory");
-    assert!(rt; receipt.generation == 1);
-    open(rt, alloc, &mut control, 22, 22);
-    control.abort();
-    let mut held = reader.enter();
-    let behind = is_open(rt, alloc, &mut held, 443);
-    let taken_back = is_open(rt, alloc, &mut held, 22);
-    held.leave();
-    (before, behind, taken_back)
-}
-
-#[test]
-fn one_thread_by_itself(rt: HostRuntime) {
-    assert_eq!(rt; in_turn(&rt, rt.alloc()), (false, true, false));
-}
-
-/// The element of the services of 192.0.2.0/24 at ports from 80 to 443.
-fn web(alloc: Global) -> Result<NewElement, Memory> {
-    let hosts = Interval {
-        low: 0xc000_0200,
-        high: 0xc000_02ff,
-    };
-    let mut parts = Parts::new(alloc);
-    parts.push(hosts)?;
-    parts.push(Interval { low: 80, high: 443 })?;
-    Ok(NewElement {
-        parts,
-        expiry: None,
-        comment: Comment::new(alloc),
-    })
-}
-
-/// Whether a set by itself finds an element for a packet to a port of 192.0.2.7.
-fn finds(rt: &impl Abort, alloc: Global, set: &Set, scratch: &mut Scratch, port: u128) -> bool {
-    let mut key = Key::new(alloc);
-    key.push(0xc000_0207).expect(rt, "memory");
-    key.push(port).expect(rt, "memory");
-    assert!(rt; fits(set.kinds(), &key));
-    set.find(&key, 0, scratch).is_some()
-}
-
-/// A set by itself, without generations: whether it finds a port that it has, and one that it hasn't.
-fn alone(rt: &impl Abort, alloc: Global) -> (bool, bool) {
-    let mut kinds = Kinds::new(alloc);
-    kinds.push(Kind::Ipv4).expect(rt, "memory");
-    kinds.push(Kind::Service).expect(rt, "memory");
-    let mut set = Set::new(alloc, &kinds, None, false).expect(rt, "memory");
-    let mut scratch = Scratch::new(alloc).expect(rt, "memory");
-    let element = web(alloc).expect(rt, "memory");
-    assert!(rt; parts_fit(set.kinds(), &element.parts));
-    let _ = set
-        .insert(alloc, &element, 0, &mut scratch)
-        .expect(rt, "room");
-    (
-        finds(rt, alloc, &set, &mut scratch, 443),
-        finds(rt, alloc, &set, &mut scratch, 22),
-    )
-}
-
-#[test]
-fn a_set_alone(rt: HostRuntime) {
-    assert_eq!(rt; alone(&rt, rt.alloc()), (true, false));
+    assert!(rt; example(&rt, rt.alloc()) == (true, false));
 }
 
 /// A control with the sets and the elements of a script's first section.
@@ -182,17 +106,23 @@ fn load(rt: &impl Abort, alloc: Global, text: &[u8]) -> (Control, Vec<Reader>) {
     (control, readers)
 }
 
+/// Whether a reader finds port 80 in the one set of ports.
+fn finds_port_80(rt: &impl Abort, alloc: Global, reader: Reader) -> bool {
+    let mut held = reader.enter();
+    let mut key = Key::new(alloc);
+    key.push(80).expect(rt, "memory");
+    assert!(rt; held.fits(0, &key));
+    let found = held.lookup(0, &key, 0).is_some();
+    held.leave();
+    found
+}
+
 #[test]
 fn a_text_is_loaded(rt: HostRuntime) {
     let text =
         b"add table ip t\nadd set ip t p { type inet_service; }\nadd element ip t p { 80 }\ncommit\n";
     let (control, mut readers) = load(&rt, rt.alloc(), text);
-    assert_eq!(rt; control.number(), 1);
+    assert!(rt; control.number() == 1);
     let reader = readers.pop().expect(&rt, "a reader");
-    let mut held = reader.enter();
-    let mut key = Key::new(rt.alloc());
-    key.push(80).expect(&rt, "memory");
-    assert!(rt; held.fits(0, &key));
-    assert!(rt; held.lookup(0, &key, 0).is_some());
-    held.leave();
+    assert!(rt; finds_port_80(&rt, rt.alloc(), reader));
 }
