@@ -3,22 +3,20 @@ use pip_base::{
     FaultKind, MemNotes, MemShelf, MemSink, Notes, ReadError, Shelf, WriteFault, read_whole,
     write_whole,
 };
-use std::alloc::Global;
 use std::process::Abort;
 use std::test::Fail;
 
-/// Asserts that a file has the bytes `add`.
-fn assert_add(rt: &impl Abort, alloc: Global, shelf: &mut MemShelf) {
-    match read_whole(alloc, shelf, "a.nft") {
+/// Asserts that bytes were read, and which.
+fn assert_add(rt: &impl Abort, read: &Result<Vec<u8>, ReadError>) {
+    match read {
         Ok(bytes) => assert!(rt; bytes.as_slice() == b"add".as_slice()),
         Err(_) => assert!(rt; false, "no bytes"),
     }
 }
 
-/// Asserts that a file can't be read, for this reason.
-fn assert_fault(rt: &impl Abort, alloc: Global, shelf: &mut MemShelf, name: &str, kind: FaultKind) {
-    assert!(rt; read_whole(alloc, shelf, name).err() == Some(ReadError::Fault));
-    assert!(rt; shelf.fault_kind() == kind);
+/// Asserts that a file can't be read.
+fn assert_fault(rt: &impl Abort, read: &Result<Vec<u8>, ReadError>) {
+    assert!(rt; matches!(read, Err(ReadError::Fault)));
 }
 
 /// A missing name and a failing call are faults.
@@ -26,10 +24,12 @@ fn assert_fault(rt: &impl Abort, alloc: Global, shelf: &mut MemShelf, name: &str
 fn files_are_read(rt: HostRuntime) -> Result<(), Fail> {
     let mut shelf = MemShelf::new(rt.alloc());
     shelf.add(rt.alloc(), "a.nft", b"add")?;
-    assert_fault(&rt, rt.alloc(), &mut shelf, "b.nft", FaultKind::NotFound);
+    assert_fault(&rt, &read_whole(rt.alloc(), &mut shelf, "b.nft"));
+    assert!(rt; shelf.fault_kind() == FaultKind::NotFound);
     shelf.fail_at(3)?;
-    assert_fault(&rt, rt.alloc(), &mut shelf, "a.nft", FaultKind::Other);
-    assert_add(&rt, rt.alloc(), &mut shelf);
+    assert_fault(&rt, &read_whole(rt.alloc(), &mut shelf, "a.nft"));
+    assert!(rt; shelf.fault_kind() == FaultKind::Other);
+    assert_add(&rt, &read_whole(rt.alloc(), &mut shelf, "a.nft"));
     Ok(())
 }
 
