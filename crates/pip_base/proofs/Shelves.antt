@@ -30,7 +30,7 @@ slice_get-set_other (y ∷ xs) zero (suc j) x h = refl
 slice_get-set_other (y ∷ xs) (suc i) zero x h = refl
 slice_get-set_other (y ∷ xs) (suc i) (suc j) x h = slice_get-set_other xs i j x (λ e. h (ap suc e))
 
--- The bytes behind those that a read gave are what is left.
+-- The bytes after those that a read gave are what is left.
 pub bytes-left : (file : Option (List ℕ × List ℕ)) (from count : ℕ) → bytes_from file from ≡ take count (bytes_from file from) ++ bytes_from file (from + count)
 bytes-left None from zero = refl
 bytes-left None from (suc count) = refl
