@@ -14,7 +14,7 @@ use Rattle.addr_text.proofs.Tables.{Passes, each-passes, found, among}
 use Rattle.addr_text.proofs.ValueLaws.{value_of_complete}
 use Rattle.addr_text.proofs.PlainLaws.{Plain, is_dashed, protocol_plain, ipv4_plain, ipv6_plain, ether_plain, service_plain, mark_plain, EndsValue, ends-nil, ends-slash, ends-dash, plain_len-append}
 
--- A plain front ends before the first `-` or `/`: it and what stands behind it are determined.
+-- A plain front ends before the first `-` or `/`: it and what stands after it are determined.
 front_unique : (xs ys rest more : List ℕ) → Plain xs → Plain ys → EndsValue rest → EndsValue more → xs ++ rest ≡ ys ++ more → (xs ≡ ys) × (rest ≡ more)
 front_unique xs ys rest more h k stop end same =
     let lengths : length xs ≡ length ys = sym (plain_len-append xs rest h.all stop) ∙ ap plain_len same ∙ plain_len-append ys more k.all end in (
@@ -22,20 +22,20 @@ front_unique xs ys rest more h k stop end same =
       sym (drop_at xs rest (length xs) refl) ∙ ap (λ t. drop (length xs) t) same ∙ drop_at ys more (length xs) (sym lengths),
     )
 
--- what stands before and behind the first `-` of a name
+-- what stands before and after the first `-` of a name
 front : List ℕ → List ℕ
 front name = take (plain_len name) name
 
 behind : List ℕ → List ℕ
 behind name = drop (plain_len name + 1) name
 
--- the front is no protocol, or what stands behind is none that isn't less
+-- the front is no protocol, or what stands after is none that isn't less
 falls : Option ℕ → Option ℕ → Bool
 falls None high = true
 falls (Some low) None = true
 falls (Some low) (Some high) = nat_lt high low
 
--- the front is no protocol, or what stands behind begins with no value that isn't less
+-- the front is no protocol, or what stands after begins with no value that isn't less
 begins_no_range : List ℕ → Bool
 begins_no_range name = elim (value_of Proto (front name)) [
   | None ↦ true
@@ -62,7 +62,7 @@ each_cut : ByRecursion (Passes is_cut) dashed_names
 unfolding is_cut begins_no_range front behind falls dashed_names value_of number_of whole_number read_number other_protocols
 each_cut = each-passes is_cut dashed_names refl
 
--- a name with a `-` ends where nothing, a `-` or a `/` stands behind it
+-- a name with a `-` ends if nothing, a `-` or a `/` stands after it
 IsFirst : List ℕ → Type 0
 IsFirst name = (rest : List ℕ) → EndsValue rest → dashed_end (name ++ rest) ≡ Some (length name)
 
@@ -111,11 +111,11 @@ protocol_end text rest n value stop = elim (protocol_plain text n value) [
   go plain None none = inl (rw none (plain_len-append text rest plain.all stop))
   go plain (Some name) is = inr (within text rest name plain stop (found (Passes is_cut) (stands_first (text ++ rest)) dashed_names name each_cut is))
 
--- no plain text is a front with a `-` behind it
+-- no plain text is a front with a `-` after it
 unspelled : {P : Type 0} (text rest : List ℕ) → IsWithin text rest → ((tail : List ℕ) → rest ≡ 45 ∷ tail → ⊥) → P
 unspelled text rest h no_dash = absurd (no_dash _ h.more)
 
--- the front of a name with a `-`, where it is a protocol, and what stands behind it
+-- the front of a name with a `-`, where it is a protocol, and what stands after it
 record HasFalls (name : List ℕ) (low : ℕ) : Type 0 where
   plain : Plain (behind name)
   apart : ByRecursion (Passes (λ other. not (bytes_eq (front other) (behind name)))) dashed_names
@@ -128,11 +128,11 @@ has_falls name low is test =
     let (apart, less) = and_parts (list_all (λ other. not (bytes_eq (front other) (behind name))) dashed_names) _ more in
     record { plain = record { all = plain }; apart = each-passes (λ other. not (bytes_eq (front other) (behind name))) dashed_names apart; falls = less }
 
--- a plain text has nothing behind a front of it that a `-` or a `/` follows
+-- a plain text has nothing after a front of it that a `-` or a `/` follows
 nothing_behind : (text tail : List ℕ) → Plain text → EndsValue tail → Plain (text ++ tail) → tail ≡ []
 nothing_behind text tail front stop all = (front_unique text (text ++ tail) tail [] front all stop ends-nil (sym (append-nil (text ++ tail)))).1
 
--- what stands behind the front of a name with a `-` is no value that isn't less than the front's
+-- what stands after the front of a name with a `-` is no value that isn't less than the front's
 no_range_within : (text high_text : List ℕ) (low high : ℕ) → IsValue Proto text low → IsValue Proto high_text high → low ≤ high → IsWithin text (45 ∷ high_text) → ⊥
 unfolding falls Passes
 no_range_within text high_text low high low_is high_is rises h = elim (protocol_plain high_text high high_is) [ inl plain ↦ lone plain | inr dashed ↦ named dashed ] where
