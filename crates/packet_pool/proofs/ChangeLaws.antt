@@ -17,7 +17,7 @@ pub record IsAlike (s t : State) : Type 0 where
   pub kinds : t.kinds ≡ s.kinds
   pub size : t.size ≡ s.size
 
--- A change leaves the set's kinds and size, and where it is refused the whole set.
+-- A change leaves the set's kinds and size, and if it is refused the whole set.
 module _ (s : State) (e : NewElement) (now : ℕ) where
   record Keeps (x : Option Why × State) : Type 0 where
     alike : IsAlike s x.1

@@ -331,6 +331,6 @@ advances keep_going steps c d events h =
       readers_is = h.goes_on.readers_is;
     }
 
--- numbers are left for what comes behind the steps
+-- numbers are left for what comes after the steps
 pub ran_number : (keep_going : Bool) (steps : List Step) (old new : Steering) (events : List Event) → Ran keep_going steps old new events → new.work.base.number ≤ old.work.base.number + length steps
 ran_number keep_going steps old new events h = goes_number keep_going steps old new h.failed events h.goes_on
