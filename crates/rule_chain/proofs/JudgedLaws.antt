@@ -73,7 +73,7 @@ later schema fits n before (b ∷ chains) sound (suc i) c e =
     let further = later schema fits (n + length b.rules) (before ++ w ∷ []) chains (λ k d h. subst (λ z. All (IsRule schema z) d.rules) (shift k) (sound (suc k) d h)) i c e in
     ap (λ z. decided all z) (shift i) ∙ further ∙ ap (λ z. walk fits (decided all) z c.rules) (omega (arith, sum_by-cons (λ (c : Chain). length c.rules) b (take i chains)))
 
--- The chain at a place decides what its rules decide, numbered behind those of the chains before.
+-- The chain at a place decides what its rules decide, numbered after those of the chains before.
 pub chain_decides : (schema : List SetDecl) (fits : Rule → Bool) (chains : List Chain) → ((i : ℕ) (c : Chain) → slice_get chains i ≡ Some c → All (IsRule schema i) c.rules)
     → (i : ℕ) (c : Chain) → slice_get chains i ≡ Some c → decided (decisions fits 0 [] chains) i ≡ walk fits (decided (decisions fits 0 [] chains)) (rule_count (take i chains)) c.rules
 chain_decides schema fits chains sound i c e =
@@ -159,7 +159,7 @@ module _ (fits : Rule → Bool) (jumped : ℕ → Option ℕ) (n i : ℕ) (rules
   pub next_unfit : (d : Option ℕ) → d ≡ walk fits jumped n (drop i rules) → fits r ≡ false → d ≡ walk fits jumped (n + 1) (drop (i + 1) rules)
   next_unfit d e h = e ∙ here ∙ not_fitting fits jumped n r (drop (i + 1) rules) h
 
-  -- behind a jump to a chain that decides nothing the walk goes on
+  -- after a jump to a chain that decides nothing the walk goes on
   pub next_passed : (d : Option ℕ) (chain : ℕ) → d ≡ walk fits jumped n (drop i rules) → fits r ≡ true → r.act ≡ acts.Jump chain → jumped chain ≡ None → d ≡ walk fits jumped (n + 1) (drop (i + 1) rules)
   next_passed d chain e h act none =
       let behind = walk fits jumped (n + 1) (drop (i + 1) rules) in
