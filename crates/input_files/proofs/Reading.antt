@@ -71,7 +71,7 @@ whole-more old mid new left_mid left n w kept picks r =
       at_end = All-cons (λ file. IsAtEnd (left file)) r.file w.files r.at_end all.at_end;
     }
 
--- a text that was read stands for what it was read as
+-- a text that was read means what it was read as
 pub as-script : (told : List ℕ → Option (List ℕ)) (name : List ℕ) (s : Script) → ReadsAs told name (λ text. IsScriptText text s) → ReadsAs told name (IsOf script s.schema)
 as-script told name s read text at = let r = read text at in (r.0, (s, r.1, refl))
 

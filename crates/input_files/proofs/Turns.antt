@@ -121,7 +121,7 @@ first-is-script c a i later e = go c a e where
   go (drill s k n) [] e = absurd (cc e)
   go (drill s k n) (x ∷ a) e = absurd (cc e)
 
--- A file in its turn that is told and of its form isn't flawed.
+-- A file in its turn that is reported and of its form isn't flawed.
 pub given-refuses : (told : List ℕ → Option (List ℕ)) (c : Command) (a : List Input) (i : Input) (later : List Input) (sets others : List SetDecl) (flaw : Flaw) → inputs c ≡ a ++ i ∷ later → AreOf told sets a → form_of flaw ≡ i.form → ReadsAs told i.name (λ text. IsFlawed sets text flaw)
     → AreGiven told others a → Has told i.name (IsOf i.form others) → ⊥
 given-refuses told c a i later sets others flaw e are form flawed given has = go a e are given where
