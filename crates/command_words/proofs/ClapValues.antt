@@ -40,7 +40,7 @@ pub simple : is_simple program ≡ true
 unfolding clap_on_literals
 simple = refl
 
--- between two words, where no option waits for a value
+-- between two words, if no option waits for a value
 abbrev pub between : Held → ℕ → Walk
 between h position = record { held = h; waiting = idle; position = position; is_trailing = false; stopped = None }
 
@@ -263,7 +263,7 @@ or-false false = refl
 onward : (rest names : List Text) (threads : Option Text) (goes : Bool) (p q : Walk) → p ≡ q → Holds (fold (walked rules []) q rest) names threads goes → Holds (fold (walked rules []) p rest) names threads goes
 onward rest names threads goes p q same h = subst (λ (at : Walk). Holds (fold (walked rules []) at rest) names threads goes) (sym same) h
 
--- The walk over arguments holds them, behind those that it held before.
+-- The walk over arguments holds them, after those that it held before.
 through : (ws names : List Text) (threads : Option Text) (goes : Bool) → AreArguments ws names threads goes → (before : List Text) (t : Option Text) (g : Bool) (h : Held)
     → length before + length names ≤ 3 → Plain threads → (is_some threads ≡ true → t ≡ None) → (goes ≡ true → g ≡ false) → Finds (held_rows h) before t g
     → Holds (fold (walked rules []) (between h (1 + length before)) ws) (before ++ names) (either t threads) (g || goes)

@@ -56,7 +56,7 @@ asked-page words Version e = rw e refl
 pub one-page : (words : List (List ℕ)) (p q : Page) → AsksFor words p → AsksFor words q → p ≡ q
 one-page words p q a b = let both : Some p ≡ Some q = sym (asked-page words p a) ∙ asked-page words q b in cc both
 
--- what stands behind a command's word
+-- what stands after a command's word
 record Behind (words : List (List ℕ)) (verb : Verb) : Type 0 where
   rest : List (List ℕ)
   names : List (List ℕ)
