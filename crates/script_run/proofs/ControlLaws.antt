@@ -50,7 +50,7 @@ module _ (P : Control → Type 0) (mode : Mode) (c : Control) (o : Outcomes P mo
   by_flush set None at = o.nothing
   by_flush set (Some s) at = o.made set s (cleared s) at (record { kinds = refl; size = refl })
 
-  -- What holds of each outcome holds behind a step.
+  -- What holds of each outcome holds after a step.
   pub by_outcome : (s : Step) → P (step mode c s)
   by_outcome (Change line set verb element now) = either c.failed c _ o.nothing (by_set line set verb element now (slice_get c.sets set) refl)
   by_outcome (Flush line set now) = either c.failed c _ o.nothing (by_flush set (slice_get c.sets set) refl)
@@ -214,7 +214,7 @@ sets-alike schema sets kinds sizes = record {
 
 -- Sections, one after another.
 module _ (mode : Mode) where
-  -- one section more, which is empty where there is none
+  -- one section more, which is empty if there is none
   next-from : (c : Control) (sections : List (List Step)) (j : ℕ) → fold (section mode) c (take (suc j) sections) ≡ section mode (fold (section mode) c (take j sections)) (section_at sections j)
   next-from c [] zero = refl
   next-from c [] (suc j) = refl

@@ -33,7 +33,7 @@ places-same f g (x ∷ xs) (y ∷ ys) long h =
     let rest : map f xs ≡ map g ys = places-same f g xs ys (cc long) (λ p z w e k. h (suc p) z w e k) in
     cc
 
--- Where no generation is committed beside the packets, each of them gets the last one's verdict.
+-- If no generation is committed beside the packets, each of them gets the last one's verdict.
 pub last-answers : (verdict : Generation → Packet → Verdict) (packets : List Packet) (first threads : ℕ) (committed : List Generation) (last : Generation) (lines : List Line)
     → slice_get committed last.number ≡ Some last → length committed ≡ last.number + 1 → IsSection verdict packets first threads (length committed) committed lines
     → map (λ l. l.verdict) lines ≡ map (verdict last) packets

@@ -73,7 +73,7 @@ from-section s p (packets ∷ keys) at e = go (append-either (placed_in s packet
 in-first : (s p : ℕ) (packets : List Packet) (at : Placed) → slice_get (placed_in s packets) p ≡ Some at → at.section ≡ s
 in-first s p packets at k = let here = numbered (in_section s) packets p at k in ap (λ (z : Placed). z.section) (sym here.2)
 
--- where an item of the first section and of those behind it stands
+-- where an item of the first section and of those after it stands
 abbrev Where : ℕ → List Packet → List (List Packet) → ℕ → Placed → Type 0
 Where s packets keys n at = (slice_get (placed_in s packets) n ≡ Some at) ⊎ ((i : ℕ) × (slice_get (placed_from (s + 1) keys) i ≡ Some at) × (n ≡ length (placed_in s packets) + i))
 
