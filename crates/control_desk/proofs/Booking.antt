@@ -1,4 +1,4 @@
--- A book stays one: behind a transaction, and where none was done.
+-- A book stays one: after a transaction, and if none was done.
 use Rattle.std.proofs.Common.{fold, ◌≡◌, refl, sym, ◌∙◌, ap, subst, ℕ, ◌+◌, ◌≤◌, Bool, false, List, [], ◌∷◌, ◌++◌, map, length, take, arith, length-append}
 use Rattle.std.proofs.lemmas.List.{take-append-le, take_all}
 use Rattle.history_laws.specs.Histories.{StartsWith, EndsWith}
@@ -42,7 +42,7 @@ module _ (clerk : ℕ) (steps : List Step) (keep_going : Bool) (old new : Steeri
   base_stays : (from : ℕ) → from ≤ length old.committed → take from new.committed ≡ take from old.committed
   base_stays from within = ap (take from) grows.1 ∙ take-append-le from old.committed grows.0 within
 
-  -- the book behind a transaction
+  -- the book after a transaction
   pub kept_then : (from : ℕ) → StandsByLog old before from → StandsByLog new behind from
   kept_then from kept =
       let base : take from new.committed ≡ take from old.committed = base_stays from kept.within in
