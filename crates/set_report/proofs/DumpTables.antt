@@ -1,4 +1,4 @@
--- The buckets of a table that stands for rules are the bitmaps of the rules, and an index leads where its elements' rules do.
+-- The buckets of a table that means rules are the bitmaps of the rules, and an index leads where its elements' rules do.
 use Rattle.std.proofs.Common.{◌≡◌, refl, sym, ◌∙◌, ap, subst, ℕ, zero, suc, ◌+◌, ◌/◌, ◌^◌, ◌<◌, ◌≤◌, false, cond, List, [], ◌∷◌, ◌++◌, length, get_or, map, flat_map, slice_get, Some, None, drop, zip, arith}
 use Rattle.std.specs.List.{range_with_len, enumerate_from}
 use Rattle.std.proofs.lemmas.Bool.{eq-eqb, ne_eqb}

@@ -61,7 +61,7 @@ pub record Joins {X : Type 0} (f : X → List ℕ) (separator : List ℕ) (xs : 
 pub joins_none : {X : Type 0} (f : X → List ℕ) (separator old : List ℕ) → Joins f separator [] old old []
 joins_none f separator old = record { text = sym (append-nil old); ahead = refl }
 
--- the item behind them
+-- the item after them
 abbrev ahead_of : {X : Type 0} → List ℕ → List X → X → List ℕ
 ahead_of separator xs y = before_next separator (xs ++ y ∷ [])
 
@@ -191,7 +191,7 @@ pub joins_table : (f : SetDecl → List ℕ) (separator : List ℕ) (schema : Li
 joins_table f separator schema i d old mid new next h fresh j e =
     subst (λ zs. Joins f separator zs old new separator) (sym (ap first_sets (take-get schema i d h) ∙ first_new (take i schema) d fresh)) (joins_one f separator (first_sets (take i schema)) d old mid new next j e)
 
--- Where memory ran out, what was appended is cut off.
+-- If memory ran out, what was appended is cut off.
 pub cut : (old mid new text : List ℕ) (n : ℕ) → KeepsBytes old mid → n ≡ length old → new ≡ take n mid → AppendsPart old new text
 cut old mid new text n k all e = none_part old new text (e ∙ ap (λ m. take m mid) all ∙ ap (take (length old)) k.appended ∙ take-append_seam old k.behind)
 
@@ -207,7 +207,7 @@ pub five_parts : (old m1 m2 m3 m4 new a b c d e : List ℕ) → m1 ≡ old ++ a 
 five_parts old m1 m2 m3 m4 new a b c d e h1 h2 h3 h4 h5 =
     in_turn old m4 new (a ++ b ++ c ++ d) e (in_turn old m3 m4 (a ++ b ++ c) d (in_turn old m2 m3 (a ++ b) c (in_turn old m1 m2 a b h1 h2) h3) h4) h5
 
--- the item of elements, where there are any
+-- the item of elements, if there are any
 pub elements_parts : (d : SetDecl) (now : ℕ) (es : List Element) (old mid between new : List ℕ) → 1 ≤ length es → mid ≡ old ++ codes "\t\telements = { "
     → between ≡ mid ++ join_by (element_text d now) (codes ",\n\t\t\t     ") es → new ≡ between ++ codes " }\n" → new ≡ old ++ elements_line d now es
 elements_parts d now [] old mid between new some h1 h2 h3 = absurd (omega (arith, some))
