@@ -21,7 +21,7 @@ no-row id rows none = any-found (is_of id) rows ∙ ap is_some none
 abbrev Settles : Held → Type 0
 Settles h = settle_passes rules false h ≡ true
 
--- A name passes where what was held before it can be used,
+-- A name passes if what was held before it can be used,
 name-passes : (w : Text) (h : Held) (position : ℕ) → is_file_name w ≡ true → turn_passes shape [] (between h position) w ≡ step_passes shape position h value
 name-passes [] h position e = absurd (true≢false (sym e))
 name-passes (b ∷ []) h position e = go (b == 45) refl where

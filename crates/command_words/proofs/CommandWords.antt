@@ -65,7 +65,7 @@ abbrev NamesFit : Verb → ℕ → List (List ℕ) → Type 0
 NamesFit verb place [] = Unit {0}
 NamesFit verb place (word ∷ names) = (takes_name verb place word ≡ true) × NamesFit verb (place + 1) names
 
--- `--threads` may stand, and its word is a number of packet threads
+-- `--threads` is allowed, and its word is a number of packet threads
 abbrev ThreadsFit : Verb → Bool → Option (List ℕ) → Type 0
 ThreadsFit verb stood None = Unit {0}
 ThreadsFit verb stood (Some word) = (takes_threads verb ≡ true) × (stood ≡ false) × (is_some (number_within 1 16 word) ≡ true)

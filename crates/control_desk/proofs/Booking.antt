@@ -81,7 +81,7 @@ as_many_generations s ends grown =
     let last = grown_last s.schema 0 ends.0 s.work.base (subst (Grown s.schema 0) ends.1 grown) in let n = last.0 in
     let size = ap length ends.1 in let sum = length-append ends.0 (s.work.base ∷ []) in omega (arith, n, size, sum)
 
--- The control where a transaction found no memory and its changes were taken back.
+-- The control after a transaction ran out of memory and its changes were taken back.
 pub taken_back : (old mid new : Steering) → IsSameStart old mid → mid.committed ≡ old.committed → EndsWith old.committed old.work.base → EndsWith mid.committed mid.work.base → IsClosed old → new ≡ record mid { work = opened mid.work.base } → new ≡ old
 taken_back old mid new start same old_ends mid_ends closed taken =
     let base : mid.work.base ≡ old.work.base = one_last old.committed mid.work.base old.work.base (subst (λ z. EndsWith z mid.work.base) same mid_ends) old_ends in

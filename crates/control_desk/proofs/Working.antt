@@ -95,7 +95,7 @@ one_more_done keep_going steps step old mid new before behind fits went gone =
       same = gone.same ∙ ap (λ (c : Seated). record c { seen = new.seen; left = new.left }) went.same;
     }
 
--- Where a section ends its last transaction, none is open after it.
+-- If a section ends its last transaction, none is open after it.
 none_open : (before : List Step) (s : Step) (ss : List Step) → opens (slice_get (s ∷ ss) (length ss)) ≡ false → fold pending_then before (s ∷ ss) ≡ []
 none_open before s [] closed = pending_closed before s (opens (Some s)) closed
 none_open before s (t ∷ ts) closed = none_open (pending_then before s) t ts closed

@@ -80,7 +80,7 @@ module _ (schema : List SetDecl) (made : List Generation) (w : Open) (steered : 
     pub shown_follows : {T : Type 0} (state : T → Generation) (ys : List (Option T)) (x y : Generation) → 0 < length ys → AllShow state (sealed w now) ys → AllShow state x ys → EndsWith made y → Follows y x
     shown_follows state ys x y some next shows last = subst (Follows y) (all_show_same state (sealed w now) x ys some next shows) (next_follows y last)
 
-    -- The work stands on it once it is published.
+    -- The work is based on it after it is published.
     pub steered_next : IsSteered schema (made ++ sealed w now ∷ []) (opened (sealed w now))
     steered_next = record { last = (made, refl); grown = grown_more schema 0 made (sealed w now) steered.grown (let n = base_is.0 in omega (arith, n)) next_kinds; open_sets = next_kinds }
 

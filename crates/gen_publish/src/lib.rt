@@ -1,10 +1,9 @@
-//! Commits generations of sets by one control, and looks keys up in them by up to sixteen readers,
-//! which never wait.
+//! Commits generations of sets by one control, while up to sixteen readers look keys up in them without waiting.
 //!
 //! # Theory of operation
 //!
-//! A *generation* is all sets at the moment of a commit, and the commit's number. It never changes.
-//! Take one set of ports, a control and two readers:
+//! A *generation* is all sets at the moment of a commit, and the commit's number. It never changes. Take one set of
+//! ports, a control and two readers:
 //!
 //! ```text
 //! control               committed     reader 0                 reader 1
@@ -18,39 +17,32 @@
 //!                                     lookup 22: none
 //! ```
 //!
-//! **Changes.** `insert`, `create`, `delete`, `destroy` and `flush` change open sets that no reader
-//! sees. Port 443 is in the open set at once, and in no generation before the commit. An `abort` takes
-//! all open changes back, here port 22.
+//! **Changes.** `insert`, `create`, `delete`, `destroy` and `flush` change open sets that no reader sees. Port 443 is in
+//! the open set at once, and in no generation before the commit. An `abort` takes all open changes back, here port 22.
 //!
-//! **Commit.** The next generation is the open sets, without the elements that are expired at the
-//! commit's moment. An unchanged set is shared with the generation before. A commit first takes all its
-//! memory: for what it has to copy, and for each reader a pointer to the new generation. It puts these
-//! pointers into a slot that no reader holds, and publishes the slot by one atomic step. If memory runs
-//! out, nothing has changed.
+//! **Commit.** The next generation is the open sets, without the elements that are expired at the commit's moment. An
+//! unchanged set is shared with the generation before. A commit first takes all its memory: for what it has to copy, and
+//! for each reader a pointer to the new generation. It puts these pointers into a slot that no reader holds, and
+//! publishes the slot by one atomic step. If memory runs out, nothing has changed.
 //!
-//! **Enter and leave.** An enter counts the reader into the published slot by one atomic addition, and
-//! takes the reader's own pointer out of the slot. A leave puts the pointer back, and counts the reader
-//! out by another addition. In between, the reader holds its generation, whatever is committed. So
-//! reader 0 finds no port 80 until it enters again. Neither call takes memory, copies, waits or writes
-//! what other readers read.
+//! **Enter and leave.** An enter counts the reader into the published slot by one atomic addition, and takes the
+//! reader's own pointer out of the slot. A leave puts the pointer back, and counts the reader out by another addition.
+//! In between, the reader holds its generation, whatever is committed. So reader 0 finds no port 80 until it enters
+//! again. Neither call takes memory, copies, waits or writes what other readers read. A lookup takes no memory either.
+//! It returns the earliest inserted element that is live at the packet's moment and holds the key.
 //!
-//! **Lookup.** A lookup returns the earliest inserted element that is live at the packet's moment and
-//! holds the key. It takes no memory: it works in rows that the reader owns.
+//! **Slots.** There are two more slots than readers. Each reader holds at most one, and one is published. So a commit
+//! always finds a free slot, and looks at none twice. It drops the old pointers that it finds there; a reader frees no
+//! memory. A `Held` that is dropped without a leave keeps its slot for good, and commits find another.
 //!
-//! **Slots.** There are two more slots than readers. Each reader holds at most one, and one is
-//! published. So a commit always finds a free slot, and looks at none twice. It drops the pointers of
-//! an older generation that it finds in there; a reader frees no memory. A `Held` that is dropped
-//! without a leave keeps its slot for good, and commits find another.
+//! **Notes.** The committed generations are one list, and a reader has seen a front of it, which never gets shorter. If
+//! an enter and a commit come at once, either may be first. After `meet` with a note of the control, an enter is no
+//! older than the last commit before that note. By `hear` the control learns that a reader has seen a front of the
+//! control's own list.
 //!
-//! **Notes.** The committed generations are one list, and a reader has seen a front of it, which never
-//! gets shorter. If an enter and a commit come at once, either may be first. After `meet` with a note
-//! of the control, an enter is no older than the last commit before that note. By `hear` the control
-//! learns that a reader has seen a front of the control's own list.
-//!
-//! **Definitions:** `specs/Publish.antt` has what contracts see of a control, a reader and a note.
-//! `set_space` says what a change does (`specs/Open.antt`, `Answers.antt`), and `set_model` what a set
-//! is. **Theory:** docs/architecture.md, "Readers beside a writer". **Proofs:** docs/proofs.md,
-//! "Control and readers (`gen_publish`)".
+//! **Definitions:** `specs/Publish.antt` has what contracts see of a control, a reader and a note. `set_space` says what
+//! a change does (`specs/Open.antt`, `Answers.antt`), and `set_model` what a set is. **Theory:** docs/architecture.md,
+//! "Readers beside a writer". **Proofs:** docs/proofs.md, "Control and readers (`gen_publish`)".
 #![tactic(auto)]
 
 mod berth;

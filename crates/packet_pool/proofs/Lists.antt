@@ -61,7 +61,7 @@ module _ {A : Type 0} where
   get_set_other (y ∷ ys) (suc i) zero x other = refl
   get_set_other (y ∷ ys) (suc i) (suc k) x other = get_set_other ys i k x (λ e. other (ap suc e))
 
-  -- the item that comes next, where a list is gone through
+  -- the next item in a walk through a list
   pub get_next : (all front rest more : List A) (x : A) → front ++ rest ≡ all → rest ≡ x ∷ more → slice_get all (length front) ≡ Some x
   get_next all front rest more x e next = ap (λ (l : List A). slice_get l (length front)) (sym e ∙ ap (λ (l : List A). front ++ l) next) ∙ behind front x more
     where

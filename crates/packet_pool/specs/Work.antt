@@ -60,7 +60,7 @@ pub record Serves (serves : List SetDecl → Type 0) (packets : List Packet) (w 
   pub schema : serves w.reader.schema
   pub packets_fit : AllFit w.reader.schema packets
 
--- a worker's seat is that of one worker at this counter
+-- a worker's seat represents one worker at this counter
 pub record IsSeated (table : TableId) (w : Worker) : Type 0 where
   pub table_is : w.place.table_id ≡ table
   pub place : (w.place.me.1 ≡ []) × (w.place.me.0.workers ≡ 1)

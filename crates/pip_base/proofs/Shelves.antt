@@ -1,4 +1,4 @@
--- Files in memory: where a name's file stands, and what a read leaves.
+-- Files in memory: the place of a name's file, and what a read leaves.
 use Rattle.std.proofs.Common.{◌≡◌, ◌≢◌, refl, sym, ◌∙◌, ap, ℕ, zero, suc, ◌+◌, ◌<◌, ◌≤◌, Bool, not, cond, List, [], ◌∷◌, ◌++◌, length, map, take, drop, slice_get, slice_set, Option, Some, None, arith, min, add-zero}
 use Rattle.std.specs.List.{position, prefix_len}
 use Rattle.std.proofs.lemmas.List.{length-map, take-append-drop, drop-drop, take-append-le, length-take-le, take_all}
@@ -46,7 +46,7 @@ none-left : (xs : List ℕ) → length xs ≡ 0 → xs ≡ []
 none-left [] h = refl
 none-left (x ∷ xs) h = absurd (omega (arith, h))
 
--- A file that was read then stands `count` bytes further on.
+-- After a read, a file is `count` bytes further on.
 module _ (files : List (List ℕ × List ℕ)) (opened : List OpenFile) (n count : ℕ) (o moved : OpenFile) (rest : List ℕ) (at_n : slice_get opened n ≡ Some o)
     (is_rest : rest ≡ bytes_from (slice_get files o.place) o.from) (place : moved.place ≡ o.place) (further : moved.from ≡ o.from + count) where
   left : rest_of_open files (slice_get (slice_set opened n moved) n) ≡ Some (bytes_from (slice_get files o.place) (o.from + count))

@@ -1,13 +1,13 @@
 //! Looks packets up in filter sets by up to sixteen readers, while one control changes the sets.
 //!
-//! A set has fields, such as an address and a port (`Kind`), and elements of one interval per field. A
-//! key has one value per field. A lookup of a key returns the earliest inserted element that is live
-//! and holds the key, as nft's sets of concatenated ranges are meant to.
+//! A set has fields, such as an address and a port (`Kind`), and elements of one interval per field. A key has one value
+//! per field. A lookup of a key returns the earliest inserted element that is live and holds the key, as nft's sets of
+//! concatenated ranges are meant to.
 //!
 //! # The model
 //!
-//! `start` takes the declared sets (`Schema`) and the number of readers. It makes generation 0, in
-//! which all sets are empty.
+//! `start` takes the declared sets (`Schema`) and the number of readers. It makes generation 0, in which all sets are
+//! empty.
 //!
 //! - A **generation** is all sets at the moment of a commit. It has a number and never changes.
 //! - The **`Control`** changes the open sets, which no reader sees: `insert`, `create`, `delete`, `destroy`,
@@ -19,20 +19,17 @@
 //! - A **`Note`** has what one thread has seen. A reader that has met a note of the control enters no older
 //!   generation.
 //!
-//! **What waits:** nothing. An enter and a leave are one atomic addition each, and a commit finds a
-//! free place for its generation within readers + 1 looks. A `Held` that is never left keeps its
-//! generation, and blocks nobody.
+//! **What waits:** nothing. An enter and a leave are one atomic addition each, and a commit finds a free place for its
+//! generation within readers + 1 looks. A `Held` that is never left keeps its generation, and blocks nobody.
 //!
-//! **What takes memory:** `start`, the five changes and `commit`. Each of them leaves everything as it
-//! was if memory runs out. `enter`, `lookup`, `leave`, `abort` and notes take none. A set is copied at
-//! its first change in a transaction, and at a commit if an element of it has expired. A copy shares
-//! all whole pages, and a change copies only the pages that it changes. Deleted elements may stay in a
-//! set's tables for a while, unseen, and are removed together. The control frees older generations, and
-//! a reader frees no memory.
+//! **What takes memory:** `start`, the five changes and `commit`. Each of them leaves everything as it was if memory
+//! runs out. `enter`, `lookup`, `leave`, `abort` and notes take none. A set is copied at its first change in a
+//! transaction, and at a commit if an element of it has expired. A copy shares all whole pages, and a change copies only
+//! the pages that it changes. Deleted elements may stay in a set's tables for a while, unseen, and are removed together.
+//! The control frees older generations, and a reader frees no memory.
 //!
-//! **What calls require:** a declared set, and intervals and values of its kinds. `Control::fits` and
-//! `Held::fits` test this, and no other call tests it again. Sets and fields are numbered from 0, and
-//! moments are milliseconds.
+//! **What calls require:** a declared set, and intervals and values of its kinds. `Control::fits` and `Held::fits` test
+//! this, and no other call tests it again. Sets and fields are numbered from 0, and moments are milliseconds.
 //!
 //! # How a set is looked up
 //!
@@ -43,38 +40,35 @@
 //! element 1:  192.168.1.0-192.168.2.1     . 2048
 //! ```
 //!
-//! Each interval is split into blocks whose values differ in their lowest bits alone. Each block is a
-//! rule of its field. The addresses have three: rule 0, 10.0.0.5, of element 0, and rules 1 and 2,
-//! 192.168.1.0/24 and 192.168.2.0/31, of element 1. For each byte of a field, each of its 256 values
-//! has a bitmap of the rules that agree with it. A lookup ANDs one bitmap per byte. For 192.168.1.5
-//! these are 011, 011, 010 and 110, with rule 0 first, so 010 is left: rule 1. Each rule leads to the
-//! rules of its element in the next field, here the port. In the last field each rule leads to its
-//! element. A lookup compares no intervals. The lowest rule that is left belongs to the earliest
-//! element.
+//! Each interval is split into blocks whose values differ in their lowest bits alone. Each block is a rule of its field.
+//! The addresses have three: rule 0, 10.0.0.5, of element 0, and rules 1 and 2, 192.168.1.0/24 and 192.168.2.0/31, of
+//! element 1. For each byte of a field, each of its 256 values has a bitmap of the rules that agree with it. A lookup
+//! ANDs one bitmap per byte. For 192.168.1.5 these are 011, 011, 010 and 110, with rule 0 first, so 010 is left: rule 1.
+//! Each rule leads to the rules of its element in the next field, here the port. In the last field each rule leads to
+//! its element. A lookup compares no intervals. The lowest rule that is left belongs to the earliest element.
 //!
 //! # A set by itself
 //!
-//! A thread that needs no generations has a `Set`: `insert`, `delete`, `purge` and `find`. A lookup
-//! works in the rows of a `Scratch`, which is made once. A `Transaction` is what a `Control` has open:
-//! the sets of a `Generation`, and the changes to them.
+//! A thread that needs no generations has a `Set`: `insert`, `delete`, `purge` and `find`. A lookup works in the rows of
+//! a `Scratch`, which is made once. A `Transaction` is what a `Control` has open: the sets of a `Generation`, and the
+//! changes to them.
 //!
 //! # Texts
 //!
-//! `read_script` reads a script of nft(8), and `read_keys` the packets of a key file. They refuse a
-//! text that isn't in its grammar, with its line and the reason. `run_steps` does a script's steps on a
-//! control, `write_events` writes their events, and `write_list` a generation as a script again.
-//! `transcript`, `listing` and `dump` return what the commands `run`, `list` and `dump` write.
+//! `read_script` reads a script of nft(8), and `read_keys` the packets of a key file. They refuse a text that isn't in
+//! its grammar, with its line and the reason. `run_steps` does a script's steps on a control, `write_events` writes
+//! their events, and `write_list` a generation as a script again. `transcript`, `listing` and `dump` return what the
+//! commands `run`, `list` and `dump` write.
 //!
-//! **Each call's promise and cost:** docs/library.md. **Definitions:** docs/definitions.md. The
-//! contracts of controls and readers are in `gen_publish`, those of a transaction in `set_space`, and
-//! those of a set in `pipapo_image`. **Theory:** the first page of `gen_publish`, and
-//! docs/architecture.md: "The way of a packet" and "The way of a change", and "The classifier, by one
-//! example" for how a set is looked up.
+//! **Each call's promise and cost:** docs/library.md. **Definitions:** docs/definitions.md. The contracts of controls
+//! and readers are in `gen_publish`, those of a transaction in `set_space`, and those of a set in `pipapo_image`.
+//! **Theory:** the first page of `gen_publish`, and docs/architecture.md: "The way of a packet" and "The way of a
+//! change", and "The classifier, by one example" for how a set is looked up.
 //!
 //! # Example
 //!
-//! A packet thread beside the control. `services` declares one set, of the kinds `Ipv4` and `Service`.
-//! A test has the same code, and is proved.
+//! A packet thread beside the control. `services` declares one set, of the kinds `Ipv4` and `Service`. A test has the
+//! same code, and is proved.
 //!
 //! ```text
 //! /// Inserts the services of 192.0.2.0/24 at ports from `low` to `high`.

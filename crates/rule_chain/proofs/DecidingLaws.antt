@@ -55,7 +55,7 @@ walk-names fit jumped front (r ∷ rules) n m long all e =
       go true found behind = act r.act refl found behind
       go false found behind = behind found
 
--- the decisions that stood, and one more
+-- the decisions so far, and one more
 one-more : (rules : List Rule) (before : List (Option ℕ)) (o : Option ℕ) → AllName rules (decided before) → ((n : ℕ) → o ≡ Some n → Names rules n) → AllName rules (decided (before ++ o ∷ []))
 one-more rules [] o all h zero n e = h n e
 one-more rules [] o all h (suc chain) n e = absurd (cc e)

@@ -50,7 +50,7 @@ abbrev pub as_asked : Bool → Bool → Bool
 as_asked true found = found
 as_asked false found = not found
 
--- A packet meets a test if the test's set has the kinds of the packet's set, and if the set holds its
+-- A packet meets a test if the test's set has the kinds of the packet's set, and it holds its
 -- key, or doesn't, as the test asks.
 abbrev pub meets_test : List SetDecl → Generation → Packet → Test → Bool
 meets_test schema g p t = alike (slice_get schema t.set) (slice_get schema p.set) && as_asked t.inside (has_element g t.set p.key p.now)

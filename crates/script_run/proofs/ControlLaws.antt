@@ -135,7 +135,7 @@ module _ (kinds : List (List Kind)) where
   pub section_of : (mode : Mode) (c : Control) (steps : List Step) → IsOf kinds c → IsOf kinds (section mode c steps)
   section_of mode c steps h = by_steps (IsOf kinds) mode (step_of mode) c steps h
 
--- Each committed generation stands at the place of its number, and the last is the last of them.
+-- Each committed generation is at the place of its number, and the last one is the control's last.
 pub record IsNumbered (c : Control) : Type 0 where
   pub at : slice_get c.committed c.last.number ≡ Some c.last
   pub long : length c.committed ≡ c.last.number + 1

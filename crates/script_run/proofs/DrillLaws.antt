@@ -23,7 +23,7 @@ use Rattle.script_run.specs.Telling.{looked_up}
 use Rattle.script_run.proofs.ControlLaws.{section_numbered, start_numbered}
 use Rattle.script_run.proofs.TranscriptLaws.{start_stands}
 
--- Two lists look the same where their items do, place by place.
+-- Two lists look the same if their items do, place by place.
 places-same : {A B X : Type 0} (f : A → X) (g : B → X) (xs : List A) (ys : List B) → length xs ≡ length ys → ((p : ℕ) (y : B) (x : A) → slice_get ys p ≡ Some y → slice_get xs p ≡ Some x → f x ≡ g y) → map f xs ≡ map g ys
 places-same f g [] [] long h = refl
 places-same f g [] (y ∷ ys) long h = absurd (cc long)

@@ -42,7 +42,7 @@ keeps_result (Err v) old new text e p = keeps_part old new text p
 flat_map-more : {X : Type 0} (f : X → List ℕ) (xs : List X) (y : X) → flat_map f (xs ++ y ∷ []) ≡ flat_map f xs ++ f y
 flat_map-more f xs y = flat_map-append f xs (y ∷ []) ∙ ap (λ t. flat_map f xs ++ t) (append-nil (f y))
 
--- what stands before the next item: nothing before the first one
+-- the text before the next item: nothing before the first one
 abbrev before_next : {X : Type 0} → List ℕ → List X → List ℕ
 before_next separator [] = []
 before_next separator (x ∷ xs) = separator
@@ -53,7 +53,7 @@ join-more f separator (x ∷ xs) y =
     ap (λ t. f x ++ t) (flat_map-more (λ z. separator ++ f z) xs y)
     ∙ sym (append_assoc (f x) (flat_map (λ z. separator ++ f z) xs) (separator ++ f y))
 
--- The items so far are appended, and what stands before the next one is known.
+-- The items so far are appended, and the text before the next one is known.
 pub record Joins {X : Type 0} (f : X → List ℕ) (separator : List ℕ) (xs : List X) (old new next : List ℕ) : Type 0 where
   pub text : new ≡ old ++ join_by f separator xs
   pub ahead : next ≡ before_next separator xs
@@ -154,7 +154,7 @@ pub joins_set : (f : SetDecl × State → List ℕ) (separator : List ℕ) (firs
 joins_set f separator first d s schema sets i old mid new next h k same j e =
     subst (λ zs. Joins f separator zs old new separator) (sym (beside_one first d s schema sets i h k same)) (joins_one f separator (sets_beside first (take i (zip schema sets))) (d, s) old mid new next j e)
 
--- The first sets of tables: one set more is one where no set of its table stands before it.
+-- The first sets of tables: one more set is one of them if no set of its table comes before it.
 abbrev fresh : Bool → SetDecl → List SetDecl
 fresh true y = []
 fresh false y = y ∷ []

@@ -186,7 +186,7 @@ record IsRunDraft (d : Draft) : Type 0 where
   few_sets : length d.schema ≤ most_sets
   closed : All EndsClosed d.sections
 
--- A new name stands where one more set may be declared.
+-- There is a new name if one more set may be declared.
 room_for_set : (d : Draft) (p : Family × List ℕ) (t : Lexeme) (n : List ℕ) → word_value (λ t. new_name d p.0 p.1 t.bytes) t ≡ Some n → length d.schema < most_sets
 room_for_set d p t n h =
     let given = word_given (λ t. new_name d p.0 p.1 t.bytes) t n h in

@@ -12,7 +12,7 @@ pub none_part : (old new text : List ℕ) → new ≡ old → AppendsPart old ne
 none_part old new text same = record { part = []; rest = text; appended = same ∙ sym (append-nil old); front = refl }
 
 module _ {X : Type 0} where
-  -- The text of a list is that of the items before a place, of the item there, and of those after it.
+  -- The text of a list is the text of the items before a place, then of the item there, then of the items after it.
   pub split : (f : X → List ℕ) (xs : List X) (i : ℕ) (x : X) → i < length xs → x ≡ get_or xs i x
       → flat_map f xs ≡ flat_map f (take i xs) ++ (f x ++ flat_map f (drop (suc i) xs))
   split f [] i x h e = absurd (omega (arith, h))

@@ -1,4 +1,4 @@
--- What stands before any place of a front, or of what is whole, is a front; so a text has one bad token.
+-- The tokens before any place of a front, or of a whole list, are a front. So a text has one bad token.
 use Rattle.std.proofs.Common.{◌≡◌, ◌⊎◌, inl, inr, refl, sym, ◌∙◌, ap, subst, ◌≤◌, ℕ, List, [], ◌∷◌, ◌++◌, Bool, true, false, arith, append_assoc}
 use Rattle.token_forms.specs.declared.token.Reason.{Reason}
 use Rattle.token_forms.specs.Token.{Lexeme}

@@ -61,7 +61,7 @@ asks_cases body ts q (inl p) = p
 asks_cases body ts q (inr (a, x, y, h, w, inl i)) = absurd i.1
 asks_cases body ts q (inr (a, x, y, h, w, inr (u, y1, y2, e, v, i))) = absurd i
 
--- the text is refused for its token t, after which these stand
+-- the text is refused for its token t, which these tokens follow
 abbrev pub IsFaultBy : {A : Type 0} → Form A → List Lexeme → Lexeme → Reason → List Lexeme → Type 0
 IsFaultBy f ts t reason rest = (k : IsFault f ts t.line reason) × (k.behind ≡ rest)
 
@@ -82,7 +82,7 @@ text_answer {A} {body} {more} {r} law apart ts ends = go (r ts) (law.meets ts) w
   not_all : (x : List Lexeme) → ts ≡ x → body.front x → ⊥
   not_all x e p = let a = no_end_last ends.others ends.last (subst NoEnd (sym e ∙ ends.split) (law.inner x p)) in let b = ends.is_end in cc (a, b)
 
-  -- what is whole of the text is what stands before the end
+  -- the whole part of the text is all before the end
   before_end : (a : A) → (text_of body).whole ts a → body.whole ends.others a
   before_end a w =
       let k = body_of body ts a w in

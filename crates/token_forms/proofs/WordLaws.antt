@@ -234,7 +234,7 @@ bind_done {A} {B} {f} {more} {next} {r} h wide law = bind_reads f more r (λ a. 
   through : (x : List Lexeme) (a : A) (b : B) (rest : List Lexeme) → f.whole x a → (done (h a)).whole [] b → Stops (next b) rest → Stops (more a) rest
   through x a b rest w v s = stops a rest (subst (λ c. Stops (next c) rest) (sym v.1) s)
 
--- the same where the tokens that could continue the form don't depend on its value
+-- the same if the tokens that could continue the form don't depend on its value
 pub bind_done_same : {A B : Type 0} {f : Form A} {more : Lexeme → Bool} {r : List Lexeme → Outcome A} (h : A → B) → Reads f (λ _. more) r → Reads (f >>=f λ a. done (h a)) (λ _. more) (r >>=r λ a. done_read (h a))
 bind_done_same h law = bind_done h (λ a t g. g) law
 

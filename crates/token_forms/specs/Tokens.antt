@@ -15,7 +15,7 @@ gap n = record { kind = None; size = n }
 abbrev pub token : TokenKind → ℕ → Piece
 token kind n = record { kind = Some kind; size = n }
 
--- After a quote: up to 128 bytes that may stand in a string, and a quote. Else the quote alone is a faulty token.
+-- After a quote: up to 128 bytes of a string, and a quote. Else the quote alone is a faulty token.
 abbrev pub string_piece : List ℕ → Piece
 string_piece bytes =
     let n = prefix_len is_string_byte bytes in

@@ -1,5 +1,4 @@
-//! Cuts a text into tokens, reads it along the forms of a grammar, and finds the first token that
-//! doesn't fit.
+//! Cuts a text into tokens, reads it along a grammar's forms, and finds the first token that doesn't fit.
 //!
 //! A key file may have the line `ip t p 10.0.0.5 . 1024`, a key that element 0 of docs/architecture.md
 //! holds. It has seven tokens. Each has a kind, a line that counts from 1, and two places: of its first
