@@ -150,9 +150,9 @@ fn parse_interval(kind: Kind, text: &[u8]) -> Option<Interval>
     interval_behind(kind, value, &text[end..])
 }
 
-/// The interval of a kind that a text means. The text is a value, a value with `/` and the number of
-/// its fixed bits, or two values with `-` between them, the second no lower than the first. With `/`
-/// the host bits are dropped.
+/// The interval of a kind that a text means. The text is one of three: a value; a value, `/` and the
+/// number of its fixed bits; or two values with `-` between them, the second no lower. With `/` the
+/// host bits are dropped.
 ///
 /// # Errors
 ///

@@ -158,8 +158,8 @@ pub(crate) fn parse_value(kind: Kind, text: &[u8]) -> Option<u128>
 }
 
 /// The value of a kind that a text means. The text is an IPv4 address of four octets, an IPv6 address
-/// in one of the three forms of RFC 4291, or an Ethernet address of six octets. Or it is a protocol's
-/// name or number, a port, or a mark in decimal or after `0x`.
+/// by RFC 4291, or an Ethernet address of six octets. Or it is a protocol's name or number, a port, or
+/// a mark in decimal or after `0x`. IPv6 addresses have any of the three forms of RFC 4291.
 ///
 /// # Errors
 ///

@@ -9,9 +9,9 @@ use Rattle.set_model.specs.Control.{Generation}
 use Rattle.control_desk.specs.declared.entry.Entry.{Entry}
 use Rattle.control_desk.specs.Woven.{HasSeen, entries_of}
 
--- A control thread: its desk, the declared sets, how many control threads there are, its number, the
--- generations before the desk's log, the log as far as it has seen it, and how many transactions it may
--- still submit.
+-- A control thread. It has its desk, the declared sets, the number of control threads, and its own
+-- number. It has the generations before the desk's log, and the log as far as it has seen it. It may
+-- still submit so many transactions.
 pub record Seated : Type 0 where
   pub of : TableId
   pub schema : List SetDecl

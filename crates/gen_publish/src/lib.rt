@@ -25,7 +25,7 @@
 //! for each reader a pointer to the new generation. It puts these pointers into a slot that no reader holds, and
 //! publishes the slot by one atomic step. If memory runs out, nothing has changed.
 //!
-//! **Enter and leave.** An enter counts the reader into the published slot by one atomic addition, and takes the
+//! **Enter and leave.** An enter counts the reader into the published slot by one atomic addition. It takes the
 //! reader's own pointer out of the slot. A leave puts the pointer back, and counts the reader out by another addition.
 //! In between, the reader holds its generation, whatever is committed. So reader 0 finds no port 80 until it enters
 //! again. Neither call takes memory, copies, waits or writes what other readers read. A lookup takes no memory either.

@@ -56,8 +56,8 @@ pub fn read_keys(alloc: Global, schema: &Schema, text: &[u8]) -> Result<Keys, Ke
     // A text that means a key file is read as that one, unless memory runs out. So it means at most one
     // key file.
     ensures only { (keys : List (List Packet)) → IsKeysText schema.now text.now keys → IsReadAs (λ x. x) result keys }
-    // A refused text means no key file. The line is that of its bad token, and the reason is the first
-    // that applies.
+    // A refused text means no key file. The line is its bad token's, and the reason is the first that
+    // applies.
     ensures bad { (line : ℕ) (reason : Reason) → result ≡ Err (Bad line reason) → IsFault (key_file schema.now) (text_tokens text.now) line reason }
     // Each packet's set is declared, and its key fits the set's kinds.
     ensures fits { IfOk result (All (All (IsFitting schema.now))) }

@@ -251,7 +251,7 @@ pub fn read_plan(alloc: Global, schema: &Schema, text: &[u8]) -> Result<Plan, Pl
     // A text that means a plan is read as that one, unless memory runs out. So it means at most one
     // plan.
     ensures only { (lines : List Lined) → IsPlanText schema.now text.now lines → IsReadAs (λ x. x) result lines }
-    // A refused text means no plan. The line is that of its bad token, and the reason is the first that
+    // A refused text means no plan. The line is its bad token's, and the reason is the first that
     // applies.
     ensures bad { (line : ℕ) (reason : Reason) → result ≡ Err (Bad line reason) → IsBadPlan schema.now text.now line reason }
     // Each line's set is declared, and its selectors are of the kinds of the set's fields.

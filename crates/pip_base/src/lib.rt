@@ -10,7 +10,7 @@
 //!     write "0.0."            takes "0."      fault count 0
 //!     write "0."              fails           fault count 1
 //!
-//! So [`write_whole`] answers a fault, and a front of the piece was taken. Each fault has its cause:
+//! So [`write_whole`] returns a fault, and a front of the piece was taken. Each fault has its cause:
 //! the count of faults rose. Contracts speak of bytes as far as they are known. A shelf or sink in
 //! memory knows its bytes. For the real ones, contracts say nothing of the bytes; README.md, "What is
 //! trusted", says what we trust of them.

@@ -89,8 +89,8 @@ pub fn read_rules(alloc: Global, schema: &Schema, text: &[u8]) -> Result<Chains,
     // A text that means chains is read as these, unless memory runs out. So it means at most one list
     // of chains.
     ensures only { (rules : List OneChain × Bool) → IsRulesText schema.now text.now rules → IsReadAs (λ c. (c.chains, c.accept)) result rules }
-    // A refused text is no rules file. The line is that of its bad token, and the reason is the first
-    // that applies.
+    // A refused text is no rules file. The line is its bad token's, and the reason is the first that
+    // applies.
     ensures bad { (line : ℕ) (reason : Reason) → result ≡ Err (Bad line reason) → IsBadRules schema.now text.now line reason }
     // They are over the sets of this schema.
     ensures schema { IfOk result (λ c. c.schema ≡ schema.now) }

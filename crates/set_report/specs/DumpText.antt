@@ -53,7 +53,8 @@ with_bucket v bitmap (run ∷ runs) =
     then record { from = v; to = run.to; bitmap = bitmap } ∷ runs
     else record { from = v; to = v; bitmap = bitmap } ∷ run ∷ runs
 
--- The longest runs of neighbouring buckets with the same bitmap. The first bucket is that of value v.
+-- The longest runs of neighbouring buckets with the same bitmap. The first bucket is the one of value
+-- v.
 abbrev pub runs_from : ℕ → List (List Bool) → List BucketRun
 runs_from v [] = []
 runs_from v (bitmap ∷ bitmaps) = with_bucket v bitmap (runs_from (v + 1) bitmaps)

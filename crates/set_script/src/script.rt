@@ -281,8 +281,8 @@ pub fn read_script(alloc: Global, text: &[u8]) -> Result<Script, ScriptError>
     // A text that means a script is read as that one, unless memory runs out. So it means at most one
     // script.
     ensures only { (s : Script) → IsScriptText text.now s → IsReadAs (λ x. x) result s }
-    // A refused text means no script. The line is that of its bad token, and the reason is the first
-    // that applies.
+    // A refused text means no script. The line is its bad token's, and the reason is the first that
+    // applies.
     ensures bad { (line : ℕ) (reason : Reason) → result ≡ Err (Bad line reason) → IsFault script (text_tokens text.now) line reason }
     // The script can be run on the sets that it declares.
     ensures runnable { IfOk result IsRunnable }

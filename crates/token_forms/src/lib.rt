@@ -8,7 +8,7 @@
 //!     kind        Word   Word   Word   Word       Word     Word     End
 //!     places      0, 2   3, 4   5, 6   7, 15      16, 17   18, 22   22, 22
 //!
-//! Blanks and comments are gaps between tokens. Line feeds, marks as `{` and strings in quotes are
+//! Blanks and comments are gaps between tokens. Line feeds, marks such as `{` and strings in quotes are
 //! tokens of their own.
 //!
 //! A form describes lists of tokens. It says which of them are whole and what value they mean, which
