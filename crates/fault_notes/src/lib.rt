@@ -9,9 +9,10 @@
 //!                       ^^^^
 //!     help: ...
 //!
-//! Proofs say that a note begins with the file's name and with the place of the bad token or byte.
-//! Tests check the words after it. A byte of a text or a name that isn't printable ASCII appears as its
-//! number, as `\x1b` does. So no file can move a terminal.
+//! It is proved that a note on a file begins with its name, and with the place of the bad token or byte
+//! if there is one. Tests check the words after it, and the notes on refused changes. A byte of a text
+//! or a name that isn't printable ASCII appears as its number, as `\x1b` does. So no file can move a
+//! terminal.
 //!
 //! **Definitions:** `specs/Shown.antt` says how a byte is shown and how a note begins. `Told.antt` says
 //! that one note is printed, or nothing. **Theory:** docs/formats.md, "The standard error".

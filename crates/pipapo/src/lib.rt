@@ -16,8 +16,8 @@
 //! - A **`Reader`** enters the last generation and becomes a **`Held`**. A `Held` looks keys up in that generation,
 //!   whatever is committed meanwhile. `leave` makes it a `Reader` again. A reader never enters an older generation
 //!   than one that it has seen.
-//! - A **`Note`** has what one thread has seen. A reader that has met a note of the control enters no older
-//!   generation.
+//! - A **`Note`** has the generations that one thread has seen. A reader that has met a note of the control enters
+//!   no generation older than the last of these.
 //!
 //! **What waits:** nothing. An enter and a leave are one atomic addition each, and a commit finds a free place for its
 //! generation within readers + 1 looks. A `Held` that is never left keeps its generation, and blocks nobody.
