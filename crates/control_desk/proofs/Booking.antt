@@ -61,7 +61,7 @@ module _ (clerk : ℕ) (steps : List Step) (keep_going : Bool) (old new : Steeri
             ∙ ap (map said) (sym done.logged);
       }
 
--- A book is applied to by a transaction that is done and logged.
+-- A transaction that is done and logged is applied to the book.
 pub applied : (clerk : ℕ) (steps : List Step) (keep_going : Bool) (old : Booked) (new : Steering) (behind : List Entry) (end : Event) → IsClosed old.control → old.from ≤ length old.control.committed → IsDone clerk steps keep_going old.control new old.log behind end
     → IsApplied clerk steps keep_going old (record { control = new; log = behind; from = old.from }) end
 applied clerk steps keep_going old new behind end closed within done = record {

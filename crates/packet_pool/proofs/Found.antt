@@ -16,7 +16,7 @@ abbrev pub verdict_found : Option Found → Verdict
 verdict_found None = verdicts.None
 verdict_found (Some f) = verdicts.Element f.id
 
--- The verdict on what was found is that on the first live element that holds the key.
+-- The verdict on what was found is the verdict on the first live element that holds the key.
 pub found-first : (s : State) (key : List ℕ) (now : ℕ) → verdict_found (found s key now) ≡ verdict_of (first s key now)
 found-first s key now = go (place s key now) refl where
   go : (o : Option ℕ) → place s key now ≡ o → verdict_found (option_map (λ i. record { place = i; id = (element_at s i).id }) o) ≡ verdict_of (first s key now)
