@@ -1,4 +1,4 @@
--- What std's addresses stand for as numbers.
+-- What std's addresses mean as numbers.
 use Rattle.std.proofs.Common.{◌≡◌, ℕ, ◌+◌, ◌*◌, ◌^◌, ◌<◌, ◌≤◌, List, length, get_or, take, Option, Some, None, option_map, refl, sym, arith, lit<}
 use Rattle.std.proofs.lemmas.List.{length-take-le}
 use Rattle.std.specs.Net.Addr.{ipv4_bits}

@@ -1,4 +1,4 @@
--- Where the first value of an interval ends, of protocols' names with a `-` among others.
+-- The end of an interval's first value, also if that is a protocol name with a `-`.
 use Rattle.std.proofs.Common.{◌≡◌, ℕ, ◌+◌, ◌<◌, ◌≤◌, ◌⊎◌, Bool, true, not, nat_eq, nat_lt, ◌&&◌, List, [], ◌∷◌, ◌++◌, length, take, drop, bytes_eq, find, Option, Some, None, refl, sym, ap, ◌∙◌, subst, arith, inl, inr, true≢false, append-nil, append_assoc, take-append-drop, take_at, drop_at}
 use Rattle.std.proofs.lemmas.Bool.{and_parts, eqb-true, ltb-true}
 use Rattle.std.proofs.lemmas.Slice.Eq.{bytes_eq-Decides}
@@ -14,7 +14,7 @@ use Rattle.addr_text.proofs.Tables.{Passes, each-passes, found, among}
 use Rattle.addr_text.proofs.ValueLaws.{value_of_complete}
 use Rattle.addr_text.proofs.PlainLaws.{Plain, is_dashed, protocol_plain, ipv4_plain, ipv6_plain, ether_plain, service_plain, mark_plain, EndsValue, ends-nil, ends-slash, ends-dash, plain_len-append}
 
--- A plain front ends before the first `-` or `/`: it and what stands behind it are determined.
+-- A plain front ends before the first `-` or `/`: the front and the text after it are determined.
 front_unique : (xs ys rest more : List ℕ) → Plain xs → Plain ys → EndsValue rest → EndsValue more → xs ++ rest ≡ ys ++ more → (xs ≡ ys) × (rest ≡ more)
 front_unique xs ys rest more h k stop end same =
     let lengths : length xs ≡ length ys = sym (plain_len-append xs rest h.all stop) ∙ ap plain_len same ∙ plain_len-append ys more k.all end in (
@@ -22,20 +22,20 @@ front_unique xs ys rest more h k stop end same =
       sym (drop_at xs rest (length xs) refl) ∙ ap (λ t. drop (length xs) t) same ∙ drop_at ys more (length xs) (sym lengths),
     )
 
--- what stands before and behind the first `-` of a name
+-- the text before and after the first `-` of a name
 front : List ℕ → List ℕ
 front name = take (plain_len name) name
 
 behind : List ℕ → List ℕ
 behind name = drop (plain_len name + 1) name
 
--- the front is no protocol, or what stands behind is none that isn't less
+-- the front is no protocol, or the text after is a lower one or none
 falls : Option ℕ → Option ℕ → Bool
 falls None high = true
 falls (Some low) None = true
 falls (Some low) (Some high) = nat_lt high low
 
--- the front is no protocol, or what stands behind begins with no value that isn't less
+-- the front is no protocol, or the text after begins with a lower value or none
 begins_no_range : List ℕ → Bool
 begins_no_range name = elim (value_of Proto (front name)) [
   | None ↦ true
@@ -62,7 +62,7 @@ each_cut : ByRecursion (Passes is_cut) dashed_names
 unfolding is_cut begins_no_range front behind falls dashed_names value_of number_of whole_number read_number other_protocols
 each_cut = each-passes is_cut dashed_names refl
 
--- a name with a `-` ends where nothing, a `-` or a `/` stands behind it
+-- a name with a `-` ends if nothing, a `-` or a `/` follows it
 IsFirst : List ℕ → Type 0
 IsFirst name = (rest : List ℕ) → EndsValue rest → dashed_end (name ++ rest) ≡ Some (length name)
 
@@ -74,7 +74,7 @@ dashed_first : (text rest : List ℕ) → is_dashed text ≡ true → EndsValue 
 unfolding IsFirst
 dashed_first text rest is stop = among IsFirst dashed_names text each_first is rest stop
 
--- the first value is a plain front of a name with a `-` that stands first in the text
+-- the first value is a plain front of a name with a `-` that begins the text
 record IsWithin (text rest : List ℕ) : Type 0 where
   name : List ℕ
   tail : List ℕ
@@ -100,7 +100,7 @@ within text rest name plain stop h =
     let both = front_unique text (front name) rest (45 ∷ (behind name ++ tail)) plain is.plain stop (ends-dash (behind name ++ tail)) joined in
     record { name = name; tail = tail; cut = is; short = both.0; more = both.1; stop = end }
 
--- Where a protocol stands first that nothing, a `-` or a `/` follows, it ends there, or is a front of such a name.
+-- A protocol that begins the text, and that nothing, a `-` or a `/` follows, ends there or is a front of such a name.
 protocol_end : (text rest : List ℕ) (n : ℕ) → IsValue Proto text n → EndsValue rest → (first_end Proto (text ++ rest) ≡ length text) ⊎ IsWithin text rest
 unfolding first_end dashed_end
 protocol_end text rest n value stop = elim (protocol_plain text n value) [
@@ -111,11 +111,11 @@ protocol_end text rest n value stop = elim (protocol_plain text n value) [
   go plain None none = inl (rw none (plain_len-append text rest plain.all stop))
   go plain (Some name) is = inr (within text rest name plain stop (found (Passes is_cut) (stands_first (text ++ rest)) dashed_names name each_cut is))
 
--- no plain text is a front with a `-` behind it
+-- no plain text is a front with a `-` after it
 unspelled : {P : Type 0} (text rest : List ℕ) → IsWithin text rest → ((tail : List ℕ) → rest ≡ 45 ∷ tail → ⊥) → P
 unspelled text rest h no_dash = absurd (no_dash _ h.more)
 
--- the front of a name with a `-`, where it is a protocol, and what stands behind it
+-- the front of a name with a `-`, if it is a protocol, and the text after it
 record HasFalls (name : List ℕ) (low : ℕ) : Type 0 where
   plain : Plain (behind name)
   apart : ByRecursion (Passes (λ other. not (bytes_eq (front other) (behind name)))) dashed_names
@@ -128,11 +128,11 @@ has_falls name low is test =
     let (apart, less) = and_parts (list_all (λ other. not (bytes_eq (front other) (behind name))) dashed_names) _ more in
     record { plain = record { all = plain }; apart = each-passes (λ other. not (bytes_eq (front other) (behind name))) dashed_names apart; falls = less }
 
--- a plain text has nothing behind a front of it that a `-` or a `/` follows
+-- a plain text has nothing after a front of it that a `-` or a `/` follows
 nothing_behind : (text tail : List ℕ) → Plain text → EndsValue tail → Plain (text ++ tail) → tail ≡ []
 nothing_behind text tail front stop all = (front_unique text (text ++ tail) tail [] front all stop ends-nil (sym (append-nil (text ++ tail)))).1
 
--- what stands behind the front of a name with a `-` is no value that isn't less than the front's
+-- the text after the front of a name with a `-` is no value, or is lower than the front's
 no_range_within : (text high_text : List ℕ) (low high : ℕ) → IsValue Proto text low → IsValue Proto high_text high → low ≤ high → IsWithin text (45 ∷ high_text) → ⊥
 unfolding falls Passes
 no_range_within text high_text low high low_is high_is rises h = elim (protocol_plain high_text high high_is) [ inl plain ↦ lone plain | inr dashed ↦ named dashed ] where
@@ -163,7 +163,7 @@ no_range_within text high_text low high low_is high_is rises h = elim (protocol_
       let apart : not (bytes_eq (front high_text) (behind name)) ≡ true = among (Passes (λ other. not (bytes_eq (front other) (behind name)))) dashed_names high_text parts.apart dashed in
       true≢false (sym apart ∙ ap not ((bytes_eq-Decides (front high_text) (behind name)).1 same))
 
--- where a value ends that nothing follows
+-- the end of a value that nothing follows
 pub end-nil : (kind : Kind) (text : List ℕ) (n : ℕ) → IsValue kind text n → first_end kind (text ++ []) ≡ length text
 unfolding first_end
 end-nil Ipv4 text n h = plain_len-append text [] (ipv4_plain text n h).all ends-nil
@@ -173,7 +173,7 @@ end-nil Proto text n h = elim (protocol_end text [] n h ends-nil) [ inl ends ↦
 end-nil Service text n h = plain_len-append text [] (service_plain text n h).all ends-nil
 end-nil Mark text n h = plain_len-append text [] (mark_plain text n h).all ends-nil
 
--- where a value ends that a `/` follows
+-- the end of a value that a `/` follows
 pub end-slash : (kind : Kind) (text rest : List ℕ) (n : ℕ) → IsValue kind text n → first_end kind (text ++ 47 ∷ rest) ≡ length text
 unfolding first_end
 end-slash Ipv4 text rest n h = plain_len-append text (47 ∷ rest) (ipv4_plain text n h).all (ends-slash rest)
@@ -183,7 +183,7 @@ end-slash Proto text rest n h = elim (protocol_end text (47 ∷ rest) n h (ends-
 end-slash Service text rest n h = plain_len-append text (47 ∷ rest) (service_plain text n h).all (ends-slash rest)
 end-slash Mark text rest n h = plain_len-append text (47 ∷ rest) (mark_plain text n h).all (ends-slash rest)
 
--- where a value ends that a `-` and a value follow that isn't less
+-- the end of a value that a `-` and a value follow which isn't lower
 pub end-dash : (kind : Kind) (text high_text : List ℕ) (low high : ℕ) → IsValue kind text low → IsValue kind high_text high → low ≤ high → first_end kind (text ++ 45 ∷ high_text) ≡ length text
 unfolding first_end
 end-dash Ipv4 text rest low high h k rises = plain_len-append text (45 ∷ rest) (ipv4_plain text low h).all (ends-dash rest)

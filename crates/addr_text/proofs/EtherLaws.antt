@@ -32,7 +32,7 @@ read_octet_sound text rest n e =
     let (number, fits, len, stop) = read_number_sound 16 255 text r.0 r.1 (lit≤ tt) read in
     (take r.1 text, rw (← rest_is) (sym (take-append-drop r.1 text)), (number.0, omega (arith, ltb-false 2 r.1 test)), sym value_is ∙ sym number.1)
 
--- groups, each behind a colon
+-- groups, each after a colon
 abbrev behind : List (List ℕ) → List ℕ
 behind groups = flat_map (λ group. 58 ∷ group) groups
 
@@ -115,7 +115,7 @@ from_groups (group ∷ groups) six each =
 pub ether_of_complete : (text : List ℕ) (n : ℕ) → IsEther text n → ether_of text ≡ Some n
 ether_of_complete text n h = rw (h.spelled, h.value) (from_groups h.groups h.six h.each)
 
--- one octet of those behind
+-- one octet of those after
 pub ether_behind-next : (more rest value : ℕ) (text behind : List ℕ) (octet : ℕ) → more ≡ suc rest → next_octet text ≡ Some (octet, behind) → ether_behind more value text ≡ ether_behind rest (value * 256 + octet) behind
 unfolding ether_behind
 ether_behind-next more rest value text behind octet count read = rw (count, read) refl

@@ -80,7 +80,7 @@ more_digits base value digit k most some below small room =
     let step : base ^ (k + 1) ≡ base * base ^ k = rw add-one (pow-succ' base k) in
     omega (arith, scaled, power, step)
 
--- digits behind a number with k of them
+-- digits after a number with k of them
 more-lt : (base value k : ℕ) (digits : List ℕ) → 0 < base → value < base ^ k → ((i : ℕ) → get_or digits i 0 < base) → fold (λ n digit. n * base + digit) value digits < base ^ (k + length digits)
 more-lt base value k [] some below small = rw add-zero below
 more-lt base value k (d ∷ digits) some below small =

@@ -117,7 +117,7 @@ pub mark_plain : (text : List ℕ) (n : ℕ) → IsValue Mark text n → Plain t
 mark_plain text n (inl number) = number_plain 4294967295 text n (lit< tt) number
 mark_plain text n (inr mark) = rw mark.spelled (plain-append (codes "0x") mark.digits (record { all = refl }) (digits_plain 16 mark.digits (lit≤ tt) mark.hex.0.0.1))
 
--- what stands behind a value: nothing, or a `-` or a `/`
+-- the text after a value: nothing, or a `-` or a `/`
 unfoldable pub EndsValue : List ℕ → Type 0
 EndsValue rest = plain_len rest ≡ 0
 

@@ -1,4 +1,4 @@
--- The tables of protocol names: each name stands once in them, each number once among those that are written, and
+-- The tables of protocol names: each name is in them once, each number is written by one name, and
 -- a search finds what they hold.
 use Rattle.std.proofs.Common.{sym, ◌∙◌, ap, inl, inr, ◌==◌, ◌≡◌, ℕ, suc, Bool, true, false, not, cond, List, [], ◌∷◌, Option, Some, None, is_some, option_map, map, bytes_eq, find, Contains, refl, arith, true≢false}
 use Rattle.std.proofs.lemmas.Bool.{eqb-true}
@@ -83,7 +83,7 @@ name_found (p ∷ table) text n e = go (p.1 == n) refl e (name_found table text 
   go true test found later = (0, omega arith, λ i. (same_Some p.0 text found i, eqb-true p.1 n test i))
   go false test found later = let (k, below, at) = later found in (suc k, omega arith, at)
 
--- a name is written of a number exactly where they stand in the table of those that are written
+-- a name is written for a number exactly if the table of written names has both together
 pub name_written : (name : List ℕ) (n : ℕ) → (protocol_name n ≡ Some name → Contains written_protocols (name, n)) × (Contains written_protocols (name, n) → protocol_name n ≡ Some name)
 unfolding is_written is_some_text
 name_written name n = (name_found written_protocols name n, λ at. some_text _ name (passes is_written written_protocols (name, n) refl at))

@@ -192,7 +192,7 @@ units_are : AreUnits units
 unfolding AreUnits
 units_are = (record { some = lit< tt; letters = refl }, refl, (record { some = lit< tt; letters = refl }, refl, (record { some = lit< tt; letters = refl }, refl, (record { some = lit< tt; letters = refl }, refl, (record { some = lit< tt; letters = refl }, refl, tt)))))
 
--- nothing stands between the digits and the letters of a text
+-- nothing is between the digits and the letters of a text
 nothing_left : (text : List ℕ) → NoDigit 10 text → letters_len text ≡ 0 → text ≡ []
 nothing_left [] stop none = refl
 nothing_left (c ∷ text) stop none = absurd (omega (arith, rw (le-ltb (digit_value c) 10 stop) at none))

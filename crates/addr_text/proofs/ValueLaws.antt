@@ -124,7 +124,7 @@ value_of_complete Proto text n h = proto_complete text n h
 value_of_complete Service text n h = number_of_complete 65535 text n (lit< tt) h
 value_of_complete Mark text n h = mark_of_complete text n h
 
--- no text stands for two values of a kind
+-- no text means two values of a kind
 pub IsValue_unique : (kind : Kind) (text : List ℕ) (m n : ℕ) → IsValue kind text m → IsValue kind text n → m ≡ n
 IsValue_unique kind text m n h k = same_Some m n (sym (value_of_complete kind text m h) ∙ value_of_complete kind text n k)
 

@@ -1,4 +1,4 @@
--- The text that is written of a value, an interval or a time stands for it.
+-- The text that is written of a value, an interval or a time means it.
 use Rattle.std.proofs.Common.{◌≡◌, ℕ, zero, suc, ◌+◌, ◌-◌, ◌*◌, ◌/◌, ◌%◌, ◌^◌, ◌<◌, ◌≤◌, ◌==◌, nat_le, ◌&&◌, Bool, true, false, cond, List, [], ◌∷◌, ◌++◌, length, map, fold, flat_map, get_or, codes, decimal, unwrap_or, Option, Some, None, All, refl, sym, ap, ◌∙◌, subst, arith, inl, inr, lit≤, lit<, zero-add, append_assoc, lt-ltb, length-append, zero-mul}
 use Rattle.std.proofs.Math.Nat.{pow-zero, pow-succ', one-le-pow, mod-eq_of_lt}
 use Rattle.std.proofs.Math.Arith.{mod-mul}

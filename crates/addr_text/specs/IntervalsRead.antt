@@ -12,11 +12,11 @@ use Rattle.addr_text.specs.ValuesRead.{◌>>=◌, number_of, value_of}
 abbrev pub is_plain : ℕ → Bool
 is_plain byte = not (byte == 45) && not (byte == 47)
 
--- how many bytes there are before the first `-` or `/`
+-- how many bytes come before the first `-` or `/`
 abbrev pub plain_len : List ℕ → ℕ
 plain_len text = prefix_len is_plain text
 
--- the names of protocols that have a `-` in them
+-- the protocol names that contain a `-`
 unfoldable pub dashed_names : List (List ℕ)
 dashed_names =
     codes "xns-idp"
@@ -31,15 +31,15 @@ dashed_names =
     ∷ codes "mpls-in-ip"
     ∷ []
 
--- the name stands first in the text, with nothing, a `-` or a `/` behind it
+-- the text begins with the name, and then ends or goes on with a `-` or a `/`
 abbrev pub stands_first : List ℕ → List ℕ → Bool
 stands_first text name = starts_with nat_eq text name && (plain_len (drop (length name) text) == 0)
 
--- where a name of a protocol ends that has a `-` in it and stands first
+-- the end of a protocol name that contains a `-` and begins the text
 unfoldable pub dashed_end : List ℕ → Option ℕ
 dashed_end text = option_map length (find (stands_first text) dashed_names)
 
--- where the first value of the text ends: behind such a name, or before the first `-` or `/`
+-- the end of the text's first value: of such a name, or else the place of the first `-` or `/`
 unfoldable pub first_end : Kind → List ℕ → ℕ
 first_end Proto text = unwrap_or (dashed_end text) (plain_len text)
 first_end Ipv4 text = plain_len text
@@ -48,26 +48,26 @@ first_end Ether text = plain_len text
 first_end Service text = plain_len text
 first_end Mark text = plain_len text
 
--- a block, by what stands behind the `/`
+-- a block, by the text after the `/`
 unfoldable pub prefix_of : Kind → ℕ → List ℕ → Option Interval
 prefix_of kind value digits = do
   fixed ← number_of (bits_of kind) digits
   Some (block_of (bits_of kind) fixed value)
 
--- a range, by what stands behind the `-`
+-- a range, by the text after the `-`
 unfoldable pub range_of : Kind → ℕ → List ℕ → Option Interval
 range_of kind low behind = do
   high ← value_of kind behind
   if nat_le low high then Some (record { low = low; high = high }) else None
 
--- the interval, by what stands behind its first value
+-- the interval, by the text after its first value
 unfoldable pub interval_behind : Kind → ℕ → List ℕ → Option Interval
 interval_behind kind value [] = Some (record { low = value; high = value })
 interval_behind kind value (mark ∷ behind) =
     if mark == 47 then prefix_of kind value behind
     else (if mark == 45 then range_of kind value behind else None)
 
--- the interval that the text stands for
+-- the interval that the text means
 unfoldable pub interval_of : Kind → List ℕ → Option Interval
 interval_of kind text =
     let end = first_end kind text in

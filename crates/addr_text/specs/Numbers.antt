@@ -2,7 +2,7 @@
 use Rattle.std.specs.Prelude.{◌≡◌, ℕ, ◌+◌, ◌*◌, ◌≤◌, List, length, fold, decimal}
 use Rattle.std.specs.Net.Grammar.{IsNumber}
 
--- the number that these digits of a base write, the most significant first
+-- the number with these digits in a base, the most significant digit first
 abbrev pub big_endian : ℕ → List ℕ → ℕ
 big_endian base digits = fold (λ n digit. n * base + digit) 0 digits
 

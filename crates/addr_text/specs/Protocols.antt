@@ -18,8 +18,8 @@ written_protocols =
     ∷ (codes "udplite", 136)
     ∷ []
 
--- Each name that is read and not written: `icmpv6`, as nft has it, and all others of /etc/protocols as
--- Debian's netbase has it, in lower case as they stand there.
+-- Each name that is read and never written: `icmpv6` of nft, and all other names of /etc/protocols in
+-- Debian's netbase, in the lower case that they have there.
 unfoldable pub other_protocols : List (List ℕ × ℕ)
 other_protocols =
     (codes "ip", 0)
@@ -74,11 +74,11 @@ other_protocols =
 abbrev pub IsProtocolName : List ℕ → ℕ → Type 0
 IsProtocolName text n = Contains written_protocols (text, n) ⊎ Contains other_protocols (text, n)
 
--- the number that stands beside this name in a table
+-- the number of this name in a table
 abbrev pub number_in : List (List ℕ × ℕ) → List ℕ → Option ℕ
 number_in table text = option_map (λ p. p.1) (find (λ p. bytes_eq p.0 text) table)
 
--- the first name that stands beside this number in a table
+-- the first name of this number in a table
 abbrev pub name_in : List (List ℕ × ℕ) → ℕ → Option (List ℕ)
 name_in table n = option_map (λ p. p.0) (find (λ p. p.1 == n) table)
 
@@ -86,6 +86,6 @@ name_in table n = option_map (λ p. p.0) (find (λ p. p.1 == n) table)
 abbrev pub protocol_number : List ℕ → Option ℕ
 protocol_number text = option_or (number_in written_protocols text) (number_in other_protocols text)
 
--- the name that is written of the protocol of this number
+-- the name that is written for the protocol of this number
 abbrev pub protocol_name : ℕ → Option (List ℕ)
 protocol_name n = name_in written_protocols n

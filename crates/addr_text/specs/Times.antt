@@ -20,7 +20,8 @@ longest_time = 1_000_000_000_000_000
 abbrev pub IsCount : List ℕ → ℕ → Type 0
 IsCount text n = IsNumber 10 text n × (length text ≤ 15)
 
--- A count and its unit for some of these units, none too, in their order and with nothing between.
+-- A count and its unit for some of these units, maybe for none, in their order and with nothing
+-- between.
 abbrev pub IsParts : List (List ℕ × ℕ) → List ℕ → ℕ → Type 0
 IsParts [] text ms = (text ≡ []) × (ms ≡ 0)
 IsParts (unit ∷ units) text ms =
@@ -28,11 +29,11 @@ IsParts (unit ∷ units) text ms =
     ⊎ ((digits rest : List ℕ) × (count later : ℕ) × (text ≡ digits ++ (unit.0 ++ rest)) × IsCount digits count
     × IsParts units rest later × (ms ≡ count * unit.1 + later))
 
--- a count alone, of seconds
+-- a count without a unit, which counts seconds
 abbrev pub IsSeconds : List ℕ → ℕ → Type 0
 IsSeconds text ms = (seconds : ℕ) × IsCount text seconds × (ms ≡ seconds * 1_000)
 
--- the text stands for this time in milliseconds
+-- the text means this time in milliseconds
 pub record IsTime (text : List ℕ) (ms : ℕ) : Type 0 where
   pub spelled : IsSeconds text ms ⊎ ((0 < length text) × IsParts units text ms)
   pub within : ms ≤ longest_time

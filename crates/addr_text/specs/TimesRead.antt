@@ -14,13 +14,13 @@ is_no_digit byte = not (is_digit byte 10)
 abbrev pub letters_len : List ℕ → ℕ
 letters_len text = prefix_len is_no_digit text
 
--- a count, what stands between it and the next digit, and the text from there on
+-- a count, the text between it and the next digit, and the text from that digit on
 pub record TimePart : Type 0 where
   pub count : ℕ
   pub name : List ℕ
   pub behind : List ℕ
 
--- a count, with its unit from the text behind it
+-- a count, with its unit taken from the text after it
 abbrev pub part_with : ℕ → List ℕ → TimePart
 part_with count text = record { count = count; name = take (letters_len text) text; behind = drop (letters_len text) text }
 
@@ -30,7 +30,7 @@ time_part text = do
   n ← read_number 10 999_999_999_999_999 text
   if nat_lt 15 n.1 then None else Some (part_with n.0 (drop n.1 text))
 
--- the parts of these units, with those before them
+-- the time of parts with these units, added to the time before them
 unfoldable pub time_parts : List (List ℕ × ℕ) → ℕ → List ℕ → Option ℕ
 time_parts [] total text = if length text == 0 then Some total else None
 time_parts (unit ∷ units) total text = elim (time_part text) [
@@ -46,7 +46,7 @@ duration_of text = do
   part ← time_part text
   if length part.name == 0 then Some (part.count * 1_000) else time_parts units 0 text
 
--- the time that the text stands for
+-- the time that the text means
 unfoldable pub time_of : List ℕ → Option ℕ
 time_of text = do
   ms ← duration_of text

@@ -1,4 +1,4 @@
--- The texts of a value of each kind.
+-- The texts of a value, for each kind.
 use Rattle.std.specs.Prelude.{◌≡◌, ◌≤◌, ℕ, ◌⊎◌, List, length, map, codes, ◌++◌, All}
 use Rattle.std.specs.List.{join_with_byte}
 use Rattle.std.specs.Str.Parse.{IsNumeral, digits_value}
@@ -38,7 +38,7 @@ pub record IsHexMark (text : List ℕ) (n : ℕ) : Type 0 where
   pub spelled : text ≡ codes "0x" ++ digits
   pub hex : IsHexUpTo 8 digits n
 
--- the text stands for this value of the kind
+-- the text means this value of the kind
 abbrev pub IsValue : Kind → List ℕ → ℕ → Type 0
 IsValue Ipv4 text n = IsIpv4 text n
 IsValue Ipv6 text n = IsIpv6 text n

@@ -1,4 +1,4 @@
--- The text that is written of a value, an interval and a time.
+-- The texts that are written for a value, an interval and a time.
 use Rattle.std.specs.Prelude.{◌≡◌, ◌≤◌, ◌-◌, ◌&&◌, Bool, true, false, ℕ, zero, suc, ◌/◌, ◌%◌, ◌^◌, List, [], ◌∷◌, ◌++◌, map, flat_map, codes, decimal, unwrap_or, ◌==◌, if◌then◌else◌}
 use Rattle.std.specs.Char.{digit_char}
 use Rattle.std.specs.Int.{w128, leading_zeros}
@@ -30,21 +30,21 @@ value_text Proto n = unwrap_or (protocol_name n) (decimal n)
 value_text Service n = decimal n
 value_text Mark n = codes "0x" ++ hex_text 8 n
 
--- How many of the first bits a block of this many values less one leaves fixed.
+-- how many of the first bits are fixed in a block, by the number of its values less 1
 abbrev pub fixed_bits : ℕ → ℕ → ℕ
 fixed_bits bits spread = bits - (128 - leading_zeros w128 spread)
 
--- The interval is a whole block of its kind's values (see the law of blocks for what that means).
+-- The interval is a whole block of its kind's values (`block_law` says what that means).
 abbrev pub is_whole_block : Kind → Interval → Bool
 is_whole_block kind part =
     let block = block_of (bits_of kind) (fixed_bits (bits_of kind) (part.high - part.low)) part.low in
     (part.low == block.low) && (part.high == block.high)
 
--- what a whole block is: the values that share the first bits with the low end
+-- a whole block: all values that share their first bits with the low end
 abbrev pub IsBlock : Kind → Interval → Type 0
 IsBlock kind part = (fixed : ℕ) × (fixed ≤ bits_of kind) × (part ≡ block_of (bits_of kind) fixed part.low)
 
--- blocks of addresses alone are written as such
+-- only blocks of addresses are written with `/`
 abbrev pub is_address : Kind → Bool
 is_address Ipv4 = true
 is_address Ipv6 = true
@@ -53,21 +53,22 @@ is_address Proto = false
 is_address Service = false
 is_address Mark = false
 
--- a block by its low end and how many bits are fixed
+-- a block as its low end, `/` and the number of fixed bits
 abbrev pub block_text : Kind → Interval → List ℕ
 block_text kind part = value_text kind part.low ++ (codes "/" ++ decimal (fixed_bits (bits_of kind) (part.high - part.low)))
 
--- an interval by its two ends
+-- an interval as its two ends
 abbrev pub range_text : Kind → Interval → List ℕ
 range_text kind part = value_text kind part.low ++ (codes "-" ++ value_text kind part.high)
 
--- An interval: one value, a block, or a range.
+-- an interval: a single value, a block, or a range
 unfoldable pub interval_text : Kind → Interval → List ℕ
 interval_text kind part =
     if part.low == part.high then value_text kind part.low
     else (if is_address kind && is_whole_block kind part then block_text kind part else range_text kind part)
 
--- each unit with how many of it a time has, hours below 24, minutes and seconds below 60, milliseconds below 1000
+-- each unit with its count in a time; hours are below 24, minutes and seconds below 60, milliseconds
+-- below 1000
 abbrev pub unit_counts : ℕ → List (ℕ × List ℕ)
 unit_counts ms =
     (ms / 86_400_000, codes "d")
@@ -77,7 +78,7 @@ unit_counts ms =
     ∷ (ms % 1_000, codes "ms")
     ∷ []
 
--- a count and its unit, where it isn't 0
+-- a count and its unit, if it isn't 0
 abbrev pub count_text : ℕ × List ℕ → List ℕ
 count_text c = if c.0 == 0 then [] else decimal c.0 ++ c.1
 
@@ -85,6 +86,6 @@ count_text c = if c.0 == 0 then [] else decimal c.0 ++ c.1
 unfoldable pub time_text : ℕ → List ℕ
 time_text ms = if ms == 0 then codes "0s" else flat_map count_text (unit_counts ms)
 
--- the counts that the program makes of a time, as counts and units
+-- the code's counts of a time, as pairs of a count and a unit
 abbrev pub count_views : List Count → List (ℕ × List ℕ)
 count_views cs = map (λ c. (c.count, c.unit.now)) cs

@@ -12,7 +12,7 @@ pub(crate) fn append(out: &mut Vec<u8>, bytes: &[u8]) -> Result<(), Memory>
     Ok(())
 }
 
-/// Appends what a value of at most 48 bytes displays.
+/// Appends the display of a value, which has at most 48 bytes.
 pub(crate) fn append_display<D: Display + Drop>(out: &mut Vec<u8>, value: D) -> Result<(), Memory>
     ensures ok { OnOk result (IfSome (D.output value) (λ text. out.new.items ≡ out.old.items ++ text)) }
     ensures err { OnErr result (out.new.items ≡ out.old.items) }
@@ -24,7 +24,7 @@ pub(crate) fn append_display<D: Display + Drop>(out: &mut Vec<u8>, value: D) -> 
     }
 }
 
-/// Cuts what was appended since there were `len` bytes, where a writer found no memory.
+/// After an error, cuts what was appended since there were `len` bytes.
 pub(crate) fn cut_at_error(
     written: Result<(), Memory>,
     len: usize,

@@ -10,7 +10,7 @@ ghost use Rattle.addr_text.specs.ValuesRead.{value_of, bad_value};
 use crate::value::{BadValue, parse_value, read_number};
 use set_model::{Interval, Kind};
 
-/// The names of protocols that have a `-` in them.
+/// The protocol names that contain a `-`.
 const DASHED: [&[u8]; 10] = [
     b"xns-idp",
     b"iso-tp4",
@@ -24,7 +24,7 @@ const DASHED: [&[u8]; 10] = [
     b"mpls-in-ip",
 ];
 
-/// How many bytes there are before the first `-` or `/`.
+/// How many bytes come before the first `-` or `/`.
 fn plain_len(text: &[u8]) -> usize
     ensures value { result ≡ plain_len text.now }
     ensures within { result ≤ length text.now }
@@ -34,7 +34,7 @@ fn plain_len(text: &[u8]) -> usize
         .count()
 }
 
-/// Whether a name stands first in a text, with nothing, a `-` or a `/` behind it.
+/// Whether a text begins with a name, and then ends or goes on with a `-` or a `/`.
 fn stands_first(text: &[u8], name: &[u8]) -> bool
     ensures value { result ≡ stands_first text.now name.now }
     ensures within { IsTrue result → length name.now ≤ length text.now }
@@ -45,7 +45,7 @@ fn stands_first(text: &[u8], name: &[u8]) -> bool
     }
 }
 
-/// How long the name is that stands first in a text, among these.
+/// The length of the first of these names with which the text begins.
 fn first_name(names: &[&[u8]], text: &[u8]) -> Option<usize>
     ensures value { result ≡ option_map length (find (stands_first text.now) (map (λ name. name.now) names.now)) }
     ensures within { IfSome result (λ len. len ≤ length text.now) }
@@ -58,7 +58,7 @@ fn first_name(names: &[&[u8]], text: &[u8]) -> Option<usize>
     None
 }
 
-/// Where a name of a protocol ends that has a `-` in it and stands first in a text.
+/// The end of a protocol name that contains a `-` and begins the text.
 #[tactic(auto, unfolding(crate::specs::IntervalsRead::dashed_end, crate::specs::IntervalsRead::dashed_names))]
 fn dashed_end(text: &[u8]) -> Option<usize>
     ensures value { result ≡ dashed_end text.now }
@@ -67,8 +67,8 @@ fn dashed_end(text: &[u8]) -> Option<usize>
     first_name(&DASHED, text)
 }
 
-/// Where the first value of a text ends: behind a protocol's name that has a `-` in it, or before the first
-/// `-` or `/`.
+/// The end of a text's first value. The value is a protocol name that contains a `-`, or else all
+/// before the first `-` or `/`.
 #[tactic(auto, unfolding(crate::specs::IntervalsRead::first_end))]
 fn first_end(kind: Kind, text: &[u8]) -> usize
     ensures value { result ≡ first_end kind text.now }
@@ -82,7 +82,7 @@ fn first_end(kind: Kind, text: &[u8]) -> usize
     plain_len(text)
 }
 
-/// The block of the values that share the first bits with a value.
+/// The block of all values that share the first `fixed` of so many bits with a value.
 pub(crate) fn block(bits: u32, fixed: u32, value: u128) -> Interval
     requires fixed { fixed ≤ bits }
     requires bits { bits ≤ 128 }
@@ -150,12 +150,13 @@ fn parse_interval(kind: Kind, text: &[u8]) -> Option<Interval>
     interval_behind(kind, value, &text[end..])
 }
 
-/// The interval of a kind that a text stands for: a value, a value with `/` and how many bits of it
-/// are fixed, or a value with `-` and a value that isn't less. With `/` the host bits are dropped.
+/// The interval of a kind that a text means. The text is one of three: a value; a value, `/` and the
+/// number of its fixed bits; or two values with `-` between them, the second no lower. With `/` the
+/// host bits are dropped.
 ///
 /// # Errors
 ///
-/// `BadValue` exactly where the text stands for no interval of the kind.
+/// `BadValue` exactly if the text means no interval of the kind.
 pub fn read_interval(kind: Kind, text: &[u8]) -> Result<Interval, BadValue>
     ensures meaning { Parses (IsInterval kind) text.now result }
     ensures value { result ≡ ok_or (interval_of kind text.now) bad_value }
@@ -164,12 +165,12 @@ pub fn read_interval(kind: Kind, text: &[u8]) -> Result<Interval, BadValue>
     parse_interval(kind, text).ok_or(BadValue)
 }
 
-/// No text stands for two intervals of a kind.
+/// No text means two intervals of a kind.
 pub fn one_interval_law(_kind: Kind, _text: &[u8])
     ensures { (x y : Interval) → IsInterval _kind _text.now x → IsInterval _kind _text.now y → x ≡ y }
 {}
 
-/// The texts of which `interval_of` is some interval are those that stand for it.
+/// `interval_of` gives an interval exactly for the texts that mean it.
 pub fn interval_of_law(_kind: Kind, _text: &[u8])
     ensures { (x : Interval) → IsInterval _kind _text.now x ↔ (interval_of _kind _text.now ≡ Some x) }
 {}

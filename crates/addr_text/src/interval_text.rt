@@ -16,7 +16,7 @@ fn is_address(kind: Kind) -> bool
     matches!(kind, Kind::Ipv4 | Kind::Ipv6)
 }
 
-/// How many of the first bits are fixed in a block of this many values less one.
+/// How many of the first bits are fixed in a block; `spread` is the number of its values less 1.
 fn fixed_bits(bits: u32, spread: u128) -> u32
     requires bits { bits ≤ 128 }
     requires fits { spread < 2 ^ bits }
@@ -79,12 +79,13 @@ fn write_range(kind: Kind, part: Interval, out: &mut Vec<u8>) -> Result<(), Memo
     cut_at_error(written, len, out)
 }
 
-/// Appends the text of an interval of a kind: the value where it has one, a block of addresses by its
-/// low end, `/` and how many bits are fixed, else its two ends with `-` between them.
+/// Appends the text of an interval of a kind. A single value is written as such. A block of addresses
+/// is its low end, `/` and the number of fixed bits. Any other interval is its two ends with `-`
+/// between them.
 ///
 /// # Errors
 ///
-/// `Memory` where there is none; `out` is then as before.
+/// `Memory` if memory runs out; `out` is then as before.
 #[tactic(auto, unfolding(crate::specs::Written::interval_text))]
 pub fn write_interval(kind: Kind, part: Interval, out: &mut Vec<u8>) -> Result<(), Memory>
     requires { IsTrue (is_good kind part) }
@@ -102,14 +103,13 @@ pub fn write_interval(kind: Kind, part: Interval, out: &mut Vec<u8>) -> Result<(
     }
 }
 
-/// The text that is written of an interval stands for it.
+/// The text that is written for an interval means this interval.
 pub fn written_interval_law(_kind: Kind, _part: Interval)
     requires { IsTrue (is_good _kind _part) }
     ensures { IsInterval _kind (interval_text _kind _part) _part }
 {}
 
-/// An interval passes for a block exactly where it is a whole block of values that share their first
-/// bits.
+/// `is_whole_block` holds exactly for the whole blocks of values that share their first bits.
 pub fn block_law(_kind: Kind, _part: Interval)
     requires { IsTrue (is_good _kind _part) }
     ensures { IsTrue (is_whole_block _kind _part) ↔ IsBlock _kind _part }

@@ -1,7 +1,7 @@
 ghost use Rattle.std.specs.Prelude.{◌≡◌, ◌<◌, ◌≤◌, ◌^◌, length, IfSome};
 ghost use Rattle.std.specs.Net.Reader.{read_number};
 
-/// The number of at most `most` that the digits at the front write, and how many they are.
+/// The number at the front of a text, at most `most`, and how many digits it has.
 pub(crate) fn leading_number(text: &[u8], radix: u32, most: u64) -> Option<(u64, usize)>
     requires low { 2 ≤ radix }
     requires high { radix ≤ 16 }

@@ -57,8 +57,8 @@ const WRITTEN: [Protocol; 11] = [
     },
 ];
 
-/// The names that are read and not written: `icmpv6`, as nft has it, and all others of `/etc/protocols` as
-/// Debian's netbase has it.
+/// The names that are read and never written: `icmpv6` of nft, and all other names of `/etc/protocols`
+/// in Debian's netbase.
 const OTHER: [Protocol; 46] = [
     Protocol {
         name: b"ip",
@@ -289,15 +289,15 @@ pub(crate) fn protocol_number(name: &[u8]) -> Option<u8>
     }
 }
 
-/// The name that is written of the protocol with this number, where one is.
+/// The name that is written for the protocol with this number, if there is one.
 pub(crate) fn protocol_name(number: u8) -> Option<&'static [u8]>
     ensures { option_copied result ≡ protocol_name number }
 {
     name_in(&WRITTEN, number)
 }
 
-/// No name stands for two protocols. Of a protocol one name is written, and a name that is only read
-/// never is.
+/// No name means two protocols. A protocol has at most one name that is written. A name that is only
+/// read is never written.
 pub fn protocol_names_law()
     ensures names { (name : List ℕ) → (m n : ℕ) → IsProtocolName name m → IsProtocolName name n → m ≡ n }
     ensures written { (name : List ℕ) → (n : ℕ) → (protocol_name n ≡ Some name) ↔ Contains written_protocols (name, n) }

@@ -9,7 +9,7 @@ ghost use Rattle.addr_text.specs.ValuesRead.{bad_value};
 use crate::number::leading_number;
 use crate::value::BadValue;
 
-/// The longest time that a text may stand for, in milliseconds.
+/// The longest time that a text may mean, in milliseconds.
 const LONGEST_TIME: u128 = 1_000_000_000_000_000;
 
 /// The largest count of a part: 15 digits.
@@ -44,7 +44,7 @@ const UNITS: [Unit; 5] = [
     Unit { name: b"ms", ms: 1 },
 ];
 
-/// A count, what stands between it and the next digit, and the text from there on.
+/// A count, the text between it and the next digit, and the text from that digit on.
 #[derive(Clone, Copy)]
 struct Part<'a> {
     count: u64,
@@ -80,7 +80,7 @@ fn first_part(text: &[u8]) -> Option<Part<'_>>
     })
 }
 
-/// The milliseconds of the parts that were read, the text behind them and its first part.
+/// The milliseconds of the parts read so far, the text after them, and the first part of that text.
 #[derive(Clone, Copy)]
 struct Reading<'a> {
     total: u128,
@@ -88,7 +88,7 @@ struct Reading<'a> {
     part: Option<Part<'a>>,
 }
 
-/// Takes the part that comes next, where it is one of the unit.
+/// Takes the part that comes next, if it is one of the unit.
 fn take_part<'a>(reading: Reading<'a>, part: Part<'a>, unit: &Unit) -> Reading<'a>
     requires next { time_part reading.rest.now ≡ Some (part_view part) }
     requires ahead { IsAhead reading }
@@ -110,7 +110,7 @@ fn take_part<'a>(reading: Reading<'a>, part: Part<'a>, unit: &Unit) -> Reading<'
     }
 }
 
-/// Reads the part of a unit, where it comes next.
+/// Reads the part of a unit, if it comes next.
 fn read_unit<'a>(reading: Reading<'a>, unit: &Unit) -> Reading<'a>
     requires ahead { IsAhead reading }
     requires room { reading.total ≤ 2 ^ 124 }
@@ -170,13 +170,14 @@ fn parse_time(text: &[u8]) -> Option<u64>
     }
 }
 
-/// The time that a text stands for, in milliseconds: a count of seconds, or days, hours, minutes,
-/// seconds and milliseconds with their units, in this order and each at most once.
+/// The time that a text means, in milliseconds. The text is a count of seconds, or counts of days,
+/// hours, minutes, seconds and milliseconds with their units. These come in this order, each at most
+/// once.
 ///
 /// # Errors
 ///
-/// `BadValue` exactly where the text stands for no time, or for one of more than
-/// 1,000,000,000,000,000 milliseconds.
+/// `BadValue` exactly if the text means no time, or a time of more than 1,000,000,000,000,000
+/// milliseconds.
 pub fn read_time(text: &[u8]) -> Result<u64, BadValue>
     ensures meaning { Parses IsTime text.now result }
     ensures value { result ≡ ok_or (time_of text.now) bad_value }
@@ -185,12 +186,12 @@ pub fn read_time(text: &[u8]) -> Result<u64, BadValue>
     parse_time(text).ok_or(BadValue)
 }
 
-/// No text stands for two times.
+/// No text means two times.
 pub fn one_time_law(_text: &[u8])
     ensures { (m n : ℕ) → IsTime _text.now m → IsTime _text.now n → m ≡ n }
 {}
 
-/// The texts of which `time_of` is some number are those that stand for it.
+/// `time_of` gives a number exactly for the texts that mean this time.
 pub fn time_of_law(_text: &[u8])
     ensures { (n : ℕ) → IsTime _text.now n ↔ (time_of _text.now ≡ Some n) }
 {}

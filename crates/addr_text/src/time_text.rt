@@ -22,7 +22,7 @@ fn write_number(n: u64, unit: &[u8], out: &mut Vec<u8>) -> Result<(), Memory>
     cut_at_error(written, len, out)
 }
 
-/// A count and its unit, where it isn't 0.
+/// Appends a count and its unit, unless the count is 0.
 fn write_count(n: u64, unit: &[u8], out: &mut Vec<u8>) -> Result<(), Memory>
     ensures ok { OnOk result (out.new.items ≡ out.old.items ++ count_text (n, unit.now)) }
     ensures err { OnErr result (out.new.items ≡ out.old.items) }
@@ -47,12 +47,13 @@ fn write_counts(counts: &[Count], out: &mut Vec<u8>) -> Result<(), Memory>
     Ok(())
 }
 
-/// Appends the text of a time in milliseconds: days, hours below 24, minutes and seconds below 60 and
-/// milliseconds below 1000, those that aren't 0, and `0s` for no time.
+/// Appends the text of a time in milliseconds: its days, hours, minutes, seconds and milliseconds that
+/// aren't 0. Hours are below 24, minutes and seconds below 60, and milliseconds below 1000. The time 0
+/// is `0s`.
 ///
 /// # Errors
 ///
-/// `Memory` where there is none; `out` is then as before.
+/// `Memory` if memory runs out; `out` is then as before.
 #[tactic(auto, unfolding(crate::specs::Written::time_text))]
 pub fn write_time(ms: u64, out: &mut Vec<u8>) -> Result<(), Memory>
     ensures ok { OnOk result (out.new.items ≡ out.old.items ++ time_text ms) }
@@ -86,7 +87,7 @@ pub fn write_time(ms: u64, out: &mut Vec<u8>) -> Result<(), Memory>
     write_counts(&counts, out)
 }
 
-/// The text that is written of a time stands for it, up to the longest time that is read.
+/// The text that is written for a time means this time, up to the longest time that is read.
 pub fn written_time_law(_ms: u64)
     requires { _ms ≤ longest_time }
     ensures { IsTime (time_text _ms) _ms }

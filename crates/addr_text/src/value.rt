@@ -14,11 +14,11 @@ use crate::protocol::protocol_number;
 use set_model::Kind;
 use std::net::{Ipv4Addr, Ipv6Addr};
 
-/// The text stands for no value, interval or time.
+/// The text means no value, interval or time.
 #[derive(Clone, Copy, Debug, PartialEq, Eq)]
 pub struct BadValue;
 
-/// The number of at most `most` that the whole text writes.
+/// The number that the whole text is, at most `most`.
 #[tactic(auto, unfolding(crate::specs::ValuesRead::whole_number))]
 fn whole_number(text: &[u8], radix: u32, most: u64) -> Option<u64>
     requires low { 2 ≤ radix }
@@ -31,8 +31,8 @@ fn whole_number(text: &[u8], radix: u32, most: u64) -> Option<u64>
     if len == text.len() { Some(value) } else { None }
 }
 
-/// The number of at most `most` that a text writes in decimal digits without a leading zero; `None` exactly where it
-/// writes none.
+/// The number that a text is, at most `most`, in decimal digits without a leading zero; `None` exactly
+/// if the text isn't one.
 #[tactic(auto, unfolding(crate::specs::ValuesRead::number_of))]
 pub fn read_number(text: &[u8], most: u64) -> Option<u64>
     requires { most < 2 ^ 56 }
@@ -65,7 +65,7 @@ fn read_mark(text: &[u8]) -> Option<u64>
     }
 }
 
-/// One or two hexadecimal digits at the front, and the text behind them.
+/// One or two hexadecimal digits at the front, as a number, and the text after them.
 #[tactic(auto, unfolding(crate::specs::ValuesRead::read_octet))]
 fn leading_octet(text: &[u8]) -> Option<(u8, &[u8])>
     ensures { Reader.read_view (λ n. n) result ≡ read_octet text.now }
@@ -112,7 +112,7 @@ fn read_ipv4(text: &[u8]) -> Option<u128>
     }
 }
 
-/// The number that the eight segments of an address write.
+/// The number of an address with these eight segments.
 fn address_value(segments: &[u16]) -> u128
     requires { length segments.now ≤ 8 }
     ensures { result ≡ big_endian 65536 segments.now }
@@ -142,7 +142,7 @@ fn read_protocol(text: &[u8]) -> Option<u64>
     }
 }
 
-/// The value of a kind that a text stands for, where it stands for one.
+/// The value of a kind that a text means, if it means one.
 #[tactic(auto, unfolding(crate::specs::ValuesRead::value_of))]
 pub(crate) fn parse_value(kind: Kind, text: &[u8]) -> Option<u128>
     ensures { result ≡ value_of kind text.now }
@@ -157,13 +157,13 @@ pub(crate) fn parse_value(kind: Kind, text: &[u8]) -> Option<u128>
     }
 }
 
-/// The value of a kind that a text stands for: an IPv4 address of four octets, an IPv6 address in
-/// one of the three forms of RFC 4291, six octets of an Ethernet address, a protocol's name or
-/// number, a port, or a mark in decimal or behind `0x`.
+/// The value of a kind that a text means. The text is an IPv4 address of four octets, an IPv6 address
+/// by RFC 4291, or an Ethernet address of six octets. Or it is a protocol's name or number, a port, or
+/// a mark in decimal or after `0x`. IPv6 addresses have any of the three forms of RFC 4291.
 ///
 /// # Errors
 ///
-/// `BadValue` exactly where the text stands for no value of the kind.
+/// `BadValue` exactly if the text means no value of the kind.
 pub fn read_value(kind: Kind, text: &[u8]) -> Result<u128, BadValue>
     ensures meaning { Parses (IsValue kind) text.now result }
     ensures value { result ≡ ok_or (value_of kind text.now) bad_value }
@@ -172,17 +172,17 @@ pub fn read_value(kind: Kind, text: &[u8]) -> Result<u128, BadValue>
     parse_value(kind, text).ok_or(BadValue)
 }
 
-/// No text stands for two values of a kind.
+/// No text means two values of a kind.
 pub fn one_value_law(_kind: Kind, _text: &[u8])
     ensures { (m n : ℕ) → IsValue _kind _text.now m → IsValue _kind _text.now n → m ≡ n }
 {}
 
-/// A value of a kind has no more than the kind's bits.
+/// A value of a kind has at most the kind's bits.
 pub fn value_bits_law(_kind: Kind, _text: &[u8])
     ensures { (n : ℕ) → IsValue _kind _text.now n → n < 2 ^ bits_of _kind }
 {}
 
-/// The texts of which `value_of` is some number are those that stand for it.
+/// `value_of` gives a number exactly for the texts that mean this value.
 pub fn value_of_law(_kind: Kind, _text: &[u8])
     ensures { (n : ℕ) → IsValue _kind _text.now n ↔ (value_of _kind _text.now ≡ Some n) }
 {}

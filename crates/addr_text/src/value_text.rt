@@ -13,7 +13,7 @@ use crate::protocol::protocol_name;
 use set_model::{Kind, Memory};
 use std::net::{Ipv4Addr, Ipv6Addr};
 
-/// The hexadecimal digit of a number at the place that is worth `weight`.
+/// The hexadecimal digit of a number at the place with this weight.
 fn hex_digit(n: u64, weight: u64) -> u8
     requires { 0 < weight }
     ensures { result ≡ digit_char (n / weight % 16) }
@@ -26,7 +26,7 @@ fn hex_digit(n: u64, weight: u64) -> u8
     }
 }
 
-/// The octet of a number at the place that is worth `weight`.
+/// The octet of a number at the place with this weight.
 fn octet(n: u64, weight: u64) -> u8
     requires { 0 < weight }
     ensures { result ≡ n / weight % 256 }
@@ -34,7 +34,7 @@ fn octet(n: u64, weight: u64) -> u8
     (n / weight % 256) as u8
 }
 
-/// A hexadecimal digit of the octet of a number at the place that is worth `weight`.
+/// A hexadecimal digit of the octet of a number at the place with this weight.
 fn octet_digit(n: u64, weight: u64, place: u64) -> u8
     requires weight { 0 < weight }
     requires place { 0 < place }
@@ -43,7 +43,7 @@ fn octet_digit(n: u64, weight: u64, place: u64) -> u8
     hex_digit(u64::from(octet(n, weight)), place)
 }
 
-/// The 16 bits of a number at the place that is worth `weight`.
+/// The 16 bits of a number at the place with this weight.
 fn segment(n: u128, weight: u128) -> u16
     requires { 0 < weight }
     ensures { result ≡ n / weight % 65536 }
@@ -141,13 +141,13 @@ fn write_mark(n: u64, out: &mut Vec<u8>) -> Result<(), Memory>
     )
 }
 
-/// Appends the text of a value of a kind: an IPv4 address with dots, an IPv6 address by RFC 5952
-/// without a dotted tail, an Ethernet address as six pairs of digits, a protocol by its name where
-/// it has one, a port in decimal, a mark as `0x` and eight digits.
+/// Appends the text of a value of a kind. An IPv4 address has dots, an IPv6 address is written by RFC
+/// 5952 without a dotted tail, and an Ethernet address is six pairs of digits. A protocol is its name
+/// if it has one, a port is decimal, and a mark is `0x` and eight digits.
 ///
 /// # Errors
 ///
-/// `Memory` where there is none; `out` is then as before.
+/// `Memory` if memory runs out; `out` is then as before.
 #[tactic(auto, unfolding(crate::specs::Written::value_text))]
 pub fn write_value(kind: Kind, value: u128, out: &mut Vec<u8>) -> Result<(), Memory>
     requires { IsTrue (is_value kind value) }
@@ -164,7 +164,7 @@ pub fn write_value(kind: Kind, value: u128, out: &mut Vec<u8>) -> Result<(), Mem
     }
 }
 
-/// The text that is written of a value stands for it.
+/// The text that is written for a value means this value.
 pub fn written_value_law(_kind: Kind, _value: u128)
     requires { IsTrue (is_value _kind _value) }
     ensures { IsValue _kind (value_text _kind _value) _value }

@@ -21,7 +21,7 @@ no-row id rows none = any-found (is_of id) rows ∙ ap is_some none
 abbrev Settles : Held → Type 0
 Settles h = settle_passes rules false h ≡ true
 
--- A name passes where what was held before it can be used,
+-- A name passes if what was held before it can be used,
 name-passes : (w : Text) (h : Held) (position : ℕ) → is_file_name w ≡ true → turn_passes shape [] (between h position) w ≡ step_passes shape position h value
 name-passes [] h position e = absurd (true≢false (sym e))
 name-passes (b ∷ []) h position e = go (b == 45) refl where
@@ -47,7 +47,7 @@ second-passes h s = begun (is_pending (with_index 2 (filled second)) h.pending) 
 third-passes : (h : Held) → Settles h → step_passes shape 3 h value ≡ true
 third-passes h s = begun (is_pending (with_index 3 (filled third)) h.pending) (settle_passes rules false h) s
 
--- So does `--threads`, and the word behind it whatever is held.
+-- So does `--threads`, and the word after it whatever is held.
 threads-passes : (h : Held) (position : ℕ) → Settles h → turn_passes shape [] (between h position) threads_word ≡ true
 unfolding clap_on_literals
 threads-passes h position s = both (settle_passes rules false h) true s refl
@@ -94,7 +94,7 @@ onward p q w ws is passes rest = record {
   settles = ap (λ (at : Walk). settle_passes rules false (fold (walked rules []) at ws).held) is ∙ rest.settles;
 }
 
--- Arguments pass, behind others that are held.
+-- Arguments pass, after others that are held.
 through : (ws names : List Text) (threads : Option Text) (goes : Bool) → AreArguments ws names threads goes → (before : List Text) (t : Option Text) (g : Bool) (h : Held)
     → length before + length names ≤ 3 → Plain threads → (is_some threads ≡ true → t ≡ None) → (goes ≡ true → g ≡ false) → Finds (held_rows h) before t g → Settles h
     → Passes (between h (1 + length before)) ws

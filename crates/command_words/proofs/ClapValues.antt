@@ -40,7 +40,7 @@ pub simple : is_simple program ≡ true
 unfolding clap_on_literals
 simple = refl
 
--- between two words, where no option waits for a value
+-- between two words, if no option waits for a value
 abbrev pub between : Held → ℕ → Walk
 between h position = record { held = h; waiting = idle; position = position; is_trailing = false; stopped = None }
 
@@ -93,7 +93,7 @@ abbrev pub is_of : Text → Row → Bool
 is_of id r = bytes_eq r.id id
 
 module _ {X : Type 0} (p : X → Bool) where
-  -- the tail's first, where the head is none of them
+  -- the tail's first, if the head is none of them
   behind : (x : X) (xs : List X) → find p (x ∷ xs) ≡ None → (p x ≡ false) × (find p xs ≡ None)
   behind x xs none = go (p x) refl none where
     go : (b : Bool) → p x ≡ b → cond b (Some x) (find p xs) ≡ None → (p x ≡ false) × (find p xs ≡ None)
@@ -237,7 +237,7 @@ threads-held h names w g f = finds-of _ _ names (Some w) g (first-use (codes "th
 pub mark-held : (h : Held) (names : List Text) (t : Option Text) → Finds (held_rows h) names t false → Finds (held_rows (marked h)) names t true
 mark-held h names t f = finds-of _ _ names t true (first-use (codes "keep-going") (reading_by (filled keep_going_rule)) CommandLine (codes "true" ∷ []) (held_rows h) f.mark_is) (finds-mark (held_rows h) names t f)
 
--- The walk stands between two words, and holds these arguments.
+-- The walk is between two words, and holds these arguments.
 pub record Holds (at : Walk) (names : List Text) (threads : Option Text) (goes : Bool) : Type 0 where
   pub held : Held
   pub position : ℕ
@@ -263,7 +263,7 @@ or-false false = refl
 onward : (rest names : List Text) (threads : Option Text) (goes : Bool) (p q : Walk) → p ≡ q → Holds (fold (walked rules []) q rest) names threads goes → Holds (fold (walked rules []) p rest) names threads goes
 onward rest names threads goes p q same h = subst (λ (at : Walk). Holds (fold (walked rules []) at rest) names threads goes) (sym same) h
 
--- The walk over arguments holds them, behind those that it held before.
+-- The walk over arguments holds them, after those that it held before.
 through : (ws names : List Text) (threads : Option Text) (goes : Bool) → AreArguments ws names threads goes → (before : List Text) (t : Option Text) (g : Bool) (h : Held)
     → length before + length names ≤ 3 → Plain threads → (is_some threads ≡ true → t ≡ None) → (goes ≡ true → g ≡ false) → Finds (held_rows h) before t g
     → Holds (fold (walked rules []) (between h (1 + length before)) ws) (before ++ names) (either t threads) (g || goes)

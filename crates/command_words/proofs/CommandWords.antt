@@ -46,7 +46,7 @@ number-complete low high word n small h =
     let value : digits_value 10 word ≡ n = ap (digits_value 10) h.0 ∙ (decimal_is_IsNumeral n fits).1 in
     rw (value, h.0, bytes-same (decimal n), le-leb _ _ h.1, le-leb _ _ h.2) refl
 
--- A word writes no number where it is parsed as none that fits.
+-- A word writes no number if it is parsed as none that fits.
 pub number-none : {E : Type 0} (low high : ℕ) (word : List ℕ) (r : Result ℕ E) → high < 2 ^ 64 → ParsesUnsigned 64 10 word r → ((n : ℕ) → r ≡ Ok n → IsNumber low high word n → ⊥) → None ≡ number_within low high word
 number-none low high word r small parsed never = go (number_within low high word) refl where
   go : (o : Option ℕ) → number_within low high word ≡ o → None ≡ o
@@ -65,7 +65,7 @@ abbrev NamesFit : Verb → ℕ → List (List ℕ) → Type 0
 NamesFit verb place [] = Unit {0}
 NamesFit verb place (word ∷ names) = (takes_name verb place word ≡ true) × NamesFit verb (place + 1) names
 
--- `--threads` may stand, and its word is a number of packet threads
+-- `--threads` is allowed, and its word is a number of packet threads
 abbrev ThreadsFit : Verb → Bool → Option (List ℕ) → Type 0
 ThreadsFit verb stood None = Unit {0}
 ThreadsFit verb stood (Some word) = (takes_threads verb ≡ true) × (stood ≡ false) × (is_some (number_within 1 16 word) ≡ true)
@@ -76,7 +76,7 @@ MarkFits verb stood keep_going = keep_going ≡ true → (takes_mark verb ≡ tr
 abbrev shape : ℕ → Bool → Bool → Bool → Shape
 shape names threads keep_going waiting = record { names = names; threads = threads; keep_going = keep_going; waiting = waiting }
 
--- The words behind a shape are these arguments.
+-- The words after a shape are these arguments.
 record Fits (verb : Verb) (n : ℕ) (t g : Bool) (rest names : List (List ℕ)) (threads : Option (List ℕ)) (keep_going : Bool) : Type 0 where
   arguments : AreArguments rest names threads keep_going
   names_fit : NamesFit verb n names
@@ -158,7 +158,7 @@ module _ (verb : Verb) (s : Shape) (ended : s.waiting ≡ false) where
   stopped : {X : Type 0} (words : List (List ℕ)) → fold (shape_after verb) None words ≡ Some s → X
   stopped words e = absurd (cc (none-stays verb words, e))
 
-  -- behind `--threads`
+  -- after `--threads`
   read-threads : (n : ℕ) (g : Bool) (count : List ℕ) (rest : List (List ℕ)) (t : Bool) → (takes_threads verb ≡ true) × (t ≡ false)
       → fold (shape_after verb) (with_threads (shape n true g true) count) rest ≡ Some s → (Through n true g false rest → Read verb n true g rest s) → Read verb n t g (threads_word ∷ count ∷ rest) s
   read-threads n g count rest t allowed e onward = go (is_some (number_within 1 16 count)) refl e where
@@ -252,7 +252,7 @@ module _ (verb : Verb) (s : Shape) (ended : s.waiting ≡ false) where
   read n t g (word ∷ []) e = by-word n t g word [] e (no-end n t g) (λ f. read n t true [] f) (λ f. read (n + 1) t g [] f)
   read n t g (word ∷ next ∷ rest) e = by-word n t g word (next ∷ rest) e (λ f. counted-on n t g next rest f (λ h. read n true g rest h)) (λ f. read n t true (next ∷ rest) f) (λ f. read (n + 1) t g (next ∷ rest) f)
 
--- how many packet threads the word behind `--threads` says
+-- how many packet threads the word after `--threads` says
 count-of : (threads : Option (List ℕ)) (verb : Verb) (stood : Bool) → ThreadsFit verb stood threads → (n : ℕ) × AreThreads threads n
 count-of None verb stood h = (1, refl)
 count-of (Some word) verb stood h = go (number_within 1 16 word) refl h.2 where
@@ -535,7 +535,7 @@ goes-on f verb s next xs i x whole within here is h =
     let left : map f (drop i xs) ≡ f x ∷ map f (drop (i + 1) xs) = ap (map f) (drop-cons xs i x within ∙ ap (λ y. y ∷ drop (suc i) xs) (sym here) ∙ ap (λ n. x ∷ drop n xs) more) in
     ap (λ (o : Option Shape). is_whole_shape verb (fold (shape_after verb) o (map f (drop (i + 1) xs)))) is ∙ ap (λ (ws : List (List ℕ)). is_whole_shape verb (fold (shape_after verb) (Some s) ws)) (sym left) ∙ h
 
--- Behind a word that fits no shape nothing does.
+-- After a word that fits no shape nothing does.
 pub nothing-fits : (verb : Verb) (words : List (List ℕ)) (whole : Bool) → is_whole_shape verb (fold (shape_after verb) None words) ≡ whole → false ≡ whole
 nothing-fits verb words whole h = ap (is_whole_shape verb) (sym (none-stays verb words)) ∙ h
 

@@ -36,7 +36,7 @@ no-help Judge = refl
 no-help Capture = refl
 no-help Desk = refl
 
--- the page that words ask for, where they do
+-- the page that words ask for, if they do
 page_named : List (List ℕ) → Option Page
 page_named [] = None
 page_named (word ∷ []) = if bytes_eq word (codes "--version") then Some Version else Some Program
@@ -56,7 +56,7 @@ asked-page words Version e = rw e refl
 pub one-page : (words : List (List ℕ)) (p q : Page) → AsksFor words p → AsksFor words q → p ≡ q
 one-page words p q a b = let both : Some p ≡ Some q = sym (asked-page words p a) ∙ asked-page words q b in cc both
 
--- what stands behind a command's word
+-- the words after a command's word
 record Behind (words : List (List ℕ)) (verb : Verb) : Type 0 where
   rest : List (List ℕ)
   names : List (List ℕ)

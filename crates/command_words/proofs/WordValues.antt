@@ -46,7 +46,7 @@ module _ (words : List (List ℕ)) where
   pub plain-arguments : (verb : Verb) → HasVerb words verb → HavePlainArguments words
   plain-arguments verb h = arguments-of-command h.0 h.1
 
--- a text that was found, where there is one
+-- a text that was found, if there is one
 abbrev Found : Type 0
 Found = Option (Bor (List ℕ))
 

@@ -38,7 +38,7 @@ takes_threads verbs.Judge = true
 takes_threads verbs.Capture = true
 takes_threads verbs.Desk = false
 
--- A command may keep going behind a refused change.
+-- A command may keep going after a refused change.
 abbrev pub takes_mark : Verb → Bool
 takes_mark verbs.Run = true
 takes_mark verbs.List = true
@@ -48,13 +48,13 @@ takes_mark verbs.Judge = true
 takes_mark verbs.Capture = true
 takes_mark verbs.Desk = true
 
--- the number that a word writes, where it lies within bounds
+-- the number that a word is, if it is within bounds
 unfoldable pub number_within : ℕ → ℕ → List ℕ → Option ℕ
 number_within low high word =
     let n = digits_value 10 word in
     then_some (bytes_eq word (decimal n) && (nat_le low n && nat_le n high)) n
 
--- the number of a drill at a place: the seed, and how many elements
+-- the number at a place of a drill: first the seed, and then the number of elements
 abbrev pub drill_number : ℕ → List ℕ → Option ℕ
 drill_number place word = if place == 0 then number_within 0 last_seed word else number_within 1 most_drill_elements word
 
@@ -96,15 +96,15 @@ abbrev pub is_whole_shape : Verb → Option Shape → Bool
 is_whole_shape verb None = false
 is_whole_shape verb (Some s) = not s.waiting && (s.names == name_count verb)
 
--- The words behind a command's word have its shape.
+-- The words after a command's word have its shape.
 abbrev pub has_shape : Verb → List (List ℕ) → Bool
 has_shape verb rest = is_whole_shape verb (fold (shape_after verb) (Some empty_shape) rest)
 
--- The standard input is named once at most.
+-- The standard input is named at most once.
 abbrev pub stdin_once : List (List ℕ) → Bool
 stdin_once rest = nat_le (count_by is_stdin rest) 1
 
--- The words behind a command's word are its own.
+-- The words may follow the command's word.
 abbrev pub fits : Verb → List (List ℕ) → Bool
 fits verb rest = has_shape verb rest && stdin_once rest
 
@@ -133,7 +133,7 @@ page_text (pages.Command verbs.Capture) = CAPTURE.now
 page_text (pages.Command verbs.Desk) = DESK.now
 page_text pages.Version = VERSION.now
 
--- what the code's command is
+-- the command that the code's command is
 abbrev pub plain_task : List ℕ → Task → Bool → Command
 plain_task script (tasks.Run keys threads) keep_going = run script keys.now threads keep_going
 plain_task script tasks.List keep_going = list script keep_going
@@ -146,12 +146,12 @@ abbrev pub plain : Asked → Command
 plain (asked.Script script task keep_going) = plain_task script.now task keep_going
 plain (asked.Drill seed count threads) = drill seed count threads
 
--- At most three names, and a word behind `--threads` that begins with no dash.
+-- At most three names, and a word after `--threads` that doesn't begin with a dash.
 pub record ArePlain (names : List (List ℕ)) (threads : Option (List ℕ)) : Type 0 where
   pub few : length names ≤ 3
   pub no_dash : IfSome threads (λ word. IsTrue (is_file_name word))
 
--- What was found by the ids are these arguments.
+-- The values that were found by their ids are these arguments.
 pub record HasFoundValues (found : Found) (names : List (List ℕ)) (threads : Option (List ℕ)) (keep_going : Bool) : Type 0 where
   pub first : first_value found (codes "first") ≡ slice_get names 0
   pub second : first_value found (codes "second") ≡ slice_get names 1

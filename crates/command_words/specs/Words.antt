@@ -13,7 +13,7 @@ stdin_name = codes "-"
 abbrev pub is_stdin : List ℕ → Bool
 is_stdin word = bytes_eq word stdin_name
 
--- A name isn't empty and doesn't begin with a dash, but for `-` itself, the standard input.
+-- A name isn't empty and doesn't begin with a dash. The exception is `-` itself, the standard input.
 abbrev pub is_file_name : List ℕ → Bool
 is_file_name [] = false
 is_file_name (b ∷ []) = true
@@ -35,8 +35,8 @@ threads_word = codes "--threads"
 abbrev pub keep_going_word : List ℕ
 keep_going_word = codes "--keep-going"
 
--- What may stand behind a command's word, in any order: names; once at most `--threads` and the word behind it, whatever that is;
--- once at most `--keep-going`.
+-- The words that may follow a command's word, in any order: names; at most once `--threads` and the
+-- word after it, whatever that is; at most once `--keep-going`.
 pub data AreArguments : List (List ℕ) → List (List ℕ) → Option (List ℕ) → Bool → Type 0 where
   no_words : AreArguments [] [] None false
   name_and : {word : List ℕ} {rest names : List (List ℕ)} {threads : Option (List ℕ)} {keep_going : Bool} → IsTrue (is_file_name word) → AreArguments rest names threads keep_going
@@ -50,7 +50,7 @@ pub record AreWords (words : List (List ℕ)) (first : List ℕ) (names : List (
   pub words_are : words ≡ first ∷ rest
   pub arguments : AreArguments rest names threads keep_going
 
--- A word writes a number within bounds, in plain digits without a sign or a leading zero.
+-- A word is a number within bounds, in plain digits without a sign or a leading zero.
 abbrev pub IsNumber : ℕ → ℕ → List ℕ → ℕ → Type 0
 IsNumber low high word n = (word ≡ decimal n) × (low ≤ n) × (n ≤ high)
 
@@ -61,13 +61,13 @@ last_seed = 18446744073709551615
 abbrev pub most_drill_elements : ℕ
 most_drill_elements = 20000
 
--- how many packet threads there are, 1 to 16; 1 where nothing is said
+-- how many packet threads there are, 1 to 16; 1 without the option
 abbrev pub AreThreads : Option (List ℕ) → ℕ → Type 0
 AreThreads None n = n ≡ 1
 AreThreads (Some word) n = IsNumber 1 16 word n
 
--- A command: its files' names, or the numbers of a drill; how many packet threads it has; and whether it keeps going behind a
--- refused change.
+-- A command: the names of its files or the numbers of a drill, how many packet threads it has, and
+-- whether it keeps going after a refused change.
 pub data Command : Type 0 where
   run : (script keys : List ℕ) (threads : ℕ) (keep_going : Bool) → Command
   list : (script : List ℕ) (keep_going : Bool) → Command
@@ -81,7 +81,8 @@ pub data Command : Type 0 where
 abbrev pub NameStdinOnce : List (List ℕ) → Type 0
 NameStdinOnce names = count_by is_stdin names ≤ 1
 
--- The words are this one, the names of a script and of what it stands beside, and options; packets are looked up by so many threads.
+-- The words are this one, the names of a script and of its other files, and options. So many threads
+-- look packets up.
 abbrev pub ArePacketWords : List (List ℕ) → List ℕ → List (List ℕ) → ℕ → Bool → Type 0
 ArePacketWords words first names n keep_going = (threads : Option (List ℕ)) × AreWords words first names threads keep_going × AreThreads threads n × NameStdinOnce names
 
@@ -96,7 +97,7 @@ IsCommand words (judge script rules keys n keep_going) = ArePacketWords words (c
 IsCommand words (capture script plan packets n keep_going) = ArePacketWords words (codes "capture") (script ∷ plan ∷ packets ∷ []) n keep_going
 IsCommand words (desk script keep_going) = AreWords words (codes "desk") (script ∷ []) None keep_going
 
--- The words ask for a text of the program's own: help on it or on one of its commands, or its version.
+-- The words ask for a text about the program: help on it or on one of its commands, or its version.
 abbrev pub AsksFor : List (List ℕ) → Page → Type 0
 AsksFor words pages.Program = (words ≡ codes "help" ∷ []) ⊎ (words ≡ codes "--help" ∷ []) ⊎ (words ≡ codes "-h" ∷ [])
 AsksFor words (pages.Command verb) = (words ≡ codes "help" ∷ verb_word verb ∷ []) ⊎ (words ≡ verb_word verb ∷ codes "--help" ∷ []) ⊎ (words ≡ verb_word verb ∷ codes "-h" ∷ [])
@@ -107,8 +108,9 @@ pub record IsNoCommand (words : List (List ℕ)) : Type 0 where
   pub no_work : (c : Command) → IsCommand words c → ⊥
   pub no_page : (page : Page) → AsksFor words page → ⊥
 
--- The words are a run of a script beside a key file, a listing of a script, or a dump of its tables, by the files' names; or a drill;
--- or a run whose packets a rules file judges, or whose packets a plan takes from a capture; or a script by several control threads.
+-- The words are a command of one of these sorts: a run of a script beside a key file, a listing of a
+-- script, or a dump of its tables; a drill; a run whose packets a rules file judges, or whose packets a
+-- plan takes from a capture; or a script by several control threads.
 abbrev pub IsRunCommand : List (List ℕ) → List ℕ → List ℕ → ℕ → Bool → Type 0
 IsRunCommand words script keys threads keep_going = IsCommand words (run script keys threads keep_going)
 
@@ -130,7 +132,7 @@ IsCaptureCommand words script plan packets threads keep_going = IsCommand words 
 abbrev pub IsDeskCommand : List (List ℕ) → List ℕ → Bool → Type 0
 IsDeskCommand words script keep_going = IsCommand words (desk script keep_going)
 
--- the files that a command reads, by their names, in their order
+-- the names of the files that a command reads, in their order
 abbrev pub file_names : Command → List (List ℕ)
 file_names (run script keys threads keep_going) = script ∷ keys ∷ []
 file_names (list script keep_going) = script ∷ []

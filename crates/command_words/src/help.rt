@@ -1,4 +1,4 @@
-//! The texts that the program tells of itself.
+//! The texts that the program prints about itself.
 
 /// The page of `--version`: the name and the version.
 pub const VERSION: &str = "pipapo 0.1.0\n";

@@ -6,7 +6,7 @@ ghost use Rattle.command_words.specs.WordForms.{page_text};
 use crate::help::{CAPTURE, DESK, DRILL, DUMP, JUDGE, LIST, PROGRAM, RUN, VERSION};
 use crate::shape::Verb;
 
-/// A text that the program tells of itself.
+/// A text that the program prints about itself.
 #[derive(Clone, Copy, Debug, PartialEq, Eq)]
 pub enum Page {
     /// Help on the program.
@@ -62,7 +62,7 @@ fn page_on(first: &str, second: &str) -> Option<Page>
     }
 }
 
-/// The page that words ask for, or `None` where they ask for none.
+/// The page that words ask for; `None` if they ask for none.
 pub fn page_of(words: &[String]) -> Option<Page>
     ensures found { IfSome result (AsksFor (map string_bytes words.now)) }
     ensures none { result ≡ None → (page : _) → AsksFor (map string_bytes words.now) page → ⊥ }

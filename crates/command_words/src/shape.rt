@@ -37,7 +37,7 @@ pub enum Verb {
     Desk,
 }
 
-/// The shape of the words behind a command's word, so far.
+/// The shape of the words after a command's word, so far.
 #[derive(Clone, Copy)]
 struct Shape {
     names: usize,
@@ -47,7 +47,8 @@ struct Shape {
     waiting: bool,
 }
 
-/// Whether a word is a name: it isn't empty and doesn't begin with a dash, but for `-` itself, the standard input.
+/// Whether a word is a name: it isn't empty and doesn't begin with a dash. The exception is `-` itself,
+/// the standard input.
 fn is_name(word: &str) -> bool
     ensures { result ≡ name_test word.now }
 {
@@ -58,7 +59,7 @@ fn is_name(word: &str) -> bool
     }
 }
 
-/// The number that a word writes in plain digits without a sign or a leading zero, where it lies within bounds.
+/// The number that a word is, in plain digits without a sign or a leading zero, if it is within bounds.
 pub fn number_of(word: &str, low: u64, high: u64) -> Option<u64>
     ensures { result ≡ number_within low high word.now }
 {
@@ -74,7 +75,7 @@ pub fn number_of(word: &str, low: u64, high: u64) -> Option<u64>
     }
 }
 
-/// The number of a drill at a place: the seed, and then how many elements.
+/// The number at a place of a drill: first the seed, and then the number of elements.
 fn drill_number(place: usize, word: &str) -> Option<u64>
     ensures { result ≡ number_at place word.now }
 {
@@ -103,7 +104,7 @@ impl Verb {
         }
     }
 
-    /// How many names stand behind the command's word.
+    /// How many names follow the command's word.
     fn name_count(self) -> usize
         ensures { result ≡ count_of_names self }
     {
@@ -156,7 +157,7 @@ impl Shape {
         }
     }
 
-    /// With the word behind `--threads`.
+    /// The shape after the word that follows `--threads`.
     fn with_threads(self, word: &str) -> Option<Shape>
         ensures { result ≡ counted_shape self word.now }
     {
@@ -169,7 +170,7 @@ impl Shape {
             .then_some(counted)
     }
 
-    /// With a word that is a name or an option.
+    /// The shape after a word that is a name or an option.
     fn with_argument(self, verb: Verb, word: &str) -> Option<Shape>
         ensures { result ≡ argument_shape verb self word.now }
     {
@@ -196,7 +197,7 @@ impl Shape {
         }
     }
 
-    /// With one more word, or `None` where the words then aren't a command's.
+    /// The shape after one more word; `None` if the words then aren't a command's.
     fn with_word(self, verb: Verb, word: &str) -> Option<Shape>
         ensures { result ≡ next_shape verb self word.now }
     {
@@ -208,7 +209,7 @@ impl Shape {
     }
 }
 
-/// Whether words have the shape of what stands behind the word of a command.
+/// Whether these words have a shape that may follow the command's word.
 fn has_shape(verb: Verb, words: &[String]) -> bool
     ensures { result ≡ shape_test verb (map string_bytes words.now) }
 {
@@ -222,21 +223,21 @@ fn has_shape(verb: Verb, words: &[String]) -> bool
     !shape.waiting && shape.names == verb.name_count()
 }
 
-/// Whether words name the standard input once at most.
+/// Whether words name the standard input at most once.
 fn names_stdin_once(words: &[String]) -> bool
     ensures { result ≡ names_once (map string_bytes words.now) }
 {
     words.iter().filter(|word| word.as_str() == STDIN).count() <= 1
 }
 
-/// Whether words are what stands behind the word of a command.
+/// Whether these words may follow the command's word.
 fn fit_behind(verb: Verb, words: &[String]) -> bool
     ensures { result ≡ fits verb (map string_bytes words.now) }
 {
     has_shape(verb, words) && names_stdin_once(words)
 }
 
-/// What the command of a first word and the words behind it does, or `None` where they are no command.
+/// What the command of a first word and the words after it does, or `None` if they are no command.
 fn verb_before(first: &str, rest: &[String]) -> Option<Verb>
     ensures found { IfSome result (HasVerb (first.now ∷ map string_bytes rest.now)) }
     ensures none { result ≡ None → (c : _) → IsCommand (first.now ∷ map string_bytes rest.now) c → ⊥ }
@@ -247,7 +248,7 @@ fn verb_before(first: &str, rest: &[String]) -> Option<Verb>
     }
 }
 
-/// What the command of these words does, or `None` where they are no command. It takes no memory.
+/// What the command of these words does, or `None` if they are no command. It takes no memory.
 pub fn verb_of(words: &[String]) -> Option<Verb>
     ensures found { IfSome result (HasVerb (map string_bytes words.now)) }
     ensures none { result ≡ None → (c : _) → IsCommand (map string_bytes words.now) c → ⊥ }

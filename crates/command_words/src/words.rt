@@ -15,7 +15,8 @@ use std::alloc::{AllocError, Global};
 /// What is done with a script.
 #[derive(Clone, Copy)]
 pub enum Task<'a> {
-    /// A run beside the packets of a key file, by its name, which so many packet threads look up.
+    /// A run beside the packets of the key file with this name. So many packet threads look the packets
+    /// up.
     Run {
         keys: &'a str,
         threads: u32,
@@ -24,33 +25,35 @@ pub enum Task<'a> {
     List,
     /// The tables of the last generation.
     Dump,
-    /// A run beside the packets of a key file, which a rules file judges, both by their names; so many packet threads look up.
+    /// A run beside the packets of a key file, which a rules file judges. Both are given by their
+    /// names. So many packet threads look up.
     Judge {
         rules: &'a str,
         keys: &'a str,
         threads: u32,
     },
-    /// A run beside the packets that a plan takes from a capture, both by their names, which so many packet threads look up.
+    /// A run beside the packets that a plan takes from a capture. Both are given by their names. So
+    /// many packet threads look up.
     Capture {
         plan: &'a str,
         packets: &'a str,
         threads: u32,
     },
-    /// A run by several control threads, one for each section but the first.
+    /// A run by several control threads: one for each section after the first.
     Desk,
 }
 
 /// A command.
 #[derive(Clone, Copy)]
 pub enum Command<'a> {
-    /// Something is done with a script, by its name.
+    /// A task with the script of this name.
     Script {
         script: &'a str,
         task: Task<'a>,
-        /// Whether a refused change is skipped, and doesn't fail its transaction.
+        /// Whether a refused change is skipped instead of failing its transaction.
         keep_going: bool,
     },
-    /// A generated run of so many elements and packets, which so many packet threads look up.
+    /// A generated run of so many elements and packets. So many packet threads look the packets up.
     Drill {
         seed: u64,
         count: u32,
@@ -58,12 +61,12 @@ pub enum Command<'a> {
     },
 }
 
-/// Why there is no command of words.
+/// Why words give no command.
 #[derive(Clone, Copy, Debug, PartialEq, Eq)]
 pub enum WordsError {
     /// The words are no command.
     NoCommand,
-    /// Want of memory.
+    /// Out of memory.
     Memory,
 }
 
@@ -100,7 +103,7 @@ fn values_of<'a>(alloc: Global, words: &'a [String]) -> Result<ArgMatches<'a>, E
         .try_get_matches_from(words)
 }
 
-/// The number that a word writes, which lies within bounds.
+/// The number that a word is; it is within bounds.
 fn written_number(word: &str, low: u64, high: u64) -> u64
     requires { (n : ℕ) × IsNumber low high word.now n }
     ensures { IsNumber low high word.now result }
@@ -111,7 +114,7 @@ fn written_number(word: &str, low: u64, high: u64) -> u64
     }
 }
 
-/// How many packet threads the word behind `--threads` says.
+/// How many packet threads the word after `--threads` says.
 fn thread_count(word: Option<&str>) -> u32
     requires { (n : ℕ) × AreThreads (option_map (λ s. s.now) word) n }
     ensures { AreThreads (option_map (λ s. s.now) word.entry) result }
@@ -122,7 +125,7 @@ fn thread_count(word: Option<&str>) -> u32
     }
 }
 
-/// What stands behind the word of a command.
+/// The words after the command's word.
 struct Arguments<'a> {
     first: Option<&'a str>,
     second: Option<&'a str>,
@@ -131,7 +134,7 @@ struct Arguments<'a> {
     keep_going: bool,
 }
 
-/// What stands behind the word of a command, or want of memory.
+/// The words after the command's word, or the error that memory ran out.
 fn arguments_of<'a>(alloc: Global, words: &'a [String]) -> Result<Arguments<'a>, AllocError>
     requires { (verb : _) × HasVerb (map string_bytes words.now) verb }
     ensures { IfOk result (λ a. (word : List ℕ) (names : List (List ℕ)) (threads : Option (List ℕ)) (keep_going : Bool) → AreWords (map string_bytes words.now) word names threads keep_going → ArePlain names threads → HasArguments a names threads keep_going) }
@@ -149,7 +152,7 @@ fn arguments_of<'a>(alloc: Global, words: &'a [String]) -> Result<Arguments<'a>,
     }
 }
 
-/// The command of words that are one, or want of memory.
+/// The command of words that are one, or the error that memory ran out.
 fn command_with<'a>(
     alloc: Global,
     verb: Verb,
@@ -216,11 +219,11 @@ fn command_with<'a>(
     }
 }
 
-/// The command of the words behind the program's name.
+/// The command of the words after the program's name.
 ///
 /// # Errors
 ///
-/// `NoCommand` if they are none, which takes no memory.
+/// `NoCommand` if they are none, which takes no memory. `Memory` if memory runs out.
 pub fn command_of<'a>(alloc: Global, words: &'a [String]) -> Result<Command<'a>, WordsError>
     ensures found { IfOk result (λ c. IsCommand (map string_bytes words.now) (plain c)) }
     ensures none { result ≡ Err errors.NoCommand → (c : _) → IsCommand (map string_bytes words.now) c → ⊥ }

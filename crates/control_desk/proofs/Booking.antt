@@ -1,4 +1,4 @@
--- A book stays one: behind a transaction, and where none was done.
+-- A book stays one: after a transaction, and if none was done.
 use Rattle.std.proofs.Common.{fold, ◌≡◌, refl, sym, ◌∙◌, ap, subst, ℕ, ◌+◌, ◌≤◌, Bool, false, List, [], ◌∷◌, ◌++◌, map, length, take, arith, length-append}
 use Rattle.std.proofs.lemmas.List.{take-append-le, take_all}
 use Rattle.history_laws.specs.Histories.{StartsWith, EndsWith}
@@ -42,7 +42,7 @@ module _ (clerk : ℕ) (steps : List Step) (keep_going : Bool) (old new : Steeri
   base_stays : (from : ℕ) → from ≤ length old.committed → take from new.committed ≡ take from old.committed
   base_stays from within = ap (take from) grows.1 ∙ take-append-le from old.committed grows.0 within
 
-  -- the book behind a transaction
+  -- the book after a transaction
   pub kept_then : (from : ℕ) → StandsByLog old before from → StandsByLog new behind from
   kept_then from kept =
       let base : take from new.committed ≡ take from old.committed = base_stays from kept.within in
@@ -61,7 +61,7 @@ module _ (clerk : ℕ) (steps : List Step) (keep_going : Bool) (old new : Steeri
             ∙ ap (map said) (sym done.logged);
       }
 
--- A book is applied to by a transaction that is done and logged.
+-- A transaction that is done and logged is applied to the book.
 pub applied : (clerk : ℕ) (steps : List Step) (keep_going : Bool) (old : Booked) (new : Steering) (behind : List Entry) (end : Event) → IsClosed old.control → old.from ≤ length old.control.committed → IsDone clerk steps keep_going old.control new old.log behind end
     → IsApplied clerk steps keep_going old (record { control = new; log = behind; from = old.from }) end
 applied clerk steps keep_going old new behind end closed within done = record {
@@ -81,7 +81,7 @@ as_many_generations s ends grown =
     let last = grown_last s.schema 0 ends.0 s.work.base (subst (Grown s.schema 0) ends.1 grown) in let n = last.0 in
     let size = ap length ends.1 in let sum = length-append ends.0 (s.work.base ∷ []) in omega (arith, n, size, sum)
 
--- The control where a transaction found no memory and its changes were taken back.
+-- The control after a transaction ran out of memory and its changes were taken back.
 pub taken_back : (old mid new : Steering) → IsSameStart old mid → mid.committed ≡ old.committed → EndsWith old.committed old.work.base → EndsWith mid.committed mid.work.base → IsClosed old → new ≡ record mid { work = opened mid.work.base } → new ≡ old
 taken_back old mid new start same old_ends mid_ends closed taken =
     let base : mid.work.base ≡ old.work.base = one_last old.committed mid.work.base old.work.base (subst (λ z. EndsWith z mid.work.base) same mid_ends) old_ends in

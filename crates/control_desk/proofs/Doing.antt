@@ -1,4 +1,4 @@
--- Steps of a transaction on a control: what they keep where they break off, and its end.
+-- Steps of a transaction on a control: what they keep if memory runs out, and the end of the transaction.
 use Rattle.std.proofs.Common.{◌≡◌, refl, sym, ◌∙◌, ap, subst, ℕ, ◌+◌, ◌-◌, ◌<◌, ⊎_elim, Bool, true, false, List, [], ◌∷◌, ◌++◌, All, length, take, get_or, Some, arith, add-one, length-append}
 use Rattle.std.proofs.Math.Seq.{take-suc}
 use Rattle.std.proofs.lemmas.List.{take_all}
@@ -28,14 +28,14 @@ module _ (keep_going : Bool) (changes : List Step) (old here : Steering) (failed
   went_keeps : All (λ s. opens (Some s) ≡ true) changes → Keeps (control_of old) (section (mode_of keep_going) (control_of old) changes)
   went_keeps all = changes_keep (mode_of keep_going) (control_of old) changes all
 
-  -- Behind changes the last generation's number is as before.
+  -- After changes the last generation's number is as before.
   pub same_number : All (λ s. opens (Some s) ≡ true) changes → Went → here.work.base.number ≡ old.work.base.number
   same_number all went = ap (λ (g : Generation). g.number) (sym (went_stands went).last ∙ (went_keeps all).last)
 
   pub same_committed : All (λ s. opens (Some s) ≡ true) changes → Went → here.committed ≡ old.committed
   same_committed all went = sym (went_stands went).committed ∙ (went_keeps all).committed
 
-  -- Where a change behind them broke off, nothing was committed.
+  -- If memory ran out in a later change, nothing was committed.
   pub none_committed : (s : Step) (new : Steering) → All (λ x. opens (Some x) ≡ true) changes → opens (Some s) ≡ true → Went → Breaks (λ c. step (mode_of keep_going) c s) (run here failed refused) new → new.committed ≡ old.committed
   none_committed s new all opening went breaks =
       let mode = mode_of keep_going in let c = section mode (control_of old) changes in

@@ -11,7 +11,7 @@ use Rattle.set_model.specs.Key.{parts_fit}
 use Rattle.set_model.specs.Runnable.{IsRunnableStep}
 use Rattle.gen_publish.specs.Publish.{Grown, declared_kinds}
 
--- Where generations have the sets of both, both declare sets of the same kinds.
+-- If generations have the sets of both, both declare sets of the same kinds.
 pub same_kinds : (a b : List SetDecl) (all : List Generation) (from : ℕ) → 0 < from → 0 < length all → Grown a 0 (take from all) → Grown b 0 all → declared_kinds a ≡ declared_kinds b
 same_kinds a b [] from some_from some_all grown_a grown_b = absurd (omega arith)
 same_kinds a b (g ∷ gs) zero some_from some_all grown_a grown_b = absurd (omega arith)

@@ -16,6 +16,6 @@ said_more : (log : List Entry) (e : Entry) → map said (log ++ e ∷ []) ≡ ma
 said_more [] e = refl
 said_more (x ∷ log) e = ap (λ z. said x ∷ z) (said_more log e)
 
--- One entry more that says what is told of it.
+-- One more entry that names the events it has.
 pub tells_more : (c : Control) (log : List Entry) (e : Entry) → tellings c log ≡ map said log → (entry_done (fold after_entry c log) e).events ≡ said e → tellings c (log ++ e ∷ []) ≡ map said (log ++ e ∷ [])
 tells_more c log e before told = tellings_more c log e ∙ (λ i. before i ++ told i ∷ []) ∙ sym (said_more log e)

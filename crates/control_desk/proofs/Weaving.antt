@@ -16,7 +16,7 @@ use Rattle.control_desk.specs.Turns.{Seated, AreAll, newcomer}
 use Rattle.control_desk.proofs.Submitting.{log_of, base_of, number_of, clerk_of}
 use Rattle.control_desk.specs.Work.{HasDone, HasDoneOf, IsEnd, IsOne, IsRun, SharesDesk, kept_by}
 
--- What holds of each control thread's entries holds of all, where each entry is some control thread's.
+-- What holds of each control thread's entries holds of all, if each entry is some control thread's.
 module _ (P : Entry → Type 0) (n : ℕ) where
   rest_of : (e : Entry) (log : List Entry) (c : ℕ) (b : Bool) → (e.clerk == c) ≡ b → All P (cond b (e ∷ entries_of c log) (entries_of c log)) → All P (entries_of c log)
   rest_of e log c true is all = All-tail P e (entries_of c log) all

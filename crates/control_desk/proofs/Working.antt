@@ -77,7 +77,7 @@ nothing_done keep_going old none = record {
   same = refl;
 }
 
--- what holds of the steps before a step and of the step holds of the open transaction behind it
+-- what holds of the steps before a step and of the step holds of the open transaction after it
 all_pending : (P : Step → Type 0) (before : List Step) (step : Step) → All P before → (opens (Some step) ≡ true → P step) → (b : Bool) → opens (Some step) ≡ b → All P (if b then before ++ step ∷ [] else [])
 all_pending P before step all one true is = All-push P before step all (one is)
 all_pending P before step all one false is = All-nil P
@@ -95,7 +95,7 @@ one_more_done keep_going steps step old mid new before behind fits went gone =
       same = gone.same ∙ ap (λ (c : Seated). record c { seen = new.seen; left = new.left }) went.same;
     }
 
--- Where a section ends its last transaction, none is open behind it.
+-- If a section ends its last transaction, none is open after it.
 none_open : (before : List Step) (s : Step) (ss : List Step) → opens (slice_get (s ∷ ss) (length ss)) ≡ false → fold pending_then before (s ∷ ss) ≡ []
 none_open before s [] closed = pending_closed before s (opens (Some s)) closed
 none_open before s (t ∷ ts) closed = none_open (pending_then before s) t ts closed
@@ -127,7 +127,7 @@ still_unlogged old mid new before same turn none =
 alone : (e : Entry) → entries_of e.clerk (e ∷ []) ≡ e ∷ []
 alone e = let test : (e.clerk == e.clerk) ≡ true = grind (arith, nat_tests) in ap (λ b. cond b (e ∷ []) []) test
 
--- A transaction is logged, where nothing was in earlier turns.
+-- A transaction is logged, if nothing was in earlier turns.
 pub submitted : (steps : List Step) (keep_going : Bool) (old mid new : Seated) (end : Event) → IsUnlogged old mid → mid ≡ record old { seen = mid.seen; left = mid.left } → HadTurn mid new → IsLogged steps keep_going mid new end → HasSubmitted steps keep_going old new
 submitted steps keep_going old mid new end before same turn did =
     let number : mid.number ≡ old.number = ap (λ (c : Seated). c.number) same in

@@ -9,8 +9,9 @@ use Rattle.set_model.specs.Control.{Generation}
 use Rattle.control_desk.specs.declared.entry.Entry.{Entry}
 use Rattle.control_desk.specs.Woven.{HasSeen, entries_of}
 
--- A control thread: which desk it is at, the declared sets, how many control threads there are, its number, the generations
--- before the desk's log, the log as far as it has seen it, and how many transactions it may still submit.
+-- A control thread. It has its desk, the declared sets, the number of control threads, and its own
+-- number. It has the generations before the desk's log, and the log as far as it has seen it. It may
+-- still submit so many transactions.
 pub record Seated : Type 0 where
   pub of : TableId
   pub schema : List SetDecl
@@ -20,13 +21,14 @@ pub record Seated : Type 0 where
   pub seen : List Entry
   pub left : ℕ
 
--- After a turn a control thread has seen the log from the same front on, or more of it. All else but what it has left stays.
+-- After a turn a control thread has seen the same log as before, or more of it. All else stays, except
+-- the number of transactions left.
 pub record HadTurn (old new : Seated) : Type 0 where
   pub sees_more : StartsWith new.seen old.seen
   pub same : new ≡ record old { seen = new.seen; left = new.left }
 
--- A transaction was logged behind all that was logged at its turn, where no generation had come since the control thread
--- last saw the log.
+-- A transaction was logged after everything that was logged at its turn. No generation had been
+-- committed that the control thread hadn't seen.
 pub record IsLogged (steps : List Step) (keep_going : Bool) (old new : Seated) (end : Event) : Type 0 where
   pub turn : List Entry
   pub refused : List Event
@@ -36,12 +38,13 @@ pub record IsLogged (steps : List Step) (keep_going : Bool) (old new : Seated) (
   pub fresh : (had now : ℕ) → HasSeen old.base old.seen had → HasSeen old.base turn now → now ≤ had
   pub left : new.left + 1 ≡ old.left
 
--- Nothing was logged of a control thread.
+-- Nothing was logged for a control thread.
 pub record IsUnlogged (old new : Seated) : Type 0 where
   pub own : entries_of old.number new.seen ≡ entries_of old.number old.seen
   pub left : new.left ≡ old.left
 
--- At its turn the last generation had a greater number than the last that the control thread had seen.
+-- At its turn, the last generation had a greater number than the last one that the control thread had
+-- seen.
 pub record IsStale (newer : ℕ) (old new : Seated) : Type 0 where
   pub newer_is : HasSeen old.base new.seen newer
   pub moved_on : (had : ℕ) → HasSeen old.base old.seen had → had < newer
@@ -50,8 +53,8 @@ pub record IsStale (newer : ℕ) (old new : Seated) : Type 0 where
 abbrev pub newcomer : TableId → List SetDecl → List Generation → ℕ → ℕ → ℕ → Seated
 newcomer of schema base threads number left = record { of = of; schema = schema; threads = threads; number = number; base = base; seen = []; left = left }
 
--- A desk was opened behind these generations: its control threads are numbered from 1 on, and each has as many transactions
--- left.
+-- A desk was opened after these generations. Its control threads are numbered from 1, and each has the
+-- same number of transactions left.
 pub record IsOpened (of : TableId) (schema : List SetDecl) (base : List Generation) (threads left : ℕ) (clerks : List Seated) : Type 0 where
   pub size : length clerks ≡ threads
   pub each : (place : ℕ) (c : Seated) → slice_get clerks place ≡ Some c → c ≡ newcomer of schema base threads (place + 1) left

@@ -1,4 +1,4 @@
--- What a control thread does of its section, and all of them of theirs.
+-- What one control thread does with its section, and what all of them do.
 use Rattle.std.specs.Prelude.{◌≡◌, ◌+◌, ◌<◌, ◌≤◌, ◌++◌, ◌-◌, ℕ, Bool, true, cond, List, [], ◌∷◌, All, Some, length, slice_get, if◌then◌else◌}
 use Rattle.std.specs.List.{sum_by}
 use Rattle.history_laws.specs.Histories.{EndsWith}
@@ -25,15 +25,15 @@ pub record HasSubmitted (steps : List Step) (keep_going : Bool) (old new : Seate
   pub left : new.left + 1 ≡ old.left
   pub same : new ≡ record old { seen = new.seen; left = new.left }
 
--- An entry is a transaction, in this mode.
+-- An entry is a transaction in this mode.
 abbrev pub IsOne : Bool → Entry → Type 0
 IsOne keep_going e = IsTransaction e.steps × (e.keep_going ≡ keep_going)
 
--- the steps of the open transaction behind one step more
+-- the steps of the open transaction after one more step
 abbrev pub pending_then : List Step → Step → List Step
 pending_then before step = if opens (Some step) then before ++ step ∷ [] else []
 
--- One step more is logged, or open.
+-- One more step is logged or open.
 pub record HasGone (step : Step) (keep_going : Bool) (old new : Seated) (before behind : List Step) : Type 0 where
   pub steps : steps_of old.number new.seen ++ behind ≡ (steps_of old.number old.seen ++ before) ++ step ∷ []
   pub pending : behind ≡ pending_then before step
@@ -47,7 +47,8 @@ pub record HasDone (steps : List Step) (keep_going : Bool) (old new : Seated) : 
   pub ones : All (IsOne keep_going) (entries_of old.number new.seen)
   pub same : new ≡ record old { seen = new.seen; left = new.left }
 
--- A control thread may do its section of these: it is one of whole transactions that fit the declared sets, and so many may be submitted.
+-- A control thread may do its section of these. The section consists of whole transactions that fit the
+-- declared sets, and so many may still be submitted.
 pub record MayDoSection (sections : List (List Step)) (c : Seated) : Type 0 where
   pub steps : List Step
   pub numbered : 0 < c.number
@@ -71,7 +72,8 @@ pub record SharesDesk (a b : Seated) : Type 0 where
 abbrev pub kept_by : Seated → ℕ × List Entry
 kept_by c = (c.number, c.seen)
 
--- Control threads of one desk have ended: the log is whole, replays from the generations before it, and has each one's entries as it has seen them. No change is open.
+-- The control threads of one desk have ended. The log is whole, and replays from the generations before
+-- it. It has each thread's entries as that thread has seen them. No change is open.
 pub record IsEnd (first : Seated) (clerks : List Seated) (control : Steering) (log : List Entry) : Type 0 where
   pub replays : Replays first.base control.committed log
   pub closed : IsClosed control
@@ -80,7 +82,8 @@ pub record IsEnd (first : Seated) (clerks : List Seated) (control : Steering) (l
   pub named : All (λ e. (0 < e.clerk) × (e.clerk ≤ first.threads)) log
   pub own : All (λ c. entries_of c.number log ≡ entries_of c.number c.seen) clerks
 
--- A run of all control threads: the log is woven of their sections, replays from the generations before it to the committed ones, and each entry is in this mode. No change is open.
+-- A run of all control threads. The log is woven of their sections, and replays from the generations
+-- before it to the committed ones. Each entry is in this mode, and no change is open.
 pub record IsRun (sections : List (List Step)) (keep_going : Bool) (base : List Generation) (control : Steering) (log : List Entry) : Type 0 where
   pub woven : IsWoven sections log
   pub replays : Replays base control.committed log

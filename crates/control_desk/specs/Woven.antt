@@ -1,5 +1,5 @@
--- The log of several control threads: each thread's transactions in their order, woven into one order, that gives the
--- committed generations when it is replayed. It knows one list and no turns.
+-- The log of several control threads: the transactions of each thread in their order, woven into one
+-- order. Replayed, it gives the committed generations. The definition knows one list and no turns.
 use Rattle.std.specs.Prelude.{◌≡◌, ◌≤◌, ◌+◌, ◌==◌, ℕ, true, false, List, [], ◌∷◌, ◌++◌, All, Some, length, map, fold, filter, flat_map, slice_get}
 use Rattle.history_laws.specs.Histories.{EndsWith}
 use Rattle.set_model.specs.declared.report.Event.{Event}
@@ -8,7 +8,8 @@ use Rattle.set_model.specs.Control.{Control, Generation, mode_of, section}
 use Rattle.set_model.specs.Runnable.{opens}
 use Rattle.control_desk.specs.declared.entry.Entry.{Entry}
 
--- A transaction: changes and flushes, and then the commit or abort that ends it (nft(8): a file is applied whole).
+-- A transaction: changes and flushes, and then the commit or abort that ends it (nft(8) applies a file
+-- as a whole).
 pub record IsTransaction (steps : List Step) : Type 0 where
   pub changes : List Step
   pub end : Step
@@ -16,36 +17,37 @@ pub record IsTransaction (steps : List Step) : Type 0 where
   pub opening : All (λ s. opens (Some s) ≡ true) changes
   pub closing : opens (Some end) ≡ false
 
--- the control behind these generations, of which this is the last: no change is open, and nothing was told
+-- the control after these generations, of which this is the last: no change is open, and nothing was
+-- reported yet
 abbrev pub at_rest : List Generation → Generation → Control
 at_rest committed last = record { committed = committed; last = last; sets = last.sets; failed = false; events = [] }
 
--- the control once an entry's steps are done in its mode, and what they told
+-- the control after an entry's steps in its mode, with their events
 abbrev pub entry_done : Control → Entry → Control
 entry_done c e = section (mode_of e.keep_going) c e.steps
 
--- the control after an entry, which has told nothing yet of the next one
+-- the control after an entry, with no events of the next one yet
 abbrev pub after_entry : Control → Entry → Control
 after_entry c e = record (entry_done c e) { events = [] }
 
--- what is told of each entry of a log, as one is done after another
+-- the events of each entry of a log, done one after another
 abbrev pub tellings : Control → List Entry → List (List Event)
 tellings c [] = []
 tellings c (e ∷ log) = (entry_done c e).events ∷ tellings (after_entry c e) log
 
--- what an entry says was told of it: its refusals, and then its end
+-- the events that an entry names: its refusals, and then its end
 abbrev pub said : Entry → List Event
 said e = e.refused ++ e.end ∷ []
 
--- A log replays from the generations before it to those that are committed: its entries, done one after another, commit
--- these, and each entry says what is told of it.
+-- A log replays from the generations before it to the committed ones: its entries, done one after
+-- another, commit these, and each entry names the events that it then has.
 pub record Replays (base committed : List Generation) (log : List Entry) : Type 0 where
   pub last : Generation
   pub begins : EndsWith base last
   pub gives : (fold after_entry (at_rest base last) log).committed ≡ committed
   pub tells : tellings (at_rest base last) log ≡ map said log
 
--- The last generation behind a log, from the generations before it, has this number.
+-- The last generation after a log, from the generations before it, has this number.
 pub record HasSeen (base : List Generation) (log : List Entry) (number : ℕ) : Type 0 where
   pub last : Generation
   pub begins : EndsWith base last
@@ -65,8 +67,8 @@ pub record IsOfOne (clerks : ℕ) (e : Entry) : Type 0 where
   pub from : 1 ≤ e.clerk
   pub to : e.clerk ≤ clerks
 
--- A log is woven of sections: each entry is a transaction of one section's control thread, and the steps of each thread
--- are those of its section, in their order, none left out and none done twice.
+-- A log is woven of sections. Each entry is a transaction of one section's control thread. The steps of
+-- each thread are those of its section, in their order, with none left out and none repeated.
 pub record IsWoven (sections : List (List Step)) (log : List Entry) : Type 0 where
   pub each : All (IsOfOne (length sections)) log
   pub whole : (place : ℕ) (steps : List Step) → slice_get sections place ≡ Some steps → steps_of (place + 1) log ≡ steps

@@ -1,9 +1,9 @@
-//! What is told of each submission before it.
+//! A signal before each submission.
 
 /// Is called before each submission of each control thread, in that thread.
 pub trait Bell: Sync {
-    /// The control thread `clerk` is about to submit, and has done so `turn` times before, those that were answered `Stale`
-    /// included.
+    /// The control thread `clerk` is about to submit. It has submitted `turn` times before; answers of
+    /// `Stale` count, too.
     fn before(&self, clerk: u32, turn: u64);
 }
 

@@ -14,13 +14,13 @@ use set_space::Generation;
 use std::alloc::Global;
 use std::marker::Model;
 
-/// A control without open changes, and the log of the transactions that were submitted to it. The log replays from the
-/// generations before its first entry to the committed ones.
+/// A control without open changes, and the log of the transactions submitted to it. The log replays
+/// from the generations before its first entry to the committed ones.
 #[derive(Drop)]
 pub struct Book {
     /// The control, without open changes.
     pub control: Control,
-    /// The transactions that were submitted, in the order in which they were done.
+    /// The submitted transactions, in the order in which they were done.
     pub log: Log,
     /// How many generations were committed before the log's first entry.
     pub from: u64,
@@ -53,7 +53,8 @@ impl Logged for Book {
 }
 
 impl Book {
-    /// A book of a control, with an empty log behind all generations so far. It takes no memory.
+    /// A book of a control, with an empty log. All generations so far come before it. It takes no
+    /// memory.
     pub fn new(alloc: Global, control: Control) -> Book
         requires closed { IsClosed control }
         requires number { control.work.base.number < 2 ^ 63 }
@@ -80,12 +81,13 @@ impl Book {
         self.control.known();
     }
 
-    /// Does one transaction of the control thread `clerk` and logs it, and tells how it ended. With `keep_going` a refused
-    /// change is skipped and doesn't fail it.
+    /// Does one transaction of the control thread `clerk`, logs it, and returns how it ended. With
+    /// `keep_going` a refused change is skipped and doesn't fail the transaction.
     ///
     /// # Errors
     ///
-    /// `Memory` if there is none left. The book is as it was: nothing is logged or committed, and no change is open.
+    /// `Memory` if memory runs out. The book is as it was: nothing is logged or committed, and no
+    /// change is open.
     pub fn apply(&mut self, clerk: u32, steps: &Steps, keep_going: bool) -> Result<Event, Memory>
         requires transaction { IsTransaction steps.now }
         requires fits { All (IsRunnableStep self.old.control.schema) steps.now }

@@ -18,16 +18,17 @@ use std::alloc::Global;
 use std::marker::Model;
 use std::sync::{Arc, Wait};
 
-/// Why a transaction was not logged.
+/// Why a transaction wasn't logged.
 #[derive(Clone, Copy, Debug, PartialEq, Eq)]
 pub enum DeskError {
-    /// The control has moved on since the control thread last saw it. Its last generation's number is this.
+    /// A generation was committed that the control thread hadn't seen. `newer` is the last generation's
+    /// number.
     Stale { newer: u64 },
-    /// There is no memory left.
+    /// Memory ran out.
     Memory,
 }
 
-/// One of several control threads, which submits transactions to the control of its desk.
+/// One of several control threads. It submits transactions to the control of its desk.
 #[derive(Drop)]
 pub struct Clerk {
     pub(crate) board: Arc<Board<Book>, Global>,
@@ -53,7 +54,8 @@ impl Model for Clerk {
     ghost invariant = { λ c. (c.place.table_id ≡ (arc_value c.board).shared.table_id) × IsSized c.place.table_id × (c.place.me.0.role ≡ Thread c.number) × (c.place.me.0.stage ≡ 1) × (c.place.me.1 ≡ []) × HasSeen c.place.me.0.base c.place.me.0.seen c.newest × Grown (arc_value c.board).shared.key.first.value.control.schema 0 c.place.me.0.base };
 }
 
-/// What a control thread does while its turn is served: it applies its transaction, if it has seen the last generation.
+/// What a control thread does at its turn: if it has seen the last generation, it applies its
+/// transaction.
 fn do_turn(
     book: &mut Book,
     clerk: u32,
@@ -100,20 +102,22 @@ impl Clerk {
         }
     }
 
-    /// Its number. They count from 1.
+    /// Its number, from 1.
     pub fn number(&self) -> u32
         ensures { result ≡ self.now.number }
     {
         self.number
     }
 
-    /// Submits a transaction at this control thread's turn, for which it waits, and tells how it ended. With `keep_going` a
-    /// refused change is skipped and doesn't fail it. All that was logged until then is seen afterwards.
+    /// Waits for this control thread's turn, submits a transaction, and returns how it ended. With
+    /// `keep_going` a refused change is skipped and doesn't fail the transaction. The control thread
+    /// has then seen all that was logged.
     ///
     /// # Errors
     ///
-    /// `Stale` with the last generation's number, if that is greater than the last one's that the control thread had seen;
-    /// then `Memory` if there is none left. Nothing is logged or committed then, and what it has left stays.
+    /// `Stale` with the last generation's number, if the control thread hadn't seen that generation.
+    /// Else `Memory` if memory runs out. After an error nothing is logged or committed, and the number
+    /// of its transactions that are left stays.
     pub fn submit<R: Wait>(
         &mut self,
         rt: &R,

@@ -5,14 +5,14 @@ use set_model::{Duplicate, Event, Events, Memory, Steps};
 use std::alloc::Global;
 use std::marker::Model;
 
-/// One transaction that was submitted, and what came of it.
+/// One submitted transaction, and its outcome.
 #[derive(Drop)]
 pub struct Entry {
-    /// The control thread that submitted it. They count from 1.
+    /// The number of the control thread that submitted it, from 1.
     pub clerk: u32,
     /// Its changes, and the commit or abort that ends it.
     pub steps: Steps,
-    /// Whether a refused change was skipped and didn't fail it.
+    /// Whether refused changes were skipped and didn't fail it.
     pub keep_going: bool,
     /// Its refused changes, in their order.
     pub refused: Events,
@@ -32,8 +32,8 @@ impl Duplicate for Entry {
     }
 }
 
-/// The transactions that were submitted, in the order in which they were done. Contracts see it as the list of its
-/// entries.
+/// The submitted transactions, in the order in which they were done. Contracts see it as the list of
+/// its entries.
 #[derive(Drop)]
 pub struct Log {
     pub(crate) alloc: Global,
@@ -75,7 +75,7 @@ impl Log {
         &self.entries[i as usize]
     }
 
-    /// The entries in a row.
+    /// The entries, in their order.
     pub fn as_slice(&self) -> &[Entry]
         ensures { result.now ≡ self.now }
     {

@@ -1,4 +1,4 @@
-//! How the control threads of a desk are made.
+//! Makes the control threads of a desk.
 ghost use Rattle.std.specs.Prelude.{◌≡◌, ◌+◌, ◌*◌, ◌<◌, ◌≤◌, ◌^◌, [], take, All, IfOk, length};
 ghost use Rattle.std.specs.Arc.{arc_value};
 ghost use Rattle.atomic_table.specs.Seated.{TableId};
@@ -19,7 +19,7 @@ use std::alloc::Global;
 use std::snapshot::Snapshot;
 use std::sync::Arc;
 
-/// The control threads of a desk, numbered from 1 on, out of the seat that they come from.
+/// The control threads of a desk, numbered from 1, from the seat that represents them all.
 fn deal(
     alloc: Global,
     board: &Arc<Board<Book>, Global>,
@@ -41,12 +41,12 @@ fn deal(
     Ok(dealt)
 }
 
-/// The control threads of a desk, numbered from 1 on, each of which may submit so many transactions to a control. None has
-/// had a turn.
+/// The control threads of a desk, numbered from 1. Each may submit so many transactions to a control.
+/// None has had a turn.
 ///
 /// # Errors
 ///
-/// `Memory` if there is none left. The control is dropped.
+/// `Memory` if memory runs out. The control is dropped.
 pub fn open_desk(
     alloc: Global,
     control: Control,

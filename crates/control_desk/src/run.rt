@@ -1,4 +1,4 @@
-//! All control threads of a desk at work, each in a thread of its own, and the end of their run.
+//! Runs all control threads of a desk, each in a thread of its own.
 ghost use Rattle.std.specs.Prelude.{◌≡◌, ◌+◌, ◌<◌, ◌≤◌, ℕ, List, [], ◌∷◌, All, IfOk, Some, Ok, length, map, slice_get};
 ghost use Rattle.std.specs.Arc.{arc_value};
 ghost use Rattle.atomic_table.specs.Seated.{TableId};
@@ -23,7 +23,7 @@ use std::sync::{Arc, Wait};
 use std::thread;
 use std::thread::Threads;
 
-/// A control thread's part: it does its section of these.
+/// A control thread's part: it does its own section of these.
 fn work<R: Wait, B: Bell>(
     rt: &R,
     alloc: Global,
@@ -39,7 +39,7 @@ fn work<R: Wait, B: Bell>(
     submit_all(rt, alloc, clerk, steps, keep_going, bell)
 }
 
-/// The control threads, where each of them has found its memory.
+/// The control threads, if none of them ran out of memory.
 fn all_done(alloc: Global, done: Vec<Result<Clerk, Memory>>) -> Result<Vec<Clerk>, Memory>
     ensures { IfOk result (λ v. done.items ≡ map Ok v.items) }
 {
@@ -50,7 +50,7 @@ fn all_done(alloc: Global, done: Vec<Result<Clerk, Memory>>) -> Result<Vec<Clerk
     Ok(clerks)
 }
 
-/// The first control thread's seat, which has taken in those of the others.
+/// The first control thread's seat, after it took over the seats of the others.
 fn gather(first: Clerk, others: Vec<Clerk>) -> (Arc<Board<Book>, Global>, Place<Book>)
     requires { All (SharesDesk first) others.items }
     ensures table { (result.1.table_id ≡ (arc_value result.0).shared.table_id) × IsSized result.1.table_id }
@@ -70,7 +70,7 @@ fn gather(first: Clerk, others: Vec<Clerk>) -> (Arc<Board<Book>, Global>, Place<
     (board, place)
 }
 
-/// The control and the whole log, once all control threads are done.
+/// The control and the whole log, after all control threads are done.
 fn close<R: Wait>(rt: &R, clerks: Vec<Clerk>) -> (Control, Log)
     requires { (first : Seated) × (slice_get clerks.items 0 ≡ Some first) × All (SharesDesk first) clerks.items }
     ensures { (first : Seated) → slice_get clerks.items 0 ≡ Some first → IsEnd first clerks.items result.0 result.1 }
@@ -85,12 +85,12 @@ fn close<R: Wait>(rt: &R, clerks: Vec<Clerk>) -> (Control, Log)
     (control, log)
 }
 
-/// Runs all control threads of a desk, each with its section, and gives the control and the log. It waits for all of them.
-/// A transaction that is refused as stale is submitted again. After `Memory` the run is over.
+/// Runs all control threads of a desk, each with its section, and waits for all of them. Returns the
+/// control and the log. A stale transaction is submitted again. After `Memory` the run is over.
 ///
 /// # Errors
 ///
-/// `Memory` if there is none left.
+/// `Memory` if memory runs out.
 pub fn run_clerks<R: Threads + Wait + Sync, B: Bell>(
     rt: &R,
     alloc: Global,

@@ -13,7 +13,8 @@ use packet_pool::{OpenGate, do_step};
 use set_model::{Duplicate, Event, Events, Memory, Step, Steps};
 use std::alloc::Global;
 
-/// Does the changes of a transaction, and tells which were refused and whether it has failed.
+/// Does the changes of a transaction. Returns which were refused, and whether the transaction has
+/// failed.
 fn try_changes(
     alloc: Global,
     control: &mut Control,
@@ -43,7 +44,7 @@ fn try_changes(
     Ok((refused, failed))
 }
 
-/// Ends a transaction, which has failed or not, and tells how.
+/// Ends a transaction, which may have failed, and returns how it ended.
 fn end_transaction(control: &mut Control, failed: bool, end: &Step) -> Result<Event, Memory>
     requires end { opens (Some end.now) ≡ false }
     requires number { control.old.work.base.number < 2 ^ 63 }
@@ -73,11 +74,12 @@ fn end_transaction(control: &mut Control, failed: bool, end: &Step) -> Result<Ev
     }
 }
 
-/// Does a transaction of a control thread and logs it, and tells how it ended. Room for its entry is taken before it ends.
+/// Does a transaction of a control thread, logs it, and returns how it ended. It takes room for the
+/// entry before the transaction ends.
 ///
 /// # Errors
 ///
-/// `Memory` if there is none left. Nothing is committed or logged, and changes may be open.
+/// `Memory` if memory runs out. Nothing is committed or logged, and changes may be open.
 pub(crate) fn transact(
     control: &mut Control,
     log: &mut Log,

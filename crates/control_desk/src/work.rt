@@ -10,7 +10,7 @@ use set_model::{Duplicate, Memory, Step, Steps};
 use std::alloc::Global;
 use std::sync::Wait;
 
-/// Submits a transaction until it isn't refused as stale. `turns` counts the submissions.
+/// Submits a transaction until it isn't stale. `turns` counts the submissions.
 fn submit_again<R: Wait, B: Bell>(
     rt: &R,
     clerk: &mut Clerk,
@@ -46,7 +46,7 @@ fn ends(step: &Step) -> bool
     }
 }
 
-/// Puts a step behind those of the open transaction, and submits it where the step ends it.
+/// Adds a step to the open transaction, and submits the transaction if the step ends it.
 fn go_on<R: Wait, B: Bell>(
     rt: &R,
     alloc: Global,
@@ -70,7 +70,8 @@ fn go_on<R: Wait, B: Bell>(
     Ok(())
 }
 
-/// Submits the steps of a section, one transaction after another. One that is refused as stale is submitted again.
+/// Submits the steps of a section, one transaction after another. A stale transaction is submitted
+/// again.
 pub(crate) fn submit_all<R: Wait, B: Bell>(
     rt: &R,
     alloc: Global,

@@ -1,4 +1,4 @@
--- Laws of the draws: what is drawn one behind another is what is drawn at its place.
+-- Laws of the draws: what is drawn one after another is what is drawn at its place.
 use Rattle.std.proofs.Common.{◌≡◌, refl, sym, ◌∙◌, ap, ℕ, zero, suc, ◌+◌, ◌*◌, ◌/◌, ◌%◌, ◌<◌, ◌≤◌, List, [], ◌∷◌, ◌++◌, map, zero-add, arith}
 use Rattle.std.specs.List.{range_with_len}
 use Rattle.std.proofs.Math.Nat.{add-suc}
@@ -7,7 +7,7 @@ use Rattle.std.proofs.lemmas.Bool.Decides.{nat_tests}
 use Rattle.drill_gen.specs.Drill.{next_state, after_draws, draw_from}
 use Rattle.drill_gen.specs.Drawing.{packet_state, packet_draws}
 
--- so many draws behind so many others
+-- so many draws after so many others
 pub after-more : (x m n : ℕ) → after_draws (after_draws x m) n ≡ after_draws x (m + n)
 after-more x m zero = let e : m ≡ m + 0 = omega arith in ap (after_draws x) e
 after-more x m (suc n) = ap next_state (after-more x m n) ∙ ap (after_draws x) (sym (add-suc m n))
@@ -15,7 +15,7 @@ after-more x m (suc n) = ap next_state (after-more x m n) ∙ ap (after_draws x)
 pub draw-more : (x m n : ℕ) → draw_from (after_draws x m) n ≡ draw_from x (m + n)
 draw-more x m n = ap (λ y. next_state y / 32768) (after-more x m n)
 
--- Four draws behind those of i elements come those of i + 1.
+-- The draws of element i + 1 come four draws after those of element i.
 pub four-more : (x i : ℕ) → after_draws (after_draws x (4 * i)) 4 ≡ after_draws x (4 * (i + 1))
 four-more x i = after-more x (4 * i) 4 ∙ ap (after_draws x) (omega arith)
 
@@ -25,7 +25,7 @@ packet-more x p = after-more x (5 * (p / 2) + 2 * (p % 2)) (packet_draws p) ∙ 
   places : (r : ℕ) → p % 2 ≡ r → 5 * (p / 2) + 2 * (p % 2) + packet_draws p ≡ 5 * ((p + 1) / 2) + 2 * ((p + 1) % 2)
   places r e = grind (arith, nat_tests)
 
--- Lists of what stands at the numbers from a on are the same where it is the same at each of them.
+-- Lists by the numbers from a on are the same if they agree at each number.
 pub map-range-same : {X : Type 0} (f g : ℕ → X) (a n : ℕ) → ((i : ℕ) → a ≤ i → i < a + n → f i ≡ g i) → map f (range_with_len a n) ≡ map g (range_with_len a n)
 map-range-same f g a zero h = refl
 map-range-same f g a (suc n) h =

@@ -22,7 +22,7 @@ elements : (drill_script 1 2).sections
     ∷ Commit 0 ∷ []) ∷ []
 elements = refl
 
--- Packet 0 lies in element 1, 55 addresses and one port behind its low ends.
+-- Packet 0 lies in element 1, 55 addresses and one port after its low ends.
 near : packet_key 1 2 0 ≡ (4069993462 + 55) ∷ (14839 + 1) ∷ []
 near = refl
 

@@ -1,4 +1,4 @@
--- The workload that is drawn one behind another is the one that is defined place by place.
+-- The workload that is drawn one after another is the one that is defined place by place.
 use Rattle.std.proofs.Common.{◌≡◌, ◌∙◌, ap, ℕ, ◌+◌, ◌*◌, ◌/◌, ◌%◌, ◌<◌, List, [], ◌∷◌, length, map, slice_index_or, arith}
 use Rattle.std.specs.List.{range_with_len}
 use Rattle.std.proofs.lemmas.List.FromFn.{length-map-range_with_len, get_or-map-range_with_len}
@@ -20,7 +20,7 @@ addition-drawn seed i = ap (λ t. addition_of t (i + 1)) (target-drawn seed i)
 abbrev pub targets : ℕ → ℕ → List Target
 targets seed count = map (target_at (seeded seed)) (range_with_len 0 count)
 
--- the state behind all elements
+-- the state after all elements
 abbrev pub behind : ℕ → ℕ → ℕ
 behind seed count = after_draws (seeded seed) (4 * count)
 

@@ -1,4 +1,4 @@
--- How a workload is drawn from the state of its generator, one element or packet behind another.
+-- How a workload is drawn from the state of its generator, one element or packet after another.
 use Rattle.std.specs.Prelude.{ℕ, ◌+◌, ◌*◌, ◌/◌, ◌%◌, ◌==◌, if◌then◌else◌, List, [], ◌∷◌, ◌++◌, length, None, slice_index_or}
 use Rattle.set_model.specs.declared.kind.Interval.{Interval}
 use Rattle.set_model.specs.declared.packet.Packet.{Packet}
@@ -13,7 +13,7 @@ use Rattle.drill_gen.specs.Drill.{after_draws, draw_from, address, element_draw,
 abbrev pub range_interval : Range → Interval
 range_interval r = span_from r.low r.span r.greatest
 
--- the value that an offset gives, counted round within the span
+-- the value at an offset, which is taken modulo the number of values
 abbrev pub value_at : Range → ℕ → ℕ
 value_at r offset = value_in (range_interval r) (offset % (r.span + 1))
 
@@ -30,7 +30,7 @@ parts_of t = range_interval t.addresses ∷ range_interval t.ports ∷ []
 abbrev pub addition_of : Target → ℕ → Step
 addition_of t line = Change line 0 Add (record { parts = parts_of t; expiry = None; comment = [] }) 0
 
--- a key of an element
+-- a key in an element
 abbrev pub key_of : Target → ℕ → List ℕ
 key_of t offset = value_at t.addresses offset ∷ value_at t.ports offset ∷ []
 
@@ -41,7 +41,7 @@ target_of seed i = record {
   ports = record { low = element_draw seed i 3; span = port_span seed i; greatest = 65535 };
 }
 
--- element i behind a state, and the step that adds it
+-- element i after a state, and the step that adds it
 abbrev pub target_at : ℕ → ℕ → Target
 target_at x i = target_from (after_draws x (4 * i))
 
@@ -52,11 +52,11 @@ addition_at x i = addition_of (target_at x i) (i + 1)
 abbrev pub one_transaction : List Step → Script
 one_transaction steps = record { schema = drill_set ∷ []; sections = (steps ++ Commit 0 ∷ []) ∷ []; last = 0 }
 
--- the state in front of packet p
+-- the state before packet p
 abbrev pub packet_state : ℕ → ℕ → ℕ
 packet_state x p = after_draws x (5 * (p / 2) + 2 * (p % 2))
 
--- a key of one of the elements, by the next two draws
+-- a key in one of the elements, by the next two draws
 abbrev pub near_from : List Target → ℕ → List ℕ
 near_from targets x = key_of (slice_index_or targets (draw_from x 0 % length targets) (target_from 0)) (draw_from x 1)
 
@@ -71,6 +71,6 @@ packet_from targets x p = record { set = 0; key = if p % 2 == 0 then near_from t
 abbrev pub packet_draws : ℕ → ℕ
 packet_draws p = if p % 2 == 0 then 2 else 3
 
--- packet p behind the elements' state
+-- packet p after the elements' state
 abbrev pub drawn_packet : List Target → ℕ → ℕ → Packet
 drawn_packet targets x p = packet_from targets (packet_state x p) p

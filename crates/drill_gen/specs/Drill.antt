@@ -11,16 +11,16 @@ use Rattle.set_model.specs.declared.script.Step.{Step}
 use Rattle.set_model.specs.declared.script.Step.TheVariants.{Change, Commit}
 use Rattle.set_model.specs.declared.script.Script.{Script}
 
--- The state of the linear congruential generator behind one more draw.
+-- The state of the linear congruential generator after one more draw.
 abbrev pub next_state : ℕ → ℕ
 next_state x = (x * 1103515245 + 12345) % 2147483648
 
--- the state behind so many draws
+-- the state after so many draws
 abbrev pub after_draws : ℕ → ℕ → ℕ
 after_draws x zero = x
 after_draws x (suc n) = next_state (after_draws x n)
 
--- draw n from a state on: the high bits of the state behind it
+-- draw n from a state on: the high bits of the state after it
 abbrev pub draw_from : ℕ → ℕ → ℕ
 draw_from x n = after_draws x (suc n) / 32768
 
@@ -36,7 +36,7 @@ draw seed n = draw_from (seeded seed) n
 abbrev pub address : ℕ → ℕ → ℕ
 address high low = high * 65536 + low
 
--- the values from low on, so many behind it and none past the limit
+-- the values from low on: so many after it, and none past the limit
 abbrev pub span_from : ℕ → ℕ → ℕ → Interval
 span_from low span limit = record { low = low; high = min (low + span) limit }
 
@@ -44,7 +44,7 @@ span_from low span limit = record { low = low; high = min (low + span) limit }
 abbrev pub element_draw : ℕ → ℕ → ℕ → ℕ
 element_draw seed i k = draw seed (4 * i + k)
 
--- how many values its intervals have behind their first: up to 255 addresses and up to 15 ports
+-- how many values follow the first one of its intervals: up to 255 addresses and up to 15 ports
 abbrev pub address_span : ℕ → ℕ → ℕ
 address_span seed i = element_draw seed i 2 % 256
 
@@ -73,19 +73,19 @@ drill_steps seed count = map (addition seed) (range_with_len 0 count) ++ Commit 
 abbrev pub drill_script : ℕ → ℕ → Script
 drill_script seed count = record { schema = drill_set ∷ []; sections = drill_steps seed count ∷ []; last = 0 }
 
--- how many draws stand in front of packet p: four for each element, and five for each pair of packets, two for the even
--- packet and three for the odd one
+-- How many draws come before packet p: four for each element, and five for each pair of packets. The
+-- even packet takes two and the odd one three.
 abbrev pub packet_place : ℕ → ℕ → ℕ
 packet_place count p = 4 * count + 5 * (p / 2) + 2 * (p % 2)
 
 abbrev pub packet_draw : ℕ → ℕ → ℕ → ℕ → ℕ
 packet_draw seed count p k = draw seed (packet_place count p + k)
 
--- a value of an interval, so far behind its low end and not past its high end
+-- a value of an interval: so far after its low end, but not past its high end
 abbrev pub value_in : Interval → ℕ → ℕ
 value_in part offset = min (part.low + offset) part.high
 
--- An even packet lies in an element: its first draw says in which, its second how far behind the low ends.
+-- An even packet is in an element: its first draw says in which, its second how far after the low ends.
 abbrev pub near_key : ℕ → ℕ → ℕ → List ℕ
 near_key seed e offset = value_in (addresses seed e) (offset % (address_span seed e + 1)) ∷ value_in (ports seed e) (offset % (port_span seed e + 1)) ∷ []
 
@@ -103,6 +103,6 @@ drill_packet seed count p = record { set = 0; key = packet_key seed count p; now
 abbrev pub drill_packets : ℕ → ℕ → List Packet
 drill_packets seed count = map (drill_packet seed count) (range_with_len 0 count)
 
--- They stand in one key section.
+-- They are one key section.
 abbrev pub drill_keys : ℕ → ℕ → List (List Packet)
 drill_keys seed count = drill_packets seed count ∷ []

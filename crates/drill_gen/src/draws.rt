@@ -1,8 +1,8 @@
 ghost use Rattle.std.specs.Prelude.{◌≡◌, ◌*◌, ◌+◌};
 ghost use Rattle.drill_gen.specs.Drill.{seeded, next_state, after_draws, draw_from, address};
 
-/// Numbers from 0 to 65,535 that look random and are the same for the same seed: a linear congruential generator's
-/// high bits.
+/// Numbers from 0 to 65,535 that look random and depend on the seed alone: the high bits of a linear
+/// congruential generator.
 #[derive(Drop)]
 pub struct Draws {
     state: u32,
@@ -28,7 +28,7 @@ impl Draws {
         (next / 32_768) as u16
     }
 
-    /// An address of the next two numbers, its high half first.
+    /// An address from the next two numbers, its high half first.
     pub fn address(&mut self) -> u32
         ensures next { self.new.state ≡ after_draws self.old.state 2 }
         ensures drawn { result ≡ address (draw_from self.old.state 0) (draw_from self.old.state 1) }

@@ -5,12 +5,12 @@ use crate::draws::Draws;
 use set_model::{Comment, Interval, Key, Memory, NewElement, Parts, Step, Verb};
 use std::alloc::Global;
 
-/// The values from a lowest one on, so many behind it and none past the greatest of their kind.
+/// A range of values: a lowest one and so many after it, as far as the kind has them.
 #[derive(Clone, Copy)]
 pub struct Range {
     /// The lowest value.
     pub low: u32,
-    /// How many values stand behind it, where the kind has so many.
+    /// How many values follow it, unless the kind has fewer.
     pub span: u16,
     /// The greatest value of the kind.
     pub greatest: u32,
@@ -29,7 +29,7 @@ impl Range {
         }
     }
 
-    /// The value so far behind the lowest one, counted round within the span.
+    /// The value `offset` after the lowest one, with the offset taken modulo the number of values.
     fn value(&self, offset: u16) -> u128
         ensures { result ≡ value_at self.now offset }
     {
@@ -39,7 +39,7 @@ impl Range {
     }
 }
 
-/// An element of the workload, which packets are drawn for.
+/// An element of the workload, with packets in it.
 #[derive(Clone, Copy)]
 pub struct Target {
     /// The values of its first field.
@@ -51,7 +51,7 @@ pub struct Target {
 impl Target {
     ghost use Rattle.drill_gen.specs.Drawing.{target_from, parts_of, addition_of, key_of};
 
-    /// The element of the next four numbers.
+    /// The element from the next four numbers.
     pub fn draw(draws: &mut Draws) -> Target
         ensures next { draws.new.state ≡ after_draws draws.old.state 4 }
         ensures drawn { result ≡ target_from draws.old.state }
@@ -82,7 +82,7 @@ impl Target {
         Ok(parts)
     }
 
-    /// The step that adds it on this line.
+    /// The step that adds the element; its line is this.
     pub fn addition(&self, alloc: Global, line: u64) -> Result<Step, Memory>
         ensures { IfOk result (λ step. step ≡ addition_of self.now line) }
     {
@@ -99,7 +99,7 @@ impl Target {
         })
     }
 
-    /// The key so far behind its lowest values.
+    /// The key with both values `offset` after their lowest ones.
     pub fn key(&self, alloc: Global, offset: u16) -> Result<Key, Memory>
         ensures { IfOk result (λ key. key ≡ key_of self.now offset) }
     {

@@ -48,7 +48,7 @@ fn elements(alloc: Global, draws: &mut Draws, count: u32) -> Result<(Vec<Target>
     Ok((targets, steps))
 }
 
-/// A key of one of the elements, by the next two numbers.
+/// A key in one of the elements, from the next two numbers.
 fn near_key(alloc: Global, draws: &mut Draws, targets: &[Target]) -> Result<Key, Memory>
     requires { 0 < length targets.now }
     ensures next { draws.new.state ≡ after_draws draws.old.state 2 }
@@ -59,7 +59,7 @@ fn near_key(alloc: Global, draws: &mut Draws, targets: &[Target]) -> Result<Key,
     targets[place].key(alloc, offset)
 }
 
-/// Any key, by the next three numbers.
+/// Any key, from the next three numbers.
 fn any_key(alloc: Global, draws: &mut Draws) -> Result<Key, Memory>
     ensures next { draws.new.state ≡ after_draws draws.old.state 3 }
     ensures key { IfOk result (λ key. key ≡ any_from draws.old.state) }
@@ -72,7 +72,7 @@ fn any_key(alloc: Global, draws: &mut Draws) -> Result<Key, Memory>
     Ok(key)
 }
 
-/// Packet `p`. An even one lies in an element.
+/// Packet `p`. An even one is in an element.
 fn packet(alloc: Global, draws: &mut Draws, targets: &[Target], p: usize) -> Result<Packet, Memory>
     requires { 0 < length targets.now }
     ensures next { OnOk result (draws.new.state ≡ after_draws draws.old.state (packet_draws p)) }
@@ -101,7 +101,7 @@ fn packets(alloc: Global, draws: &mut Draws, targets: &[Target]) -> Result<Packe
     Ok(packets)
 }
 
-/// The script of one transaction on the set, which a commit ends.
+/// The script of one transaction on the set, with a commit at its end.
 fn script(alloc: Global, mut steps: Steps) -> Result<Script, Memory>
     ensures { IfOk result (λ script. script ≡ one_transaction steps) }
 {
@@ -125,8 +125,8 @@ fn one_section(alloc: Global, packets: Packets) -> Result<Keys, Memory>
     Ok(keys)
 }
 
-/// The script that adds `count` elements to the set `ip drill s` in one transaction at moment 0, and a section of as
-/// many packets at moment 0. The same seed gives the same workload.
+/// The workload of a seed, all at moment 0. A script adds `count` elements to the set `ip drill s` in
+/// one transaction, and one key section has as many packets. The same seed gives the same workload.
 pub fn generate(alloc: Global, seed: u64, count: u32) -> Result<(Script, Keys), Memory>
     ensures drawn { IfOk result (λ r. (r.0 ≡ drill_script seed count) × (r.1 ≡ drill_keys seed count)) }
     ensures runnable { IfOk result (λ r. IsRunnable r.0) }

@@ -1,4 +1,4 @@
--- Texts as they are shown, one behind another.
+-- Texts as they are shown, one after another.
 use Rattle.std.proofs.Common.{◌≡◌, ℕ, List, ◌++◌}
 use Rattle.std.proofs.lemmas.Grind.{flat_map-append}
 use Rattle.fault_notes.specs.Shown.{shown, shown_byte}

@@ -1,14 +1,14 @@
--- What holds of a text that is told.
+-- What holds of a text that is printed.
 use Rattle.std.proofs.Common.{◌≡◌, sym, subst, ℕ, List, Option, Result, Ok, Err, OnErr}
 use Rattle.std.specs.Prelude.{IfOk}
 use Rattle.fault_notes.specs.Told.{MayTell, nothing, note}
 
--- What holds of a note is told, and what follows from it.
+-- If something holds of a printed note, so does what follows from it.
 pub tells-as : (P Q : List ℕ → Type 0) (before now : Option (List ℕ)) → ((text : List ℕ) → P text → Q text) → MayTell P before now → MayTell Q before now
 tells-as P Q before now follows (nothing same) = nothing same
 tells-as P Q before now follows (note text quiet is told) = note text quiet (follows text is) told
 
--- What holds of a note that was made holds of what is told.
+-- What holds of a note that was made holds of the text that is printed.
 pub made-told : {T E : Type 0} (made : Result T E) (bytes : T → List ℕ) (P : List ℕ → Type 0) (before now : Option (List ℕ)) → IfOk made (λ n. MayTell (λ text. text ≡ bytes n) before now) → OnErr made (now ≡ before) → IfOk made (λ n. P (bytes n)) → MayTell P before now
 made-told (Ok n) bytes P before now told silent is = tells-as (λ text. text ≡ bytes n) P before now (λ text e. subst P (sym e) is) told
 made-told (Err e) bytes P before now told silent is = nothing silent

@@ -10,7 +10,7 @@ use set_model::Memory;
 use std::alloc::Global;
 use token_forms::{BadToken, Reason};
 
-/// What is wrong, the line with a caret under the token, and what to do.
+/// What is wrong, the line with carets under the token, and what to do.
 fn explained(
     alloc: Global,
     kind: TextKind,
@@ -37,7 +37,7 @@ fn explained(
     Ok(note)
 }
 
-/// What a text is that isn't of this grammar.
+/// A note that says what kind of text this is instead.
 fn told_as(alloc: Global, what: &[u8]) -> Result<Note, Memory> {
     let mut note = Note::new(alloc);
     note.say(what)?;
@@ -45,7 +45,7 @@ fn told_as(alloc: Global, what: &[u8]) -> Result<Note, Memory> {
     Ok(note)
 }
 
-/// What is said behind the place of a bad token.
+/// What a note says after the place of a bad token.
 fn said(alloc: Global, kind: TextKind, text: &[u8], bad: BadToken) -> Result<Note, Memory> {
     if let Some(what) = foreign(text) {
         return told_as(alloc, what);
@@ -57,12 +57,12 @@ fn said(alloc: Global, kind: TextKind, text: &[u8], bad: BadToken) -> Result<Not
     explained(alloc, kind, text, bad, cut)
 }
 
-/// What a person is told of a text that isn't in its grammar: `NAME:LINE:COLUMN: what is wrong`, the line of the text
-/// with a caret under the bad token, and what could stand there or what to do.
+/// The note on a text that isn't in its grammar: `NAME:LINE:COLUMN: what is wrong`, the line of the
+/// text with carets under the bad token, and what could come there or what to do.
 ///
 /// # Errors
 ///
-/// `Memory` where there is none left.
+/// `Memory` if memory runs out.
 pub fn bad_text_note(
     alloc: Global,
     kind: TextKind,

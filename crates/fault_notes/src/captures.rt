@@ -10,7 +10,7 @@ use std::alloc::Global;
 /// The place of the link type in a capture.
 const LINK_TYPE: usize = 20;
 
-/// What a file is that doesn't begin as a capture does, by its first bytes.
+/// What kind of file this is, by its first bytes, if they aren't a capture's magic.
 fn by_magic(file: &[u8]) -> &'static [u8] {
     match file {
         [0x0a, 0x0d, 0x0d, 0x0a, ..] =>
@@ -25,14 +25,15 @@ fn by_magic(file: &[u8]) -> &'static [u8] {
     }
 }
 
-/// Whether these bytes could stand in a text.
+/// Whether these bytes may be of a text.
 fn is_of_text(bytes: &[u8]) -> bool {
     bytes
         .iter()
         .all(|b| matches!(*b, 32..=126 | b'\t' | b'\n' | b'\r'))
 }
 
-/// The link type of a capture, whose header's numbers begin with their least significant byte where its magic does.
+/// The link type of a capture. If the magic begins with its least significant byte, so do the numbers
+/// of the header.
 fn link_type(file: &[u8]) -> Option<u64> {
     let is_little = matches!(file.first(), Some(0xd4 | 0x4d));
     match file.get(LINK_TYPE..LINK_TYPE + 4)? {
@@ -43,7 +44,7 @@ fn link_type(file: &[u8]) -> Option<u64> {
 }
 
 impl Note {
-    /// Adds that a capture's link type isn't read, and which it is.
+    /// Adds the capture's link type and that it isn't supported.
     fn foreign_link(&mut self, file: &[u8]) -> Result<(), Memory> {
         if let Some(number) = link_type(file) {
             self.say(b"its link type is ")?;
@@ -81,12 +82,12 @@ impl Note {
     }
 }
 
-/// What a person is told of a file that is no capture: `NAME: byte B: what is wrong`, which says what the file is where its
-/// first bytes tell that.
+/// The note on a file that is no capture: `NAME: byte B: what is wrong`. It says what the file is, if
+/// its first bytes show it.
 ///
 /// # Errors
 ///
-/// `Memory` where there is none left.
+/// `Memory` if memory runs out.
 pub fn capture_note(
     alloc: Global,
     name: &str,

@@ -1,10 +1,10 @@
-//! Which steps of a script a refusal speaks of.
+//! Finds the steps of a script that a refusal is about.
 use crate::refused::{Cause, Refused, SetWords};
 use set_model::{Interval, Memory, Schema, Script, SetDecl, Step, Verb};
 use std::alloc::Global;
 use text_pieces::family_word;
 
-/// How many changes of one line are looked at.
+/// How many changes of one line are considered.
 const MOST_ON_LINE: usize = 16;
 
 /// A change of a script: its place among all steps, its line, and its intervals.
@@ -16,7 +16,8 @@ pub(crate) struct Change<'a> {
     pub(crate) parts: &'a [Interval],
 }
 
-/// What a refusal speaks of: the change, and the element in its way, each where no other can be meant.
+/// What a refusal is about: the change, and the element in its way. Each is there if no other can be
+/// meant.
 #[derive(Clone, Copy)]
 pub(crate) struct Spoken<'a> {
     pub(crate) change: Option<Change<'a>>,
@@ -29,7 +30,7 @@ fn is_set(decl: &SetDecl, words: SetWords<'_>) -> bool {
         && decl.name.as_slice() == words.name
 }
 
-/// The number of a set among those declared.
+/// The number of a set among the declared sets.
 pub(crate) fn set_number(schema: &Schema, words: SetWords<'_>) -> Option<u32> {
     let place = schema
         .as_slice()
@@ -50,12 +51,12 @@ fn adds(verb: Verb) -> bool {
     matches!(verb, Verb::Add | Verb::Create)
 }
 
-/// Whether intervals hold the first key of others.
+/// Whether intervals hold the lowest key of others.
 fn holds_start(older: &[Interval], newer: &[Interval]) -> bool {
     older.iter().zip(newer).all(|(part, other)| part.low <= other.low && other.low <= part.high)
 }
 
-/// Whether intervals hold the last key of others.
+/// Whether intervals hold the highest key of others.
 fn holds_end(older: &[Interval], newer: &[Interval]) -> bool {
     older.iter().zip(newer).all(|(part, other)| part.low <= other.high && other.high <= part.high)
 }
@@ -65,7 +66,7 @@ fn shares(older: &[Interval], newer: &[Interval]) -> bool {
     older.iter().zip(newer).all(|(part, other)| part.low <= other.high && other.low <= part.high)
 }
 
-/// Whether an element may be the one that refuses a change so.
+/// Whether an element may be the reason for which a change was refused so.
 fn may_refuse(cause: Cause, is_disjoint: bool, older: &[Interval], newer: &[Interval]) -> bool {
     match cause {
         Cause::Exists => older == newer,
@@ -79,7 +80,7 @@ fn may_refuse(cause: Cause, is_disjoint: bool, older: &[Interval], newer: &[Inte
     }
 }
 
-/// The changes of a line that may be the refused one, so many at most.
+/// The changes of a line that may be the refused one, up to so many.
 fn changes_of<'a>(
     alloc: Global,
     script: &'a Script,
@@ -151,8 +152,8 @@ fn olders_of<'a>(
     (first, is_only)
 }
 
-/// What a refusal speaks of. A change whose line has more that may be meant isn't named, nor an element of which there are
-/// more that may be in its way.
+/// What a refusal is about. A change isn't named if its line has others that may be meant. An element
+/// isn't named if others may be in the change's way.
 pub(crate) fn spoken_of<'a>(
     alloc: Global,
     script: &'a Script,

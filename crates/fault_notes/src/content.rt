@@ -1,8 +1,8 @@
-//! What a file is in place of the one that was asked for, by its first bytes and words.
+//! Finds out, by first bytes and words, what a file is instead of the one that was asked for.
 use crate::help::TextKind;
 use crate::source::first_line;
 
-/// A file that is no text of this program, by its first bytes.
+/// What a file is that is no text of this program, by its first bytes.
 pub(crate) fn foreign(text: &[u8]) -> Option<&'static [u8]> {
     if text.starts_with(b"\x1f\x8b") {
         return Some(b"this is a file that gzip has packed: unpack it first");
@@ -22,7 +22,7 @@ pub(crate) fn foreign(text: &[u8]) -> Option<&'static [u8]> {
     None
 }
 
-/// The first bytes of pcap files: of microseconds and of nanoseconds, in both orders of bytes.
+/// Whether the first bytes are of a pcap file, in microseconds or nanoseconds and in either byte order.
 fn is_pcap(text: &[u8]) -> bool {
     text.starts_with(b"\xd4\xc3\xb2\xa1")
         || text.starts_with(b"\xa1\xb2\xc3\xd4")
@@ -34,7 +34,7 @@ fn is_blank(byte: u8) -> bool {
     byte == b' ' || byte == b'\t' || byte == b'\r'
 }
 
-/// The bytes behind the blanks at the front.
+/// The bytes after the blanks at the front.
 pub(crate) fn without_blanks(text: &[u8]) -> &[u8] {
     match text.iter().position(|b| !is_blank(*b)) {
         Some(i) => &text[i..],
@@ -70,7 +70,7 @@ fn begins_a_rules_file(word: &[u8]) -> bool {
     matches!(word, b"chain" | b"policy")
 }
 
-/// A text of another grammar, by the line of its bad token.
+/// What a text of another grammar is, by the line of its bad token.
 pub(crate) fn swapped(kind: TextKind, line: &[u8]) -> Option<&'static [u8]> {
     let word = first_word(without_blanks(line));
     match kind {

@@ -3,20 +3,20 @@ use crate::note::Note;
 use set_model::Memory;
 use token_forms::{TokenKind, Tokens};
 
-/// How many names of sets are told.
+/// How many names of sets are printed.
 const MOST_NAMES: u64 = 8;
 
 /// The name of a set that is being declared: the last word between the word `set` and its `{`.
 #[derive(Clone, Copy)]
 enum Declared<'a> {
-    /// The word `set` hasn't stood in this statement.
+    /// This statement has no word `set` so far.
     NoSet,
-    /// It has, and this is the last word behind it.
+    /// It has the word `set`, and this is the last word after it.
     Set(&'a [u8]),
 }
 
 impl<'a> Declared<'a> {
-    /// What a word makes of it.
+    /// What follows from one more word.
     fn behind(self, word: &'a [u8]) -> Declared<'a> {
         match self {
             Declared::NoSet if word == b"set".as_slice() => Declared::Set(b""),
@@ -27,7 +27,7 @@ impl<'a> Declared<'a> {
 }
 
 impl Note {
-    /// Adds a name of a set that was declared, as one of those told so far.
+    /// Adds the name of a declared set; `told` says how many were added before.
     fn declared_name(&mut self, name: &[u8], told: u64) -> Result<(), Memory> {
         self.say(if told == 0 {
             b"; those before it: "
@@ -37,7 +37,7 @@ impl Note {
         self.say(if told < MOST_NAMES { name } else { b".." })
     }
 
-    /// Adds the names of the sets that are declared before a place in a text, the first of them.
+    /// Adds the names of the first sets that are declared before a place in a text.
     pub(crate) fn declared_names(&mut self, text: &[u8], at: u64) -> Result<(), Memory> {
         let mut declared = Declared::NoSet;
         let mut told = 0u64;

@@ -1,4 +1,4 @@
-//! The notes on a file that isn't read.
+//! The notes on a file that can't be read.
 ghost use Rattle.std.specs.Prelude.{IfOk};
 ghost use Rattle.fault_notes.specs.Shown.{Begins, name_text};
 
@@ -7,7 +7,7 @@ use pip_base::FaultKind;
 use set_model::Memory;
 use std::alloc::Global;
 
-/// A note on a file: its name, and what is said of it.
+/// A note on a file: its name, and the text about it.
 fn told_of(alloc: Global, name: &str, said: &Note) -> Result<Note, Memory>
     ensures name { IfOk result (λ note. Begins (name_text name.now) note.bytes.items) }
 {
@@ -17,7 +17,7 @@ fn told_of(alloc: Global, name: &str, said: &Note) -> Result<Note, Memory>
     Ok(note)
 }
 
-/// The same of one line.
+/// A note on a file with one line.
 fn on_file(alloc: Global, name: &str, what: &[u8]) -> Result<Note, Memory>
     ensures name { IfOk result (λ note. Begins (name_text name.now) note.bytes.items) }
 {
@@ -27,7 +27,7 @@ fn on_file(alloc: Global, name: &str, what: &[u8]) -> Result<Note, Memory>
     told_of(alloc, name, &said)
 }
 
-/// The system's reason for a fault, in a person's words.
+/// The system's reason for a fault, in plain words.
 fn reason_of(kind: FaultKind) -> &'static [u8] {
     match kind {
         FaultKind::NotFound => b"there is no file of this name",
@@ -37,22 +37,23 @@ fn reason_of(kind: FaultKind) -> &'static [u8] {
     }
 }
 
-/// What a person is told of a file that can't be opened or read: its name, and the system's reason.
+/// The note on a file that can't be opened or read: its name, and the system's reason.
 ///
 /// # Errors
 ///
-/// `Memory` where there is none left.
+/// `Memory` if memory runs out.
 pub fn read_fault_note(alloc: Global, name: &str, kind: FaultKind) -> Result<Note, Memory>
     ensures name { IfOk result (λ note. Begins (name_text name.now) note.bytes.items) }
 {
     on_file(alloc, name, reason_of(kind))
 }
 
-/// What a person is told of a script that has more sections than `desk` runs: its name, how many it has, and the limit.
+/// The note on a script that has more sections than `desk` runs: its name, its number of sections, and
+/// the limit.
 ///
 /// # Errors
 ///
-/// `Memory` where there is none left.
+/// `Memory` if memory runs out.
 pub fn too_many_clerks_note(alloc: Global, name: &str, sections: u64) -> Result<Note, Memory>
     ensures name { IfOk result (λ note. Begins (name_text name.now) note.bytes.items) }
 {
@@ -66,11 +67,11 @@ pub fn too_many_clerks_note(alloc: Global, name: &str, sections: u64) -> Result<
     told_of(alloc, name, &said)
 }
 
-/// What a person is told of a file that has more bytes than an input file may have: its name, and the limit.
+/// The note on a file that has more bytes than an input file may have: its name, and the limit.
 ///
 /// # Errors
 ///
-/// `Memory` where there is none left.
+/// `Memory` if memory runs out.
 pub fn too_large_note(alloc: Global, name: &str) -> Result<Note, Memory>
     ensures name { IfOk result (λ note. Begins (name_text name.now) note.bytes.items) }
 {

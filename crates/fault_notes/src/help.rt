@@ -1,7 +1,7 @@
-//! What could stand in a bad token's place, or what to do.
+//! What could come in a bad token's place, or what to do.
 use token_forms::Reason;
 
-/// Which grammar a text was read in.
+/// The grammar in which a text was read.
 #[derive(Clone, Copy, Debug, PartialEq, Eq)]
 pub enum TextKind {
     Script,
@@ -10,7 +10,7 @@ pub enum TextKind {
     Plan,
 }
 
-/// What is said of a bad token, behind its bytes.
+/// What a note says of a bad token, after its bytes.
 pub(crate) fn what_is_wrong(kind: TextKind, reason: Reason) -> &'static [u8] {
     match reason {
         Reason::Character => b" begins nothing that is read here (character)",
@@ -29,7 +29,7 @@ pub(crate) fn what_is_wrong(kind: TextKind, reason: Reason) -> &'static [u8] {
     }
 }
 
-/// What a word is that nft(8) reads and this program doesn't, and what to do.
+/// What a word means that nft(8) reads and this program doesn't, and what to do.
 fn for_left_out(word: &[u8]) -> &'static [u8] {
     match word {
         b"*" => b"an interval of all values is written with its ends or as a block, as 0.0.0.0/0",
@@ -49,7 +49,7 @@ fn for_left_out(word: &[u8]) -> &'static [u8] {
     }
 }
 
-/// What begins words and strings, by the first byte of a token that is neither.
+/// What begins words and strings. `first` is the first byte of a token that is neither.
 fn for_character(first: Option<&u8>) -> &'static [u8] {
     match first {
         Some(b'"') => b"a string has up to 128 bytes, and ends with '\"' in its line",
@@ -61,7 +61,7 @@ fn for_character(first: Option<&u8>) -> &'static [u8] {
     }
 }
 
-/// What is missing where a text ends too early.
+/// What is missing if a text ends too early.
 fn for_end(kind: TextKind) -> &'static [u8] {
     match kind {
         TextKind::Rules =>
@@ -71,7 +71,7 @@ fn for_end(kind: TextKind) -> &'static [u8] {
     }
 }
 
-/// The words of a field's place: the types of a script's sets, or the selectors of a plan.
+/// The words for a field: the types of a script's sets, or the selectors of a plan.
 fn for_type(kind: TextKind) -> &'static [u8] {
     match kind {
         TextKind::Plan =>
@@ -107,7 +107,7 @@ fn for_set(kind: TextKind) -> &'static [u8] {
     }
 }
 
-/// What could stand where a word fits nothing.
+/// What could come in place of a word that fits nothing.
 fn for_statement(kind: TextKind, is_first: bool) -> &'static [u8] {
     match kind {
         TextKind::Script if is_first =>
@@ -123,7 +123,8 @@ fn for_statement(kind: TextKind, is_first: bool) -> &'static [u8] {
     }
 }
 
-/// What could stand in a bad token's place, or what to do. `is_first` says that it is the first of its line.
+/// What could come in a bad token's place, or what to do. `is_first` says whether the token is the
+/// first of its line.
 pub(crate) fn help(kind: TextKind, reason: Reason, token: &[u8], is_first: bool) -> &'static [u8] {
     match reason {
         Reason::Character => for_character(token.first()),

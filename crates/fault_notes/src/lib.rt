@@ -1,13 +1,21 @@
-//! What a person is told beside the output, on the standard error: where a text isn't in its grammar and what could stand
-//! there, why a file isn't read or is no capture, and which elements refused changes speak of.
+//! Explains refused texts, unreadable files and refused changes to a person, on the standard error.
 //!
-//! Each note begins with a file's name and, where a token or a byte is bad, its place: so far it is
-//! proved, and the words behind it are tested. Every byte of it is shown so that it can't move a
+//! A note on the token `1o24` of a key file, at line 1 and column 19, begins with the file's name and
+//! the token's place. Then it has the token and the reason, its line with a caret under each of its
+//! bytes, and a help line:
+//!
+//!     packets.keys:1:19: '1o24' ... (value)
+//!     ip t p 10.0.0.5 . 1o24
+//!                       ^^^^
+//!     help: ...
+//!
+//! It is proved that a note on a file begins with its name, and with the place of the bad token or byte
+//! if there is one. Tests check the words after it, and the notes on refused changes. A byte of a text
+//! or a name that isn't printable ASCII appears as its number, as `\x1b` does. So no file can move a
 //! terminal.
 //!
-//! **Definitions:** `specs/Shown.antt` says how a byte is shown and what a note begins with,
-//! `Told.antt` that one note is told or nothing. **Theory:** docs/formats.md, "The standard error", and
-//! docs/DECISIONS.md, "What a person is told".
+//! **Definitions:** `specs/Shown.antt` says how a byte is shown and how a note begins. `Told.antt` says
+//! that one note is printed, or nothing. **Theory:** docs/formats.md, "The standard error".
 #![tactic(auto)]
 
 mod bad;

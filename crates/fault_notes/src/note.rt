@@ -5,8 +5,8 @@ use itoa::Buffer;
 use set_model::Memory;
 use std::alloc::Global;
 
-/// A text for a person. It has printable ASCII, tabs and line feeds alone: whatever a file and its name hold, no byte of
-/// theirs moves a terminal.
+/// A text for a person. It has only printable ASCII, tabs and line feeds. So no byte of a file or a
+/// name moves a terminal.
 #[derive(Drop)]
 pub struct Note {
     bytes: Vec<u8>,
@@ -29,7 +29,7 @@ fn hex(digit: u8) -> u8
 }
 
 impl Note {
-    /// A note that says nothing yet. It takes no memory.
+    /// An empty note. It takes no memory.
     pub(crate) fn new(alloc: Global) -> Note
         ensures { result.bytes.items ≡ [] }
     {
@@ -54,7 +54,7 @@ impl Note {
         Ok(())
     }
 
-    /// Adds a byte, or its number where it isn't printable.
+    /// Adds a byte, or its number if it isn't printable.
     fn byte(&mut self, byte: u8) -> Result<(), Memory>
         ensures { OnOk result (self.new.bytes.items ≡ self.old.bytes.items ++ shown_byte byte) }
     {
@@ -65,7 +65,7 @@ impl Note {
         }
     }
 
-    /// Adds a text as it can be shown.
+    /// Adds a text, with each byte as it is shown.
     pub(crate) fn say(&mut self, text: &[u8]) -> Result<(), Memory>
         ensures { OnOk result (self.new.bytes.items ≡ self.old.bytes.items ++ shown text.now) }
     {
@@ -86,7 +86,7 @@ impl Note {
         self.say(digits.format(n).as_bytes())
     }
 
-    /// Adds the name of a text, and the place in it that is spoken of.
+    /// Adds the name of a text, and a place in it.
     #[tactic(auto, using(crate::proofs::ShownLaws::shown_both))]
     pub(crate) fn place(&mut self, name: &[u8], line: u64, column: u64) -> Result<(), Memory>
         ensures { OnOk result (self.new.bytes.items ≡ self.old.bytes.items ++ place_text name.now line column) }
@@ -99,7 +99,7 @@ impl Note {
         self.say(b": ")
     }
 
-    /// Adds the name of a file, and the byte in it that is spoken of.
+    /// Adds the name of a file, and a byte's place in it.
     #[tactic(auto, using(crate::proofs::ShownLaws::shown_both))]
     pub(crate) fn byte_place(&mut self, name: &[u8], byte: u64) -> Result<(), Memory>
         ensures { OnOk result (self.new.bytes.items ≡ self.old.bytes.items ++ byte_text name.now byte) }
@@ -110,7 +110,7 @@ impl Note {
         self.say(b": ")
     }
 
-    /// Adds the name of a file that is spoken of.
+    /// Adds the name of a file.
     #[tactic(auto, using(crate::proofs::ShownLaws::shown_both))]
     pub(crate) fn file(&mut self, name: &[u8]) -> Result<(), Memory>
         ensures { OnOk result (self.new.bytes.items ≡ self.old.bytes.items ++ name_text name.now) }

@@ -8,7 +8,7 @@ use set_model::{Interval, Kind, Memory, Script, is_good};
 use std::alloc::Global;
 use token_forms::{TokenKind, Tokens};
 
-/// How many refused changes are told one by one.
+/// How many refused changes are printed one by one.
 const MOST_TOLD: u64 = 20;
 
 impl Note {
@@ -34,7 +34,7 @@ impl Note {
     }
 }
 
-/// The column of the first word in a line that stands for an interval.
+/// The column of the first word in a line that means an interval.
 fn column_of(text: &[u8], line: u64, kind: Kind, part: Interval) -> Option<u64> {
     for token in Tokens::new(text) {
         if token.line > line {
@@ -51,7 +51,7 @@ fn column_of(text: &[u8], line: u64, kind: Kind, part: Interval) -> Option<u64> 
     None
 }
 
-/// A run that is spoken of: the script's name, its text, and what that stands for.
+/// The run of a note: the script's name, its text, and what the text means.
 #[derive(Clone, Copy)]
 struct Told<'a> {
     name: &'a [u8],
@@ -59,7 +59,7 @@ struct Told<'a> {
     script: &'a Script,
 }
 
-/// What is said of a refused change in place of the element that is in its way.
+/// What a note says of a refused change if it doesn't name the element in the way.
 fn alone(cause: Cause) -> &'static [u8] {
     match cause {
         Cause::Overlap => b" overlaps an element that is there",
@@ -89,7 +89,7 @@ fn add_older(
     note.say(b")")
 }
 
-/// Adds the place of a change: its line, and its column where its first interval is found there.
+/// Adds the place of a change: its line, and its column if its first interval is found there.
 fn add_place(
     note: &mut Note,
     told: Told<'_>,
@@ -141,7 +141,7 @@ fn add_refusal(
     note.end_line()
 }
 
-/// Adds how many refused changes aren't told one by one.
+/// Adds how many refused changes weren't printed one by one.
 fn add_rest(note: &mut Note, name: &[u8], count: u64) -> Result<(), Memory> {
     if count <= MOST_TOLD {
         return Ok(());
@@ -162,13 +162,15 @@ fn add_failed(note: &mut Note, name: &[u8], is_failed: bool) -> Result<(), Memor
     note.end_line()
 }
 
-/// What a person is told of a run whose changes were refused, by the lines of its output: for each refused change, up to 20,
-/// its element, and the one that is in its way with that one's line, each where no other can be meant; how many more there
-/// are; and, of a listing and a dump, that the last transaction failed where it did. The script is the one of the text.
+/// The note on a run with refused changes, by the lines of its output. `text` is the script's.
+///
+/// For each of the first 20 refused changes it has the change's element, and the element in its way
+/// with that one's line. Each is there if no other can be meant. Then it says how many more there are.
+/// For a listing or a dump it says that the last transaction failed, if it did.
 ///
 /// # Errors
 ///
-/// `Memory` where there is none left.
+/// `Memory` if memory runs out.
 pub fn refusals_note(
     alloc: Global,
     name: &str,

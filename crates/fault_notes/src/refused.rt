@@ -1,12 +1,12 @@
-//! The refused changes of a run, as the lines of its output tell them.
+//! Reads the refused changes of a run from the lines of its output.
 use crate::source::first_line;
 use addr_text::read_number;
 
-/// The greatest number that a line tells of a line, a field or an element.
+/// The greatest number of a line, a field or an element that is read from a line.
 const MOST: u64 = 1_000_000_000_000_000;
 
-/// Why a change was refused: the word of the model's `Why` alone, without the element's id or the field's number. A note finds
-/// the element in the script instead, since the ids that lines give begin anew behind an abort.
+/// Why a change was refused: the word of the model's `Why` alone, without the element's id or the
+/// field's number. A note finds the element in the script instead, since ids begin anew after an abort.
 #[derive(Clone, Copy, PartialEq, Eq)]
 pub(crate) enum Cause {
     Overlap,
@@ -24,17 +24,18 @@ pub(crate) struct SetWords<'a> {
     pub(crate) name: &'a [u8],
 }
 
-/// A refused change: the line of the script that it stands in, and its set.
+/// A refused change: its line of the script, and its set.
 #[derive(Clone, Copy)]
 pub(crate) struct Refused<'a> {
-    /// Whether it is told of one of several control threads, whose sections don't follow the script's order.
+    /// Whether the refusal is of one of several control threads. Their sections don't follow the
+    /// script's order.
     pub(crate) is_by_thread: bool,
     pub(crate) line: u64,
     pub(crate) cause: Cause,
     pub(crate) set: SetWords<'a>,
 }
 
-/// The bytes before the first blank, and those behind it.
+/// The bytes before the first blank, and those after it.
 fn next_word(line: &[u8]) -> (&[u8], &[u8]) {
     match line.iter().position(|b| *b == b' ') {
         Some(i) => (&line[..i], &line[i + 1..]),
@@ -58,7 +59,8 @@ fn without_comment(line: &[u8]) -> &[u8] {
     line.strip_prefix(b"# ").unwrap_or(line)
 }
 
-/// A line of an output without what stands in front of an event: the mark of a comment, and the control thread of a `desk`.
+/// A line of an output without the text before its event: the mark of a comment, and the control thread
+/// of a `desk`.
 pub(crate) fn without_mark(line: &[u8]) -> &[u8] {
     let told = without_comment(line);
     match told.strip_prefix(b"clerk ") {
@@ -67,7 +69,8 @@ pub(crate) fn without_mark(line: &[u8]) -> &[u8] {
     }
 }
 
-/// The refused change that a line tells, as `line 4 refused overlap ip t s element 0`, behind `# ` or `# clerk 1 ` too.
+/// The refused change of a line such as `line 4 refused overlap ip t s element 0`, also after `# ` or
+/// `# clerk 1 `.
 pub(crate) fn refused_by(line: &[u8]) -> Option<Refused<'_>> {
     let behind = without_mark(line).strip_prefix(b"line ")?;
     let (number, behind) = next_word(behind);
@@ -88,7 +91,7 @@ pub(crate) fn refused_by(line: &[u8]) -> Option<Refused<'_>> {
     })
 }
 
-/// The first line of a text, and the bytes behind its line feed.
+/// The first line of a text, and the bytes after its line feed.
 pub(crate) fn next_line(text: &[u8]) -> (&[u8], &[u8]) {
     let line = first_line(text);
     (line, &text[text.len().min(line.len().saturating_add(1))..])

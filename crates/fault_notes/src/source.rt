@@ -1,4 +1,4 @@
-//! The line that a token stands in, and the token under it.
+//! Shows the line of a token, with the token marked in it.
 ghost use Rattle.std.specs.Prelude.{◌≤◌, ◌+◌, length};
 
 use crate::content::without_blanks;
@@ -6,14 +6,14 @@ use crate::note::Note;
 use set_model::Memory;
 use token_forms::BadToken;
 
-/// How many bytes of a line are shown before a token, of the token, and behind it.
+/// How many bytes of a line are shown before a token, of the token, and after it.
 const BEFORE: usize = 100;
 
 const OF_TOKEN: usize = 60;
 
 const BEHIND: usize = 40;
 
-/// A line of a text with a token in it, cut where it is long.
+/// A line of a text with a token in it, cut if it is long.
 #[derive(Clone, Copy)]
 pub(crate) struct Cut<'a> {
     /// The whole line.
@@ -26,17 +26,17 @@ pub(crate) struct Cut<'a> {
     has_more_behind: bool,
 }
 
-/// The last bytes of a text, so many at most.
+/// The last bytes of a text, up to so many.
 fn last_of(text: &[u8], most: usize) -> &[u8] {
     &text[text.len().saturating_sub(most)..]
 }
 
-/// The first bytes of a text, so many at most.
+/// The first bytes of a text, up to so many.
 fn first_of(text: &[u8], most: usize) -> &[u8] {
     &text[..text.len().min(most)]
 }
 
-/// The bytes behind the last line feed.
+/// The bytes after the last line feed.
 pub(crate) fn last_line(text: &[u8]) -> &[u8]
     ensures { length result.now ≤ length text.now }
 {
@@ -54,7 +54,7 @@ pub(crate) fn first_line(text: &[u8]) -> &[u8] {
     }
 }
 
-/// The bad token in its line. A token that goes on over lines is cut at the first one's end.
+/// The bad token in its line. A token of several lines is cut at the end of the first one.
 pub(crate) fn cut_at<'a>(text: &'a [u8], bad: BadToken) -> Cut<'a> {
     let (front, rest) = text.split_at(text.len().min(bad.at as usize));
     let before = last_line(front);
@@ -94,7 +94,8 @@ impl Note {
         Ok(())
     }
 
-    /// Adds a mark under each of some bytes of a line, as wide as it is shown. A tab stays one under blanks.
+    /// Adds a mark under each of these bytes of a line, as wide as the byte is shown. A tab stays a tab
+    /// under blanks.
     fn mark(&mut self, bytes: &[u8], mark: u8) -> Result<(), Memory> {
         for byte in bytes {
             let added = match *byte {
@@ -110,7 +111,7 @@ impl Note {
         Ok(())
     }
 
-    /// Adds a token between quotes, cut where it is long.
+    /// Adds a token between quotes, cut if it is long.
     pub(crate) fn quoted(&mut self, token: &[u8]) -> Result<(), Memory> {
         self.say(b"'")?;
         self.say(first_of(token, OF_TOKEN))?;

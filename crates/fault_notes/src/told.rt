@@ -1,4 +1,4 @@
-//! How a note is told.
+//! Hands a note to the notes.
 ghost use Rattle.std.specs.Prelude.{◌≡◌, IfOk, OnErr};
 ghost use Rattle.pip_base.specs.Notes.{Tells};
 ghost use Rattle.fault_notes.specs.Told.{MayTell};
@@ -7,7 +7,7 @@ use crate::note::Note;
 use pip_base::Notes;
 use set_model::Memory;
 
-/// Tells a note. Where memory was wanting for it nothing is told.
+/// Prints a note. It prints nothing if memory ran out for the note.
 pub fn tell_note<N: Notes>(notes: &mut N, made: Result<Note, Memory>)
     ensures tells { IfOk made (λ note. Tells (N.told notes.old) (N.told notes.new) note.bytes.items) }
     ensures told { IfOk made (λ note. MayTell (λ text. text ≡ note.bytes.items) (N.told notes.old) (N.told notes.new)) }

@@ -42,7 +42,7 @@ seen_last schema seen g h ends =
     let last = grown_last schema 0 ends.0 g (subst (Grown schema 0) ends.1 h.grown) in let n = last.0 in
     let e = ap length ends.1 in let a = length-append ends.0 (g ∷ []) in (omega (arith, n, e, a), last.1)
 
--- Sets of the declared kinds are as many as the declared sets.
+-- There are as many sets of the declared kinds as declared sets.
 pub as_many : (sets : List State) (schema : List SetDecl) → kinds_of sets ≡ declared_kinds schema → length sets ≡ length schema
 as_many sets schema e = let a = length-map sets (λ (s : State). s.kinds) in let b = length-map schema (λ (d : SetDecl). d.kinds) in let l = ap length e in omega (arith, a, b, l)
 
@@ -76,11 +76,11 @@ module _ (schema : List SetDecl) (made : List Generation) (w : Open) (steered : 
     next_follows : (g : Generation) → EndsWith made g → Follows g (sealed w now)
     next_follows g last = subst (λ (z : Generation). Follows z (sealed w now)) (one_last made w.base g steered.last last) (refl, next_kinds ∙ sym base_is.1)
 
-    -- What values show that show the sealed generation may be published next.
+    -- Values that show the sealed generation may be published next.
     pub shown_follows : {T : Type 0} (state : T → Generation) (ys : List (Option T)) (x y : Generation) → 0 < length ys → AllShow state (sealed w now) ys → AllShow state x ys → EndsWith made y → Follows y x
     shown_follows state ys x y some next shows last = subst (Follows y) (all_show_same state (sealed w now) x ys some next shows) (next_follows y last)
 
-    -- The work stands on it once it is published.
+    -- The work is based on it after it is published.
     pub steered_next : IsSteered schema (made ++ sealed w now ∷ []) (opened (sealed w now))
     steered_next = record { last = (made, refl); grown = grown_more schema 0 made (sealed w now) steered.grown (let n = base_is.0 in omega (arith, n)) next_kinds; open_sets = next_kinds }
 

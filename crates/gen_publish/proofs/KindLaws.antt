@@ -1,4 +1,4 @@
--- A change of one set keeps the kinds of all, and so the work goes on from where it stood.
+-- A change of one set keeps the kinds of all, and so the work is still based on the same generation.
 use Rattle.std.proofs.Common.{◌≡◌, ◌<◌, refl, sym, ◌∙◌, ap, ℕ, zero, suc, List, [], ◌∷◌, Option, Some, None, Result, Ok, Err, slice_get, slice_set, option_map, length, Bool, true, IsTrue, ◌↔◌, subst, arith}
 use Rattle.std.proofs.lemmas.Option.{slice_get-map, slice_get_within, slice_get-get_or}
 use Rattle.set_model.specs.declared.kind.Interval.{Interval}
@@ -109,7 +109,7 @@ seen_fits schema seen g p h ends fits =
     let same = (seen_last schema seen g h ends).1 in let many = as_many g.sets schema same in let within = slice_get_within schema p.set fits.set fits.declared in
     (omega (arith, many, within), λ s at. subst (λ k. key_fits k p.key ≡ true) (sym (declared_at schema g.sets p.set fits.set s same fits.declared at)) fits.fits)
 
--- Intervals fit an open set exactly where they fit the declared one.
+-- Intervals fit an open set exactly if they fit the declared one.
 pub fits_open : (schema : List SetDecl) (made : List Generation) (w now : Open) (set : ℕ) (d : SetDecl) (parts : List Interval) (b : Bool) → IsSteered schema made w → w ≡ now → slice_get schema set ≡ Some d
     → b ≡ parts_fit d.kinds parts → IsTrue b ↔ ((set < length now.sets) × FitsSet now set parts)
 fits_open schema made w now set d parts b h is declared test =

@@ -20,7 +20,7 @@ kinds_of sets = map (λ s. s.kinds) sets
 abbrev pub declared_kinds : List SetDecl → List (List Kind)
 declared_kinds schema = map (λ d. d.kinds) schema
 
--- After a generation may come another that has the next number, and sets of the same kinds.
+-- A generation may follow another if it has the next number and sets of the same kinds.
 abbrev pub Follows : Generation → Generation → Type 0
 Follows a b = (b.number ≡ a.number + 1) × (kinds_of b.sets ≡ kinds_of a.sets)
 
@@ -29,8 +29,8 @@ abbrev pub Grown : List SetDecl → ℕ → List Generation → Type 0
 Grown schema k [] = Unit {0}
 Grown schema k (g ∷ gs) = (g.number ≡ k) × (kinds_of g.sets ≡ declared_kinds schema) × Grown schema (k + 1) gs
 
--- A control: which start it is of, the declared sets, how many readers it has, the committed generations, and the work
--- on the last of them.
+-- A control: its start, the declared sets, how many readers it has, the committed generations, and the
+-- open work.
 pub record Steering : Type 0 where
   pub of : TableId
   pub schema : List SetDecl
@@ -38,14 +38,15 @@ pub record Steering : Type 0 where
   pub committed : List Generation
   pub work : Open
 
--- The work stands on the last of the committed generations, which are numbered from 0 on, and all sets have the
--- declared kinds.
+-- The open work is based on the last committed generation. The generations are numbered from 0, and all
+-- sets have the declared kinds.
 pub record IsSteered (schema : List SetDecl) (committed : List Generation) (work : Open) : Type 0 where
   pub last : EndsWith committed work.base
   pub grown : Grown schema 0 committed
   pub open_sets : kinds_of work.sets ≡ declared_kinds schema
 
--- the control after a commit at a moment: one generation more, the open sets without what is expired, and no open change
+-- the control after a commit at a moment: one more generation, which is the open sets without what is
+-- expired, and no open change
 abbrev pub after_commit : Steering → ℕ → Steering
 after_commit c now = let g : Generation = sealed c.work now in record c { committed = c.committed ++ g ∷ []; work = opened g }
 
@@ -54,8 +55,8 @@ abbrev pub IsCommit : Steering → ℕ → Steering → Receipt → Type 0
 IsCommit old now new receipt =
     (new ≡ after_commit old now) × (receipt.generation ≡ old.work.base.number + 1) × (receipt.purged ≡ expired_count old.work.sets now)
 
--- A reader, holding or not: which start it is of, the declared sets, the generations that it has seen, its number, and
--- how many atomic additions it has made.
+-- A reader, holding or not: its start, the declared sets, the generations that it has seen, its number,
+-- and how many atomic additions it has made.
 pub record ReaderView : Type 0 where
   pub of : TableId
   pub schema : List SetDecl
@@ -72,7 +73,7 @@ pub record IsSeen (schema : List SetDecl) (seen : List Generation) : Type 0 wher
   pub some : 0 < length seen
   pub grown : Grown schema 0 seen
 
--- A note: which start it is of, and the generations that its giver had seen.
+-- A note: its start, and the generations that its giver had seen.
 pub record Noted : Type 0 where
   pub of : TableId
   pub list : List Generation
@@ -82,7 +83,8 @@ abbrev pub AllFresh : TableId → List SetDecl → List Generation → ℕ → L
 AllFresh z schema seen k [] = Unit {0}
 AllFresh z schema seen k (p ∷ ps) = (p ≡ record { of = z; schema = schema; seen = seen; reader = k; moves = 0 }) × AllFresh z schema seen (k + 1) ps
 
--- A lookup in a generation answers the first element of the set at a place that is live and holds the key.
+-- A lookup in a generation returns the first element of the set at a place that is live and holds the
+-- key.
 pub record IsLookup (g : Generation) (set : ℕ) (key : List ℕ) (now : ℕ) (answer : Option Found) : Type 0 where
   pub state : State
   pub at : slice_get g.sets set ≡ Some state

@@ -1,4 +1,4 @@
-//! What lies in a berth of a slot: one reader's pointer to the slot's generation.
+//! The content of a slot's berth: one reader's pointer to the slot's generation.
 ghost use Rattle.std.specs.Prelude.{◌≡◌, length, IfOk};
 ghost use Rattle.std.specs.Arc.{arc_value};
 ghost use Rattle.history_laws.specs.States.{AllShow, AllAre};
@@ -26,7 +26,7 @@ impl Version for Berth {
     ghost follows = { Follows };
 }
 
-/// One for each reader, to start with.
+/// The berths at the start, one for each reader.
 #[tactic(auto, using(crate::proofs::Berths::all_are_more))]
 pub(crate) fn first_berths(
     alloc: Global,
@@ -44,7 +44,7 @@ pub(crate) fn first_berths(
     Ok(berths)
 }
 
-/// One for each reader, to be published.
+/// The berths of the next generation, one for each reader.
 #[tactic(auto, using(crate::proofs::Berths::all_show_more))]
 pub(crate) fn next_berths(
     alloc: Global,

@@ -21,8 +21,8 @@ use std::marker::{Brand, Model};
 use std::sync::Arc;
 use std::sync::ledger::{Blank, Ledger};
 
-/// The committed generations, and the work on the last of them: the open sets. Only a commit changes what readers may
-/// find.
+/// The committed generations, and the open sets, which began as the last generation's. Only a commit
+/// changes what readers may find.
 #[derive(Drop)]
 pub struct Control {
     alloc: Global,
@@ -44,7 +44,7 @@ impl Model for Control {
     ghost invariant = { λ c. IsSteered (arc_value c.schema) c.writer.made c.work × (c.readers ≡ c.writer.readers) × (0 < c.readers) };
 }
 
-/// A commit with a step counter of its own.
+/// A commit that counts its steps by this counter.
 fn commit_with<L: Ledger>(control: &mut Control, now: u64, blank: Blank) -> Result<Receipt, Memory>
     requires number { control.old.work.base.number < 2 ^ 63 }
     requires blank { (blank.name ≡ L.name) × (blank.parts ≡ L.parts) × (blank.parts ≡ 1) }
@@ -97,8 +97,8 @@ impl Control {
         self.work.base().number
     }
 
-    /// The work stands on the last of the committed generations, which are numbered from 0 on, and all sets have the
-    /// declared kinds. It does nothing.
+    /// The open work is based on the last committed generation. The generations are numbered from 0,
+    /// and all sets have the declared kinds. It does nothing.
     pub fn known(&self)
         ensures last { EndsWith self.now.committed self.now.work.base }
         ensures grown { Grown self.now.schema 0 self.now.committed }
@@ -107,8 +107,8 @@ impl Control {
         let _ = &self.readers;
     }
 
-    /// Whether these intervals may be handed to `insert` and `create`: the set is declared, and there is one interval per
-    /// field, of its kind.
+    /// Whether `insert` and `create` accept these intervals: the set is declared, and each field has
+    /// one interval of its kind.
     pub fn fits(&self, set: u32, parts: &Parts) -> bool
         ensures { IsTrue result ↔ ((set < length self.now.work.sets) × FitsSet self.now.work set parts.now) }
     {
@@ -116,14 +116,18 @@ impl Control {
         place < self.schema.len() && parts_fit(&self.schema.at(place).kinds, parts)
     }
 
-    /// Inserts into an open set. `now` is in milliseconds. Where a live element of the same intervals is
-    /// there, it stays, and takes the new expiry if one is handed in.
+    /// Inserts into an open set. `now` is in milliseconds. If a live element has the same intervals, it
+    /// stays, and takes the new expiry if there is one.
     ///
     /// # Errors
     ///
-    /// `Overlap` if a live element holds the start key and has other intervals, or else holds the end key, and in a disjoint
-    /// set if one shares any key; then `Full`; then `RulesFull` with the first field that would have too many rules. `Memory`
-    /// if there is none left. Each leaves the control as it was.
+    /// The first of these that applies; each leaves the control as it was.
+    ///
+    /// - `Overlap` if a live element holds the start key and has other intervals, or else holds the end key.
+    ///   In a disjoint set also if a live element shares any key.
+    /// - `Full` if the set has as many elements as it may have.
+    /// - `RulesFull` with the first field that would have too many rules.
+    /// - `Memory` if memory runs out.
     pub fn insert(&mut self, set: u32, element: &NewElement, now: u64) -> Result<Added, ChangeError>
         requires set { set < length self.old.work.sets }
         requires fits { FitsSet self.old.work set element.now.parts }
@@ -134,12 +138,12 @@ impl Control {
         self.work.insert(set, element, now)
     }
 
-    /// Inserts into an open set where no live element of the same intervals is there, and answers the new id.
+    /// Inserts into an open set if no live element has the same intervals, and returns the new id.
     ///
     /// # Errors
     ///
-    /// `Exists` if one is there, also where a new expiry is handed in. Then as of an insertion. Each leaves the control as
-    /// it was.
+    /// `Exists` if a live element has them, even if a new expiry is given. Then the errors of an
+    /// insertion. Each leaves the control as it was.
     pub fn create(&mut self, set: u32, element: &NewElement, now: u64) -> Result<u64, ChangeError>
         requires set { set < length self.old.work.sets }
         requires fits { FitsSet self.old.work set element.now.parts }
@@ -150,12 +154,12 @@ impl Control {
         self.work.create(set, element, now)
     }
 
-    /// Takes the first live element of exactly these intervals out of an open set, and answers its id.
+    /// Takes the first live element of exactly these intervals out of an open set, and returns its id.
     ///
     /// # Errors
     ///
-    /// `Missing` exactly if there is none, also where no memory is left. `Memory` if there is none left to take it out. Each
-    /// leaves the control as it was.
+    /// `Missing` exactly if there is no such element, even if no memory is left. `Memory` if memory
+    /// runs out. Each leaves the control as it was.
     pub fn delete(&mut self, set: u32, parts: &Parts, now: u64) -> Result<u64, ChangeError>
         requires { set < length self.old.work.sets }
         ensures change { IsChange (λ s t. IsRemoval (removed s parts.now now) result s t) self.old.work set self.new.work }
@@ -166,11 +170,11 @@ impl Control {
         self.work.delete(set, parts, now)
     }
 
-    /// As `delete`, and `None` where there is no such element, which takes no memory.
+    /// Does the same as `delete`, but returns `None` if there is no such element. This takes no memory.
     ///
     /// # Errors
     ///
-    /// `Memory` if there is none left to take it out. The control is as it was.
+    /// `Memory` if memory runs out. The control is as it was.
     pub fn destroy(&mut self, set: u32, parts: &Parts, now: u64) -> Result<Option<u64>, Memory>
         requires { set < length self.old.work.sets }
         ensures change { IsChange (λ s t. IsDestruction (removed s parts.now now) result s t) self.old.work set self.new.work }
@@ -181,11 +185,11 @@ impl Control {
         self.work.destroy(set, parts, now)
     }
 
-    /// Takes all elements out of an open set, and answers how many there were. Ids go on.
+    /// Takes all elements out of an open set, and returns how many there were. Ids go on.
     ///
     /// # Errors
     ///
-    /// `Memory` if there is none left. The control is as it was.
+    /// `Memory` if memory runs out. The control is as it was.
     pub fn flush(&mut self, set: u32) -> Result<u64, Memory>
         requires { set < length self.old.work.sets }
         ensures change { IsChange (λ s t. IsFlush result s t) self.old.work set self.new.work }
@@ -195,12 +199,12 @@ impl Control {
         self.work.flush(set)
     }
 
-    /// Commits the open sets, without the elements that are expired at `now`, in milliseconds, as the next generation. It
-    /// waits for nobody, and takes all its memory before its first change.
+    /// Commits the open sets as the next generation, without the elements that are expired at `now`, in
+    /// milliseconds. It waits for nobody, and takes all its memory before its first change.
     ///
     /// # Errors
     ///
-    /// `Memory` if there is none left. The control is as it was.
+    /// `Memory` if memory runs out. The control is as it was.
     pub fn commit(&mut self, now: u64) -> Result<Receipt, Memory>
         requires { self.old.work.base.number < 2 ^ 63 }
         ensures ok { IfOk result (IsCommit self.old now self.new) }
@@ -209,12 +213,12 @@ impl Control {
         commit_with::<Brand>(self, now, Blank::new(1))
     }
 
-    /// As `commit`, and counts a step for each slot that is looked at to find a free one: at most one for each reader and
-    /// one more.
+    /// Does the same as `commit`, and counts a step for each slot that it looks at to find a free one.
+    /// These are at most one more than there are readers.
     ///
     /// # Errors
     ///
-    /// `Memory` if there is none left. The control is as it was.
+    /// `Memory` if memory runs out. The control is as it was.
     pub fn commit_counted<L: Ledger>(
         &mut self,
         now: u64,
@@ -234,7 +238,7 @@ impl Control {
         Ok(Receipt { generation, purged })
     }
 
-    /// All open sets are the last generation's again. It takes no memory.
+    /// Makes all open sets those of the last generation again. It takes no memory.
     #[tactic(auto, using(crate::proofs::Growing::steered_abort))]
     pub fn abort(&mut self)
         ensures { self.new ≡ record self.old { work = opened self.old.work.base } }
@@ -242,7 +246,7 @@ impl Control {
         self.work.abort();
     }
 
-    /// What was committed, for a reader to know. It takes no memory.
+    /// A note of what was committed, for a reader. It takes no memory.
     pub fn note(&mut self) -> Note
         ensures note { (result.of ≡ self.old.of) × (result.list ≡ self.old.committed) }
         ensures same { self.new ≡ self.old }
@@ -252,7 +256,8 @@ impl Control {
         }
     }
 
-    /// The note's list begins what was committed. It takes no memory.
+    /// Takes a note of this start. Its list is a front of the committed generations. It takes no
+    /// memory.
     pub fn hear(&mut self, note: Note)
         requires { note.of ≡ self.old.of }
         ensures same { self.new ≡ self.old }

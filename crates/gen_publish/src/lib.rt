@@ -1,9 +1,8 @@
-//! A control that commits generations of sets, and up to sixteen readers that look keys up in them, each in a thread of
-//! its own. Nobody waits for anybody.
+//! Commits generations of sets by one control, while up to sixteen readers look keys up in them without waiting.
 //!
 //! # Theory of operation
 //!
-//! A *generation* is all sets as they stood at a commit, and the commit's number. It never changes. Take one set of
+//! A *generation* is all sets at the moment of a commit, and the commit's number. It never changes. Take one set of
 //! ports, a control and two readers:
 //!
 //! ```text
@@ -19,35 +18,31 @@
 //! ```
 //!
 //! **Changes.** `insert`, `create`, `delete`, `destroy` and `flush` change open sets that no reader sees. Port 443 is in
-//! the open set at once, and in no generation before the commit. An `abort` takes all open changes back, as that of 22.
+//! the open set at once, and in no generation before the commit. An `abort` takes all open changes back, here port 22.
 //!
-//! **Commit.** The next generation is the open sets, without the elements that are expired at the commit's moment; a set
-//! that is as it was is shared with the generation before. A commit first takes all its memory: what it has to copy,
-//! and for each reader a pointer to the new generation. Then it puts these pointers into a slot that no reader holds,
-//! publishes the slot by one atomic step, and goes on from the new generation. Where memory is wanting, nothing has
-//! changed.
+//! **Commit.** The next generation is the open sets, without the elements that are expired at the commit's moment. An
+//! unchanged set is shared with the generation before. A commit first takes all its memory: for what it has to copy, and
+//! for each reader a pointer to the new generation. It puts these pointers into a slot that no reader holds, and
+//! publishes the slot by one atomic step. If memory runs out, nothing has changed.
 //!
-//! **Enter and leave.** An enter counts the reader into the published slot by one atomic addition, and takes the reader's
-//! own pointer out of it. A leave puts the pointer back, and counts the reader out by another. Between them the reader
-//! holds its generation, whatever is committed: reader 0 finds no port 80 until it enters again. Neither takes memory,
-//! copies, waits or writes what other readers read.
+//! **Enter and leave.** An enter counts the reader into the published slot by one atomic addition. It takes the
+//! reader's own pointer out of the slot. A leave puts the pointer back, and counts the reader out by another addition.
+//! In between, the reader holds its generation, whatever is committed. So reader 0 finds no port 80 until it enters
+//! again. Neither call takes memory, copies, waits or writes what other readers read. A lookup takes no memory either.
+//! It returns the earliest inserted element that is live at the packet's moment and holds the key.
 //!
-//! **Lookup.** A lookup reads the tables of one set of the held generation, in rows of the reader's own, and answers the
-//! earliest inserted element that is live at the packet's moment and holds the key. It takes no memory.
+//! **Slots.** There are two more slots than readers. Each reader holds at most one, and one is published. So a commit
+//! always finds a free slot, and looks at none twice. It drops the old pointers that it finds there; a reader frees no
+//! memory. A `Held` that is dropped without a leave keeps its slot for good, and commits find another.
 //!
-//! **Slots.** There are two slots more than readers. Each reader holds one at most, and one is published, so a commit
-//! always finds a free one, and looks at no slot twice. What lay in it, pointers to an older generation, goes to the
-//! commit, which drops it: a reader gives no memory back. A `Held` that is dropped and never left keeps its one slot for
-//! good, and commits find another.
+//! **Notes.** The committed generations are one list, and a reader has seen a front of it, which never gets shorter. If
+//! an enter and a commit come at once, either may be first. After `meet` with a note of the control, an enter is no
+//! older than the last commit before that note. By `hear` the control learns that a reader has seen a front of the
+//! control's own list.
 //!
-//! **Notes.** The committed generations are one list, and what a reader has seen is a front of it, which never gets
-//! shorter. Where an enter and a commit come at once, the enter may fall on either side. After `meet` with a note of the
-//! control an enter is no older than the last commit before that note; `hear` tells the control that what a reader has
-//! seen is a front of its own list.
-//!
-//! **Definitions:** `specs/Publish.antt` has what contracts see of a control, a reader and a note. What
-//! a change does is said in `set_space` (`specs/Open.antt`, `Answers.antt`), and what a set is in
-//! `set_model`. **Proofs:** docs/proofs.md, "Control and readers (`gen_publish`)".
+//! **Definitions:** `specs/Publish.antt` has what contracts see of a control, a reader and a note. `set_space` says what
+//! a change does (`specs/Open.antt`, `Answers.antt`), and `set_model` what a set is. **Theory:** docs/architecture.md,
+//! "Readers beside a writer". **Proofs:** docs/proofs.md, "Control and readers (`gen_publish`)".
 #![tactic(auto)]
 
 mod berth;

@@ -1,4 +1,4 @@
-//! What one thread tells another.
+//! Notes that one thread hands to another.
 use crate::berth::Berth;
 use std::marker::Model;
 

@@ -15,15 +15,15 @@ use std::alloc::Global;
 use std::marker::Model;
 use std::sync::Arc;
 
-/// What a reader looks up with: the declared sets, and the rows that a lookup works in. These lie in a box, so that an
-/// enter and a leave move no more than a pointer to them.
+/// What a reader needs for lookups: the declared sets, and the rows that a lookup works in. They are in
+/// a box, so an enter and a leave move only a pointer to them.
 #[derive(Drop)]
 pub(crate) struct Tools {
     pub(crate) schema: Arc<Schema, Global>,
     pub(crate) scratch: Box<Scratch, Global>,
 }
 
-/// A reader that holds nothing.
+/// A reader that holds no generation.
 #[derive(Drop)]
 pub struct Reader {
     pass: Pass<Berth>,
@@ -41,7 +41,8 @@ impl Model for Reader {
     ghost invariant = { λ r. IsSeen (arc_value r.tools.schema) r.pass.seen };
 }
 
-/// A reader that holds a generation. The generation is kept until `leave`, and for good where the `Held` is dropped.
+/// A reader that holds a generation. The generation is kept until `leave`. If the `Held` is dropped
+/// instead, it is kept for good.
 #[derive(Drop)]
 pub struct Held {
     inner: gen_slots::Held<Berth>,
@@ -67,7 +68,8 @@ impl Reader {
         Reader { pass, tools }
     }
 
-    /// Holds the generation that is published at the one atomic addition which this makes. It takes no memory.
+    /// Makes one atomic addition, and holds the generation that is published at that moment. It takes
+    /// no memory.
     pub fn enter(self) -> Held
         ensures seen { StartsWith result.seen self.seen }
         ensures moves { result.moves ≡ self.moves + 1 }
@@ -79,7 +81,7 @@ impl Reader {
         Held { inner, tools }
     }
 
-    /// What this reader has seen, for another thread to know. It takes no memory.
+    /// A note of what this reader has seen, for another thread. It takes no memory.
     pub fn note(&mut self) -> Note
         ensures note { (result.of ≡ self.old.of) × (result.list ≡ self.old.seen) }
         ensures same { self.new ≡ self.old }
@@ -89,7 +91,8 @@ impl Reader {
         }
     }
 
-    /// The longer of both lists is seen from now on; the other begins it. It takes no memory.
+    /// Takes a note. The reader has then seen the longer of both lists; the other list is a front of
+    /// it. It takes no memory.
     pub fn meet(&mut self, note: Note)
         requires { note.of ≡ self.old.of }
         ensures seen { self.new ≡ record self.old { seen = longer self.old.seen note.list } }
@@ -110,7 +113,8 @@ impl Held {
         self.inner.get().generation.number
     }
 
-    /// Whether this key may be handed to `lookup`: the set is declared, and there is one value per field, of its kind.
+    /// Whether `lookup` accepts this key: the set is declared, and each field has one value of its
+    /// kind.
     pub fn fits(&self, set: u32, key: &Key) -> bool
         ensures { (now : ℕ) → (IsTrue result ↔ IsFitting self.now.schema (record { set = set; key = key.now; now = now })) }
     {
@@ -120,7 +124,7 @@ impl Held {
     }
 
     /// The first element of a set of the held generation that is live at `now`, in milliseconds, and holds the key. `None`
-    /// exactly where there is none. It takes no memory.
+    /// exactly if there is none. It takes no memory.
     pub fn lookup(&mut self, set: u32, key: &Key, now: u64) -> Option<Found>
         requires { IsFitting self.old.schema (record { set = set; key = key.now; now = now }) }
         ensures found { (g : Generation) → EndsWith self.old.seen g → IsLookup g set key.now now result }
@@ -133,7 +137,7 @@ impl Held {
             .find(key, now, &mut self.tools.scratch)
     }
 
-    /// Holds nothing from the one atomic addition on which this makes. It takes no memory.
+    /// Makes one atomic addition, after which the reader holds nothing. It takes no memory.
     pub fn leave(self) -> Reader
         ensures { result ≡ record self { moves = self.moves + 1 } }
     {

@@ -1,8 +1,8 @@
-/// What a commit made.
+/// The result of a commit.
 #[derive(Clone, Copy, Debug, PartialEq, Eq)]
 pub struct Receipt {
     /// The new generation's number.
     pub generation: u64,
-    /// How many elements of all sets were expired, and are not in it.
+    /// How many elements of all sets were expired. The new generation doesn't have them.
     pub purged: u64,
 }

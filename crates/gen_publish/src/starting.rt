@@ -1,4 +1,4 @@
-//! How a control and its readers start.
+//! Starts a control and its readers.
 ghost use Rattle.std.specs.Prelude.{◌≡◌, ◌<◌, ◌≤◌, ◌^◌, [], ◌∷◌, length, map, All, IfOk};
 ghost use Rattle.std.specs.Arc.{arc_value};
 ghost use Rattle.set_model.specs.Control.{first_generation};
@@ -15,7 +15,7 @@ use set_space::{Generation, Work};
 use std::alloc::Global;
 use std::sync::Arc;
 
-/// A reader for each pass.
+/// Makes a reader for each pass.
 fn seat(
     alloc: Global,
     passes: Vec<Pass<Berth>>,
@@ -35,11 +35,12 @@ fn seat(
     Ok(readers)
 }
 
-/// A control at generation 0, and its readers, which have seen that generation. The reader at place i has the number i.
+/// A control at generation 0, and its readers, which have seen that generation. The reader at place i
+/// has the number i.
 ///
 /// # Errors
 ///
-/// `Memory` if there is none left.
+/// `Memory` if memory runs out.
 pub fn start(alloc: Global, schema: Schema, readers: u32) -> Result<(Control, Vec<Reader>), Memory>
     requires count { (0 < readers) × (readers ≤ 16) }
     requires sets { All CanBeBuilt schema }

@@ -71,7 +71,7 @@ whole-more old mid new left_mid left n w kept picks r =
       at_end = All-cons (λ file. IsAtEnd (left file)) r.file w.files r.at_end all.at_end;
     }
 
--- a text that was read stands for what it was read as
+-- a text that was read means what it was read as
 pub as-script : (told : List ℕ → Option (List ℕ)) (name : List ℕ) (s : Script) → ReadsAs told name (λ text. IsScriptText text s) → ReadsAs told name (IsOf script s.schema)
 as-script told name s read text at = let r = read text at in (r.0, (s, r.1, refl))
 
@@ -87,7 +87,7 @@ as-plan told name sets lines read text at = let r = read text at in (r.0, (lines
 pub as-capture : (told : List ℕ → Option (List ℕ)) (name : List ℕ) (sets : List SetDecl) (frames : List Frame) → ReadsAs told name (λ text. captured text ≡ Ok frames) → ReadsAs told name (IsOf capture sets)
 as-capture told name sets frames read text at = let r = read text at in (r.0, (frames, r.1))
 
--- what is read of a file is said of what the shelf tells, however that is named
+-- statements on a read file hold of the shelf's known bytes under each name for them
 reads-same : (told other : List ℕ → Option (List ℕ)) (name : List ℕ) (Holds : List ℕ → Type 0) → ((n : List ℕ) → told n ≡ other n) → ReadsAs told name Holds → ReadsAs other name Holds
 reads-same told other name Holds same read text at = read text (same name ∙ at)
 
@@ -105,7 +105,7 @@ are-more : (told : List ℕ → Option (List ℕ)) (sets : List SetDecl) (files 
 are-more told sets [] i h r = (r, tt)
 are-more told sets (f ∷ files) i h r = (h.0, are-more told sets files i h.1 r)
 
--- These files were read, and nothing else was done: how the shelf stood before, and how it stands now.
+-- These files were read, and nothing else was done: the shelf before and after.
 pub record UpTo (told_before : List ℕ → Option (List ℕ)) (faults_before : ℕ) (picked_before : Numbers) (told : List ℕ → Option (List ℕ)) (asked : List (List ℕ)) (faults : ℕ) (picked : Numbers) (left : ℕ → Option (List ℕ)) (sets : List SetDecl) (files : List Input) : Type 0 where
   pub are_of : AreOf told_before sets files
   pub whole : AreReadWhole picked_before picked left (length files)
@@ -130,7 +130,7 @@ module _ {told_before told_mid told : List ℕ → Option (List ℕ)} {faults_be
     same = λ name. same name ∙ u.same name;
   }
 
--- A cause is said of what the shelf told before, and of its counts then.
+-- A cause is a statement on the bytes that the shelf knew before, and on its counts then.
 same-cause : (told other : List ℕ → Option (List ℕ)) (sets : List SetDecl) (names others asked : List (List ℕ)) (before mid now : ℕ) (i : Input) (fault : FileFault) → ((name : List ℕ) → told name ≡ other name) → others ≡ names → mid ≡ before
     → IsFileCause told sets others i asked mid now fault → IsFileCause other sets names i asked before now fault
 same-cause told other sets names others asked before mid now i (Bad flaw) same e quiet h = (h.0 ∙ ap (λ ns. ns ++ i.name ∷ []) e, h.1 ∙ quiet, h.2, reads-same told other i.name (λ text. IsFlawed sets text flaw) same h.3)

@@ -16,7 +16,7 @@ use Rattle.input_files.specs.declared.fault.FileFault.{FileFault}
 use Rattle.input_files.specs.declared.fault.FileFault.TheVariants.{Bad, ReadFault, TooLarge, Memory}
 use Rattle.input_files.specs.Noted.{IsPlacedBy, NamesBadToken, IsNoteOn}
 
--- A note on a text by the bad token that was found in it names that of the file's bytes, where they are told.
+-- A note on a text by the bad token that was found in it names the bad token of the file's bytes, if they are known.
 pub bad-note : {A : Type 0} (form : Form A) (tokens : List ℕ → List Lexeme) (told : List ℕ → Option (List ℕ)) (name all slice : List ℕ) (found : Result (Option BadToken) NoMemory) (before mid now : Option (List ℕ))
     → ((text : List ℕ) → told name ≡ Some text → all ≡ text) → slice ≡ all → IfOk found (IsBadTokenAmong form (tokens slice) slice) → mid ≡ before → MayTell (IsPlacedBy found name) mid now
     → MayTell (λ text. (bytes : List ℕ) → told name ≡ Some bytes → NamesBadToken form (tokens bytes) bytes name text) before now
@@ -28,14 +28,14 @@ bad-note form tokens told name all slice found before mid now bytes same is_bad 
       begins = placed.begins;
     }) tells)
 
--- A note on a capture begins with its byte, whatever is told of its bytes.
+-- A note on a capture begins with its byte, whatever is known of its bytes.
 pub capture-note : (told : List ℕ → Option (List ℕ)) (name : List ℕ) (sets : List SetDecl) (byte : ℕ) (reason : CaptureReason) (before mid now : Option (List ℕ)) → mid ≡ before → MayTell (Begins (byte_text name byte)) mid now
     → MayTell (IsNoteOn told sets name (Bad (flaws.Capture byte reason))) before now
 capture-note told name sets byte reason before mid now silent tells =
     subst (λ (b : Option (List ℕ)). MayTell (IsNoteOn told sets name (Bad (flaws.Capture byte reason))) b now) silent
     (tells-as (Begins (byte_text name byte)) (IsNoteOn told sets name (Bad (flaws.Capture byte reason))) mid now (λ text begins bytes at. begins) tells)
 
--- A note on a file is one by what the shelf told before, however that is named.
+-- A note on a file depends on the bytes that the shelf knew before, under each name for them.
 pub same-note : (told other : List ℕ → Option (List ℕ)) (sets : List SetDecl) (name : List ℕ) (fault : FileFault) (text : List ℕ) → ((n : List ℕ) → told n ≡ other n) → IsNoteOn told sets name fault text → IsNoteOn other sets name fault text
 same-note told other sets name (Bad flaw) text same is = λ bytes at. is bytes (same name ∙ at)
 same-note told other sets name (ReadFault n) text same is = is

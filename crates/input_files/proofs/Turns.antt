@@ -14,7 +14,7 @@ use Rattle.input_files.specs.Inputs.{Input, FileForm, script, keys, rules, plan,
 use Rattle.input_files.specs.Reads.{AreOf}
 use Rattle.input_files.specs.Given.{Has, AreGiven}
 
--- two files of one list: one stands before the other, or they are the same
+-- two files of one list: one comes before the other, or they are the same
 pub data Turns (a : List Input) (i : Input) (b : List Input) (j : Input) : Type 0 where
   before : (rest : List Input) → b ≡ a ++ i ∷ rest → Turns a i b j
   behind : (rest : List Input) → a ≡ b ++ j ∷ rest → Turns a i b j
@@ -51,7 +51,7 @@ module _ (told : List ℕ → Option (List ℕ)) where
   given-front sets [] rest h = tt
   given-front sets (x ∷ a) rest h = (h.0, given-front sets a rest h.1)
 
-  -- Told files that were read are of their forms beside the script that was read.
+  -- Files that were read and whose bytes are known are of their forms, for the script that was read.
   pub given-as-read : (other sets : List SetDecl) (a : List Input) → AreGiven told other a → AreOf told sets a → AreGiven told sets a
   given-as-read other sets [] g h = tt
   given-as-read other sets (x ∷ a) g h =
@@ -121,7 +121,7 @@ first-is-script c a i later e = go c a e where
   go (drill s k n) [] e = absurd (cc e)
   go (drill s k n) (x ∷ a) e = absurd (cc e)
 
--- A file in its turn that is told and of its form isn't flawed.
+-- If the bytes of a file are known and of its form, the file isn't flawed.
 pub given-refuses : (told : List ℕ → Option (List ℕ)) (c : Command) (a : List Input) (i : Input) (later : List Input) (sets others : List SetDecl) (flaw : Flaw) → inputs c ≡ a ++ i ∷ later → AreOf told sets a → form_of flaw ≡ i.form → ReadsAs told i.name (λ text. IsFlawed sets text flaw)
     → AreGiven told others a → Has told i.name (IsOf i.form others) → ⊥
 given-refuses told c a i later sets others flaw e are form flawed given has = go a e are given where

@@ -1,4 +1,5 @@
--- The files of a command, and what each has to be. What is said of a file's bytes is said where the shelf tells them.
+-- The files of a command and their forms. What a definition says of a file's bytes holds if they are
+-- known.
 use Rattle.std.specs.Prelude.{◌≡◌, ◌≤◌, ◌<◌, ℕ, Bool, List, [], ◌∷◌, ◌++◌, map, length, Option, Some}
 use Rattle.set_model.specs.declared.script.Script.{Script}
 use Rattle.set_model.specs.declared.script.SetDecl.{SetDecl}
@@ -24,7 +25,7 @@ use Rattle.input_files.specs.declared.fault.Flaw.TheVariants as flaws
 use Rattle.input_files.specs.declared.fault.FileFault.{FileFault}
 use Rattle.input_files.specs.declared.fault.FileFault.TheVariants.{Bad, ReadFault, TooLarge, Memory}
 
--- what a file has to be
+-- the form of a file
 pub data FileForm : Type 0 where
   script : FileForm
   keys : FileForm
@@ -32,7 +33,7 @@ pub data FileForm : Type 0 where
   plan : FileForm
   capture : FileForm
 
--- a file of a command: its name, and what it has to be
+-- a file of a command: its name and its form
 pub record Input : Type 0 where
   pub name : List ℕ
   pub form : FileForm
@@ -50,8 +51,8 @@ inputs (judge s r k threads keep_going) = record { name = s; form = script } ∷
 inputs (capture_command s p c threads keep_going) = record { name = s; form = script } ∷ record { name = p; form = plan } ∷ record { name = c; form = capture } ∷ []
 inputs (desk s keep_going) = record { name = s; form = script } ∷ []
 
--- A text is of a form, beside a script with these sets: it is that script; it is a key file, a rules file or a plan for these sets;
--- or it is a capture, which is of no sets.
+-- A text is of a form, for a script that declares these sets: it is that script; or a key file, a rules
+-- file or a plan for these sets; or a capture, which doesn't depend on the sets.
 abbrev pub IsOf : FileForm → List SetDecl → List ℕ → Type 0
 IsOf script sets text = (s : Script) × IsScriptText text s × (s.schema ≡ sets)
 IsOf keys sets text = (packets : List (List Packet)) × IsKeysText sets text packets
@@ -59,7 +60,7 @@ IsOf rules sets text = (chains : List Chain × Bool) × IsRulesText sets text ch
 IsOf plan sets text = (lines : List PlanLine) × IsPlanText sets text lines
 IsOf capture sets text = (frames : List Frame) × IsCapture text frames
 
--- the form that a flaw is one of
+-- the form to which a flaw belongs
 abbrev pub form_of : Flaw → FileForm
 form_of (flaws.Script line reason) = script
 form_of (flaws.Keys line reason) = keys
@@ -67,8 +68,8 @@ form_of (flaws.Rules line reason) = rules
 form_of (flaws.Plan line reason) = plan
 form_of (flaws.Capture byte reason) = capture
 
--- This is wrong with a text, beside a script with these sets: the bad token stands in this line, with this reason; of a capture, its
--- first fault is this one.
+-- This is wrong with a text, for a script that declares these sets: its bad token is in this line and
+-- has this reason; or its first fault as a capture is this one.
 abbrev pub IsFlawed : List SetDecl → List ℕ → Flaw → Type 0
 IsFlawed sets text (flaws.Script line reason) = IsFault script_form (text_tokens text) line reason
 IsFlawed sets text (flaws.Keys line reason) = IsFault (key_file sets) (text_tokens text) line reason
@@ -76,16 +77,16 @@ IsFlawed sets text (flaws.Rules line reason) = IsBadRules sets text line reason
 IsFlawed sets text (flaws.Plan line reason) = IsBadPlan sets text line reason
 IsFlawed sets text (flaws.Capture byte reason) = IsBadCapture text byte reason
 
--- The file of a name, where its bytes are told, is within its size, and this holds of its text.
+-- If the bytes of the file with this name are known, they are within its size, and this holds of them.
 abbrev pub ReadsAs : (List ℕ → Option (List ℕ)) → List ℕ → (List ℕ → Type 0) → Type 0
 ReadsAs told name Holds = (text : List ℕ) → told name ≡ Some text → (length text ≤ size_limit) × Holds text
 
--- The file of a name, where its bytes are told, has more bytes than it may have.
+-- If the bytes of the file with this name are known, there are more of them than it may have.
 abbrev pub IsTooLarge : (List ℕ → Option (List ℕ)) → List ℕ → Type 0
 IsTooLarge told name = (text : List ℕ) → told name ≡ Some text → size_limit < length text
 
--- Why a file can't be had, whose name was asked for behind others: the bytes are flawed, or too many; the shelf's count of faults
--- rose; or memory was wanting. Else the count stands.
+-- Why a file failed, whose name was asked for after others: its bytes are flawed, or too many; or the
+-- shelf's count of faults rose; or memory ran out. Without a fault the count stays.
 abbrev pub IsFileCause : (List ℕ → Option (List ℕ)) → List SetDecl → List (List ℕ) → Input → List (List ℕ) → ℕ → ℕ → FileFault → Type 0
 IsFileCause told sets others i asked before now (Bad flaw) = (asked ≡ others ++ i.name ∷ []) × (now ≡ before) × (form_of flaw ≡ i.form) × ReadsAs told i.name (λ text. IsFlawed sets text flaw)
 IsFileCause told sets others i asked before now (ReadFault name) = (asked ≡ others ++ i.name ∷ []) × (name.now ≡ i.name) × Rose before now

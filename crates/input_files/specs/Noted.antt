@@ -1,4 +1,4 @@
--- What a person is told of a file that can't be had.
+-- What is printed for a person about a file that failed.
 use Rattle.std.specs.Prelude.{◌≡◌, ℕ, List, Option, Some, Result, Ok}
 use Rattle.set_model.specs.declared.script.SetDecl.{SetDecl}
 use Rattle.set_model.specs.declared.memory.Memory.{Memory as NoMemory}
@@ -20,19 +20,20 @@ use Rattle.input_files.specs.declared.fault.FileFault.TheVariants.{Bad, ReadFaul
 use Rattle.input_files.specs.Reads.{Shelved, StopsAt}
 use Rattle.command_words.specs.Words.{Command}
 
--- A note begins with a text's name and the place of its bad token, where that was found.
+-- A note begins with a text's name and the place of its bad token, if that was found.
 pub record IsPlacedBy (found : Result (Option BadToken) NoMemory) (name note : List ℕ) : Type 0 where
   pub bad : BadToken
   pub is_found : found ≡ Ok (Some bad)
   pub begins : Begins (place_text name bad.line bad.column) note
 
--- A note begins with a text's name, and the line and the column of the token that is its bad one by the definition.
+-- A note begins with a text's name, and the line and the column of its bad token by the definition.
 pub record NamesBadToken {A : Type 0} (form : Form A) (tokens : List Lexeme) (text name note : List ℕ) : Type 0 where
   pub bad : BadToken
   pub is_bad : IsBadToken form tokens text bad
   pub begins : Begins (place_text name bad.line bad.column) note
 
--- A note on a flawed text begins with its name and the place of the flaw: that of the bad token, or a capture's byte.
+-- A note on a flawed text begins with its name and the place of the flaw: of the bad token, or of a
+-- capture's byte.
 abbrev pub NamesFlaw : List SetDecl → List ℕ → List ℕ → Flaw → List ℕ → Type 0
 NamesFlaw sets text name (flaws.Script line reason) note = NamesBadToken script_form (text_tokens text) text name note
 NamesFlaw sets text name (flaws.Keys line reason) note = NamesBadToken (key_file sets) (text_tokens text) text name note
@@ -40,15 +41,16 @@ NamesFlaw sets text name (flaws.Rules line reason) note = NamesBadToken (rules_f
 NamesFlaw sets text name (flaws.Plan line reason) note = NamesBadToken (plan_form sets) (plain_tokens text) text name note
 NamesFlaw sets text name (flaws.Capture byte reason) note = Begins (byte_text name byte) note
 
--- A text is a note on a file that can't be had for this fault, beside a script with these sets: it begins with the file's name and,
--- where its bytes are told, the place of their flaw. Of want of memory there is none.
+-- A text is a note on a file that failed for this fault, with a script that declares these sets. It
+-- begins with the file's name and, if the file's bytes are known, with the place of their flaw. If
+-- memory ran out, there is no note.
 abbrev pub IsNoteOn : (List ℕ → Option (List ℕ)) → List SetDecl → List ℕ → FileFault → List ℕ → Type 0
 IsNoteOn told sets name (Bad flaw) note = (text : List ℕ) → told name ≡ Some text → NamesFlaw sets text name flaw note
 IsNoteOn told sets name (ReadFault other) note = Begins (name_text name) note
 IsNoteOn told sets name (TooLarge other) note = Begins (name_text name) note
 IsNoteOn told sets name Memory note = ⊥
 
--- A command's files were read up to one that can't be had, and of that one alone a person may have been told.
+-- A command's files were read up to one that failed. Only about this one may a note have been printed.
 pub record StopsTelling (shelf : Shelved) (c : Command) (before now : Option (List ℕ)) (fault : FileFault) : Type 0 where
   pub stops : StopsAt shelf c fault
   pub noted : MayTell (IsNoteOn shelf.told stops.sets stops.input.name fault) before now

@@ -8,8 +8,9 @@ use Rattle.command_words.specs.Words.{Command}
 use Rattle.input_files.specs.declared.fault.FileFault.{FileFault}
 use Rattle.input_files.specs.Inputs.{Input, inputs, names_of, IsOf, ReadsAs, IsFileCause}
 
--- What a shelf shows of a call: the bytes under names, where it tells them; the names that were asked for; its counts of faults, and
--- which numbers files have, before and now; and what these files have left.
+-- What a shelf shows of a call: the bytes under names, if they are known; the names that were asked
+-- for; its counts of faults and the numbers of its files, before and after; and what these files have
+-- left.
 pub record Shelved : Type 1 where
   pub told : List ℕ → Option (List ℕ)
   pub asked : List (List ℕ)
@@ -19,13 +20,13 @@ pub record Shelved : Type 1 where
   pub picked_now : ℕ → Type 0
   pub left : ℕ → Option (List ℕ)
 
--- Each of these files is of its form, beside a script with these sets.
+-- Each of these files is of its form, for a script that declares these sets.
 abbrev pub AreOf : (List ℕ → Option (List ℕ)) → List SetDecl → List Input → Type 0
 AreOf told sets [] = Unit {0}
 AreOf told sets (i ∷ others) = ReadsAs told i.name (IsOf i.form sets) × AreOf told sets others
 
--- So many files were picked in this call, each under a new number of its own, and nothing is left of any, where the shelf tells
--- what is left.
+-- So many files were picked in this call, each under a new number of its own. Nothing is left of any,
+-- if the shelf knows what is left.
 pub record AreReadWhole (old new : ℕ → Type 0) (left : ℕ → Option (List ℕ)) (count : ℕ) : Type 0 where
   pub files : List ℕ
   pub one_each : length files ≡ count
@@ -33,19 +34,20 @@ pub record AreReadWhole (old new : ℕ → Type 0) (left : ℕ → Option (List 
   pub picked : All (IsPickOf old new) files
   pub at_end : All (λ file. IsAtEnd (left file)) files
 
--- These files were read, to their ends where the shelf tells what is left of them, and each is of its form.
+-- These files were read, to their ends if the shelf knows what is left of them, and each is of its
+-- form.
 pub record AreRead (shelf : Shelved) (sets : List SetDecl) (files : List Input) : Type 0 where
   pub are_of : AreOf shelf.told sets files
   pub whole : AreReadWhole shelf.picked_before shelf.picked_now shelf.left (length files)
 
--- A command's files were all read, and nothing else was asked for, and no fault was counted.
+-- A command's files were all read. No other name was asked for, and no fault was counted.
 pub record HasRead (shelf : Shelved) (c : Command) : Type 0 where
   pub sets : List SetDecl
   pub all : AreRead shelf sets (inputs c)
   pub asked : shelf.asked ≡ names_of (inputs c)
   pub quiet : shelf.faults_now ≡ shelf.faults_before
 
--- A command's files were read up to one that can't be had, for this fault.
+-- A command's files were read up to one that failed for this fault.
 pub record StopsAt (shelf : Shelved) (c : Command) (fault : FileFault) : Type 0 where
   pub sets : List SetDecl
   pub earlier : List Input

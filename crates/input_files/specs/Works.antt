@@ -12,7 +12,7 @@ use Rattle.input_files.specs.declared.work.Work.{Work}
 use Rattle.input_files.specs.declared.work.Work.TheVariants as works
 use Rattle.input_files.specs.Inputs.{ReadsAs}
 
--- This is what a command works on: what the texts of its files stand for, and what its words say beside them.
+-- This is what a command works on: what the texts of its files mean, and the options of its words.
 abbrev pub IsWork : (List ℕ → Option (List ℕ)) → Command → Work → Type 0
 IsWork told c (works.Run script keys threads keep_going) =
     (s : List ℕ) × (k : List ℕ) × (c ≡ run s k threads keep_going) × ReadsAs told s (λ text. IsScriptText text script) × ReadsAs told k (λ text. IsKeysText script.schema text keys)
@@ -27,11 +27,11 @@ IsWork told c (works.Capture script plan frames threads keep_going) =
     × ReadsAs told p (λ text. IsPlanText script.schema text plan) × ReadsAs told f (λ text. IsCapture text frames)
 IsWork told c (works.Desk script keep_going) = (s : List ℕ) × (c ≡ desk s keep_going) × ReadsAs told s (λ text. IsScriptText text script)
 
--- There are packet threads, and at most sixteen.
+-- There is at least one packet thread, and there are at most sixteen.
 abbrev pub FewThreads : ℕ → Type 0
 FewThreads threads = (0 < threads) × (threads ≤ 16)
 
--- What is worked on fits together: steps and keys fit the declared sets.
+-- The work is consistent: its steps and keys fit the declared sets.
 abbrev pub IsDoable : Work → Type 0
 IsDoable (works.Run script keys threads keep_going) = IsRunnable script × All (All (IsFitting script.schema)) keys × FewThreads threads
 IsDoable (works.List script keep_going) = IsRunnable script

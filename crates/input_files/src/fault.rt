@@ -1,7 +1,8 @@
 use pcap_keys::CaptureReason;
 use token_forms::Reason;
 
-/// What is wrong with a file's text: where it stops being of the file's form, and why. Lines count from 1 and bytes from 0.
+/// What is wrong with a file's text: the first place at which it leaves the file's form, and why. Lines
+/// count from 1, and bytes from 0.
 #[derive(Clone, Copy)]
 pub enum Flaw {
     /// The script isn't in the grammar: the line of its first token that doesn't fit.
@@ -12,11 +13,11 @@ pub enum Flaw {
     Rules { line: u64, reason: Reason },
     /// The plan isn't in the grammar under the script's sets.
     Plan { line: u64, reason: Reason },
-    /// The capture is outside its format: the byte at which that shows.
+    /// The bytes aren't a capture: the byte of the first fault.
     Capture { byte: u64, reason: CaptureReason },
 }
 
-/// Why a file of a command can't be had.
+/// Why a command's file failed.
 #[derive(Clone, Copy)]
 pub enum FileFault<'a> {
     /// Its text isn't of its form.
@@ -25,6 +26,6 @@ pub enum FileFault<'a> {
     ReadFault(&'a str),
     /// The file of this name has more bytes than an input file may have.
     TooLarge(&'a str),
-    /// Want of memory.
+    /// Out of memory.
     Memory,
 }

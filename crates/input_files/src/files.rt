@@ -1,4 +1,4 @@
-//! One file: read whole, and as what it has to be.
+//! Reads one file, whole and by its form.
 ghost use Rattle.std.specs.Prelude.{◌≡◌, ◌<◌, ◌≤◌, List, [], ◌∷◌, ◌++◌, ℕ, length, All, Some, IfOk, IfErr, OnOk, Ok};
 ghost use Rattle.set_model.specs.declared.script.SetDecl.{SetDecl as Declared};
 ghost use Rattle.set_model.specs.Runnable.{IsRunnable, IsFitting};
@@ -28,7 +28,7 @@ use set_script::read_script;
 use std::alloc::Global;
 use token_forms::ReadError as FormError;
 
-/// All bytes of the file of a name.
+/// All bytes of the file with this name.
 fn text_of<'a, F: Shelf, N: Notes>(
     alloc: Global,
     shelf: &mut F,
@@ -60,7 +60,7 @@ fn text_of<'a, F: Shelf, N: Notes>(
     }
 }
 
-/// The script of a name, whose text is put into `kept`.
+/// The script of the file with this name. Its text is put into `kept`.
 pub fn script_of<'a, F: Shelf, N: Notes>(
     alloc: Global,
     shelf: &mut F,
@@ -95,7 +95,7 @@ pub fn script_of<'a, F: Shelf, N: Notes>(
     }
 }
 
-/// The key file of a name, for the sets of a script.
+/// The key file with this name, for the sets of a script.
 pub fn keys_of<'a, F: Shelf, N: Notes>(
     alloc: Global,
     shelf: &mut F,
@@ -131,7 +131,7 @@ pub fn keys_of<'a, F: Shelf, N: Notes>(
     }
 }
 
-/// The rules file of a name, for the sets of a script.
+/// The rules file with this name, for the sets of a script.
 pub fn rules_of<'a, F: Shelf, N: Notes>(
     alloc: Global,
     shelf: &mut F,
@@ -167,7 +167,7 @@ pub fn rules_of<'a, F: Shelf, N: Notes>(
     }
 }
 
-/// The plan of a name, for the sets of a script.
+/// The plan of the file with this name, for the sets of a script.
 pub fn plan_of<'a, F: Shelf, N: Notes>(
     alloc: Global,
     shelf: &mut F,
@@ -203,7 +203,7 @@ pub fn plan_of<'a, F: Shelf, N: Notes>(
     }
 }
 
-/// The frames of the capture of a name.
+/// The frames of the capture with this name.
 pub fn capture_of<'a, F: Shelf, N: Notes>(
     alloc: Global,
     shelf: &mut F,

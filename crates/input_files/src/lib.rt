@@ -1,11 +1,21 @@
-//! The files of a command: each read whole and as what it has to be, or why not.
+//! Reads the files of a command, each whole and by its form, or reports why it can't.
 //!
-//! [`work_of`] reads a command's files in the order of its words, each only where those before it were read whole and are of their
-//! forms, and gives what the command works on. [`FileFault`] says why a file can't be had.
+//! For `run allow.nft packets.keys`, [`work_of`] reads the script and then the key file, for the sets
+//! that the script declares. It opens a file only after the one before is read and accepted. So the
+//! first file that fails decides the answer:
 //!
-//! **Definitions:** `specs/Inputs.antt` lists the files of each command and what each has to be,
-//! `Reads.antt` says how far they were read, `Given.antt` and `Works.antt` what their texts stand for,
-//! and `Noted.antt` what a person is told. **Theory:** docs/architecture.md, "The way of a run".
+//!     allow.nft is missing                        ReadFault: allow.nft       packets.keys isn't opened
+//!     line 5 of allow.nft has a bad token         Bad: Script, line 5        packets.keys isn't opened
+//!     packets.keys has 67,108,865 bytes           TooLarge: packets.keys
+//!     line 1 of packets.keys has a bad token      Bad: Keys, line 1
+//!     both are accepted                           the work: a script and its packets
+//!
+//! A script comes first, and after it a key file, or a rules file and a key file, or a plan and a
+//! capture. [`FileFault`] says why a file fails. A note about it goes to the person at the terminal.
+//!
+//! **Definitions:** `specs/Inputs.antt` lists the files of each command and the form of each.
+//! `Reads.antt` says how far they were read, `Given.antt` and `Works.antt` what their texts mean, and
+//! `Noted.antt` what is printed for a person. **Theory:** docs/architecture.md, "The way of a run".
 //! **Proofs:** docs/proofs.md, "Causes and counts (`pip_base`, `input_files`, `pipapo_cli`)".
 #![tactic(auto)]
 

@@ -1,4 +1,4 @@
-//! What a person is told of a file that can't be had.
+//! Prints notes on files that failed.
 ghost use Rattle.fault_notes.specs.Shown.{Begins, byte_text, name_text};
 ghost use Rattle.fault_notes.specs.Told.{MayTell};
 ghost use Rattle.input_files.specs.Noted.{IsPlacedBy};
@@ -12,7 +12,7 @@ use set_model::Memory;
 use std::alloc::Global;
 use token_forms::BadToken;
 
-/// Tells where a text isn't in its grammar, by its bad token, where that was found.
+/// Prints where a text isn't in its grammar, by its bad token, if that was found.
 pub fn tell_bad<N: Notes>(
     alloc: Global,
     notes: &mut N,
@@ -28,7 +28,7 @@ pub fn tell_bad<N: Notes>(
     }
 }
 
-/// Tells at which byte a file is no capture.
+/// Prints at which byte a file is no capture.
 pub fn tell_capture<N: Notes>(
     alloc: Global,
     notes: &mut N,
@@ -42,14 +42,14 @@ pub fn tell_capture<N: Notes>(
     tell_note(notes, capture_note(alloc, name, file, byte, reason));
 }
 
-/// Tells why a file can't be opened or read.
+/// Prints why a file can't be opened or read.
 pub fn tell_read_fault<N: Notes>(alloc: Global, notes: &mut N, name: &str, kind: FaultKind)
     ensures { MayTell (Begins (name_text name.now)) (N.told notes.old) (N.told notes.new) }
 {
     tell_note(notes, read_fault_note(alloc, name, kind));
 }
 
-/// Tells that a file has too many bytes.
+/// Prints that a file has too many bytes.
 pub fn tell_too_large<N: Notes>(alloc: Global, notes: &mut N, name: &str)
     ensures { MayTell (Begins (name_text name.now)) (N.told notes.old) (N.told notes.new) }
 {

@@ -14,7 +14,7 @@ use rule_chain::Chains;
 use set_model::{Keys, Script};
 use std::alloc::Global;
 
-/// What a command works on: what its files stand for, and what its words say beside them.
+/// What a command works on: what its files mean, and the options of its words.
 #[derive(Drop)]
 pub enum Work {
     /// A run of a script beside packets, which so many packet threads look up.
@@ -22,7 +22,8 @@ pub enum Work {
         script: Script,
         keys: Keys,
         threads: u32,
-        /// Whether a refused change is skipped, and doesn't fail its transaction; here and below.
+        /// Whether a refused change is skipped instead of failing its transaction. The same holds
+        /// below.
         keep_going: bool,
     },
     /// A listing of the last generation.
@@ -35,13 +36,14 @@ pub enum Work {
         script: Script,
         keep_going: bool,
     },
-    /// A generated run of so many elements and packets, which so many packet threads look up.
+    /// A generated run of so many elements and packets. So many packet threads look the packets up.
     Drill {
         seed: u64,
         count: u32,
         threads: u32,
     },
-    /// A run of a script beside packets, which so many packet threads look up and chains of rules judge.
+    /// A run of a script beside packets. So many packet threads look them up, and chains of rules judge
+    /// them.
     Judge {
         script: Script,
         chains: Chains,
@@ -49,7 +51,8 @@ pub enum Work {
         threads: u32,
         keep_going: bool,
     },
-    /// A run of a script beside the packets that a plan takes from a capture's frames, which so many packet threads look up.
+    /// A run of a script beside the packets that a plan takes from a capture's frames. So many packet
+    /// threads look them up.
     Capture {
         script: Script,
         plan: Plan,
@@ -57,19 +60,19 @@ pub enum Work {
         threads: u32,
         keep_going: bool,
     },
-    /// A run of a script by several control threads, one for each section but the first.
+    /// A run of a script by several control threads: one for each section after the first.
     Desk {
         script: Script,
         keep_going: bool,
     },
 }
 
-/// Reads the files of a command, in the order of its words, each only where those before it were read whole and are of their forms.
-/// The script's text is put into `script_text`.
+/// Reads the files of a command, in the order of its words. It opens a file only after the one before
+/// is read and accepted. The script's text is put into `script_text`.
 ///
 /// # Errors
 ///
-/// Why the first of them that can't be had can't, which a person is told where there is memory for it.
+/// Why the first file that failed did so. A note about it is printed, unless memory runs out.
 pub fn work_of<'a, F: Shelf, N: Notes>(
     alloc: Global,
     shelf: &mut F,

@@ -14,7 +14,8 @@ abbrev pub word_or_family : Option Family → List ℕ → KeyWord
 word_or_family (Some family) t = keys.Family family
 word_or_family None t = if bytes_eq t (codes "at") then keys.At else if bytes_eq t (codes "round") then keys.Round else keys.Table
 
--- A word at the family's place that is a family is the family. `at` and `round` may also be tables.
+-- The meaning of a line's first word. A word that names a family is the family. `at` and `round` may
+-- also be tables.
 abbrev pub key_word_of : List ℕ → KeyWord
 key_word_of t = word_or_family (family_of t) t
 
@@ -22,6 +23,6 @@ abbrev pub moment_or : Option ℕ → Option ℕ → Option AtWord
 moment_or (Some n) set = Some (ats.Moment n)
 moment_or None set = option_map (λ i. ats.Set i) set
 
--- Behind `at`: a moment, which may be before the one that was, or a set of the table `at`.
+-- After `at`: a moment, which may be before the moment so far, or a set of the table `at`.
 abbrev pub at_of : List SetDecl → List ℕ → Option AtWord
 at_of schema t = moment_or (moment_of 0 t) (set_place schema families.Ip (codes "at") t)

@@ -43,7 +43,7 @@ all_values (kind ∷ kinds) = do
 abbrev pub with_packet : KeyDraft → ℕ → List ℕ → KeyDraft
 with_packet d set key = record d { packets = d.packets ++ record { set = set; key = key; now = d.moment } ∷ [] }
 
--- The next section begins. The moment goes on.
+-- The next section begins. The moment stays the same.
 abbrev pub next_section : KeyDraft → KeyDraft
 next_section d = record d { sections = d.sections ++ d.packets ∷ []; packets = [] }
 
@@ -67,11 +67,12 @@ abbrev pub at_behind : List SetDecl → KeyDraft → AtWord → Form KeyDraft
 at_behind schema d (ats.Moment n) = done (record d { moment = n })
 at_behind schema d (ats.Set i) = packet_at schema d i
 
--- Behind `round`: a packet of a set of the table `round`, or nothing, where the next section begins.
+-- After `round`: a packet of a set of the table `round`, or nothing. If nothing follows, the next
+-- section begins.
 abbrev pub round_behind : List SetDecl → KeyDraft → List ℕ → Form KeyDraft
 round_behind schema d w = either_form (packet schema d (families.Ip, w)) (done (next_section d))
 
--- what stands behind the first word of a line
+-- the rest of a line after its first word
 abbrev pub line_behind : List SetDecl → KeyDraft → List ℕ → KeyWord → Form KeyDraft
 line_behind schema d w (keys.Family family) = do
   table ← name
@@ -91,7 +92,7 @@ key_line schema d = do
 abbrev pub key_lines : List SetDecl → Form (KeyDraft × Bool)
 key_lines schema = many (line breaks_off (key_line schema)) (no_keys, true)
 
--- The packets of all sections. The first section is there also where the file has no line.
+-- The packets of all sections. A file without a line has the first section, too.
 abbrev pub body : List SetDecl → Form (List (List Packet))
 body schema = do
   s ← key_lines schema

@@ -24,7 +24,7 @@ pub enum KeyWord {
     Table,
 }
 
-/// What stands behind the word `at`.
+/// What follows the word `at`.
 #[derive(Clone, Copy, Debug, PartialEq, Eq)]
 pub enum AtWord {
     /// A moment.

@@ -18,10 +18,10 @@ use set_model::{Keys, Memory, Schema, SetDecl};
 use std::alloc::Global;
 use token_forms::{BadToken, ReadError, Reader, bad_token_before};
 
-/// Why a text isn't read as a key file.
+/// Why a text wasn't read as a key file.
 pub type KeyError = ReadError;
 
-/// What stands before the end.
+/// Reads all before the end of the text.
 #[tactic(auto, using(token_forms::proofs::Refusals::refusals), unfolding(crate::specs::KeysReading::body))]
 fn body(reader: &mut Reader, alloc: Global, schema: &[SetDecl]) -> Result<Keys, ReadError>
     requires { length schema.now ≤ most_sets }
@@ -42,20 +42,22 @@ fn whole(reader: &mut Reader, alloc: Global, schema: &[SetDecl]) -> Result<Keys,
     Ok(keys)
 }
 
-/// The key file that a text stands for, for the sets of a schema.
+/// The key file that a text means, for the sets of a schema.
 ///
 /// # Errors
 ///
-/// `Bad` exactly where the text isn't in the grammar, with the line of its first token that doesn't fit and the reason.
-/// `Memory` where there is none left.
+/// `Bad` exactly if the text isn't in the grammar, with the line of its first token that doesn't fit
+/// and the reason. `Memory` if memory runs out.
 pub fn read_keys(alloc: Global, schema: &Schema, text: &[u8]) -> Result<Keys, KeyError>
     // There are no more sets than a script may declare.
     requires { length schema.now ≤ most_sets }
-    // What is read is the key file that the text stands for.
+    // What is read is the key file that the text means.
     ensures found { IfOk result (IsKeysText schema.now text.now) }
-    // A text that stands for a key file is read as that one, unless memory runs out; so it stands for one at most.
+    // A text that means a key file is read as that one, unless memory runs out. So it means at most one
+    // key file.
     ensures only { (keys : List (List Packet)) → IsKeysText schema.now text.now keys → IsReadAs (λ x. x) result keys }
-    // A text that is refused stands for no key file; the line is that of its bad token, with the first reason that applies.
+    // A refused text means no key file. The line is its bad token's, and the reason is the first that
+    // applies.
     ensures bad { (line : ℕ) (reason : Reason) → result ≡ Err (Bad line reason) → IsFault (key_file schema.now) (text_tokens text.now) line reason }
     // Each packet's set is declared, and its key fits the set's kinds.
     ensures fits { IfOk result (All (All (IsFitting schema.now))) }
@@ -64,12 +66,13 @@ pub fn read_keys(alloc: Global, schema: &Schema, text: &[u8]) -> Result<Keys, Ke
     whole(&mut reader, alloc, schema.as_slice())
 }
 
-/// The bad token of a text, for the sets of a schema: where it stands, and the reason; `None` exactly where the text is in
-/// the grammar. It is the token of which `read_keys` tells the line and the reason.
+/// The bad token of a text, for the sets of a schema, with its place and its reason. It is `None`
+/// exactly if the text is in the grammar. `read_keys` reports the line and the reason of the same
+/// token.
 ///
 /// # Errors
 ///
-/// `Memory` where there is none left.
+/// `Memory` if memory runs out.
 pub fn bad_token(alloc: Global, schema: &Schema, text: &[u8]) -> Result<Option<BadToken>, Memory>
     requires { length schema.now ≤ most_sets }
     ensures { IfOk result (IsBadTokenOf (key_file schema.now) text.now) }
@@ -84,17 +87,17 @@ pub fn bad_token(alloc: Global, schema: &Schema, text: &[u8]) -> Result<Option<B
     }
 }
 
-/// A text stands for one key file at most.
+/// A text means at most one key file.
 pub fn one_key_file_law(_schema: &Schema, _text: &[u8])
     ensures { (keys other : List (List Packet)) → IsKeysText _schema.now _text.now keys → IsKeysText _schema.now _text.now other → keys ≡ other }
 {}
 
-/// The tokens before any place of a front of a key file are a front of a key file, too.
+/// The tokens before any place of a key file's front are a front of a key file, too.
 pub fn key_file_fronts_law(_schema: &Schema)
     ensures { AreFrontsClosed (key_file _schema.now) }
 {}
 
-/// A text that is no key file is refused at one line and for one reason, and by one token.
+/// A text that is no key file is refused at one line, for one reason, and for one token.
 pub fn one_key_file_fault_law(_schema: &Schema, _text: &[u8])
     ensures refused { IsRefusedOnce (key_file _schema.now) (text_tokens _text.now) }
     ensures token { HasOneBadToken (key_file _schema.now) _text.now }

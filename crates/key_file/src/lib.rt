@@ -1,11 +1,27 @@
-//! The reader of key files: the packets that are looked up in the sets of a script.
+//! Reads key files: the packets that are looked up in the sets of a script.
 //!
-//! [`read_keys`] gives the packets of a text that is in the grammar, and else the line of its bad token
-//! and the first reason that applies. [`bad_token`] tells that token's place.
+//! For a script with the set `ip t p` of addresses and ports, which is set number 0, the key file
 //!
-//! **Definitions:** `specs/Keys.antt` is the grammar as a table, `KeyNames.antt` has its words, and
-//! `KeysText.antt` what a text stands for. docs/formats.md tells it. **Proofs:** docs/proofs.md,
-//! "Grammars (`token_forms`)".
+//!     ip t p 10.0.0.5 . 1024
+//!     at 60000
+//!     t p 192.168.1.5 . 2048
+//!     round
+//!     ip t p 10.0.0.5 . 80
+//!
+//! has two sections. Each packet has its set, one value for each field, and its moment in milliseconds:
+//!
+//!     section 1    packet 0    set 0    10.0.0.5 . 1024       moment 0
+//!                  packet 1    set 0    192.168.1.5 . 2048    moment 60000
+//!     section 2    packet 2    set 0    10.0.0.5 . 80         moment 60000
+//!
+//! The family is `ip` if it is left out. A `round` doesn't change the moment, and an `at` may set it
+//! back. [`read_keys`] returns the packets of a text. If the text isn't in the grammar, it returns the
+//! line of the bad token and the first reason that applies. [`bad_token`] finds that token's place.
+//! Each packet's set is declared, and its key fits the set's kinds.
+//!
+//! **Definitions:** `specs/Keys.antt` is the grammar as a table of forms. `KeyNames.antt` has its
+//! words, and `KeysText.antt` says what a text means. **Theory:** docs/formats.md, "Key files".
+//! **Proofs:** docs/proofs.md, "Grammars (`token_forms`)".
 #![tactic(auto)]
 
 mod draft;

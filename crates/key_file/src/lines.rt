@@ -77,7 +77,7 @@ fn at_behind(
     }
 }
 
-/// Ends the section, and begins the next one. The moment goes on.
+/// Ends the section, and begins the next one. The moment stays the same.
 pub fn begin_section(alloc: Global, d: &mut KeyDraft) -> Result<(), Memory>
     ensures { OnOk result (d.new ≡ next_section d.old) }
 {
@@ -94,7 +94,7 @@ fn is_at_word(reader: &Reader) -> bool
     }
 }
 
-/// A packet of a set of the table `round`, or nothing: then the next section begins.
+/// Reads a packet of a set of the table `round`. If no set's name follows, the next section begins.
 #[tactic(auto, using(token_forms::proofs::Refusals::refusals), unfolding(crate::specs::KeysReading::round_behind))]
 fn round_behind(
     reader: &mut Reader,
@@ -114,7 +114,7 @@ fn round_behind(
     }
 }
 
-/// What stands behind the first word of a line.
+/// Reads the rest of a line after its first word.
 #[tactic(auto, using(token_forms::proofs::Refusals::refusals), unfolding(crate::specs::KeysReading::line_behind))]
 fn line_behind(
     reader: &mut Reader,
@@ -155,7 +155,7 @@ fn key_line(
     line_behind(reader, alloc, schema, d, first, read_key_word(first))
 }
 
-/// A line break, or a line where one may come next.
+/// A line break, or a line if one may come next.
 #[tactic(auto, using(token_forms::proofs::Refusals::refusals))]
 fn line_or_break(
     reader: &mut Reader,
@@ -190,7 +190,7 @@ fn next_line(
     line_or_break(reader, alloc, schema, d, next)
 }
 
-/// The lines, as far as they go, and whether one more may come next.
+/// Reads lines as long as one starts. Returns also whether one more may come next.
 pub fn key_lines(
     reader: &mut Reader,
     alloc: Global,

@@ -64,7 +64,7 @@ fn all_values(reader: &mut Reader, alloc: Global, kinds: &[Kind]) -> Result<Key,
     }
 }
 
-/// The packet of the set at a place.
+/// Reads a packet of the set at a place.
 #[tactic(auto, using(token_forms::proofs::Refusals::refusals), unfolding(crate::specs::KeysReading::packet_of, token_forms::specs::Gives::Refuses))]
 pub fn packet_at(
     reader: &mut Reader,
@@ -90,7 +90,7 @@ pub fn packet_at(
     }
 }
 
-/// The name of a set of this table, and a packet of it.
+/// Reads the name of a set of this table, and a packet of that set.
 #[tactic(auto, using(token_forms::proofs::Refusals::refusals), unfolding(crate::specs::KeysReading::packet))]
 pub fn packet(
     reader: &mut Reader,

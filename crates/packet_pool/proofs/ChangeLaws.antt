@@ -17,7 +17,7 @@ pub record IsAlike (s t : State) : Type 0 where
   pub kinds : t.kinds ≡ s.kinds
   pub size : t.size ≡ s.size
 
--- A change leaves the set's kinds and size, and where it is refused the whole set.
+-- A change leaves the set's kinds and size, and if it is refused the whole set.
 module _ (s : State) (e : NewElement) (now : ℕ) where
   record Keeps (x : Option Why × State) : Type 0 where
     alike : IsAlike s x.1
@@ -58,7 +58,7 @@ refused_creation s t e now error why is given =
     let came : IsCreation (add s e now) (Err (errors.Refused why)) s t = subst (λ x. IsCreation (add s e now) (Err x) s t) is given in
     record { answer = sym came.0; leaves = came.1 ∙ sym (refusal_keeps s e now Create why came.0) }
 
--- what holds of the sets one by one, where one of them is changed and this stays
+-- what holds of the sets one by one, if one of them is changed and it still holds of that one
 pub set_same : {X : Type 0} (f : State → X) (sets : List State) (i : ℕ) (s t : State) → slice_get sets i ≡ Some s → f t ≡ f s → map f (slice_set sets i t) ≡ map f sets
 set_same f [] i s t h e = absurd (cc h)
 set_same f (x ∷ xs) zero s t h e = let is : x ≡ s = cc h in ap (λ k. k ∷ map f xs) (e ∙ ap f (sym is))

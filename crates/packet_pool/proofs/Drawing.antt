@@ -30,7 +30,7 @@ sums_within f g (x ∷ xs) h =
     let a = sum_by-cons f x xs in let b = sum_by-cons g x xs in let here = h 0 x refl in
     let rest = sums_within f g xs (λ j v e. h (suc j) v e) in omega (arith, a, b, here, rest)
 
--- Where no seat stands for a worker, nobody has what idle seats don't have.
+-- If no seat represents a worker, nobody has a number that idle seats don't have.
 sum_none : (f : Hand → ℕ) (vs : List Hand) → sum_by (λ u. u.workers) vs ≡ 0 → ((i : ℕ) (u : Hand) → get_elem? vs i ≡ some u → u.workers ≡ 0 → f u ≡ 0) → sum_by f vs ≡ 0
 sum_none f [] nobody idle = refl
 sum_none f (x ∷ xs) nobody idle =
@@ -38,7 +38,7 @@ sum_none f (x ∷ xs) nobody idle =
     let here = idle 0 x refl (omega (arith, a, nobody)) in
     let rest = sum_none f xs (omega (arith, a, nobody)) (λ i u e. idle (suc i) u e) in omega (arith, b, here, rest)
 
--- The seat that stands for all workers has all that any seat has.
+-- The seat that represents all workers has all numbers that any seat has.
 sum_whole : (f : Hand → ℕ) (vs : List Hand) (j : ℕ) (v : Hand) → get_elem? vs j ≡ some v → sum_by (λ u. u.workers) vs ≡ v.workers
     → ((i : ℕ) (u : Hand) → get_elem? vs i ≡ some u → u.workers ≡ 0 → f u ≡ 0) → sum_by f vs ≡ f v
 sum_whole f [] j v e all idle = absurd (some-ne-none v (sym e))

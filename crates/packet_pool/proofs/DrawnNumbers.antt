@@ -11,7 +11,7 @@ use Rattle.packet_pool.specs.Draws.{times, once_below}
 use Rattle.packet_pool.specs.CounterLaws.{DrawnOnce, NoOthers, NeverWraps}
 use Rattle.packet_pool.proofs.Drawing.{sum_by-at, word_most}
 
--- where a sum is 1, one view has 1, and the others have 0
+-- if a sum is 1, one view has 1, and the others have 0
 abbrev OneHas : (Hand → ℕ) → List Hand → Type 0
 OneHas f vs = (j : ℕ) × (v : Hand) × (get_elem? vs j ≡ some v) × (f v ≡ 1) × ((i : ℕ) (w : Hand) → i ≢ j → get_elem? vs i ≡ some w → f w ≡ 0)
 

@@ -88,7 +88,7 @@ module _ (first count : ℕ) (lists : List (List Line)) where
         let rest = advance n i (k + 1) (q + 1) s (λ j l. let same : q + suc j ≡ q + 1 + j = omega arith in subst (Owns i) same (own (suc j) (omega arith))) in
         let a : k + 1 + n ≡ k + suc n = omega arith in let b : q + 1 + n ≡ q + suc n = omega arith in subst (λ (z : ℕ × ℕ). Cursor i z.0 z.1) (λ t. (a t, b t)) rest
 
-    -- a list that owns none of the packets stays where it is
+    -- a list that owns none of the packets stays at its place
     skip : (n i k q : ℕ) → Cursor i k q → ((j : ℕ) → j < n → Owns i (q + j) → ⊥) → Cursor i k (q + n)
     skip n i k q cursor none m l at = let c = cursor m l at in (
       (λ lt. let b = c.0 lt in omega (arith, b)),
@@ -147,7 +147,7 @@ module _ (first count : ℕ) (lists : List (List Line)) where
           batch_line : (j : ℕ) (l : Line) → slice_get batch j ≡ Some l → (j < size) × At i (slice_index next i + j) l
           batch_line j l e = let t = get_take size (drop (slice_index next i) (lines_of lists i)) j l e in (t.0, get_drop (slice_index next i) (lines_of lists i) j l t.1)
 
-          -- the lines with the batch behind them
+          -- the lines with the batch after them
           pub filed_more : i < length next → IsFiledTo (lines ++ batch) (slice_set next i (slice_index next i + size))
           filed_more in_next =
               let long : length (lines ++ batch) ≡ 16 * b + size = omega (arith, length-append lines batch, batch_length, so_far) in

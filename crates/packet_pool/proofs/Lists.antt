@@ -33,7 +33,7 @@ module _ {A : Type 0} where
   get_at (x ∷ xs) zero l = (x, refl)
   get_at (x ∷ xs) (suc k) l = get_at xs k (omega arith)
 
-  -- the item behind all others
+  -- the item after all others
   pub get_last : (xs : List A) (k : ℕ) → k + 1 ≡ length xs → (x : A) × (slice_get xs k ≡ Some x) × EndsWith xs x
   get_last [] k e = absurd (omega arith)
   get_last (x ∷ []) zero e = (x, refl, ([], refl))
@@ -61,7 +61,7 @@ module _ {A : Type 0} where
   get_set_other (y ∷ ys) (suc i) zero x other = refl
   get_set_other (y ∷ ys) (suc i) (suc k) x other = get_set_other ys i k x (λ e. other (ap suc e))
 
-  -- the item that comes next, where a list is gone through
+  -- the next item in a walk through a list
   pub get_next : (all front rest more : List A) (x : A) → front ++ rest ≡ all → rest ≡ x ∷ more → slice_get all (length front) ≡ Some x
   get_next all front rest more x e next = ap (λ (l : List A). slice_get l (length front)) (sym e ∙ ap (λ (l : List A). front ++ l) next) ∙ behind front x more
     where
@@ -83,7 +83,7 @@ module _ {A : Type 0} where
   get_drop (suc n) [] k z e = absurd (cc)
   get_drop (suc n) (x ∷ xs) k z e = ap (slice_get (x ∷ xs)) (let same : suc n + k ≡ suc (n + k) = omega arith in same) ∙ get_drop n xs k z e
 
-  -- an item that passes is counted, and where one is counted, one passes
+  -- an item that passes is counted, and if one is counted, one passes
   pub count_there : (test : A → Bool) (xs : List A) (k : ℕ) (x : A) → slice_get xs k ≡ Some x → test x ≡ true → 0 < count_by test xs
   count_there test [] k x e is = absurd (cc)
   count_there test (y ∷ ys) zero x e is = let one = ap (λ (b : Bool). cond {A = ℕ} b 1 0) (ap test (same_Some y x e) ∙ is) in omega (arith, one, sum_by-cons (λ (z : A). cond (test z) 1 0) y ys)

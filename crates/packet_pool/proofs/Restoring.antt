@@ -26,12 +26,12 @@ pub record IsBack (lines : ℕ) (d e : ReaderView) : Type 0 where
   pub moves : e.moves ≡ d.moves + 2 * lines
 
 module _ (c : Steering) (readers : List (Option ReaderView)) (ready : AllReady c readers) where
-  -- each place has a reader that stands at the control's list
+  -- each place has a reader that has seen all of the control's list
   pub ready_at : (i : ℕ) → i < length readers → (d : ReaderView) × (slice_get readers i ≡ Some (Some d)) × (d.of ≡ c.of) × (d.schema ≡ c.schema) × (d.seen ≡ c.committed) × (d.reader ≡ i)
   ready_at i l = let o = get_at readers i l in let r = ready i o.0 o.1 in (r.0, o.1 ∙ ap (λ (z : Option ReaderView). Some z) r.1, r.2, r.3, r.4, r.5)
 
   module _ (batches : ℕ) (table : TableId) (workers : List Worker) (dealt : AreDealt readers batches table workers) where
-    -- a worker's reader stands there
+    -- a worker's reader has seen it, too
     pub worker_ready : (i : ℕ) (w : Worker) → slice_get workers i ≡ Some w → (w.reader.of ≡ c.of) × (w.reader.schema ≡ c.schema) × (w.reader.seen ≡ c.committed) × (w.reader.reader ≡ i)
     worker_ready i w e =
         let at = dealt.reader_is i w e in let r = ready i (Some w.reader) at in let same = same_Some w.reader r.0 r.1 in
@@ -81,7 +81,7 @@ module _ (c : Steering) (readers : List (Option ReaderView)) (ready : AllReady c
               ap (λ (d : ReaderView). d.of) (sym same) ∙ r.4.of_is ∙ ap (λ (d : ReaderView). d.of) first_same ∙ known.2
 
           module _ (end : Steering) (advances : Advances c end) (new : List (Option ReaderView)) (met : HaveMet end.committed back new) where
-            -- once they have met the control, they stand at its list
+            -- after they have met the control, they have seen all of its list
             pub ready_again : (length new ≡ length readers) × AllReady end new
             ready_again = (
               (let a = met.size in let b = are_back.size in omega arith),

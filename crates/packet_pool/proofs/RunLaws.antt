@@ -28,7 +28,7 @@ use Rattle.gen_publish.proofs.KindLaws.{declared_at}
 use Rattle.packet_pool.specs.Running.{Run, run, HasCome, StandsAt, GoesOn, Ran, control_of, Breaks, HasBroken}
 use Rattle.packet_pool.proofs.ChangeLaws.{refusal_keeps}
 
--- A control that goes on in the same way where the run stands.
+-- A control that goes on in the same way from the run's state.
 pub goes_as : (f g : Control → Control) (old new : Run) → ((before : List Event) (c : Control) → StandsAt before c old → f c ≡ g c) → GoesOn f old new → GoesOn g old new
 goes_as f g old new same does = record {
   of_is = does.of_is;
@@ -118,7 +118,7 @@ flush_goes k new set n r ok same change told failed = record {
       });
 }
 
--- A change and a flush where the transaction hasn't failed.
+-- A change and a flush in a transaction that hasn't failed.
 pub open_change : (mode : Mode) (old new : Run) (line set : ℕ) (verb : Verb) (element : NewElement) (now : ℕ) → old.failed ≡ false
     → GoesOn (λ c. changed mode c line set verb element now (slice_get c.sets set)) old new
     → GoesOn (λ c. step mode c (Change line set verb element now)) old new
@@ -210,11 +210,11 @@ goes_more mode steps i s r here new h e first next = record {
   stands = λ before c st. subst (λ (k : Control). StandsAt before k new) (fold-more (step mode) c steps i s h e) (next.stands before (section mode c (take i steps)) (first.stands before c st));
 }
 
--- a control stands where its definition's does
+-- a control has the state of its definition's control
 pub stands_here : (s : Steering) → StandsAt [] (control_of s) (run s false [])
 stands_here s = record { committed = refl; last = refl; sets = refl; failed = refl; told = refl }
 
--- Where a step broke off, the committed list is that after some of the steps.
+-- If a step ran out of memory, the committed list is the list after some of the steps.
 pub broken : (keep_going : Bool) (steps : List Step) (i : ℕ) (s : Step) (old here new : Steering) (failed : Bool) (events : List Event) → i < length steps → s ≡ get_or steps i s
     → GoesOn (λ c. section (mode_of keep_going) c (take i steps)) (run old false []) (run here failed events) → Breaks (λ c. step (mode_of keep_going) c s) (run here failed events) new
     → HasBroken keep_going steps old new
@@ -265,7 +265,7 @@ section_number : (mode : Mode) (c : Control) (steps : List Step) → (section mo
 section_number mode c [] = omega arith
 section_number mode c (s ∷ steps) = let one = step_number mode c s in let rest = section_number mode (step mode c s) steps in omega (arith, one, rest)
 
--- Steps make at most as many generations as they are.
+-- Steps make at most one generation each.
 pub goes_number : (keep_going : Bool) (steps : List Step) (old new : Steering) (failed : Bool) (events : List Event) → GoesOn (λ c. section (mode_of keep_going) c steps) (run old false []) (run new failed events)
     → new.work.base.number ≤ old.work.base.number + length steps
 goes_number keep_going steps old new failed events goes =
@@ -331,6 +331,6 @@ advances keep_going steps c d events h =
       readers_is = h.goes_on.readers_is;
     }
 
--- numbers are left for what comes behind the steps
+-- there are numbers left for what follows the steps
 pub ran_number : (keep_going : Bool) (steps : List Step) (old new : Steering) (events : List Event) → Ran keep_going steps old new events → new.work.base.number ≤ old.work.base.number + length steps
 ran_number keep_going steps old new events h = goes_number keep_going steps old new h.failed events h.goes_on

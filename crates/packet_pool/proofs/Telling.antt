@@ -50,7 +50,7 @@ module _ (verdict : Generation → Packet → Verdict) (packets : List Packet) (
   line_lower : (low high : ℕ) (seen : List Generation) → low ≤ high → (p : ℕ) (l : Line) → IsLine verdict packets first thread high seen p l → IsLine verdict packets first thread low seen p l
   line_lower low high seen le p l h = record { names = h.names; thread_is = h.thread_is; packet = h.packet; packet_is = h.packet_is; is_late = let a = h.is_late in omega (arith, le, a); answer = h.answer }
 
-  -- a line on the newest generation, behind all others
+  -- a line on the newest generation, after all others
   pub told_more : (low : ℕ) (all seen : List Generation) → StartsWith all seen → low ≤ length seen → (lines : List Line) (p : ℕ) (l : Line) → IsLine verdict packets first thread (length all) all p l → l.generation + 1 ≡ length all → Before l.packet lines
       → Told verdict packets first thread low seen lines → Told verdict packets first thread low all (lines ++ l ∷ [])
   told_more low all seen b le lines p l new newest before t = let more = begins_all all seen b in record {

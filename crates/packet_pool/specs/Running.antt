@@ -1,4 +1,4 @@
--- How a control and what it has told stand beside the definition's control.
+-- How a control and what it has reported correspond to the definition's control.
 use Rattle.std.specs.Prelude.{◌≡◌, ◌+◌, ◌^◌, ◌<◌, ◌≤◌, ◌⊎◌, ℕ, Bool, false, List, [], ◌++◌, take, length, Option}
 use Rattle.set_model.specs.declared.report.Event.{Event}
 use Rattle.set_model.specs.declared.report.Why.{Why}
@@ -7,7 +7,7 @@ use Rattle.set_model.specs.SetState.{State}
 use Rattle.set_model.specs.Control.{Control, mode_of, section}
 use Rattle.gen_publish.specs.Publish.{Steering}
 
--- a control, whether its open transaction has failed, and what it has told
+-- a control, whether its open transaction has failed, and what it has reported
 pub record Run : Type 0 where
   pub control : Steering
   pub failed : Bool
@@ -16,12 +16,12 @@ pub record Run : Type 0 where
 abbrev pub run : Steering → Bool → List Event → Run
 run control failed events = record { control = control; failed = failed; events = events }
 
--- What a change of a set came to: this answer, and this set.
+-- The result of a change of a set: this answer, and this set.
 pub record HasCome (expected : Option Why × State) (why : Option Why) (new : State) : Type 0 where
   pub answer : why ≡ expected.0
   pub leaves : new ≡ expected.1
 
--- It stands where the definition's control does; behind what was told before, this was told.
+-- It has the same state as the definition's control. After what was reported before, this was reported.
 pub record StandsAt (before : List Event) (c : Control) (r : Run) : Type 0 where
   pub committed : c.committed ≡ r.control.committed
   pub last : c.last ≡ r.control.work.base
@@ -29,35 +29,35 @@ pub record StandsAt (before : List Event) (c : Control) (r : Run) : Type 0 where
   pub failed : c.failed ≡ r.failed
   pub told : c.events ≡ before ++ r.events
 
--- It goes on as the definition's control does: where it stood by the control before, it stands by the control after.
+-- It goes on as the definition's control does: if both agreed before, they agree after it.
 pub record GoesOn (next : Control → Control) (old new : Run) : Type 0 where
   pub of_is : new.control.of ≡ old.control.of
   pub schema_is : new.control.schema ≡ old.control.schema
   pub readers_is : new.control.readers ≡ old.control.readers
   pub stands : (before : List Event) (c : Control) → StandsAt before c old → StandsAt before (next c) new
 
--- The steps were run, and told these events.
+-- The steps were run, and reported these events.
 pub record Ran (keep_going : Bool) (steps : List Step) (old new : Steering) (events : List Event) : Type 0 where
   pub failed : Bool
   pub goes_on : GoesOn (λ c. section (mode_of keep_going) c steps) (run old false []) (run new failed events)
 
--- the definition's control where this one stands
+-- the definition's control in the state of this one
 abbrev pub control_of : Steering → Control
 control_of s = record { committed = s.committed; last = s.work.base; sets = s.work.sets; failed = false; events = [] }
 
--- There are numbers below 2 ^ 63 for as many generations as there are steps.
+-- There are enough numbers below 2 ^ 63 for one generation a step.
 abbrev pub HasNumbers : Steering → List Step → Type 0
 HasNumbers s steps = s.work.base.number + length steps < 2 ^ 63
 
--- The control is of the same start, with the same declared sets and as many readers.
+-- The control is of the same start, and has the same declared sets and as many readers.
 abbrev pub IsSameStart : Steering → Steering → Type 0
 IsSameStart old new = (new.of ≡ old.of) × (new.schema ≡ old.schema) × (new.readers ≡ old.readers)
 
--- Where a step found no memory, it had committed nothing, or what the definition's control commits.
+-- If a step ran out of memory, it had committed nothing, or what the definition's control commits.
 abbrev pub Breaks : (Control → Control) → Run → Steering → Type 0
 Breaks next old new = (new.committed ≡ old.control.committed) ⊎ ((before : List Event) (c : Control) → StandsAt before c old → (next c).committed ≡ new.committed)
 
--- Where the steps found no memory, the committed list is that after some of them, from the front.
+-- If the steps ran out of memory, the committed list is the list after some first part of them.
 pub record HasBroken (keep_going : Bool) (steps : List Step) (old new : Steering) : Type 0 where
   pub done : ℕ
   pub some_steps : done ≤ length steps

@@ -13,7 +13,7 @@ use Rattle.packet_pool.specs.declared.worker.Worker.{Worker}
 use Rattle.packet_pool.specs.Draws.{times, hand}
 use Rattle.packet_pool.specs.Section.{AnswersPacket, by_thread}
 
--- readers that are there and stand at the control's list, numbered from 0
+-- every place has a reader that has seen all of the control's list and has its place as its number
 abbrev pub AllReady : Steering → List (Option ReaderView) → Type 0
 AllReady c readers = (i : ℕ) (o : Option ReaderView) → slice_get readers i ≡ Some o → (d : ReaderView) × (o ≡ Some d) × (d.of ≡ c.of) × (d.schema ≡ c.schema) × (d.seen ≡ c.committed) × (d.reader ≡ i)
 
@@ -29,12 +29,13 @@ batches_of packets = (packets + 15) / 16
 abbrev pub named : ℕ → List Line → ℕ
 named n lines = count_by (λ l. l.packet == n) lines
 
--- all packets that are named lie before this one
+-- all packets that the lines name come before this one
 abbrev pub Before : ℕ → List Line → Type 0
 Before n lines = (k : ℕ) (l : Line) → slice_get lines k ≡ Some l → l.packet < n
 
 module _ (verdict : Generation → Packet → Verdict) (packets : List Packet) (first thread low : ℕ) (seen : List Generation) where
-  -- a thread's line of the packet at a place: low is how many generations the thread had seen before the section, seen are those that it has seen since
+  -- A thread's line for the packet at a place. low: how many generations the thread had seen before the
+  -- section. seen: those that it has seen by now.
   pub record IsLine (place : ℕ) (l : Line) : Type 0 where
     pub names : l.packet ≡ first + place
     pub thread_is : l.thread ≡ thread
@@ -54,17 +55,18 @@ pub record IsFresh (batches : ℕ) (table : TableId) (w : Worker) : Type 0 where
   pub place : w.place.me ≡ (hand 1 batches [] 0, [])
   pub blank : w.lines.items ≡ []
 
--- what its reader can answer
+-- its reader's sets can be judged, and the packets fit them
 pub record Serves (serves : List SetDecl → Type 0) (packets : List Packet) (w : Worker) : Type 0 where
   pub schema : serves w.reader.schema
   pub packets_fit : AllFit w.reader.schema packets
 
--- a worker's seat is that of one worker at this counter
+-- a worker's seat represents one worker at this counter
 pub record IsSeated (table : TableId) (w : Worker) : Type 0 where
   pub table_is : w.place.table_id ≡ table
   pub place : (w.place.me.1 ≡ []) × (w.place.me.0.workers ≡ 1)
 
--- What a worker has done: it has a line for each packet of the batches that it drew, and drew until there were no more. Each line took one enter and one leave.
+-- What a worker has done: it has a line for each packet of the batches that it drew, and it drew until
+-- there were no more. Each line took one enter and one leave.
 pub record HasWorked (verdict : Generation → Packet → Verdict) (packets : List Packet) (first : ℕ) (old new : Worker) : Type 0 where
   pub thread_is : new.thread ≡ old.thread
   pub seen : StartsWith new.reader.seen old.reader.seen
@@ -80,19 +82,19 @@ pub record AllWorked (verdict : Generation → Packet → Verdict) (packets : Li
   pub size : length new ≡ length old
   pub each : (i : ℕ) (v w : Worker) → slice_get old i ≡ Some v → slice_get new i ≡ Some w → HasWorked verdict packets first v w
 
--- the workers have the first readers, and are numbered like them
+-- the workers have the first readers and their numbers
 pub record AreDealt (readers : List (Option ReaderView)) (batches : ℕ) (table : TableId) (workers : List Worker) : Type 0 where
   pub thread_is : (i : ℕ) (w : Worker) → slice_get workers i ≡ Some w → w.thread ≡ i
   pub reader_is : (i : ℕ) (w : Worker) → slice_get workers i ≡ Some w → slice_get readers i ≡ Some (Some w.reader)
   pub fresh : (i : ℕ) (w : Worker) → slice_get workers i ≡ Some w → IsFresh batches table w
 
--- the workers' readers are at their places again, and the others where they were
+-- the workers' readers are at their places again, and the others stayed
 pub record AreBack (old : List (Option ReaderView)) (workers : List Worker) (new : List (Option ReaderView)) : Type 0 where
   pub size : length new ≡ length old
   pub back : (i : ℕ) (w : Worker) → slice_get workers i ≡ Some w → slice_get new i ≡ Some (Some w.reader)
   pub idle : (i : ℕ) → length workers ≤ i → slice_get new i ≡ slice_get old i
 
--- the readers have met a control: each had seen a beginning of this list, and has seen all of it
+-- the readers have met a control: each had seen a beginning of this list, and has now seen all of it
 pub record HaveMet (all : List Generation) (old new : List (Option ReaderView)) : Type 0 where
   pub size : length new ≡ length old
   pub begun : (i : ℕ) (d : ReaderView) → slice_get old i ≡ Some (Some d) → StartsWith all d.seen
@@ -106,7 +108,8 @@ drawn_by workers = flat_map (λ w. w.place.me.0.drawn) workers
 abbrev pub lines_of : List (List Line) → ℕ → List Line
 lines_of lists i = slice_index_or lists i []
 
--- the packets from first on, split among threads: each has one line, those of a batch are one thread's, and a thread's rise
+-- the packets from first on, split among threads: each packet has one line, each batch one thread, and
+-- a thread's packets rise
 pub record IsSplit (first count : ℕ) (lists : List (List Line)) : Type 0 where
   pub thread_is : (i k : ℕ) (l : Line) → slice_get (lines_of lists i) k ≡ Some l → l.thread ≡ i
   pub within : (i k : ℕ) (l : Line) → slice_get (lines_of lists i) k ≡ Some l → (p : ℕ) × (p < count) × (l.packet ≡ first + p)
@@ -128,6 +131,6 @@ pub record IsFiled (first count : ℕ) (lists : List (List Line)) (lines : List 
   pub from : (p : ℕ) (l : Line) → slice_get lines p ≡ Some l → (i : ℕ) × (k : ℕ) × (slice_get (lines_of lists i) k ≡ Some l)
   pub counts : (i : ℕ) → by_thread i lines ≡ length (lines_of lists i)
 
--- the next line of list i is this packet's, where next says how many of each list were taken
+-- the next line of list i is this packet's; next says how many lines of each list were taken
 abbrev pub GoesOnWith : List (List Line) → List ℕ → ℕ → ℕ → Type 0
 GoesOnWith lists next packet i = (l : Line) × (slice_get (lines_of lists i) (slice_index next i) ≡ Some l) × (l.packet ≡ packet)

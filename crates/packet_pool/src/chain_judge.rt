@@ -4,7 +4,7 @@ use gen_publish::Held;
 use rule_chain::{Chains, Lookups};
 use set_model::{Key, Packet, Verdict};
 
-/// What chains of rules decide on a packet. All sets that their rules test are of the generation that is held.
+/// Judges a packet by chains of rules. All sets that the rules test are of the generation that is held.
 #[derive(Drop)]
 pub struct ChainJudge {
     /// The chains of a rules file.

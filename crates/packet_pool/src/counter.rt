@@ -7,19 +7,19 @@ use set_model::Memory;
 use std::alloc::Global;
 use std::collections::LinkedList;
 
-/// What a seat at the counter knows. No value of it is made.
+/// What a seat at the counter knows. It exists in proofs alone; no code makes one.
 pub struct Hand {
-    /// How many workers it stands for.
+    /// How many workers the seat represents.
     pub workers: u64,
-    /// How many batches there are, if it stands for a worker.
+    /// How many batches there are, if the seat represents a worker.
     pub batches: u64,
-    /// The numbers that it has drawn.
+    /// The numbers that the seat has drawn.
     pub drawn: LinkedList<u64>,
-    /// How many of the drawn numbers are past the batches.
+    /// How many of the drawn numbers are no batch's, since they are too high.
     pub past: u64,
 }
 
-/// What the counter is told once.
+/// What the counter learns at its start.
 #[derive(Clone, Copy)]
 pub struct Supply {
     /// How many batches there are.
@@ -40,7 +40,7 @@ impl TableRule<u64, Hand, Supply> for Draws {
 /// The counter: one word, and no entries.
 pub type Counter = Table<u64, Hand, Supply, Draws, Global>;
 
-/// A seat at the counter: what its holder has drawn.
+/// A seat at the counter, with what its holder has drawn.
 pub type Place = Seat<u64, Hand>;
 
 struct DrawStep;
@@ -55,7 +55,7 @@ impl Play<u64, Hand> for CountStep {
     ghost then = { counted };
 }
 
-/// A new seat stands for one of the workers.
+/// The step that gives one of a seat's workers to a new seat.
 struct DealStep;
 
 impl Split<Hand> for DealStep {
@@ -64,7 +64,7 @@ impl Split<Hand> for DealStep {
     ghost right = { λ d. hand 1 d.batches [] 0 };
 }
 
-/// A seat hands over its workers and what it has drawn.
+/// The step by which one seat takes over another's workers and drawn numbers.
 struct GatherStep;
 
 impl Join<Hand> for GatherStep {
@@ -73,7 +73,7 @@ impl Join<Hand> for GatherStep {
     ghost spent = { hand 0 0 [] 0 };
 }
 
-/// A counter at 0, and the seat that stands for all workers.
+/// A counter at 0, and the seat that represents all workers. `Memory` if memory runs out.
 pub(crate) fn open(alloc: Global, batches: u64, workers: u64) -> Result<(Counter, Place), Memory>
     requires { batches + workers < 2 ^ 64 }
     ensures table { IfOk result (λ r. (r.1.table_id ≡ r.0.shared.table_id) × (r.0.shared.table_id.words ≡ 1) × (r.0.shared.key ≡ record { batches = batches; workers = workers })) }
@@ -115,7 +115,7 @@ pub(crate) fn draw(counter: &Counter, place: &mut Place) -> u64
     counter.shared.fetch_add::<DrawStep>(place, 0, 1)
 }
 
-/// The other seat's workers and numbers join those of the first.
+/// The first seat takes over the other seat's workers and drawn numbers.
 pub(crate) fn gather(counter: &Counter, place: &mut Place, other: Place)
     requires table { (place.old.table_id ≡ counter.now.shared.table_id) × (other.table_id ≡ counter.now.shared.table_id) × (counter.now.shared.table_id.words ≡ 1) × (other.me.1 ≡ []) }
     requires worker { 0 < other.me.0.workers }
@@ -125,7 +125,7 @@ pub(crate) fn gather(counter: &Counter, place: &mut Place, other: Place)
     counter.shared.join_seat::<GatherStep>(place, other);
 }
 
-/// How many numbers were drawn. The seat that stands for all workers has each of them once.
+/// How many numbers were drawn. The seat that represents all workers has drawn each of them once.
 pub(crate) fn count_drawn(counter: &Counter, place: &mut Place) -> u64
     requires table { (place.old.table_id ≡ counter.now.shared.table_id) × (counter.now.shared.table_id.words ≡ 1) }
     requires workers { place.old.me.0.workers ≡ counter.now.shared.key.workers }

@@ -1,4 +1,4 @@
-//! The lines of all threads, in the order of their packets.
+//! Puts the lines of all threads into the order of their packets.
 ghost use Rattle.std.specs.Prelude.{◌≡◌, ◌+◌, ◌<◌, ◌≤◌, ◌^◌, ℕ, length, map, IfOk};
 ghost use Rattle.packet_pool.specs.Work.{IsSplit, IsFiled, GoesOnWith};
 

@@ -1,11 +1,12 @@
-/// What is told of each section of a run, and of each step, packet and commit of a section, as it comes. A test holds threads
-/// by it, and a program tells a person how far it is.
+/// Hears of each section of a run, and of each step, packet and commit in it, as they come. A test uses
+/// a gate to hold threads back, and a program to show its progress.
 pub trait Gate: Sync {
-    /// Comes before each section of a run, and where control threads do sections before each transaction of one: its
-    /// number, that of the last section, and how many packets it has. It may be left out.
+    /// Comes before each section of a run: its number, the number of the last section, and how many
+    /// packets it has. If control threads do the sections, it comes before each transaction. An
+    /// implementation may leave it out.
     fn section(&self, _number: u64, _last: u64, _packets: u64) {}
 
-    /// Comes before each step of a section. It may be left out.
+    /// Comes before each step of a section. An implementation may leave it out.
     fn step(&self) {}
 
     /// Comes before a thread enters for a packet.
@@ -17,7 +18,7 @@ pub trait Gate: Sync {
     /// Comes before each commit, with the number of the last generation.
     fn closing(&self, generation: u64);
 
-    /// Comes after each commit that found its memory, with the new number.
+    /// Comes after each commit that didn't run out of memory, with the new number.
     fn closed(&self, generation: u64);
 }
 

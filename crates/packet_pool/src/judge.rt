@@ -9,12 +9,12 @@ ghost use Rattle.set_model.specs.declared.script.SetDecl.{SetDecl};
 use gen_publish::Held;
 use set_model::{Packet, Verdict};
 
-/// The answer to a packet on a held generation.
+/// Gives the verdict on a packet in a held generation.
 pub trait Judge: Sync {
     // The verdict on a packet in a generation.
     ghost verdict: { Self → Generation → Packet → Verdict };
 
-    // The schemas that it serves.
+    // The schemas for which it can judge.
     ghost serves: { Self → List SetDecl → Type 0 };
 
     /// The verdict on a packet in the generation that is held.

@@ -1,5 +1,5 @@
-//! The laws of the counter's rule, which no call's contract names: what it says of the word, and that each kind of step
-//! keeps it, in every interleaving. There is no other step on the word.
+//! The laws of the counter's rule, which no call's contract names. They say what the rule means for the
+//! word, and that each kind of step keeps the rule, in every interleaving. The word has no other steps.
 ghost use Rattle.packet_pool.specs.CounterLaws.{DrawnOnce, NoOthers, NeverWraps, Opens, DrawKeeps, SplitKeeps, JoinKeeps, CountKeeps};
 
 /// What holds of the word and of what the seats have drawn, between any two steps.

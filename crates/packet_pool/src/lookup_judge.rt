@@ -3,7 +3,8 @@ use crate::judge::Judge;
 use gen_publish::Held;
 use set_model::{Packet, Verdict};
 
-/// The first element of the packet's set that is live at the packet's moment and holds its key.
+/// Judges a packet by the first element of its set that is live at the packet's moment and holds its
+/// key.
 pub struct LookupJudge;
 
 impl Judge for LookupJudge {

@@ -1,4 +1,4 @@
-//! How readers go to workers and come back.
+//! Hands readers to workers and takes them back.
 ghost use Rattle.std.specs.Prelude.{[], ◌≡◌, ◌+◌, ◌<◌, ◌≤◌, ◌^◌, ◌++◌, ℕ, length, map, IfOk, Some, slice_get};
 ghost use Rattle.history_laws.specs.Histories.{StartsWith};
 ghost use Rattle.gen_publish.specs.Publish.{ReaderView};
@@ -12,7 +12,7 @@ use gen_publish::{Control, Reader};
 use set_model::{Line, Memory};
 use std::alloc::Global;
 
-/// Workers with the first readers, which leave their places.
+/// Workers with the first readers. The places of these readers are empty then.
 pub(crate) fn hand_out(
     alloc: Global,
     counter: &Counter,
@@ -43,8 +43,8 @@ pub(crate) fn hand_out(
     Ok(workers)
 }
 
-/// The lines of the workers, one after another. Their readers are back at their places, and their places at the
-/// counter are gathered.
+/// The lines of the workers, one after another. Their readers are back at their places, and their seats
+/// at the counter are one.
 pub(crate) fn take_back(
     alloc: Global,
     counter: &Counter,
@@ -76,7 +76,7 @@ pub(crate) fn take_back(
     Ok(lists)
 }
 
-/// The control hears the reader's note, and the reader meets the control's.
+/// The control takes what the reader notes, and the reader what the control notes.
 fn meet(control: &mut Control, reader: &mut Reader)
     requires { reader.old.of ≡ control.old.of }
     ensures same { control.new ≡ control.old }

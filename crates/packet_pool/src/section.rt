@@ -21,16 +21,16 @@ use std::alloc::Global;
 use std::mem;
 use std::thread::{Threads, join_mut};
 
-/// What a section told: the events of its steps, and the lines of its packets in their order.
+/// What a section reports: the events of its steps, and the lines of its packets in their order.
 #[derive(Drop)]
 pub struct SectionResult {
-    /// What its steps told.
+    /// The events of its steps.
     pub events: Events,
     /// The line of each packet.
     pub lines: Lines,
 }
 
-/// The steps beside the workers, or one after the other where one of them has nothing to do.
+/// Does the steps beside the workers. It does one after the other if there are no packets or no steps.
 fn beside<R: Threads + Sync, J: Judge, G: Gate>(
     rt: &R,
     alloc: Global,
@@ -112,12 +112,13 @@ fn answer_all<R: Threads + Sync, J: Judge, G: Gate>(
     Ok((events, lists))
 }
 
-/// Runs the steps of a section beside its packets, which are numbered from `first` on. Each reader is a thread's, by its
-/// place. Threads are started where there is work for more than one of them. After `Memory` the run is over.
+/// Runs the steps of a section beside its packets, which are numbered from `first` on. The reader at
+/// place i belongs to thread i. It starts threads only if more than one of them has work. After
+/// `Memory` the run is over.
 ///
 /// # Errors
 ///
-/// `Memory` if there is none left.
+/// `Memory` if memory runs out.
 pub fn run_section<R: Threads + Sync, J: Judge, G: Gate>(
     rt: &R,
     alloc: Global,

@@ -14,7 +14,7 @@ use gen_publish::Control;
 use set_model::{Event, Events, Memory, NewElement, Step, Steps, Verb, Why};
 use std::alloc::Global;
 
-/// Tells a refusal, which fails the transaction unless the run keeps going.
+/// Reports a refusal. The refusal fails the transaction unless the run keeps going.
 fn refuse(
     failed: &mut bool,
     keep_going: bool,
@@ -31,7 +31,7 @@ fn refuse(
     Ok(())
 }
 
-/// Changes an element, or tells why not.
+/// Changes an element, or reports why not.
 fn try_change(
     control: &mut Control,
     failed: &mut bool,
@@ -67,7 +67,7 @@ fn try_flush(control: &mut Control, set: u32) -> Result<(), Memory>
     Ok(())
 }
 
-/// Tells the end of a transaction that is taken back, and takes it back.
+/// Takes a transaction back, and reports its end.
 fn rewind(
     control: &mut Control,
     failed: &mut bool,
@@ -84,7 +84,7 @@ fn rewind(
     Ok(())
 }
 
-/// Ends the transaction at `now`, in milliseconds: publishes it, or drops it where it has failed.
+/// Ends the transaction at `now`, in milliseconds: commits it, or takes it back if it has failed.
 fn commit<G: Gate>(
     control: &mut Control,
     failed: &mut bool,
@@ -112,11 +112,11 @@ fn commit<G: Gate>(
     Ok(())
 }
 
-/// Does the next step. A transaction that has failed tries nothing more until its end.
+/// Does the next step. A failed transaction tries nothing more until its end.
 ///
 /// # Errors
 ///
-/// `Memory` if there is none left. A commit may have been made; the other steps commit nothing.
+/// `Memory` if memory runs out. A commit may have been made; the other steps commit nothing.
 pub fn do_step<G: Gate>(
     control: &mut Control,
     failed: &mut bool,
@@ -162,11 +162,12 @@ pub fn do_step<G: Gate>(
     }
 }
 
-/// Does steps, one after another, from a control whose open transaction has not failed, and tells what comes of them.
+/// Does steps, one after another, and returns their events. The control's open transaction must not
+/// have failed.
 ///
 /// # Errors
 ///
-/// `Memory` if there is none left.
+/// `Memory` if memory runs out.
 pub fn run_steps<G: Gate>(
     alloc: Global,
     control: &mut Control,

@@ -14,7 +14,7 @@ use set_model::{Line, Memory, Packets};
 /// How many packets a worker draws at once.
 pub(crate) const BATCH: u64 = 16;
 
-/// The packets of a section, the number of the first, and what answers them.
+/// The packets of a section, the number of the first, and their judge.
 #[derive(Drop)]
 pub(crate) struct Traffic<'a, J, G> {
     pub(crate) packets: &'a Packets,
@@ -32,8 +32,9 @@ impl<J: Judge, G: Gate> Traffic<'_, J, G> {
         self.packets.len().div_ceil(BATCH)
     }
 
-    /// One packet, under an enter and a leave of its own. Its line is written before the leave: so nothing stands between
-    /// this leave and the next enter, whose words all threads share.
+    /// Answers one packet, between an enter and a leave of its own. It writes the line before the
+    /// leave. So it does nothing between this leave and the next enter, which work on words that all
+    /// threads share.
     #[inline]
     fn answer(&self, reader: Reader, thread: u32, place: u64, lines: &mut Vec<Line>) -> Reader
         requires place { place < length self.now.packets.now }
@@ -63,7 +64,7 @@ impl<J: Judge, G: Gate> Traffic<'_, J, G> {
         reader
     }
 
-    /// The packets of one batch. Room for their lines is taken before the first enter.
+    /// Answers the packets of one batch. It takes room for their lines before the first enter.
     fn answer_batch(
         &self,
         reader: Reader,

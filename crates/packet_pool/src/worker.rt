@@ -17,15 +17,15 @@ use std::thread::Threads;
 pub struct Worker {
     /// Its thread's number, from 0.
     pub thread: u32,
-    /// Its reader, which holds nothing.
+    /// Its reader, which holds no generation.
     pub reader: Reader,
-    /// Its place at the counter.
+    /// Its seat at the counter.
     pub place: Place,
     /// The lines that it has made, in their order.
     pub lines: Vec<Line>,
 }
 
-/// The workers, where each of them has found its memory.
+/// The workers, if none of them ran out of memory.
 fn all_done(alloc: Global, done: Vec<Result<Worker, Memory>>) -> Result<Vec<Worker>, Memory>
     ensures { IfOk result (λ v. done.items ≡ map Ok v.items) }
 {
@@ -36,7 +36,7 @@ fn all_done(alloc: Global, done: Vec<Result<Worker, Memory>>) -> Result<Vec<Work
     Ok(workers)
 }
 
-/// All workers' parts, each in a thread of its own where one can be made.
+/// All workers' parts, each in a thread of its own if one can be started.
 pub(crate) fn work_all<R: Threads + Sync, J: Judge, G: Gate>(
     rt: &R,
     alloc: Global,

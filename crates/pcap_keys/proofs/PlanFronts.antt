@@ -1,4 +1,4 @@
--- What stands before any place of a front of a plan is a front, form by form.
+-- The tokens before any place of a front of a plan are a front, form by form.
 use Rattle.std.specs.Prelude.{ℕ, List, [], ◌∷◌, length, nat_lt, Bool, true, false, Option, Some, None, slice_get}
 use Rattle.set_model.specs.declared.kind.Kind.{Kind}
 use Rattle.set_model.specs.declared.script.Family.{Family}

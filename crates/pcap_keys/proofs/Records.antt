@@ -9,7 +9,7 @@ use Rattle.pcap_keys.specs.Savefile.{number, kept, is_whole, is_version, link_of
 use Rattle.pcap_keys.specs.Captured.{fault, frame_of, start_of, behind, records, all_records, of_format, IsUnlessMemory}
 use Rattle.std.proofs.lemmas.Bool.{lt-ltb, le-ltb}
 
--- these are the frames of the records before a place, and the others stand from there on
+-- these are the frames of the records before a place, and the others follow from there on
 pub record Left (format : Format) (link : Link) (start : ℕ) (text : List ℕ) (frames : List Frame) (place : ℕ) : Type 0 where
   pub turns : ℕ
   pub enough : length text ≤ place + turns

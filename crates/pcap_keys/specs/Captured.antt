@@ -1,4 +1,4 @@
--- What a file stands for as a capture: its frames, or its first fault.
+-- What a file means as a capture: its frames, or its first fault.
 use Rattle.std.specs.Prelude.{◌≡◌, ℕ, zero, suc, ◌+◌, ◌-◌, ◌%◌, ◌^◌, Bool, true, false, not, nat_lt, nat_le, if◌then◌else◌, List, [], ◌∷◌, ◌++◌, length, drop, Option, Some, None, Result, Ok, Err}
 use Rattle.pcap_keys.specs.declared.facts.Frame.{Frame}
 use Rattle.pcap_keys.specs.declared.format.Format.{Format}
@@ -17,7 +17,7 @@ fault byte reason = Err (Bad byte reason)
 abbrev pub frame_of : Format → Link → ℕ → List ℕ → Frame
 frame_of format link start bytes = record { moment = record_time format bytes - start; facts = facts link (frame_bytes format bytes) }
 
--- the time of the first record, which stands behind the file's header of 24 bytes
+-- the time of the first record, which follows the file's header of 24 bytes
 abbrev pub start_of : Format → List ℕ → ℕ
 start_of format text = if nat_le 40 (length text) then record_time format (drop 24 text) else 0
 
@@ -26,17 +26,17 @@ abbrev pub behind : List Frame → Result (List Frame) CaptureError → Result (
 behind frames (Ok others) = Ok (frames ++ others)
 behind frames (Err e) = Err e
 
--- what follows, where bytes are left; else the records are at their end
+-- what follows, if bytes are left; else the records end here
 abbrev pub where_left : Bool → Result (List Frame) CaptureError → Result (List Frame) CaptureError
 where_left true others = others
 where_left false others = Ok []
 
--- what follows, where the record at this place is whole; else it is a fault at its first byte
+-- what follows, if the record at this place is whole; else a fault at its first byte
 abbrev pub where_whole : Bool → ℕ → Result (List Frame) CaptureError → Result (List Frame) CaptureError
 where_whole true place others = others
 where_whole false place others = fault place reasons.Cut
 
--- The records from a place of the file on, one after the other up to its end. `turns` is at least the number of their bytes.
+-- The records from a place of the file up to its end. `turns` is at least the number of bytes.
 abbrev pub records : Format → Link → ℕ → List ℕ → ℕ → ℕ → Result (List Frame) CaptureError
 records format link start text zero place = Ok []
 records format link start text (suc turns) place =
@@ -45,7 +45,7 @@ records format link start text (suc turns) place =
     (where_whole (is_whole format bytes) place
     (behind (frame_of format link start bytes ∷ []) (records format link start text turns (place + (16 + kept format bytes)))))
 
--- The records stand behind the file's header.
+-- The records follow the file's header.
 abbrev pub all_records : Format → List ℕ → Link → Result (List Frame) CaptureError
 all_records format text link = records format link (start_of format text) text (length text) 24
 
@@ -64,7 +64,7 @@ of_format text (Some format) =
 unfoldable pub captured : List ℕ → Result (List Frame) CaptureError
 captured text = if nat_lt (length text) 4 then fault 0 reasons.Magic else of_format text (format_of text)
 
--- the answer is this, or memory ran out
+-- the answer is this, unless memory ran out
 abbrev pub IsUnlessMemory : Result (List Frame) CaptureError → Result (List Frame) CaptureError → Type 0
 IsUnlessMemory (Ok frames) o = Ok frames ≡ o
 IsUnlessMemory (Err (Bad byte reason)) o = Err (Bad byte reason) ≡ o

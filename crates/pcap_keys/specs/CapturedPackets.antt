@@ -17,7 +17,7 @@ IsCapture text frames = captured text ≡ Ok frames
 abbrev pub IsBadCapture : List ℕ → ℕ → CaptureReason → Type 0
 IsBadCapture text byte reason = captured text ≡ fault byte reason
 
--- The first text is a plan for the sets of the schema, the second a capture, and these are the packets that the plan makes of its frames.
+-- One text is a plan for the schema's sets, the other a capture, and these are the packets that the plan makes of its frames.
 pub record AreCaptured (schema : List SetDecl) (plan_text capture_text : List ℕ) (packets : List Packet) : Type 0 where
   pub plan : List PlanLine
   pub frames : List Frame

@@ -1,4 +1,4 @@
--- What plans and facts keep, so that the packets that they make fit the sets.
+-- What holds of plans and facts, so that their packets fit the sets.
 use Rattle.std.specs.Prelude.{◌≡◌, List, map, true, Some, IfSome, slice_get}
 use Rattle.set_model.specs.declared.kind.Kind.{Kind}
 use Rattle.set_model.specs.declared.kind.Kind.TheVariants as kinds
@@ -11,7 +11,7 @@ use Rattle.pcap_keys.specs.declared.selector.Selector.TheVariants.{IpSource, IpD
 use Rattle.pcap_keys.specs.declared.selector.PlanLine.{PlanLine}
 use Rattle.pcap_keys.specs.Selectors.{is_in, selected_value}
 
--- the kind of what is selected
+-- the kind of what a selector selects
 abbrev pub selected_kind : Selector → Kind
 selected_kind IpSource = kinds.Ipv4
 selected_kind IpDest = kinds.Ipv4
@@ -29,10 +29,10 @@ pub record IsPlanned (schema : List SetDecl) (line : PlanLine) : Type 0 where
   pub declared : slice_get schema line.set ≡ Some set
   pub kinds : map selected_kind line.selectors ≡ set.kinds
 
--- What is selected of facts is a value of its kind.
+-- What a selector selects of facts is a value of its kind.
 abbrev pub AreValues : Facts → Type 0
 AreValues facts = (s : Selector) → is_in facts s ≡ true → is_value (selected_kind s) (selected_value facts s) ≡ true
 
--- The facts of a frame, where it has some, are values.
+-- The facts of a frame, if it has any, are values of their kinds.
 abbrev pub HasValues : Frame → Type 0
 HasValues frame = IfSome frame.facts AreValues

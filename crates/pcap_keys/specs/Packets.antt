@@ -1,4 +1,5 @@
--- What frames and packets tell: IEEE 802.3 and 802.1Q, RFC 791 (IPv4), RFC 8200 (IPv6), RFC 9293 (TCP) and RFC 768 (UDP).
+-- The facts of frames and packets: IEEE 802.3 and 802.1Q, RFC 791 (IPv4), RFC 8200 (IPv6), RFC 9293
+-- (TCP) and RFC 768 (UDP).
 use Rattle.std.specs.Prelude.{ℕ, ◌+◌, ◌*◌, ◌/◌, ◌%◌, ◌^◌, Bool, true, false, ◌&&◌, ◌||◌, ◌==◌, nat_lt, nat_le, if◌then◌else◌, List, length, drop, slice_index, Option, Some, None}
 use Rattle.pcap_keys.specs.Wire.{number_at}
 use Rattle.pcap_keys.specs.declared.facts.Facts.{Facts}
@@ -17,11 +18,12 @@ has_ports protocol = (protocol == 6) || (protocol == 17)
 abbrev pub ipv4_header : List ℕ → ℕ
 ipv4_header packet = 4 * (slice_index packet 0 % 16)
 
--- RFC 791: the low 13 bits of bytes 6 and 7 say where in its datagram a fragment begins; the ports stand in the first one.
+-- RFC 791: the low 13 bits of bytes 6 and 7 say where in its datagram a fragment begins. The first
+-- fragment has the ports.
 abbrev pub fragment_offset : List ℕ → ℕ
 fragment_offset packet = number_at packet 6 2 % 2 ^ 13
 
--- A header of at least 20 bytes, and the ports behind it, are there.
+-- A header of at least 20 bytes is there, and so are the ports after it.
 abbrev pub has_ipv4_header : List ℕ → Bool
 has_ipv4_header packet = has_version 4 packet && nat_le 20 (ipv4_header packet) && nat_le (ipv4_header packet + 4) (length packet)
 
@@ -29,7 +31,8 @@ has_ipv4_header packet = has_version 4 packet && nat_le 20 (ipv4_header packet) 
 abbrev pub is_ipv4 : List ℕ → Bool
 is_ipv4 packet = has_ipv4_header packet && (fragment_offset packet == 0) && has_ports (slice_index packet 9)
 
--- RFC 791: the source address is bytes 12 to 15 and the destination address bytes 16 to 19; the ports stand behind the header.
+-- RFC 791: the source address is bytes 12 to 15, and the destination address bytes 16 to 19. The ports
+-- follow the header.
 abbrev pub ipv4_facts : Option (ℕ × ℕ) → List ℕ → Facts
 ipv4_facts ether packet = record {
   ether = ether;
@@ -41,7 +44,8 @@ ipv4_facts ether packet = record {
   dest_port = number_at packet (ipv4_header packet + 2) 2;
 }
 
--- An IPv6 packet with ports: its 40 bytes and the ports behind them are there, and the next header, byte 6, has ports.
+-- An IPv6 packet with ports: its 40 bytes and the ports after them are there, and the next header, byte
+-- 6, has ports.
 abbrev pub is_ipv6 : List ℕ → Bool
 is_ipv6 packet = has_version 6 packet && nat_le 44 (length packet) && has_ports (slice_index packet 6)
 
@@ -63,19 +67,21 @@ ipv4 ether packet = if is_ipv4 packet then Some (ipv4_facts ether packet) else N
 abbrev pub ipv6 : Option (ℕ × ℕ) → List ℕ → Option Facts
 ipv6 ether packet = if is_ipv6 packet then Some (ipv6_facts ether packet) else None
 
--- Raw IP is what its version says.
+-- The version of raw IP says whether it is IPv4 or IPv6.
 abbrev pub raw_ip : List ℕ → Option Facts
 raw_ip packet = if has_version 6 packet then ipv6 None packet else ipv4 None packet
 
--- IEEE 802.1Q: at this place stands the type of a customer tag, 0x8100, or of a service tag, 0x88a8.
+-- IEEE 802.1Q: the type at this place is a customer tag, 0x8100, or a service tag, 0x88a8.
 abbrev pub is_tag : List ℕ → ℕ → Bool
 is_tag frame place = nat_le (place + 2) (length frame) && ((number_at frame place 2 == 0x8100) || (number_at frame place 2 == 0x88a8))
 
--- The place of the type that says what a frame holds: behind both addresses, or behind at most two tags of four bytes each.
+-- The place of the type that says what a frame holds: after both addresses, and after at most two tags
+-- of four bytes each.
 abbrev pub type_place : List ℕ → ℕ
 type_place frame = if is_tag frame 12 then (if is_tag frame 16 then 20 else 16) else 12
 
--- IEEE 802.3: the destination address is the first six bytes, and the source address the next six. The source comes first here.
+-- IEEE 802.3: the destination address is the first six bytes, and the source address the next six. The
+-- result has the source first.
 abbrev pub ether_addresses : List ℕ → ℕ × ℕ
 ether_addresses frame = (number_at frame 6 6, number_at frame 0 6)
 
@@ -91,7 +97,8 @@ ethernet frame =
     if nat_le (type_place frame + 2) (length frame) then by_type (number_at frame (type_place frame) 2) (Some (ether_addresses frame)) (drop (type_place frame + 2) frame)
     else None
 
--- the facts of a frame, or none where it is no packet with ports, or a byte of them isn't there
+-- the facts of a frame, or none if it isn't a packet with ports, or if a byte up to the ports is
+-- missing
 abbrev pub facts : Link → List ℕ → Option Facts
 facts links.Ethernet frame = ethernet frame
 facts links.RawIp frame = raw_ip frame

@@ -7,7 +7,7 @@ use Rattle.pcap_keys.specs.declared.facts.Frame.{Frame}
 use Rattle.pcap_keys.specs.declared.selector.PlanLine.{PlanLine}
 use Rattle.pcap_keys.specs.Selectors.{is_in, selected_value}
 
--- A line of a plan makes a packet of facts that have what each of its selectors selects.
+-- A line of a plan makes a packet of facts if they have what each of its selectors selects.
 abbrev pub line_packets : Facts → ℕ → PlanLine → List Packet
 line_packets facts moment line =
     if list_all (is_in facts) line.selectors then record { set = line.set; key = map (selected_value facts) line.selectors; now = moment } ∷ [] else []

@@ -26,7 +26,7 @@ per_millisecond fractions.Nano = 1000000
 abbrev pub format_in : Order → List ℕ → Option Format
 format_in order text = option_map (λ fraction. record { order = order; fraction = fraction }) (fraction_of (number order 4 text))
 
--- The order of the numbers' bytes is the one in which the first four bytes are a magic.
+-- The byte order of the numbers is the one in which the first four bytes are a magic.
 abbrev pub format_of : List ℕ → Option Format
 format_of text = option_or (format_in orders.Big text) (format_in orders.Little text)
 
@@ -34,22 +34,22 @@ format_of text = option_or (format_in orders.Big text) (format_in orders.Little 
 abbrev pub link_of : ℕ → Option Link
 link_of link_type = if link_type == 1 then Some links.Ethernet else if link_type == 101 then Some links.RawIp else None
 
--- The header of the file has 24 bytes: the magic, the major version at 4, the minor at 6, the link type at 20. Of the link type
--- the low 16 bits count.
+-- The header of the file has 24 bytes: the magic, the major version at 4, the minor version at 6, the
+-- link type at 20. Only the low 16 bits of the link type count.
 abbrev pub is_version : Format → List ℕ → Bool
 is_version format text = (number format.order 2 (drop 4 text) == 2) && (number format.order 2 (drop 6 text) == 4)
 
--- The header of a record has 16 bytes: its seconds, their fraction at 4, how many bytes of the frame were kept at 8.
+-- The header of a record has 16 bytes: its seconds, their fraction at 4, the number of kept bytes at 8.
 abbrev pub record_time : Format → List ℕ → ℕ
 record_time format bytes = number format.order 4 bytes * 1000 + number format.order 4 (drop 4 bytes) / per_millisecond format.fraction
 
 abbrev pub kept : Format → List ℕ → ℕ
 kept format bytes = number format.order 4 (drop 8 bytes)
 
--- the record and the bytes that were kept are there
+-- the record's header and its kept bytes are there
 unfoldable pub is_whole : Format → List ℕ → Bool
 is_whole format bytes = nat_le 16 (length bytes) && nat_le (16 + kept format bytes) (length bytes)
 
--- the bytes that were kept of a record's frame
+-- the kept bytes of a record's frame
 abbrev pub frame_bytes : Format → List ℕ → List ℕ
 frame_bytes format bytes = take (kept format bytes) (drop 16 bytes)

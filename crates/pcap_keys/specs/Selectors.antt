@@ -1,4 +1,4 @@
--- The selectors of a plan: which word is one, of which kind it is, and what it selects.
+-- The selectors of a plan: the words that name them, their kinds, and what they select.
 use Rattle.std.specs.Prelude.{ℕ, List, Bool, true, not, is_some, Option, Some, None, codes, bytes_eq, if◌then◌else◌}
 use Rattle.set_model.specs.declared.kind.Kind.{Kind}
 use Rattle.set_model.specs.declared.kind.Kind.TheVariants as kinds
@@ -21,7 +21,7 @@ proto_selector t = if bytes_eq t (codes "proto") then Some Proto else None
 abbrev pub port_selector : List ℕ → Option Selector
 port_selector t = if bytes_eq t (codes "sport") then Some SourcePort else if bytes_eq t (codes "dport") then Some DestPort else None
 
--- The selector of a kind that a word is; a mark is in no packet.
+-- The selector of a kind that a word names. There is none for marks, since no packet has a mark.
 abbrev pub selector_of : Kind → List ℕ → Option Selector
 selector_of kinds.Ipv4 t = ipv4_selector t
 selector_of kinds.Ipv6 t = ipv6_selector t
@@ -30,8 +30,8 @@ selector_of kinds.Proto t = proto_selector t
 selector_of kinds.Service t = port_selector t
 selector_of kinds.Mark t = None
 
--- Facts have what it selects: addresses of IPv4 are in facts of IPv4, those of IPv6 in facts of IPv6, and those of Ethernet in
--- facts of an Ethernet frame.
+-- Whether facts have what a selector selects. Facts of IPv4 have its addresses, facts of IPv6 have
+-- those of IPv6, and facts of an Ethernet frame have its addresses.
 abbrev pub is_in : Facts → Selector → Bool
 is_in facts IpSource = not facts.six
 is_in facts IpDest = not facts.six
@@ -51,7 +51,7 @@ abbrev pub dest_of : Option (ℕ × ℕ) → ℕ
 dest_of (Some addresses) = addresses.1
 dest_of None = 0
 
--- what it selects of facts that have it
+-- what a selector selects of facts that have it
 abbrev pub selected_value : Facts → Selector → ℕ
 selected_value facts IpSource = facts.source
 selected_value facts IpDest = facts.dest

@@ -13,7 +13,8 @@ use crate::packet::raw_ip;
 use crate::wire::from_place;
 use std::alloc::Global;
 
-/// The facts of a frame, or none where it is no packet with ports, or a byte of them isn't there.
+/// The facts of a frame. `None` if it isn't a packet with ports, or if a byte up to the ports is
+/// missing.
 fn facts(link: Link, frame: &[u8]) -> Option<Facts>
     ensures { result ≡ packets.facts link frame.now }
 {
@@ -41,7 +42,7 @@ fn kept(format: Format, header: &[u8]) -> usize
     format.order.read_u32(&header[8..]) as usize
 }
 
-/// Whether the record at the start of these bytes, and the bytes that were kept of its frame, are there.
+/// Whether the first record of these bytes is whole: its header, and the kept bytes of its frame.
 #[tactic(auto, unfolding(crate::specs::Savefile::is_whole))]
 fn is_whole(format: Format, bytes: &[u8]) -> bool
     ensures same { result ≡ savefile.is_whole format bytes.now }
@@ -50,7 +51,7 @@ fn is_whole(format: Format, bytes: &[u8]) -> bool
     bytes.len() >= 16 && bytes.len() - 16 >= kept(format, bytes)
 }
 
-/// The frame of the record at the start of these bytes. Moments count from `start`.
+/// The frame of the first record of these bytes. Moments count from `start`.
 fn frame_of(format: Format, link: Link, start: u64, bytes: &[u8]) -> Frame
     requires { 16 + savefile.kept format bytes.now ≤ length bytes.now }
     ensures { result ≡ spec.frame_of format link start bytes.now }
@@ -71,7 +72,7 @@ fn start_of(format: Format, text: &[u8]) -> u64
     }
 }
 
-/// The frames of the records behind a capture's header.
+/// The frames of the records after a capture's header.
 fn all_records(
     alloc: Global,
     format: Format,
@@ -107,7 +108,7 @@ fn is_version(format: Format, text: &[u8]) -> bool
     format.order.read_u16(&text[4..]) == 2 && format.order.read_u16(&text[6..]) == 4
 }
 
-/// The frames of a capture whose magic says this.
+/// The frames of a capture of this format.
 fn of_format(alloc: Global, format: Format, text: &[u8]) -> Result<Frames, CaptureError>
     ensures { IsUnlessMemory result (spec.of_format text.now (Some format)) }
 {
@@ -151,16 +152,23 @@ fn whole(alloc: Global, text: &[u8]) -> Result<Frames, CaptureError>
     }
 }
 
-/// The frames of a capture in libpcap's classic format, version 2.4, record by record. It goes over the bytes once, and takes
-/// memory for the frames alone.
+/// The frames of a capture in libpcap's classic format, version 2.4, record by record. It reads the
+/// bytes once, and allocates memory for the frames alone.
 ///
 /// # Errors
 ///
-/// `Bad` exactly where the bytes aren't of that form, with the byte and the reason of the first fault: `Magic` at byte 0 (also
-/// of pcapng's files, and of compressed ones); `Cut` at byte 0 where the file's header isn't there; `Version` at byte 4;
-/// `LinkType` at byte 20; `Cut` at the first byte of a record that isn't there as a whole. `Memory` where there is none left.
+/// `Bad` exactly if the bytes aren't a capture, with the byte and the reason of the first fault:
+///
+/// - `Magic` at byte 0, also for files of pcapng and for compressed files;
+/// - `Cut` at byte 0 if the file's header isn't whole;
+/// - `Version` at byte 4;
+/// - `LinkType` at byte 20;
+/// - `Cut` at the first byte of a record that isn't whole.
+///
+/// `Memory` if memory runs out.
 pub fn read_capture(alloc: Global, text: &[u8]) -> Result<Frames, CaptureError>
-    // What is answered is what the bytes stand for as a capture, unless memory runs out: its frames, or its first fault.
+    // Unless memory runs out, it returns what the bytes mean as a capture: its frames, or its first
+    // fault.
     ensures read { IsUnlessMemory result (captured text.now) }
     // Addresses, protocols and ports are values of their kinds.
     ensures values { IfOk result (All HasValues) }

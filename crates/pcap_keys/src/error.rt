@@ -1,11 +1,11 @@
 use set_model::Memory;
 
-/// Why bytes aren't read as a capture.
+/// Why bytes weren't read as a capture.
 #[derive(Clone, Copy, Debug, PartialEq, Eq)]
 pub enum CaptureError {
-    /// They are outside its form: the byte, counted from 0, and the reason.
+    /// They aren't a capture: the byte of the first fault, counted from 0, and the reason.
     Bad { byte: u64, reason: CaptureReason },
-    /// Want of memory.
+    /// Out of memory.
     Memory,
 }
 
@@ -14,7 +14,7 @@ pub enum CaptureError {
 pub enum CaptureReason {
     /// It doesn't begin with a magic of libpcap's classic format.
     Magic,
-    /// Its header, or a record, isn't there as a whole.
+    /// Its header or a record isn't whole.
     Cut,
     /// Its version isn't 2.4.
     Version,

@@ -5,7 +5,7 @@ use crate::facts::Facts;
 use crate::packet::by_type;
 use crate::wire::{u16_at, u48_at};
 
-/// Whether the type of a VLAN tag stands at a place.
+/// Whether the type of a VLAN tag is at a place.
 fn is_tag(frame: &[u8], place: usize) -> bool
     requires { place ≤ 16 }
     ensures { result ≡ packets.is_tag frame.now place }
@@ -13,7 +13,8 @@ fn is_tag(frame: &[u8], place: usize) -> bool
     frame.len() >= place + 2 && matches!(u16_at(frame, place), 0x8100 | 0x88a8)
 }
 
-/// The place of the type that says what a frame holds: behind its addresses, and behind at most two VLAN tags.
+/// The place of the type that says what a frame holds. It follows the addresses and at most two VLAN
+/// tags.
 fn type_place(frame: &[u8]) -> usize
     ensures { result ≡ packets.type_place frame.now }
 {

@@ -1,12 +1,12 @@
 use set_model::{Duplicate, Listed, Memory};
 use std::alloc::Global;
 
-/// What a packet with ports tells of itself.
+/// What is known of a packet with ports.
 #[derive(Clone, Copy, Debug, PartialEq, Eq)]
 pub struct Facts {
-    /// The source and the destination address of the Ethernet frame that held it; `None` where no such frame did.
+    /// The source and the destination address of its Ethernet frame; `None` if it wasn't in one.
     pub ether: Option<(u128, u128)>,
-    /// Whether its addresses are those of IPv6; they are those of IPv4 else.
+    /// Whether its addresses are of IPv6; else they are of IPv4.
     pub six: bool,
     /// Its source address.
     pub source: u128,
@@ -23,9 +23,9 @@ pub struct Facts {
 /// A record of a capture.
 #[derive(Clone, Copy, Debug, PartialEq, Eq)]
 pub struct Frame {
-    /// Its time in milliseconds, counted from the first record's; 0 where that is later.
+    /// Its time in milliseconds after the first record's time; 0 if the first record's time is later.
     pub moment: u64,
-    /// `None` where its bytes are no packet with ports, or not enough of it was kept.
+    /// `None` if its bytes aren't a packet with ports, or if too few of them were kept.
     pub facts: Option<Facts>,
 }
 

@@ -3,7 +3,7 @@ ghost use Rattle.pcap_keys.specs.Savefile as savefile;
 
 use byteorder::{BigEndian, ByteOrder, LittleEndian};
 
-/// The order in which the numbers of a capture's headers have their bytes.
+/// The byte order of the numbers in a capture's headers.
 #[derive(Clone, Copy, Debug, PartialEq, Eq)]
 pub enum Order {
     /// The most significant byte first.
@@ -12,7 +12,7 @@ pub enum Order {
     Little,
 }
 
-/// What the fraction of a second in a record's time counts.
+/// The unit of the fraction of a second in a record's time.
 #[derive(Clone, Copy, Debug, PartialEq, Eq)]
 pub enum Fraction {
     /// Microseconds.
@@ -24,9 +24,9 @@ pub enum Fraction {
 /// What a capture's magic says of its headers.
 #[derive(Clone, Copy, Debug, PartialEq, Eq)]
 pub struct Format {
-    /// The order of the bytes of its numbers.
+    /// The byte order of its numbers.
     pub order: Order,
-    /// What the fractions of its times count.
+    /// The unit of its times' fractions.
     pub fraction: Fraction,
 }
 
@@ -34,7 +34,7 @@ pub struct Format {
 #[derive(Clone, Copy, Debug, PartialEq, Eq)]
 pub enum Link {
     Ethernet,
-    /// IPv4 or IPv6, without anything before it.
+    /// IPv4 or IPv6, with nothing before it.
     RawIp,
 }
 
@@ -65,7 +65,7 @@ impl Order {
 }
 
 impl Fraction {
-    /// How many of them a millisecond has.
+    /// How many of these units a millisecond has.
     pub fn per_millisecond(self) -> u64
         ensures same { result ≡ savefile.per_millisecond self }
         ensures some { 1 ≤ result }
@@ -97,7 +97,8 @@ fn format_in(order: Order, text: &[u8]) -> Option<Format>
     }
 }
 
-/// The format of a capture, by its magic: the order of bytes is the one in which it is a magic.
+/// The format of a capture, by its magic. The byte order is the one in which its first four bytes are a
+/// magic.
 pub fn format_of(text: &[u8]) -> Option<Format>
     requires { 4 ≤ length text.now }
     ensures { result ≡ savefile.format_of text.now }
@@ -108,7 +109,7 @@ pub fn format_of(text: &[u8]) -> Option<Format>
     }
 }
 
-/// What a link type stands for, as libpcap numbers them.
+/// The meaning of a link type, as libpcap numbers them.
 pub fn link_of(link_type: u32) -> Option<Link>
     ensures { result ≡ savefile.link_of link_type }
 {

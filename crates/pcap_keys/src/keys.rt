@@ -30,7 +30,8 @@ fn key_of(alloc: Global, facts: &Facts, selectors: &[Selector]) -> Result<Key, M
     Ok(key)
 }
 
-/// Adds the packet that a line of the plan makes of these facts, where they have what its selectors select.
+/// Adds the packet that a line of the plan makes of these facts, if they have what all its selectors
+/// select.
 fn add_line(
     alloc: Global,
     packets: &mut Packets,
@@ -91,16 +92,18 @@ fn all_packets(alloc: Global, plan: &Plan, frames: &Frames) -> Result<Packets, M
     Ok(packets)
 }
 
-/// The packets of a capture's frames: frame by frame, and for each frame line by line of the plan, one packet of that line's
-/// set where the frame has facts and they have what each selector selects. Its moment is the frame's.
+/// The packets of a capture's frames, frame by frame, and for each frame line by line of the plan. A
+/// line makes a packet of its set if the frame has facts, and if the facts have what each selector
+/// selects. The packet's moment is the frame's.
 ///
 /// # Errors
 ///
-/// Want of memory.
+/// `Memory` if memory runs out.
 pub fn keys_of(alloc: Global, plan: &Plan, frames: &Frames) -> Result<Packets, Memory>
     // These are the packets that the plan makes of the frames.
     ensures packets { IfOk result (λ packets. packets ≡ planned.packets plan.now frames.now) }
-    // So they are the packets of a capture by a text that is a plan, where this is its plan and these are its frames.
+    // So these are the packets of a plan's text and a capture, if this is the text's plan and these are
+    // the capture's frames.
     ensures captured { (schema : List Declared) (plan_text capture_text : List ℕ) → IsPlanText schema plan_text plan.now → IsCapture capture_text frames.now → IfOk result (AreCaptured schema plan_text capture_text) }
     // They fit the sets that the plan was read for.
     ensures fit { (schema : List Declared) → All (IsPlanned schema) plan.now → All HasValues frames.now → IfOk result (All (IsFitting schema)) }
@@ -108,7 +111,7 @@ pub fn keys_of(alloc: Global, plan: &Plan, frames: &Frames) -> Result<Packets, M
     all_packets(alloc, plan, frames)
 }
 
-/// A plan and a capture have one list of packets at most.
+/// A plan and a capture have at most one list of packets.
 pub fn one_capture_law(_schema: &Schema, _plan: &[u8], _capture: &[u8])
     ensures { (packets other : List Looked) → AreCaptured _schema.now _plan.now _capture.now packets → AreCaptured _schema.now _plan.now _capture.now other → packets ≡ other }
 {}

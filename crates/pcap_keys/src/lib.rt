@@ -1,14 +1,27 @@
-//! The packets of a capture: their addresses, protocol and ports, out of a file of libpcap's classic format, and the keys that
-//! a plan selects of them.
+//! Takes packets from a capture of libpcap's classic format, and their keys by a plan.
 //!
-//! [`read_capture`] reads the frames of a capture, each with its moment and, where it has them, its facts. [`read_plan`] reads
-//! which sets' keys are taken from a packet, and which of its facts each field is. [`keys_of`] gives the packets that are looked
+//! A plan names a set and, for each of its fields, a fact of a packet. Say that it has the one line `ip
+//! t p ip_saddr . dport`:
+//!
+//!     record   time (s)     facts                                          packet of `ip t p`
+//!     0        10.000350    TCP, 192.168.1.5 40000 to 192.0.2.10 2048      192.168.1.5 . 2048, moment 0
+//!     1        10.120000    none: ARP                                      none
+//!     2        11.500000    UDP, 2001:db8::5 53 to 2001:db8::80 53         none: no `ip_saddr`
+//!     3        12.000999    TCP, 10.0.0.5 40001 to 192.0.2.10 1024         10.0.0.5 . 1024, moment 2000
+//!
+//! A record has facts if its kept bytes hold a packet of TCP or UDP up to its ports. Its moment counts
+//! milliseconds from the first record's time. A record makes one packet for each line of the plan whose
+//! selectors are all among its facts.
+//!
+//! [`read_capture`] reads the records. If the bytes aren't a capture, it returns the byte and the
+//! reason of the first fault. [`read_plan`] reads a plan. [`keys_of`] makes the packets that are looked
 //! up, as a key file has them.
 //!
 //! **Definitions:** `specs/Savefile.antt` and `Captured.antt` for a capture's frames or its first
-//! fault, `Packets.antt` and `Wire.antt` for a frame's facts, `Plans.antt`, `PlansText.antt` and
-//! `Selectors.antt` for plans, `Planned.antt` and `CapturedPackets.antt` for the packets.
-//! docs/formats.md tells them. **Proofs:** docs/proofs.md, "Grammars (`token_forms`)".
+//! fault; `Packets.antt` and `Wire.antt` for a frame's facts; `Plans.antt`, `PlansText.antt` and
+//! `Selectors.antt` for plans; `Planned.antt` and `CapturedPackets.antt` for the packets. **Theory:**
+//! docs/formats.md, "Captures (`pcap_keys`)" and "Plans (`pcap_keys`)". **Proofs:** docs/proofs.md,
+//! "Grammars (`token_forms`)".
 #![tactic(auto)]
 
 mod capture;

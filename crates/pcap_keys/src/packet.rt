@@ -11,7 +11,7 @@ fn has_version(version: u8, packet: &[u8]) -> bool
     !packet.is_empty() && packet[0] / 16 == version
 }
 
-/// Whether a protocol's header begins with ports, as those of TCP and UDP do.
+/// Whether a protocol's header begins with ports, as the headers of TCP and UDP do.
 fn has_ports(protocol: u8) -> bool
     ensures { result ≡ packets.has_ports protocol }
 {
@@ -26,7 +26,7 @@ fn ipv4_header(packet: &[u8]) -> usize
     4 * (packet[0] % 16) as usize
 }
 
-/// Where in its datagram a fragment begins.
+/// The place in its datagram at which a fragment begins.
 fn fragment_offset(packet: &[u8]) -> u16
     requires { 8 ≤ length packet.now }
     ensures { result ≡ packets.fragment_offset packet.now }
@@ -104,7 +104,7 @@ fn ipv6(ether: Option<(u128, u128)>, packet: &[u8]) -> Option<Facts>
     }
 }
 
-/// The facts of an IP packet, which is what its version says.
+/// The facts of an IP packet. Its version says whether it is IPv4 or IPv6.
 pub fn raw_ip(packet: &[u8]) -> Option<Facts>
     ensures { result ≡ packets.raw_ip packet.now }
 {
@@ -115,7 +115,8 @@ pub fn raw_ip(packet: &[u8]) -> Option<Facts>
     }
 }
 
-/// The facts of what an Ethernet frame holds, by the frame's type and its addresses, the source first.
+/// The facts of an Ethernet frame's packet, by the frame's type. `ether` is the frame's source and
+/// destination address.
 pub fn by_type(ether_type: u16, ether: (u128, u128), packet: &[u8]) -> Option<Facts>
     ensures { result ≡ packets.by_type ether_type (Some ether) packet.now }
 {

@@ -18,7 +18,7 @@ use set_script::{table_place, used_set};
 use std::alloc::Global;
 use token_forms::{BadToken, ReadError, Reader, Reason, plain_bad_token_before};
 
-/// Why a text isn't read as a plan.
+/// Why a text wasn't read as a plan.
 pub type PlanError = ReadError;
 
 /// How many lines a plan may have.
@@ -82,7 +82,7 @@ fn all_selectors(reader: &mut Reader, alloc: Global, kinds: &[Kind]) -> Result<S
     }
 }
 
-/// The line of the set at a place.
+/// Reads the rest of a line whose set is at a place.
 #[tactic(auto, using(token_forms::proofs::Refusals::refusals), unfolding(crate::specs::PlansReading::line_of, token_forms::specs::Gives::Refuses))]
 fn line_at(
     reader: &mut Reader,
@@ -104,7 +104,7 @@ fn line_at(
     }
 }
 
-/// A declared set, and a selector for each of its fields.
+/// Reads a declared set, and a selector for each of its fields.
 #[tactic(auto, using(token_forms::proofs::Refusals::refusals), unfolding(crate::specs::PlansReading::set_line))]
 fn set_line(
     reader: &mut Reader,
@@ -120,7 +120,7 @@ fn set_line(
     line_at(reader, alloc, schema, lines, set)
 }
 
-/// A line, where one more may stand.
+/// Reads a line if one more is allowed.
 #[tactic(auto, using(token_forms::proofs::Refusals::refusals), unfolding(crate::specs::PlansReading::line_if))]
 fn line_if(
     reader: &mut Reader,
@@ -145,7 +145,7 @@ fn has_room(lines: &Plan) -> bool
     lines.len() < MOST_LINES
 }
 
-/// A line break, or a line where one may come next.
+/// A line break, or a line if one may come next.
 #[tactic(auto, using(token_forms::proofs::Refusals::refusals))]
 fn line_or_break(
     reader: &mut Reader,
@@ -181,7 +181,7 @@ fn next_line(
     line_or_break(reader, alloc, schema, lines, next)
 }
 
-/// The lines, as far as they go, and whether one more may come next.
+/// Reads lines as long as one starts. Returns also whether one more may come next.
 fn plan_lines(
     reader: &mut Reader,
     alloc: Global,
@@ -205,7 +205,7 @@ fn plan_lines(
     Ok((lines, next))
 }
 
-/// The lines of a plan, which has one at least.
+/// The lines of a plan, which has at least one.
 #[tactic(auto, using(token_forms::proofs::Refusals::refusals), unfolding(crate::specs::PlansReading::some_lines))]
 fn some_lines(reader: &mut Reader, lines: Plan) -> Result<Plan, ReadError>
     ensures { Gives (λ x. x) result reader.new (reading.some_lines lines reader.old) }
@@ -217,7 +217,7 @@ fn some_lines(reader: &mut Reader, lines: Plan) -> Result<Plan, ReadError>
     }
 }
 
-/// What stands before the end.
+/// Reads all before the end of the text.
 #[tactic(auto, using(token_forms::proofs::Refusals::refusals), unfolding(crate::specs::PlansReading::body))]
 fn body(reader: &mut Reader, alloc: Global, schema: &[SetDecl]) -> Result<Plan, ReadError>
     requires { length schema.now ≤ most_sets }
@@ -237,20 +237,22 @@ fn whole(reader: &mut Reader, alloc: Global, schema: &[SetDecl]) -> Result<Plan,
     Ok(lines)
 }
 
-/// The plan that a text stands for, for the sets of a schema.
+/// The plan that a text means, for the sets of a schema.
 ///
 /// # Errors
 ///
-/// `Bad` exactly where the text isn't in the grammar, with the line of its first token that doesn't fit and the reason.
-/// `Memory` where there is none left.
+/// `Bad` exactly if the text isn't in the grammar, with the line of its first token that doesn't fit
+/// and the reason. `Memory` if memory runs out.
 pub fn read_plan(alloc: Global, schema: &Schema, text: &[u8]) -> Result<Plan, PlanError>
     // There are no more sets than a script may declare.
     requires { length schema.now ≤ most_sets }
-    // What is read is the plan that the text stands for.
+    // What is read is the plan that the text means.
     ensures found { IfOk result (IsPlanText schema.now text.now) }
-    // A text that stands for a plan is read as that one, unless memory runs out; so it stands for one at most.
+    // A text that means a plan is read as that one, unless memory runs out. So it means at most one
+    // plan.
     ensures only { (lines : List Lined) → IsPlanText schema.now text.now lines → IsReadAs (λ x. x) result lines }
-    // A text that is refused stands for no plan; the line is that of its bad token, with the first reason that applies.
+    // A refused text means no plan. The line is its bad token's, and the reason is the first that
+    // applies.
     ensures bad { (line : ℕ) (reason : Reason) → result ≡ Err (Bad line reason) → IsBadPlan schema.now text.now line reason }
     // Each line's set is declared, and its selectors are of the kinds of the set's fields.
     ensures fits { IfOk result (All (IsPlanned schema.now)) }
@@ -259,12 +261,13 @@ pub fn read_plan(alloc: Global, schema: &Schema, text: &[u8]) -> Result<Plan, Pl
     whole(&mut reader, alloc, schema.as_slice())
 }
 
-/// The bad token of a text, for the sets of a schema: where it stands, and the reason; `None` exactly where the text is in
-/// the grammar. It is the token of which `read_plan` tells the line and the reason.
+/// The bad token of a text, for the sets of a schema, with its place and its reason. It is `None`
+/// exactly if the text is in the grammar. `read_plan` reports the line and the reason of the same
+/// token.
 ///
 /// # Errors
 ///
-/// `Memory` where there is none left.
+/// `Memory` if memory runs out.
 pub fn bad_token(alloc: Global, schema: &Schema, text: &[u8]) -> Result<Option<BadToken>, Memory>
     requires { length schema.now ≤ most_sets }
     ensures { IfOk result (IsPlainBadTokenOf (plan schema.now) text.now) }
@@ -279,17 +282,17 @@ pub fn bad_token(alloc: Global, schema: &Schema, text: &[u8]) -> Result<Option<B
     }
 }
 
-/// A text stands for one plan at most.
+/// A text means at most one plan.
 pub fn one_plan_law(_schema: &Schema, _text: &[u8])
     ensures { (lines other : List Lined) → IsPlanText _schema.now _text.now lines → IsPlanText _schema.now _text.now other → lines ≡ other }
 {}
 
-/// The tokens before any place of a front of a plan are a front of a plan, too.
+/// The tokens before any place of a plan's front are a front of a plan, too.
 pub fn plan_fronts_law(_schema: &Schema)
     ensures { AreFrontsClosed (plan _schema.now) }
 {}
 
-/// A text that is no plan is refused at one line and for one reason, and by one token.
+/// A text that is no plan is refused at one line, for one reason, and for one token.
 pub fn one_plan_fault_law(_schema: &Schema, _text: &[u8])
     ensures refused { IsRefusedOnce (plan _schema.now) (plain_tokens _text.now) }
     ensures token { HasOneBadTokenAmong (plan _schema.now) (plain_tokens _text.now) _text.now }

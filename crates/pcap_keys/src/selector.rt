@@ -5,7 +5,7 @@ use crate::facts::Facts;
 use set_model::{Duplicate, Kind, Listed, Memory};
 use std::alloc::Global;
 
-/// What a field of a key is taken from.
+/// The fact from which a field of a key is taken.
 #[derive(Clone, Copy, Debug, PartialEq, Eq)]
 pub enum Selector {
     /// `ip_saddr`: the source address of IPv4.
@@ -37,12 +37,12 @@ impl Duplicate for Selector {
 /// One selector per field of a set.
 pub type Selectors = Listed<Selector>;
 
-/// A line of a plan: what the keys of a set are taken from.
+/// A line of a plan: a set, and the facts from which its keys are taken.
 #[derive(Drop)]
 pub struct PlanLine {
     /// The set, by its place among the declared sets.
     pub set: u32,
-    /// What each field of a key is taken from.
+    /// The fact for each field of a key.
     pub selectors: Selectors,
 }
 
@@ -116,7 +116,7 @@ fn port_selector(text: &[u8]) -> Option<Selector>
     }
 }
 
-/// The selector of a word, where it is one of this kind.
+/// The selector that a word names, if it is of this kind.
 pub fn read_selector(kind: Kind, text: &[u8]) -> Option<Selector>
     ensures { result ≡ selectors.selector_of kind text.now }
 {
@@ -131,7 +131,7 @@ pub fn read_selector(kind: Kind, text: &[u8]) -> Option<Selector>
 }
 
 impl Selector {
-    /// Whether facts have what it selects.
+    /// Whether the facts have what it selects.
     pub fn is_in(self, facts: &Facts) -> bool
         ensures { result ≡ selectors.is_in facts.now self }
     {

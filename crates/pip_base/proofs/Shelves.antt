@@ -1,4 +1,4 @@
--- Files in memory: where a name's file stands, and what a read leaves.
+-- Files in memory: the place of a name's file, and what a read leaves.
 use Rattle.std.proofs.Common.{◌≡◌, ◌≢◌, refl, sym, ◌∙◌, ap, ℕ, zero, suc, ◌+◌, ◌<◌, ◌≤◌, Bool, not, cond, List, [], ◌∷◌, ◌++◌, length, map, take, drop, slice_get, slice_set, Option, Some, None, arith, min, add-zero}
 use Rattle.std.specs.List.{position, prefix_len}
 use Rattle.std.proofs.lemmas.List.{length-map, take-append-drop, drop-drop, take-append-le, length-take-le, take_all}
@@ -30,7 +30,7 @@ slice_get-set_other (y ∷ xs) zero (suc j) x h = refl
 slice_get-set_other (y ∷ xs) (suc i) zero x h = refl
 slice_get-set_other (y ∷ xs) (suc i) (suc j) x h = slice_get-set_other xs i j x (λ e. h (ap suc e))
 
--- The bytes behind those that a read gave are what is left.
+-- The bytes after those that a read gave are what is left.
 pub bytes-left : (file : Option (List ℕ × List ℕ)) (from count : ℕ) → bytes_from file from ≡ take count (bytes_from file from) ++ bytes_from file (from + count)
 bytes-left None from zero = refl
 bytes-left None from (suc count) = refl
@@ -46,7 +46,7 @@ none-left : (xs : List ℕ) → length xs ≡ 0 → xs ≡ []
 none-left [] h = refl
 none-left (x ∷ xs) h = absurd (omega (arith, h))
 
--- A file that was read then stands `count` bytes further on.
+-- After a read, a file is `count` bytes further on.
 module _ (files : List (List ℕ × List ℕ)) (opened : List OpenFile) (n count : ℕ) (o moved : OpenFile) (rest : List ℕ) (at_n : slice_get opened n ≡ Some o)
     (is_rest : rest ≡ bytes_from (slice_get files o.place) o.from) (place : moved.place ≡ o.place) (further : moved.from ≡ o.from + count) where
   left : rest_of_open files (slice_get (slice_set opened n moved) n) ≡ Some (bytes_from (slice_get files o.place) (o.from + count))

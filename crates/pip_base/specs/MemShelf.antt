@@ -35,7 +35,7 @@ abbrev pub bytes_at : List (List ℕ × List ℕ) → Option ℕ → Option (Lis
 bytes_at files None = None
 bytes_at files (Some place) = Some (bytes_from (slice_get files place) 0)
 
--- the bytes under a name, where there are any
+-- the bytes under a name, if there are any
 abbrev pub told_bytes : ShelfState → List ℕ → Option (List ℕ)
 told_bytes s name = bytes_at s.files (file_place s.files name)
 

@@ -1,7 +1,7 @@
--- What a person is told beside the output.
+-- Notes for a person, beside the output.
 use Rattle.std.specs.Prelude.{◌≡◌, ⊤, ℕ, List, ◌++◌, Option, Some, None}
 
--- The bytes told so far grew by a text, or aren't known any more. What isn't known stays so.
+-- The bytes noted so far grew by a text, or aren't known any more. Unknown bytes stay unknown.
 abbrev pub Tells : Option (List ℕ) → Option (List ℕ) → List ℕ → Type 0
 Tells old None text = ⊤
 Tells None (Some after) text = ⊥

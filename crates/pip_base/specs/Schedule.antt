@@ -1,4 +1,4 @@
--- Which calls of an object in memory are to fail, and how many failed.
+-- Which calls of an object in memory fail, and how many failed.
 use Rattle.std.specs.Prelude.{ℕ, ◌+◌, ◌-◌, ◌^◌, min, Bool, ◌==◌, List, []}
 use Rattle.std.specs.List.{list_any}
 
@@ -17,7 +17,7 @@ next_count n = min (n + 1) (2 ^ 64 - 1)
 abbrev pub one_call_more : Plan → Plan
 one_call_more p = record p { calls = next_count p.calls }
 
--- The next call is to fail.
+-- The next call fails.
 abbrev pub fails_next : Plan → Bool
 fails_next p = list_any (λ at. at == next_count p.calls) p.failing
 

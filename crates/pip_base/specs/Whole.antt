@@ -2,7 +2,7 @@
 use Rattle.std.specs.Prelude.{◌<◌, ℕ, List, length, take, Option}
 use Rattle.std.specs.Io.KnownBytes.{Appends}
 
--- Known bytes grew by a part from the front of a piece, and not by the whole of it.
+-- Known bytes grew by a front of a piece that isn't the whole piece.
 pub record AppendsFront (old new : Option (List ℕ)) (piece : List ℕ) : Type 0 where
   pub count : ℕ
   pub part : count < length piece

@@ -11,16 +11,15 @@ use std::rt::Files;
 /// The name of the standard input.
 const STANDARD_INPUT: &str = "-";
 
-/// What a name stands for.
+/// What opens for a name.
 #[derive(Drop)]
 enum Opened<F: Read + Drop> {
     File(F),
     StandardInput,
 }
 
-/// The files of the system, by their paths, and the standard input by the name `-`. It tells nothing
-/// of what they hold. A directory in a file's place is a fault, as a file is that can't be opened or
-/// read.
+/// The files of the system, by their paths, and the standard input by the name `-`. Contracts say
+/// nothing of their bytes. It is a fault if a file can't be opened or read, or if it is a directory.
 #[derive(Drop)]
 pub struct DirShelf<'a, R: Files, I: Read + Drop> {
     rt: &'a R,
@@ -33,7 +32,7 @@ pub struct DirShelf<'a, R: Files, I: Read + Drop> {
 }
 
 impl<'a, R: Files, I: Read + Drop> DirShelf<'a, R, I> {
-    /// A shelf that was asked for no name yet, with `input` as the standard input. It takes no memory.
+    /// A shelf that has picked no file yet, with `input` as the standard input. It takes no memory.
     pub fn new(alloc: Global, rt: &'a R, input: I) -> DirShelf<'a, R, I>
         ensures asked { result.asked.items ≡ [] }
         ensures faults { result.faults ≡ 0 }
@@ -57,7 +56,7 @@ fn open<R: Files>(rt: &R, name: &str) -> io::Result<Opened<R::File>> {
     Ok(Opened::File(fs::open(rt, name)?))
 }
 
-/// The kind of a failure of the system.
+/// The kind of a failure that the system reports.
 fn kind_of(error: &io::Error) -> FaultKind {
     match error.kind() {
         io::ErrorKind::NotFound => FaultKind::NotFound,

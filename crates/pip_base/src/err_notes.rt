@@ -3,8 +3,8 @@ ghost use Rattle.std.specs.Prelude.{◌≡◌, List, ℕ, Option, None};
 use crate::notes::Notes;
 use std::io::Write;
 
-/// The standard error. It tells nothing of what arrived. Where it takes nothing, the text is lost,
-/// and nobody hears of it.
+/// The standard error. Contracts say nothing of what arrived. If a write to it fails, the text is lost
+/// without a report.
 #[derive(Drop)]
 pub struct ErrNotes<W: Write + Drop> {
     out: W,

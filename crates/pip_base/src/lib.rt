@@ -1,11 +1,21 @@
-//! The outside: files that are read by their names, a sink that bytes go to, and the faults of both; and the notes for
-//! a person. A `Shelf`, a `Sink` and `Notes` may tell their content, as those in memory do. The real ones tell none.
+//! Reads files by their names, writes bytes to a sink, and prints notes for a person.
 //!
-//! [`read_whole`] gives all bytes of a file under one name, and [`write_whole`] puts a piece on a sink,
-//! each or with a fault whose cause is a count that rose. What of [`DirShelf`], [`OutSink`] and
-//! [`ErrNotes`] is trusted and not proved says README.md, "What is trusted".
+//! [`read_whole`] reads a file of at most 67,108,864 bytes to its end, and [`write_whole`] writes a
+//! piece whole. The program has [`DirShelf`], [`OutSink`] and [`ErrNotes`] for them: the system's
+//! files, the standard output and the standard error. Tests have a shelf, a sink and notes in memory. A
+//! sink in memory with parts of 4 bytes and room for 10 takes a piece of 12 bytes so:
 //!
-//! **Definitions:** `specs/Causes.antt`, `Picks.antt`, `Whole.antt` and `Notes.antt`; of files and
+//!     write "ip t p 10.0."    takes "ip t"    fault count 0
+//!     write " p 10.0."        takes " p 1"    fault count 0
+//!     write "0.0."            takes "0."      fault count 0
+//!     write "0."              fails           fault count 1
+//!
+//! So [`write_whole`] returns a fault, and a front of the piece was taken. Each fault has its cause:
+//! the count of faults rose. Contracts speak of bytes as far as they are known. A shelf or sink in
+//! memory knows its bytes. For the real ones, contracts say nothing of the bytes; README.md, "What is
+//! trusted", says what we trust of them.
+//!
+//! **Definitions:** `specs/Causes.antt`, `Picks.antt`, `Whole.antt` and `Notes.antt`; for files and
 //! sinks in memory `MemShelf.antt`, `MemSink.antt` and `Schedule.antt`. **Proofs:** docs/proofs.md,
 //! "Causes and counts (`pip_base`, `input_files`, `pipapo_cli`)".
 #![tactic(auto)]

@@ -3,7 +3,7 @@ ghost use Rattle.std.specs.Prelude.{◌≡◌, List, [], ℕ, Bool, true, false,
 use crate::notes::Notes;
 use std::alloc::Global;
 
-/// Notes in memory, for tests. What was told isn't known any more where memory wanted.
+/// Notes in memory, for tests. After memory has run out, the notes are unknown.
 #[derive(Drop)]
 pub struct MemNotes {
     bytes: Vec<u8>,
@@ -11,7 +11,7 @@ pub struct MemNotes {
 }
 
 impl MemNotes {
-    /// Notes that were told nothing yet. It takes no memory.
+    /// Notes without a text. It takes no memory.
     pub fn new(alloc: Global) -> MemNotes
         ensures bytes { result.bytes.items ≡ [] }
         ensures known { result.is_known ≡ true }
@@ -22,7 +22,7 @@ impl MemNotes {
         }
     }
 
-    /// The bytes told so far, where they are known.
+    /// The bytes noted so far, if they are known.
     pub fn bytes(&self) -> Option<&[u8]>
         ensures some { IfSome result (λ bytes. (self.now.is_known ≡ true) × (bytes.now ≡ self.now.bytes.items)) }
         ensures none { IsNone result → self.now.is_known ≡ false }

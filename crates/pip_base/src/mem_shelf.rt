@@ -23,8 +23,8 @@ pub struct OpenFile {
     pub from: usize,
 }
 
-/// Files in memory, for tests. It tells the bytes under each name, keeps the names that it was asked
-/// for, and fails at the calls that it is told to fail at. A pick of a name that isn't there fails
+/// Files in memory, for tests. Its contracts know the bytes under each name. It keeps the names that it
+/// was asked for, and fails at the calls that a test names. A pick of a name that isn't there fails,
 /// too, as `NotFound`.
 #[derive(Drop)]
 pub struct MemShelf {
@@ -94,8 +94,7 @@ impl MemShelf {
         place_of(self.files.as_slice(), name).is_some()
     }
 
-    /// Puts bytes under a name that isn't there yet. After `Memory`, its one error, nothing has
-    /// changed.
+    /// Puts bytes under a name that isn't there yet. `Memory` is its one error, and changes nothing.
     pub fn add(&mut self, alloc: Global, name: &str, bytes: &[u8]) -> Result<(), PickError>
         requires { has_file self.old.files name.now ≡ false }
         ensures ok { OnOk result (self.new ≡ record self.old { files = self.old.files ++ (name.now, bytes.now) ∷ [] }) }
@@ -114,8 +113,8 @@ impl MemShelf {
         }
     }
 
-    /// Adds a call, counted from 1 over all picks and reads, to those that are to fail. After
-    /// `Memory`, its one error, nothing has changed.
+    /// Adds a call to those that fail; calls count from 1 over all picks and reads. `Memory` is its one
+    /// error, and changes nothing.
     pub fn fail_at(&mut self, call: u64) -> Result<(), PickError>
         ensures ok { OnOk result (self.new ≡ record self.old { plan = record self.old.plan { failing = self.old.plan.failing ++ call ∷ [] } }) }
         ensures err { OnErr result (self.new ≡ self.old) }

@@ -6,9 +6,8 @@ use crate::sink::Sink;
 use std::alloc::Global;
 use std::marker::Model;
 
-/// A sink in memory, for tests. It takes a piece in parts of at most so many bytes, has room for so
-/// many in all, and fails at the calls that it is told to fail at. A write with no room left fails
-/// too.
+/// A sink in memory, for tests. It takes at most so many bytes at once and so many in all, and fails at
+/// the writes that a test names. A write fails, too, if there is no room left.
 #[derive(Drop)]
 pub struct MemSink {
     space: Vec<u8>,
@@ -31,7 +30,7 @@ impl Model for MemSink {
 impl MemSink {
     ghost use Rattle.pip_base.specs.MemSink.{empty_sink};
 
-    /// A sink that takes at most `most` bytes at once and `room` bytes in all. It takes the room
+    /// A sink that takes at most `most` bytes at once and `room` bytes in all. It allocates the room
     /// first. `Memory` is its one error.
     pub fn new(alloc: Global, most: usize, room: usize) -> Result<MemSink, PickError>
         requires { 0 < most }
@@ -56,8 +55,8 @@ impl MemSink {
         &self.space[..self.count]
     }
 
-    /// Adds a write, counted from 1, to those that are to fail. After `Memory`, its one error,
-    /// nothing has changed.
+    /// Adds a write to those that fail; writes count from 1. `Memory` is its one error, and changes
+    /// nothing.
     pub fn fail_at(&mut self, call: u64) -> Result<(), PickError>
         ensures ok { OnOk result (self.new ≡ record self.old { plan = record self.old.plan { failing = self.old.plan.failing ++ call ∷ [] } }) }
         ensures err { OnErr result (self.new ≡ self.old) }

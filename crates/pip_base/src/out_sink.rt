@@ -4,8 +4,8 @@ use crate::shelf::Failed;
 use crate::sink::Sink;
 use std::io;
 
-/// The standard output. It tells nothing of what it took. A write that takes nothing of a piece is a
-/// fault.
+/// The standard output. Contracts say nothing of what it took. A write that takes no byte of a piece is
+/// a fault.
 #[derive(Drop)]
 pub struct OutSink<'a, R: Print> {
     rt: &'a R,

@@ -6,8 +6,8 @@ use crate::shelf::PickError;
 use std::alloc::Global;
 use std::marker::Model;
 
-/// How many calls there were, which of them are to fail, and how many faults there were. Both counts
-/// stand still at their last value.
+/// How many calls there were, which of them fail, and how many faults there were. Both counts stay at
+/// `u64::MAX` once they reach it.
 #[derive(Drop)]
 pub(crate) struct Schedule {
     calls: u64,

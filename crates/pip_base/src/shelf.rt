@@ -19,7 +19,7 @@ pub enum FaultKind {
     IsDirectory,
     /// The permission to read it is missing.
     NotPermitted,
-    /// Anything else, as an input that breaks off.
+    /// Anything else, such as an input that breaks off.
     Other,
 }
 
@@ -28,19 +28,19 @@ pub enum FaultKind {
 pub enum PickError {
     /// There is no such file, or it can't be opened.
     Failed,
-    /// Want of memory.
+    /// Out of memory.
     Memory,
 }
 
 /// Files by their names.
 pub trait Shelf {
-    /// The bytes under a name, where the shelf tells them.
+    /// The bytes under a name, if they are known.
     ghost told: { Self → List ℕ → Option (List ℕ) };
 
     /// Which numbers were given to files.
     ghost is_picked: { Self → ℕ → Type 0 };
 
-    /// What a picked file has left, where the shelf tells it.
+    /// What a picked file has left, if it is known.
     ghost left: { Self → ℕ → Option (List ℕ) };
 
     /// The names that were asked for.
@@ -49,17 +49,17 @@ pub trait Shelf {
     /// How often the outside has failed.
     ghost faults: { Self → ℕ };
 
-    /// A new number for the file of that name, which then has all its bytes left.
+    /// A new number for the file of that name. All bytes of the file are left.
     fn pick(&mut self, alloc: Global, name: &str) -> Result<u32, PickError>
         requires { length (asked self.old) < 4294967295 }
         ensures ok { IfOk result (λ n. IsPickOf (is_picked self.old) (is_picked self.new) n × (left self.new n ≡ told self.old name.now)) }
 
-        // The name joins those asked for, also in vain. Want of memory changes nothing.
+        // The name joins those asked for, also if the pick fails. `Memory` changes nothing.
         ensures asked { OnOk result (asked self.new ≡ asked self.old ++ name.now ∷ []) }
         ensures asked_in_vain { result ≡ Err PickError.Failed → asked self.new ≡ asked self.old ++ name.now ∷ [] }
         ensures memory { result ≡ Err PickError.Memory → (asked self.new ≡ asked self.old) × (faults self.new ≡ faults self.old) }
 
-        // The bytes under names stay, and what the files picked before have left.
+        // The bytes under names stay the same, and so does what is left of the files picked before.
         ensures told { (name : List ℕ) → told self.new name ≡ told self.old name }
         ensures kept { KeepsLeft (is_picked self.old) (is_picked self.new) (left self.old) (left self.new) }
 
@@ -68,20 +68,21 @@ pub trait Shelf {
         ensures cause { result ≡ Err PickError.Failed → Rose (faults self.old) (faults self.new) }
         ensures no_fault { OnOk result (faults self.new ≡ faults self.old) };
 
-    /// How many of the file's next bytes it put at the front of `into`. 0 is the end of the file.
+    /// Reads the file's next bytes into the front of `into`, and returns how many. 0 is the end of the
+    /// file.
     fn read(&mut self, file: u32, into: &mut [u8]) -> Result<usize, Failed>
         requires picked { is_picked self.old file }
         requires room { 0 < length into.old }
         ensures bound { ReadsAtMost result into.new }
         ensures bytes { ReadConsumes (left self.old file) (left self.new file) result into.new }
 
-        // Names and their bytes stay, and all other files.
+        // Names and their bytes stay the same, and so do all other files.
         ensures told { (name : List ℕ) → told self.new name ≡ told self.old name }
         ensures asked { asked self.new ≡ asked self.old }
         ensures kept { (m : ℕ) → is_picked self.old m → is_picked self.new m }
         ensures others { (m : ℕ) → m ≢ file → left self.new m ≡ left self.old m }
         ensures cause { HasCause (faults self.old) (faults self.new) result };
 
-    /// What the system said of the latest failure. Where nothing has failed yet it says nothing.
+    /// What the system said of the latest failure. Before the first failure the answer means nothing.
     fn fault_kind(&self) -> FaultKind;
 }

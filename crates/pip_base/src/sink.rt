@@ -6,13 +6,14 @@ use crate::shelf::Failed;
 
 /// Where bytes go.
 pub trait Sink {
-    /// The bytes taken so far, where the sink tells them.
+    /// The bytes taken so far, if they are known.
     ghost taken: { Self → Option (List ℕ) };
 
     /// How often the outside has failed.
     ghost faults: { Self → ℕ };
 
-    /// How many bytes from the front of the piece it took, at least 1. A failure takes none.
+    /// Writes bytes from the front of the piece, at least 1, and returns how many. A failure takes
+    /// none.
     fn write(&mut self, piece: &[u8]) -> Result<usize, Failed>
         requires { 0 < length piece.now }
         ensures bound { IfOk result (λ n. (0 < n) × (n ≤ length piece.now)) }

@@ -20,15 +20,15 @@ pub enum ReadError {
     Fault,
     /// It has more bytes than `FILE_LIMIT`.
     TooLarge,
-    /// Want of memory.
+    /// Out of memory.
     Memory,
 }
 
-/// A sink failed before it had taken a piece whole.
+/// A sink failed before it had taken a whole piece.
 #[derive(Clone, Copy, Debug, PartialEq, Eq)]
 pub struct WriteFault;
 
-/// Writes a piece whole, or where the sink fails a part from its front.
+/// Writes a whole piece. If the sink fails, it has taken a front of the piece.
 pub fn write_whole<K: Sink>(sink: &mut K, piece: &[u8]) -> Result<(), WriteFault>
     ensures bytes { OnOk result (Appends (K.taken sink.old) (K.taken sink.new) piece.now) }
     ensures front { OnErr result (AppendsFront (K.taken sink.old) (K.taken sink.new) piece.now) }
@@ -44,8 +44,8 @@ pub fn write_whole<K: Sink>(sink: &mut K, piece: &[u8]) -> Result<(), WriteFault
     Ok(())
 }
 
-/// All bytes of a file of at most `FILE_LIMIT` bytes, read to its end. Contracts say so where the shelf tells what is left of
-/// the file, as one in memory does.
+/// All bytes of a file of at most `FILE_LIMIT` bytes, read to its end. Contracts say so if the shelf
+/// knows what is left of the file, as a shelf in memory does.
 pub fn read_whole<F: Shelf>(alloc: Global, shelf: &mut F, name: &str) -> Result<Vec<u8>, ReadError>
     requires { length (F.asked shelf.old) < 4294967295 }
     ensures bytes { IfOk result (λ all. (bytes : List ℕ) → F.told shelf.old name.now ≡ Some bytes → all.items ≡ bytes) }

@@ -1,34 +1,35 @@
-//! Packet filter sets under live lookup: one control changes them, and up to sixteen readers look packets up in them,
-//! each in a thread of its own.
+//! Looks packets up in filter sets by up to sixteen readers, while one control changes the sets.
 //!
-//! A set has fields, as an address and a port (`Kind`), and elements of one interval per field. A key of one value per
-//! field is looked up: the answer is the earliest inserted element that is live and holds the key, as nft's sets of
-//! concatenated ranges are meant to answer.
+//! A set has fields, such as an address and a port (`Kind`), and elements of one interval per field. A key has one value
+//! per field. A lookup of a key returns the earliest inserted element that is live and holds the key, as nft's sets of
+//! concatenated ranges are meant to.
 //!
 //! # The model
 //!
-//! `start` takes the declared sets (`Schema`) and how many readers there are, and makes generation 0, in which all sets
-//! are empty.
+//! `start` takes the declared sets (`Schema`) and the number of readers. It makes generation 0, in which all sets are
+//! empty.
 //!
-//! - A **generation** is all sets as they stood at a commit. It has a number and never changes.
-//! - The **`Control`** changes the open sets, which no reader sees: `insert`, `create`, `delete`, `destroy`, `flush`. `commit`
-//!   makes them the next generation, without the elements that are expired, and `abort` takes all open changes back.
-//! - A **`Reader`** enters the last generation and is a **`Held`** then, which looks keys up in that generation, until it
-//!   leaves and is a `Reader` again. What is committed meanwhile doesn't change its answers. No enter goes back behind a
-//!   generation that the same reader has seen.
-//! - A **`Note`** tells what one thread has seen. A reader that meets the control's note enters no generation before it.
+//! - A **generation** is all sets at the moment of a commit. It has a number and never changes.
+//! - The **`Control`** changes the open sets, which no reader sees: `insert`, `create`, `delete`, `destroy`,
+//!   `flush`. `commit` makes them the next generation, without the elements that are expired. `abort` takes all
+//!   open changes back.
+//! - A **`Reader`** enters the last generation and becomes a **`Held`**. A `Held` looks keys up in that generation,
+//!   whatever is committed meanwhile. `leave` makes it a `Reader` again. A reader never enters an older generation
+//!   than one that it has seen.
+//! - A **`Note`** has the generations that one thread has seen. A reader that has met a note of the control enters
+//!   no generation older than the last of these.
 //!
 //! **What waits:** nothing. An enter and a leave are one atomic addition each, and a commit finds a free place for its
 //! generation within readers + 1 looks. A `Held` that is never left keeps its generation, and blocks nobody.
 //!
-//! **What takes memory:** of these `start`, the five changes and `commit`, each of which leaves everything as it was where memory is
-//! wanting. `enter`, `lookup`, `leave`, `abort` and notes take none. A set is copied at its first change in a transaction,
-//! and at a commit where an element of it has expired: a copy shares all whole pages, and what is changed gets pages of its
-//! own. Elements that left a set may stand in its tables for a while, unseen, and leave them together.
-//! Of older generations the control gives back the memory, and a reader none.
+//! **What takes memory:** `start`, the five changes and `commit`. Each of them leaves everything as it was if memory
+//! runs out. `enter`, `lookup`, `leave`, `abort` and notes take none. A set is copied at its first change in a
+//! transaction, and at a commit if an element of it has expired. A copy shares all whole pages, and a change copies only
+//! the pages that it changes. Deleted elements may stay in a set's tables for a while, unseen, and are removed together.
+//! The control frees older generations, and a reader frees no memory.
 //!
-//! **What is asked:** a set that is declared, and intervals and values of its kinds. `Control::fits` and `Held::fits` test it;
-//! no call tests it again. Sets and fields are numbered from 0, and moments are milliseconds.
+//! **What calls require:** a declared set, and intervals and values of its kinds. `Control::fits` and `Held::fits` test
+//! this, and no other call tests it again. Sets and fields are numbered from 0, and moments are milliseconds.
 //!
 //! # How a set is looked up
 //!
@@ -39,34 +40,35 @@
 //! element 1:  192.168.1.0-192.168.2.1     . 2048
 //! ```
 //!
-//! Each interval is split into blocks whose values differ in their lowest bits alone, and each block is a rule of its field: the
-//! addresses have rule 0, 10.0.0.5, of element 0, and rules 1 and 2, 192.168.1.0/24 and 192.168.2.0/31, of element 1. For each byte of
-//! a field and each of its values a bitmap has a bit for each rule with which it agrees. A lookup ANDs one bitmap a byte: of
-//! 192.168.1.5 these are 011, 011, 010 and 110, rule 0 first, and 010 is left, rule 1. Each rule leads to those of its element in the
-//! next field, where the port's bitmaps follow, and in the last field to the element. No interval is compared, and the lowest rule
-//! that is left is of the earliest element.
+//! Each interval is split into blocks whose values differ in their lowest bits alone. Each block is a rule of its field.
+//! The addresses have three: rule 0, 10.0.0.5, of element 0, and rules 1 and 2, 192.168.1.0/24 and 192.168.2.0/31, of
+//! element 1. For each byte of a field, each of its 256 values has a bitmap of the rules that agree with it. A lookup
+//! ANDs one bitmap per byte. For 192.168.1.5 these are 011, 011, 010 and 110, with rule 0 first, so 010 is left: rule 1.
+//! Each rule leads to the rules of its element in the next field, here the port. In the last field each rule leads to
+//! its element. A lookup compares no intervals. The lowest rule that is left belongs to the earliest element.
 //!
 //! # A set by itself
 //!
-//! One thread that needs no generations has a `Set`: `insert`, `delete`, `purge` and `find`. What is looked up works in the rows of
-//! a `Scratch`, which is made once. A `Transaction` is what a `Control` has open: the sets of a `Generation`, and the changes to them.
+//! A thread that needs no generations has a `Set`: `insert`, `delete`, `purge` and `find`. A lookup works in the rows of
+//! a `Scratch`, which is made once. A `Transaction` is what a `Control` has open: the sets of a `Generation`, and the
+//! changes to them.
 //!
 //! # Texts
 //!
-//! `read_script` reads a script of nft(8) and `read_keys` the packets of a key file; a text that isn't in its grammar is refused
-//! with its line and the reason. `run_steps` does a script's steps on a control, `write_events` writes what they told, and
-//! `write_list` a generation as a script again. `transcript`, `listing` and `dump` give what the commands `run`, `list` and `dump`
-//! write.
+//! `read_script` reads a script of nft(8), and `read_keys` the packets of a key file. They refuse a text that isn't in
+//! its grammar, with its line and the reason. `run_steps` does a script's steps on a control, `write_events` writes
+//! their events, and `write_list` a generation as a script again. `transcript`, `listing` and `dump` return what the
+//! commands `run`, `list` and `dump` write.
 //!
-//! **Each call's promise and cost:** docs/library.md. **Definitions:** docs/definitions.md; the
-//! contracts of controls and readers stand in `gen_publish`, of a transaction in `set_space`, of a set in
-//! `pipapo_image`. **Theory:** the first page of `gen_publish`, and docs/architecture.md: "The way of a
-//! packet" and "The way of a change", and "The classifier, by one example" for how a set is looked up.
+//! **Each call's promise and cost:** docs/library.md. **Definitions:** docs/definitions.md. The contracts of controls
+//! and readers are in `gen_publish`, those of a transaction in `set_space`, and those of a set in `pipapo_image`.
+//! **Theory:** the first page of `gen_publish`, and docs/architecture.md: "The way of a packet" and "The way of a
+//! change", and "The classifier, by one example" for how a set is looked up.
 //!
 //! # Example
 //!
-//! A packet thread beside the control. `services` declares one set, of the kinds `Ipv4` and `Service`. The code is a
-//! test in `run_tests` (`front_door.rt`), and is proved there.
+//! A packet thread beside the control. `services` declares one set, of the kinds `Ipv4` and `Service`. A test in
+//! `run_tests` (`front_door.rt`) has the same code, and is proved.
 //!
 //! ```text
 //! /// Inserts the services of 192.0.2.0/24 at ports from `low` to `high`.

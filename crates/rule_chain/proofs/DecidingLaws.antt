@@ -31,7 +31,7 @@ behind-at (x ∷ xs) ys y = behind-at xs ys y
 names-more : (rules more : List Rule) (n : ℕ) → Names rules n → Names (rules ++ more) n
 names-more rules more n h = (h.0, front-at rules more n h.0 h.1, h.2)
 
--- a walk behind the rules in front
+-- a walk after the rules in front
 walk-names : (fit : Rule → Bool) (jumped : ℕ → Option ℕ) (front rules : List Rule) (n m : ℕ) → n ≡ length front → AllName front jumped → walk fit jumped n rules ≡ Some m → Names (front ++ rules) m
 walk-names fit jumped front [] n m long all e = absurd (cc e)
 walk-names fit jumped front (r ∷ rules) n m long all e =
@@ -55,7 +55,7 @@ walk-names fit jumped front (r ∷ rules) n m long all e =
       go true found behind = act r.act refl found behind
       go false found behind = behind found
 
--- the decisions that stood, and one more
+-- the decisions so far, and one more
 one-more : (rules : List Rule) (before : List (Option ℕ)) (o : Option ℕ) → AllName rules (decided before) → ((n : ℕ) → o ≡ Some n → Names rules n) → AllName rules (decided (before ++ o ∷ []))
 one-more rules [] o all h zero n e = h n e
 one-more rules [] o all h (suc chain) n e = absurd (cc e)

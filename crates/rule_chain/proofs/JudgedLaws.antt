@@ -1,4 +1,4 @@
--- What a chain decides is the walk of its rules, where jumps lead to what the earlier chains decide.
+-- What a chain decides is the walk of its rules, in which jumps lead to what the earlier chains decide.
 use Rattle.std.proofs.Common.{◌≡◌, ◌==◌, refl, sym, ◌∙◌, ap, subst, ℕ, zero, suc, ◌+◌, ◌<◌, ◌≤◌, Bool, true, false, if◌then◌else◌, List, [], ◌∷◌, ◌++◌, length, take, drop, slice_set, get_or, is_some, Option, Some, None, slice_get, arith, length-append, IsTrue}
 use Rattle.std.specs.Option.{option_or}
 use Rattle.std.specs.List.{All, list_all, zip}
@@ -19,7 +19,7 @@ use Rattle.set_model.specs.Key.{key_fits}
 use Rattle.set_model.specs.Runnable.{IsFitting}
 use Rattle.rule_chain.specs.Judged.{acts_on, walk, flat, decided, decisions, kind_number, same_kinds, alike}
 
--- where the chains before place i decide the same, so do rules that jump to these alone
+-- if the chains before place i decide the same, so do rules that jump only to these
 same_acts : (i n : ℕ) (f g : ℕ → Option ℕ) → ((j : ℕ) → j < i → f j ≡ g j) → (a : Act) (x y : Option ℕ) → LeadsBack i a → x ≡ y → acts_on f n a x ≡ acts_on g n a y
 same_acts i n f g h acts.Accept x y k e = refl
 same_acts i n f g h acts.Drop x y k e = refl
@@ -73,7 +73,7 @@ later schema fits n before (b ∷ chains) sound (suc i) c e =
     let further = later schema fits (n + length b.rules) (before ++ w ∷ []) chains (λ k d h. subst (λ z. All (IsRule schema z) d.rules) (shift k) (sound (suc k) d h)) i c e in
     ap (λ z. decided all z) (shift i) ∙ further ∙ ap (λ z. walk fits (decided all) z c.rules) (omega (arith, sum_by-cons (λ (c : Chain). length c.rules) b (take i chains)))
 
--- The chain at a place decides what its rules decide, numbered behind those of the chains before.
+-- The chain at a place decides what its rules decide, numbered after those of the chains before.
 pub chain_decides : (schema : List SetDecl) (fits : Rule → Bool) (chains : List Chain) → ((i : ℕ) (c : Chain) → slice_get chains i ≡ Some c → All (IsRule schema i) c.rules)
     → (i : ℕ) (c : Chain) → slice_get chains i ≡ Some c → decided (decisions fits 0 [] chains) i ≡ walk fits (decided (decisions fits 0 [] chains)) (rule_count (take i chains)) c.rules
 chain_decides schema fits chains sound i c e =
@@ -159,13 +159,13 @@ module _ (fits : Rule → Bool) (jumped : ℕ → Option ℕ) (n i : ℕ) (rules
   pub next_unfit : (d : Option ℕ) → d ≡ walk fits jumped n (drop i rules) → fits r ≡ false → d ≡ walk fits jumped (n + 1) (drop (i + 1) rules)
   next_unfit d e h = e ∙ here ∙ not_fitting fits jumped n r (drop (i + 1) rules) h
 
-  -- behind a jump to a chain that decides nothing the walk goes on
+  -- after a jump to a chain that decides nothing the walk goes on
   pub next_passed : (d : Option ℕ) (chain : ℕ) → d ≡ walk fits jumped n (drop i rules) → fits r ≡ true → r.act ≡ acts.Jump chain → jumped chain ≡ None → d ≡ walk fits jumped (n + 1) (drop (i + 1) rules)
   next_passed d chain e h act none =
       let behind = walk fits jumped (n + 1) (drop (i + 1) rules) in
       e ∙ here ∙ fitting fits jumped n r (drop (i + 1) rules) h ∙ ap (λ z. acts_on jumped n z behind) act ∙ ap (λ z. option_or z behind) none
 
--- marks that are right stay right where one more chain decides nothing
+-- right marks stay right if one more chain decides nothing
 pub one_more_mark : (jumped : ℕ → Option ℕ) (marks : List Bool) (chain : ℕ) → ((k : ℕ) → slice_get marks k ≡ Some true → jumped k ≡ None) → jumped chain ≡ None
     → (k : ℕ) → slice_get (slice_set marks chain true) k ≡ Some true → jumped k ≡ None
 one_more_mark jumped [] chain each none k h = absurd (cc h)

@@ -1,4 +1,4 @@
--- What stands before any place of a front of a rules file is a front, form by form.
+-- The tokens before any place of a front of a rules file are a front, form by form.
 use Rattle.std.specs.Prelude.{ℕ, List, [], ◌∷◌, Bool, true, false, Option, Some, None}
 use Rattle.set_model.specs.declared.script.Family.{Family}
 use Rattle.set_model.specs.declared.script.SetDecl.{SetDecl}

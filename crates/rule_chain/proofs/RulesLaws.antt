@@ -34,7 +34,7 @@ test_reads : (schema : List SetDecl) (tests : List Test) → Reads (form.test sc
 unfolding reading.one_test
 test_reads schema tests = bind_definite (word_by_reads [] _) (λ inside. bind_definite table_place_reads (λ p. bind_definite (used_set_reads schema p) (λ i. done_reads _)))
 
--- a word that begins a test where one may stand
+-- a word that begins a test, if a test is allowed there
 abbrev begins_test : Lexeme → Bool
 begins_test t = is_word t.kind && is_some (inside_of t.bytes)
 

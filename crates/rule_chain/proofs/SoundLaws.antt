@@ -60,7 +60,7 @@ test_keeps schema tests after x k (inside, x1, y1, e1, (t, et, given), (p, x2, y
       declared = All-push (λ (t : Test). t.set < length schema) tests (record { set = i; inside = inside }) k.declared there;
     })
 
--- rules of the chain behind these
+-- rules of the chain after these
 act_back : (chains : List Chain) (w : ActWord) (a : Act) (x : List Lexeme) → (form.act_behind chains w).whole x a → LeadsBack (length chains) a
 act_back chains words.Accept a x h = subst (LeadsBack (length chains)) h.1 tt
 act_back chains words.Drop a x h = subst (LeadsBack (length chains)) h.1 tt

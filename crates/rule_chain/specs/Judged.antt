@@ -1,4 +1,5 @@
--- What becomes of a packet by chains of rules (base chains, `jump` and `return` of nft(8)), over sets of one generation.
+-- What chains of rules decide on a packet (base chains, `jump` and `return` of nft(8)), over sets of
+-- one generation.
 use Rattle.std.specs.Prelude.{◌≡◌, ℕ, ◌+◌, ◌-◌, Bool, true, false, ◌&&◌, not, ◌==◌, List, [], ◌∷◌, ◌++◌, length, if◌then◌else◌, Option, Some, None, is_some, slice_get}
 use Rattle.std.specs.Option.{option_or}
 use Rattle.std.specs.List.{list_all, zip}
@@ -22,11 +23,11 @@ abbrev pub holds_key : List ℕ → ℕ → Option State → Bool
 holds_key key now None = false
 holds_key key now (Some s) = is_some (first s key now)
 
--- a set of a generation has one
+-- a set of a generation has such an element
 abbrev pub has_element : Generation → ℕ → List ℕ → ℕ → Bool
 has_element g set key now = holds_key key now (slice_get g.sets set)
 
--- the place of a kind in their list
+-- the number of a kind in their list
 abbrev pub kind_number : Kind → ℕ
 kind_number kinds.Ipv4 = 0
 kind_number kinds.Ipv6 = 1
@@ -44,29 +45,30 @@ alike (Some s) (Some t) = same_kinds s.kinds t.kinds
 alike (Some s) None = false
 alike None t = false
 
--- as a test asks: an element is found, or none is
+-- the answer that a test asks for: an element is found, or none is
 abbrev pub as_asked : Bool → Bool → Bool
 as_asked true found = found
 as_asked false found = not found
 
--- A packet meets a test: the test's set has the kinds of the packet's set, and holds its key, or doesn't, as it asks.
+-- A packet meets a test if the test's set has the kinds of the packet's set, and it holds its
+-- key, or doesn't, as the test asks.
 abbrev pub meets_test : List SetDecl → Generation → Packet → Test → Bool
 meets_test schema g p t = alike (slice_get schema t.set) (slice_get schema p.set) && as_asked t.inside (has_element g t.set p.key p.now)
 
--- A packet fits a rule: it meets all of its tests.
+-- A packet fits a rule if it meets all its tests.
 abbrev pub fits_rule : List SetDecl → Generation → Packet → Rule → Bool
 fits_rule schema g p r = list_all (meets_test schema g p) r.tests
 
--- What rule n does with a packet that fits it, where `behind` is what the rules behind it decide: accept and drop decide,
--- with the rule's number; return ends this chain's walk; a jump decides what the chain that it leads to decides, and where
--- that decides nothing the walk goes on.
+-- What rule n does with a packet that fits it; `behind` is the decision of the rules after it. Accept
+-- and drop decide, with the rule's number. Return ends this chain's walk. A jump takes the decision of
+-- the chain that it leads to; if that chain decides nothing, the walk goes on.
 abbrev pub acts_on : (ℕ → Option ℕ) → ℕ → Act → Option ℕ → Option ℕ
 acts_on jumped n acts.Accept behind = Some n
 acts_on jumped n acts.Drop behind = Some n
 acts_on jumped n acts.Return behind = None
 acts_on jumped n (acts.Jump chain) behind = option_or (jumped chain) behind
 
--- The walk of rules, numbered from n on: the number of the rule that decides, if one does.
+-- The walk of rules that are numbered from n on: the number of the rule that decides, if one does.
 abbrev pub walk : (Rule → Bool) → (ℕ → Option ℕ) → ℕ → List Rule → Option ℕ
 walk fits jumped n [] = None
 walk fits jumped n (r ∷ rules) = if fits r then acts_on jumped n r.act (walk fits jumped (n + 1) rules) else walk fits jumped (n + 1) rules
@@ -79,7 +81,8 @@ flat (Some decision) = decision
 abbrev pub decided : List (Option ℕ) → ℕ → Option ℕ
 decided decisions chain = flat (slice_get decisions chain)
 
--- What each chain decides, one chain after another, behind those of the chains before. Rules are numbered from n on.
+-- The decisions of chains, in order, added to the decisions of the chains before. Rules are numbered
+-- from n on.
 abbrev pub decisions : (Rule → Bool) → ℕ → List (Option ℕ) → List Chain → List (Option ℕ)
 decisions fits n before [] = before
 decisions fits n before (c ∷ chains) = decisions fits (n + length c.rules) (before ++ walk fits (decided before) n c.rules ∷ []) chains
@@ -89,18 +92,18 @@ abbrev pub as_verdict : Option ℕ → Verdict
 as_verdict None = verdicts.None
 as_verdict (Some n) = verdicts.Element n
 
--- what the chain at a place decides on a packet; rules are numbered from 0 through the file
+-- the decision of the chain at a place on a packet; rules are numbered from 0 through the file
 abbrev pub decision_of : Rules → Generation → Packet → ℕ → Option ℕ
 decision_of rules g p chain = decided (decisions (fits_rule rules.schema g p) 0 [] rules.chains) chain
 
--- the chains that are marked decide nothing
+-- the marked chains decide nothing
 abbrev pub DecideNothing : Rules → Generation → Packet → List Bool → Type 0
 DecideNothing rules g p marks = (chain : ℕ) → slice_get marks chain ≡ Some true → decision_of rules g p chain ≡ None
 
--- The verdict on a packet: what the last chain decides, which is the base chain.
+-- The verdict on a packet: the decision of the last chain, which is the base chain.
 abbrev pub judged : Rules → Generation → Packet → Verdict
 judged rules g p = as_verdict (decision_of rules g p (length rules.chains - 1))
 
--- what chains say of a packet in a generation
+-- the verdict of chains on a packet in a generation
 abbrev pub IsJudged : Rules → Generation → Packet → Verdict → Type 0
 IsJudged rules g p verdict = verdict ≡ judged rules g p

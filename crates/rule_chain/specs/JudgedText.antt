@@ -11,7 +11,7 @@ use Rattle.rule_chain.specs.declared.chains.Rule.{Rule}
 use Rattle.rule_chain.specs.declared.chains.Chain.{Chain}
 use Rattle.rule_chain.specs.Chains.{Rules}
 
--- the rules of chains through the file
+-- the rules of all chains, as numbered through the file
 abbrev pub chain_rules : List Chain → List Rule
 chain_rules chains = flat_map (λ c. c.rules) chains
 
@@ -22,12 +22,12 @@ Decides acts.Drop = Unit {0}
 Decides acts.Return = ⊥
 Decides (acts.Jump chain) = ⊥
 
--- A verdict of chains: none, or the number of a rule that decides.
+-- A verdict of chains is none, or the number of a rule that decides.
 abbrev pub IsOfRules : Rules → Verdict → Type 0
 IsOfRules rules verdicts.None = Unit {0}
 IsOfRules rules (verdicts.Element n) = (r : Rule) × (slice_get (chain_rules rules.chains) n ≡ Some r) × Decides r.act
 
--- whether the act of a rule that decides is to accept
+-- whether a deciding rule's act is to accept
 abbrev pub accepts_by : Act → Bool
 accepts_by acts.Accept = true
 accepts_by acts.Drop = false
@@ -42,7 +42,7 @@ abbrev pub accept_text : Bool → List ℕ
 accept_text true = codes "accept"
 accept_text false = codes "drop"
 
--- what becomes of the packet: the number of the rule that decides and what it does, or what the policy does
+-- the number of the rule that decides and what it does, or what the policy does
 abbrev pub judgement_text : Rules → Verdict → List ℕ
 judgement_text rules verdicts.None = codes "policy " ++ accept_text rules.accept
 judgement_text rules (verdicts.Element n) = numbered (codes "rule") n ++ codes " " ++ accept_text (is_accepting (slice_get (chain_rules rules.chains) n))

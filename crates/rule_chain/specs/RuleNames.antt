@@ -9,14 +9,14 @@ use Rattle.rule_chain.specs.declared.draft.ActWord.{ActWord}
 use Rattle.rule_chain.specs.declared.draft.ActWord.TheVariants as acts
 use Rattle.rule_chain.specs.Chains.{most_chains, most_tests}
 
--- a test asks for an element that holds the key, or for none
+-- whether a test asks for an element that holds the key, or for none
 abbrev pub inside_of : List ℕ → Option Bool
 inside_of t =
     if bytes_eq t (codes "in") then Some true
     else if bytes_eq t (codes "out") then Some false
     else None
 
--- A test may stand behind fewer than four.
+-- A test is allowed after fewer than four tests.
 abbrev pub test_of : ℕ → List ℕ → Option Bool
 test_of tests t = if nat_lt tests most_tests then inside_of t else None
 
@@ -35,7 +35,7 @@ policy_of t =
     else if bytes_eq t (codes "drop") then Some false
     else None
 
--- A fifth chain may not stand, nor a policy without a chain, nor anything behind the policy.
+-- A fifth chain isn't allowed, nor a policy without a chain, nor anything after the policy.
 abbrev pub rules_word_of : RulesDraft → List ℕ → Option RulesWord
 rules_word_of d t =
     if is_some d.policy then None
@@ -43,7 +43,7 @@ rules_word_of d t =
     else if bytes_eq t (codes "policy") && nat_lt 0 (length d.chains) then Some firsts.Policy
     else None
 
--- the place of the chain of a name
+-- the place of the chain with this name
 abbrev pub chain_place : List Chain → List ℕ → Option ℕ
 chain_place chains t = position (λ c. bytes_eq c.name t) chains
 

@@ -17,7 +17,7 @@ use Rattle.rule_chain.specs.declared.draft.ActWord.TheVariants as words
 use Rattle.rule_chain.specs.Chains.{most_rules}
 use Rattle.rule_chain.specs.RuleNames.{test_of, act_of, policy_of, rules_word_of, chain_place, new_chain_of}
 
--- One test more: `in` or `out`, and the place of a declared set.
+-- One more test: `in` or `out`, and a declared set.
 abbrev pub test : List SetDecl → List Test → Form (List Test)
 test schema tests = do
   inside ← word_by [] (λ t. test_of (length tests) t.bytes)
@@ -25,7 +25,7 @@ test schema tests = do
   i ← used_set schema p
   done (tests ++ record { set = i; inside = inside } ∷ [])
 
--- the name of an earlier chain: its place
+-- the name of an earlier chain, which gives its place
 abbrev pub earlier_chain : List Chain → Form ℕ
 earlier_chain chains = word_by [] (λ t. chain_place chains t.bytes)
 
@@ -43,23 +43,23 @@ act chains = do
   w ← word_by [] (λ t. act_of t.bytes)
   act_behind chains w
 
--- One rule more: tests, and an act.
+-- One more rule: its tests and its act.
 abbrev pub rule : List SetDecl → List Chain → List Rule → Form (List Rule)
 rule schema chains rules = do
   tests ← many (test schema) []
   a ← act chains
   done (rules ++ record { tests = tests; act = a } ∷ [])
 
--- a rule, where there may be one more
+-- a rule, if one more is allowed
 abbrev pub rule_if : Bool → List SetDecl → List Chain → List Rule → Form (List Rule)
 rule_if true schema chains rules = rule schema chains rules
 rule_if false schema chains rules = nowhere
 
--- What has been read: the chains, how many rules more there may be, and the policy.
+-- What has been read: the chains, how many more rules are allowed, and the policy.
 abbrev pub no_rules : RulesDraft
 no_rules = record { chains = []; left = most_rules; policy = None }
 
--- one chain more
+-- one more chain
 abbrev pub with_chain : RulesDraft → List ℕ → List Rule → RulesDraft
 with_chain d name rules = record d { chains = d.chains ++ record { name = name; rules = rules } ∷ []; left = d.left - length rules }
 
@@ -88,7 +88,7 @@ statement schema d = do
   w ← word_by [] (λ t. rules_word_of d t.bytes)
   statement_behind schema d w
 
--- the chains, and what becomes of a packet that they decide nothing on: that has to stand
+-- The chains, and the policy for a packet on which they decide nothing. A file must have a policy.
 abbrev pub finished : List Chain → Option Bool → Form (List Chain × Bool)
 finished chains None = nowhere
 finished chains (Some accept) = done (chains, accept)

@@ -15,7 +15,7 @@ use set_model::{Listed, Memory, SetDecl};
 use std::alloc::Global;
 use token_forms::{ReadError, Reader};
 
-/// A rule, where there may be one more.
+/// A rule, if one more is allowed.
 #[tactic(auto, using(token_forms::proofs::Refusals::refusals), unfolding(crate::specs::RulesReading::rule_if))]
 fn rule_if(
     reader: &mut Reader,
@@ -36,7 +36,7 @@ fn rule_if(
     }
 }
 
-/// A separator, or a rule where one may come next.
+/// A separator, or a rule if one may come next.
 #[tactic(auto, using(token_forms::proofs::Refusals::refusals))]
 fn rule_line(
     reader: &mut Reader,
@@ -76,7 +76,7 @@ fn next_rule_line(
     rule_line(reader, alloc, schema, d, rules, next)
 }
 
-/// The rules of a chain, as far as they go, and whether one more may come next.
+/// Reads the rules of a chain as long as one starts. Returns also whether one more may come next.
 fn rule_lines(
     reader: &mut Reader,
     alloc: Global,
@@ -118,7 +118,7 @@ fn all_rules(
     Ok(rules)
 }
 
-/// A name that no chain has yet.
+/// Reads a name that no chain has yet.
 #[tactic(auto, unfolding(token_forms::specs::Gives::Refuses))]
 fn new_chain<'a>(reader: &mut Reader<'a>, chains: &[Chain]) -> Result<&'a [u8], ReadError>
     ensures { Gives (λ x. x.now) result reader.new (reading.new_chain chains.now reader.old) }
@@ -147,7 +147,7 @@ fn close_chain(
     Ok(())
 }
 
-/// The name of a chain, and its rules in braces.
+/// Reads the name of a chain, and its rules in braces.
 #[tactic(auto, using(token_forms::proofs::Refusals::refusals), unfolding(crate::specs::RulesReading::chain_block))]
 fn chain_block(
     reader: &mut Reader,
@@ -179,7 +179,7 @@ fn policy(reader: &mut Reader) -> Result<bool, ReadError>
     }
 }
 
-/// What stands behind the first word of a statement.
+/// Reads the rest of a statement after its first word.
 #[tactic(auto, using(token_forms::proofs::Refusals::refusals), unfolding(crate::specs::RulesReading::statement_behind))]
 fn statement_behind(
     reader: &mut Reader,
@@ -202,7 +202,7 @@ fn statement_behind(
     }
 }
 
-/// `chain` or `policy`, where they may stand.
+/// Reads `chain` or `policy`, if it is allowed here.
 #[tactic(auto, unfolding(token_forms::specs::Gives::Refuses))]
 fn first_word(reader: &mut Reader, d: &RulesDraft) -> Result<RulesWord, ReadError>
     ensures gives { Gives (λ x. x) result reader.new (reading.first_word d.now reader.old) }
@@ -229,7 +229,7 @@ fn statement(
     statement_behind(reader, alloc, schema, d, word)
 }
 
-/// A separator, or a statement where one may come next.
+/// A separator, or a statement if one may come next.
 #[tactic(auto, using(token_forms::proofs::Refusals::refusals))]
 fn statement_line(
     reader: &mut Reader,
@@ -264,7 +264,7 @@ fn next_statement_line(
     statement_line(reader, alloc, schema, d, next)
 }
 
-/// The statements, as far as they go, and whether one more may come next.
+/// Reads statements as long as one starts. Returns also whether one more may come next.
 pub fn statements(
     reader: &mut Reader,
     alloc: Global,

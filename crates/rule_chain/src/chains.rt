@@ -2,16 +2,16 @@ use set_model::{Duplicate, Listed, Memory, Name, Schema};
 use std::alloc::Global;
 use std::marker::Model;
 
-/// What a rule does with a packet that it fits.
+/// What a rule does with a packet that fits it.
 #[derive(Clone, Copy, Debug, PartialEq, Eq)]
 pub enum Act {
     /// The packet is accepted.
     Accept,
     /// The packet is dropped.
     Drop,
-    /// The walk of this chain ends, and the one that came here goes on.
+    /// The walk of this chain ends, and the walk of the chain that jumped here goes on.
     Return,
-    /// The chain at this place is walked; where it decides nothing, the next rule follows.
+    /// The chain at this place is walked. If it decides nothing, the next rule follows.
     Jump { chain: u32 },
 }
 
@@ -20,7 +20,7 @@ pub enum Act {
 pub struct Test {
     /// The place of the set among the declared sets.
     pub set: u32,
-    /// Whether an element is to hold the key, or none is.
+    /// Whether it asks for an element that holds the key, or for none.
     pub inside: bool,
 }
 
@@ -33,12 +33,12 @@ impl Duplicate for Test {
 /// The tests of a rule.
 pub type Tests = Listed<Test>;
 
-/// A rule: the tests that a packet has to meet, and what is done with it then.
+/// A rule: the tests that a packet has to meet, and what is then done with the packet.
 #[derive(Drop)]
 pub struct Rule {
     /// The tests, all of which a packet has to meet.
     pub tests: Tests,
-    /// What is done with it then.
+    /// What is done with a packet that meets all tests.
     pub act: Act,
 }
 
@@ -75,15 +75,15 @@ impl Duplicate for Chain {
 /// Chains in the order of their file.
 pub type ChainList = Listed<Chain>;
 
-/// What a rules file stands for: one to four chains with 64 rules at most, over declared sets. The last is the base
-/// chain, and jumps lead to earlier chains alone.
+/// What a rules file means: one to four chains over declared sets, with at most 64 rules. The last
+/// chain is the base chain. Jumps lead only to earlier chains.
 #[derive(Drop)]
 pub struct Chains {
     /// The sets that its rules test.
     pub schema: Schema,
     /// The chains. The last one is the base chain.
     pub chains: ChainList,
-    /// Whether a packet is accepted that no rule decides on.
+    /// Whether a packet on which no rule decides is accepted.
     pub accept: bool,
 }
 

@@ -101,8 +101,8 @@ fn count_rules(chains: &[Chain]) -> u64
 }
 
 impl Chains {
-    /// The number of the rule that decides in a chain, if one does. `passed` are the chains that are known to decide nothing:
-    /// each chain is walked once at most.
+    /// The number of the rule that decides in a chain, if one does. `passed` marks the chains that are
+    /// known to decide nothing. So each chain is walked at most once.
     fn walk<L: Lookups>(
         &self,
         lookups: &mut L,
@@ -150,8 +150,9 @@ impl Chains {
         None
     }
 
-    /// The verdict on a packet in the generation of the lookups: the number of the rule that decides, through the file, as an
-    /// element's id, or none where no rule does. It takes no memory.
+    /// The verdict on a packet in the generation of the lookups. It has the number of the rule that
+    /// decides as an element's id, or none if no rule decides. Rules are numbered through the file. It
+    /// takes no memory.
     pub fn decide<L: Lookups>(&self, lookups: &mut L, packet: &Packet) -> Verdict
         requires schema { L.schema (L.state lookups.old) ≡ self.now.schema }
         requires packet { IsFitting self.now.schema packet.now }

@@ -5,17 +5,18 @@ use crate::chains::ChainList;
 use set_model::Listed;
 use std::alloc::Global;
 
-/// How many rules a file has at most.
+/// How many rules a file may have.
 const MOST_RULES: u64 = 64;
 
 /// What has been read of a rules file.
 #[derive(Drop)]
 pub struct RulesDraft {
-    /// The chains that are closed.
+    /// The chains that have been read whole.
     pub chains: ChainList,
-    /// How many rules more there may be.
+    /// How many more rules are allowed.
     pub left: u64,
-    /// What becomes of a packet that no rule decides on: whether it is accepted. Nothing stands behind it.
+    /// Whether a packet on which no rule decides is accepted, once the policy has been read. Nothing
+    /// may follow the policy.
     pub policy: Option<bool>,
 }
 
@@ -35,7 +36,7 @@ pub enum ActWord {
     Jump,
 }
 
-/// Nothing has been read.
+/// A rules file of which nothing has been read.
 pub fn nothing_read(alloc: Global) -> RulesDraft
     ensures { result ≡ no_rules }
 {

@@ -20,10 +20,10 @@ use set_model::{Duplicate, Memory, Schema, SetDecl};
 use std::alloc::Global;
 use token_forms::{BadToken, ReadError, Reader, plain_bad_token_before};
 
-/// Why a text isn't read as a rules file.
+/// Why a text wasn't read as a rules file.
 pub type RulesError = ReadError;
 
-/// The chains and the policy, which has to stand.
+/// The chains and the policy, which a file must have.
 #[tactic(auto, using(token_forms::proofs::Refusals::refusals), unfolding(crate::specs::RulesReading::finished))]
 fn finished(reader: &mut Reader, d: RulesDraft) -> Result<(ChainList, bool), ReadError>
     ensures { Gives (λ x. (x.0, x.1)) result reader.new (reading.finished d.chains d.policy reader.old) }
@@ -34,7 +34,7 @@ fn finished(reader: &mut Reader, d: RulesDraft) -> Result<(ChainList, bool), Rea
     }
 }
 
-/// What stands before the end.
+/// Reads all before the end of the text.
 #[tactic(auto, using(token_forms::proofs::Refusals::refusals), unfolding(crate::specs::RulesReading::body))]
 fn body(
     reader: &mut Reader,
@@ -62,7 +62,7 @@ fn whole(
     Ok((chains, accept))
 }
 
-/// The chains and the policy that a text stands for.
+/// The chains and the policy that a text means.
 fn chains_of(alloc: Global, schema: &[SetDecl], text: &[u8]) -> Result<(ChainList, bool), ReadError>
     requires { length schema.now ≤ most_sets }
     ensures found { IfOk result (λ x. IsRulesText schema.now text.now (x.0, x.1)) }
@@ -74,20 +74,23 @@ fn chains_of(alloc: Global, schema: &[SetDecl], text: &[u8]) -> Result<(ChainLis
     whole(&mut reader, alloc, schema)
 }
 
-/// The chains that a rules file stands for, over the sets of a schema.
+/// The chains that a rules file means, over the sets of a schema.
 ///
 /// # Errors
 ///
-/// `Bad` exactly where the text isn't a rules file, with the line of its first token that doesn't fit and the reason:
-/// `Character`, `End`, `Set` where the name of a set may stand, else `Statement`. `Memory` where there is none left.
+/// `Bad` exactly if the text isn't a rules file, with the line of its first token that doesn't fit and
+/// the reason. The reason is `Character`, `End`, `Set` at the place of a set's name, or else
+/// `Statement`. `Memory` if memory runs out.
 pub fn read_rules(alloc: Global, schema: &Schema, text: &[u8]) -> Result<Chains, RulesError>
     // There are no more sets than a script may declare.
     requires { length schema.now ≤ most_sets }
-    // What is read are the chains and the policy that the text stands for.
+    // What is read are the chains and the policy that the text means.
     ensures found { IfOk result (λ c. IsRulesText schema.now text.now (c.chains, c.accept)) }
-    // A text that stands for chains is read as these, unless memory runs out; so it stands for one list of them at most.
+    // A text that means chains is read as these, unless memory runs out. So it means at most one list
+    // of chains.
     ensures only { (rules : List OneChain × Bool) → IsRulesText schema.now text.now rules → IsReadAs (λ c. (c.chains, c.accept)) result rules }
-    // A text that is refused is no rules file; the line is that of its bad token, with the first reason that applies.
+    // A refused text is no rules file. The line is its bad token's, and the reason is the first that
+    // applies.
     ensures bad { (line : ℕ) (reason : Reason) → result ≡ Err (Bad line reason) → IsBadRules schema.now text.now line reason }
     // They are over the sets of this schema.
     ensures schema { IfOk result (λ c. c.schema ≡ schema.now) }
@@ -102,12 +105,13 @@ pub fn read_rules(alloc: Global, schema: &Schema, text: &[u8]) -> Result<Chains,
     }
 }
 
-/// The bad token of a text, for the sets of a schema: where it stands, and the reason; `None` exactly where the text is in
-/// the grammar. It is the token of which `read_rules` tells the line and the reason.
+/// The bad token of a text, for the sets of a schema, with its place and its reason. It is `None`
+/// exactly if the text is in the grammar. `read_rules` reports the line and the reason of the same
+/// token.
 ///
 /// # Errors
 ///
-/// `Memory` where there is none left.
+/// `Memory` if memory runs out.
 pub fn bad_token(alloc: Global, schema: &Schema, text: &[u8]) -> Result<Option<BadToken>, Memory>
     requires { length schema.now ≤ most_sets }
     ensures { IfOk result (IsPlainBadTokenOf (rules_file schema.now) text.now) }
@@ -122,17 +126,17 @@ pub fn bad_token(alloc: Global, schema: &Schema, text: &[u8]) -> Result<Option<B
     }
 }
 
-/// A text stands for one list of chains and one policy at most.
+/// A text means at most one list of chains and one policy.
 pub fn one_rules_law(_schema: &Schema, _text: &[u8])
     ensures { (rules other : List OneChain × Bool) → IsRulesText _schema.now _text.now rules → IsRulesText _schema.now _text.now other → rules ≡ other }
 {}
 
-/// The tokens before any place of a front of a rules file are a front of a rules file, too.
+/// The tokens before any place of a rules file's front are a front of a rules file, too.
 pub fn rules_fronts_law(_schema: &Schema)
     ensures { AreFrontsClosed (rules_file _schema.now) }
 {}
 
-/// A text that is no rules file is refused at one line and for one reason, and by one token.
+/// A text that is no rules file is refused at one line, for one reason, and for one token.
 pub fn one_rules_fault_law(_schema: &Schema, _text: &[u8])
     ensures refused { IsRefusedOnce (rules_file _schema.now) (plain_tokens _text.now) }
     ensures token { HasOneBadTokenAmong (rules_file _schema.now) (plain_tokens _text.now) _text.now }

@@ -1,12 +1,29 @@
-//! Rule chains: what becomes of a packet by rules over sets, all of which are looked up in one generation.
+//! Judges packets by chains of rules, whose tests look the packet up in sets of one generation.
 //!
-//! [`read_rules`] reads a rules file, [`Chains::decide`] gives the verdict on one packet, and
-//! [`write_judged`] the lines of packets.
+//! Say that the set `ip t bad` has 10.0.0.5 . 1024 and `ip t ok` has 192.168.1.0-192.168.2.1 . 2048,
+//! and that the rules are
 //!
-//! **Definitions:** `specs/Rules.antt` is the grammar as a table, `RuleNames.antt` has its words,
-//! `RulesText.antt` what a text stands for and `Chains.antt` what holds of it; `Judged.antt` says what
-//! becomes of a packet, and `JudgedText.antt` its line. docs/formats.md tells them. **Proofs:**
-//! docs/proofs.md, "Grammars (`token_forms`)".
+//!     chain block { in ip t bad drop }              # rule 0
+//!     chain main { jump block ; in ip t ok accept } # rules 1 and 2
+//!     policy drop
+//!
+//! Rules are numbered from 0 through the file, and the last chain is the base chain. So each packet
+//! begins at rule 1:
+//!
+//!     10.0.0.5 . 1024       rule 1 jumps, rule 0 fits                            rule 0 drop
+//!     192.168.1.5 . 2048    rule 1 jumps, rule 0 doesn't fit, rule 2 fits        rule 2 accept
+//!     192.168.1.5 . 80      no rule fits that accepts or drops                   policy drop
+//!
+//! A test looks for an element that is live at the packet's moment and holds its key. `in` asks for
+//! one, `out` for none. A jump leads to an earlier chain. If that chain decides nothing, the next rule
+//! follows. A walk visits each chain at most once and takes no memory. [`read_rules`] reads a rules
+//! file, [`Chains::decide`] gives the verdict on one packet, and [`write_judged`] writes the lines of
+//! packets.
+//!
+//! **Definitions:** `specs/Rules.antt` is the grammar as a table of forms. `RuleNames.antt` has its
+//! words, `RulesText.antt` says what a text means, and `Chains.antt` what holds of it. `Judged.antt`
+//! says what chains decide on a packet, and `JudgedText.antt` is its line. **Theory:** docs/formats.md,
+//! "Rules files". **Proofs:** docs/proofs.md, "Grammars (`token_forms`)".
 #![tactic(auto)]
 
 mod blocks;

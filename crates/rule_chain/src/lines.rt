@@ -27,7 +27,7 @@ fn accepts(act: Act) -> bool
     }
 }
 
-/// Whether the rule of a number, through the chains, is one that accepts.
+/// Whether the rule with this number accepts. Rules are numbered through the chains.
 #[tactic(auto, using(crate::proofs::LineLaws::at_front, crate::proofs::LineLaws::at_behind))]
 fn accepts_at(chains: &[Chain], number: u64) -> bool
     ensures { result ≡ is_accepting (slice_get (chain_rules chains.now) number) }
@@ -45,14 +45,14 @@ fn accepts_at(chains: &[Chain], number: u64) -> bool
     }
 }
 
-/// What the policy does.
+/// The word for what the policy does.
 fn policy_word(chains: &Chains) -> &'static [u8]
     ensures { result.now ≡ accept_text chains.now.accept }
 {
     accept_word(chains.accept)
 }
 
-/// What the rule of a number does, through the file.
+/// The word for what the rule with this number does. Rules are numbered through the file.
 fn rule_word(chains: &Chains, number: u64) -> &'static [u8]
     ensures { result.now ≡ accept_text (is_accepting (slice_get (chain_rules chains.now.chains) number)) }
 {
@@ -101,12 +101,13 @@ fn write_line(chains: &Chains, line: &Line, out: &mut Vec<u8>) -> Result<(), Mem
     }
 }
 
-/// Appends the lines of packets that chains have judged, in their order: `packet 0 thread 0 generation 1 rule 2 accept`
-/// with the number of the rule that decided and what it does, or `policy drop` where none did.
+/// Appends the lines of packets that chains have judged, in their order. `packet 0 thread 0 generation
+/// 1 rule 2 accept` has the number of the rule that decided and what it does. If no rule decided, the
+/// end is `policy drop` or `policy accept`.
 ///
 /// # Errors
 ///
-/// `Memory` where there is none; a part of the text from its front is then appended.
+/// `Memory` if memory runs out. A front of the text is then appended.
 pub fn write_judged(chains: &Chains, lines: &Lines, out: &mut Vec<u8>) -> Result<(), Memory>
     requires { All (λ (l : PacketLine). IsOfRules chains.now l.verdict) lines.now }
     ensures ok { OnOk result (out.new.items ≡ out.old.items ++ judged_text chains.now lines.now) }
@@ -118,7 +119,7 @@ pub fn write_judged(chains: &Chains, lines: &Lines, out: &mut Vec<u8>) -> Result
     Ok(())
 }
 
-/// What chains decide on a packet is nothing, or the number of a rule that accepts or drops.
+/// Chains decide nothing on a packet, or by the number of a rule that accepts or drops.
 pub fn judged_rules_law(_chains: &Chains)
     ensures { (g : Generation) (p : Packet) → IsOfRules _chains.now (judged _chains.now g p) }
 {}

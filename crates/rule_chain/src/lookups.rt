@@ -8,7 +8,7 @@ use set_model::Key;
 
 /// Lookups in the sets of one generation.
 pub trait Lookups {
-    /// What no call changes. No value of it is made.
+    /// What no call changes. It exists in proofs alone; no code makes one.
     type State;
 
     ghost state: { Self → Self.State };
@@ -16,7 +16,7 @@ pub trait Lookups {
     // The declared sets.
     ghost schema: { Self.State → List SetDecl };
 
-    // The generation that is looked up in.
+    // The generation in which keys are looked up.
     ghost looks_in: { Self.State → Generation → Type 0 };
 
     /// Whether a set has an element that is live at `now`, in milliseconds, and holds the key. It takes no memory.

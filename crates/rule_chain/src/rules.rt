@@ -15,7 +15,7 @@ use set_script::{table_place, used_set};
 use std::alloc::Global;
 use token_forms::{ReadError, Reader, Seen};
 
-/// The word that begins a test behind so many tests.
+/// Reads the word that begins a test, if one more is allowed after so many tests.
 #[tactic(auto, unfolding(token_forms::specs::Gives::Refuses))]
 fn inside(reader: &mut Reader, tests: u64) -> Result<bool, ReadError>
     ensures { Gives (λ x. x) result reader.new (reading.inside tests reader.old) }
@@ -27,7 +27,7 @@ fn inside(reader: &mut Reader, tests: u64) -> Result<bool, ReadError>
     }
 }
 
-/// One test more.
+/// Reads one more test.
 #[tactic(auto, using(token_forms::proofs::Refusals::refusals), unfolding(crate::specs::RulesReading::one_test))]
 fn test(reader: &mut Reader, schema: &[SetDecl], tests: &mut Tests) -> Result<(), ReadError>
     requires { length schema.now ≤ most_sets }
@@ -54,7 +54,7 @@ fn starts_a_test(t: &Seen, tests: &Tests) -> bool
     t.is_word() && test_word(tests.len(), t.bytes).is_some()
 }
 
-/// The tests of a rule, as far as they go.
+/// Reads the tests of a rule as long as one starts.
 fn all_tests(reader: &mut Reader, alloc: Global, schema: &[SetDecl]) -> Result<Tests, ReadError>
     requires { length schema.now ≤ most_sets }
     ensures { Gives (λ x. x) result reader.new (reading.all_tests schema.now reader.old) }
@@ -73,7 +73,7 @@ fn all_tests(reader: &mut Reader, alloc: Global, schema: &[SetDecl]) -> Result<T
     Ok(tests)
 }
 
-/// The name of an earlier chain: its place.
+/// Reads the name of an earlier chain, and returns its place.
 #[tactic(auto, unfolding(token_forms::specs::Gives::Refuses))]
 fn earlier_chain(reader: &mut Reader, chains: &[Chain]) -> Result<usize, ReadError>
     ensures gives { Gives (λ x. x) result reader.new (reading.earlier_chain chains.now reader.old) }
@@ -125,7 +125,7 @@ fn act(reader: &mut Reader, chains: &[Chain]) -> Result<Act, ReadError>
     act_behind(reader, chains, word)
 }
 
-/// One rule more: its tests, and its act.
+/// Reads one more rule: its tests and its act.
 #[tactic(auto, using(token_forms::proofs::Refusals::refusals), unfolding(crate::specs::RulesReading::rule))]
 pub fn rule(
     reader: &mut Reader,

@@ -7,10 +7,10 @@ use crate::chains::Chain;
 use crate::draft::{ActWord, RulesDraft, RulesWord};
 use token_forms::is_a_name;
 
-/// How many tests a rule has at most.
+/// How many tests a rule may have.
 const MOST_TESTS: u64 = 4;
 
-/// How many chains a file has at most.
+/// How many chains a file may have.
 const MOST_CHAINS: u64 = 4;
 
 fn inside_word(text: &[u8]) -> Option<bool>
@@ -25,7 +25,7 @@ fn inside_word(text: &[u8]) -> Option<bool>
     }
 }
 
-/// Whether a word begins a test behind so many tests, and which one.
+/// Whether a word begins a test after so many tests; `Some(true)` is `in`, and `Some(false)` is `out`.
 pub fn test_word(tests: u64, text: &[u8]) -> Option<bool>
     ensures { result ≡ test_of tests text.now }
 {
@@ -36,7 +36,7 @@ pub fn test_word(tests: u64, text: &[u8]) -> Option<bool>
     }
 }
 
-/// What a word does with a packet.
+/// The act that a word names.
 pub fn act_word(text: &[u8]) -> Option<ActWord>
     ensures { result ≡ act_of text.now }
 {
@@ -66,7 +66,8 @@ pub fn policy_word(text: &[u8]) -> Option<bool>
     }
 }
 
-/// The first word of a statement, where one may stand: a fifth chain may not, nor anything behind the policy.
+/// The statement that a word begins, if it is allowed here: no fifth chain, and nothing after the
+/// policy.
 pub fn rules_word(d: &RulesDraft, text: &[u8]) -> Option<RulesWord>
     ensures word { result ≡ rules_word_of d.now text.now }
     ensures room { IfSome result (λ word. word ≡ Begins → length d.now.chains < most_chains) }
@@ -88,7 +89,7 @@ fn has_name(chain: &Chain, name: &[u8]) -> bool
     chain.name.as_slice() == name
 }
 
-/// The place of the chain of a name.
+/// The place of the chain with this name.
 pub fn place_of_chain(chains: &[Chain], name: &[u8]) -> Option<usize>
     ensures place { result ≡ chain_place chains.now name.now }
     ensures within { IfSome result (λ i. i < length chains.now) }

@@ -50,7 +50,7 @@ module _ (P : Control → Type 0) (mode : Mode) (c : Control) (o : Outcomes P mo
   by_flush set None at = o.nothing
   by_flush set (Some s) at = o.made set s (cleared s) at (record { kinds = refl; size = refl })
 
-  -- What holds of each outcome holds behind a step.
+  -- What holds of each outcome holds after a step.
   pub by_outcome : (s : Step) → P (step mode c s)
   by_outcome (Change line set verb element now) = either c.failed c _ o.nothing (by_set line set verb element now (slice_get c.sets set) refl)
   by_outcome (Flush line set now) = either c.failed c _ o.nothing (by_flush set (slice_get c.sets set) refl)
@@ -135,7 +135,7 @@ module _ (kinds : List (List Kind)) where
   pub section_of : (mode : Mode) (c : Control) (steps : List Step) → IsOf kinds c → IsOf kinds (section mode c steps)
   section_of mode c steps h = by_steps (IsOf kinds) mode (step_of mode) c steps h
 
--- Each committed generation stands at the place of its number, and the last is the last of them.
+-- Each committed generation is at the place of its number, and the last one is the control's last.
 pub record IsNumbered (c : Control) : Type 0 where
   pub at : slice_get c.committed c.last.number ≡ Some c.last
   pub long : length c.committed ≡ c.last.number + 1
@@ -214,7 +214,7 @@ sets-alike schema sets kinds sizes = record {
 
 -- Sections, one after another.
 module _ (mode : Mode) where
-  -- one section more, which is empty where there is none
+  -- one section more, which is empty if there is none
   next-from : (c : Control) (sections : List (List Step)) (j : ℕ) → fold (section mode) c (take (suc j) sections) ≡ section mode (fold (section mode) c (take j sections)) (section_at sections j)
   next-from c [] zero = refl
   next-from c [] (suc j) = refl

@@ -23,7 +23,7 @@ use Rattle.script_run.specs.Telling.{looked_up}
 use Rattle.script_run.proofs.ControlLaws.{section_numbered, start_numbered}
 use Rattle.script_run.proofs.TranscriptLaws.{start_stands}
 
--- Two lists look the same where their items do, place by place.
+-- Two lists look the same if their items do, place by place.
 places-same : {A B X : Type 0} (f : A → X) (g : B → X) (xs : List A) (ys : List B) → length xs ≡ length ys → ((p : ℕ) (y : B) (x : A) → slice_get ys p ≡ Some y → slice_get xs p ≡ Some x → f x ≡ g y) → map f xs ≡ map g ys
 places-same f g [] [] long h = refl
 places-same f g [] (y ∷ ys) long h = absurd (cc long)
@@ -33,7 +33,7 @@ places-same f g (x ∷ xs) (y ∷ ys) long h =
     let rest : map f xs ≡ map g ys = places-same f g xs ys (cc long) (λ p z w e k. h (suc p) z w e k) in
     cc
 
--- Where no generation is committed beside the packets, each of them gets the last one's verdict.
+-- If no generation is committed beside the packets, each of them gets the last one's verdict.
 pub last-answers : (verdict : Generation → Packet → Verdict) (packets : List Packet) (first threads : ℕ) (committed : List Generation) (last : Generation) (lines : List Line)
     → slice_get committed last.number ≡ Some last → length committed ≡ last.number + 1 → IsSection verdict packets first threads (length committed) committed lines
     → map (λ l. l.verdict) lines ≡ map (verdict last) packets

@@ -63,7 +63,7 @@ module _ {X : Type 0} where
     onward (inl k) = inl k
     onward (inr k) = inr (k.0, k.1, let e = k.2 in omega (arith, e))
 
-  -- the first list of two, and what is behind it
+  -- the first list of two, and what is after it
   pub take-first : (xs ys : List X) → take (length xs) (xs ++ ys) ≡ xs
   take-first [] ys = refl
   take-first (x ∷ xs) ys = ap (λ r. x ∷ r) (take-first xs ys)

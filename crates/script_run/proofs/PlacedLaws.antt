@@ -73,7 +73,7 @@ from-section s p (packets ∷ keys) at e = go (append-either (placed_in s packet
 in-first : (s p : ℕ) (packets : List Packet) (at : Placed) → slice_get (placed_in s packets) p ≡ Some at → at.section ≡ s
 in-first s p packets at k = let here = numbered (in_section s) packets p at k in ap (λ (z : Placed). z.section) (sym here.2)
 
--- where an item of the first section and of those behind it stands
+-- the places of the items of the first section and of the later ones
 abbrev Where : ℕ → List Packet → List (List Packet) → ℕ → Placed → Type 0
 Where s packets keys n at = (slice_get (placed_in s packets) n ≡ Some at) ⊎ ((i : ℕ) × (slice_get (placed_from (s + 1) keys) i ≡ Some at) × (n ≡ length (placed_in s packets) + i))
 
@@ -101,7 +101,7 @@ part-at (x ∷ xs) zero (suc b) (suc q) h = let same : 0 + suc q ≡ suc (0 + q)
 part-at (x ∷ xs) (suc a) zero q h = absurd (omega (arith, h))
 part-at (x ∷ xs) (suc a) (suc b) q h = let same : suc a + q ≡ suc (a + q) = omega arith in rw same (part-at xs a b q (omega (arith, h)))
 
--- A packet that stands among those of section j + 1 is that section's.
+-- A packet among those of section j + 1 is that section's.
 pub placed-here : (j q : ℕ) (keys : List (List Packet)) (at : Placed) → q < length (section_at keys j) → slice_get (placed_from 1 keys) (packets_up_to keys j + q) ≡ Some at
     → (p : Packet) × (slice_get (section_at keys j) q ≡ Some p) × (in_section (1 + j) (q, p) ≡ at)
 placed-here j q keys at within e =

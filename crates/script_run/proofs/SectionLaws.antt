@@ -1,4 +1,4 @@
--- What a section tells of its control and readers.
+-- What follows for the control and the readers of a section.
 use Rattle.std.proofs.Common.{◌≡◌, refl, subst, ℕ, zero, suc, ◌+◌, Bool, List, [], ◌∷◌, length, Some, slice_get, arith, All}
 use Rattle.std.proofs.lemmas.List.{length-map}
 use Rattle.history_laws.specs.Histories.{EndsWith}
@@ -12,7 +12,7 @@ use Rattle.gen_publish.proofs.Growing.{grown_last}
 use Rattle.packet_pool.specs.Running.{Ran, control_of}
 use Rattle.script_run.proofs.ControlLaws.{section_of}
 
--- What is told names a declared set.
+-- The events name declared sets.
 pub told_named : (keep_going : Bool) (steps : List Step) (old new : Steering) (events : List Event) → EndsWith old.committed old.work.base → Grown old.schema 0 old.committed → kinds_of old.work.sets ≡ declared_kinds old.schema
     → Ran keep_going steps old new events → All (NamesSet (length old.schema)) events
 told_named keep_going steps old new events ends grown kinds ran =

@@ -185,7 +185,7 @@ module _ (verdict : Generation → Packet → Verdict) (mode : Mode) (script : S
     pairs = λ p q a b earlier later lt e f g h. pair-is p q a b earlier later lt e f (append-either lines more p earlier g) (append-either lines more q later h);
   }
 
--- The first n sections of a run are told.
+-- The first n sections of a run are written.
 pub record IsToldUpTo (verdict : Generation → Packet → Verdict) (packets_text : List Line → List ℕ) (keep_going : Bool) (script : Script) (keys : List (List Packet)) (threads n : ℕ) (t : Telling) : Type 0 where
   pub lines : List Line
   pub stands : StandsAt (before (mode_of keep_going) script n).events (before (mode_of keep_going) script n) (run t.control false [])
@@ -269,7 +269,7 @@ module _ (verdict : Generation → Packet → Verdict) (packets_text : List Line
   told_next fits n t new steps packets h closed steps_are packets_are tells =
       told_more fits n t new h closed (subst (λ (z : List Step × List Packet). TellsSection verdict packets_text keep_going z.0 z.1 t new) (λ i. (steps_are i, packets_are i)) tells)
 
-  -- Behind the last section the whole is told.
+  -- After the last section everything is written.
   pub told_all : (n : ℕ) (t : Telling) → section_count script keys ≡ n → IsToldUpTo verdict packets_text keep_going script keys threads n t
       → ((lines : List Line) × AreLegal (IsAnsweredBy verdict script.schema) script keys threads mode lines × (t.output.text.items ≡ run_text packets_text mode script keys lines)) × (t.output.refused ≡ has_refusal mode script)
   told_all n t size h =
@@ -291,7 +291,7 @@ closed-at sections j h = go (slice_get sections j) refl where
   go None e = refl
   go (Some ys) e = of-item EndsClosed sections j ys h e
 
--- Where a control stands behind sections, what was told names a declared set, and its sets are those declared.
+-- After some sections, the events of a control name declared sets, and its sets are the declared ones.
 module _ (mode : Mode) (schema : List SetDecl) (sections : List (List Step)) (k : Steering) (events : List Event) (st : StandsAt [] (history mode schema sections) (run k false events)) where
   pub events_declared : All (NamesSet (length schema)) events
   events_declared =

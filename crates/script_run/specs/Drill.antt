@@ -17,11 +17,12 @@ last_verdicts c packets = map (looked_up c.last) packets
 abbrev pub drilled : ℕ → ℕ → Control
 drilled seed count = history KeepGoing (drill_script seed count).schema (drill_script seed count).sections
 
--- The line of the generated script's run, and of the first matches of the generated packets in its last generation.
+-- The line of the generated script's run. Its matches are those of the generated packets in the last
+-- generation.
 unfoldable pub drill_text : ℕ → ℕ → List ℕ
 drill_text seed count = let c = drilled seed count in summary_of c.events (last_verdicts c (drill_packets seed count)) c.last
 
--- Packets were answered in the last generation behind a script's steps, and in no other.
+-- Packets were answered in the last generation after a script's steps, and in no other.
 pub record IsDrilled (c : Control) (packets : List Packet) (control : Steering) (r : SectionResult) : Type 0 where
   pub last : control.work.base ≡ c.last
   pub events : r.events ≡ c.events

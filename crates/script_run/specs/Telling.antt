@@ -1,4 +1,4 @@
--- What a run writes of a section: what its steps tell, and the lines of its packets.
+-- What a run writes for a section: the events of its steps, and the lines of its packets.
 use Rattle.std.specs.Prelude.{◌≡◌, ℕ, ◌+◌, ◌||◌, Bool, false, List, [], ◌∷◌, ◌++◌, length, unwrap_or, slice_get}
 use Rattle.std.specs.List.{list_any}
 use Rattle.set_model.specs.declared.packet.Packet.{Packet}
@@ -17,11 +17,11 @@ use Rattle.packet_pool.specs.Section.{IsSection, verdict_in}
 use Rattle.packet_pool.specs.Work.{AllReady}
 use Rattle.script_run.specs.declared.telling.Telling.{Telling}
 
--- the items of section j, of which there are none where there is no such section
+-- the items of section j, or none if there is no such section
 abbrev pub section_at : {T : Type 0} → List (List T) → ℕ → List T
 section_at sections j = unwrap_or (slice_get sections j) []
 
--- what a lookup says of a packet in a generation
+-- the verdict of a lookup on a packet in a generation
 abbrev pub looked_up : Generation → Packet → Verdict
 looked_up g p = verdict_in p.key p.now (slice_get g.sets p.set)
 
@@ -36,17 +36,18 @@ pub record IsAtStart (schema : List SetDecl) (threads : ℕ) (t : Telling) : Typ
   pub text : t.output.text.items ≡ []
   pub refused : t.output.refused ≡ false
 
--- the line's verdict is what a judge says of some packet in some generation
+-- the line's verdict is the judge's verdict on some packet in some generation
 abbrev pub IsLineOf : (Generation → Packet → Verdict) → Line → Type 0
 IsLineOf verdict l = (g : Generation) × (p : Packet) × (l.verdict ≡ verdict g p)
 
--- What a judge says of the packets of declared sets, in generations that have these sets.
+-- A judge's verdicts on packets of declared sets, in generations that have these sets.
 pub record IsAnsweredBy (verdict : Generation → Packet → Verdict) (schema : List SetDecl) (generation : Generation) (packet : Packet) (answer : Verdict) : Type 0 where
   pub sets : kinds_of generation.sets ≡ declared_kinds schema
   pub fits : IsFitting schema packet
   pub answer_is : answer ≡ verdict generation packet
 
--- A section is done by a judge of this verdict, whose lines have this text: its steps beside its packets.
+-- A section was done by a judge with this verdict, whose lines have this text: its steps beside its
+-- packets.
 pub record TellsSection (verdict : Generation → Packet → Verdict) (packets_text : List Line → List ℕ) (keep_going : Bool) (steps : List Step) (packets : List Packet) (old new : Telling) : Type 0 where
   pub events : List Event
   pub lines : List Line

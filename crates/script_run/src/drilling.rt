@@ -16,8 +16,8 @@ use set_report::write_summary;
 use std::alloc::Global;
 use std::thread::Threads;
 
-/// Runs steps to their end and then looks packets up. So these meet the last generation alone. It gives what the steps
-/// told and the packets' lines.
+/// Runs all steps first, and then looks the packets up. So the packets see only the last generation. It
+/// returns the events of the steps and the packets' lines.
 fn answer_behind<R: Threads + Sync, G: Gate>(
     rt: &R,
     alloc: Global,
@@ -72,12 +72,12 @@ fn answer_behind<R: Threads + Sync, G: Gate>(
     Ok(SectionResult { events, lines })
 }
 
-/// Runs the generated workload of a seed, of `count` elements and as many packets on so many threads. Changes that are
-/// refused are skipped. The text is one line, the same for each number of threads.
+/// Runs the generated workload of a seed: `count` elements, and as many packets on so many threads.
+/// Refused changes are skipped. The text is one line, which doesn't depend on the number of threads.
 ///
 /// # Errors
 ///
-/// `Memory` where there is none left.
+/// `Memory` if memory runs out.
 pub fn drill<R: Threads + Sync, G: Gate>(
     rt: &R,
     alloc: Global,

@@ -2,10 +2,10 @@ ghost use Rattle.std.specs.Prelude.{◌+◌, ◌<◌, ◌^◌, ◌↔◌, IsTrue
 
 use gen_publish::Control;
 
-/// The number that no generation has.
+/// The first number that no generation has.
 const NO_NUMBER: u64 = 1 << 63;
 
-/// Whether there are numbers for so many further generations.
+/// Whether there are enough numbers for so many more generations.
 pub fn has_numbers(control: &Control, generations: u64) -> bool
     ensures { IsTrue result ↔ (control.now.work.base.number + generations < 2 ^ 63) }
 {

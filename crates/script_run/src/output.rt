@@ -22,16 +22,16 @@ use set_report::{write_dump, write_list, write_remarks};
 use std::alloc::Global;
 use std::thread::Threads;
 
-/// What a command writes: its text, and whether that tells that a change was refused.
+/// What a command writes: its text, and whether the text reports a refused change.
 #[derive(Drop)]
 pub struct Output {
     /// The text that is written.
     pub text: Vec<u8>,
-    /// Whether it tells that a change was refused.
+    /// Whether it reports a refused change.
     pub refused: bool,
 }
 
-/// The section at a place, or the empty one where there is none.
+/// The section at a place, or the empty one if there is none.
 fn section<'a, T>(sections: &'a Listed<Listed<T>>, j: u64, empty: &'a Listed<T>) -> &'a Listed<T>
     requires { empty.now ≡ [] }
     ensures { result.now ≡ section_at sections.now j }
@@ -43,14 +43,15 @@ fn section<'a, T>(sections: &'a Listed<Listed<T>>, j: u64, empty: &'a Listed<T>)
     }
 }
 
-/// How many sections a run has behind section 0.
+/// How many sections a run has after section 0.
 fn later_sections(sections: &Sections, keys: &Keys) -> u64
     ensures { max (length sections.now) (length keys.now + 1) ≡ result + 1 }
 {
     sections.len().saturating_sub(1).max(keys.len())
 }
 
-/// Runs a script beside the packets of a key file, which so many threads hand to a judge, and tells of both.
+/// Runs a script beside the packets of a key file, and writes of both. So many threads hand the packets
+/// to a judge.
 fn told_by<R: Threads + Sync, J: Teller, G: Gate>(
     rt: &R,
     alloc: Global,
@@ -89,11 +90,12 @@ fn told_by<R: Threads + Sync, J: Teller, G: Gate>(
     Ok(telling.output)
 }
 
-/// Runs a script beside the packets of a key file, which so many threads look up, and gives the transcript.
+/// Runs a script beside the packets of a key file, which so many threads look up, and returns the
+/// transcript.
 ///
 /// # Errors
 ///
-/// `Memory` where there is none left.
+/// `Memory` if memory runs out.
 pub fn transcript<R: Threads + Sync, G: Gate>(
     rt: &R,
     alloc: Global,
@@ -121,12 +123,12 @@ pub fn transcript<R: Threads + Sync, G: Gate>(
     )
 }
 
-/// Runs a script beside the packets of a key file, which so many threads judge by chains of rules, and gives the transcript
-/// with what becomes of each packet.
+/// Runs a script beside the packets of a key file, which so many threads judge by chains of rules.
+/// Returns the transcript with the decision on each packet.
 ///
 /// # Errors
 ///
-/// `Memory` where there is none left.
+/// `Memory` if memory runs out.
 pub fn judged<R: Threads + Sync, G: Gate>(
     rt: &R,
     alloc: Global,
@@ -148,7 +150,7 @@ pub fn judged<R: Threads + Sync, G: Gate>(
     told_by(rt, alloc, script, keys, keep_going, threads, &judge, gate)
 }
 
-/// What was told, as comments: the first lines of a listing and of a dump.
+/// The events as comments: the first lines of a listing and of a dump.
 fn remarks(alloc: Global, schema: &Schema, events: &Events) -> Result<Output, Memory>
     requires { All (NamesSet (length schema.now)) events.now }
     ensures text { IfOk result (λ out. out.text.items ≡ remarks_text schema.now events.now) }
@@ -166,7 +168,7 @@ fn remarks(alloc: Global, schema: &Schema, events: &Events) -> Result<Output, Me
 ///
 /// # Errors
 ///
-/// `Memory` where there is none left.
+/// `Memory` if memory runs out.
 pub fn listing<G: Gate>(
     alloc: Global,
     script: Script,
@@ -194,7 +196,7 @@ pub fn listing<G: Gate>(
 ///
 /// # Errors
 ///
-/// `Memory` where there is none left.
+/// `Memory` if memory runs out.
 pub fn dump<G: Gate>(
     alloc: Global,
     script: Script,

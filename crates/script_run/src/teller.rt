@@ -1,4 +1,4 @@
-//! Judges whose answers are told.
+//! Judges that can write their packets' lines.
 use packet_pool::{ChainJudge, Judge, LookupJudge};
 use rule_chain::write_judged;
 use set_model::{Lines, Memory};
@@ -17,7 +17,7 @@ pub trait Teller: Judge {
     ///
     /// # Errors
     ///
-    /// `Memory` where there is none left.
+    /// `Memory` if memory runs out.
     fn write(&self, lines: &Lines, out: &mut Vec<u8>) -> Result<(), Memory>
         requires { All (IsLineOf (Self.verdict self.now)) lines.now }
         ensures { OnOk result (out.new.items ≡ out.old.items ++ packets_text self.now lines.now) };

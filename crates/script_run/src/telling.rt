@@ -16,27 +16,27 @@ use set_report::write_events;
 use std::alloc::Global;
 use std::thread::Threads;
 
-/// A run that is told as it goes: where it stands, and what is written so far.
+/// A run in progress: its control, its readers, and what is written so far.
 #[derive(Drop)]
 pub struct Telling {
-    /// The control behind what is told.
+    /// The control after the sections so far.
     pub control: Control,
     /// The packet threads' readers, by their numbers.
     pub readers: Vec<Option<Reader>>,
-    /// How many packets are told.
+    /// How many packets have lines so far.
     pub packets: u64,
     /// What is written so far.
     pub output: Output,
 }
 
-/// Whether an event tells that a change was refused.
+/// Whether an event reports that a change was refused.
 pub fn tells_refusal(events: &[Event]) -> bool
     ensures { result ≡ list_any refuses events.now }
 {
     events.iter().any(|event| event.is_refusal())
 }
 
-/// Whether a refusal was told before, or these events tell one.
+/// Whether a refusal was reported before, or is among these events.
 fn tells_more(before: bool, events: &[Event]) -> bool
     ensures { result ≡ (before || list_any refuses events.now) }
 {
@@ -75,7 +75,8 @@ impl Telling {
         })
     }
 
-    /// Does the steps of a section beside its packets, and writes what the steps tell, and then the packets' lines.
+    /// Does the steps of a section beside its packets. Writes the events of the steps, and then the
+    /// packets' lines.
     pub fn do_section<R: Threads + Sync, J: Teller, G: Gate>(
         &mut self,
         rt: &R,

@@ -10,16 +10,16 @@ use packet_pool::{Gate, run_steps};
 use set_model::{Events, Memory, Script};
 use std::alloc::Global;
 
-/// A script that was run to its end, and all that was told.
+/// A script that was run to its end, and all its events.
 #[derive(Drop)]
 pub struct Whole {
-    /// The control behind the last step.
+    /// The control after the last step.
     pub control: Control,
-    /// What all steps told, in their order.
+    /// The events of all steps, in their order.
     pub events: Events,
 }
 
-/// Adds events behind others.
+/// Adds events after others.
 fn add_all(events: &mut Events, more: &Events) -> Result<(), Memory>
     ensures { OnOk result (events.new ≡ events.old ++ more.now) }
 {

@@ -9,7 +9,7 @@ use Rattle.set_report.specs.DumpText.{BucketRun, bitmap_text, is_any_set, run_li
 in_order : (a b c d e f g h i : List ℕ) → a ++ b ++ c ++ d ++ e ++ f ++ g ++ h ++ i ≡ (a ++ (b ++ (c ++ (d ++ (e ++ (f ++ g)))))) ++ (h ++ i)
 in_order a b c d e f g h i = simp append_assoc refl
 
--- what stands in front of a run's bitmap
+-- the text before a run's bitmap
 abbrev pub run_head : ℕ → ℕ → ℕ → List ℕ
 run_head g from to = codes "row " ++ (decimal g ++ (codes " " ++ (decimal from ++ (codes "-" ++ (decimal to ++ codes " ")))))
 

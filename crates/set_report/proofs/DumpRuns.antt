@@ -102,7 +102,7 @@ module _ (f : ℕ → List Bool) where
 pub at-bits : (rows : List Row) (j : ℕ) (row : Row) → slice_get rows j ≡ Some row → bits_at rows j ≡ row.bits
 at-bits rows j row e = ap (λ r. r.bits) (get_or_from_slice_get rows j row _ e)
 
--- the lines of a run and of those behind it
+-- the lines of a run and of those after it
 runs-cons : (g : ℕ) (run : BucketRun) (runs : List BucketRun) → runs_text g (run ∷ runs) ≡ runs_text g (run ∷ []) ++ runs_text g runs
 runs-cons g run runs = by (is_any_set run.bitmap) where
   others : List BucketRun

@@ -1,4 +1,4 @@
--- The buckets of a table that stands for rules are the bitmaps of the rules, and an index leads where its elements' rules do.
+-- The buckets of a table with some rules are the rules' bitmaps. An index leads to where its elements' rules lead.
 use Rattle.std.proofs.Common.{◌≡◌, refl, sym, ◌∙◌, ap, subst, ℕ, zero, suc, ◌+◌, ◌/◌, ◌^◌, ◌<◌, ◌≤◌, false, cond, List, [], ◌∷◌, ◌++◌, length, get_or, map, flat_map, slice_get, Some, None, drop, zip, arith}
 use Rattle.std.specs.List.{range_with_len, enumerate_from}
 use Rattle.std.proofs.lemmas.Bool.{eq-eqb, ne_eqb}
@@ -95,7 +95,7 @@ within [] i x e = let n : None ≡ Some x = e in cc
 within (y ∷ xs) zero x e = omega arith
 within (y ∷ xs) (suc i) x e = let h = within xs i x e in omega arith
 
--- field f has the table of its rules, and leads where its rules do
+-- field f has the table of its rules, and leads to where they lead
 pub field-is : (kinds : List Kind) (es : List Element) (index : Index) (f : ℕ) (kind : Kind) (t : FieldTable) → IsIndexOf kinds es index → slice_get kinds f ≡ Some kind → slice_get index.fields f ≡ Some t
     → (heading_text f kind t.width t.rules ++ all_buckets_text t) ++ ways_text kinds es f ≡ field_text kinds es (f, kind)
 field-is kinds es index f kind t i at there =

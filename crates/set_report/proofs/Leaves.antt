@@ -1,4 +1,4 @@
--- A text that is appended step by step: what stands so far, and what is left of it.
+-- A text that is appended step by step: what is written so far, and what is left of it.
 use Rattle.std.proofs.Common.{◌≡◌, refl, sym, ◌∙◌, ap, subst, ℕ, suc, ◌+◌, ◌-◌, ◌<◌, ◌≤◌, List, [], ◌++◌, flat_map, append_assoc, append-nil, arith}
 use Rattle.std.specs.List.{range_with_len}
 use Rattle.text_pieces.specs.Appends.{AppendsPart}
@@ -38,7 +38,7 @@ broken old mid new text here left w p = record {
 pub range-more : (f : ℕ → List ℕ) (i n : ℕ) → i < n → flat_map f (range_with_len i (n - i)) ≡ f i ++ flat_map f (range_with_len (i + 1) (n - (i + 1)))
 range-more f i n h = let e : n - i ≡ suc (n - (i + 1)) = omega arith in ap (λ k. flat_map f (range_with_len i k)) e
 
--- A text of numbers below n, where the numbers before i were written.
+-- A text of numbers below n, after the numbers before i were written.
 abbrev pub LeavesFrom : (f : ℕ → List ℕ) (i n : ℕ) (old new text : List ℕ) → Type 0
 LeavesFrom f i n old new text = Leaves old new text (flat_map f (range_with_len i (n - i)))
 

@@ -42,7 +42,7 @@ keeps_result (Err v) old new text e p = keeps_part old new text p
 flat_map-more : {X : Type 0} (f : X → List ℕ) (xs : List X) (y : X) → flat_map f (xs ++ y ∷ []) ≡ flat_map f xs ++ f y
 flat_map-more f xs y = flat_map-append f xs (y ∷ []) ∙ ap (λ t. flat_map f xs ++ t) (append-nil (f y))
 
--- what stands before the next item: nothing before the first one
+-- the text before the next item: nothing before the first one
 abbrev before_next : {X : Type 0} → List ℕ → List X → List ℕ
 before_next separator [] = []
 before_next separator (x ∷ xs) = separator
@@ -53,7 +53,7 @@ join-more f separator (x ∷ xs) y =
     ap (λ t. f x ++ t) (flat_map-more (λ z. separator ++ f z) xs y)
     ∙ sym (append_assoc (f x) (flat_map (λ z. separator ++ f z) xs) (separator ++ f y))
 
--- The items so far are appended, and what stands before the next one is known.
+-- The items so far are appended, and the text before the next one is known.
 pub record Joins {X : Type 0} (f : X → List ℕ) (separator : List ℕ) (xs : List X) (old new next : List ℕ) : Type 0 where
   pub text : new ≡ old ++ join_by f separator xs
   pub ahead : next ≡ before_next separator xs
@@ -61,7 +61,7 @@ pub record Joins {X : Type 0} (f : X → List ℕ) (separator : List ℕ) (xs : 
 pub joins_none : {X : Type 0} (f : X → List ℕ) (separator old : List ℕ) → Joins f separator [] old old []
 joins_none f separator old = record { text = sym (append-nil old); ahead = refl }
 
--- the item behind them
+-- the item after them
 abbrev ahead_of : {X : Type 0} → List ℕ → List X → X → List ℕ
 ahead_of separator xs y = before_next separator (xs ++ y ∷ [])
 
@@ -154,7 +154,7 @@ pub joins_set : (f : SetDecl × State → List ℕ) (separator : List ℕ) (firs
 joins_set f separator first d s schema sets i old mid new next h k same j e =
     subst (λ zs. Joins f separator zs old new separator) (sym (beside_one first d s schema sets i h k same)) (joins_one f separator (sets_beside first (take i (zip schema sets))) (d, s) old mid new next j e)
 
--- The first sets of tables: one set more is one where no set of its table stands before it.
+-- The first sets of tables: one more set is one of them if no set of its table comes before it.
 abbrev fresh : Bool → SetDecl → List SetDecl
 fresh true y = []
 fresh false y = y ∷ []
@@ -191,7 +191,7 @@ pub joins_table : (f : SetDecl → List ℕ) (separator : List ℕ) (schema : Li
 joins_table f separator schema i d old mid new next h fresh j e =
     subst (λ zs. Joins f separator zs old new separator) (sym (ap first_sets (take-get schema i d h) ∙ first_new (take i schema) d fresh)) (joins_one f separator (first_sets (take i schema)) d old mid new next j e)
 
--- Where memory ran out, what was appended is cut off.
+-- If memory ran out, what was appended is cut off.
 pub cut : (old mid new text : List ℕ) (n : ℕ) → KeepsBytes old mid → n ≡ length old → new ≡ take n mid → AppendsPart old new text
 cut old mid new text n k all e = none_part old new text (e ∙ ap (λ m. take m mid) all ∙ ap (take (length old)) k.appended ∙ take-append_seam old k.behind)
 
@@ -207,7 +207,7 @@ pub five_parts : (old m1 m2 m3 m4 new a b c d e : List ℕ) → m1 ≡ old ++ a 
 five_parts old m1 m2 m3 m4 new a b c d e h1 h2 h3 h4 h5 =
     in_turn old m4 new (a ++ b ++ c ++ d) e (in_turn old m3 m4 (a ++ b ++ c) d (in_turn old m2 m3 (a ++ b) c (in_turn old m1 m2 a b h1 h2) h3) h4) h5
 
--- the item of elements, where there are any
+-- the item of elements, if there are any
 pub elements_parts : (d : SetDecl) (now : ℕ) (es : List Element) (old mid between new : List ℕ) → 1 ≤ length es → mid ≡ old ++ codes "\t\telements = { "
     → between ≡ mid ++ join_by (element_text d now) (codes ",\n\t\t\t     ") es → new ≡ between ++ codes " }\n" → new ≡ old ++ elements_line d now es
 elements_parts d now [] old mid between new some h1 h2 h3 = absurd (omega (arith, some))

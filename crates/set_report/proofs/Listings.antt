@@ -63,7 +63,7 @@ disjoint_is_told : list_text ((record (plain (codes "t") (codes "p") (Service �
 unfolding digits value_text interval_text
 disjoint_is_told = refl
 
--- Tables stand in the order of their first sets, and a table's sets in their own order; a table is its family and name.
+-- Tables come in the order of their first sets, and a table's sets in their own order; a table is its family and name.
 abbrev other : List ℕ → List ℕ → SetDecl
 other table name = plain table name (Proto ∷ [])
 

@@ -21,7 +21,7 @@ lacks_behind c (a ∷ bytes) b k h = (k.0, lacks_behind c bytes b k.1 h)
 digits_lack : (c n : ℕ) → c < 48 → n < 2 ^ 64 → Lacks c (decimal n)
 digits_lack c n low small = decimal_by_steps (λ _ bytes. Lacks c bytes) (λ n h. (λ e. absurd (omega arith), tt)) (λ n bytes h k. lacks_behind c bytes _ k (λ e. absurd (omega arith))) n small
 
--- what stands before the first such byte is told, and what stands behind it
+-- the text before the first such byte is determined, and so is the text after it
 cut_at : (c : ℕ) (x y r s : List ℕ) → Lacks c x → Lacks c y → x ++ c ∷ r ≡ y ++ c ∷ s → (x ≡ y) × (r ≡ s)
 cut_at c [] [] r s k l e = (refl, cc e)
 cut_at c [] (b ∷ y) r s k l e = absurd (l.0 (cc e))
@@ -31,13 +31,13 @@ cut_at c (a ∷ x) (b ∷ y) r s k l e =
     let rest = cut_at c x y r s k.1 l.1 (cc e) in
     (let h : x ≡ y = rest.0 in cc (same, h), rest.1)
 
--- a number, and what stands behind the byte that ends it
+-- a number, and the text after the byte that ends it
 number_and_rest : (c m n : ℕ) (r s : List ℕ) → c < 48 → m < 2 ^ 64 → n < 2 ^ 64 → decimal m ++ c ∷ r ≡ decimal n ++ c ∷ s → (m ≡ n) × (r ≡ s)
 number_and_rest c m n r s low small few e =
     let k = cut_at c (decimal m) (decimal n) r s (digits_lack c m low small) (digits_lack c n low few) e in
     (decimal_injective m n small few k.0, k.1)
 
--- the bytes behind so many
+-- the bytes after so many
 abbrev past : ℕ → List ℕ → List ℕ
 past zero bytes = bytes
 past (suc n) [] = []
@@ -56,7 +56,7 @@ same_line : (p q t u g h : ℕ) (v w : Verdict) → p ≡ q → t ≡ u → g �
     → ◌≡◌ {A = Line} (record { packet = p; thread = t; generation = g; verdict = v }) (record { packet = q; thread = u; generation = h; verdict = w })
 same_line p q t u g h v w a b c d = cc
 
--- what stands behind each word of a line
+-- the text after each word of a line
 abbrev verdict_part : Line → List ℕ
 verdict_part l = verdict_text l.verdict ++ line_feed
 

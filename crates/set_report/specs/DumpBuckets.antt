@@ -14,7 +14,7 @@ bits_at buckets j = (bucket_at buckets j).bits
 abbrev pub bitmaps_of : List Row → ℕ → ℕ → List (List Bool)
 bitmaps_of rows v n = map (bits_at rows) (range_with_len v n)
 
--- the bitmaps of the n buckets from value v on, where that of value 0 stands at `first`
+-- the bitmaps of the n buckets from value v on; the bucket of value 0 is at place `first`
 abbrev pub bitmaps_at : List Row → ℕ → ℕ → ℕ → List (List Bool)
 bitmaps_at buckets first v n = map (λ w. bits_at buckets (first + w)) (range_with_len v n)
 

@@ -1,4 +1,4 @@
--- The tables of sets as text: which values of which bits of a field lead to which rules, and where the
+-- The tables of sets as text: which rules agree with which values of a field's bits, and to what the
 -- rules lead.
 use Rattle.std.specs.Prelude.{ℕ, ◌+◌, ◌*◌, ◌/◌, ◌^◌, Bool, not, ◌==◌, if◌then◌else◌, List, [], ◌∷◌, ◌++◌, length, take, drop, map, filter, zip, Some, codes, decimal}
 use Rattle.std.specs.List.{flat_map, list_any, range_with_len, enumerate_from}
@@ -18,7 +18,7 @@ use Rattle.set_tables.specs.declared.End.{End}
 use Rattle.set_tables.specs.Tables.{field_spans, last_ends}
 use Rattle.set_report.specs.KindText.{kind_text}
 
--- the number that bits are, the first one the least significant
+-- the number with these bits, the least significant first
 abbrev pub bits_number : List Bool → ℕ
 bits_number [] = 0
 bits_number (bit ∷ bits) = (if bit then 1 else 0) + 2 * bits_number bits
@@ -45,7 +45,7 @@ pub record BucketRun : Type 0 where
   pub to : ℕ
   pub bitmap : List Bool
 
--- One bucket more in front of runs: where it has the bitmap of the first run it belongs to that one.
+-- One more bucket before runs. If it has the bitmap of the first run, it joins that run.
 abbrev pub with_bucket : ℕ → List Bool → List BucketRun → List BucketRun
 with_bucket v bitmap [] = record { from = v; to = v; bitmap = bitmap } ∷ []
 with_bucket v bitmap (run ∷ runs) =
@@ -53,7 +53,8 @@ with_bucket v bitmap (run ∷ runs) =
     then record { from = v; to = run.to; bitmap = bitmap } ∷ runs
     else record { from = v; to = v; bitmap = bitmap } ∷ run ∷ runs
 
--- The longest runs of neighbouring buckets with the same bitmap. The first bucket is that of value v.
+-- The longest runs of neighbouring buckets with the same bitmap. The first bucket is the one of value
+-- v.
 abbrev pub runs_from : ℕ → List (List Bool) → List BucketRun
 runs_from v [] = []
 runs_from v (bitmap ∷ bitmaps) = with_bucket v bitmap (runs_from (v + 1) bitmaps)
@@ -70,8 +71,8 @@ run_line g run = numbered (codes "row") g ++ codes " " ++ decimal run.from ++ co
 abbrev pub runs_text : ℕ → List BucketRun → List ℕ
 runs_text g runs = flat_map (run_line g) (filter (λ run. is_any_set run.bitmap) runs)
 
--- The bitmaps of a group's buckets, value by value: bit r of value v is set where v agrees with rule r on
--- those bits of the group that the rule fixes.
+-- The bitmaps of a group's buckets, value by value. Bit r of value v is set if v agrees with rule r on
+-- the bits of the group that the rule fixes.
 abbrev pub bitmaps : ℕ → ℕ → List Block → ℕ → List (List Bool)
 bitmaps width bits rules g = map (λ v. map (λ rule. agrees width bits rule g v) rules) (range_with_len 0 (2 ^ width))
 
@@ -87,7 +88,7 @@ span_text span = numbered (codes "map") span.first ++ codes " " ++ decimal span.
 abbrev pub end_text : End → List ℕ
 end_text end = numbered (codes "end") end.place ++ line_feed
 
--- the lines of where the rules of field f lead: in the last field to elements
+-- a line for each rule of field f: the rules to which it leads, or its element in the last field
 abbrev pub ways_text : List Kind → List Element → ℕ → List ℕ
 ways_text kinds elements f =
     if f + 1 == length kinds
@@ -98,13 +99,14 @@ ways_text kinds elements f =
 abbrev pub heading_text : ℕ → Kind → ℕ → ℕ → List ℕ
 heading_text f kind width rules = numbered (codes "field") f ++ codes " " ++ kind_text kind ++ numbered (codes " width") width ++ numbered (codes " rules") rules ++ line_feed
 
--- field f, which is of a kind and has these rules: eight bits to a group, or four where its table would be too large
+-- field f, which is of a kind and has these rules: eight bits to a group, or four if its table would be
+-- too large
 abbrev pub table_text : ℕ → Kind → List Block → List ℕ
 table_text f kind rules =
     let width = width_of (bits_of kind) (length rules) in
     heading_text f kind width (length rules) ++ groups_text width (bits_of kind) rules
 
--- field f of these elements: its table, and then where its rules lead
+-- field f of these elements: its table, and then a line for each rule
 abbrev pub field_text : List Kind → List Element → ℕ × Kind → List ℕ
 field_text kinds elements field = table_text field.0 field.1 (field_rules kinds field.0 elements) ++ ways_text kinds elements field.0
 

@@ -3,7 +3,7 @@ use Rattle.std.specs.Prelude.{ℕ, List, codes}
 use Rattle.set_model.specs.declared.kind.Kind.{Kind}
 use Rattle.set_model.specs.declared.kind.Kind.TheVariants.{Ipv4, Ipv6, Ether, Proto, Service, Mark}
 
--- a kind by its name in nft(8)
+-- the name of a kind in nft(8)
 abbrev pub kind_text : Kind → List ℕ
 kind_text Ipv4 = codes "ipv4_addr"
 kind_text Ipv6 = codes "ipv6_addr"

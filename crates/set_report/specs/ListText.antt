@@ -1,4 +1,4 @@
--- Sets as nft(8) lists them, so that a script can be made of the text again.
+-- Sets as nft(8) lists them. Such a text can be read as a script again.
 use Rattle.std.specs.Prelude.{ℕ, ◌-◌, Bool, true, false, ◌&&◌, not, nat_lt, if◌then◌else◌, List, [], ◌∷◌, ◌++◌, filter, Option, Some, None, codes, decimal, bytes_eq}
 use Rattle.std.specs.List.{zip, join_by}
 use Rattle.set_model.specs.declared.kind.Interval.{Interval}
@@ -10,21 +10,21 @@ use Rattle.set_model.specs.Text.{family_text}
 use Rattle.addr_text.specs.Written.{interval_text, time_text}
 use Rattle.set_report.specs.KindText.{kind_text}
 
--- Elements. The intervals, each of its field's kind, with ` . ` between them.
+-- Elements: the intervals, each of its field's kind, with ` . ` between them.
 abbrev pub parts_text : List Kind → List Interval → List ℕ
 parts_text kinds parts = join_by (λ p. interval_text p.0 p.1) (codes " . ") (zip kinds parts)
 
--- a set gives its elements a life where they name none
+-- a set gives its elements a life if they name none
 abbrev pub gives_life : SetDecl → Bool
 gives_life d = elim d.timeout [ Some t ↦ nat_lt 0 t | None ↦ false ]
 
--- How long it is until the expiry, and no time where it has passed. An element that never expires, in a set that would
--- give it a life, says so.
+-- The time until the expiry, or no time if it has passed. If an element never expires and its set would
+-- give it a life, the text says so.
 abbrev pub expiry_text : SetDecl → ℕ → Option ℕ → List ℕ
 expiry_text d now (Some expiry) = codes " expires " ++ time_text (expiry - now)
 expiry_text d now None = if gives_life d then codes " timeout 0s" else []
 
--- a comment in quotes, where there is one
+-- a comment in quotes, if there is one
 abbrev pub comment_text : List ℕ → List ℕ
 comment_text [] = []
 comment_text (byte ∷ bytes) = codes " comment \"" ++ (byte ∷ bytes) ++ codes "\""
@@ -39,7 +39,7 @@ listed_item item = codes "\t\t" ++ item ++ codes "\n"
 abbrev pub type_line : SetDecl → List ℕ
 type_line d = listed_item (codes "type " ++ join_by kind_text (codes " . ") d.kinds)
 
--- the greatest number of elements, where there is one
+-- the greatest number of elements, if there is one
 abbrev pub size_line : Option ℕ → List ℕ
 size_line None = []
 size_line (Some n) = listed_item (codes "size " ++ decimal n)
@@ -52,17 +52,17 @@ flag_if false word = []
 abbrev pub flag_words : SetDecl → List (List ℕ)
 flag_words d = flag_if d.interval (codes "interval") ++ flag_if d.timed (codes "timeout") ++ flag_if d.disjoint (codes "disjoint")
 
--- the flags with `,` between them, where there are any
+-- the flags with `,` between them, if there are any
 abbrev pub flags_line : List (List ℕ) → List ℕ
 flags_line [] = []
 flags_line (word ∷ words) = listed_item (codes "flags " ++ join_by (λ w. w) (codes ",") (word ∷ words))
 
--- the life of elements that name none, where there is one
+-- the life of elements that name none, if there is one
 abbrev pub timeout_line : Option ℕ → List ℕ
 timeout_line None = []
 timeout_line (Some t) = listed_item (codes "timeout " ++ time_text t)
 
--- the elements one below another, where there are any
+-- the elements one below another, if there are any
 abbrev pub elements_line : SetDecl → ℕ → List Element → List ℕ
 elements_line d now [] = []
 elements_line d now (e ∷ es) = listed_item (codes "elements = { " ++ join_by (element_text d now) (codes ",\n\t\t\t     ") (e ∷ es) ++ codes " }")
@@ -75,11 +75,11 @@ items_text now d s = type_line d ++ size_line d.size ++ flags_line (flag_words d
 abbrev pub listed_set : ℕ → SetDecl × State → List ℕ
 listed_set now (d, s) = codes "\tset " ++ d.name ++ codes " {\n" ++ items_text now d s ++ codes "\t}\n"
 
--- Two sets stand in one table: it is told from others by its family and its name.
+-- Two sets are in one table: they have the same family and the same table's name.
 abbrev pub same_table : SetDecl → SetDecl → Bool
 same_table a b = bytes_eq (family_text a.family) (family_text b.family) && bytes_eq a.table b.table
 
--- Of each table the set that was declared first.
+-- For each table, the set that was declared first.
 abbrev pub first_sets : List SetDecl → List SetDecl
 first_sets [] = []
 first_sets (d ∷ schema) = d ∷ filter (λ other. not (same_table d other)) (first_sets schema)

@@ -18,12 +18,12 @@ abbrev pub is_match : Verdict → Bool
 is_match verdicts.None = false
 is_match (verdicts.Element id) = true
 
--- the id that a verdict gives, and 0 where it gives none
+-- the id that a verdict has, or 0 if it has none
 abbrev pub id_given : Verdict → ℕ
 id_given verdicts.None = 0
 id_given (verdicts.Element id) = id
 
--- The line of a run, by what its control told, its packets' verdicts and its last generation.
+-- The line of a run, by its events, its packets' verdicts and its last generation.
 abbrev pub summary_of : List Event → List Verdict → Generation → List ℕ
 summary_of events answers generation =
     numbered (codes "drill elements") (element_count generation.sets)
@@ -34,6 +34,6 @@ summary_of events answers generation =
     ++ numbered (codes " sum") (sum_by id_given answers)
     ++ line_feed
 
--- The same by the lines of the packets.
+-- The same line by the lines of the packets.
 abbrev pub summary_text : List Event → List Line → Generation → List ℕ
 summary_text events lines generation = summary_of events (map (λ l. l.verdict) lines) generation

@@ -1,11 +1,11 @@
--- What a writer of text asks of events and of sets.
+-- What a writer of text requires of events and sets.
 use Rattle.std.specs.Prelude.{◌≡◌, ◌<◌, ℕ, List, length, slice_get, Some}
 use Rattle.set_model.specs.declared.script.SetDecl.{SetDecl}
 use Rattle.set_model.specs.declared.report.Event.{Event}
 use Rattle.set_model.specs.declared.report.Event.TheVariants.{Refused, Committed, Aborted, Dropped}
 use Rattle.set_model.specs.SetState.{State}
 
--- An event names one of so many sets, where it names a set.
+-- An event names one of so many sets, if it names a set.
 abbrev pub NamesSet : ℕ → Event → Type 0
 NamesSet sets (Refused line set why) = set < sets
 NamesSet sets (Committed generation purged) = Unit {0}

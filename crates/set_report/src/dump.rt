@@ -88,7 +88,7 @@ fn write_ends(ends: &EndTable, out: &mut Vec<u8>) -> Result<(), Memory>
     Ok(())
 }
 
-/// Appends where the rules of field `f` lead.
+/// Appends the rules or elements to which the rules of field `f` lead.
 fn write_ways(index: &Index, f: u64, out: &mut Vec<u8>) -> Result<(), Memory>
     ensures ok { (kinds : List OneKind) (es : List Element) → IsIndexOf kinds es index.now → f < length kinds
         → OnOk result (out.new.items ≡ out.old.items ++ ways_text kinds es f) }
@@ -153,14 +153,16 @@ fn write_kept_tables(declared: &SetDecl, set: &KeptSet, out: &mut Vec<u8>) -> Re
     write_tables(declared, &image, out)
 }
 
-/// Appends the tables of the declared sets as they stand in a generation, for those who look at what
-/// lookups read. For each field there is a line for each longest run of neighbouring buckets with the
-/// same bitmap that isn't all zeros, as `row 3 6-255 02`, and then one line per rule: `map` and the
-/// rules of the next field that it leads to, first and count, or `end` and its element's place.
+/// Appends the tables of the declared sets in a generation. They show the tables that lookups read.
+///
+/// Each field has a line for each longest run of neighbouring buckets with the same bitmap that isn't
+/// all zeros, such as `row 3 6-255 02`. Then it has one line per rule. The line is `map` with the first
+/// rule and the number of rules of the next field to which the rule leads. In the last field it is
+/// `end` with the place of the rule's element.
 ///
 /// # Errors
 ///
-/// `Memory` where there is none; a part of the text from its front is then appended.
+/// `Memory` if memory runs out. A front of the text is then appended.
 pub fn write_dump(schema: &Schema, generation: &Generation, out: &mut Vec<u8>) -> Result<(), Memory>
     requires { AreSetsOf schema.now generation.now.sets }
     ensures ok { OnOk result (out.new.items ≡ out.old.items ++ dump_text schema.now generation.now.sets) }

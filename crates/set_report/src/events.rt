@@ -112,7 +112,7 @@ fn write_event(schema: &Schema, event: &Event, out: &mut Vec<u8>) -> Result<(), 
     }
 }
 
-/// Appends the line of an event behind a prefix.
+/// Appends the line of an event after a prefix.
 #[tactic(auto, using(text_pieces::proofs::TwoParts::two_parts))]
 fn write_behind(
     schema: &Schema,
@@ -128,11 +128,12 @@ fn write_behind(
     write_event(schema, event, out)
 }
 
-/// Appends the lines of events, in their order, as `commit generation 1 purged 0`, each behind a prefix.
+/// Appends the lines of events, in their order, such as `commit generation 1 purged 0`, each after a
+/// prefix.
 ///
 /// # Errors
 ///
-/// `Memory` where there is none; a part of the text from its front is then appended.
+/// `Memory` if memory runs out. A front of the text is then appended.
 #[tactic(auto, using(text_pieces::proofs::PartLaws::item_part))]
 pub fn write_events(
     schema: &Schema,

@@ -3,7 +3,7 @@ ghost use Rattle.set_report.specs.KindText.{kind_text};
 
 use set_model::Kind;
 
-/// A kind by its name in nft(8).
+/// The name of a kind in nft(8).
 pub(crate) fn kind_word(kind: Kind) -> &'static [u8]
     ensures { result.now ≡ kind_text kind }
 {

@@ -45,12 +45,12 @@ fn write_line(line: &Line, out: &mut Vec<u8>) -> Result<(), Memory>
     }
 }
 
-/// Appends the lines of packets, in their order: `packet 0 thread 0 generation 1 element 7`, or `none`
-/// in place of the element where none matched.
+/// Appends the lines of packets, in their order: `packet 0 thread 0 generation 1 element 7`, or with
+/// `none` if no element matched.
 ///
 /// # Errors
 ///
-/// `Memory` where there is none; a part of the text from its front is then appended.
+/// `Memory` if memory runs out. A front of the text is then appended.
 pub fn write_lines(lines: &Lines, out: &mut Vec<u8>) -> Result<(), Memory>
     ensures ok { OnOk result (out.new.items ≡ out.old.items ++ lines_text lines.now) }
     ensures err { OnErr result (AppendsPart out.old.items out.new.items (lines_text lines.now)) }

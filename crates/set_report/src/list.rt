@@ -18,7 +18,8 @@ use set_space::{Generation, KeptSet};
 use text_pieces::Piece::{Number, Time, Word};
 use text_pieces::{Piece, append_pieces, family_word};
 
-/// Appends pieces. After `Memory` the old bytes stand in front, as behind each writer of this file.
+/// Appends pieces. After `Memory` the old bytes are still there, before what was appended. The same
+/// holds of each writer in this file.
 fn write(pieces: &[Piece], out: &mut Vec<u8>) -> Result<(), Memory>
     ensures ok { OnOk result (out.new.items ≡ out.old.items ++ flat_map piece_text pieces.now) }
     ensures kept { KeepsBytes out.old.items out.new.items }
@@ -49,7 +50,7 @@ fn write_parts(kinds: &[Kind], parts: &[Interval], out: &mut Vec<u8>) -> Result<
     Ok(())
 }
 
-/// Appends how long an element has to live.
+/// Appends how long an element still lives.
 fn write_expiry(
     set: &SetDecl,
     now: u64,
@@ -112,7 +113,7 @@ fn write_each(
     Ok(())
 }
 
-/// Appends the item `elements`, where there are any.
+/// Appends the item `elements`, if there are any.
 fn write_elements(
     set: &SetDecl,
     now: u64,
@@ -153,7 +154,7 @@ fn write_type(set: &SetDecl, out: &mut Vec<u8>) -> Result<(), Memory>
     write(&[Word(b"\n")], out)
 }
 
-/// Appends the item `size`, where a set has one.
+/// Appends the item `size`, if a set has one.
 fn write_size(size: Option<u32>, out: &mut Vec<u8>) -> Result<(), Memory>
     ensures ok { OnOk result (out.new.items ≡ out.old.items ++ size_line size) }
     ensures kept { KeepsBytes out.old.items out.new.items }
@@ -167,7 +168,7 @@ fn write_size(size: Option<u32>, out: &mut Vec<u8>) -> Result<(), Memory>
     }
 }
 
-/// Appends the item `flags`, where a set has one.
+/// Appends the item `flags`, if a set has one.
 fn write_flags(set: &SetDecl, out: &mut Vec<u8>) -> Result<(), Memory>
     ensures ok { OnOk result (out.new.items ≡ out.old.items ++ flags_line (flag_words set.now)) }
     ensures kept { KeepsBytes out.old.items out.new.items }
@@ -185,7 +186,7 @@ fn write_flags(set: &SetDecl, out: &mut Vec<u8>) -> Result<(), Memory>
     write(&[Word(b"\t\tflags "), Word(flags), Word(b"\n")], out)
 }
 
-/// Appends the item `timeout`, where a set has one.
+/// Appends the item `timeout`, if a set has one.
 fn write_timeout(timeout: Option<u64>, out: &mut Vec<u8>) -> Result<(), Memory>
     ensures ok { OnOk result (out.new.items ≡ out.old.items ++ timeout_line timeout) }
     ensures kept { KeepsBytes out.old.items out.new.items }
@@ -238,7 +239,7 @@ fn write_kept_set(
     write_set(declared, &image, now, out)
 }
 
-/// Whether two sets stand in one table.
+/// Whether two sets are in one table.
 fn is_same_table(one: &SetDecl, other: &SetDecl) -> bool
     ensures { result ≡ same_table one.now other.now }
 {
@@ -246,7 +247,7 @@ fn is_same_table(one: &SetDecl, other: &SetDecl) -> bool
         && one.table.as_slice() == other.table.as_slice()
 }
 
-/// Appends the sets of the table in which `first` stands.
+/// Appends the sets that are in the table of `first`.
 fn write_sets(
     schema: &Schema,
     generation: &Generation,
@@ -271,7 +272,7 @@ fn write_sets(
     Ok(())
 }
 
-/// Appends the table in which `first` stands.
+/// Appends the table of `first`.
 fn write_table(
     schema: &Schema,
     generation: &Generation,
@@ -297,7 +298,7 @@ fn write_table(
     write(&[Word(b"}\n")], out)
 }
 
-/// Whether a set stands in the table of one that was declared before this place.
+/// Whether a set declared before this place is in the same table.
 fn has_table(schema: &Schema, place: u64, set: &SetDecl) -> bool
     requires { place ≤ length schema.now }
     ensures { result ≡ list_any (λ other. same_table other set.now) (take place schema.now) }
@@ -331,13 +332,13 @@ fn write_tables(
     Ok(())
 }
 
-/// Appends the declared sets as they stand in a generation, as nft(8) lists them: a table with its sets, a
-/// set with its items and its elements. Of an element that expires it tells how long that is from `now`, in
-/// milliseconds.
+/// Appends the declared sets in a generation as nft(8) lists them: a table with its sets, and a set
+/// with its items and its elements. An element that expires has the time from `now` to its expiry;
+/// `now` is in milliseconds.
 ///
 /// # Errors
 ///
-/// `Memory` where there is none; at most a part of the text from its front is then appended.
+/// `Memory` if memory runs out. At most a front of the text is then appended.
 pub fn write_list(
     schema: &Schema,
     generation: &Generation,

@@ -6,12 +6,12 @@ ghost use Rattle.text_pieces.specs.Appends.{AppendsPart};
 use crate::events::write_events;
 use set_model::{Events, Memory, Schema};
 
-/// Appends the lines of events, in their order, each behind `# `: a listing in front of which they
-/// stand is still read, since they are comments.
+/// Appends the lines of events, in their order, each after `# `. They are comments, so the listing
+/// after them can be read as a script.
 ///
 /// # Errors
 ///
-/// `Memory` where there is none; a part of the text from its front is then appended.
+/// `Memory` if memory runs out. A front of the text is then appended.
 pub fn write_remarks(schema: &Schema, events: &Events, out: &mut Vec<u8>) -> Result<(), Memory>
     requires { All (NamesSet (length schema.now)) events.now }
     ensures ok { OnOk result (out.new.items ≡ out.old.items ++ remarks_text schema.now events.now) }

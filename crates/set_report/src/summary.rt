@@ -41,7 +41,7 @@ fn count_matches(lines: &[Line]) -> u64
     lines.iter().filter(|line| is_match(line.verdict)).count() as u64
 }
 
-/// The id of the element, and 0 where there is none.
+/// The id of the element, and 0 if there is none.
 fn id_given(verdict: Verdict) -> u64
     ensures { result ≡ id_of verdict }
 {
@@ -51,7 +51,8 @@ fn id_given(verdict: Verdict) -> u64
     }
 }
 
-/// The sum of the ids that packets got. Fewer than 2 to the power 64 ids of 64 bits have no longer sum than 128 bits.
+/// The sum of the ids that packets got. A sum of fewer than 2 to the power 64 ids of 64 bits fits 128
+/// bits.
 fn sum_ids(lines: &[Line]) -> u128
     ensures { result ≡ sum_by (λ l. id_of l.verdict) lines.now }
 {
@@ -62,12 +63,13 @@ fn sum_ids(lines: &[Line]) -> u128
     sum
 }
 
-/// Appends the summary of a run, by what its control told, its packets' lines and its last generation: `drill elements
-/// 2 refused 0 generation 1 packets 2 matched 1 sum 1`. The sum is of the ids that packets got.
+/// Appends the summary of a run, by its events, its packets' lines and its last generation: `drill
+/// elements 2 refused 0 generation 1 packets 2 matched 1 sum 1`. The sum is of the ids that packets
+/// got.
 ///
 /// # Errors
 ///
-/// `Memory` where there is none; a part of the text from its front is then appended.
+/// `Memory` if memory runs out. A front of the text is then appended.
 pub fn write_summary(
     events: &Events,
     lines: &Lines,

@@ -1,4 +1,4 @@
--- A text stands for scripts that can be run.
+-- A text means scripts that can be run.
 use Rattle.std.proofs.Common.{◌≡◌, refl, sym, ◌∙◌, ap, subst, ℕ, zero, suc, ◌+◌, ◌≤◌, ◌<◌, List, [], ◌∷◌, ◌++◌, length, map, Bool, true, false, ◌&&◌, cond, Option, Some, None, option_map, slice_get, nat_lt, nat_le, arith, length-append, append_assoc, append-nil, sum_by, ◌==◌}
 use Rattle.std.specs.List.{All, position_or_len}
 use Rattle.std.proofs.lemmas.Bool.{ltb-true, eq-eqb}
@@ -144,7 +144,7 @@ kinds_append : (schema : List SetDecl) (s : SetDecl) → kinds_of (schema ++ s �
 kinds_append [] s = refl
 kinds_append (a ∷ schema) s = ap (λ z. a.kinds ∷ z) (kinds_append schema s)
 
--- a set that is being declared behind these, with its changes
+-- a set that is being declared after these, with its changes
 record Declares (schema : List SetDecl) (ks : List Kind) (s : Declaration × List Step) : Type 0 where
   place : s.0.target.set ≡ length schema
   kinds : s.0.decl.kinds ≡ ks
@@ -186,7 +186,7 @@ record IsRunDraft (d : Draft) : Type 0 where
   few_sets : length d.schema ≤ most_sets
   closed : All EndsClosed d.sections
 
--- A new name stands where one more set may be declared.
+-- There is a new name if one more set may be declared.
 room_for_set : (d : Draft) (p : Family × List ℕ) (t : Lexeme) (n : List ℕ) → word_value (λ t. new_name d p.0 p.1 t.bytes) t ≡ Some n → length d.schema < most_sets
 room_for_set d p t n h =
     let given = word_given (λ t. new_name d p.0 p.1 t.bytes) t n h in

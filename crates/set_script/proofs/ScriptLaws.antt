@@ -131,7 +131,7 @@ option_or_break_reads : (timed : Bool) (o : Options) → Reads (form.option_or_b
 unfolding reading.option_or_break
 option_or_break_reads timed o = either_reads (skip_one_reads o) (option_reads timed o) (skip_one_begins o) (option_begins timed o) word_no_break
 
--- breaks and words may stand behind an element
+-- breaks and words may follow an element
 abbrev behind_element : Lexeme → Bool
 behind_element t = breaks_off t || any_word t
 
@@ -178,7 +178,7 @@ list_item_begins : (target : Target) (s : SetDecl) (before : List Step) (b : Boo
 list_item_begins target s before true = bind_begins (element_reads target s before) (element_begins target s before)
 list_item_begins target s before false = bind_begins (mark_reads 44) (mark_begins 44)
 
--- behind an element stands a comma, behind a comma an element
+-- a comma follows an element, and an element follows a comma
 list_apart : (target : Target) (s : SetDecl) (before : List Step) (b : Bool) (behind : List Step × Bool) (x : List Lexeme) (t : Lexeme)
     → (form.list_item target s (before, b)).whole x behind → starts_element behind t ≡ true → list_goes (before, b) behind t ≡ false
 list_apart target s before true (behind, c) x t w h = go c (ap (λ (z : List Step × Bool). z.1) w.5.1) h where
@@ -338,7 +338,7 @@ lines_more = either_test separates any_word
 closing_no_lines : (t : Lexeme) → is_the_mark 125 t ≡ true → lines_more t ≡ false
 closing_no_lines t h = neither (separates t) (any_word t) (closing_no_separator t h) (mark_no_word 125 t h)
 
--- the items behind the kinds, and the closing brace
+-- the items after the kinds, and the closing brace
 abbrev items_end : Draft → Declaration × List Step → Form Draft
 items_end d s = words.lines separates form.item (s, false) >>=f λ s1. closed (declared s1.0 s1.1 d)
 

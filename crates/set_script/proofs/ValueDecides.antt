@@ -1,4 +1,4 @@
--- The computed interval of a text is the one that the text stands for.
+-- The computed interval of a text is the one that the text means.
 use Rattle.std.proofs.Common.{◌≡◌, ◌≤◌, ◌<◌, ◌^◌, inl, inr, nat_le, bytes_eq, codes, arith, refl, sym, ◌∙◌, ap, subst, ℕ, List, Bool, true, false, ◌||◌, ◌==◌, Option, Some, None, cond}
 use Rattle.std.proofs.lemmas.Bool.{eqb-true, eq-eqb, leb-true, le-leb}
 use Rattle.std.proofs.lemmas.Option.{cond_some}

@@ -1,4 +1,4 @@
--- What the statements of a script, and the parts of them, add to what has been read of it.
+-- What the statements of a script and their parts add to what has been read.
 use Rattle.std.specs.Prelude.{ℕ, ◌+◌, List, [], ◌∷◌, ◌++◌, length, Bool, true, false, nat_lt, Option, Some, None, cond}
 use Rattle.set_model.specs.declared.kind.Kind.{Kind}
 use Rattle.set_model.specs.declared.kind.Interval.{Interval}
@@ -22,8 +22,8 @@ use Rattle.set_script.specs.declared.words.Flag.TheVariants as flags
 abbrev pub empty : Draft
 empty = record { schema = []; sections = []; steps = []; moment = 0; begun = false; late = false }
 
--- A set whose kinds have been read, behind the sets that are declared: it has no flag, no timeout and no size yet, and
--- its item `elements` adds elements to it.
+-- A set whose kinds have been read, after the declared sets. It has no flag, no timeout and no size
+-- yet, and its item `elements` adds elements to it.
 abbrev pub declaration : Draft → Family → List ℕ → List ℕ → List Kind → Declaration
 declaration d family table name kinds = record {
   target = record { set = length d.schema; verb = verbs.Add; now = d.moment };
@@ -60,7 +60,7 @@ with_timeout b t = record b { decl = record b.decl { timed = true; timeout = Som
 abbrev pub with_size : Declaration → ℕ → Declaration
 with_size b n = record b { decl = record b.decl { size = Some n } }
 
--- the items `gc-interval`, `policy` and `comment`, which change nothing of the set
+-- the items `gc-interval`, `policy` and `comment`, which have no effect on the set
 abbrev pub with_gc_interval : Declaration → Declaration
 with_gc_interval b = record b { gc_interval = true }
 
@@ -77,17 +77,17 @@ with_elements b = record b { elements = true }
 abbrev pub no_options : Options
 no_options = record { timeout = None; expires = None; comment = None }
 
--- The expiry by a life that is counted from now: a life of 0 is no expiry.
+-- The expiry by a life that counts from now. A life of 0 means no expiry.
 abbrev pub life_expiry : ℕ → Option ℕ → Option ℕ
 life_expiry now None = None
 life_expiry now (Some t) = cond (nat_lt 0 t) (Some (now + t)) None
 
--- an element's own life, or else the one that its set gives
+-- an element's own life, or else its set's
 abbrev pub life : Option ℕ → Option ℕ → Option ℕ
 life default None = default
 life default (Some t) = Some t
 
--- The expiry of an added element: by its `expires`, else by its `timeout`, else by the set's `timeout`.
+-- The expiry of an added element: by its `expires`, else by its `timeout`, else by its set's `timeout`.
 abbrev pub expiry : ℕ → Option ℕ → Options → Option ℕ
 expiry now default o = elim (o.expires) as (λ _. Option ℕ) [ Some t ↦ Some (now + t) | None ↦ life_expiry now (life default o.timeout) ]
 
@@ -101,7 +101,7 @@ adds verbs.Create = true
 adds verbs.Delete = false
 adds verbs.Destroy = false
 
--- The change of an element of the set `s`: with an expiry and a comment where it is added.
+-- The change of an element of the set `s`. It has an expiry and a comment if the element is added.
 abbrev pub change : Target → SetDecl → ℕ → List Interval → Options → Step
 change target s line parts o =
     let e : NewElement = record {
@@ -111,11 +111,11 @@ change target s line parts o =
     } in
     steps.Change line target.set target.verb e target.now
 
--- the steps of the section, with those that a list adds
+-- the steps of the section, and then those of a list
 abbrev pub with_steps : Draft → List Step → Draft
 with_steps d steps = record d { steps = steps }
 
--- a flush, whose first word stands in this line
+-- a flush, whose statement begins in this line
 abbrev pub flush : Draft → ℕ → ℕ → Draft
 flush d line set = record d { steps = d.steps ++ steps.Flush line set d.moment ∷ [] }
 
@@ -131,11 +131,12 @@ begun d = record d { begun = true }
 abbrev pub at_moment : Draft → ℕ → Draft
 at_moment d moment = record d { moment = moment }
 
--- `commit` commits always, with no change too, at the moment of its place. No set may be declared behind it.
+-- `commit` commits at the moment of its place, even if there is no change. No set may be declared after
+-- it.
 abbrev pub commit : Draft → Draft
 commit d = record d { steps = d.steps ++ steps.Commit d.moment ∷ []; late = true }
 
--- `abort` drops the open changes. No set may be declared behind it.
+-- `abort` drops the open changes. No set may be declared after it.
 abbrev pub abort : Draft → Draft
 abort d = record d { steps = d.steps ++ steps.Abort ∷ []; late = true }
 
@@ -147,10 +148,11 @@ with_commit now ss = cond (is_open ss) (ss ++ steps.Commit now ∷ []) ss
 abbrev pub ended : Draft → List (List Step)
 ended d = d.sections ++ with_commit d.moment d.steps ∷ []
 
--- `round` ends a section, and the next one begins. No set may be declared behind it.
+-- `round` ends a section, and the next one begins. No set may be declared after it.
 abbrev pub round : Draft → Draft
 round d = record d { sections = ended d; steps = []; late = true }
 
--- The end of a script ends its last section. There is section 0 always, and behind each `round` one more, also one without steps.
+-- The end of a script ends its last section. A script has section 0, and one more section after each
+-- `round`, even without steps.
 abbrev pub finished_script : Draft → Script
 finished_script d = record { schema = d.schema; sections = ended d; last = d.moment }

@@ -15,6 +15,6 @@ last_moment = 1_000_000_000_000_000
 abbrev pub most_elements : ℕ
 most_elements = 4_294_967_295
 
--- a set's timeout, where it has one, is a time that a text may stand for
+-- a set's timeout, if it has one, is a time that a text may mean
 abbrev pub HasShortTimeout : SetDecl → Type 0
 HasShortTimeout s = IfSome s.timeout (λ t. t ≤ longest_time)

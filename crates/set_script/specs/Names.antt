@@ -39,7 +39,7 @@ first_of t =
     else if bytes_eq t (codes "round") then Some firsts.Round
     else None
 
--- what is added
+-- what an `add` adds
 abbrev pub add_of : List ℕ → Option AddWord
 add_of t =
     if bytes_eq t (codes "table") then Some adds.Table
@@ -47,7 +47,7 @@ add_of t =
     else if bytes_eq t (codes "element") then Some adds.Element
     else None
 
--- What is flushed: a set, or the ruleset by the first statement alone.
+-- What a `flush` flushes: a set, or the ruleset if the statement is the first.
 abbrev pub flush_of : Bool → List ℕ → Option FlushWord
 flush_of begun t =
     if bytes_eq t (codes "set") then Some flushes.Set
@@ -73,7 +73,7 @@ family_number families.Arp = 3
 family_number families.Bridge = 4
 family_number families.Netdev = 5
 
--- the data types of nft(8)
+-- the kinds by their names in nft(8)
 abbrev pub kind_of : List ℕ → Option Kind
 kind_of t =
     if bytes_eq t (codes "ipv4_addr") then Some kinds.Ipv4
@@ -84,7 +84,7 @@ kind_of t =
     else if bytes_eq t (codes "mark") then Some kinds.Mark
     else None
 
--- the bytes that a value of a kind takes in a key: rounded up to 4, as the kernel aligns fields to its registers
+-- the bytes of a kind's value in a key, rounded up to 4 as the kernel aligns fields to its registers
 abbrev pub key_bytes : Kind → ℕ
 key_bytes kind = (bits_of kind / 8 + 3) / 4 * 4
 
@@ -92,12 +92,12 @@ key_bytes kind = (bits_of kind / 8 + 3) / 4 * 4
 abbrev pub has_room : List Kind → Kind → Bool
 has_room ks kind = nat_lt (length ks) 16 && nat_le (sum_by key_bytes ks + key_bytes kind) 64
 
--- a kind, where there is room for it behind these
+-- a kind, if there is room for it after these
 abbrev pub kind_behind : List Kind → Option Kind → Option Kind
 kind_behind ks None = None
 kind_behind ks (Some kind) = cond (has_room ks kind) (Some kind) None
 
--- a set is told from another by its family, its table and its name
+-- a set's family, table and name distinguish it from others
 abbrev pub is_set : Family → List ℕ → List ℕ → SetDecl → Bool
 is_set family table name s = (family_number s.family == family_number family) && bytes_eq s.table table && bytes_eq s.name name
 
@@ -105,7 +105,8 @@ is_set family table name s = (family_number s.family == family_number family) &&
 abbrev pub set_place : List SetDecl → Family → List ℕ → List ℕ → Option ℕ
 set_place schema family table name = position (is_set family table name) schema
 
--- A set may be declared before the first `commit`, `abort` or `round`, and not twice, and no more of them than a script may hold.
+-- A set may be declared before the first `commit`, `abort` or `round`, at most once, and only up to the
+-- limit of a script.
 abbrev pub may_declare : Draft → Family → List ℕ → List ℕ → Bool
 may_declare d family table name = is_name name && not d.late && nat_lt (length d.schema) most_sets && not (is_some (set_place d.schema family table name))
 
@@ -113,7 +114,7 @@ may_declare d family table name = is_name name && not d.late && nat_lt (length d
 abbrev pub new_name : Draft → Family → List ℕ → List ℕ → Option (List ℕ)
 new_name d family table name = cond (may_declare d family table name) (Some name) None
 
--- each item at most once, and none behind `elements`
+-- each item at most once, and none after `elements`
 abbrev pub item_of : Declaration → List ℕ → Option ItemWord
 item_of b t =
     if b.elements then None
@@ -134,7 +135,7 @@ flag_of b t =
     else if bytes_eq t (codes "disjoint") && not b.decl.disjoint then Some flags.Disjoint
     else None
 
--- what a set is best at, which it may say
+-- a set's policy: what it is optimized for
 abbrev pub is_policy : List ℕ → Bool
 is_policy t = bytes_eq t (codes "performance") || bytes_eq t (codes "memory")
 

@@ -31,7 +31,8 @@ use Rattle.set_script.specs.Values.{IsPart, IsLife, IsMoment, IsSize}
 use Rattle.set_script.specs.Names.{first_of, add_of, flush_of, family_of, kind_of, kind_behind, set_place, new_name, item_of, flag_of, is_policy, option_of}
 use Rattle.set_script.specs.Changes.{empty, no_options, declaration, with_flag, with_timeout, with_size, with_gc_interval, with_policy, with_comment, with_elements, change, with_steps, flush, declared, begun, at_moment, commit, abort, round, finished_script}
 
--- The family and the table. A word at the family's place that is a family is the family; without one it is `ip`.
+-- The family and the table. If the first word names a family, it is the family; else the family is
+-- `ip`.
 abbrev pub table_behind : List ℕ → Option Family → Form (Family × List ℕ)
 table_behind w None = done (families.Ip, w)
 table_behind w (Some family) = do
@@ -43,15 +44,15 @@ table_place = do
   w ← name
   table_behind w (family_of w)
 
--- the name of a declared set: its place among the declared sets
+-- the name of a declared set, which gives its place among the declared sets
 abbrev pub used_set : List SetDecl → Family × List ℕ → Form ℕ
 used_set schema p = word_by (reasons.Set ∷ []) (λ t. set_place schema p.0 p.1 t.bytes)
 
--- the name of a set that is declared by it
+-- the name of a set that may be declared
 abbrev pub new_set : Draft → Family × List ℕ → Form (List ℕ)
 new_set d p = word_by (reasons.Set ∷ []) (λ t. new_name d p.0 p.1 t.bytes)
 
--- Elements. The first interval, with its line.
+-- Elements: the first interval, with its line.
 abbrev pub first_part : Bool → Kind → Form (ℕ × Interval)
 first_part wide kind = lined_word_is (reasons.Value ∷ []) (IsPart wide kind)
 
@@ -103,14 +104,14 @@ option timed o = do
 abbrev pub option_or_break : Bool → Options → Form Options
 option_or_break timed o = either_form (passed breaks_off >> done o) (option timed o)
 
--- One element more: its intervals, and then options in any order.
+-- One more element: its intervals, and then options in any order.
 abbrev pub element : Target → SetDecl → List Step → Form (List Step)
 element target s before = do
   p ← all_parts s.interval s.kinds
   o ← many (option_or_break s.timed) no_options
   done (before ++ change target s p.0 p.1 o ∷ [])
 
--- An element, where one may come next, or a `,`.
+-- An element if one may come next, or a `,`.
 abbrev pub list_item : Target → SetDecl → List Step × Bool → Form (List Step × Bool)
 list_item target s (before, true) = do
   behind ← element target s before
@@ -120,7 +121,7 @@ list_item target s (before, false) = do
   breaks
   done (before, true)
 
--- Elements in braces with `,` between them and maybe behind the last; breaks are blanks there.
+-- Elements in braces, with `,` between them and maybe after the last. Breaks are blanks there.
 abbrev pub list : Target → SetDecl → List Step → Form (List Step)
 list target s before = do
   mark 123
@@ -129,7 +130,7 @@ list target s before = do
   mark 125
   done r.0
 
--- Sets. The kinds, with `.` between them.
+-- Sets: a kind.
 abbrev pub kind_word : List Kind → Form Kind
 kind_word ks = word_by (reasons.TypeWord ∷ []) (λ t. kind_behind ks (kind_of t.bytes))
 
@@ -139,14 +140,14 @@ more_kinds ks = do
   k ← kind_word ks
   done (ks ++ k ∷ [])
 
--- `type` and the kinds, one at least
+-- `type`, and one or more kinds with `.` between them
 abbrev pub type_item : Form (List Kind)
 type_item = do
   word (codes "type")
   k ← kind_word []
   many more_kinds (k ∷ [])
 
--- Flags, with `,` between them.
+-- a flag
 abbrev pub flag : Declaration → Form Declaration
 flag b = do
   f ← word_by [] (λ t. flag_of b t.bytes)
@@ -161,8 +162,9 @@ more_flags b = do
 abbrev pub policy : Form (Unit {0})
 policy = word_by [] (λ t. if_true (is_policy t.bytes))
 
--- Items, by their first word: `flags` and flags, `timeout` and a time, `size` and a number, `gc-interval` and a time,
--- `policy` and a policy, `comment` and a string, `elements` with `=` and a list. The state: the set, and the steps so far.
+-- An item, by its first word: `flags` and flags, `timeout` and a time, `size` and a number,
+-- `gc-interval` and a time, `policy` and a policy, `comment` and a string, or `elements` with `=` and a
+-- list. The state: the set, and the steps so far.
 abbrev pub item_behind : Declaration × List Step → ItemWord → Form (Declaration × List Step)
 item_behind (b, steps) items.Flags = do
   b1 ← flag b
@@ -210,12 +212,12 @@ set_block p d = do
   n ← new_set d p
   set_body d p n
 
--- Statements. The list of a set that is declared so.
+-- Statements: the list of a set that has this declaration.
 abbrev pub list_of : Target → Option SetDecl → List Step → Form (List Step)
 list_of target None before = nowhere
 list_of target (Some s) before = list target s before
 
--- the changes of a list, of the declared set that is named before it
+-- the name of a declared set, and the changes of a list
 abbrev pub changes : Draft → Verb → Form Draft
 changes d verb = do
   p ← table_place
@@ -223,7 +225,8 @@ changes d verb = do
   behind ← list_of (record { set = i; verb = verb; now = d.moment }) (slice_get d.schema i) d.steps
   done (with_steps d behind)
 
--- Behind `add`: `table` and its place, which adds nothing; `set`, its table, its name and its items; `element` and changes.
+-- After `add`: `table` with its family and name, which adds nothing; `set`, its table, its name and its
+-- items; `element` and changes.
 abbrev pub add_behind : Draft → AddWord → Form Draft
 add_behind d adds.Table = do
   table_place
@@ -240,7 +243,7 @@ element_changes d verb = do
   word (codes "element")
   changes d verb
 
--- Behind `flush`: `set` and a declared set, which is one change; `ruleset`, of which nothing stands yet.
+-- After `flush`: `set` and a declared set, which is one change; or `ruleset`, which is empty yet.
 abbrev pub flush_behind : ℕ → Draft → FlushWord → Form Draft
 flush_behind line d flushes.Set = do
   p ← table_place
@@ -248,7 +251,7 @@ flush_behind line d flushes.Set = do
   done (flush d line i)
 flush_behind line d flushes.Ruleset = done d
 
--- behind `table`: its place, and any number of set blocks in braces
+-- after `table`: its family and name, and any number of set blocks in braces
 abbrev pub table_block : Draft → Form Draft
 table_block d = do
   p ← table_place
@@ -257,7 +260,7 @@ table_block d = do
   mark 125
   done d1
 
--- What stands behind the first word of a statement, by that word and its line.
+-- The rest of a statement after its first word, by that word and its line.
 abbrev pub statement_behind : ℕ → Draft → FirstWord → Form Draft
 statement_behind line d firsts.Add = do
   w ← word_by [] (λ t. add_of t.bytes)
@@ -290,7 +293,7 @@ statement d = do
 abbrev pub statements : Form (Draft × Bool)
 statements = many (line separates statement) (empty, true)
 
--- what stands before the end
+-- all before the end of the text
 abbrev pub body : Form Script
 body = do
   d ← statements

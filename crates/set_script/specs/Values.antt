@@ -10,11 +10,11 @@ use Rattle.addr_text.specs.TimesRead.{time_of}
 use Rattle.addr_text.specs.ValuesRead.{number_of}
 use Rattle.set_script.specs.Limits.{last_moment, most_elements}
 
--- The text stands for this interval of the kind. It has one value where intervals of more values mayn't stand.
+-- The text means this interval of the kind. Unless wide is true, the interval has one value.
 abbrev pub IsPart : Bool → Kind → List ℕ → Interval → Type 0
 IsPart wide kind text part = IsInterval kind text part × (wide ≡ false → part.high ≡ part.low)
 
--- an interval that may stand there
+-- an interval, if it may be used there
 abbrev pub part_value : Bool → Option Interval → Option Interval
 part_value wide None = None
 part_value wide (Some part) = cond (wide || (part.high == part.low)) (Some part) None
@@ -35,7 +35,7 @@ life_of text = cond (bytes_eq text (codes "never")) (Some 0) (time_of text)
 abbrev pub IsMoment : ℕ → List ℕ → ℕ → Type 0
 IsMoment before text n = IsNumberUpTo last_moment text n × (before ≤ n)
 
--- how many elements a set may have: 1 at least
+-- how many elements a set may have, at least 1
 abbrev pub IsSize : List ℕ → ℕ → Type 0
 IsSize text n = IsNumberUpTo most_elements text n × (1 ≤ n)
 

@@ -1,4 +1,4 @@
-//! Moments and times of texts, both so small that a time after a moment is a number of 64 bits.
+//! Moments and times of texts. Both are so small that a moment plus a time is a number of 64 bits.
 ghost use Rattle.std.specs.Prelude.{◌≡◌, ◌≤◌};
 ghost use Rattle.addr_text.specs.Times.{longest_time};
 ghost use Rattle.set_script.specs.Limits.{last_moment};
@@ -25,7 +25,7 @@ impl Model for Moment {
 }
 
 impl Moment {
-    /// The moment of so many milliseconds.
+    /// The moment with so many milliseconds.
     pub fn new(ms: u64) -> Self
         requires { ms ≤ last_moment }
         ensures { result ≡ ms }
@@ -42,7 +42,7 @@ impl Moment {
     }
 }
 
-/// A time that a text may stand for.
+/// A time that a text may mean.
 #[derive(Clone, Copy)]
 pub struct Time {
     ms: u64,

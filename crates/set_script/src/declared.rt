@@ -7,8 +7,8 @@ use std::marker::Model;
 
 const MOST_SETS: u64 = 64;
 
-/// The sets that a script has declared so far, of which there are no more than it may declare, each with
-/// a timeout that a text may name, or none.
+/// The sets that a script has declared so far. There are no more of them than a script may declare.
+/// Each set's timeout, if it has one, is a time that a text may mean.
 #[derive(Drop)]
 pub struct Declared {
     sets: Schema,
@@ -50,7 +50,7 @@ impl Declared {
         self.sets.len() < MOST_SETS
     }
 
-    /// The sets in a row.
+    /// The sets, in the order of their declarations.
     pub fn as_slice(&self) -> &[SetDecl]
         ensures sets { result.now ≡ self.now }
         ensures few { length result.now ≤ most_sets }
@@ -59,7 +59,7 @@ impl Declared {
         self.sets.as_slice()
     }
 
-    /// Declares one more set. After `Memory` the sets are as they were.
+    /// Declares one more set. `Memory` leaves the sets as they were.
     pub fn push(&mut self, decl: SetDecl) -> Result<(), Memory>
         requires room { length self.old < most_sets }
         requires short { HasShortTimeout decl }

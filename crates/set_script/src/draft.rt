@@ -23,31 +23,31 @@ pub struct Draft {
     pub moment: Moment,
     /// Whether a statement has been read.
     pub begun: bool,
-    /// Whether a `commit`, an `abort` or a `round` has been read, behind which no set is declared.
+    /// Whether a `commit`, an `abort` or a `round` has been read. After it, no set may be declared.
     pub late: bool,
 }
 
-/// Which changes the elements of a list make.
+/// The set that the elements of a list change, and how.
 #[derive(Drop)]
 pub struct Target {
-    /// The place of their set among the declared sets.
+    /// The set's place among the declared sets.
     pub set: u32,
-    /// How they change their set.
+    /// How each element changes the set.
     pub verb: Verb,
-    /// Their moment.
+    /// The moment of the changes.
     pub now: Moment,
 }
 
 /// A set that is being declared, and which of its items have been read.
 #[derive(Drop)]
 pub struct Declaration {
-    /// What its item `elements` adds to.
+    /// The changes that its item `elements` makes.
     pub target: Target,
-    /// What has been read of the set.
+    /// The set as read so far.
     pub decl: SetDecl,
     /// Whether the item `flags` has been read.
     pub flags: bool,
-    /// Whether the flag `timeout` is written, which the item `timeout` also sets.
+    /// Whether the flag `timeout` has been read. The item `timeout` sets this flag, too.
     pub timeout_flag: bool,
     /// Whether the item `gc-interval` has been read.
     pub gc_interval: bool,
@@ -55,22 +55,23 @@ pub struct Declaration {
     pub policy: bool,
     /// Whether the item `comment` has been read.
     pub comment: bool,
-    /// Whether the item `elements` has been read, behind which none may stand.
+    /// Whether the item `elements` has been read. It is the last item.
     pub elements: bool,
 }
 
-/// The options of an element that have been read.
+/// The options that have been read of an element.
 #[derive(Drop)]
 pub struct Options {
     /// How long the element lives.
     pub timeout: Option<Time>,
-    /// How much is left of its life.
+    /// How long the element still lives.
     pub expires: Option<Time>,
     /// Its comment.
     pub comment: Option<Comment>,
 }
 
-/// Whether a transaction that has a change is open behind these steps of a section.
+/// Whether the last of these steps is a change, so that the section's transaction is open and has a
+/// change.
 fn has_open_change(steps: &[Step]) -> bool
     ensures { result ≡ is_open steps.now }
 {
@@ -80,7 +81,7 @@ fn has_open_change(steps: &[Step]) -> bool
     }
 }
 
-/// Ends a section: commits its open transaction where that has a change.
+/// Ends a section, and commits its open transaction if that has a change.
 fn end_section(steps: &mut Steps, now: u64) -> Result<(), Memory>
     ensures { OnOk result (steps.new ≡ with_commit now steps.old) }
 {
@@ -105,7 +106,7 @@ impl Draft {
         }
     }
 
-    /// Commits the open transaction, with no change too.
+    /// Commits the open transaction, even if it has no change.
     pub fn commit(&mut self) -> Result<(), Memory>
         ensures { OnOk result (self.new ≡ commit self.old) }
     {
@@ -135,7 +136,7 @@ impl Draft {
         Ok(())
     }
 
-    /// The script, whose last section ends here.
+    /// The script. Its last section ends here.
     pub fn finish(self) -> Result<Script, Memory>
         ensures { IfOk result (λ s. s ≡ finished_script self) }
     {

@@ -111,7 +111,7 @@ fn starts_an_option(t: &Seen) -> bool
     t.is_break() || t.is_word()
 }
 
-/// The options behind an element's intervals.
+/// The options after an element's intervals.
 fn all_options(reader: &mut Reader, alloc: Global, timed: bool) -> Result<Options, ReadError>
     ensures { Gives (λ o. o) result reader.new (reading.all_options timed reader.old) }
 {
@@ -133,7 +133,7 @@ fn all_options(reader: &mut Reader, alloc: Global, timed: bool) -> Result<Option
     Ok(o)
 }
 
-/// The moment a time after another.
+/// The moment `time` milliseconds after another.
 fn later(now: u64, time: u64) -> u64
     requires now { now ≤ last_moment }
     requires time { time ≤ longest_time }
@@ -230,7 +230,7 @@ fn change_of(
     }
 }
 
-/// One element more.
+/// One more element.
 #[tactic(auto, using(token_forms::proofs::Refusals::refusals), unfolding(crate::specs::ScriptReading::element))]
 fn element(
     reader: &mut Reader,
@@ -248,7 +248,7 @@ fn element(
     Ok(())
 }
 
-/// An element, where one may come next, or a `,`.
+/// An element if one may come next, or a `,`.
 #[tactic(auto, using(token_forms::proofs::Refusals::refusals), unfolding(crate::specs::ScriptReading::list_item))]
 fn list_item(
     reader: &mut Reader,
@@ -316,7 +316,7 @@ fn list_items(
     Ok(next)
 }
 
-/// The elements of a list in braces, each one step, of the set that is declared so.
+/// The elements of a list in braces, each one step. The set of the list is declared as `decl` says.
 #[tactic(auto, using(token_forms::proofs::Refusals::refusals), unfolding(crate::specs::ScriptReading::list))]
 pub fn list(
     reader: &mut Reader,

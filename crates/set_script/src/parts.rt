@@ -8,7 +8,7 @@ use set_model::{Interval, Kind, Memory, Parts};
 use std::alloc::Global;
 use token_forms::{ReadError, Reader, Reason};
 
-/// The interval of a text, which has one value unless it may be wide.
+/// The interval of a text. Unless the set is `wide`, the interval has one value.
 fn read_part(wide: bool, kind: Kind, text: &[u8]) -> Option<Interval>
     ensures { result ≡ part_of wide kind text.now }
 {
@@ -64,7 +64,7 @@ fn more_parts(
     }
 }
 
-/// A list that begins with an interval, and has room for so many more and no further.
+/// A list of one interval, with room for exactly so many more.
 fn begun(alloc: Global, first: Interval, more: usize) -> Result<Parts, Memory>
     ensures { IfOk result (λ parts. parts ≡ first ∷ []) }
 {

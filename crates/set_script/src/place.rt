@@ -38,7 +38,7 @@ fn index_of_set(schema: &[SetDecl], family: Family, table: &[u8], name: &[u8]) -
         .position(|decl| is_the_set(family, table, name, decl))
 }
 
-/// The place of a set among the declared sets, which is the set's number.
+/// The place of a set among the declared sets. This is the set's number.
 pub fn place_of_set(schema: &[SetDecl], family: Family, table: &[u8], name: &[u8]) -> Option<u32>
     requires { length schema.now ≤ most_sets }
     ensures place { result ≡ set_place schema.now family table.now name.now }
@@ -67,7 +67,7 @@ fn table_behind<'a>(
     }
 }
 
-/// Reads the family, `ip` where it is left out, and the table of a set.
+/// Reads a set's family and table. Without a family it is `ip`.
 #[tactic(auto, using(token_forms::proofs::Refusals::refusals), unfolding(crate::specs::ScriptReading::table_place))]
 pub fn table_place<'a>(reader: &mut Reader<'a>) -> Result<(Family, &'a [u8]), ReadError>
     ensures { Gives (λ x. (x.0, x.1.now)) result reader.new (reading.table_place reader.old) }
@@ -76,7 +76,7 @@ pub fn table_place<'a>(reader: &mut Reader<'a>) -> Result<(Family, &'a [u8]), Re
     table_behind(reader, word, read_family(word))
 }
 
-/// Reads the name of a declared set, and gives its place among the declared sets.
+/// Reads the name of a declared set, and returns its place among the declared sets.
 #[tactic(auto, unfolding(token_forms::specs::Gives::Refuses))]
 pub fn used_set(
     reader: &mut Reader,

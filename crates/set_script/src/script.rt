@@ -23,7 +23,7 @@ use set_model::{Memory, Script, SetDecl, Step, Steps, Verb};
 use std::alloc::Global;
 use token_forms::{BadToken, ReadError, Reader, bad_token_before};
 
-/// Why a text isn't read as a script.
+/// Why a text wasn't read as a script.
 pub type ScriptError = ReadError;
 
 #[tactic(auto, unfolding(token_forms::specs::Gives::Refuses))]
@@ -37,7 +37,7 @@ fn add_word(reader: &mut Reader) -> Result<AddWord, ReadError>
     }
 }
 
-/// The steps of a list, of the declared set at its place.
+/// The steps of a list, for the declared set at a place.
 #[tactic(auto, unfolding(crate::specs::ScriptReading::list_of, token_forms::specs::Gives::Refuses))]
 fn list_at(
     reader: &mut Reader,
@@ -55,7 +55,7 @@ fn list_at(
     }
 }
 
-/// The changes of a list, of the declared set that is named before it.
+/// Reads the name of a declared set and a list, and adds the list's changes.
 #[tactic(auto, using(token_forms::proofs::Refusals::refusals), unfolding(crate::specs::ScriptReading::changes))]
 fn changes(reader: &mut Reader, alloc: Global, d: &mut Draft, verb: Verb) -> Result<(), ReadError>
     ensures { Gives (λ _. d.new) result reader.new (reading.changes d.old verb reader.old) }
@@ -71,7 +71,7 @@ fn changes(reader: &mut Reader, alloc: Global, d: &mut Draft, verb: Verb) -> Res
     Ok(())
 }
 
-/// What stands behind the word `add` and what it adds.
+/// Reads the rest of a statement after `add` and the word that says what it adds.
 #[tactic(auto, using(token_forms::proofs::Refusals::refusals), unfolding(crate::specs::ScriptReading::add_behind))]
 fn add_behind(
     reader: &mut Reader,
@@ -120,7 +120,8 @@ fn flush_word(reader: &mut Reader, begun: bool) -> Result<FlushWord, ReadError>
     }
 }
 
-/// What stands behind what is flushed by a statement whose first word stands in this line.
+/// Reads the rest of a statement after `flush` and its object. The statement's first word is in this
+/// line.
 #[tactic(auto, using(token_forms::proofs::Refusals::refusals), unfolding(crate::specs::ScriptReading::flush_behind))]
 fn flush_behind(
     reader: &mut Reader,
@@ -200,7 +201,7 @@ fn statement(reader: &mut Reader, alloc: Global, d: &mut Draft) -> Result<(), Re
     Ok(())
 }
 
-/// A separator, or a statement where one may come next.
+/// A separator, or a statement if one may come next.
 #[tactic(auto, using(token_forms::proofs::Refusals::refusals))]
 fn statement_line(
     reader: &mut Reader,
@@ -231,7 +232,7 @@ fn next_statement_line(
     statement_line(reader, alloc, d, next)
 }
 
-/// The statements, as far as they go, and whether one more may come next.
+/// Reads statements as long as one starts. Returns also whether one more may come next.
 fn statements(reader: &mut Reader, alloc: Global) -> Result<(Draft, bool), ReadError>
     ensures { Gives (λ x. (x.0, x.1)) result reader.new (reading.statements reader.old) }
 {
@@ -250,7 +251,7 @@ fn statements(reader: &mut Reader, alloc: Global) -> Result<(Draft, bool), ReadE
     Ok((d, next))
 }
 
-/// What stands before the end.
+/// Reads all before the end of the text.
 #[tactic(auto, using(token_forms::proofs::Refusals::refusals), unfolding(crate::specs::ScriptReading::body))]
 fn body(reader: &mut Reader, alloc: Global) -> Result<Script, ReadError>
     ensures { Gives (λ x. x) result reader.new (reading.body reader.old) }
@@ -268,18 +269,20 @@ fn whole(reader: &mut Reader, alloc: Global) -> Result<Script, ReadError>
     Ok(s)
 }
 
-/// The script that a text stands for.
+/// The script that a text means.
 ///
 /// # Errors
 ///
-/// `Bad` exactly where the text isn't in the grammar, with the line of its first token that doesn't fit and the reason.
-/// `Memory` where there is none left.
+/// `Bad` exactly if the text isn't in the grammar, with the line of its first token that doesn't fit
+/// and the reason. `Memory` if memory runs out.
 pub fn read_script(alloc: Global, text: &[u8]) -> Result<Script, ScriptError>
-    // What is read is the script that the text stands for.
+    // What is read is the script that the text means.
     ensures found { IfOk result (IsScriptText text.now) }
-    // A text that stands for a script is read as that one, unless memory runs out; so it stands for one at most.
+    // A text that means a script is read as that one, unless memory runs out. So it means at most one
+    // script.
     ensures only { (s : Script) → IsScriptText text.now s → IsReadAs (λ x. x) result s }
-    // A text that is refused stands for no script; the line is that of its bad token, with the first reason that applies.
+    // A refused text means no script. The line is its bad token's, and the reason is the first that
+    // applies.
     ensures bad { (line : ℕ) (reason : Reason) → result ≡ Err (Bad line reason) → IsFault script (text_tokens text.now) line reason }
     // The script can be run on the sets that it declares.
     ensures runnable { IfOk result IsRunnable }
@@ -288,12 +291,12 @@ pub fn read_script(alloc: Global, text: &[u8]) -> Result<Script, ScriptError>
     whole(&mut reader, alloc)
 }
 
-/// The bad token of a text: where it stands, and the reason; `None` exactly where the text is in the grammar. It is the
-/// token of which `read_script` tells the line and the reason.
+/// The bad token of a text, with its place and its reason; `None` exactly if the text is in the
+/// grammar. `read_script` reports the line and the reason of the same token.
 ///
 /// # Errors
 ///
-/// `Memory` where there is none left.
+/// `Memory` if memory runs out.
 pub fn bad_token(alloc: Global, text: &[u8]) -> Result<Option<BadToken>, Memory>
     ensures { IfOk result (IsBadTokenOf script text.now) }
 {
@@ -307,17 +310,17 @@ pub fn bad_token(alloc: Global, text: &[u8]) -> Result<Option<BadToken>, Memory>
     }
 }
 
-/// A text stands for one script at most.
+/// A text means at most one script.
 pub fn one_script_law(_text: &[u8])
     ensures { (s other : Script) → IsScriptText _text.now s → IsScriptText _text.now other → s ≡ other }
 {}
 
-/// The tokens before any place of a front of a script are a front of a script, too.
+/// The tokens before any place of a script's front are a front of a script, too.
 pub fn script_fronts_law()
     ensures { AreFrontsClosed script }
 {}
 
-/// A text that is no script is refused at one line and for one reason, and by one token.
+/// A text that is no script is refused at one line, for one reason, and for one token.
 pub fn one_script_fault_law(_text: &[u8])
     ensures refused { IsRefusedOnce script (text_tokens _text.now) }
     ensures token { HasOneBadToken script _text.now }

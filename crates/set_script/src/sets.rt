@@ -19,7 +19,7 @@ use set_model::{Family, Kind, Kinds, Listed, Steps};
 use std::alloc::Global;
 use token_forms::{ReadError, Reader, Reason, Seen, is_a_name};
 
-/// Whether a set of that name may be declared here.
+/// Whether a set with this name may be declared here.
 fn is_declarable(d: &Draft, family: Family, table: &[u8], name: &[u8]) -> bool
     ensures may { result ≡ may_declare d.now family table.now name.now }
     ensures room { OnTrue result (length d.now.schema < most_sets) }
@@ -30,7 +30,7 @@ fn is_declarable(d: &Draft, family: Family, table: &[u8], name: &[u8]) -> bool
         && place_of_set(d.schema.as_slice(), family, table, name).is_none()
 }
 
-/// The name of a set that may be declared.
+/// Reads the name of a set that may be declared.
 #[tactic(auto, unfolding(token_forms::specs::Gives::Refuses))]
 pub fn new_set<'a>(
     reader: &mut Reader<'a>,
@@ -49,7 +49,7 @@ pub fn new_set<'a>(
     }
 }
 
-/// A word that names a kind for which a key has room behind these.
+/// Reads a word that names a kind, if the key has room for one more after these.
 #[tactic(auto, unfolding(token_forms::specs::Gives::Refuses))]
 fn kind_word(reader: &mut Reader, kinds: &[Kind]) -> Result<Kind, ReadError>
     ensures { Gives (λ x. x) result reader.new (reading.kind_word kinds.now reader.old) }
@@ -203,7 +203,7 @@ fn flags_behind(reader: &mut Reader, b: &mut Declaration) -> Result<(), ReadErro
     Ok(())
 }
 
-/// A policy, which has no effect.
+/// Reads a policy, which has no effect.
 #[tactic(auto, unfolding(token_forms::specs::Gives::Refuses))]
 fn policy(reader: &mut Reader) -> Result<(), ReadError>
     ensures { Gives (λ x. x) result reader.new (reading.policy reader.old) }
@@ -297,7 +297,7 @@ fn item(
     item_behind(reader, alloc, word, b, steps)
 }
 
-/// A separator, or an item where one may come next.
+/// A separator, or an item if one may come next.
 #[tactic(auto, using(token_forms::proofs::Refusals::refusals))]
 fn item_line(
     reader: &mut Reader,
@@ -358,7 +358,7 @@ fn item_lines(
     Ok(next)
 }
 
-/// The items behind the type of a set.
+/// The items after the type of a set.
 #[tactic(auto, using(token_forms::proofs::Refusals::refusals))]
 fn all_items(
     reader: &mut Reader,
@@ -374,7 +374,7 @@ fn all_items(
     Ok(())
 }
 
-/// The items of a set in braces, and its declaration.
+/// Reads the items of a set in braces, and declares the set.
 #[tactic(auto, using(token_forms::proofs::Refusals::refusals), unfolding(crate::specs::ScriptReading::set_body))]
 pub fn set_body(
     reader: &mut Reader,
@@ -412,7 +412,7 @@ fn set_block(
     set_body(reader, alloc, d, family, table, name)
 }
 
-/// A separator, or a set block where one may come next.
+/// A separator, or a set block if one may come next.
 #[tactic(auto, using(token_forms::proofs::Refusals::refusals))]
 fn block_line(
     reader: &mut Reader,
@@ -485,7 +485,7 @@ fn all_blocks(
     Ok(())
 }
 
-/// What stands behind the word `table`: its place, and set blocks in braces.
+/// Reads the rest of a statement after `table`: the table's family and name, and set blocks in braces.
 #[tactic(auto, using(token_forms::proofs::Refusals::refusals), unfolding(crate::specs::ScriptReading::table_block))]
 pub fn table_block(reader: &mut Reader, alloc: Global, d: &mut Draft) -> Result<(), ReadError>
     ensures { Gives (λ _. d.new) result reader.new (reading.table_block d.old reader.old) }

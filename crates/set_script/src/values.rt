@@ -26,7 +26,7 @@ fn read_life(text: &[u8]) -> Option<u64>
     }
 }
 
-/// The moment that a text names, where it isn't before another.
+/// The moment that a text names, if it isn't before another.
 pub fn read_moment(before: u64, text: &[u8]) -> Option<u64>
     ensures value { result ≡ moment_of before text.now }
     ensures within { IfSome result (λ moment. moment ≤ last_moment) }

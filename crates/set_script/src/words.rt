@@ -34,7 +34,7 @@ pub enum FlushWord {
     Ruleset,
 }
 
-/// The first word of an item of a set, behind its type.
+/// The first word of an item of a set, after its type.
 #[derive(Clone, Copy, Debug, PartialEq, Eq)]
 pub enum ItemWord {
     Flags,
@@ -91,7 +91,7 @@ pub fn first_word_of(text: &[u8]) -> Option<FirstWord>
     }
 }
 
-/// What a word behind `add` adds.
+/// What a word after `add` adds.
 pub fn add_word_of(text: &[u8]) -> Option<AddWord>
     ensures { result ≡ add_of text.now }
 {
@@ -106,7 +106,7 @@ pub fn add_word_of(text: &[u8]) -> Option<AddWord>
     }
 }
 
-/// What a word flushes: a set, or the ruleset where no statement stands before it.
+/// What a word after `flush` flushes: a set, or the ruleset if the statement is the first.
 pub fn flush_word_of(begun: bool, text: &[u8]) -> Option<FlushWord>
     ensures { result ≡ flush_of begun text.now }
 {
@@ -193,7 +193,7 @@ fn has_room_for(kinds: &[Kind], kind: Kind) -> bool
     kinds.len() < 16 && all_bytes(kinds) + bytes_in_key(kind) <= 64
 }
 
-/// The kind that a word names, where a key has room for it behind these.
+/// The kind that a word names, if the key has room for it after these.
 pub fn read_kind_behind(kinds: &[Kind], text: &[u8]) -> Option<Kind>
     ensures { result ≡ kind_behind kinds.now (kind_of text.now) }
 {
@@ -203,7 +203,7 @@ pub fn read_kind_behind(kinds: &[Kind], text: &[u8]) -> Option<Kind>
     }
 }
 
-/// The item of a set that a word begins: one that hasn't been read yet, and none behind `elements`.
+/// The item of a set that a word begins. The item hasn't been read yet, and `elements` hasn't either.
 pub fn item_word_of(b: &Declaration, text: &[u8]) -> Option<ItemWord>
     ensures { result ≡ item_of b.now text.now }
 {
@@ -228,7 +228,7 @@ pub fn item_word_of(b: &Declaration, text: &[u8]) -> Option<ItemWord>
     }
 }
 
-/// The flag that a word is: one that hasn't been read yet.
+/// The flag that a word names. The flag hasn't been read yet.
 pub fn flag_of_word(b: &Declaration, text: &[u8]) -> Option<Flag>
     ensures { result ≡ flag_of b.now text.now }
 {
@@ -243,15 +243,15 @@ pub fn flag_of_word(b: &Declaration, text: &[u8]) -> Option<Flag>
     }
 }
 
-/// Whether a word is one of the policies of a set.
+/// Whether a word is one of a set's policies.
 pub fn is_a_policy(text: &[u8]) -> bool
     ensures { result ≡ is_policy text.now }
 {
     text == b"performance".as_slice() || text == b"memory".as_slice()
 }
 
-/// The option of an element that a word begins: one that hasn't been read yet, and a time only where the set is
-/// `timed`.
+/// The option of an element that a word begins. The option hasn't been read yet. A time is an option
+/// only if the set is `timed`.
 pub fn option_word_of(timed: bool, o: &Options, text: &[u8]) -> Option<OptionWord>
     ensures { result ≡ option_of timed o.now text.now }
 {

@@ -1,4 +1,4 @@
--- What was appended, where no memory was found for the rest.
+-- What was appended, if no memory was found for the rest.
 use Rattle.std.proofs.Common.{◌≡◌, refl, sym, ◌∙◌, ap, ℕ, zero, suc, ◌<◌, List, [], ◌∷◌, ◌++◌, length, take, drop, get_or, flat_map, append_assoc, append-nil, arith, Result, Ok, Err, OnErr}
 use Rattle.std.proofs.lemmas.List.{get_or_default}
 use Rattle.text_pieces.specs.Appends.{AppendsPart}
@@ -12,7 +12,7 @@ pub none_part : (old new text : List ℕ) → new ≡ old → AppendsPart old ne
 none_part old new text same = record { part = []; rest = text; appended = same ∙ sym (append-nil old); front = refl }
 
 module _ {X : Type 0} where
-  -- The text of a list is that of the items before a place, of the item there, and of those behind it.
+  -- The text of a list is the text of the items before a place, then of the item there, then of the items after it.
   pub split : (f : X → List ℕ) (xs : List X) (i : ℕ) (x : X) → i < length xs → x ≡ get_or xs i x
       → flat_map f xs ≡ flat_map f (take i xs) ++ (f x ++ flat_map f (drop (suc i) xs))
   split f [] i x h e = absurd (omega (arith, h))

@@ -1,7 +1,7 @@
--- What a writer of text leaves where memory runs out.
+-- What a writer of text leaves if memory runs out.
 use Rattle.std.specs.Prelude.{◌≡◌, ℕ, List, ◌++◌}
 
--- Of a text a part from its front was appended, and no more.
+-- A front of a text was appended, and nothing else.
 pub record AppendsPart (old new text : List ℕ) : Type 0 where
   pub part : List ℕ
   pub rest : List ℕ

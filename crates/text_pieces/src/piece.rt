@@ -11,15 +11,15 @@ use set_model::{Family, Memory, SetDecl};
 /// A piece of a line.
 #[derive(Clone, Copy)]
 pub enum Piece<'a> {
-    /// Bytes as they are.
+    /// Bytes, which are appended unchanged.
     Word(&'a [u8]),
     /// A number in decimal.
     Number(u64),
-    /// A number in decimal that is a sum of many.
+    /// A large number in decimal, such as a sum of many.
     Sum(u128),
-    /// A time in milliseconds, as `1h30m`.
+    /// A time in milliseconds, written like `1h30m`.
     Time(u64),
-    /// A set: its family, its table's name and its own.
+    /// A set: its family, its table's name and its own name.
     Set(&'a SetDecl),
 }
 
@@ -27,7 +27,7 @@ pub enum Piece<'a> {
 ///
 /// # Errors
 ///
-/// `Memory` where there is none; a part of them from the front is then appended.
+/// `Memory` if memory runs out. A front of the bytes is then appended.
 #[tactic(auto, using(crate::proofs::PartLaws::none_part))]
 pub fn append(bytes: &[u8], out: &mut Vec<u8>) -> Result<(), Memory>
     ensures ok { OnOk result (out.new.items ≡ out.old.items ++ bytes.now) }
@@ -61,7 +61,7 @@ fn append_time(ms: u64, out: &mut Vec<u8>) -> Result<(), Memory>
     write_time(ms, out)
 }
 
-/// A family by its name in nft(8).
+/// The name of a family in nft(8).
 pub fn family_word(family: Family) -> &'static [u8]
     ensures { result.now ≡ family_text family }
 {
@@ -130,7 +130,7 @@ fn append_piece(piece: &Piece, out: &mut Vec<u8>) -> Result<(), Memory>
 ///
 /// # Errors
 ///
-/// `Memory` where there is none; a part of them from the front is then appended.
+/// `Memory` if memory runs out. A front of their text is then appended.
 #[tactic(auto, using(crate::proofs::PartLaws::item_part))]
 pub fn append_pieces(pieces: &[Piece], out: &mut Vec<u8>) -> Result<(), Memory>
     ensures ok { OnOk result (out.new.items ≡ out.old.items ++ flat_map piece_text pieces.now) }

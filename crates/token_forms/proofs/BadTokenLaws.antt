@@ -53,7 +53,7 @@ passed-end {all} {reader} {ahead} {n} {last} p e before t rest s c =
     let size : length p.front ≡ length (before ++ t ∷ []) = omega (arith, ap length e, p.count, length-append before (t ∷ [])) in
     p.last_is before t (same_front p.front (before ++ t ∷ []) reader rest size (sym p.split ∙ s ∙ sym (append_assoc before (t ∷ []) rest)))
 
--- the text is refused for the token behind which these are left
+-- the text is refused for the token after which these are left
 abbrev pub IsRefusedAt : {A : Type 0} → Form A → List Lexeme → ℕ → Reason → List Lexeme → Type 0
 IsRefusedAt f ts line reason left = (k : IsFault f ts line reason) × (k.behind ≡ left)
 

@@ -1,4 +1,4 @@
--- What stands before any place of a front, or of what is whole, is a front; so a text has one bad token.
+-- The tokens before any place of a front, or of a whole list, are a front. So a text has one bad token.
 use Rattle.std.proofs.Common.{◌≡◌, ◌⊎◌, inl, inr, refl, sym, ◌∙◌, ap, subst, ◌≤◌, ℕ, List, [], ◌∷◌, ◌++◌, Bool, true, false, arith, append_assoc}
 use Rattle.token_forms.specs.declared.token.Reason.{Reason}
 use Rattle.token_forms.specs.Token.{Lexeme}
@@ -75,7 +75,7 @@ bind_closed {A} {B} {f} {g} k ks = record { whole = λ p q b w. behind w.0 p q w
   front p q (inr (a, x, y, e, w, v)) = behind a p q x y e w (λ r j. (ks a).front r q (subst (g a).front j v))
 
 module _ {S : Type 0} {item : S → Form S} (laws : (s : S) → Closed (item s)) where
-  -- the front ends in a whole item, or behind it
+  -- the front ends in a whole item, or after it
   behind_item : (s s1 : S) (p q x y : List Lexeme) → p ++ q ≡ x ++ y → (item s).whole x s1 → ((r : List Lexeme) → y ≡ r ++ q → (many item s1).front r) → (many item s).front p
   behind_item s s1 p q x y e w further = go (cut p q x y e) where
     go : ((r : List Lexeme) × (x ≡ p ++ r)) ⊎ ((r : List Lexeme) × (p ≡ x ++ r) × (y ≡ r ++ q)) → (many item s).front p

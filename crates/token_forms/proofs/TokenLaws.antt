@@ -1,4 +1,4 @@
--- A text's tokens are the token of its first piece, if it is one, and those behind it.
+-- A text's tokens are the token of its first piece, if it is one, and those after it.
 use Rattle.std.proofs.Common.{◌≡◌, refl, sym, ◌∙◌, ap, ℕ, zero, suc, ◌+◌, ◌-◌, ◌≤◌, ◌<◌, List, [], ◌∷◌, length, take, drop, Bool, true, false, count_by, Option, arith, cond}
 use Rattle.std.specs.List.{cons_option}
 use Rattle.std.specs.Option.{option_map}

@@ -1,4 +1,4 @@
--- A text is read whole exactly where it is in the form; else reading stops at the bad token.
+-- A text is read whole exactly if it is in the form; else reading stops at the bad token.
 use Rattle.std.proofs.Common.{◌≡◌, ◌⊎◌, inl, inr, refl, sym, ◌∙◌, ap, subst, List, [], ◌∷◌, ◌++◌, length, append-nil, append_assoc, arith, Bool, true, false, ◌<◌}
 use Rattle.token_forms.specs.declared.token.Reason.{Reason}
 use Rattle.token_forms.specs.Token.{Lexeme, is_word, is_end}
@@ -34,7 +34,7 @@ no_end_right : (x y : List Lexeme) → NoEnd (x ++ y) → NoEnd y
 no_end_right [] y h = h
 no_end_right (t ∷ x) y h = no_end_right x y h.1
 
--- a list without an end, and the end behind it: two such cuts of a list are the same
+-- a list without an end, and the end after it: two such cuts of a list are the same
 same_cut : (x y : List Lexeme) (s t : Lexeme) (r : List Lexeme) → NoEnd x → NoEnd y → is_end s.kind ≡ true → is_end t.kind ≡ true → x ++ s ∷ [] ≡ y ++ t ∷ r → (x ≡ y) × (s ≡ t) × (r ≡ [])
 same_cut [] [] s t r h k i j e = (refl, cc, cc)
 same_cut [] (v ∷ y) s t r h k i j e = let same : s ≡ v = cc in let a : is_end v.kind ≡ false = k.0 in let b : is_end s.kind ≡ is_end v.kind = ap (λ z. is_end z.kind) same in absurd (cc (a, b, i))
@@ -61,7 +61,7 @@ asks_cases body ts q (inl p) = p
 asks_cases body ts q (inr (a, x, y, h, w, inl i)) = absurd i.1
 asks_cases body ts q (inr (a, x, y, h, w, inr (u, y1, y2, e, v, i))) = absurd i
 
--- the text is refused for its token t, behind which these stand
+-- the text is refused for its token t, which these tokens follow
 abbrev pub IsFaultBy : {A : Type 0} → Form A → List Lexeme → Lexeme → Reason → List Lexeme → Type 0
 IsFaultBy f ts t reason rest = (k : IsFault f ts t.line reason) × (k.behind ≡ rest)
 
@@ -82,7 +82,7 @@ text_answer {A} {body} {more} {r} law apart ts ends = go (r ts) (law.meets ts) w
   not_all : (x : List Lexeme) → ts ≡ x → body.front x → ⊥
   not_all x e p = let a = no_end_last ends.others ends.last (subst NoEnd (sym e ∙ ends.split) (law.inner x p)) in let b = ends.is_end in cc (a, b)
 
-  -- what is whole of the text is what stands before the end
+  -- the whole part of the text is all before the end
   before_end : (a : A) → (text_of body).whole ts a → body.whole ends.others a
   before_end a w =
       let k = body_of body ts a w in

@@ -90,7 +90,7 @@ word_by_reads sorts value = one_reads sorts (word_decides value)
 pub word_by_begins : {A : Type 0} (sorts : List Reason) (value : Lexeme → Option A) → Begins (form.word_by sorts value) any_word
 word_by_begins sorts value = one_heads sorts any_word (λ t a h. word_some value t a h) (λ q t i w. w)
 
--- words whose texts stand for values by a relation that a function decides
+-- words whose texts mean values by a relation that a function decides
 pub record TextDecides {A : Type 0} (Is : List ℕ → A → Type 0) (value : List ℕ → Option A) : Type 0 where
   pub sound : (text : List ℕ) (a : A) → value text ≡ Some a → Is text a
   pub complete : (text : List ℕ) (a : A) → Is text a → value text ≡ Some a
@@ -215,7 +215,7 @@ pub separators_reads : Reads form.separators (λ _. separates) reading.separator
 unfolding reading.separators
 separators_reads = skip_reads separates separates_no_end
 
--- A form, and then a value made of what it stands for.
+-- A form, and then a value made of what it means.
 pub bind_done : {A B : Type 0} {f : Form A} {more : A → Lexeme → Bool} {next : B → Lexeme → Bool} {r : List Lexeme → Outcome A} (h : A → B) → ((a : A) (t : Lexeme) → more a t ≡ true → next (h a) t ≡ true)
     → Reads f more r → Reads (f >>=f λ a. done (h a)) next (r >>=r λ a. done_read (h a))
 bind_done {A} {B} {f} {more} {next} {r} h wide law = bind_reads f more r (λ a. done (h a)) next (λ a. done_read (h a)) law (λ a. weaken next (λ b t g. absurd (cc g)) (done_reads (h a))) (record {
@@ -234,7 +234,7 @@ bind_done {A} {B} {f} {more} {next} {r} h wide law = bind_reads f more r (λ a. 
   through : (x : List Lexeme) (a : A) (b : B) (rest : List Lexeme) → f.whole x a → (done (h a)).whole [] b → Stops (next b) rest → Stops (more a) rest
   through x a b rest w v s = stops a rest (subst (λ c. Stops (next c) rest) (sym v.1) s)
 
--- the same where the tokens that could continue the form don't depend on its value
+-- the same if the tokens that could continue the form don't depend on its value
 pub bind_done_same : {A B : Type 0} {f : Form A} {more : Lexeme → Bool} {r : List Lexeme → Outcome A} (h : A → B) → Reads f (λ _. more) r → Reads (f >>=f λ a. done (h a)) (λ _. more) (r >>=r λ a. done_read (h a))
 bind_done_same h law = bind_done h (λ a t g. g) law
 
@@ -260,7 +260,7 @@ pub record AreStatements {S : Type 0} (test starts more : Lexeme → Bool) (goes
   pub starts_more : (t : Lexeme) → starts t ≡ true → more t ≡ true
   pub goes_more : (s s1 : S) (t : Lexeme) → goes s s1 t ≡ true → more t ≡ true
 
--- only behind a statement may its own tokens go on
+-- only after a statement may its own tokens go on
 abbrev pub line_goes : {S : Type 0} → (S → S → Lexeme → Bool) → S × Bool → S × Bool → Lexeme → Bool
 line_goes goes (s, true) (s1, false) t = goes s s1 t
 line_goes goes (s, true) (s1, true) t = false

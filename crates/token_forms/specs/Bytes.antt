@@ -15,7 +15,7 @@ is_word_byte b =
     (nat_le 65 b && nat_le b 90) || (nat_le 97 b && nat_le b 122) || (nat_le 48 b && nat_le b 57)
     || (b == 95) || (b == 46) || (b == 47) || (b == 58) || (b == 45)
 
--- what may stand in a string: no quote and no control character
+-- a byte of a string: no quote and no control character
 abbrev pub is_string_byte : ℕ → Bool
 is_string_byte b = not (b == 34) && nat_le 32 b
 

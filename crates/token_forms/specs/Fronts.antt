@@ -1,12 +1,12 @@
--- What holds of the fronts and the refusals of a grammar.
+-- Laws on the fronts and the refusals of every grammar.
 use Rattle.std.specs.Prelude.{◌≡◌, ℕ, List, ◌++◌}
 use Rattle.token_forms.specs.declared.token.Reason.{Reason}
 use Rattle.token_forms.specs.Token.{Lexeme}
 use Rattle.token_forms.specs.Form.{Form}
 use Rattle.token_forms.specs.Faults.{IsFault}
 
--- Fronts are closed under fronts: the tokens before any place of a front are a front. So the first token with which the
--- tokens so far are none is the only one before which they are one.
+-- If a list is a front, so are the tokens before any place of it. So a text has only one token with
+-- which a front stops being one.
 abbrev pub AreFrontsClosed : {A : Type 0} → Form A → Type 0
 AreFrontsClosed f = (x y : List Lexeme) → f.front (x ++ y) → f.front x
 

@@ -11,12 +11,13 @@ pub record Spelling : Type 0 where
   pub from : ℕ
   pub bytes : List ℕ
 
--- the same without its bytes, but with the place behind the last of them
+-- the same without its bytes, but with the place after its last byte
 abbrev pub token_of : Spelling → Token
 token_of s = record { kind = s.kind; line = s.line; from = s.from; to = s.from + length s.bytes }
 
--- A token as the forms see it. `behind`: the token before it is one of the words `delete`, `destroy`, `create`. `plain`: its text leaves out no part of
--- nft's language, so that no word in it is told apart for that.
+-- A token as the forms see it. `behind`: the token before it is the word `delete`, `destroy` or
+-- `create`. `plain`: its text is plain, so no word in it is special as a part of nft's language that is
+-- left out.
 pub record Lexeme : Type 0 where
   pub kind : TokenKind
   pub line : ℕ

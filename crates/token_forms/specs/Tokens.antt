@@ -8,14 +8,14 @@ use Rattle.token_forms.specs.declared.piece.Piece.{Piece}
 use Rattle.token_forms.specs.Token.{Spelling, is_break}
 use Rattle.token_forms.specs.Bytes.{is_blank, is_mark_byte, is_word_byte, is_string_byte, is_line_feed}
 
--- what a text begins with: a gap (a blank or a comment) or a token, and how many bytes it has
+-- how a text begins: with a gap (a blank or a comment) or a token, and how many bytes it has
 abbrev pub gap : ℕ → Piece
 gap n = record { kind = None; size = n }
 
 abbrev pub token : TokenKind → ℕ → Piece
 token kind n = record { kind = Some kind; size = n }
 
--- Behind a quote: up to 128 bytes that may stand in a string, and a quote. Else the quote alone is a faulty token.
+-- After a quote: up to 128 bytes of a string, and a quote. Else the quote alone is a faulty token.
 abbrev pub string_piece : List ℕ → Piece
 string_piece bytes =
     let n = prefix_len is_string_byte bytes in
@@ -24,7 +24,7 @@ string_piece bytes =
       quoted None = false
       quoted (Some b) = b == 34
 
--- Behind a backslash: with a line feed it is a blank, else it is a faulty token.
+-- After a backslash: with a line feed it is a blank, else it is a faulty token.
 abbrev pub joined_lines : List ℕ → Piece
 joined_lines [] = token Faulty 1
 joined_lines (b ∷ bytes) = if is_line_feed b then gap 2 else token Faulty 1
@@ -45,16 +45,17 @@ abbrev pub first_piece : List ℕ → Piece
 first_piece [] = gap 0
 first_piece (b ∷ bytes) = piece b bytes
 
--- line feeds stand in gaps and breaks alone
+-- only gaps and breaks hold line feeds
 abbrev pub holds_feeds : Option TokenKind → Bool
 holds_feeds None = true
 holds_feeds (Some kind) = is_break kind
 
--- the line of what stands behind a byte
+-- the line of the byte after this one
 abbrev pub next_line : ℕ → ℕ → ℕ
 next_line b line = if is_line_feed b then line + 1 else line
 
--- The tokens of these bytes, the first of which stands in this line and at this place. Of what was begun before them, so many bytes are left.
+-- The tokens of these bytes, the first of which is in this line and at this place. So many of the bytes
+-- still belong to a piece that began before them.
 abbrev pub tokens_from : ℕ → ℕ → ℕ → List ℕ → List Spelling
 tokens_from inside line place [] = record { kind = End; line = line; from = place; bytes = [] } ∷ []
 tokens_from (suc inside) line place (b ∷ bytes) = tokens_from inside (next_line b line) (place + 1) bytes

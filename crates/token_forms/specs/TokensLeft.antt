@@ -3,7 +3,7 @@ use Rattle.std.specs.Prelude.{ℕ, List, [], Bool, true, false}
 use Rattle.token_forms.specs.Token.{Spelling}
 use Rattle.token_forms.specs.Tokens.{tokens_from}
 
--- nothing behind the end
+-- nothing after the end
 abbrev pub tokens_left : Bool → ℕ → ℕ → List ℕ → List Spelling
 tokens_left true line place bytes = []
 tokens_left false line place bytes = tokens_from 0 line place bytes

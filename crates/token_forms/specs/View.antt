@@ -1,4 +1,4 @@
--- Tokens of the code as the definitions see them: without where their bytes lie in memory.
+-- Tokens of the code as the definitions see them: without the addresses of their bytes.
 use Rattle.std.specs.Prelude.{◌≡◌, List, [], ◌∷◌, Option, Some, None}
 use Rattle.token_forms.specs.declared.lexer.Spelled.{Spelled}
 use Rattle.token_forms.specs.declared.seen.Seen.{Seen}
@@ -10,7 +10,7 @@ spelling_of t = record { kind = t.kind; line = t.line; from = t.from; bytes = t.
 abbrev pub lexeme_of : Seen → Lexeme
 lexeme_of t = record { kind = t.kind; line = t.line; from = t.from; bytes = t.bytes.now; behind = t.behind; plain = t.plain }
 
--- a token that was read ahead, and those behind it
+-- a token that was read ahead, and those after it
 abbrev pub with_head : Option Spelled → List Spelling → List Spelling
 with_head None ts = ts
 with_head (Some t) ts = spelling_of t ∷ ts

@@ -1,4 +1,4 @@
--- Forms of one token, and of tokens that are passed over.
+-- Forms of one token, and of tokens that are skipped.
 use Rattle.std.specs.Prelude.{◌≡◌, ℕ, List, [], ◌∷◌, length, take, drop, ◌-◌, Bool, true, false, ◌&&◌, ◌||◌, nat_le, Option, Some, None, bytes_eq, ◌==◌, cond}
 use Rattle.token_forms.specs.declared.token.TokenKind.TheVariants as kinds
 use Rattle.token_forms.specs.declared.token.Reason.{Reason}
@@ -9,14 +9,14 @@ abbrev pub if_true : Bool → Option (Unit {0})
 if_true true = Some tt
 if_true false = None
 
--- a word that stands for a value by its line and its bytes
+-- a word that means a value by its line and its bytes
 abbrev pub word_value : {A : Type 0} → (Lexeme → Option A) → Lexeme → Option A
 word_value value t = elim (is_word t.kind) [ true ↦ value t | false ↦ None ]
 
 abbrev pub word_by : {A : Type 0} → List Reason → (Lexeme → Option A) → Form A
 word_by sorts value = one sorts (λ t a. word_value value t ≡ Some a)
 
--- a word whose text stands for a value by a relation
+-- a word whose text means a value by a relation
 abbrev pub word_is : {A : Type 0} → List Reason → (List ℕ → A → Type 0) → Form A
 word_is sorts Is = one sorts (λ t a. (t.kind ≡ kinds.Word) × Is t.bytes a)
 

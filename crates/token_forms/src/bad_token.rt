@@ -9,12 +9,13 @@ use crate::reader::Reader;
 use crate::seen::Seen;
 use crate::token::Reason;
 
-/// The token by which a text is refused: the first that doesn't fit.
+/// The token for which a text is refused: the first that doesn't fit.
 #[derive(Clone, Copy, Debug, PartialEq, Eq)]
 pub struct BadToken {
-    /// The place of its first byte in the text, from 0; the length of the text where the text ends too early.
+    /// The place of its first byte in the text, from 0. It is the length of the text if the text ends
+    /// too early.
     pub at: u64,
-    /// How many bytes it has; none where the text ends too early.
+    /// How many bytes it has; 0 if the text ends too early.
     pub length: u64,
     /// 1 plus the number of line feeds before its first byte.
     pub line: u64,
@@ -24,7 +25,7 @@ pub struct BadToken {
     pub reason: Reason,
 }
 
-/// The bytes of a text before a place: all of them, where the place lies behind its end.
+/// The bytes of a text before a place, or all of them if the place is past the end.
 fn bytes_before(text: &[u8], at: u64) -> &[u8]
     ensures { result.now ≡ take at text.now }
 {
@@ -32,7 +33,7 @@ fn bytes_before(text: &[u8], at: u64) -> &[u8]
     &text[..length]
 }
 
-/// How many bytes stand behind the last line feed, or all where there is none.
+/// How many bytes follow the last line feed, or all if there is none.
 fn last_line(text: &[u8]) -> usize
     ensures run { result ≡ prefix_len (λ b. not (is_line_feed b)) (reverse text.now) }
     ensures within { result ≤ length text.now }
@@ -40,7 +41,7 @@ fn last_line(text: &[u8]) -> usize
     text.iter().rev().take_while(|b| **b != b'\n').count()
 }
 
-/// What is left of a reader behind as many tokens as another one has.
+/// What is left of the reader `ahead` after it took as many tokens as `left` has.
 fn skipped<'a>(ahead: Reader<'a>, left: Reader) -> Reader<'a>
     requires { length left ≤ length ahead }
     ensures { length result + length left.entry ≡ length ahead.entry }
@@ -53,7 +54,7 @@ fn skipped<'a>(ahead: Reader<'a>, left: Reader) -> Reader<'a>
     ahead
 }
 
-/// The last of the first tokens of a text, where these are as many as a reader has.
+/// The n-th token of a text; n is how many tokens `ahead` has left. `None` if n is 0.
 fn last_of<'a>(text: &'a [u8], plain: bool, ahead: Reader) -> Option<Seen<'a>>
     requires { length ahead ≤ length (tokens_by plain text.now) }
     ensures { (before : List Lexeme) (t : Lexeme) (rest : List Lexeme) → tokens_by plain text.now ≡ before ++ t ∷ rest → length ahead.entry ≡ length before + 1 → IsLexemeSeen t result }
@@ -67,7 +68,7 @@ fn last_of<'a>(text: &'a [u8], plain: bool, ahead: Reader) -> Option<Seen<'a>>
     last
 }
 
-/// The token of a text behind which these are left.
+/// The token of a text after which these tokens are left.
 fn token_before<'a>(text: &'a [u8], plain: bool, left: Reader) -> Option<Seen<'a>>
     requires { length left ≤ length (tokens_by plain text.now) }
     ensures { (before : List Lexeme) (t : Lexeme) → tokens_by plain text.now ≡ before ++ t ∷ left.entry → IsLexemeSeen t result }
@@ -89,7 +90,8 @@ fn placed_token(text: &[u8], plain: bool, left: Reader, reason: Reason) -> Optio
     })
 }
 
-/// The bad token of a text in nft's language that is refused for this reason, behind which these tokens are left.
+/// The bad token of a refused text in nft's language. The reader has these tokens left after the bad
+/// one, and reported this reason.
 pub fn bad_token_before(text: &[u8], left: Reader, reason: Reason) -> Option<BadToken>
     requires { length left ≤ length (text_tokens text.now) }
     ensures { (before : List Lexeme) (t : Lexeme) → text_tokens text.now ≡ before ++ t ∷ left.entry → result ≡ Some (bad_token_of text.now t reason) }
@@ -97,7 +99,7 @@ pub fn bad_token_before(text: &[u8], left: Reader, reason: Reason) -> Option<Bad
     placed_token(text, false, left, reason)
 }
 
-/// The same of a text that leaves out no part of nft's language.
+/// The bad token of a refused plain text: one in a language that leaves out no part of nft's.
 pub fn plain_bad_token_before(text: &[u8], left: Reader, reason: Reason) -> Option<BadToken>
     requires { length left ≤ length (plain_tokens text.now) }
     ensures { (before : List Lexeme) (t : Lexeme) → plain_tokens text.now ≡ before ++ t ∷ left.entry → result ≡ Some (bad_token_of text.now t reason) }

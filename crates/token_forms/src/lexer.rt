@@ -19,7 +19,7 @@ pub struct Spelled<'a> {
     pub bytes: &'a [u8],
 }
 
-/// The tokens that are left of a text, one after another.
+/// The tokens of a text that are left.
 #[derive(Drop)]
 pub struct Lexer<'a> {
     rest: &'a [u8],
@@ -91,7 +91,7 @@ impl<'a> Lexer<'a> {
     }
 }
 
-/// How many line feeds stand in what a text begins with. Of the tokens breaks alone hold one.
+/// How many line feeds a piece holds. The only tokens that hold one are breaks.
 #[tactic(auto, using(crate::proofs::FeedLaws::no_feeds))]
 fn line_feeds(piece: Piece, text: &[u8]) -> u64
     requires first { piece ≡ first_piece text.now }

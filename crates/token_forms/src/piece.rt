@@ -5,10 +5,10 @@ ghost use Rattle.token_forms.specs.Tokens.{string_piece, joined_lines, piece, fi
 
 use crate::token::TokenKind;
 
-/// What a text begins with: a token, or a gap, which is a blank or a comment; and how many bytes it has.
+/// How a text begins: with a token, or with a gap, which is a blank or a comment.
 #[derive(Clone, Copy, Debug, PartialEq, Eq)]
 pub struct Piece {
-    /// What token it is; `None` where it is a gap.
+    /// The kind of the token; `None` for a gap.
     pub kind: Option<TokenKind>,
     /// How many bytes it has.
     pub size: usize,
@@ -126,7 +126,7 @@ fn piece_behind(b: u8, bytes: &[u8]) -> Piece
     }
 }
 
-/// What a text that isn't empty begins with.
+/// How a text begins that isn't empty.
 pub fn piece_at(text: &[u8]) -> Piece
     requires some { 0 < length text.now }
     requires fits { length text.now < 2 ^ 63 }

@@ -11,10 +11,12 @@ use crate::seen::Seen;
 use crate::token::TokenKind;
 use std::marker::Model;
 
-/// Reads a text token by token, and takes no memory. Contracts see it as the list of the tokens that are left.
+/// Reads a text token by token, and takes no memory. Contracts see it as the list of the tokens that
+/// are left.
 ///
-/// Each of its methods that reads a part of a form takes tokens as far as they fit, and answers the error of the first
-/// one that doesn't. What is left after an error is open.
+/// Its methods that read a part of a form take tokens as long as they fit. They return the error of the
+/// first token that doesn't fit. No contract says what is left after an error, unless a clause of the
+/// method does.
 #[derive(Drop)]
 pub struct Reader<'a> {
     head: Option<Spelled<'a>>,
@@ -51,21 +53,23 @@ impl<'a> Reader<'a> {
     ghost use Rattle.token_forms.specs.Reading.{Read, nowhere_read, begins_with};
     ghost use Rattle.token_forms.specs.WordReading as reading;
 
-    /// At the first token of a text in nft's language.
+    /// A reader at the first token of a text in nft's language.
     pub fn new(text: &'a [u8]) -> Self
         ensures { result ≡ text_tokens text.now }
     {
         Reader::at_first(text, false)
     }
 
-    /// At the first token of a text that leaves out no part of nft's language: no word in it is told apart for that.
+    /// A reader at the first token of a plain text, whose language leaves out no part of nft's. No word
+    /// in it is special for that.
     pub fn plain(text: &'a [u8]) -> Self
         ensures { result ≡ plain_tokens text.now }
     {
         Reader::at_first(text, true)
     }
 
-    /// At the first token of a text, which is plain or in nft's language.
+    /// A reader at the first token of a text. `plain` says whether the text is plain or in nft's
+    /// language.
     pub fn at_first(text: &'a [u8], plain: bool) -> Self
         ensures { result ≡ tokens_by plain text.now }
     {
@@ -79,7 +83,7 @@ impl<'a> Reader<'a> {
         }
     }
 
-    /// The next token, which stays; `None` behind the end.
+    /// The next token, which stays; `None` after the end.
     pub fn peek(&self) -> Option<Seen<'a>>
         ensures { IsFirst result self.now }
     {
@@ -96,7 +100,7 @@ impl<'a> Reader<'a> {
         }
     }
 
-    /// Takes the next token; `None` behind the end.
+    /// Takes the next token; `None` after the end.
     pub fn take(&mut self) -> Option<Seen<'a>>
         ensures none { IsNone result → (self.old ≡ []) × (self.new ≡ []) }
         ensures some { IfSome result (λ t. self.old ≡ lexeme_of t ∷ self.new) }
@@ -120,10 +124,10 @@ impl<'a> Reader<'a> {
         }
     }
 
-    /// Takes the next token, where a form asks for one.
+    /// Takes the next token, which a form asks for.
     ///
     /// # Errors
-    /// The error of a text that is too short, behind the end.
+    /// After the end, the error of a text that is too short.
     pub fn next(&mut self) -> Result<Seen<'a>, ReadError>
         ensures some { IfOk result (λ t. self.old ≡ lexeme_of t ∷ self.new) }
         ensures none { IfErr result (λ e. e ≡ Bad 0 Statement) }
@@ -135,7 +139,8 @@ impl<'a> Reader<'a> {
         }
     }
 
-    /// Takes the next token where none fits, and gives the error of it, or of a text that is too short.
+    /// Takes the next token, which doesn't fit, and returns its error. After the end it returns the
+    /// error of a text that is too short.
     #[tactic(auto, unfolding(crate::specs::Gives::Refuses))]
     pub fn refuse(&mut self) -> ReadError
         ensures refuses { Refuses result self.new (nowhere_read {A = Unit {0}} self.old) }

@@ -21,10 +21,11 @@ pub struct Seen<'a> {
     pub from: u64,
     /// Its bytes.
     pub bytes: &'a [u8],
-    /// Whether the token before it is the word `delete`, `destroy` or `create`, behind which the words `set` and
-    /// `table` belong to a part of nft's language that is left out.
+    /// Whether the token before it is the word `delete`, `destroy` or `create`. After these words,
+    /// `set` and `table` belong to a part of nft's language that is left out.
     pub behind: bool,
-    /// Whether its text leaves out no part of nft's language, so that no word in it is told apart for that.
+    /// Whether its text is plain: its language leaves out no part of nft's, so no word in it is special
+    /// for that.
     pub plain: bool,
 }
 
@@ -43,7 +44,7 @@ impl<'a> Seen<'a> {
         matches!(self.kind, TokenKind::Break)
     }
 
-    /// Whether it is this mark.
+    /// Whether it is the mark of this byte.
     pub fn is_mark(&self, byte: u8) -> bool
         ensures { result ≡ is_the_mark byte (lexeme_of self.now) }
     {
@@ -57,21 +58,23 @@ impl<'a> Seen<'a> {
         self.is_break() || self.is_mark(b';')
     }
 
-    /// Whether it starts a line of a text with separators: a separator, or a word where a statement may come next.
+    /// Whether it starts a line of a text with separators. That is a separator, or a word if a
+    /// statement may come next.
     pub fn starts_statement_line(&self, next: bool) -> bool
         ensures { result ≡ is_line_start separates any_word next (lexeme_of self.now) }
     {
         self.is_separator() || (next && self.is_word())
     }
 
-    /// Whether it starts a line of a text with line breaks alone: a break, or a word where a line may come next.
+    /// Whether it starts a line of a text with line breaks alone. That is a break, or a word if a line
+    /// may come next.
     pub fn starts_line_or_break(&self, next: bool) -> bool
         ensures { result ≡ is_line_start breaks_off any_word next (lexeme_of self.now) }
     {
         self.is_break() || (next && self.is_word())
     }
 
-    /// The error where this token doesn't fit. Its place asks for words of these sorts.
+    /// The error of this token, which doesn't fit. Its place asks for words of these sorts.
     pub fn refused(&self, sorts: &[Reason]) -> ReadError
         ensures { result ≡ Bad self.now.line (reason_of (lexeme_of self.now) sorts.now) }
     {

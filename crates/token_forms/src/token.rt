@@ -15,7 +15,7 @@ pub enum TokenKind {
     End,
 }
 
-/// A token of a text: its bytes stand from place `from` up to place `to`, which isn't included.
+/// A token of a text: its bytes are those from place `from` up to place `to`, which isn't included.
 #[derive(Clone, Copy, Debug, PartialEq, Eq)]
 pub struct Token {
     /// What it is.
@@ -24,31 +24,31 @@ pub struct Token {
     pub line: u64,
     /// The place of its first byte in the text.
     pub from: u64,
-    /// The place behind its last byte.
+    /// The place after its last byte.
     pub to: u64,
 }
 
-/// Why a token doesn't fit at its place. Where several reasons apply, the first of them counts.
+/// Why a token doesn't fit at its place. The first reason that applies counts.
 #[derive(Clone, Copy, Debug, PartialEq, Eq)]
 pub enum Reason {
-    /// It is a faulty token.
+    /// The token is faulty.
     Character,
-    /// It is the end of the text.
+    /// The token is the end of the text.
     End,
-    /// It belongs to a part of nft's language that is left out.
+    /// The token belongs to a part of nft's language that is left out.
     LeftOut,
-    /// It stands where a kind may stand.
+    /// The place asks for a kind.
     TypeWord,
-    /// It stands where a value or an interval may stand.
+    /// The place asks for a value or an interval.
     Value,
-    /// It stands where a time may stand.
+    /// The place asks for a time.
     Time,
-    /// It stands where a moment may stand.
+    /// The place asks for a moment.
     Moment,
-    /// It stands where the name of a set may stand.
+    /// The place asks for the name of a set.
     Set,
-    /// It stands where a size may stand.
+    /// The place asks for a size.
     Number,
-    /// It fits nothing.
+    /// No other reason applies.
     Statement,
 }

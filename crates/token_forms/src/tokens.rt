@@ -2,8 +2,8 @@ use crate::lexer::Lexer;
 use crate::token::Token;
 use std::marker::Model;
 
-/// The tokens of a text with their lines and places, one after another: every line break is one, and the end of the
-/// text is the last one. It takes no memory.
+/// The tokens of a text with their lines and places, one after another. Every line break is a token,
+/// and the end of the text is the last one. It takes no memory.
 #[derive(Drop)]
 pub struct Tokens<'a> {
     lexer: Lexer<'a>,

@@ -27,8 +27,8 @@ pub(crate) fn is_same(row: &BitRow, other: &BitRow) -> bool
     is_same_words(row.words(), other.words())
 }
 
-/// Whether the words of two rows of one length have the same places set. There may be more of one
-/// row's, since its room is larger: past its end they are 0.
+/// Whether the words of two rows of one length have the same places set. One row may have more words,
+/// since its room is larger. The words past its end are 0.
 fn is_same_words(words: &[u64], others: &[u64]) -> bool
     ensures { (bits other_bits : List Bool) → IsSpelling words.now bits → IsSpelling others.now other_bits → length bits ≡ length other_bits
         → result ≡ same_bitmap bits other_bits }
@@ -36,7 +36,7 @@ fn is_same_words(words: &[u64], others: &[u64]) -> bool
     is_same_so_far(words, others)
 }
 
-/// Whether two lists of words are the same as far as both go.
+/// Whether two lists of words are the same as far as both have words.
 fn is_same_so_far(words: &[u64], others: &[u64]) -> bool
     ensures { result ≡ list_all (λ p. p.0 == p.1) (zip words.now others.now) }
 {
@@ -46,7 +46,7 @@ fn is_same_so_far(words: &[u64], others: &[u64]) -> bool
         .all(|(word, other)| *word == *other)
 }
 
-/// The eight places from place `8 * j` on, the first in the lowest bit.
+/// The eight places from place `8 * j` on. The first is the lowest bit.
 fn byte_at(row: &BitRow, j: u32) -> u8
     ensures { result ≡ byte_of row.now.bits j }
 {

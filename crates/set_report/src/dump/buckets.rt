@@ -43,7 +43,7 @@ fn write_run(g: u32, from: u64, to: u64, row: &BitRow, out: &mut Vec<u8>) -> Res
     write_bitmap_to_end(row, out)
 }
 
-/// Appends the line of a run where its bitmap isn't all zeros.
+/// Appends the line of a run if its bitmap isn't all zeros.
 fn write_run_if_any_set(
     g: u32,
     from: u64,
@@ -69,8 +69,8 @@ fn row_at(rows: &[BitRow], i: u64) -> &BitRow
     &rows[i as usize]
 }
 
-/// How many of the buckets from place `from` up to `to` have the bitmap of the first one, before the
-/// first one that doesn't.
+/// How many of the buckets from place `from` up to `to` have the bitmap of the first one, until one
+/// doesn't.
 fn run_len(rows: &[BitRow], from: u64, to: u64) -> u64
     requires some { from < to }
     requires within { to ≤ length rows.now }
@@ -107,7 +107,7 @@ fn write_runs(rows: &[BitRow], g: u32, out: &mut Vec<u8>) -> Result<(), Memory>
     Ok(())
 }
 
-/// So many rows: those of the buckets from place `first` on.
+/// The rows of `count` buckets from place `first` on.
 fn rows_from(alloc: Global, buckets: &Lines, first: u64, count: u64) -> Result<Vec<BitRow>, Memory>
     requires within { first + count ≤ length buckets.now.rows }
     requires few { first + count < 2 ^ 64 }
@@ -120,7 +120,7 @@ fn rows_from(alloc: Global, buckets: &Lines, first: u64, count: u64) -> Result<V
     Ok(rows)
 }
 
-/// Appends the lines of the `count` buckets of group `g`, the first of which stands at place `first`.
+/// Appends the lines of the `count` buckets of group `g`, which begin at place `first`.
 fn write_lines(
     buckets: &Lines,
     g: u32,

@@ -27,7 +27,7 @@ returns c =
       memory = IfErr-weaker c.try_get_matches_from.result _ _ (λ e h word names threads goes said plain. h (ap (λ (a : App). takes a words) whole ∙ takes-words words word names threads goes said plain)) c.try_get_matches_from.ensures.passes;
     }
 
--- where no memory is left for the fourth argument
+-- if no memory is left for the fourth argument
 pub returns-in_err-arg-4-clause-memory : goal.returns-in_err-arg-4-clause-memory
 returns-in_err-arg-4-clause-memory c =
     let k = err_from_is_err_and c.from_residual-in_err-arg-4.result c.from_residual-in_err-arg-4.ensures.1 in

@@ -4,7 +4,7 @@ use Rattle.log_turns.specs.LogRule.{HasTurns, IsSized, kept_of}
 use Rattle.control_desk.specs.Work.{kept_by}
 use Rattle.control_desk.proofs.run.gather.Given as goal
 
--- the seat has taken in those so far
+-- the seat has taken over the seats so far
 abbrev pub invariant-loop-clerk : goal.invariant-loop-clerk
 invariant-loop-clerk l = record {
   table : l.place.table_id ≡ (arc_value l.board).shared.table_id;
