@@ -80,7 +80,7 @@ impl Lines {
         word_of(self.pages.as_slice(), j as usize, i as usize)
     }
 
-    /// Leaves a place of the row set only if it is also set in row `j`.
+    /// Clears each place of the row that is not set in row `j`.
     pub(crate) fn and_into(&self, j: u64, row: &mut BitRow)
         requires row { j < length self.now.rows }
         requires length { length row.old.bits ≡ length (bucket_at self.now.rows j).bits }

@@ -292,7 +292,7 @@ impl FieldTable {
         );
     }
 
-    /// Leaves bit `r` of the row set only if rule `r`'s block holds the value.
+    /// Clears bit `r` of the row unless rule `r`'s block holds the value.
     pub fn match_into(&self, value: u128, row: &mut BitRow)
         requires length { length row.old.bits ≡ self.now.rules }
         requires value { value < 2 ^ self.now.bits }
@@ -368,7 +368,7 @@ impl FieldTable {
         left
     }
 
-    /// Leaves bit `r` of the row set only if rule `r`'s block and this block share a value.
+    /// Clears bit `r` of the row unless rule `r`'s block and this block share a value.
     ///
     /// `rest` must have room for the rules. It is overwritten, and has one place per rule
     /// afterwards.
@@ -389,7 +389,7 @@ impl FieldTable {
         }
     }
 
-    /// Leaves bit `r` of the row set only if some value of group `g` agrees with both rule `r`'s
+    /// Clears bit `r` of the row unless some value of group `g` agrees with both rule `r`'s
     /// block and this block.
     fn share_group(&self, block: Block, g: u32, row: &mut BitRow, rest: &mut BitRow)
         requires group { g < self.now.bits / self.now.width }
