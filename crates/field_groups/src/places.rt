@@ -2,9 +2,9 @@ ghost use Rattle.std.specs.Prelude.{◌≡◌, ◌-◌, ◌/◌, ◌<◌, ◌≤
 ghost use Rattle.field_groups.specs.Groups.{IsWidth};
 ghost use Rattle.field_groups.specs.LastFour.{IsGroupPlace, AreLastFour};
 
-/// The places of the last four groups of a value in a list with an item for each value of each
-/// group, and the number of groups before them. If a field has fewer groups, its first group is
-/// there more than once.
+/// The places of the last four groups of a value, and the number of groups before them. The list
+/// has an item for each value of each group. If a field has fewer groups, its first group is there
+/// more than once.
 #[derive(Clone, Copy)]
 pub struct LastFour {
     /// The place of the fourth group from the end.

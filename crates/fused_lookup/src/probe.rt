@@ -4,9 +4,9 @@ ghost use Rattle.fused_lookup.specs.Probe.{IsProbe};
 use field_groups::{LastFour, last_four};
 use lookup_table::FieldTable;
 
-/// A value that is looked up in a field's table, with what is found once for all pages. These are
-/// the places of the buckets of its last four groups in a page of rules, and of the lines of its
-/// last four bytes in a page of marks.
+/// A value that is looked up in a field's table, with what is found once for all pages. It has the
+/// places of the buckets of the last four groups in a page of rules. It also has the places of the
+/// lines of the last four bytes in a page of marks.
 #[derive(Clone, Copy)]
 pub(crate) struct Probe {
     pub(crate) value: u128,
