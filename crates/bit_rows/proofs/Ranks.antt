@@ -91,7 +91,7 @@ rank-at words len i word l within is =
     let same : get_or words (i / 64) 0 ≡ word = get_or_from_slice_get words (i / 64) word 0 (slice_get-get_or words (i / 64) word within ∙ ap Some (sym is)) in
     sym (ap (rank (first_bits words len)) parts) ∙ rank-in words len (i / 64) (i % 64) (omega arith) (omega (arith, l)) ∙ ap (λ z. rank (first_bits words len) (64 * (i / 64)) + low_ones z (i % 64)) same
 
----- a list that grows
+-- ---- a list that grows
 -- An item of a list with one more item at its end was in the list before, or is the new one.
 pub pushed : {X : Type 0} (xs : List X) (y : X) (i : ℕ) (x : X) → slice_get (xs ++ y ∷ []) i ≡ Some x → (slice_get xs i ≡ Some x) ⊎ ((i ≡ length xs) × (x ≡ y))
 pushed xs y i x h = go (cases_lt i (length xs)) where

@@ -9,7 +9,7 @@ use Rattle.bit_rows.specs.Words.{bit_in, first_bits, IsRow, IsClearFrom, IsNextP
 use Rattle.bit_rows.proofs.Tests.{and-false, and-true, or-false, or-true, lies-in, lies-below, lies-above, by-run}
 use Rattle.bit_rows.proofs.Bits.{place-is, place-past, bits-same, bits-read, bits-at, length-bits}
 
----- the row of a list of words
+-- ---- the row of a list of words
 
 -- words of the same number, whose places from len on are clear
 pub row-kept : (old new : List ℕ) (before len : ℕ) → IsRow old before → length new ≡ length old → len ≤ 64 * length old → IsClearFrom new len → IsRow new len

@@ -32,7 +32,7 @@ module _ {X : Type 0} (xs : List X) (i : ℕ) (y : X) where
 pub found_there : {X : Type 0} (xs ys : List X) (i : ℕ) (x : X) → xs ≡ ys → true ≡ nat_lt i (length xs) → x ≡ get_or xs i x → slice_get ys i ≡ Some x
 found_there xs ys i x same within is = ap (λ z. slice_get z i) (sym same) ∙ slice_get-get_or xs i x (ltb-true i (length xs) (sym within)) ∙ ap Some (sym is)
 
----- one element
+-- ---- one element
 -- No element is expired before its end.
 lives-before : (now : ℕ) (expiry : Option ℕ) → now < unwrap_or expiry (2 ^ 64 - 1) → lives expiry now ≡ true
 lives-before now None h = refl
@@ -110,7 +110,7 @@ ends_met p e a b old new la ls h = (λ now l. h.0 now (omega arith), λ now l. h
 pub ends_of : (p : Option ℕ) (e : Element) (ends : PageEnds) → ends.all ≤ unwrap_or e.expiry (2 ^ 64 - 1) → ends.staying ≤ end_of p e → AreEndsOf p e ends
 ends_of p e ends la ls = (λ now l. not_expired now e (omega arith), λ now l. not_leaving p now e (omega arith))
 
----- pages
+-- ---- pages
 -- Ends by a moment are ends by each later one. If nobody left between the two moments, the marks
 -- stay right, too.
 pub ends_by : (p q : Option ℕ) (elements : List Element) (pages : List PageEnds) → is_by p q ≡ true → AreEnds p elements pages → AreEnds q elements pages

@@ -18,7 +18,7 @@
 -- - The moves: the additions that the views have counted are those that the words got.
 --
 -- A reader's stage is 0 before it is made, 1 outside, and s + 2 while it holds the slot s. A slot's
--- standing is 0 if it is free, 1 if it is retired and 2 if it is published.
+-- number in `standing` is 0 if it is free, 1 if it is retired and 2 if it is published.
 use Rattle.std.specs.Prelude.{◌≡◌, ◌≢◌, ◌==◌, ◌&&◌, ℕ, zero, suc, ◌+◌, ◌*◌, ◌%◌, ◌<◌, ◌≤◌, Bool, true, false, nat_lt, List, [], ◌∷◌, length, replicate, slice_index, sum_by, Contains, Option, Some, None}
 use mathlib.Core.Option.{some}
 use mathlib.Core.Option as maybe

@@ -16,7 +16,7 @@ use Rattle.lookup_table.specs.Rows.{Each, IsRaised, IsMarked, IsGrown}
 use Rattle.lookup_table.specs.Lines.{words_at, AreOwned, line_bit, row_in, rows_of, IsPageOf, AreLines, HasLine, AreMarked, IsMore, IsPage, IsWithinRoom, OwnsPlaces, OwnsNoPage}
 use Rattle.lookup_table.proofs.RowsLaws.{cell-is, All-bucket, bucket-All}
 
----- rows
+-- ---- rows
 
 pub rows-length : (pages : List (PageOf ℕ)) (len count : ℕ) → length (rows_of pages len count) ≡ count
 unfolding rows_of
@@ -54,7 +54,7 @@ pub bit-read : (pages : List (PageOf ℕ)) (j r : ℕ) → line_bit pages j r �
 unfolding line_bit
 bit-read pages j r = refl
 
----- a word
+-- ---- a word
 
 pub word-read : (pages : List (PageOf ℕ)) (j i k : ℕ) → k < 64 → line_bit pages j (64 * i + k) ≡ bit (slice_index (words_at pages (i / 8)) (j * 8 + i % 8)) k
 word-read pages j i k h =
@@ -122,7 +122,7 @@ page-cells pages len count p page words are within e f = record {
       ∙ sym (word-read pages j (8 * p + w) k low) ∙ sym (cell-line pages len count j (64 * (8 * p + w) + k) are line) ∙ ap (cell (rows_of pages len count) j) c;
 }
 
----- one bit
+-- ---- one bit
 
 one-bit : (k m : ℕ) → m < 64 → bit (1 * 2 ^ k % 2 ^ 64) m ≡ (m == k)
 one-bit k m h = bit-shl 1 k m h ∙ go (cases_eq m k) where
@@ -183,7 +183,7 @@ lines-more from j w k old now new low first next = record {
       ∙ ap (λ z. bit (slice_index old x) m || ((z && x % 8 == w) && m == k)) (lies-join false from j (j + 1) (x / 8) low (omega arith));
 }
 
----- room
+-- ---- room
 
 pub raise-room : (pages : List (PageOf ℕ)) (len count n : ℕ) → 1 ≤ count → All (λ row. n ≤ row.spare) (rows_of pages len count) → n ≤ 512 * length pages - len
 raise-room pages len count n some all =
@@ -214,7 +214,7 @@ raised pages len count n are room = record {
     spare = let w = are.within in omega (arith, line-spare pages len j, line-spare pages (len + n) j);
   })
 
----- marks
+-- ---- marks
 
 same-bit : (i r : ℕ) → i / 512 ≡ r / 512 → (i % 512 / 64 == r % 512 / 64 && i % 64 == r % 64) ≡ (i == r)
 same-bit i r page = go (cases_eq i r) (cases_eq (i % 512 / 64) (r % 512 / 64)) (cases_eq (i % 64) (r % 64)) where
@@ -309,7 +309,7 @@ place-within pages len count r some all =
     let h : r < length (bucket_at (rows_of pages len count) 0).bits = All-bucket (λ (x : Row). r < length x.bits) (rows_of pages len count) 0 all (omega (arith, rows-length pages len count)) in
     omega (arith, h, ap (λ (x : Row). length x.bits) (row-at pages len count 0 (omega arith)), line-length pages len 0)
 
----- more pages
+-- ---- more pages
 
 pub more-none : (count : ℕ) (pages : List (PageOf ℕ)) → IsMore count pages pages
 more-none count pages = record { words = λ p x. refl; long = omega arith; each = λ each. each }
@@ -376,7 +376,7 @@ lines-new count (p ∷ ps) e h = cc
 pub first-length : (pages : List (PageOf ℕ)) (len count : ℕ) → 1 ≤ count → length (bucket_at (rows_of pages len count) 0).bits ≡ len
 first-length pages len count some = ap (λ (x : Row). length x.bits) (row-at pages len count 0 (omega arith)) ∙ line-length pages len 0
 
----- pages of the same sizes
+-- ---- pages of the same sizes
 
 pub rows-equal : (a b : List Row) → length a ≡ length b → ((j : ℕ) → j < length a → bucket_at a j ≡ bucket_at b j) → a ≡ b
 rows-equal a b long each = ext_get_or (record { bits = []; spare = 0 }) a b long each
@@ -433,7 +433,7 @@ same-rows old new len count same =
     (line-spare new len j ∙ ap (λ n. 512 * n - len) (copied-length new old same) ∙ sym (line-spare old len j))
     ∙ sym (row-at old len count j l))
 
----- whose the pages are
+-- ---- whose the pages are
 
 owns-length : (pages : List (PageOf ℕ)) → length (owns_of pages) ≡ length pages
 owns-length pages = length-map pages (λ (x : PageOf ℕ). x.own)
@@ -466,7 +466,7 @@ owned-push pages from p page long e own = record { own = λ q a b. go q a b (cas
       let at : length pages ≡ q = omega arith in
       read q (omega (arith, length-append pages (page ∷ []))) ∙ ap (λ (m : PageOf ℕ). m.own) (get_or_push pages page page q at) ∙ e
 
----- room
+-- ---- room
 
 pub rows-rooms : (pages : List (PageOf ℕ)) (len count n : ℕ) → len ≤ 512 * length pages → n ≡ 512 * length pages → All (λ row. n ≡ length row.bits + row.spare) (rows_of pages len count)
 rows-rooms pages len count n within e = bucket-All (λ (x : Row). n ≡ length x.bits + x.spare) (rows_of pages len count) (λ j h. go j (omega (arith, rows-length pages len count))) where
@@ -489,7 +489,7 @@ room-page pages len count r within room = go (cases_lt 0 count) where
       let l = room.room in
       absurd (omega arith)
 
----- pages without rules
+-- ---- pages without rules
 
 bits-none : (count : ℕ) (pages : List (PageOf ℕ)) → IsMore count [] pages → (j r : ℕ) → line_bit pages j r ≡ false
 bits-none count pages more j r = bit-read pages j r ∙ ap (λ w. bit w (r % 64)) (more.words (r / 512) (j * 8 + r % 512 / 64)) ∙ bit-zero (r % 64)
@@ -505,7 +505,7 @@ rows-zero count len [] pages e more = bucket-All (λ (x : Row). x.bits ≡ repli
       (λ r l. let m : r < len = omega (arith, line-length pages len j) in line-within pages len j r m ∙ bits-none count pages more j r ∙ sym (get_or-replicate len r false false m)))
 rows-zero count len (p ∷ ps) pages e more = cc
 
----- of each row
+-- ---- of each row
 
 pub row-length : (pages : List (PageOf ℕ)) (len count j : ℕ) → j < count → length (bucket_at (rows_of pages len count) j).bits ≡ len
 row-length pages len count j h = ap (λ (x : Row). length x.bits) (row-at pages len count j h) ∙ line-length pages len j

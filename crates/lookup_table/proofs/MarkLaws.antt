@@ -34,7 +34,7 @@ size-lengths P old new same all =
     bucket-All (λ (x : Row). P (length x.bits)) new
     (λ j h. subst P (sym (same.bits j)) (All-bucket (λ (x : Row). P (length x.bits)) old j all (let l = same.long in omega arith)))
 
----- a run of rows
+-- ---- a run of rows
 
 pub marked-none : (from r : ℕ) (old : List Row) → IsMarked from from r old old
 marked-none from r old = record { size = same-size old; cells = λ j i. sym (ap (λ t. cell old j i || (t && i == r)) (none j (cases_lt j from)) ∙ or-false (cell old j i)) } where
@@ -112,7 +112,7 @@ marked-step from w r old rows row d low within all bits spare so_far =
 pub marked-until : (from w to r : ℕ) (old rows : List Row) → w ≡ to → IsMarked from w r old rows → IsMarked from to r old rows
 marked-until from w to r old rows e done = subst (λ n. IsMarked from n r old rows) e done
 
----- the runs of a block, one in each group
+-- ---- the runs of a block, one in each group
 
 shifted : (a b c d : ℕ) → (nat_le (a + b) (a + d) && nat_lt (a + d) (a + b + c)) ≡ (nat_le b d && nat_lt d (b + c))
 shifted a b c d = two (front (cases_lt d b)) (back (cases_lt d (b + c))) where
@@ -197,7 +197,7 @@ block_marked-more width bits n block r first last old rows next e f marked so_fa
   join p g v q (inr a) (inr e) =
       join_away (nat_lt g n) (g == n) (nat_lt g (n + 1)) p (agrees width bits block g v) (agrees width bits block n v) q (le-ltb g n a ∙ sym (le-ltb g (n + 1) (beyond g a e))) (ne_eqb g n e)
 
----- the code's numbers
+-- ---- the code's numbers
 
 -- a place below 2 ^ 64
 place-shl : (width n : ℕ) → width ≤ 8 → n < 2 ^ 32 → n * 2 ^ width % 2 ^ 64 ≡ n * 2 ^ width
@@ -219,7 +219,7 @@ pub run-within : (width bits n : ℕ) (block : Block) (rows : List Row) → leng
 run-within width bits n block rows count h =
     omega (arith, run-fits width bits n block, mul-le-mul_right {m = n + 1} {n = bits / width} (2 ^ width) (omega arith))
 
----- one rule more
+-- ---- one rule more
 
 pub rules-more : (width bits r : ℕ) (block : Block) (old new : List Row) (before : List Block) → IsWithin bits block → IsBlockMarked width bits (bits / width) block r old new → length before ≡ r
     → HasBlockRules width bits old before → HasBlockRules width bits new (before ++ block ∷ [])
@@ -262,7 +262,7 @@ rules-step width bits i d blocks before old rows new h step has =
     append_assoc before (take i blocks) (get_or blocks i d ∷ []) ∙ ap (λ xs. before ++ xs) (sym (take-suc blocks i d h) ∙ ap (λ n. take n blocks) (let f : suc i ≡ i + 1 = omega arith in f)) in
     subst (λ xs. HasBlockRules width bits new xs) e (step has)
 
----- what stays
+-- ---- what stays
 
 pub cells-both : (n : ℕ) (old rows new : List Row) → KeepsCells n old rows → KeepsCells n rows new → KeepsCells n old new
 cells-both n old rows new first second = record { cells = λ j i h. second.cells j i h ∙ first.cells j i h }
@@ -278,7 +278,7 @@ cells-marked from to r n old rows new le kept marked = record {
       ∙ ap (λ t. cell rows j i || t) (and-false (lies from to j)) ∙ or-false (cell rows j i) ∙ kept.cells j i h;
 }
 
----- what is set is no more than the blocks
+-- ---- what is set is no more than the blocks
 
 pub only-none : (width bits first : ℕ) (blocks : List Block) (rows : List Row) → HasNoRulesFrom first rows → HasOnly width bits first 0 blocks rows
 only-none width bits first blocks rows fresh = record {

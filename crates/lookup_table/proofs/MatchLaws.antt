@@ -13,7 +13,7 @@ use Rattle.lookup_table.specs.Table.{bucket_place, cell, block_at, StandsFor}
 use Rattle.lookup_table.specs.Laws.{HeldByBuckets}
 use Rattle.lookup_table.proofs.RowsLaws.{cell-read}
 
----- one rule
+-- ---- one rule
 
 -- the rule is set in the value's bucket of each of the first n groups
 abbrev pub set_in : ℕ → ℕ → List Row → ℕ → ℕ → ℕ → Bool
@@ -29,7 +29,7 @@ set-in-all width bits rules value r buckets blocks w stands small h =
 pub held-by-buckets : HeldByBuckets
 held-by-buckets t blocks value r stands small h = set-in-all t.width t.bits t.rules value r t.buckets.rows blocks t.shaped.groups stands small h
 
----- a row of rules
+-- ---- a row of rules
 
 -- the row after the first n groups
 pub record Matched (width bits value n : ℕ) (buckets : List Row) (old row : Row) : Type 0 where

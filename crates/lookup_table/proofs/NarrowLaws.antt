@@ -26,7 +26,7 @@ narrow-same old rules j a b e narrow = record { long = ap length e ∙ narrow.lo
 pub narrow-shape : (bits rules n : ℕ) (old rows : List Row) → IsShaped 8 bits rules old → Made (IsNarrow old rules) (bits / 4 * 16) rules n rows → IsShaped 4 bits rules rows
 narrow-shape bits rules n old rows shape done = made-shape (IsNarrow old rules) 4 bits rules (bits / 4 * 16) n rows (narrow-groups bits shape.groups) refl done
 
----- sixteen values of a group of eight bits that have one half
+-- ---- sixteen values of a group of eight bits that have one half
 
 -- the values of which v is the upper half
 upper-half : (bits g : ℕ) (block : Block) (v : ℕ) → 8 * (g + 1) ≤ bits → v < 16 → some_from (λ l. agrees 8 bits block g (v * 16 + l)) 0 16 ≡ agrees 4 bits block (2 * g) v
@@ -68,7 +68,7 @@ lower-half bits g block v h small = go (cases_Bool (agrees 4 bits block (2 * g +
       some-false (λ l. agrees 8 bits block g (v + l * 16)) 0 16
       (λ k l. let first : 0 + k ≡ k = omega arith in ap (λ x. agrees 8 bits block g (v + x * 16)) first ∙ halves k l ∙ ap (λ t. agrees 4 bits block (2 * g) k && t) e ∙ and-false (agrees 4 bits block (2 * g) k)) ∙ sym e
 
----- all buckets
+-- ---- all buckets
 
 pub narrow-stands : (bits rules : ℕ) (old rows : List Row) (blocks : List Block) → IsWidth 8 bits → Made (IsNarrow old rules) (bits / 4 * 16) rules (bits / 4 * 16) rows → StandsFor 8 bits rules old blocks → StandsFor 4 bits rules rows blocks
 narrow-stands bits rules old rows blocks w done stands = record { one_each = stands.one_each; within = stands.within; bucket = λ g v r h k l. bucket g v r h k l (cases_eq (g % 2) 0) } where

@@ -37,7 +37,7 @@ All-bucket P rows j all h = All-get_or P rows j (record { bits = []; spare = 0 }
 pub bucket-All : (P : Row → Type 0) (rows : List Row) → ((j : ℕ) → j < length rows → P (bucket_at rows j)) → All P rows
 bucket-All P rows each = All-from_get_or P rows (record { bits = []; spare = 0 }) each
 
----- a loop over the rows
+-- ---- a loop over the rows
 
 -- the rows below i are changed, and the others are as they were
 pub record Changed (R : Row → Row → Type 0) (old : List Row) (i : ℕ) (rows : List Row) : Type 0 where
@@ -45,7 +45,7 @@ pub record Changed (R : Row → Row → Type 0) (old : List Row) (i : ℕ) (rows
   pub done : (j : ℕ) → j < i → R (bucket_at old j) (bucket_at rows j)
   pub rest : (j : ℕ) → i ≤ j → bucket_at rows j ≡ bucket_at old j
 
----- what each change keeps
+-- ---- what each change keeps
 
 pub length-raised : (xs : List Bool) (n : ℕ) → length (xs ++ replicate n false) ≡ length xs + n
 length-raised xs n = omega (arith, length-append xs (replicate n false), length-replicate n false)

@@ -27,12 +27,12 @@ reshaped width bits rules long old new shape same each = record {
   rows = bucket-All (λ (x : Row). length x.bits ≡ long) new (λ j h. each j (omega arith));
 }
 
----- no rules
+-- ---- no rules
 
 pub empty-stands : (bits : ℕ) (buckets : List Row) → StandsFor 8 bits 0 buckets []
 empty-stands bits buckets = record { one_each = refl; within = All-nil (IsWithin bits); bucket = λ g v r h k l. absurd (omega arith) }
 
----- the same bits
+-- ---- the same bits
 
 pub grown-shape : (width bits rules : ℕ) (old new : List Row) → IsShaped width bits rules old → Each IsGrown old new → IsShaped width bits rules new
 grown-shape width bits rules old new shape grown =
@@ -47,7 +47,7 @@ grown-stands width bits rules old new blocks shape grown stands = record {
       ∙ sym (cell-is old (bucket_place width g v) r) ∙ stands.bucket g v r h k l;
 }
 
----- more rules
+-- ---- more rules
 
 pub raised-shape : (width bits rules n : ℕ) (old new : List Row) → IsShaped width bits rules old → Each (IsRaised n) old new → IsShaped width bits (rules + n) new
 raised-shape width bits rules n old new shape raised =
@@ -88,7 +88,7 @@ rules-stand width bits rules buckets blocks count has = record {
   bucket = λ g v r h k l. has.bucket g v r h k (omega arith);
 }
 
----- fewer rules
+-- ---- fewer rules
 
 pub at-without : {A : Type 0} (d : A) (xs : List A) (first n i : ℕ) → first + n ≤ length xs → get_or (take first xs ++ drop (first + n) xs) i d ≡ get_or xs (cond (nat_lt i first) i (i + n)) d
 at-without d xs first n i h = go (cases_lt i first) where

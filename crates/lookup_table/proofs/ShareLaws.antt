@@ -17,7 +17,7 @@ use Rattle.lookup_table.specs.Table.{bucket_place, cell, block_at, StandsFor}
 use Rattle.lookup_table.specs.Rows.{IsJoined}
 use Rattle.lookup_table.proofs.RowsLaws.{cell-read}
 
----- the OR of some buckets
+-- ---- the OR of some buckets
 
 pub joined-none : (buckets : List Row) (start step rules : ℕ) (row : Row) → row.bits ≡ replicate rules false → IsJoined buckets start step 0 rules row
 joined-none buckets start step rules row e = record {
@@ -40,7 +40,7 @@ joined-more buckets start step n rules row next bucket found same made so_far = 
       ∙ ap (λ k. some_from (λ i. cell buckets (start + i * step) r) 0 n || cell buckets (start + k * step) r) first
       ∙ ap (some_from (λ i. cell buckets (start + i * step) r) 0) (sym more)
 
----- one group
+-- ---- one group
 
 -- some bucket of the block's run is set for a rule exactly if some value of the group agrees with
 -- both blocks
@@ -98,7 +98,7 @@ met-some width bits rules g first count block buckets old row rest l e f joined 
       ∙ ap (λ j. some_from (λ i. cell buckets i r) j (agreeing_count width bits g block)) e ∙ run-met width bits rules g r block buckets blocks stands l h);
 }
 
----- all groups
+-- ---- all groups
 
 -- a row after the first n groups
 pub record Shared (width bits rules n : ℕ) (block : Block) (buckets : List Row) (old row : Row) : Type 0 where

@@ -30,7 +30,7 @@ same-lt a b c d there back = go (cases_lt a b) (cases_lt c d) where
   go (inr x) (inl y) = absurd (let z = back y in omega arith)
   go (inr x) (inr y) = le-ltb a b x ∙ sym (le-ltb c d y)
 
----- places
+-- ---- places
 
 eight-or-four : (width bits : ℕ) → IsWidth width bits → (width ≡ 8) ⊎ (width ≡ 4)
 eight-or-four width bits w = go (cases_lt width 8) where
@@ -121,7 +121,7 @@ rule-room width bits rules r buckets shape h = record {
   room = let some = buckets-some width bits buckets shape.groups shape.count in let long = All-bucket (λ (x : Row). length x.bits ≡ rules) buckets 0 shape.rows (omega arith) in omega arith;
 }
 
----- a page
+-- ---- a page
 
 -- The first j lines of a page have the marks of the rules up to rule 512 * (q + 1), and the others are as they were.
 pub record LinesDone (width bits q j : ℕ) (buckets : List Row) (old page : List ℕ) : Type 0 where
@@ -171,7 +171,7 @@ lines-more width bits q j marks buckets words old page new h is upper lower made
 pub lines-all : (width bits q j : ℕ) (buckets : List Row) (old page : List ℕ) → bits / 8 * 256 ≤ j → LinesDone width bits q j buckets old page → HasMarks 64 width bits (512 * (q + 1)) buckets (q / 8) page
 lines-all width bits q j buckets old page le so_far = record { long = so_far.long; marks = λ i r h l e agree. so_far.done i r (omega arith) e l agree }
 
----- pages
+-- ---- pages
 
 pub marks-weaker : (unit width bits n m p : ℕ) (buckets : List Row) (page : List ℕ) → ((r : ℕ) → r < m → r / unit / 64 ≡ p → r < n) → HasMarks unit width bits n buckets p page → HasMarks unit width bits m buckets p page
 marks-weaker unit width bits n m p buckets page within has = record { long = has.long; marks = λ j r h l e agree. has.marks j r h (within r l e) e agree }
@@ -234,7 +234,7 @@ summed-same unit width bits n buckets pages new same summed =
       each = λ p h. subst (HasMarks unit width bits n buckets p) (sym (same-words pages new same p)) (summed.each p (omega arith));
     }
 
----- a table that changes
+-- ---- a table that changes
 
 -- the marks of rules that stay
 pub summed-kept : (unit width bits n m : ℕ) (old new : List Row) (pages : List (PageOf ℕ)) → m ≤ n → KeepsCells m old new → IsSummed unit width bits n old pages → IsSummed unit width bits m new pages
@@ -280,7 +280,7 @@ cells-closed width bits rules first n old new fits shape closed =
     ∙ get_or_append_left (take first (bucket_at old j).bits) (drop (first + n) (bucket_at old j).bits) false i (omega (arith, front))
     ∙ get_or-take first (bucket_at old j).bits i false h)
 
----- what is left out
+-- ---- what is left out
 
 -- the two halves of a byte decide which rules agree with the byte
 pub agrees-at : (width bits rules g v r : ℕ) (buckets : List Row) (blocks : List Block) → IsWidth width bits → StandsFor width bits rules buckets blocks → g < bits / 8 → v < 2 ^ 8 → r < rules
@@ -358,7 +358,7 @@ leaves-none unit width bits rules p value r k candidates words marked buckets pa
 pub words-within : (n rules k words marked : ℕ) → bit words k ≡ nat_lt n rules → bit (bit_and words marked) k ≡ true → n < rules
 words-within n rules k words marked all set = ltb-true n rules (sym all ∙ (and_parts (bit words k) (bit marked k) (sym (bit-and words marked k) ∙ set)).0)
 
----- rules that are added
+-- ---- rules that are added
 
 pub keeps-none : (pages : List (PageOf ℕ)) → KeepsMarks pages pages
 keeps-none pages = record { long = refl; sizes = λ p. refl; marks = λ p j i h. h }

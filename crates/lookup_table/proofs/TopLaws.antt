@@ -12,7 +12,7 @@ use Rattle.lookup_table.specs.Lines.{words_at}
 use Rattle.lookup_table.specs.Summary.{agrees_at, HasMarks, ArePages, IsSummed, IsRenewed, AreRenewed}
 use Rattle.lookup_table.proofs.SummaryLaws.{no-marks, summed-weaker, pages-push}
 
----- the mark of one page
+-- ---- the mark of one page
 
 -- a line with a mark isn't empty
 marked-line : (word i : ℕ) → bit word i ≡ true → not (word == 0) ≡ true
@@ -39,7 +39,7 @@ run-renewed p n pages old new e kept set = record {
   others = λ j k h differs there. kept.marks j k there;
 }
 
----- the marks of all pages
+-- ---- the marks of all pages
 
 pub renewed-none : (p : ℕ) (pages tops : List (PageOf ℕ)) → AreRenewed p p pages tops tops
 renewed-none p pages tops = record { long = refl; sizes = λ q. refl; marks = λ n j i l h inside line m set. absurd (omega arith); before = λ n j h set. set }
@@ -104,7 +104,7 @@ top-renewed p pages tops top new inside e renewed = record {
 pub pages-renewed : (bits from to : ℕ) (pages old new : List (PageOf ℕ)) → AreRenewed from to pages old new → ArePages bits old → ArePages bits new
 pages-renewed bits from to pages old new renewed are = record { each = λ q h. let l = renewed.long in record { long = renewed.sizes q ∙ (are.each q (omega arith)).long } }
 
----- tops with the marks of all rules
+-- ---- tops with the marks of all rules
 
 -- tops whose pages before page `from` had them
 pub summed-renewed : (width bits n m from to : ℕ) (buckets : List Row) (pages old new : List (PageOf ℕ)) → n ≤ 4096 * to → ((r : ℕ) → r < n → r / 4096 < from → r < m) → IsSummed 64 width bits n buckets pages
@@ -151,7 +151,7 @@ top-added width bits n to buckets pages tops new top within small empty renewed 
   go (inl l) = by n (omega arith) (omega arith) (λ r h m. h)
   go (inr l) = by (262144 * length tops) l (omega arith) (λ r h m. m)
 
----- who owns them
+-- ---- who owns them
 
 -- the tops above the pages of the rules that move down
 pub own-tops : (tops : List (PageOf ℕ)) (first rules p : ℕ) → ((r : ℕ) → first ≤ r → r < rules → get_or (owns_of tops) (r / 262144) true ≡ true) → first < rules → first / 4096 ≤ p → 4096 * p < rules

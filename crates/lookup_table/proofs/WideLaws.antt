@@ -11,7 +11,7 @@ use Rattle.lookup_table.specs.Table.{bucket_at, bucket_place, cell, IsShaped, bl
 use Rattle.lookup_table.specs.Rows.{IsWide, IsPut}
 use Rattle.lookup_table.proofs.RowsLaws.{cell-is, All-bucket, bucket-All}
 
----- buckets made one after another
+-- ---- buckets made one after another
 
 -- P holds of each of the first n buckets, of so many
 pub record Made (P : ℕ → Row → Type 0) (count rules n : ℕ) (rows : List Row) : Type 0 where
@@ -47,7 +47,7 @@ made-shape P width bits rules count n rows w e done = record {
   rows = bucket-All (λ (x : Row). length x.bits ≡ rules) rows (λ j h. done.sizes j (omega (arith, done.long)));
 }
 
----- groups of eight
+-- ---- groups of eight
 
 pub wide-groups : (bits : ℕ) → IsWidth 4 bits → IsWidth 8 bits
 wide-groups bits w = record { fours = refl; four = omega arith; eight = omega arith; bytes = w.bytes; some = w.some; most = w.most }

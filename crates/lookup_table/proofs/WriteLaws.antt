@@ -14,7 +14,7 @@ use Rattle.lookup_table.proofs.LineLaws.{own-there, rows-length, row-at, line-le
 use Rattle.lookup_table.proofs.RowsLaws.{cell-is}
 use Rattle.lookup_table.proofs.RuleLaws.{at-without}
 
----- who owns the pages
+-- ---- who owns the pages
 
 pub owns-same : (pages : List (PageOf ℕ)) (p : ℕ) (m n : PageOf ℕ) → m ≡ get_or pages p m → n.own ≡ m.own → owns_of (set pages p n) ≡ owns_of pages
 owns-same [] p m n e f = refl
@@ -33,7 +33,7 @@ alike-both a b c x y = record { long = y.long ∙ x.long; sizes = λ p. y.sizes 
 pub alike-line : (j : ℕ) (old new : List (PageOf ℕ)) → IsAlike old new → HasLine j old → HasLine j new
 alike-line j old new alike has = record { line = λ p h. let l = alike.long in let s = alike.sizes p in let x = has.line p (omega arith) in omega arith }
 
----- one word
+-- ---- one word
 
 pub written : (pages : List (PageOf ℕ)) (p x word : ℕ) (m n : PageOf ℕ) → p < length pages → m ≡ get_or pages p m → m.own ≡ true → x < length m.items
     → n.items ≡ set m.items x word → n.own ≡ true → IsWordWritten p x word pages (set pages p n)
@@ -64,7 +64,7 @@ others-bit : (p x j r : ℕ) (old new : List (PageOf ℕ)) → ((q y : ℕ) → 
     → line_bit new j r ≡ line_bit old j r
 others-bit p x j r old new others out = bit-read new j r ∙ ap (λ v. bit v (r % 64)) (others (r / 512) (j * 8 + r % 512 / 64) out) ∙ sym (bit-read old j r)
 
----- a row that is written over
+-- ---- a row that is written over
 
 -- the first i words of line j are those of the bits, and the rest is as it was
 pub record LinePut (count j i : ℕ) (bits : List Bool) (old now : List (PageOf ℕ)) : Type 0 where
@@ -139,7 +139,7 @@ put-rows count len j bits old new long line_in put = record {
   others k d (inl h) = ap (λ (x : Row). x.bits) (row-at new len count k h) ∙ bits-equal old new len k (λ r l. put.others k r h d) ∙ ap (λ (x : Row). x.bits) (sym (row-at old len count k h))
   others k d (inr h) = ap (λ (x : Row). x.bits) (beyond new k h ∙ sym (beyond old k h))
 
----- a row beside another, word by word
+-- ---- a row beside another, word by word
 
 -- the first i words of the row are what the operation makes of both, and the rest is as it was
 pub record Merged (op : Bool → Bool → Bool) (other old : List Bool) (i : ℕ) (row : Row) : Type 0 where
@@ -183,7 +183,7 @@ either-zeros bits =
     (λ r h. let l : r < length bits = omega (arith, length-either (replicate (length bits) false) bits long) in
     at-either (replicate (length bits) false) bits r long (omega arith) ∙ ap (λ t. t || at bits r) (get_or-replicate (length bits) r false false l))
 
----- places that are taken out
+-- ---- places that are taken out
 
 closed-before : (pages : List (PageOf ℕ)) (first n j r : ℕ) → r < first → closed_bit pages first n j r ≡ line_bit pages j r
 closed-before pages first n j r h = cond-false _ (line_bit pages j (r + n)) (line_bit pages j r) (lt-leb first r h)

@@ -16,8 +16,8 @@ use std::marker::Model;
 /// The rules of the last field, each with its element's place and expiry, in pages of 512 that
 /// copies share.
 ///
-/// Contracts also see how many more rules have room (`spare`), whether each page is this table's
-/// own (`own`), so that it can change, and the capacities of its vectors (`taken`).
+/// Contracts also see how many more rules have room (`spare`), and the capacities of its vectors
+/// (`taken`). Of each page they see whether it is this table's own (`own`), so that it can change.
 #[derive(Drop)]
 pub struct EndTable {
     ends: Roomy<End>,

@@ -34,7 +34,7 @@ pub sharing-at : (s : State) (parts : List Interval) (now : ℕ) (o : Option ℕ
 sharing-at s parts now None h = find-none (is_sharing parts now) s.elements h
 sharing-at s parts now (Some i) h = find-at (is_sharing parts now) s.elements i (record { id = 0; parts = []; expiry = None; comment = [] }) h
 
----- the cases of an addition
+-- ---- the cases of an addition
 -- why a new element is refused, by who is in the way, whether the set is full, and which field is
 -- crowded
 abbrev refused_by : State → Option ℕ → Bool → Option ℕ → Option Why
@@ -90,7 +90,7 @@ add-apart s e now d =
     ap (λ t. add_by s e (twin_place s e.parts now) e.expiry (if t then None else at_start) (if t then None else at_end) (if t then sharing_place s e.parts now else None) (is_full s) (crowded_field s e.parts)) d
     ∙ twin-decides s e now (twin_place s e.parts now)
 
----- intervals of one value each
+-- ---- intervals of one value each
 -- They end with the key with which they start.
 single-key : (parts : List Interval) → list_all (λ part. part.low == part.high) parts ≡ true → end_key parts ≡ start_key parts
 single-key [] h = refl
@@ -137,7 +137,7 @@ by-ends : (s : State) (e : NewElement) (now : ℕ) (t : Bool) → s.disjoint ≡
 by-ends s e now false is h = add-by s e now is
 by-ends s e now true is h = add-apart s e now is ∙ single-decides s e now (place s (start_key e.parts) now) h refl
 
----- what is decided
+-- ---- what is decided
 -- If elements may share keys, or if the intervals hold one key alone, the places of the start key
 -- and the end key decide.
 pub decision_by : (s : State) (e : NewElement) (now : ℕ) (r : Result Decision ChangeError) → (not s.disjoint || list_all (λ part. part.low == part.high) e.parts) ≡ true
@@ -172,7 +172,7 @@ adds_none s e why errors.Memory h = tt
 
 pub ruleset decides = (adds, adds_none)
 
----- what follows from a decision
+-- ---- what follows from a decision
 -- If something is done, the call returns it.
 pub done : (s t : State) (e : NewElement) (now : ℕ) (decision : Decision) (came : Came) → IsDecision s e (add s e now) (Ok decision)
     → addition_said came ≡ comes decision s.next → t ≡ set_left s e decision → IsAnswer (add s e now) (Ok came) s t

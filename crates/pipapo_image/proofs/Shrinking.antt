@@ -31,7 +31,7 @@ use Rattle.pipapo_image.proofs.Items.{a-table}
 use Rattle.pipapo_image.proofs.Renewal.{apart}
 use Rattle.pipapo_image.proofs.RunLaws.{run-count, run-within}
 
----- before the change
+-- ---- before the change
 -- a table, or its replacement, has the rules of the list
 pub chosen-rules : (run : Span) (t : FieldTable) (o : Option FieldTable) → IsOtherWithout run t o → (chosen o t).rules ≡ t.rules
 chosen-rules run t None h = refl

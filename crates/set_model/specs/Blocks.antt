@@ -25,7 +25,7 @@ blocks_within (suc n) low high bits =
       | false ↦ []
     ]
 
--- The blocks of an interval. Each block has a value, so an interval has at most as many blocks as
+-- The blocks of an interval. Each block has a value, so an interval has no more blocks than
 -- values.
 abbrev pub blocks : ℕ → ℕ → ℕ → List Block
 blocks low high bits = blocks_within (high + 1 - low) low high bits

@@ -36,7 +36,7 @@ gaps_ranked (Some m) image gaps i e l =
     let within : min i (length gaps) ≡ i = omega (arith, long, l) in
     ap (rank gaps) within ∙ ap (λ z. rank z i) e ∙ ap (count_by (λ b. b)) (take-map p i image.elements) ∙ marks-counted p (take i image.elements)
 
----- moments
+-- ---- moments
 -- An element is live at two moments exactly if it is live at the later one.
 answers-lived : (key : List ℕ) (m now : ℕ) (e : Element) → answers key (max m now) e ≡ true → live e m ≡ true
 answers-lived key m now e h = both-stay m (answers key (max m now)) (answers key now) (answers-both key m now) e h

@@ -170,7 +170,7 @@ removed-kept m s parts now =
           let pair : Element → List Element → Option (ℕ × State) = λ e es. Some (e.id, record s { elements = es }) in
           ap (λ e. pair e (remove (purged s m).elements (moved_in m s i))) (element-kept m s i h.0 h.1) ∙ ap (pair (element_at s i)) (remove-kept (stays m) s.elements i no_element h.0 h.1)
 
----- additions
+-- ---- additions
 -- The size or the number of rules refuses an addition.
 abbrev pub at_limit : Addition → Bool
 at_limit (Refused Full) = true

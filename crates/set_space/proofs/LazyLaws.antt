@@ -63,7 +63,7 @@ pub lazy_decision : (p : Option ℕ) (s : State) (e : NewElement) (now : ℕ) (r
 lazy_decision None s e now r l h w = plain-decision s e now r h
 lazy_decision (Some m) s e now r l h w = by-image m s e now r (live-of (lives e.expiry m) l) w h
 
----- removals
+-- ---- removals
 -- To give an element the expiry 0 deletes it, if each other element of the set is live at that
 -- moment.
 pub marked : (p : Option ℕ) (s : State) (i : ℕ) → i < length s.elements → staying p s ≡ purged s (unwrap_or p 0) → purged (renewed s i (Some 0)) (unwrap_or p 0) ≡ staying p (without_at s i)
@@ -85,7 +85,7 @@ counted (Some k) s m n gone is long count =
     let kept : n - gone ≡ length (purged s m).elements = omega (arith, both, expired, long, count) in
     kept ∙ ap (λ z. length (purged s z).elements) (sym same)
 
----- purges
+-- ---- purges
 -- Two purges are one purge at the later moment.
 pub purged_twice : (p : Option ℕ) (s : State) (now : ℕ) → purged s (moment p now) ≡ purged (staying p s) now
 purged_twice None s now = refl

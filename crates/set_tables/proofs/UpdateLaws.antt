@@ -22,7 +22,7 @@ pub length-ends : (here : Element → List Block) (i : ℕ) (es : List Element) 
 length-ends here i [] = refl
 length-ends here i (e ∷ es) = simp (length-append, length-replicate, length-ends here (i + 1) es)
 
----- more elements at the end
+-- ---- more elements at the end
 pub spans-append : (here next : Element → List Block) (from : ℕ) (es others : List Element)
     → spans here next from (es ++ others) ≡ spans here next from es ++ spans here next (from + length (flat_map next es)) others
 spans-append here next from [] others = rw (add-zero from) refl
@@ -155,7 +155,7 @@ spans-renewed here next before after e x h g =
     ∙ ap (λ bs. spans here next 0 before ++ (replicate (length (here e)) (record { first = 0 + n; count = length bs }) ++ spans here next ((0 + n) + length bs) after)) g
     ∙ sym (spans-append here next 0 before (e ∷ after))
 
----- what comes after an element that is removed
+-- ---- what comes after an element that is removed
 pub spans-from : (here next : Element → List Block) (low from : ℕ) (es : List Element) → low ≤ from → All (λ s. low ≤ s.first) (spans here next from es)
 spans-from here next low from [] h = λ k d l. absurd (omega arith)
 spans-from here next low from (e ∷ es) h =
