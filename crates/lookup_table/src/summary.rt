@@ -199,7 +199,7 @@ pub(crate) fn pages_for(is_summed: bool, rules: u32) -> u32
     }
 }
 
-/// Those of the 64 words of rules from word `64 * p` on that a table of so many rules has.
+/// Of the 64 words of rules from word `64 * p` on, those that a table of so many rules has.
 #[inline(always)]
 pub(crate) fn words_of(rules: u32, p: u32) -> u64
     ensures { (k : ℕ) → k < 64 → bit result k ≡ nat_lt (64 * (64 * p + k)) rules }

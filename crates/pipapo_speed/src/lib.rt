@@ -64,9 +64,9 @@ pub extern "C" fn pipapo_change(
     }
 }
 
-/// Builds a disjoint set of all elements but the last thousand, and adds the first `count` of these
-/// that share no key with it. Returns how many elements the set then has, or 0 if memory runs out
-/// or the workload is invalid. The words are as in `pipapo_run`.
+/// Builds a disjoint set of all elements but the last thousand, and adds the first `count` of these.
+/// It leaves out those that share a key with the set. Returns how many elements the set then has, or
+/// 0 if memory runs out or the workload is invalid. The words are as in `pipapo_run`.
 #[unsafe(no_mangle)]
 pub extern "C" fn pipapo_disjoint(
     alloc: Global,

@@ -15,10 +15,12 @@
 //! commit at 1000    passed: 1000   image: 80, 443, 8080, 8443   set: 443, 8080, 8443
 //! ```
 //!
-//! A set of a generation, a [`KeptSet`], has one bit per element of the image, which says whether
-//! it left. The image finds port 443 at place 1. One element before it left, so the set returns
-//! place 0. A deletion gives its element the expiry 0, which is live at no moment. The numbers
-//! close up if more than a quarter of the image may have left.
+//! A set of a generation, a [`KeptSet`], has one bit per element of the image, which says whether it
+//! left. The image finds port 443 at place 1. One element before it left, so the set returns place
+//! 0. A deletion gives its element the expiry 0, which is live at no moment.
+//!
+//! If more than a quarter of the image may have left, the tables are made anew without the elements
+//! that left. Comments call this closing the rule numbers up.
 //!
 //! A change without effect copies nothing, such as a refused addition or the deletion of a missing
 //! element. There are two exceptions, both in a set whose image has elements that left:
