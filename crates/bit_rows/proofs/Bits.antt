@@ -143,7 +143,7 @@ pub bits-at : (words : List ℕ) (len i : ℕ) → i < len → at (first_bits wo
 unfolding first_bits
 bits-at words len i h = get_or-map-range_with_len (bit_in words) 0 len i i false h (omega arith)
 
--- where the places from len on are clear, the list reads as the words at every place
+-- if the places from len on are clear, the list reads as the words at every place
 pub bits-read : (words : List ℕ) (len : ℕ) → IsRow words len → (i : ℕ) → at (first_bits words len) i ≡ bit_in words i
 bits-read words len row i = elim (cases_lt i len) [
   | inl h ↦ bits-at words len i h

@@ -1,4 +1,4 @@
--- Places over words, under each change of the words.
+-- Places over words, after each change of the words.
 use Rattle.std.proofs.Common.{◌≡◌, refl, sym, ◌∙◌, ap, ℕ, ◌+◌, ◌-◌, ◌*◌, ◌/◌, ◌%◌, ◌^◌, ◌<◌, ◌≤◌, ◌≢◌, ◌⊎◌, Bool, true, false, cond, ◌&&◌, ◌||◌, nat_le, nat_lt, List, length, get_or, set, bit_and, bit_or, arith, inl, inr}
 use Rattle.std.proofs.lemmas.Bool.{cases_lt, cases_eq, cond-true, cond-false, lt-ltb, le-ltb, le-leb, lt-leb, leb-true}
 use Rattle.std.proofs.lemmas.List.{get_or-set_same, get_or-set_other}
@@ -31,7 +31,7 @@ filled-places value word from to old new e w i =
     written-place (λ _. word) from to old new i w
     ∙ ap (λ t. cond (lies (64 * from) (64 * to) i) t (bit_in old i)) (ap (λ x. bit x (i % 64)) e ∙ filled-bit value (i % 64) (omega arith))
 
--- words that an operation made, which acts on each bit
+-- words that an operation on each bit made
 pub zipped-places : (op : ℕ → ℕ → ℕ) (test : Bool → Bool → Bool) (old other new : List ℕ) (n : ℕ) → ((a b k : ℕ) → bit (op a b) k ≡ test (bit a k) (bit b k))
     → IsWritten (λ k. op (get_or old k 0) (get_or other k 0)) 0 n old new → (i : ℕ)
     → bit_in new i ≡ cond (nat_lt i (64 * n)) (test (bit_in old i) (bit_in other i)) (bit_in old i)
@@ -55,7 +55,7 @@ pub word-cleared : (words : List ℕ) (w : ℕ) → w < length words → (i : �
 word-cleared words w within i = by-run (64 * w) (64 * (w + 1)) i (λ t. bit_in (set words w 0) i ≡ cond t false (bit_in words i))
     (λ h l. place-set-same words w 0 i within (omega arith) ∙ bit-zero (i % 64)) (λ h. place-set-other words w 0 i (omega arith)) (λ h. place-set-other words w 0 i (omega arith))
 
--- writing over one word
+-- overwriting one word
 pub word-put : (words : List ℕ) (w word : ℕ) → w < length words → (i : ℕ) → bit_in (set words w word) i ≡ cond (lies (64 * w) (64 * (w + 1)) i) (bit word (i - 64 * w)) (bit_in words i)
 word-put words w word within i = by-run (64 * w) (64 * (w + 1)) i (λ t. bit_in (set words w word) i ≡ cond t (bit word (i - 64 * w)) (bit_in words i))
     (λ h l. let e : i % 64 ≡ i - 64 * w = omega arith in place-set-same words w word i within (omega arith) ∙ ap (bit word) e)
@@ -167,7 +167,7 @@ closed-below old from n w i words closed h = closed.at i ∙ cond-false _ (bit_i
 closed-above : (old : List ℕ) (from n w i : ℕ) (words : List ℕ) → IsClosed old from n w words → 64 * w ≤ i → bit_in words i ≡ bit_in old i
 closed-above old from n w i words closed h = closed.at i ∙ cond-false _ (bit_in old (i + n)) (bit_in old i) (lies-above from (64 * w) i h)
 
--- the first word keeps what is below `from`
+-- the first word keeps the places below `from`
 pub closed-start : (old : List ℕ) (from n v : ℕ) → from / 64 < length old
     → ((k : ℕ) → k < 64 → bit v k ≡ cond (nat_lt k (from % 64)) (bit (get_or old (from / 64) 0) k) (bit_in old (from / 64 * 64 + n + k)))
     → IsClosed old from n (from / 64 + 1) (set old (from / 64) v)
@@ -188,7 +188,7 @@ closed-start old from n v within made = closed-by old from n (from / 64 + 1) (se
   above : (i : ℕ) → 64 * (from / 64 + 1) ≤ i → bit_in (set old (from / 64) v) i ≡ bit_in old i
   above i h = place-set-other old (from / 64) v i (omega arith)
 
--- one word more
+-- one more word
 pub closed-more : (old : List ℕ) (from n w v : ℕ) (words : List ℕ) → from ≤ 64 * w → w < length words → IsClosed old from n w words
     → ((k : ℕ) → k < 64 → bit v k ≡ bit_in words (w * 64 + n + k)) → IsClosed old from n (w + 1) (set words w v)
 closed-more old from n w v words low within so_far made = closed-by old from n (w + 1) (set words w v) (λ i h l. inside i h l (cases_lt i (64 * w))) below above where

@@ -1,4 +1,4 @@
--- How many places are set, by the ones of words.
+-- How many places are set, counted by the ones of words.
 use Rattle.std.proofs.Common.{◌≡◌, refl, sym, ◌∙◌, ap, ℕ, zero, suc, ◌+◌, ◌*◌, ◌/◌, ◌%◌, ◌^◌, ◌<◌, ◌≤◌, ◌==◌, Bool, false, cond, List, [], ◌∷◌, ◌++◌, length, map, get_or, take, count_by, arith, count_ones, length-take, length-append, ◌-◌, ◌⊎◌, inl, inr, Some, slice_get}
 use Rattle.std.specs.List.{range_with_len}
 use Rattle.std.proofs.lemmas.Bool.{cases_lt}
@@ -59,7 +59,7 @@ module _ (words : List ℕ) (len : ℕ) where
   rank-more : (i : ℕ) → i < len → rank (first_bits words len) (i + 1) ≡ rank (first_bits words len) i + cond (bit_in words i) 1 0
   rank-more i l = sum_by_more (λ b. cond b 1 0) (first_bits words len) i false (omega (arith, length-bits words len)) ∙ ap (λ b. rank (first_bits words len) i + cond b 1 0) (bits-at words len i l)
 
-  -- The places before one are those of the words before, and those of its word below it.
+  -- The set places before a place are those of the words before, and those of its word below it.
   pub rank-in : (w n : ℕ) → n ≤ 64 → 64 * w + n ≤ len → rank (first_bits words len) (64 * w + n) ≡ rank (first_bits words len) (64 * w) + low_ones (get_or words w 0) n
   unfolding low_ones
   rank-in w zero h l = let same : 64 * w + 0 ≡ 64 * w = omega arith in ap (rank (first_bits words len)) same ∙ omega arith
@@ -92,7 +92,7 @@ rank-at words len i word l within is =
     sym (ap (rank (first_bits words len)) parts) ∙ rank-in words len (i / 64) (i % 64) (omega arith) (omega (arith, l)) ∙ ap (λ z. rank (first_bits words len) (64 * (i / 64)) + low_ones z (i % 64)) same
 
 -- ---- a list that grows
--- What stands in a list with one more at its end stood there before, or is the new one.
+-- An item of a list with one more item at its end was in the list before, or is the new one.
 pub pushed : {X : Type 0} (xs : List X) (y : X) (i : ℕ) (x : X) → slice_get (xs ++ y ∷ []) i ≡ Some x → (slice_get xs i ≡ Some x) ⊎ ((i ≡ length xs) × (x ≡ y))
 pushed xs y i x h = go (cases_lt i (length xs)) where
   within : i < length (xs ++ y ∷ [])

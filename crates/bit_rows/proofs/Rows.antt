@@ -1,4 +1,4 @@
--- What each change of the words makes of the row.
+-- What each change of the words does to the row.
 use Rattle.std.proofs.Common.{◌≡◌, refl, sym, ◌∙◌, ap, ℕ, zero, suc, ◌+◌, ◌-◌, ◌*◌, ◌/◌, ◌%◌, ◌^◌, ◌<◌, ◌≤◌, ◌⊎◌, Bool, true, false, cond, not, ◌&&◌, ◌||◌, nat_lt, List, [], ◌∷◌, ◌++◌, map, length, get_or, take, drop, replicate, zip, arith, inl, inr}
 use Rattle.std.proofs.lemmas.Bool.{cases_lt, cond-true, cond-false, lt-ltb}
 use Rattle.std.proofs.lemmas.List.{get_or_past, length-map, length-append, length-take, length-drop, length-replicate, get_or_append_left, get_or-append_right, get_or-replicate, get_or-take, get_or-drop, get_or_push, length_push}
@@ -9,7 +9,7 @@ use Rattle.bit_rows.specs.Words.{bit_in, first_bits, IsRow, IsClearFrom, IsNextP
 use Rattle.bit_rows.proofs.Tests.{and-false, and-true, or-false, or-true, lies-in, lies-below, lies-above, by-run}
 use Rattle.bit_rows.proofs.Bits.{place-is, place-past, bits-same, bits-read, bits-at, length-bits}
 
--- ---- the row behind a list of words
+-- ---- the row of a list of words
 
 -- words of the same number, whose places from len on are clear
 pub row-kept : (old new : List ℕ) (before len : ℕ) → IsRow old before → length new ≡ length old → len ≤ 64 * length old → IsClearFrom new len → IsRow new len

@@ -31,7 +31,7 @@ cond-or true false = refl
 cond-or false true = refl
 cond-or false false = refl
 
--- ---- where a number stands against a run
+-- ---- the place of a number relative to a run
 
 pub lies-in : (from to i : ℕ) → from ≤ i → i < to → lies from to i ≡ true
 lies-in from to i h k = ap (λ t. t && nat_lt i to) (le-leb from i h) ∙ lt-ltb i to k

@@ -31,7 +31,7 @@ written-by f from to old new below here above = record { word = λ k. go k (case
 pub written-none : (f : ℕ → ℕ) (from to : ℕ) (old : List ℕ) → to ≤ from → IsWritten f from to old old
 written-none f from to old none = written-by f from to old old (λ k h. refl) (λ k h l. absurd (omega arith)) (λ k h. refl)
 
--- one word more
+-- one more word
 pub written-set : (f : ℕ → ℕ) (from w v : ℕ) (old words : List ℕ) → IsWritten f from w old words → v ≡ f w → from ≤ w → w < length words
     → IsWritten f from (w + 1) old (set words w v)
 written-set f from w v old words so_far e low within = written-by f from (w + 1) old (set words w v)
@@ -83,7 +83,7 @@ pub written-splat : (value w : ℕ) (words : List ℕ) → w + 8 ≤ length word
 written-splat value w words within =
     written-lanes (λ _. value) w words (replicate 8 value) refl within (λ j h. get_or-replicate 8 j value 0 h)
 
--- where the OR of all is 0, each is
+-- if the OR of all is 0, each is 0
 or-zero : (start : ℕ) (xs : List ℕ) → fold_l bit_or start xs ≡ 0 → (start ≡ 0) × ((j : ℕ) → get_or xs j 0 ≡ 0)
 or-zero start [] e = (e, λ j. refl)
 or-zero start (x ∷ xs) e = go (or-zero (bit_or start x) xs e) where

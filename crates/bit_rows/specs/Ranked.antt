@@ -1,4 +1,5 @@
--- How many places of a list are set before one of them: its rank, as bit vectors of succinct structures call it.
+-- How many places of a list are set before one of them. Literature on succinct bit vectors calls
+-- this the rank.
 use Rattle.std.specs.Prelude.{◌≡◌, ℕ, ◌+◌, ◌*◌, ◌<◌, ◌≤◌, Bool, Some, List, length, map, take, count_by, slice_get}
 use Rattle.std.specs.List.{range_with_len}
 use Rattle.bit_rows.specs.Row.{bit}
@@ -12,7 +13,8 @@ low_ones word n = count_by (λ b. b) (map (bit word) (range_with_len 0 n))
 abbrev pub rank : List Bool → ℕ → ℕ
 rank bits i = count_by (λ b. b) (take i bits)
 
--- The words spell `len` places, and for each whole page of 512 places stands beside them how many are set up to its end.
+-- The words spell `len` places. For each whole page of 512 places there is the number of places
+-- that are set up to its end.
 pub record IsRanked (words : List ℕ) (len : ℕ) (ranks : List ℕ) : Type 0 where
   pub within : len ≤ 64 * length words
   pub pages : len < 512 * length ranks + 512

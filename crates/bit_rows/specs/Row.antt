@@ -14,11 +14,11 @@ at bits i = get_or bits i false
 abbrev pub lies : ℕ → ℕ → ℕ → Bool
 lies from to i = nat_le from i && nat_lt i to
 
--- each place is set where it is set in both
+-- each place is set if it is set in both
 abbrev pub both : List Bool → List Bool → List Bool
 both xs ys = map (λ p. p.0 && p.1) (zip xs ys)
 
--- each place is set where it is set in either
+-- each place is set if it is set in either
 abbrev pub either : List Bool → List Bool → List Bool
 either xs ys = map (λ p. p.0 || p.1) (zip xs ys)
 
@@ -33,7 +33,7 @@ pub record IsNextSet (bits : List Bool) (from r : ℕ) : Type 0 where
   pub set : at bits r ≡ true
   pub least : (i : ℕ) → from ≤ i → i < r → at bits i ≡ false
 
--- the places from `from` up to `to` are no longer set, and the others are as they were
+-- the places from `from` up to `to` are no longer set, and the others are unchanged
 pub record IsCleared (from to : ℕ) (old new : List Bool) : Type 0 where
   pub long : length new ≡ length old
   pub places : (i : ℕ) → at new i ≡ (at old i && not (lies from to i))
@@ -42,14 +42,14 @@ pub record IsCleared (from to : ℕ) (old new : List Bool) : Type 0 where
 unfoldable pub bit : ℕ → ℕ → Bool
 bit word k = word / 2 ^ k % 2 == 1
 
--- the 64 places from place 64 * i on are those of the word, and the others are as they were
+-- the 64 places from place 64 * i on are those of the word, and the others are unchanged
 pub record IsWordPut (i word : ℕ) (old new : List Bool) : Type 0 where
   pub long : length new ≡ length old
   pub here : (k : ℕ) → k < 64 → at new (64 * i + k) ≡ bit word k
   pub others : (r : ℕ) → (r / 64 ≡ i → ⊥) → at new r ≡ at old r
 
--- The words spell the list, 64 places to a word and the first place in the lowest bit. What lies
--- past the list's end is not set, and the words come in steps of eight.
+-- The words spell the list, 64 places to a word, with the first place in the lowest bit. No bit
+-- past the list's end is set, and the number of words is a multiple of eight.
 pub record IsSpelling (words : List ℕ) (bits : List Bool) : Type 0 where
   pub steps : length words % 8 ≡ 0
   pub long : length bits ≤ 64 * length words

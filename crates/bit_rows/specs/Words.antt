@@ -11,7 +11,7 @@ bit_in words i = bit (slice_index words (i / 64)) (i % 64)
 unfoldable pub first_bits : List ℕ → ℕ → List Bool
 first_bits words len = map (bit_in words) (range_with_len 0 len)
 
--- how many places n words have, as a u32 says it
+-- how many places n words have, as a u32
 abbrev pub places_in : ℕ → ℕ
 places_in n = min (64 * n) (2 ^ 32 - 1)
 
@@ -26,7 +26,7 @@ pub record IsRow (words : List ℕ) (len : ℕ) : Type 0 where
   pub within : len ≤ 64 * length words
   pub clear : IsClearFrom words len
 
--- These words keep a row of len places, and no memory is taken but for them.
+-- These words keep a row of len places, and no other memory is taken.
 pub record IsStored (words : List ℕ) (len capacity : ℕ) : Type 0 where
   pub row : IsRow words len
   pub full : capacity ≡ length words
@@ -38,6 +38,6 @@ pub record IsNextPlace (words : List ℕ) (from end r : ℕ) : Type 0 where
   pub set : bit_in words r ≡ true
   pub least : (i : ℕ) → from ≤ i → i < r → bit_in words i ≡ false
 
--- the words from `from` up to `to` are what f gives for their number, and the others are as they were
+-- the words from `from` up to `to` are what f gives for their number, and the others are unchanged
 pub record IsWritten (f : ℕ → ℕ) (from to : ℕ) (old new : List ℕ) : Type 0 where
   pub word : (k : ℕ) → slice_index new k ≡ cond (lies from to k) (f k) (slice_index old k)

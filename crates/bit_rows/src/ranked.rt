@@ -12,8 +12,8 @@ const PAGE: u64 = 512;
 /// How many words a page has.
 const WORDS: u64 = 8;
 
-/// A list of bits that tells how many of those before a place are set: the place's rank. It doesn't
-/// change. Contracts see the list.
+/// A list of bits that doesn't change. It returns how many places before a place are set, the
+/// place's rank. Contracts see the list.
 #[derive(Drop)]
 pub struct RankedBits {
     /// Place `64 w + k` is bit `k` of word `w`.
@@ -84,7 +84,7 @@ impl RankedBits {
     /// The first `len` places of words.
     ///
     /// # Errors
-    /// `Memory` if there is none left.
+    /// `Memory` if memory runs out.
     pub fn of_words(alloc: Global, words: Vec<u64>, len: u64) -> Result<RankedBits, Memory>
         requires { len ≤ 64 * length words.items }
         ensures { IfOk result (λ bits. bits ≡ first_bits words.items len) }
@@ -117,8 +117,8 @@ impl RankedBits {
         }
     }
 
-    /// How many places before place `i` are set. It takes no memory, and as long for each place of
-    /// each list.
+    /// How many places before place `i` are set. It takes no memory. The time doesn't depend on the
+    /// place or the list.
     #[inline]
     pub fn rank(&self, i: u64) -> u64
         requires { i ≤ length self.now }

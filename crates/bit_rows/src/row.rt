@@ -11,7 +11,7 @@ use std::marker::Model;
 /// A row of bits that grows at its end.
 ///
 /// A place is a bit's number in the row, from 0 on. The row's room is the number of places that it
-/// can have without more memory, at most 4,294,967,295.
+/// can have without taking memory, at most 4,294,967,295.
 #[derive(Drop)]
 pub struct BitRow {
     words: Vec<u64>,
@@ -29,7 +29,7 @@ impl Model for BitRow {
     ghost invariant = { λ r. IsStored r.words.items r.len (vec_capacity r.words) };
 }
 
-/// How many words are taken for so many places: a multiple of eight.
+/// How many words are taken for so many places. It is a multiple of eight.
 fn words_taken(places: u32) -> usize
     ensures steps { result % 8 ≡ 0 }
     ensures small { result ≤ 2 ^ 26 }
@@ -48,7 +48,7 @@ fn words_used(places: u32) -> usize
     (places as usize + 63) / 64
 }
 
-/// How many of the `used` words need no clearing before a fill, since it sets all their places.
+/// How many of the `used` words a fill sets as a whole, so that they need no clearing before it.
 #[inline(always)]
 fn words_kept(len: u32, bit: bool, used: usize) -> usize
     ensures within { result ≤ used }
@@ -62,7 +62,7 @@ impl BitRow {
     /// A row of `len` places, none of them set. It has room for the next multiple of 512 places.
     ///
     /// # Errors
-    /// `Memory` if there is none left.
+    /// `Memory` if memory runs out.
     pub fn zeros(alloc: Global, len: u32) -> Result<Self, Memory>
         ensures zeros { IfOk result (λ row. row.bits ≡ replicate len false) }
         ensures tight { IfOk result (λ row. len % 512 ≡ 0 → row.spare ≡ 0) }
@@ -80,7 +80,7 @@ impl BitRow {
         self.len
     }
 
-    /// How many places the row can have without more memory.
+    /// How many places the row can have without taking memory.
     pub fn room(&self) -> u32
         ensures { result ≡ length self.now.bits + self.now.spare }
     {
@@ -107,8 +107,8 @@ impl BitRow {
         words::word_at(&self.words, i as usize)
     }
 
-    /// The row's words, for a loop that reads many. Word i has the 64 places from place `64 * i`
-    /// on, the first in the lowest bit. Bits past the row's end are 0.
+    /// The row's words, for a loop that reads many of them. Word i has the 64 places from place `64
+    /// * i` on, with the first in the lowest bit. Bits past the row's end are 0.
     #[inline(always)]
     pub fn words(&self) -> &[u64]
         ensures { IsSpelling result.now self.now.bits }
@@ -117,10 +117,10 @@ impl BitRow {
         self.words.as_slice()
     }
 
-    /// Takes room for `n` places more. Room once taken stays.
+    /// Takes room for `n` more places. Room that was taken stays.
     ///
     /// # Errors
-    /// `Memory` if there is none left. The row is as it was.
+    /// `Memory` if memory runs out. The row is as it was.
     pub fn reserve(&mut self, n: u32) -> Result<(), Memory>
         requires { length self.old.bits + n < 2 ^ 32 }
         ensures bits { self.new.bits ≡ self.old.bits }
@@ -135,7 +135,7 @@ impl BitRow {
         Ok(())
     }
 
-    /// Adds a place at the end, set if `bit` is.
+    /// Adds a place at the end. It is set if `bit` is true.
     #[inline(always)]
     pub fn push(&mut self, bit: bool)
         requires { 1 ≤ self.old.spare }
@@ -157,7 +157,7 @@ impl BitRow {
         self.len += n;
     }
 
-    /// Makes the row `len` places that are all set, or all not, as `bit` says.
+    /// Makes the row `len` places long. All places are set if `bit` is true, and none otherwise.
     pub fn fill(&mut self, len: u32, bit: bool)
         requires { len ≤ length self.old.bits + self.old.spare }
         ensures bits { self.new.bits ≡ replicate len bit }
@@ -181,7 +181,7 @@ impl BitRow {
         storage::set_places(&mut self.words, from, from + n as usize, true);
     }
 
-    /// Gives the 64 places from place `64 * i` on as [`BitRow::word`] does, and clears them.
+    /// Returns the 64 places from place `64 * i` on as [`BitRow::word`] does, and clears them.
     #[inline(always)]
     pub fn take_word(&mut self, i: u32) -> u64
         requires { 64 * i < length self.old.bits }
@@ -192,7 +192,8 @@ impl BitRow {
         storage::take_word(&mut self.words, i as usize)
     }
 
-    /// Makes the 64 places from place `64 * i` on those of a word, which has none past the row's end.
+    /// Overwrites the 64 places from place `64 * i` on with a word. The word has no place past the
+    /// row's end.
     #[inline(always)]
     pub fn put_word(&mut self, i: u32, word: u64)
         requires place { 64 * i < length self.old.bits }
@@ -203,7 +204,7 @@ impl BitRow {
         storage::put_word(&mut self.words, i as usize, word);
     }
 
-    /// Leaves a place set where it is set in the other row too.
+    /// Clears each place that is not set in the other row.
     pub fn and_from(&mut self, other: &BitRow)
         requires { length self.old.bits ≡ length other.now.bits }
         ensures bits { self.new.bits ≡ both self.old.bits other.now.bits }
@@ -213,7 +214,7 @@ impl BitRow {
         storage::and_words(&mut self.words, &other.words, used);
     }
 
-    /// Sets a place where it is set in the other row.
+    /// Sets each place that is set in the other row.
     pub fn or_from(&mut self, other: &BitRow)
         requires { length self.old.bits ≡ length other.now.bits }
         ensures bits { self.new.bits ≡ either self.old.bits other.now.bits }
@@ -235,7 +236,7 @@ impl BitRow {
         }
     }
 
-    /// Takes the `n` places from `from` on out. The later places close up.
+    /// Removes the `n` places from `from` on. Later places move down.
     pub fn remove_range(&mut self, from: u32, n: u32)
         requires { from + n ≤ length self.old.bits }
         ensures bits { self.new.bits ≡ without_run self.old.bits from n }
@@ -248,10 +249,10 @@ impl BitRow {
         }
     }
 
-    /// The same row once more, with the same room.
+    /// A copy of the row, with the same room.
     ///
     /// # Errors
-    /// `Memory` if there is none left.
+    /// `Memory` if memory runs out.
     pub fn copy(&self, alloc: Global) -> Result<BitRow, Memory>
         ensures { IfOk result (λ row. row ≡ self.now) }
     {

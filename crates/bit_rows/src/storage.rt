@@ -1,4 +1,4 @@
-// The functions on words, over the vector that keeps a row.
+// The functions on words, for the vector that keeps a row.
 ghost use Rattle.std.specs.Prelude.{◌≡◌, ℕ, ◌+◌, ◌-◌, ◌*◌, ◌^◌, ◌<◌, ◌≤◌, false, cond, ◌&&◌, ◌||◌, nat_lt, length, slice_index, vec_capacity, IfOk, OnOk, OnErr};
 ghost use Rattle.bit_rows.specs.Row.{bit, lies};
 ghost use Rattle.bit_rows.specs.Words.{bit_in};
@@ -7,10 +7,10 @@ use crate::words;
 use set_model::Memory;
 use std::alloc::Global;
 
-/// Adds words that are 0, up to `n` words, and takes memory for no more.
+/// Adds words that are 0, up to `n` words, and takes no memory for more.
 ///
 /// # Errors
-/// `Memory` if there is none left. The words are as they were.
+/// `Memory` if memory runs out. The words are as they were.
 #[tactic(auto, using(crate::proofs::Rows::grown))]
 pub(crate) fn grow(words: &mut Vec<u64>, n: usize) -> Result<(), Memory>
     requires more { length words.old.items ≤ n }
@@ -28,10 +28,10 @@ pub(crate) fn grow(words: &mut Vec<u64>, n: usize) -> Result<(), Memory>
     Ok(())
 }
 
-/// The same words once more, in as much memory.
+/// A copy of the words, in as much memory.
 ///
 /// # Errors
-/// `Memory` if there is none left.
+/// `Memory` if memory runs out.
 pub(crate) fn copy(alloc: Global, words: &[u64]) -> Result<Vec<u64>, Memory>
     ensures items { IfOk result (λ copied. copied.items ≡ words.now) }
     ensures full { IfOk result (λ copied. vec_capacity copied ≡ length words.now) }
@@ -43,7 +43,7 @@ pub(crate) fn copy(alloc: Global, words: &[u64]) -> Result<Vec<u64>, Memory>
     Ok(copied)
 }
 
-/// Sets the places from `from` up to `to` if `bit` is set.
+/// Sets the places from `from` up to `to`, if `bit` is true.
 #[inline(always)]
 pub(crate) fn set_places(words: &mut Vec<u64>, from: usize, to: usize, bit: bool)
     requires order { from ≤ to }
@@ -71,7 +71,7 @@ pub(crate) fn clear_words(words: &mut Vec<u64>, from: usize, to: usize)
     words::fill_words(words.as_mut_slice(), from, to, false);
 }
 
-/// Gives word `w`, and clears it.
+/// Returns word `w`, and clears it.
 #[inline(always)]
 pub(crate) fn take_word(words: &mut Vec<u64>, w: usize) -> u64
     requires { w < length words.old.items }
@@ -84,7 +84,7 @@ pub(crate) fn take_word(words: &mut Vec<u64>, w: usize) -> u64
     words::take_word(words.as_mut_slice(), w)
 }
 
-/// Writes over word `w`.
+/// Overwrites word `w`.
 #[inline(always)]
 pub(crate) fn put_word(words: &mut Vec<u64>, w: usize, word: u64)
     requires { w < length words.old.items }
@@ -122,7 +122,7 @@ pub(crate) fn or_words(words: &mut Vec<u64>, other: &[u64], n: usize)
     words::or_words(words.as_mut_slice(), other, n);
 }
 
-/// Moves the places behind the `n` from `from` on down by `n`, within the first `used` words.
+/// Moves the places after the `n` places from `from` on down by `n`, within the first `used` words.
 #[inline(always)]
 pub(crate) fn close_up(words: &mut Vec<u64>, from: usize, n: usize, used: usize)
     requires within { from < 64 * used }

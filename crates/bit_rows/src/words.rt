@@ -70,7 +70,7 @@ fn word_from(words: &[u64], from: usize) -> u64
     joined(word_at(words, w), word_at(words, w + 1), (from % 64) as u32)
 }
 
-/// The 64 places from bit `by` of word `w` on, where that word is not the last.
+/// The 64 places from bit `by` of word `w` on. Word `w` must not be the last word.
 #[inline(always)]
 fn word_within(words: &[u64], w: usize, by: u32) -> u64
     requires within { w + 1 < length words.now }
@@ -80,7 +80,7 @@ fn word_within(words: &[u64], w: usize, by: u32) -> u64
     joined(words[w], words[w + 1], by)
 }
 
-/// The bits of `old` below bit `low`, and those of `new` from it on.
+/// The bits of `old` below bit `low`, and the bits of `new` from it on.
 #[inline(always)]
 #[tactic(auto, using(crate::proofs::Places::joins))]
 pub fn merged(old: u64, new: u64, low: u32) -> u64
@@ -111,7 +111,7 @@ pub(crate) fn set_places(words: &mut [u64], from: usize, to: usize)
     }
 }
 
-/// The same, where these places lie in one word.
+/// Sets the places from `from` up to `to`, which are all in one word.
 #[inline(always)]
 fn set_in_word(words: &mut [u64], from: usize, to: usize)
     requires some { from < to }
@@ -123,7 +123,7 @@ fn set_in_word(words: &mut [u64], from: usize, to: usize)
     words[from / 64] |= mask((from % 64) as u32, ((to - 1) % 64 + 1) as u32);
 }
 
-/// Sets all places of the words from `from` up to `to`, or clears them, as `bit` says.
+/// Sets all places of the words from `from` up to `to` if `bit` is true, and clears them otherwise.
 pub(crate) fn fill_words(words: &mut [u64], from: usize, to: usize, bit: bool)
     requires order { from ≤ to }
     requires within { to ≤ length words.old }
@@ -141,7 +141,7 @@ pub(crate) fn fill_words(words: &mut [u64], from: usize, to: usize, bit: bool)
     }
 }
 
-/// Gives word `w`, and clears it.
+/// Returns word `w`, and clears it.
 #[inline(always)]
 pub(crate) fn take_word(words: &mut [u64], w: usize) -> u64
     requires { w < length words.old }
@@ -155,7 +155,7 @@ pub(crate) fn take_word(words: &mut [u64], w: usize) -> u64
     word
 }
 
-/// Writes over word `w`.
+/// Overwrites word `w`.
 #[inline(always)]
 pub(crate) fn put_word(words: &mut [u64], w: usize, word: u64)
     requires { w < length words.old }
@@ -200,7 +200,7 @@ pub(crate) fn or_words(words: &mut [u64], other: &[u64], n: usize)
     }
 }
 
-/// Moves the places behind the `n` from `from` on down by `n`, within the first `used` words.
+/// Moves the places after the `n` places from `from` on down by `n`, within the first `used` words.
 pub(crate) fn close_up(words: &mut [u64], from: usize, n: usize, used: usize)
     requires within { from < 64 * used }
     requires here { used ≤ length words.old }
@@ -247,8 +247,8 @@ pub(crate) fn next_place(words: &[u64], from: usize, n: usize) -> Option<usize>
     None
 }
 
-/// The first word from `from` on at which eight words are not all 0, or fewer than eight are left
-/// up to `to`.
+/// The first word from `from` on at which eight words are not all 0, or from which fewer than eight
+/// are left up to `to`.
 #[inline(always)]
 fn past_zero_lanes(words: &[u64], from: usize, to: usize) -> usize
     requires order { from ≤ to }

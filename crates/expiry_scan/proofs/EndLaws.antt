@@ -1,4 +1,4 @@
--- What the moments beside pages of elements tell, and what changes leave of them.
+-- What the moments of pages of elements mean, and what changes leave of them.
 use Rattle.std.proofs.Common.{◌≡◌, refl, sym, subst, ◌∙◌, ap, ℕ, ◌-◌, ◌*◌, ◌+◌, ◌^◌, ◌<◌, ◌≤◌, Bool, true, false, ◌&&◌, not, nat_le, nat_lt, List, [], ◌∷◌, ◌++◌, length, length-append, length-set, length-take, get_or, replicate, ◌%◌, ◌/◌, get_or-take, take, slice_get, slice_set, Option, Some, None, ◌⊎◌, inl, inr, arith}
 use Rattle.std.specs.Prelude.{if◌then◌else◌, remove, unwrap_or}
 use Rattle.std.proofs.lemmas.Bool.{cases_lt, ltb-true}
@@ -28,7 +28,7 @@ module _ {X : Type 0} (xs : List X) (i : ℕ) (y : X) where
       let within : i < length xs = omega (arith, length-set xs i y, slice_get_within (slice_set xs i y) i x h) in
       sym (get_or_from_slice_get (slice_set xs i y) i x x h) ∙ get_or-set_same xs i y x within
 
--- what a look at a place of a list finds stands there
+-- what a look at a place of a list finds is at that place
 pub found_there : {X : Type 0} (xs ys : List X) (i : ℕ) (x : X) → xs ≡ ys → true ≡ nat_lt i (length xs) → x ≡ get_or xs i x → slice_get ys i ≡ Some x
 found_there xs ys i x same within is = ap (λ z. slice_get z i) (sym same) ∙ slice_get-get_or xs i x (ltb-true i (length xs) (sym within)) ∙ ap Some (sym is)
 
@@ -47,7 +47,7 @@ not_leaving p now e h = go (stays p e) h where
   go true h = not_expired now e h
   go false h = refl
 
--- Who isn't expired leaves at no moment.
+-- An element that isn't expired doesn't leave.
 pub none_leaves : (p : Option ℕ) (now : ℕ) (e : Element) → is_expired now e ≡ false → is_leaving p now e ≡ false
 none_leaves p now e h = go (stays p e) where
   go : (t : Bool) → t && is_expired now e ≡ false
@@ -60,7 +60,7 @@ live-later e p q h l = go e.expiry l where
   go None l = refl
   go (Some x) l = grind (arith, nat_tests)
 
--- Who left by a moment has left by a later one.
+-- An element that left by a moment has left by each later one.
 stays-by : (p q : Option ℕ) (e : Element) → is_by p q ≡ true → stays q e ≡ true → stays p e ≡ true
 stays-by None q e h s = refl
 stays-by (Some p) None e h s = absurd (cc h)
@@ -72,13 +72,13 @@ leaving_by p q now e h l = go (stays q e) refl where
   go true s = let same : is_leaving p now e ≡ is_expired now e = ap (λ z. z && is_expired now e) (stays-by p q e h s) in sym same ∙ l
   go false s = refl
 
--- A moment that hasn't come by one hasn't come by an earlier one.
+-- A moment that hasn't come at one moment hasn't come at an earlier one.
 no_earlier : (p q : Option ℕ) (end : ℕ) → is_by p q ≡ true → unwrap_or q 0 < end → unwrap_or p 0 < end
 no_earlier None q end h l = omega (arith, l)
 no_earlier (Some p) None end h l = absurd (cc h)
 no_earlier (Some p) (Some q) end h l = grind (arith, nat_tests, h, l)
 
--- Where none that stays is to leave by a moment, the same ones stay.
+-- If no staying element leaves by a moment, the same elements stay.
 stays-both : (p q : Option ℕ) (e : Element) (end : ℕ) → is_by p q ≡ true → unwrap_or q 0 < end → ((now : ℕ) → now < end → is_leaving p now e ≡ false) → stays p e ≡ stays q e
 stays-both None None e end h l none = refl
 stays-both (Some p) None e end h l none = absurd (cc h)
@@ -92,7 +92,7 @@ stays-both p (Some q) e end h l none = go (stays p e) (live e q) refl refl where
   go false false a b = a ∙ sym b
   go false true a b = absurd (cc (sym a ∙ stays-by p (Some q) e h b))
 
--- Where none is to have left, no place is marked.
+-- If no element has left, no place is marked.
 pub none-left : (p : Option ℕ) (e : Element) (k end : ℕ) → unwrap_or p 0 < end → ((now : ℕ) → now < end → is_expired now e ≡ false) → bit_in (replicate 8 0) k ≡ not (stays p e)
 none-left p e k end l none = place-is (replicate {A = ℕ} 8 0) k ∙ ap (λ w. bit w (k % 64)) (zero (cases_lt (k / 64) 8)) ∙ bit-zero (k % 64) ∙ go p l none where
   zero : (k / 64 < 8) ⊎ (8 ≤ k / 64) → ◌≡◌ {A = ℕ} (get_or (replicate 8 0) (k / 64) 0) 0
@@ -103,7 +103,7 @@ none-left p e k end l none = place-is (replicate {A = ℕ} 8 0) k ∙ ap (λ w. 
   go None l none = refl
   go (Some m) l none = sym (none m l)
 
--- Ends of an element and of another one are, the sooner of them, ends of both.
+-- The sooner ends of two pairs are ends of both elements.
 pub ends_met : (p : Option ℕ) (e : Element) (a b : ℕ) (old new : PageEnds) → new.all ≤ old.all → new.staying ≤ old.staying → AreEndsOf p e old → AreEndsOf p e new
 ends_met p e a b old new la ls h = (λ now l. h.0 now (omega arith), λ now l. h.1 now (omega arith))
 
@@ -111,7 +111,8 @@ pub ends_of : (p : Option ℕ) (e : Element) (ends : PageEnds) → ends.all ≤ 
 ends_of p e ends la ls = (λ now l. not_expired now e (omega arith), λ now l. not_leaving p now e (omega arith))
 
 -- ---- pages
--- Ends by a moment are ends by a later one, and where nobody left between them, so are marks.
+-- Ends by a moment are ends by each later one. If nobody left between the two moments, the marks
+-- stay right, too.
 pub ends_by : (p q : Option ℕ) (elements : List Element) (pages : List PageEnds) → is_by p q ≡ true → AreEnds p elements pages → AreEnds q elements pages
 ends_by p q elements pages h ends = (ends.0, λ page of at. later page of (ends.1 page of at)) where
   later : (page : ℕ) (of : PageEnds) → ArePageEnds p elements page of → ArePageEnds q elements page of
@@ -120,7 +121,7 @@ ends_by p q elements pages h ends = (ends.0, λ page of at. later page of (ends.
     marks = λ none. let marks = old.marks (no_earlier p q of.staying h none) in (marks.0, λ k e l at. marks.1 k e l at ∙ ap not (stays-both p q e of.staying h none (old.moments k e l at).1));
   }
 
--- A page's ends are those of a page whose elements stand in it.
+-- The ends of a page are the ends of another list's page with the same elements.
 pub ends_there : (p : Option ℕ) (elements others : List Element) (page : ℕ) (ends : PageEnds) → ((k : ℕ) (e : Element) → k < 512 → slice_get others (512 * page + k) ≡ Some e → slice_get elements (512 * page + k) ≡ Some e)
     → ArePageEnds p elements page ends → ArePageEnds p others page ends
 ends_there p elements others page ends stand is = record {
@@ -141,7 +142,7 @@ ends_set p elements pages page ends are is = (omega (arith, are.0, length-set pa
 pub same_ends : (p : Option ℕ) (elements others : List Element) (pages more : List PageEnds) → others ≡ elements → more ≡ pages → AreEnds p elements pages → AreEnds p others more
 same_ends p elements others pages more same alike are = subst (λ z. AreEnds p z more) (sym same) (subst (AreEnds p elements) (sym alike) are)
 
--- Of a page from which none more has been to leave by the moment, the marks stand.
+-- If no more elements of a page have left by the moment, the marks stay right.
 pub marks_known : (p : Option ℕ) (now : ℕ) (elements : List Element) (page : ℕ) (ends : PageEnds) → p ≡ Some now → now < ends.staying → ArePageEnds p elements page ends → AreMarks (Some now) elements page ends.left
 marks_known p now elements page ends is later are = (subst (λ z. ArePageEnds z elements page ends) is are).marks later
 
@@ -166,12 +167,12 @@ differ_renewed elements i expiry = go (slice_get elements i) where
   go None = (omega arith, λ k x h other. h)
   go (Some e) = (omega (arith, length-set elements i (record e { expiry = expiry })), λ k x h other. set_elsewhere elements i (record e { expiry = expiry }) k x h other)
 
--- The elements before one that is taken out stay at their places.
+-- The elements before a removed one keep their places.
 pub removed_below : (elements : List Element) (i k : ℕ) (e : Element) → i < length elements → k < i → slice_get (remove elements i) k ≡ Some e → slice_get elements k ≡ Some e
 removed_below elements i k e l b h =
     slice_get-get_or elements k e (omega arith) ∙ ap Some (sym (get_or-remove_below elements i e k b l) ∙ get_or_from_slice_get (remove elements i) k e e h)
 
--- What stands in the first of a list stands there in the list.
+-- An item of the first part of a list is at the same place in the list.
 pub taken : {X : Type 0} (n : ℕ) (xs : List X) (k : ℕ) (x : X) → slice_get (take n xs) k ≡ Some x → (k < n) × (slice_get xs k ≡ Some x)
 taken n xs k x h =
     let within = slice_get_within (take n xs) k x h in
@@ -182,7 +183,7 @@ taken n xs k x h =
 
 -- ---- pages of a list that differs at one place
 module _ (p : Option ℕ) (i : ℕ) (elements others : List Element) (pages : List PageEnds) (are : AreEnds p elements pages) (differ : DifferAt i elements others) where
-  -- The ends of a page without the place are those of the other list.
+  -- The ends of a page without the place are the ends of that page of the other list.
   elsewhere : (page : ℕ) (ends : PageEnds) → slice_get pages page ≡ Some ends → (page ≡ i / 512 → ⊥) → ArePageEnds p others page ends
   elsewhere page ends at other = ends_there p elements others page ends (λ k e l there. differ.1 (512 * page + k) e there (λ here. other (omega (arith, here, l)))) (are.1 page ends at)
 

@@ -7,7 +7,7 @@ use Rattle.std.proofs.lemmas.Option.{slice_get-get_or}
 use Rattle.set_model.specs.declared.element.Element.{Element}
 use Rattle.expiry_scan.specs.Expired.{stays}
 
--- what stands past the end of a list
+-- the default past the end of a list
 abbrev pub no_element : Element
 no_element = record { id = 0; parts = []; expiry = None; comment = [] }
 

@@ -11,16 +11,17 @@ is_expired now e = not (live e now)
 abbrev pub next_place : List Element → ℕ → ℕ → Option ℕ
 next_place elements from now = option_map (λ k. from + k) (position (is_expired now) (drop from elements))
 
--- An element stays in a set that those have left which were expired at a moment; where there is no such moment, each does.
+-- An element stays in a set from which the elements that were expired at a moment have left.
+-- Without a moment each stays.
 abbrev pub stays : Option ℕ → Element → Bool
 stays None e = true
 stays (Some passed) e = live e passed
 
--- It is in the set yet, and is expired now.
+-- It is still in the set, and is expired now.
 abbrev pub is_leaving : Option ℕ → ℕ → Element → Bool
 is_leaving passed now e = stays passed e && is_expired now e
 
--- One moment by which elements left is no later than another; none at all is before each.
+-- A moment by which elements left is no later than another one. No moment at all is before each.
 abbrev pub is_by : Option ℕ → Option ℕ → Bool
 is_by None q = true
 is_by (Some p) None = false

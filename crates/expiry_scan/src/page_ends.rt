@@ -8,24 +8,26 @@ use crate::expired;
 use set_model::{Element, Memory, expiry_moment};
 use shared_pages::Pages;
 
-/// How many elements lie in a page.
+/// How many elements a page has.
 const PAGE: u64 = shared_pages::PAGE as u64;
 
 /// How many words of marks a page has.
 const WORDS: usize = 8;
 
-/// What is known of a page of elements beside a moment by which some left. Moments are in milliseconds.
+/// What is known of a page of elements, given a moment by which elements left. Moments are in
+/// milliseconds.
 #[derive(Clone, Copy)]
 pub(crate) struct PageEnds {
-    /// A moment before which none of the elements that stand in the page is expired.
+    /// A moment before which no element in the page is expired.
     pub(crate) all: u64,
-    /// A moment before which none of those that stay in the set is expired.
+    /// A moment before which no element that is still in the set is expired.
     pub(crate) staying: u64,
-    /// Which elements left, until that moment: place `64 w + k` of the page is bit `k` of word `w`.
+    /// Which elements left by that moment: place `64 w + k` of the page is bit `k` of word `w`.
     pub(crate) left: [u64; WORDS],
 }
 
-/// Of a page that has changed: each moment may have come, until it is looked at again.
+/// The values of a page that has changed. Each moment may have come, until the page is looked at
+/// again.
 pub(crate) const UNKNOWN: PageEnds = PageEnds {
     all: 0,
     staying: 0,
@@ -43,7 +45,8 @@ pub(crate) fn is_by(one: Option<u64>, other: Option<u64>) -> bool
     }
 }
 
-/// Whether an element stays in a set that those have left which were expired at `passed`.
+/// Whether an element stays in a set from which the elements that were expired at `passed` have
+/// left.
 fn stays(element: &Element, passed: Option<u64>) -> bool
     ensures { result ≡ stays passed element.now }
 {
@@ -53,7 +56,7 @@ fn stays(element: &Element, passed: Option<u64>) -> bool
     }
 }
 
-/// The moment from which on an element is expired, if it stays.
+/// The moment from which on an element is expired, if it stays in the set.
 fn end_of_staying(element: &Element, passed: Option<u64>) -> u64
     ensures { result ≡ end_of passed element.now }
 {
@@ -64,14 +67,14 @@ fn end_of_staying(element: &Element, passed: Option<u64>) -> u64
     }
 }
 
-/// Whether an element stays, and is expired at `now`.
+/// Whether an element is still in the set and is expired at `now`.
 fn is_leaving(element: &Element, passed: Option<u64>, now: u64) -> bool
     ensures { result ≡ is_leaving passed now element.now }
 {
     stays(element, passed) && expired(element.expiry, now)
 }
 
-/// How many pages elements lie in.
+/// How many pages the elements have.
 pub(crate) fn pages_of(elements: &Pages<Element>) -> u64
     ensures all { length elements.now ≤ 512 * result }
     ensures few { 512 * result < length elements.now + 512 }
@@ -80,7 +83,7 @@ pub(crate) fn pages_of(elements: &Pages<Element>) -> u64
     elements.len().div_ceil(PAGE)
 }
 
-/// The first place of a page, and the place behind its last one.
+/// The first place of a page, and the place after its last one.
 fn places_of(elements: &Pages<Element>, page: u64) -> (u64, u64)
     requires { 512 * page < length elements.now }
     ensures first { result.0 ≡ 512 * page }
@@ -92,7 +95,7 @@ fn places_of(elements: &Pages<Element>, page: u64) -> (u64, u64)
     (from, from + (count - from).min(PAGE))
 }
 
-/// Which of the 64 elements from place `from` on left by `passed`. Bit 0 stands for the first.
+/// Which of the 64 elements from place `from` on left by `passed`. Bit 0 is the first.
 fn left_word(elements: &Pages<Element>, from: u64, passed: Option<u64>) -> u64
     ensures { (k : ℕ) (e : Element) → k < 64 → slice_get elements.now (from + k) ≡ Some e → bit result k ≡ not (stays passed e) }
 {
@@ -118,7 +121,7 @@ pub(crate) fn left_in(elements: &Pages<Element>, page: u64, passed: Option<u64>)
     words
 }
 
-/// The soonest ends of the elements of a page, and which of them left.
+/// The soonest expiries of the elements of a page, and which of them left.
 pub(crate) fn page_ends(elements: &Pages<Element>, page: u64, passed: Option<u64>) -> PageEnds
     requires { 512 * page < length elements.now }
     ensures { ArePageEnds passed elements.now page result }
@@ -140,7 +143,7 @@ pub(crate) fn page_ends(elements: &Pages<Element>, page: u64, passed: Option<u64
     ends
 }
 
-/// Looks again for the ends of pages which changed, or which an element left.
+/// Finds the moments of pages anew which changed, or which an element left.
 pub(crate) fn find_again(elements: &Pages<Element>, ends: &mut Vec<PageEnds>, passed: Option<u64>)
     requires { AreEnds passed elements.now ends.old.items }
     ensures { AreEnds passed elements.now ends.new.items }
@@ -152,7 +155,7 @@ pub(crate) fn find_again(elements: &Pages<Element>, ends: &mut Vec<PageEnds>, pa
     }
 }
 
-/// Looks for the ends of the pages that have none beside them, as far as there is memory.
+/// Finds the moments of the pages that have none yet, until memory runs out.
 pub(crate) fn find_rest(elements: &Pages<Element>, ends: &mut Vec<PageEnds>, passed: Option<u64>)
     requires { AreEnds passed elements.now ends.old.items }
     ensures { AreEnds passed elements.now ends.new.items }
@@ -164,7 +167,7 @@ pub(crate) fn find_rest(elements: &Pages<Element>, ends: &mut Vec<PageEnds>, pas
     }
 }
 
-/// How many of the elements of a page stay and are expired at `now`.
+/// How many of the elements of a page are still in the set and are expired at `now`.
 pub(crate) fn count_in(elements: &Pages<Element>, page: u64, passed: Option<u64>, now: u64) -> u64
     requires { 512 * page < length elements.now }
     ensures { count_by (is_leaving passed now) (take (512 * page) elements.now) + result ≡ count_by (is_leaving passed now) (take (512 * page + 512) elements.now) }

@@ -11,15 +11,18 @@ use shared_pages::{PAGE, Pages};
 use std::alloc::Global;
 use std::marker::Model;
 
-/// The elements of a set, in order of insertion, in pages that copies share. Beside each page stand
-/// moments before which none of its elements is expired, so that whoever looks for expired elements
-/// passes over it, and which of its elements left. Contracts see the list.
+/// The elements of a set in the order of insertion, in pages that copies share.
+///
+/// Each page has moments before which none of its elements is expired. So a search for expired
+/// elements skips the page until then. It also has one bit per element, which says whether the
+/// element left. Contracts see the list.
 #[derive(Drop)]
 pub struct TimedElements {
     items: Pages<Element>,
-    /// Of the first pages, up to one that wasn't looked at since elements came or closed up.
+    /// Of the first pages, up to the first page that wasn't looked at after elements were added or
+    /// moved.
     ends: Vec<PageEnds>,
-    /// Elements that are expired at this moment don't stay.
+    /// Elements that are expired at this moment have left.
     passed: Option<u64>,
 }
 
@@ -35,7 +38,7 @@ impl Model for TimedElements {
     ghost invariant = { λ a. AreEnds a.passed a.items a.ends.items };
 }
 
-/// An element with another expiry. It shares its intervals and its comment.
+/// The element with another expiry. It shares the intervals and the comment.
 fn renewed(alloc: Global, element: &Element, expiry: Option<u64>) -> Result<Element, Memory>
     ensures { IfOk result (λ other. other ≡ record { id = element.now.id; parts = element.now.parts; expiry = expiry; comment = element.now.comment }) }
 {
@@ -44,7 +47,7 @@ fn renewed(alloc: Global, element: &Element, expiry: Option<u64>) -> Result<Elem
     Ok(other)
 }
 
-/// Lets the ends of the page of place `i` be unknown.
+/// Makes the moments of the page of place `i` unknown.
 fn forget(ends: &mut Vec<PageEnds>, i: u64)
     ensures { (passed : Option ℕ) (elements others : List Element) → AreEnds passed elements ends.old.items → DifferAt i elements others → AreEnds passed others ends.new.items }
 {
@@ -84,7 +87,7 @@ impl TimedElements {
     /// Adds an element at the end.
     ///
     /// # Errors
-    /// `Memory` if there is none left. The list is as it was.
+    /// `Memory` if memory runs out. The list is as it was.
     pub fn push(&mut self, element: Element) -> Result<(), Memory>
         requires { length self.old < 2 ^ 64 - 1 }
         ensures ok { OnOk result (self.new ≡ self.old ++ element ∷ []) }
@@ -96,10 +99,10 @@ impl TimedElements {
         Ok(())
     }
 
-    /// Takes the element at place `i` out. The later ones close up.
+    /// Removes the element at place `i`. Later elements move down.
     ///
     /// # Errors
-    /// `Memory` if there is none left. The list is as it was.
+    /// `Memory` if memory runs out. The list is as it was.
     pub fn remove(&mut self, i: u64) -> Result<Element, Memory>
         requires { i < length self.old }
         ensures item { IfOk result (λ element. slice_get self.old i ≡ Some element) }
@@ -114,7 +117,7 @@ impl TimedElements {
     /// Changes the expiry of the element at place `i`, and nothing else.
     ///
     /// # Errors
-    /// `Memory` if there is none left. The list is as it was.
+    /// `Memory` if memory runs out. The list is as it was.
     pub fn set_expiry(&mut self, alloc: Global, i: u64, expiry: Option<u64>) -> Result<(), Memory>
         requires { i < length self.old }
         ensures ok { OnOk result (self.new ≡ renewed_at self.old i expiry) }
@@ -126,7 +129,8 @@ impl TimedElements {
         Ok(())
     }
 
-    /// Whether the moments beside a page tell that no element of it stays and is expired at `now`.
+    /// Whether the moments of a page say that none of its elements is still in the set and expired
+    /// at `now`.
     fn is_quiet(&self, page: u64, passed: Option<u64>, now: u64) -> bool
         ensures { result ≡ true → HasNoneLeaving passed now self.now page }
     {
@@ -145,8 +149,9 @@ impl TimedElements {
         self.count_leaving(None, now)
     }
 
-    /// How many elements of a set that those have left which were expired at `passed` are expired at `now`, both in
-    /// milliseconds. Elements of a page whose moments haven't come aren't looked at.
+    /// How many elements of a set are expired at `now`. The set is this list without the elements
+    /// that were expired at `passed`. Both moments are in milliseconds. The call skips each page
+    /// whose moment hasn't come.
     pub fn count_leaving(&self, passed: Option<u64>, now: u64) -> u64
         ensures { result ≡ count_by (is_leaving passed now) self.now }
     {
@@ -170,11 +175,12 @@ impl TimedElements {
         }
     }
 
-    /// Which elements are expired at `now`, in milliseconds. Where these are the elements that left, and
-    /// no page changed since [`find_soonest`](TimedElements::find_soonest), no element is looked at.
+    /// Which elements are expired at `now`, in milliseconds. If these are the elements that left,
+    /// and no page changed since [`find_soonest`](TimedElements::find_soonest), the call looks at
+    /// no element.
     ///
     /// # Errors
-    /// `Memory` if there is none left.
+    /// `Memory` if memory runs out.
     pub fn expired_marks(&self, alloc: Global, now: u64) -> Result<RankedBits, Memory>
         ensures { IfOk result (λ marks. marks ≡ map (is_expired now) self.now) }
     {
@@ -185,8 +191,9 @@ impl TimedElements {
         RankedBits::of_words(alloc, words, self.items.len())
     }
 
-    /// Lets the moments beside each page be the soonest expiries of its elements and of those that aren't expired at
-    /// `passed`, and the marks be those of the others. They are looked for anew only where the page changed or an element left it.
+    /// Makes the moments of each page the soonest expiries: of its elements, and of those that
+    /// aren't expired at `passed`. The marks become the elements that are expired at `passed`. It
+    /// looks only at pages that changed or that an element left.
     pub fn find_soonest(&mut self, passed: Option<u64>)
         ensures { self.new ≡ self.old }
     {
@@ -198,10 +205,10 @@ impl TimedElements {
         self.passed = passed;
     }
 
-    /// Lets copies share the elements from now on. No element is copied.
+    /// Lets copies share the elements from now on. It copies no element.
     ///
     /// # Errors
-    /// `Memory` if there is none left. The list is as it was.
+    /// `Memory` if memory runs out. The list is as it was.
     pub fn settle(&mut self) -> Result<(), Memory>
         ensures { self.new ≡ self.old }
     {

@@ -1,4 +1,4 @@
--- A block holds a value exactly where all groups agree.
+-- A block holds a value exactly if all groups agree.
 use Rattle.std.proofs.Common.{◌≡◌, refl, sym, ◌∙◌, ap, ℕ, zero, suc, ◌+◌, ◌-◌, ◌*◌, ◌/◌, ◌%◌, ◌^◌, ◌<◌, ◌≤◌, ◌⊎◌, max, Bool, true, ◌&&◌, ◌==◌, nat_le, nat_lt, bit_and, arith, inl, inr}
 use Rattle.std.proofs.lemmas.Bool.{cases_lt, cases_eq, cases_order, lt-leb, le-leb, lt-ltb, le-ltb, eq-eqb, ne_eqb}
 use Rattle.std.proofs.lemmas.Nat.{pow_pos, pow_below, shl-shr, shr-shr, field_of, and_mask, one_shl, div-add-mod', mod_below}
@@ -32,14 +32,14 @@ pub ruleset masks = (group-mask, short-mask, fixed-fits)
 pub free_below : (a b : ℕ) → 2 ^ a ≤ 2 ^ b → a ≤ b
 free_below a b h = elim (cases_lt b a) [ inl l ↦ let q : 2 ^ b < 2 ^ a = pow_below b a l in absurd (omega arith) | inr l ↦ l ]
 
--- a block's free bits are no more than the field has
+-- a block has no more free bits than the field has bits
 pub free-within : (bits : ℕ) (block : Block) → IsWithin bits block → block.free_bits ≤ bits
 free-within bits block within = let b = within.below in free_below block.free_bits bits (omega arith)
 
 pub base-below : (bits : ℕ) (block : Block) → IsWithin bits block → block.base < 2 ^ bits
 base-below bits block within = let b = within.below in let p : 0 < 2 ^ block.free_bits = pow_pos block.free_bits in omega arith
 
--- agreement on the high bits of a group is agreement of what is left of them
+-- two groups agree on their high bits exactly if what is left without the low bits is equal
 pub same-high : (w k x y : ℕ) → k ≤ w → x < 2 ^ w → y < 2 ^ w → (bit_and x (2 ^ w - 2 ^ k) == bit_and y (2 ^ w - 2 ^ k)) ≡ (x / 2 ^ k == y / 2 ^ k)
 same-high w k x y h a b =
     rw (and_high_mask w k h x a, and_high_mask w k h y b) (go (cases_eq (x / 2 ^ k) (y / 2 ^ k))) where
@@ -51,7 +51,7 @@ same-high w k x y h a b =
       go (inr e) =
           ne_eqb (x / 2 ^ k * 2 ^ k) (y / 2 ^ k * 2 ^ k) (λ f. e (same_factor (x / 2 ^ k) (y / 2 ^ k) f)) ∙ sym (ne_eqb (x / 2 ^ k) (y / 2 ^ k) e)
 
--- two numbers are equal where their high parts and their low parts are
+-- two numbers are equal exactly if their high parts and their low parts are
 pub split-same : (x y j : ℕ) → (x == y) ≡ ((x / 2 ^ j == y / 2 ^ j) && (x % 2 ^ j == y % 2 ^ j))
 split-same x y j = go (cases_eq (x / 2 ^ j) (y / 2 ^ j)) (cases_eq (x % 2 ^ j) (y % 2 ^ j)) where
   joined : x / 2 ^ j ≡ y / 2 ^ j → x % 2 ^ j ≡ y % 2 ^ j → x ≡ y
@@ -115,7 +115,7 @@ group-high width bits g value k h =
     ap (λ w. value / 2 ^ shift width bits g % 2 ^ w / 2 ^ k) e ∙ field_of (value / 2 ^ shift width bits g) (width - k) k
     ∙ ap (λ n. n % 2 ^ (width - k)) (shr-shr value (shift width bits g) k)
 
--- a value of a group agrees where it and the base's group are the same above the free bits
+-- a value of a group agrees if it equals the base's group above the free bits
 pub agrees-as : (width bits g : ℕ) (block : Block) (v : ℕ) → v < 2 ^ width
     → agrees width bits block g v ≡ (v / 2 ^ free_in width bits g block == group width bits g block.base / 2 ^ free_in width bits g block)
 unfolding agrees
@@ -138,7 +138,7 @@ agrees-high width bits g block value k e =
 
 -- ---- from the first group down
 
--- one group more: what was the same from bit t + j on now is so from bit t on
+-- one more group: what was equal from bit t + j on is equal from bit t on
 one-more : (value base t j n : ℕ) → (n ≡ t) ⊎ (j ≡ 0)
     → ((value / 2 ^ (t + j) == base / 2 ^ (t + j)) && (value / 2 ^ n % 2 ^ j == base / 2 ^ n % 2 ^ j)) ≡ (value / 2 ^ t == base / 2 ^ t)
 one-more value base t j n (inl e) =
@@ -157,7 +157,8 @@ one-more value base t j n (inr e) =
       same : t + 0 ≡ t
       same = omega arith
 
--- The first n groups agree where value and base are the same from the last bit of these groups on, but for the free bits.
+-- The first n groups agree exactly if value and base are equal from the last bit of these groups
+-- on, but for the free bits.
 pub groups-so_far : (width bits : ℕ) (block : Block) (value n : ℕ) → block.free_bits ≤ bits → block.base < 2 ^ bits → value < 2 ^ bits → width * n ≤ bits
     → every (λ g. agrees width bits block g (group width bits g value)) n
     ≡ (value / 2 ^ max block.free_bits (bits - width * n) == block.base / 2 ^ max block.free_bits (bits - width * n))
@@ -189,7 +190,7 @@ whole-groups width bits w = go (cases_eq width 4) where
   go (inl h) = let e = w.bytes in rw h (omega arith)
   go (inr h) = let a = w.fours in let b = w.four in let d = w.eight in let e = w.bytes in let eight : width ≡ 8 = omega arith in rw eight (omega arith)
 
--- group g and what lies below it are within the field
+-- group g and the bits below it are within the field
 pub group-within : (width bits g : ℕ) → IsWidth width bits → g < bits / width → shift width bits g + width + width * g ≡ bits
 group-within width bits g w h =
     let whole = whole-groups width bits w in

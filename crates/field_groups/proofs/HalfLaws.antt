@@ -20,7 +20,7 @@ low-half bits g value h =
     let e : n % 2 ^ 4 ≡ n % 2 ^ 8 % 2 ^ 4 = omega arith in
     ap (λ k. value / 2 ^ k % 2 ^ 4) s ∙ e
 
--- A value agrees in a group of eight bits exactly where its halves agree in the groups of four.
+-- A value agrees in a group of eight bits exactly if its halves agree in the groups of four.
 pub agrees-halves : AgreeingHalves
 agrees-halves bits g block v h small = go (cases_lt 4 (free_in 8 bits g block)) where
   b : ℕ

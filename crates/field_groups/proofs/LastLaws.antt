@@ -1,4 +1,4 @@
--- Where a value's last groups stand.
+-- The places of a value's last groups.
 use Rattle.std.proofs.Common.{◌≡◌, sym, ◌∙◌, ap, ℕ, ◌+◌, ◌-◌, ◌*◌, ◌/◌, ◌%◌, ◌^◌, ◌<◌, ◌≤◌, ◌⊎◌, inl, inr, subst, bit_and, arith}
 use Rattle.std.proofs.lemmas.Bool.{cases_eq}
 use Rattle.std.proofs.lemmas.Nat.{field_of, shl_whole, mul-add-lt}
@@ -8,7 +8,7 @@ use Rattle.field_groups.specs.Groups.{IsWidth, group, shift}
 use Rattle.field_groups.specs.LastFour.{IsGroupPlace}
 use Rattle.field_groups.proofs.GroupLaws.{group-below, short-mask}
 
--- The group with so many groups behind it begins above as many groups of bits.
+-- The group with so many groups after it begins above as many groups of bits.
 shift-behind : (width bits behind : ℕ) → IsWidth width bits → behind < bits / width → shift width bits (bits / width - 1 - behind) ≡ width * behind
 shift-behind width bits behind w h = go (cases_eq width 4) where
   go : (width ≡ 4) ⊎ (width ≡ 4 → ⊥) → shift width bits (bits / width - 1 - behind) ≡ width * behind
@@ -22,7 +22,7 @@ shift-behind width bits behind w h = go (cases_eq width 4) where
       let n : behind < bits / 8 = rw eight at h in
       rw eight (omega arith)
 
--- Bits that lie in a value's 32 lowest are those of the value.
+-- Bits within a value's 32 lowest bits are the same in the value.
 low-bits : (value s width : ℕ) → s + width ≤ 32 → value % 2 ^ 32 / 2 ^ s % 2 ^ width ≡ value / 2 ^ s % 2 ^ width
 low-bits value s width h =
     let sum : 32 - s - width + width + s ≡ 32 = omega arith in

@@ -1,4 +1,4 @@
--- The values of a group that agree with a block are a run, and the mask of a group.
+-- The values of a group that agree with a block are a run. The mask of a group.
 use Rattle.std.proofs.Common.{◌≡◌, sym, ◌∙◌, ap, ℕ, ◌+◌, ◌-◌, ◌*◌, ◌/◌, ◌%◌, ◌^◌, ◌<◌, ◌≤◌, ◌⊎◌, min, ◌&&◌, ◌==◌, nat_le, nat_lt, bit_and, arith, inl, inr}
 use Rattle.std.proofs.lemmas.Bool.{cases_lt}
 use Rattle.std.proofs.lemmas.Nat.{pow_pos, pow-add, shl-shr, shr_below, div-mul-add, mod-mul-add}
@@ -25,7 +25,7 @@ run-end w k x h a =
       below : (p q r : ℕ) → q ≡ r → p < q → p < r
       below p q r f l = omega arith
 
--- the run lies within the group's values
+-- the run is within the group's values
 pub run-fits : (width bits g : ℕ) (block : Block) → first_agreeing width bits g block + agreeing_count width bits g block ≤ 2 ^ width
 run-fits width bits g block =
     let k : ℕ = free_in width bits g block in
@@ -49,7 +49,7 @@ agrees-run width bits g block v h =
       two : {p q r t : ℕ} → p ≡ q → r ≡ t → (nat_le p v && nat_lt v (p + r)) ≡ (nat_le q v && nat_lt v (q + t))
       two x y = cc
 
--- where the block fixes the whole group, the run is the base's group alone
+-- if the block fixes the whole group, the run is the base's group alone
 pub first-fixed : (width bits g : ℕ) (block : Block) → free_in width bits g block ≡ 0 → first_agreeing width bits g block ≡ group width bits g block.base
 first-fixed width bits g block none =
     let b : ℕ = group width bits g block.base in
@@ -61,7 +61,7 @@ first-fixed width bits g block none =
 sub-mul : (x y z : ℕ) → (x - y) * z ≡ x * z - y * z
 sub-mul x y z = omega (arith, mul-sub z x y)
 
--- what lies above bit s of a mask
+-- what is above bit s of a mask
 mask-high : (n f s : ℕ) → f ≤ n → s ≤ n → (2 ^ n - 2 ^ f) / 2 ^ s ≡ 2 ^ (n - s) - 2 ^ (f - s)
 mask-high n f s a b = go (cases_lt s f) where
   p : 0 < 2 ^ s

@@ -1,4 +1,4 @@
--- Two blocks share a value exactly where in each group some value agrees with both.
+-- Two blocks share a value exactly if in each group some value agrees with both.
 use Rattle.std.proofs.Common.{◌≡◌, refl, sym, ◌∙◌, ap, ℕ, ◌+◌, ◌-◌, ◌*◌, ◌/◌, ◌%◌, ◌^◌, ◌<◌, ◌≤◌, ◌⊎◌, max, Bool, true, false, ◌&&◌, ◌==◌, nat_le, nat_lt, arith, inl, inr}
 use Rattle.std.proofs.lemmas.Bool.{cases_lt, cases_eq, cases_Bool, lt-leb, le-leb, lt-ltb, le-ltb, eq-eqb, ne_eqb, eqb-true, leb-true, ltb-true, and_parts, and_from, false_from_ne_true}
 use Rattle.std.proofs.lemmas.Nat.{pow_pos, shr-shr, div-add-mod', mod-pow-add}
@@ -12,13 +12,14 @@ use Rattle.field_groups.proofs.RangeTests.{every-same, some-false, some-true}
 use Rattle.field_groups.proofs.GroupLaws.{group-below, agrees-as, agrees-own, groups-so_far, whole-groups, held-high, free-within, base-below}
 use Rattle.field_groups.proofs.RunLaws.{agrees-run, run-fits}
 
--- what is the same from bit k on is the same further up
+-- what is equal from bit k on is equal further up
 further : (x y k m : ℕ) → k ≤ m → x / 2 ^ k ≡ y / 2 ^ k → x / 2 ^ m ≡ y / 2 ^ m
 further x y k m h e =
     let parts : m ≡ k + (m - k) = omega arith in
     ap (λ n. x / 2 ^ n) parts ∙ sym (shr-shr x k (m - k)) ∙ ap (λ q. q / 2 ^ (m - k)) e ∙ shr-shr y k (m - k) ∙ ap (λ n. y / 2 ^ n) (sym parts)
 
--- the block of b's base with the free bits of both: the group of a's base agrees with it exactly where some value agrees with a and b
+-- The block of b's base with the free bits of both. The group of a's base agrees with it exactly if
+-- some value agrees with a and b.
 abbrev joint : Block → Block → Block
 joint a b = record { base = b.base; free_bits = max a.free_bits b.free_bits }
 
@@ -32,7 +33,7 @@ joint-meets width bits g a b v h e f =
     let s : v / 2 ^ m ≡ group width bits g b.base / 2 ^ m = further v (group width bits g b.base) (free_in width bits g b) m (omega arith) q in
     agrees-as width bits g (joint a b) (group width bits g a.base) (group-below width bits g a.base) ∙ eq-eqb _ _ (sym r ∙ s)
 
--- and such a value: the group of the base that fixes more
+-- there is such a value: the group of the base that fixes more
 joint-found : (width bits g : ℕ) (a b : Block) → agrees width bits (joint a b) g (group width bits g a.base) ≡ true
     → (v : ℕ) × (v < 2 ^ width) × (agrees width bits a g v ≡ true) × (agrees width bits b g v ≡ true)
 joint-found width bits g a b e =
@@ -104,7 +105,7 @@ run-joint width bits g a b = go (cases_Bool (agrees width bits (joint a b) g (gr
 pub run-meets : (width bits g : ℕ) (a b : Block) → some_from (λ v. agrees width bits a g v) (first_agreeing width bits g b) (agreeing_count width bits g b) ≡ meets width bits a b g
 run-meets width bits g a b = run-joint width bits g a b ∙ sym (meets-joint width bits g a b)
 
--- where b leaves the whole group free, it meets each block
+-- if b leaves the whole group free, it meets each block
 pub meets-free : (width bits g : ℕ) (a b : Block) → free_in width bits g b ≡ width → meets width bits a b g ≡ true
 meets-free width bits g a b all =
     let top : free_in width bits g (joint a b) ≡ width = omega arith in
@@ -122,7 +123,8 @@ aligned-less n k m h e =
     let whole : n % 2 ^ ((m - k) + k) ≡ 0 = ap (λ j. n % 2 ^ j) (sym parts) ∙ e in
     omega arith
 
--- of two multiples of a power the one below the end of the other's block is not above its start
+-- Of two multiples of a power, take one that is below the end of the other's block. It is not above
+-- that block's start.
 start-below : (x y k : ℕ) → x % 2 ^ k ≡ 0 → y % 2 ^ k ≡ 0 → x < y + 2 ^ k → x ≤ y
 start-below x y k a b h =
     let p : x / 2 ^ k * 2 ^ k + x % 2 ^ k ≡ x = div-add-mod' x (2 ^ k) in
@@ -135,7 +137,7 @@ start-below x y k a b h =
         | inr l ↦ mul-le-mul_right size l
       ]
 
--- the larger block holds the smaller one's base exactly where they share a value
+-- the larger block holds the smaller one's base exactly if they share a value
 share-larger : (x k y m : ℕ) → k ≤ m → x % 2 ^ k ≡ 0 → y % 2 ^ m ≡ 0 → (nat_le y x && nat_lt x (y + 2 ^ m)) ≡ (nat_lt x (y + 2 ^ m) && nat_lt y (x + 2 ^ k))
 share-larger x k y m h a b = go (cases_lt x (y + 2 ^ m)) (cases_lt y (x + 2 ^ k)) where
   go : (x < y + 2 ^ m) ⊎ (y + 2 ^ m ≤ x) → (y < x + 2 ^ k) ⊎ (x + 2 ^ k ≤ y) → (nat_le y x && nat_lt x (y + 2 ^ m)) ≡ (nat_lt x (y + 2 ^ m) && nat_lt y (x + 2 ^ k))
@@ -177,7 +179,7 @@ groups-share width bits a b w aw bw =
           ap (λ t. a.base / 2 ^ t == b.base / 2 ^ t) top ∙ held-high b.base b.free_bits a.base bw.aligned
           ∙ share-larger a.base a.free_bits b.base b.free_bits h aw.aligned bw.aligned
 
--- The larger of the two bases is held by both where they share a value.
+-- If two blocks share a value, both hold the larger of their bases.
 pub share-held : SharedIsHeld
 share-held a b = (found, shared) where
   held : (block : Block) (v : ℕ) → block.base ≤ v → v < block.base + 2 ^ block.free_bits → holds_value block v ≡ true

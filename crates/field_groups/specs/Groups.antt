@@ -1,12 +1,13 @@
 -- Groups of a field's bits, and what a block fixes of them.
 --
--- A lookup looks at a field's value group by group, most significant first, as the kernel's theory
--- of operation of the pile of packet policies says: "the packet bits are grouped".
+-- A lookup takes a field's value group by group, most significant first. The kernel's theory of
+-- operation of the pile of packet policies says: "the packet bits are grouped".
 use Rattle.std.specs.Prelude.{◌≡◌, ℕ, zero, suc, ◌+◌, ◌-◌, ◌*◌, ◌/◌, ◌%◌, ◌^◌, ◌≤◌, min, Bool, true, false, ◌&&◌, ◌||◌, ◌==◌, nat_lt, bit_and}
 use Rattle.set_model.specs.declared.block.Block.{Block}
 
--- groups of `width` bits, which is 4 or 8, in a field of 1 to 16 whole bytes. A multiple of four between two bounds says so, since
--- arithmetic reads it, and a sum type is no proposition in an invariant.
+-- Groups of `width` bits, which is 4 or 8, in a field of 1 to 16 whole bytes. It is said as a
+-- multiple of four between two bounds: arithmetic reads that, and a sum type is no proposition in
+-- an invariant.
 pub record IsWidth (width bits : ℕ) : Type 0 where
   pub fours : width % 4 ≡ 0
   pub four : 4 ≤ width
@@ -15,7 +16,7 @@ pub record IsWidth (width bits : ℕ) : Type 0 where
   pub some : 8 ≤ bits
   pub most : bits ≤ 128
 
--- how many bits of the field lie below group g
+-- how many bits of the field are below group g
 abbrev pub shift : ℕ → ℕ → ℕ → ℕ
 shift width bits g = bits - width * (g + 1)
 
@@ -27,11 +28,12 @@ group width bits g value = value / 2 ^ shift width bits g % 2 ^ width
 abbrev pub free_in : ℕ → ℕ → ℕ → Block → ℕ
 free_in width bits g block = min width (block.free_bits - shift width bits g)
 
--- the mask of the bits of group g that the block fixes: all but the free ones
+-- the mask of the bits of group g that the block fixes: all but the free bits
 abbrev pub fixed : ℕ → ℕ → ℕ → Block → ℕ
 fixed width bits g block = 2 ^ width - 2 ^ free_in width bits g block
 
--- The value v of group g agrees with the block: with the group of its base, on the bits that the block fixes.
+-- The value v of group g agrees with the block: it equals the group of the base on the bits that
+-- the block fixes.
 unfoldable pub agrees : ℕ → ℕ → Block → ℕ → ℕ → Bool
 agrees width bits block g v = bit_and v (fixed width bits g block) == bit_and (group width bits g block.base) (fixed width bits g block)
 
@@ -57,6 +59,6 @@ some_from p from (suc n) = some_from p from n || p (from + n)
 abbrev pub meets : ℕ → ℕ → Block → Block → ℕ → Bool
 meets width bits a b g = some_from (λ v. agrees width bits a g v && agrees width bits b g v) 0 (2 ^ width)
 
--- The blocks share a value: each begins before the other one's end.
+-- The blocks share a value: each begins before the other one ends.
 abbrev pub share_value : Block → Block → Bool
 share_value a b = nat_lt a.base (b.base + 2 ^ b.free_bits) && nat_lt b.base (a.base + 2 ^ a.free_bits)

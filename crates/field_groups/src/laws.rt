@@ -1,18 +1,18 @@
-// Laws of groups and blocks, each the contract of a function that does nothing, so that the check
-// proves them and callers may cite them.
+// Laws of groups and blocks. Each is the contract of a function that does nothing, so callers may
+// cite it.
 ghost use Rattle.field_groups.specs.Laws.{HeldByGroups, SharedByGroups, SharedIsHeld, AgreeingRun, AgreeingHalves, FixedByMask};
 
-/// A block holds a value exactly where in each group the value agrees with the block.
+/// A block holds a value exactly if in each group the value agrees with the block.
 pub fn held_by_groups()
     ensures { HeldByGroups }
 {}
 
-/// Two blocks share a value exactly where in each group some value agrees with both.
+/// Two blocks share a value exactly if in each group some value agrees with both.
 pub fn shared_by_groups()
     ensures { SharedByGroups }
 {}
 
-/// Two blocks share a value, as their ends say, exactly where some value is held by both.
+/// Two blocks share a value, by their ends, exactly if both hold some value.
 pub fn shared_is_held()
     ensures { SharedIsHeld }
 {}
@@ -22,8 +22,8 @@ pub fn agreeing_run()
     ensures { AgreeingRun }
 {}
 
-/// A value of a group of eight bits agrees with a block exactly where its halves do in the two
-/// groups of four bits.
+/// A value of a group of eight bits agrees with a block exactly if its halves do in the two groups
+/// of four bits.
 pub fn agreeing_halves()
     ensures { AgreeingHalves }
 {}

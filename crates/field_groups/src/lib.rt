@@ -1,8 +1,19 @@
-//! Groups of a field's bits, and what a block fixes of them.
+//! Groups of a field's bits, and which bits of each group a block fixes.
 //!
-//! A field of whole bytes is looked up in groups of four or eight bits, the most significant group
-//! first. A block fixes the upper bits of its base and leaves the lower ones free, so in each group
-//! it fixes all bits, the upper ones or none.
+//! A lookup cuts a value into groups of four or eight bits, the most significant first. A block
+//! fixes the upper bits of its base and leaves the lower ones free. So in each group it fixes all
+//! bits, the upper bits, or none. In groups of eight bits, two blocks of the example are:
+//!
+//! ```text
+//!                    group 0   group 1   group 2   group 3
+//! 192.168.2.0/31     192       168       2         0 or 1     fixes seven bits of group 3
+//! 192.168.1.0/24     192       168       1         0-255      fixes no bit of group 3
+//! ```
+//!
+//! A value agrees with a block in a group if it equals the base on the fixed bits. 192.168.1.5
+//! agrees with the second block in all four groups, so that block holds it (`held_by_groups`). It
+//! doesn't agree with the first block in group 2. The values of a group that agree with a block are
+//! always a run (`agreeing_run`).
 //!
 //! **Definitions:** `specs/Groups.antt`, with the laws for both widths in `Laws.antt`. **Theory:**
 //! docs/architecture.md, "The classifier, by one example". **Proofs:** docs/proofs.md, "Tables

@@ -2,17 +2,18 @@ ghost use Rattle.std.specs.Prelude.{◌≡◌, ◌-◌, ◌/◌, ◌<◌, ◌≤
 ghost use Rattle.field_groups.specs.Groups.{IsWidth};
 ghost use Rattle.field_groups.specs.LastFour.{IsGroupPlace, AreLastFour};
 
-/// Where the last four groups of a value stand in a list with an item for each value of each group, and
-/// how many groups there are before them. A field of fewer groups has its first one more than once.
+/// The places of the last four groups of a value, and the number of groups before them. The list
+/// has an item for each value of each group. If a field has fewer groups, its first group is there
+/// more than once.
 #[derive(Clone, Copy)]
 pub struct LastFour {
-    /// Where the fourth group from the end stands.
+    /// The place of the fourth group from the end.
     pub fourth: usize,
-    /// Where the third one from the end stands.
+    /// The place of the third group from the end.
     pub third: usize,
-    /// Where the last one but one stands.
+    /// The place of the last group but one.
     pub second: usize,
-    /// Where the last group stands.
+    /// The place of the last group.
     pub last: usize,
     /// How many groups there are before the four.
     pub rest: u32,
@@ -27,7 +28,7 @@ pub fn group_count(width: u32, bits: u32) -> u32
     if width == 8 { bits / 8 } else { bits / 4 }
 }
 
-/// Where a value's group stands that has `behind` groups behind it.
+/// The place of the value's group that has `behind` groups after it.
 #[inline(always)]
 fn place_behind(value: u128, width: u32, bits: u32, behind: u32) -> usize
     requires width { IsWidth width bits }
@@ -36,13 +37,13 @@ fn place_behind(value: u128, width: u32, bits: u32, behind: u32) -> usize
     ensures { IsGroupPlace width bits value (bits / width - 1 - behind) result }
 {
     let g = group_count(width, bits) - 1 - behind;
-    // Four groups are 32 bits at most.
+    // Four groups are at most 32 bits.
     let low = (value % (1 << 32)) as u64;
     let v = low >> (width * behind) & (1u64 << width) - 1;
     ((g as usize) << width) + v as usize
 }
 
-/// Where a value's last four groups stand.
+/// The places of a value's last four groups.
 #[inline(always)]
 pub fn last_four(value: u128, width: u32, bits: u32) -> LastFour
     requires { IsWidth width bits }

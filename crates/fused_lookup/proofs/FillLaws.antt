@@ -21,7 +21,7 @@ no_span = record { first = 0; count = 0 }
 pub filled-none : (spans : List Span) (bits next : List Bool) → IsClear next → IsFilled spans bits 0 next
 filled-none spans bits next clear = record { places = λ r. clear.places r }
 
--- behind the last rule nothing is added
+-- after the last rule nothing is added
 past-all : (spans : List Span) (row : List Bool) (n r : ℕ) → length row ≡ length spans → length spans ≤ n → reached_by spans row n r ≡ reached spans row r
 past-all spans row n r long past =
     let m = length-zip spans row in
@@ -59,7 +59,7 @@ filled-set spans row n old new long within set inside made filled = record {
       (ap (λ xs. at xs r) made ∙ at-run old (get_or spans n no_span).first (get_or spans n no_span).count r inside);
 }
 
--- one set bit of a word further
+-- one more set bit of a word
 pub filled-bit : (spans : List Span) (row : List Bool) (i word from k : ℕ) (old new : List Bool) → length row ≡ length spans → IsWordOf row i word → IsNextBit word from k
     → 64 * i + k < length spans
     → (get_or spans (64 * i + k) no_span).first + (get_or spans (64 * i + k) no_span).count ≤ length old

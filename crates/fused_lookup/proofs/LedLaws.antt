@@ -46,7 +46,7 @@ between row i word from k is next p a b =
     let e : 64 * i + (p - 64 * i) ≡ p = omega arith in
     ap (at row) (sym e) ∙ sym (is.bits (p - 64 * i) (omega arith)) ∙ next.least (p - 64 * i) (omega arith) (omega arith)
 
--- one bit of a word further, whose rule's end isn't live
+-- one more bit of a word, if the end of its rule isn't live
 pub nowhere-bit : (ends : List End) (row : List Bool) (now i word from k : ℕ) → length row ≡ length ends → IsWordOf row i word → IsNextBit word from k → 64 * i + k < length ends
     → lives (get_or ends (64 * i + k) some_end).expiry now ≡ false → LeadsNowhere ends row now (64 * i + from) → LeadsNowhere ends row now (64 * i + (k + 1))
 nowhere-bit ends row now i word from k long is next within dead so_far =
@@ -63,7 +63,7 @@ nowhere-rest ends row now i word from long is none so_far = nowhere-skip ends ro
       let e : 64 * i + (p - 64 * i) ≡ p = omega arith in
       ap (at row) (sym e) ∙ sym (is.bits (p - 64 * i) (omega arith)) ∙ none (p - 64 * i) (omega arith) (omega arith)
 
--- a word of which no rule is matched
+-- a word without a matched rule
 pub nowhere-zero : (ends : List End) (row : List Bool) (now i word : ℕ) → length row ≡ length ends → IsWordOf row i word → word ≡ 0 → LeadsNowhere ends row now (64 * i) → LeadsNowhere ends row now (64 * (i + 1))
 nowhere-zero ends row now i word long is zero so_far = nowhere-rest ends row now i word 0 long is (λ k a b. ap (λ x. bit x k) zero ∙ bit-zero k) (rw (add-zero (64 * i)) so_far)
 
@@ -110,7 +110,7 @@ pub led-skip : (ends : List End) (row : List Bool) (now a b : ℕ) (found : Opti
 led-skip ends row now a b (Some place) long unset is = is
 led-skip ends row now a b None long unset is = nowhere-skip ends row now a b long unset is
 
--- behind word by word: no rule from n on is matched
+-- after the last word: no rule from n on is matched
 pub led-all : (ends : List End) (row : List Bool) (now n : ℕ) (found : Option ℕ) → length row ≡ length ends → ((k : ℕ) → n ≤ k → at row k ≡ false) → IsLed ends row now n found → found ≡ led_to ends row now
 led-all ends row now n (Some place) long unset is = is
 led-all ends row now n None long unset is =

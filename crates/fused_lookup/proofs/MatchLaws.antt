@@ -19,7 +19,7 @@ length-left test [] row h = refl
 length-left test (b ∷ blocks) [] h = absurd (omega arith)
 length-left test (b ∷ blocks) (x ∷ row) h = let l : length blocks ≤ length row = omega arith in ap suc (length-left test blocks row l)
 
--- a rule is left where it was and its block passes
+-- a rule is left if it was set and its block passes
 pub left-at : (test : Block → Bool) (blocks : List Block) (row : List Bool) (r : ℕ) → length blocks ≤ length row → r < length blocks → at (matched test blocks row) r ≡ (at row r && test (block_at blocks r))
 left-at test [] row r h l = absurd (omega arith)
 left-at test (b ∷ blocks) [] r h l = absurd (omega arith)
@@ -73,7 +73,7 @@ ones-left n i = record { bits = λ k h l. bit-ones 64 k ∙ lt-ltb k 64 h ∙ sy
 pub left-below : (test : Block → Bool) (blocks : List Block) (row : List Bool) (w : Window) → length blocks ≤ length row → IsWindow row w → (k : ℕ) → k < 64 * w.first → at (matched test blocks row) k ≡ false
 left-below test blocks row w room is k h = left-unset test blocks row k room (is.below k h)
 
--- the row of a walk through a window: clear before word i, and as it was from there on
+-- the row of a walk through a window: clear before word i, and unchanged from there on
 pub record IsTaken (i : ℕ) (old now : List Bool) : Type 0 where
   pub long : length now ≡ length old
   pub before : (p : ℕ) → p < 64 * i → at now p ≡ false
@@ -106,6 +106,6 @@ taken-all i old now unset taken = record { places = λ p. go p (cases_lt p (64 *
   go p (inl l) = taken.before p l
   go p (inr l) = taken.behind p l ∙ unset p l
 
--- a word that is taken out
+-- a word that is taken out of the row
 pub taken-left : (n i word : ℕ) (old now : List Bool) → IsTaken i old now → ((k : ℕ) → k < 64 → bit word k ≡ at now (64 * i + k)) → IsLeft n old i word
 taken-left n i word old now taken is = record { bits = λ k h l. is k h ∙ taken.behind (64 * i + k) (omega arith) }

@@ -1,4 +1,4 @@
--- Windows: what they have, and what they leave out.
+-- What windows have and leave out.
 use Rattle.std.proofs.Common.{◌≡◌, refl, sym, ◌∙◌, ap, ℕ, ◌+◌, ◌-◌, ◌*◌, ◌/◌, ◌%◌, ◌^◌, ◌<◌, ◌≤◌, ◌⊎◌, inl, inr, Bool, true, false, ◌&&◌, ◌||◌, nat_le, nat_lt, List, length, bit_or, arith}
 use Rattle.std.proofs.lemmas.Bool.{cases_lt, le-leb, lt-ltb}
 use Rattle.bit_rows.specs.Row.{at, bit, with_run}
@@ -47,7 +47,7 @@ not-kept : (before now : Bool) → (before ≡ true → now ≡ true) → now �
 not-kept true now kept off = let e : false ≡ true = sym off ∙ kept refl in absurd (cc e)
 not-kept false now kept off = refl
 
--- the window of a row with a run of places more
+-- the window of a row after a run of places is set
 pub window-run : (old new : List Bool) (w v : Window) (from n : ℕ) → from + n ≤ length old → new ≡ with_run old from n → length new ≡ length old → IsWidened w from n v → IsWindow old w → IsWindow new v
 window-run old new w v from n inside made long wide is = record {
   below = λ i h. unset i (is.below i (let a = wide.first in omega arith)) (λ p q. let some : 0 < n = omega arith in let b = wide.low some in omega arith);
@@ -70,11 +70,11 @@ clear-window bits w none clear = record {
   within = omega arith;
 }
 
--- in words that weren't touched nothing is set
+-- nothing is set in words that weren't touched
 pub unset-between : (row : List Bool) (w : Window) (from to : ℕ) → IsWindow row w → AreUntouched w from to → (p : ℕ) → 64 * from ≤ p → p < 64 * to → at row p ≡ false
 unset-between row w from to is none p low high = is.apart p (none (p / 64) (omega arith) (omega arith))
 
--- nor behind the last that was
+-- nothing is set after the last touched word
 pub unset-rest : (row : List Bool) (w : Window) (from : ℕ) → IsWindow row w → AreUntouched w from w.end → (p : ℕ) → 64 * from ≤ p → at row p ≡ false
 unset-rest row w from is none p low = go (cases_lt p (64 * w.end)) where
   go : (p < 64 * w.end) ⊎ (64 * w.end ≤ p) → at row p ≡ false

@@ -1,4 +1,4 @@
--- The next field's row while a field's rules are gone through.
+-- The next field's row during the walk through a field's rules.
 use Rattle.std.specs.Prelude.{◌≡◌, ℕ, ◌+◌, ◌*◌, ◌≤◌, Bool, true, false, List, length, take, replicate}
 use Rattle.std.specs.List.{zip, list_any}
 use Rattle.bit_rows.specs.Row.{at}
@@ -21,7 +21,8 @@ reached_by spans row n r = list_any (reaches r) (take n (zip spans row))
 pub record IsFilled (spans : List Span) (row : List Bool) (n : ℕ) (next : List Bool) : Type 0 where
   pub places : (r : ℕ) → at next r ≡ reached_by spans row n r
 
--- Word i of a row goes into the next one: what has the rules before the word has then the word's rules too.
+-- Word i of a row goes into the next row. If the next row has what the rules before the word reach,
+-- it then has what the word's rules reach, too.
 abbrev pub FillsWord : List Span → ℕ → ℕ → List Bool → List Bool → Type 0
 FillsWord spans i word old new = (row : List Bool) → length row ≡ length spans → IsWordOf row i word → IsFilled spans row (64 * i) old → IsFilled spans row (64 * (i + 1)) new
 
@@ -29,12 +30,13 @@ FillsWord spans i word old new = (row : List Bool) → length row ≡ length spa
 abbrev pub Refills : FieldTable → List Span → (Block → Bool) → List Bool → List Bool → Type 0
 Refills t spans test row next = (blocks : List Block) → Stands t blocks → next ≡ refilled spans (matched test blocks row) (length next)
 
--- A word of the rules that may be left is matched, and what is left of it goes into the next row.
+-- A word of the rules that may be left is matched. What is left of it goes into the next row.
 abbrev pub RefillsWord : FieldTable → List Span → (Block → Bool) → ℕ → ℕ → List Bool → List Bool → Type 0
 RefillsWord t spans test i left old new = (blocks : List Block) (row : List Bool) → Stands t blocks → t.rules ≤ length row → IsLeft t.rules row i left
     → IsFilled spans (matched test blocks row) (64 * i) old → IsFilled spans (matched test blocks row) (64 * (i + 1)) new
 
--- The words from `from` up to `to` are matched, of all rules, and what is left of them goes into the next row.
+-- The words of all rules from `from` up to `to` are matched. What is left of them goes into the
+-- next row.
 abbrev pub RefillsWords : FieldTable → List Span → (Block → Bool) → ℕ → ℕ → List Bool → List Bool → Type 0
 RefillsWords t spans test from to old new = (blocks : List Block) → Stands t blocks
     → IsFilled spans (matched test blocks (replicate t.rules true)) (64 * from) old → IsFilled spans (matched test blocks (replicate t.rules true)) (64 * to) new

@@ -26,7 +26,7 @@ in_all words buckets w k =
     ((bit (slice_index words (buckets.fourth * 8 + w)) k && bit (slice_index words (buckets.third * 8 + w)) k) && bit (slice_index words (buckets.second * 8 + w)) k)
     && bit (slice_index words (buckets.last * 8 + w)) k
 
--- A bit of word i stays where its rule is set in the buckets of the first n groups too.
+-- A bit of word i stays set exactly if its rule is also set in the buckets of the first n groups.
 abbrev pub KeepsWhereSet : FieldTable → ℕ → ℕ → ℕ → ℕ → ℕ → Type 0
 KeepsWhereSet t value n i old new = (k : ℕ) → k < 64 → bit new k ≡ (bit old k && every (is_rule_set t value (64 * i + k)) n)
 

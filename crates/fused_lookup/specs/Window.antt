@@ -3,23 +3,25 @@ use Rattle.std.specs.Prelude.{◌≡◌, ℕ, ◌+◌, ◌*◌, ◌/◌, ◌%◌
 use Rattle.bit_rows.specs.Row.{at, bit}
 use Rattle.fused_lookup.specs.declared.window.Window.{Window}
 
--- Word i lies in a block of eight words that was touched. Blocks whose numbers are 64 apart are touched together.
+-- Word i is in a block of eight words that was touched. Blocks whose numbers are a multiple of 64
+-- apart are touched together.
 abbrev pub is_touched : Window → ℕ → Bool
 is_touched w i = bit w.touched (i / 8 % 64)
 
--- Outside the window nothing is set, nor in a block that wasn't touched, and it lies inside the row.
+-- Nothing is set outside the window, nor in a block that wasn't touched. The window is within the
+-- row.
 pub record IsWindow (bits : List Bool) (w : Window) : Type 0 where
   pub below : (i : ℕ) → i < 64 * w.first → at bits i ≡ false
   pub above : (i : ℕ) → 64 * w.end ≤ i → at bits i ≡ false
   pub apart : (i : ℕ) → is_touched w (i / 64) ≡ false → at bits i ≡ false
   pub within : 64 * w.end ≤ length bits + 63
 
--- The blocks from `first` up to `end` are touched, and all that were before.
+-- The blocks from `first` up to `end` are touched, and all blocks that were touched before.
 pub record HasBlocks (old first end new : ℕ) : Type 0 where
   pub kept : (k : ℕ) → bit old k ≡ true → bit new k ≡ true
   pub added : (b : ℕ) → first ≤ b → b < end → bit new (b % 64) ≡ true
 
--- The window has the words of the n places from `from` on too, and no word behind them but its own.
+-- The window also has the words of the n places from `from` on, and no later word but its own.
 pub record IsWidened (old : Window) (from n : ℕ) (new : Window) : Type 0 where
   pub first : new.first ≤ old.first
   pub end : old.end ≤ new.end
@@ -29,11 +31,11 @@ pub record IsWidened (old : Window) (from n : ℕ) (new : Window) : Type 0 where
   pub added : (i : ℕ) → from ≤ i → i < from + n → is_touched new (i / 64) ≡ true
   pub least : 64 * new.end ≤ max (64 * old.end) (from + n + 63)
 
--- None of the words from `from` up to `to` lies in a touched block.
+-- No word from `from` up to `to` is in a touched block.
 abbrev pub AreUntouched : Window → ℕ → ℕ → Type 0
 AreUntouched w from to = (i : ℕ) → from ≤ i → i < to → is_touched w i ≡ false
 
--- i is the first word of the window, from `from` on, that lies in a touched block
+-- i is the first word of the window, from `from` on, that is in a touched block
 pub record IsNextWord (w : Window) (from i : ℕ) : Type 0 where
   pub from_on : from ≤ i
   pub within : i < w.end

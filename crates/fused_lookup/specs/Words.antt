@@ -6,7 +6,7 @@ use Rattle.bit_rows.specs.Row.{at, bit}
 pub record IsWordOf (row : List Bool) (i word : ℕ) : Type 0 where
   pub bits : (k : ℕ) → k < 64 → bit word k ≡ at row (64 * i + k)
 
--- Word i of a row as far as there are rules: those that may be left.
+-- Word i of a row, cut at the number of rules. These rules may be left.
 pub record IsLeft (rules : ℕ) (row : List Bool) (i word : ℕ) : Type 0 where
   pub bits : (k : ℕ) → k < 64 → 64 * i + k < rules → bit word k ≡ at row (64 * i + k)
 

@@ -15,8 +15,8 @@ use bit_rows::BitRow;
 use lookup_table::FieldTable;
 use mapping_table::{EndTable, MapTable};
 
-/// Matches the first field's rules, and sets what they map to in the next field's row, which is
-/// clear. It gives that row's window.
+/// Matches the first field's rules, and sets the rules to which they lead in the next field's row.
+/// That row must be clear. Returns its window.
 pub fn refill_from_first(
     table: &FieldTable,
     spans: &MapTable,
@@ -35,7 +35,8 @@ pub fn refill_from_first(
     let probe = Probe::new(table, value);
     let mut reached = Window::none();
     if table.tops.is_empty() {
-        // Every page is a candidate. Sets are small as a rule, and each lookup would pay for the question.
+        // Every page is a candidate. Most sets are small, and each lookup would pay for the
+        // question.
         'pages: for p in 0..table.rules.div_ceil(4096) {
             reached = refill_page(table, spans, probe, p, next, reached);
         }
@@ -47,7 +48,7 @@ pub fn refill_from_first(
     reached
 }
 
-/// Sets what the matched rules of the 64 pages from page `64 * q` on map to.
+/// Sets the rules to which the matched rules of the 64 pages from page `64 * q` on lead.
 #[inline(always)]
 fn refill_pages(
     table: &FieldTable,
@@ -78,7 +79,7 @@ fn refill_pages(
     window
 }
 
-/// Sets what the matched rules of the 64 words from word `64 * p` on map to.
+/// Sets the rules to which the matched rules of the 64 words from word `64 * p` on lead.
 #[inline(always)]
 fn refill_page(
     table: &FieldTable,
@@ -111,8 +112,8 @@ fn refill_page(
     window
 }
 
-/// Matches the rules of the one field of a set. It gives the place of the element of the lowest rule
-/// that is matched and whose end is live.
+/// Matches the rules of the only field of a set. Returns the place of the element of the lowest
+/// matched rule whose end is live.
 pub fn lead_from_first(table: &FieldTable, ends: &EndTable, value: u128, now: u64) -> Option<u64>
     requires value { value < 2 ^ table.now.bits }
     requires rules { length ends.now.items ≡ table.now.rules }
@@ -120,7 +121,8 @@ pub fn lead_from_first(table: &FieldTable, ends: &EndTable, value: u128, now: u6
 {
     let probe = Probe::new(table, value);
     if table.tops.is_empty() {
-        // Every page is a candidate. Sets are small as a rule, and each lookup would pay for the question.
+        // Every page is a candidate. Most sets are small, and each lookup would pay for the
+        // question.
         'pages: for p in 0..table.rules.div_ceil(4096) {
             if let Some(place) = lead_page(table, ends, probe, p, now) {
                 return Some(place);

@@ -11,8 +11,9 @@ use bit_rows::BitRow;
 use lookup_table::FieldTable;
 use mapping_table::{EndTable, MapTable};
 
-/// Matches a field's rules, of which those in the row's window may be left, and sets what they map
-/// to in the next field's row, which is clear. It gives that row's window, and leaves this one clear.
+/// Matches a field's rules, of which only those in the row's window may be left. Sets the rules to
+/// which they lead in the next field's row, which must be clear. Returns the next row's window, and
+/// leaves this row clear.
 pub fn refill_from(
     table: &FieldTable,
     spans: &MapTable,
@@ -46,9 +47,8 @@ pub fn refill_from(
     reached
 }
 
-/// Matches the last field's rules, of which those in the row's window may be left. It gives the
-/// place of the element of the lowest rule that is matched and whose end is live, and leaves the row
-/// clear.
+/// Matches the last field's rules, of which only those in the row's window may be left. Returns the
+/// place of the element of the lowest matched rule whose end is live. Leaves the row clear.
 pub fn lead_from(
     table: &FieldTable,
     ends: &EndTable,

@@ -8,15 +8,16 @@ use lookup_table::FieldTable;
 use mapping_table::EndTable;
 use set_model::is_live;
 
-/// The place of the element of the lowest rule of a word of matched rules, whose bit 0 stands for
-/// rule `64 * i`, whose end is live.
+/// The place of the element of the lowest matched rule of a word whose end is live. Bit 0 of the
+/// word is rule `64 * i`.
 #[inline(always)]
 pub(crate) fn first_live(ends: &EndTable, i: u32, word: u64, now: u64) -> Option<u64>
     requires { IsWithinRules (length ends.now.items) i word }
     ensures { LeadsWord ends.now.items i word now result }
 {
-    // The word's moment is eight bytes beside its neighbours', its ends are a kilobyte: asked only behind an expired end,
-    // each word of expired ends costs a line of memory more.
+    // Asking the word's moment first is cheaper. It is eight bytes next to its neighbours, and the
+    // word's ends are a kilobyte. Asked only after an expired end, each word of expired ends would
+    // cost one more memory line.
     if word == 0 || ends.is_word_expired(i, now) {
         return None;
     }
@@ -32,8 +33,8 @@ pub(crate) fn first_live(ends: &EndTable, i: u32, word: u64, now: u64) -> Option
     None
 }
 
-/// Where the rules before word `i` lead to `found`: what they and the matched rules of the word lead
-/// to, of which those in `left` may be left.
+/// Where the rules before word `i` and the matched rules of the word lead, if those before it lead
+/// to `found`. Only rules of the word in `left` may be left.
 #[inline(always)]
 pub(crate) fn led_on(
     found: Option<u64>,

@@ -1,12 +1,27 @@
-//! The lookup in one field, fused with the way on: each word of rules that is left after the match
-//! goes at once to the next field's row, or to the ends, and is never stored.
+//! The lookup in one field, fused with the way to the next field or to the ends.
 //!
-//! A row between two fields is all clear but for a window of its words. The walk through a field
-//! takes each word of the window out, and so leaves the row clear for the field after the next.
+//! The textbook lookup matches a whole row and stores it, and then refills the next row from it.
+//! This one takes a word of 64 rules at a time, and stores no matched rule. In the example set of
+//! docs/architecture.md, 192.168.1.5 . 2048 is looked up so:
 //!
-//! **Definitions:** `specs/Filled.antt` (the next field's row), `Led.antt` (the ends), `Window.antt`.
-//! **Theory:** docs/architecture.md, "The classifier, by one example". **Proofs:** docs/proofs.md, "The
-//! fused lookup (`fused_lookup`)".
+//! ```text
+//! address field, word 0   111 AND the four buckets of 192.168.1.5   =  010
+//! rule 1 is left          its span sets port rule 1: row 10, window word 0
+//! port field, word 0      10 taken out of the row, AND the buckets of 2048   =  10
+//! port rule 1 is left     its end is live and has place 1
+//! ```
+//!
+//! A row between two fields is clear but for a window of its words. The window has its first and
+//! last word. It also knows which blocks of eight words were touched, in 64 bits: bit k is for
+//! block k and each 64th block after it. The walk takes each word out of the row, and so leaves the
+//! row clear for the field after the next.
+//!
+//! The buckets of a value's last four groups are ANDed first, since they tell most rules apart. If
+//! no rule of the word is left, the other groups aren't looked up.
+//!
+//! **Definitions:** `specs/Filled.antt` (the next field's row), `Led.antt` (the ends),
+//! `Window.antt`. **Theory:** docs/architecture.md, "The classifier, by one example". **Proofs:**
+//! docs/proofs.md, "The fused lookup (`fused_lookup`)".
 #![tactic(auto)]
 
 mod bits;

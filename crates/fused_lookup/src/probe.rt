@@ -4,9 +4,9 @@ ghost use Rattle.fused_lookup.specs.Probe.{IsProbe};
 use field_groups::{LastFour, last_four};
 use lookup_table::FieldTable;
 
-/// A value that is looked up in a field's table, and what is found once for all of its pages: where the
-/// buckets of its last four groups stand in a page of rules, and the lines of its last four bytes in a page
-/// of marks.
+/// A value that is looked up in a field's table, with what is found once for all pages. It has the
+/// places of the buckets of the last four groups in a page of rules. It also has the places of the
+/// lines of the last four bytes in a page of marks.
 #[derive(Clone, Copy)]
 pub(crate) struct Probe {
     pub(crate) value: u128,
@@ -22,7 +22,7 @@ impl Probe {
         ensures value { result.value ≡ value }
     {
         let buckets = last_four(value, table.width, table.bits);
-        // In groups of eight bits both are the places of bytes.
+        // In groups of eight bits the groups are the bytes, so the places are the same.
         let lines = if table.width == 8 {
             buckets
         } else {

@@ -10,8 +10,8 @@ use bit_rows::BitRow;
 use lookup_table::FieldTable;
 use mapping_table::MapTable;
 
-/// Sets the spans of the rules of a word of matched rules, whose bit 0 stands for rule `64 * i`, in
-/// the next field's row. It gives the window with the words that were touched.
+/// Sets the spans of the matched rules of a word in the next field's row. Bit 0 of the word is rule
+/// `64 * i`. Returns the window with the words that were touched.
 #[inline(always)]
 pub(crate) fn refill_word(
     spans: &MapTable,
@@ -44,8 +44,8 @@ pub(crate) fn refill_word(
     window
 }
 
-/// Matches the rules of a word, of which those in `left` may be left, and sets the spans of the
-/// matched ones in the next field's row. It gives the window with the words that were touched.
+/// Matches the rules of a word, of which only those in `left` may be left. Sets the spans of the
+/// matched ones in the next field's row. Returns the window with the words that were touched.
 #[inline(always)]
 pub(crate) fn refill_on(
     table: &FieldTable,

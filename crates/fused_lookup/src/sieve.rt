@@ -10,8 +10,8 @@ use crate::probe::Probe;
 use field_groups::LastFour;
 use lookup_table::FieldTable;
 
-// A value's last four groups tell most rules apart. So their buckets are ANDed first, and the other
-// groups are looked up only for a word in which something is left.
+// A value's last four groups separate most rules. So their buckets are ANDed first, and the other
+// groups are looked up only if something is left of a word.
 
 /// What is left of word `w` of a page in four buckets.
 #[inline(always)]
@@ -25,7 +25,7 @@ fn left_at(words: &[u64], buckets: LastFour, w: usize) -> u64
     fourth & third & second & last
 }
 
-/// What the first `n` groups leave of word `i`, which lies in this page.
+/// What the first `n` groups leave of word `i`, which is in this page.
 #[inline(always)]
 fn match_rest(table: &FieldTable, words: &[u64], value: u128, n: u32, i: u32, word: u64) -> u64
     requires groups { n ≤ table.now.bits / table.now.width }

@@ -1,15 +1,15 @@
 ghost use Rattle.std.specs.Prelude.{◌≡◌, ◌+◌, ◌<◌, ◌^◌, MatchOption};
 ghost use Rattle.fused_lookup.specs.Window.{is_touched, HasBlocks, IsWidened, IsNextWord, AreUntouched};
 
-/// The words of a row in which places may be set: those from word `first` up to word `end` that lie
-/// in a touched block of eight words. Bit k of `touched` stands for block k and each 64th after it.
+/// The words of a row in which places may be set: from word `first` up to word `end`, if they are
+/// in a touched block of eight words.
 #[derive(Clone, Copy, Debug, PartialEq, Eq)]
 pub struct Window {
     /// The first word.
     pub first: u32,
-    /// The word behind the last one.
+    /// The word after the last one.
     pub end: u32,
-    /// Which blocks of eight words were touched: bit k stands for block k and each 64th after it.
+    /// Which blocks of eight words were touched. Bit k is for block k and each 64th block after it.
     pub touched: u64,
 }
 
@@ -26,7 +26,7 @@ impl Window {
         }
     }
 
-    /// The window with the words of the `n` places from `from` on.
+    /// The window, widened by the words of the `n` places from `from` on.
     #[inline(always)]
     pub(crate) fn widened(self, from: u32, n: u32) -> Window
         requires { from + n < 2 ^ 32 }
@@ -42,7 +42,7 @@ impl Window {
         }
     }
 
-    /// Whether word `i` lies in a touched block.
+    /// Whether word `i` is in a touched block.
     #[inline(always)]
     fn is_touched(self, i: u32) -> bool
         ensures { result ≡ is_touched self i }
@@ -67,7 +67,7 @@ impl Window {
     }
 }
 
-/// Touches the blocks from block `first` up to block `end` too.
+/// Also touches the blocks from block `first` up to block `end`.
 #[inline(always)]
 fn with_blocks(touched: u64, first: u32, end: u32) -> u64
     ensures { HasBlocks touched first end result }

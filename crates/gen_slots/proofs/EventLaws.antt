@@ -1,4 +1,4 @@
--- Each event keeps the machine's facts.
+-- Each event keeps the invariants of the machine.
 use Rattle.std.proofs.Common.{◌≡◌, ℕ, ◌+◌, ◌^◌, ◌<◌, ◌≤◌, ap, Bool, true, false, List, [], ◌∷◌, arith, refl, Option, Some, None, slice_index}
 use Rattle.std.specs.Prelude.{IsSome, ◌==◌}
 use Rattle.std.proofs.lemmas.Grind.{common_steps}

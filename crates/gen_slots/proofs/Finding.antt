@@ -6,7 +6,7 @@ use Rattle.gen_slots.specs.declared.board.Role.{Role}
 use Rattle.gen_slots.specs.declared.board.Role.TheVariants.{Keeper}
 use Rattle.gen_slots.specs.SlotRule.{sum_below}
 
--- the slots below `slot` but the published one were tried, in m checks
+-- all slots below `slot` but the published one were tried, in m checks
 pub record Tried {X : Type 0} (before now : Role X) (readers published : ℕ) (counts : List ℕ) (slot m : ℕ) : Type 0 where
   pub plan : Plan X
   pub tries : List ℕ

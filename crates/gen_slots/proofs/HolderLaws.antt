@@ -10,7 +10,7 @@ use Rattle.gen_slots.specs.SlotMachine.{Machine, holder, holders, standing_of, c
 pub holders_few : (m : Machine) (s : ℕ) → IsConsistent m → holders m s ≤ 16
 holders_few m s k = let few = k.few in let wide = k.wide.3 in omega (arith, count_by-le-length (is_slot s) m.held)
 
--- nobody holds it exactly where the two counts agree
+-- nobody holds a slot exactly if its two counts agree
 pub unheld : (m : Machine) (s : ℕ) → IsConsistent m → s < m.readers + 2 → (slice_index m.done s ≡ slice_index m.entered s) ↔ (holders m s ≡ 0)
 unheld m s k in_range = let few = holders_few m s k in let c = k.counted s in_range in let d = (k.small s).0 in let e = (k.small s).1 in
     ((λ same. omega arith), (λ none. omega arith))
@@ -34,7 +34,7 @@ holders-held m r s k below held = let wide = k.wide.3 in
     let counts = get_or-le-sum_by (λ (o : Option ℕ). cond {A = ℕ} (is_slot s o) 1 0) m.held r None (omega arith) in
     let one : ◌≡◌ {A = ℕ} (cond {A = ℕ} (is_slot s (holder m r)) 1 0) 1 = ap (λ (o : Option ℕ). cond {A = ℕ} (is_slot s o) 1 0) held ∙ ap (λ (b : Bool). cond {A = ℕ} b 1 0) (eq-eqb s s refl) in omega (arith, counts, one)
 
--- what was read of both counts of a slot is equal, so the counts are
+-- if the two counts that were read of a slot are equal, its counts are equal
 pub counts_agree : (m : Machine) (s a b : ℕ) → length m.done ≡ m.readers + 2 → length m.entered ≡ m.readers + 2 → s < m.readers + 2 → a ≡ get_or m.done s a → b ≡ get_or m.entered s b → a ≡ b → slice_index m.done s ≡ slice_index m.entered s
 counts_agree m s a b done entered low is_a is_b same =
     sym (get_or_read_under m.done s (length m.done) a 0 is_a (omega (arith, done, low)) refl) ∙ (same ∙ get_or_read_under m.entered s (length m.entered) b 0 is_b (omega (arith, entered, low)) refl)

@@ -1,4 +1,5 @@
--- A note is cut off a view and taken into another, and what is learned then: each keeps the rule of the table.
+-- Two steps keep the rule of the table: a note is made from a view, or another view takes it in. So
+-- does the load of the published word after that.
 use Rattle.std.proofs.Common.{◌≡◌, ◌≢◌, ℕ, ◌+◌, List, [], ◌∷◌, ◌++◌, set, sym, refl, ap, ◌∙◌, subst, ⊎_elim, arith, Option}
 use Rattle.std.specs.List.{sum_by}
 use Rattle.std.proofs.lemmas.List.Sums.{sum_by-append}
@@ -31,7 +32,7 @@ module _ {T X : Type 0} (state : T → X) (follows : X → X → Type 0) (start 
   abbrev Sits : (s : St) → Rule s → ℕ → SeatView X → Type 0
   Sits s k j d = StartsWith k.made d.seen × StartsWith k.made d.told × Plays state k.plan k.made k.n k.writer k.stage k.owner j d.seen d.role
 
-  -- other views, and nothing else
+  -- some views change, and nothing else does
   seats_change : (s : St) (k : Rule s) (views : List (SeatView X)) → sum_by moves_of views ≡ sum_by moves_of s.views → ((j : ℕ) (d : SeatView X) → get_elem? views j ≡ some d → Sits s k j d) → Rule record { words = s.words; homes = s.homes; views = views }
   seats_change s k views total seats = record {
     n = k.n;
@@ -67,7 +68,7 @@ module _ {T X : Type 0} (state : T → X) (follows : X → X → Type 0) (start 
       seats_change s k (set s.views id v ++ w ∷ []) (let none_moved : sum_by moves_of (w ∷ []) ≡ 0 = refl in omega (arith, same, more, none_moved)) (λ j d e. ⊎_elim (views_stay (Sits s k) s.views id v mine (λ i x _. k.each_seat i x) j d)
       (λ (t : w ≡ d). subst (Sits s k j) t (mine.0, (k.made, refl), tt)) (at_snoc (set s.views id v) w d j e))
 
-  -- the same for any two views that are these
+  -- the same for any two views that equal these
   pub tells_as : (id : ℕ) (v left right : SeatView X) → left ≡ v → right ≡ seat_view Idle v.seen [] 0 → Splits Rule id v left right
   tells_as id v left right same other = subst (λ (z : SeatView X × SeatView X). Splits Rule id v z.0 z.1) (λ i. (sym same i, sym other i)) (tells id v)
 

@@ -130,7 +130,7 @@ module _ {T X : Type 0} (state : T → X) (follows : X → X → Type 0) (start 
             (starts_itself (x ∷ []), (x ∷ [], refl), (refl, one.0, refl));
       }
 
-  -- a reader is made, which nobody was
+  -- a reader is made whose number no reader has
   others : (p : Plan X) (made : List X) (n writer : ℕ) (stage owner : ℕ → ℕ) (m given new j : ℕ) (seen : List X) → stage m ≡ 0 → j ≢ writer → (role : Role X) → Plays state p made n writer stage owner j seen role
       → Plays state (record p { given = given }) made n writer (put stage m 1) (put owner m new) j seen role
   others p made n writer stage owner m given new j seen fresh other Idle k = tt

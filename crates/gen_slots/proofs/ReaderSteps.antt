@@ -59,7 +59,7 @@ module _ {T X : Type 0} (state : T → X) (follows : X → X → Type 0) (start 
       go (Holds r i) k = (k.0, put_else stage q t r (apart r k.2) ∙ k.1, k.2, k.3, k.4)
       go (Keeper x) k = k
 
-  -- a step of the reader r, to the stage t, which sets the word i to x and makes one addition
+  -- A step of the reader r to the stage t. It sets word i to x and makes one addition.
   reader_step : (s : St) (k : Rule s) (r t i x me : ℕ) (homes' : Homes) (leaves' : ℕ → ℕ) (v w : SeatView X) → get_elem? s.views me ≡ some v → r < k.n → k.owner r ≡ me → 0 < k.stage r → t < k.n + 4 → ((j : ℕ) → t ≡ j + 2 → 0 < get_or k.plan.standing j 0)
       → lags k.plan t ≡ false → length homes' ≡ length s.homes → ((j : ℕ) → j < k.n + 2 → SlotKept state start k.plan k.n (set s.words i x) homes' (put k.stage r t) leaves' j)
       → w.moves ≡ v.moves + 1 → 2 * sum_below (k.n + 2) leaves' + count_inside k.n (put k.stage r t) ≡ 2 * sum_below (k.n + 2) k.leaves + count_inside k.n k.stage + 1
@@ -173,7 +173,7 @@ module _ {T X : Type 0} (state : T → X) (follows : X → X → Type 0) (start 
         λ i z is'. (ap (λ (a : Role X). seat_view (Out (reader_or 0 a)) me.0.seen me.0.told (me.0.moves + 1)) (sym is ∙ is'), ap rest carried),
       )
 
-  -- the same at any word that is the done word of c
+  -- the same for any word that is the done word of c
   pub leaves_at : (slots id : ℕ) (me : M) (r c : ℕ) (v : T) (i : ℕ) → i ≡ 1 + c → me.0.role ≡ Holds r c → me.1 ≡ (32 * r + c, Some v) ∷ [] → EndsWith me.0.seen (state v)
       → Allows Rule slots id me i (λ x. (x + 256) % 2 ^ 64) (left (step slots i 256 0 none) me)
   leaves_at slots id me r c v i at is carried shows = subst (λ (z : ℕ). Allows Rule slots id me z (λ x. (x + 256) % 2 ^ 64) (left (step slots z 256 0 none) me)) (sym at) (leaves slots id me r c v is carried shows)

@@ -1,4 +1,4 @@
--- The berths of one slot, in a row, of which each is refilled and goes behind the others.
+-- The berths of one slot in a row. Each is refilled and then goes to the end of the row.
 use Rattle.std.proofs.Common.{◌≡◌, ℕ, suc, ◌+◌, ◌*◌, ◌<◌, ◌≤◌, sym, ap, ◌∙◌, arith, List, [], ◌∷◌, ◌++◌, length, take, drop, get_or, set, Option, None, append_assoc}
 use Rattle.std.proofs.lemmas.List.{take_more, take_more_set, take-set, drop_more, drop-set-lt, length-take-le, drop_all, take_all}
 use Rattle.atomic_table.specs.Table.{rest, turned}
@@ -7,11 +7,12 @@ use Rattle.gen_slots.specs.SlotSteps.{berths}
 pub same_drop : {A : Type 0} (xs ys : List A) (i : ℕ) (d : A) → i < length xs → i < length ys → drop i xs ≡ drop i ys → (get_or xs i d ≡ get_or ys i d) × (drop (i + 1) xs ≡ drop (i + 1) ys)
 same_drop xs ys i d l m e = let a = drop_more xs i d l in let b = drop_more ys i d m in let f : get_or xs i d ∷ drop (i + 1) xs ≡ get_or ys i d ∷ drop (i + 1) ys = sym a ∙ (e ∙ b) in (cc, cc)
 
--- the same where the i-th is written twice
+-- the same if the i-th item is written twice
 pub same_drop_set : {A : Type 0} (xs ys : List A) (i : ℕ) (a b d : A) → i < length xs → i < length ys → drop i xs ≡ drop i ys → drop (i + 1) (set (set xs i a) i b) ≡ drop (i + 1) ys
 same_drop_set xs ys i a b d l m e = drop-set-lt (i + 1) (set xs i a) i b (omega arith) ∙ (drop-set-lt (i + 1) xs i a (omega arith) ∙ (same_drop xs ys i d l m e).1)
 
--- the first i are those of ys, and the i-th is written twice, at last with the one of ys
+-- The first i items are those of ys. The i-th is written twice, and the second time it is the item
+-- of ys.
 pub same_take_set : {A : Type 0} (xs ys : List A) (i : ℕ) (a b d : A) → i < length (set xs i a) → i < length ys → take i xs ≡ take i ys → b ≡ get_or ys i d → take (i + 1) (set (set xs i a) i b) ≡ take (i + 1) ys
 same_take_set {A} xs ys i a b d l m e is = take_more_set (set xs i a) i b l ∙ (ap (λ (z : List A). z ++ b ∷ []) (take-set xs i a ∙ e) ∙ (ap (λ (z : A). take i ys ++ z ∷ []) is ∙ sym (take_more ys i d m)))
 
@@ -22,7 +23,7 @@ module _ {T : Type 0} where
       ap (λ (z : List (ℕ × Option T)). (32 * k + s, x) ∷ z) (berths-snoc s (k + 1) xs v ∙ ap (λ (z : ℕ). berths s (k + 1) xs ++ (32 * z + s, v) ∷ []) e)
 
   module _ {V : Type 0} (s i : ℕ) (ys values : List (Option T)) (v₀ : V) where
-    -- the row of ys, where i values were put
+    -- the row of ys after i values were put
     abbrev pub Row : V × List (ℕ × Option T) → Type 0
     Row me = me ≡ (v₀, berths s i (drop i ys) ++ berths s 0 (take i values))
 
@@ -47,6 +48,6 @@ module _ {T : Type 0} where
         let h : me''.0 ≡ v₀ = ap (λ (m : V × List (ℕ × Option T)). m.0) turns ∙ (ap (λ (m : V × List (ℕ × Option T)). m.0) put ∙ ap (λ (m : V × List (ℕ × Option T)). m.0) row) in
         λ j. (h j, t j)
 
-  -- the row of values, where all were put
+  -- the row after all values were put
   pub row_last : {V : Type 0} (s i : ℕ) (ys values : List (Option T)) (v₀ : V) (me : V × List (ℕ × Option T)) → length ys ≤ i → length values ≤ i → Row s i ys values v₀ me → me ≡ (v₀, berths s 0 values)
   row_last s i ys values v₀ me all_ys all_values row = row ∙ (λ j. (v₀, berths s i (drop_all i ys all_ys j) ++ berths s 0 (take_all i values all_values j)))

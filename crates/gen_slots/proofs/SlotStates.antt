@@ -45,7 +45,7 @@ module _ {X : Type 0} where
   state_set (zero ∷ ss) (y ∷ xs) (suc k) x = ap (λ (z : List (Option X)). None ∷ z) (state_set ss xs k x)
   state_set (suc s ∷ ss) (y ∷ xs) (suc k) x = ap (λ (z : List (Option X)). Some y ∷ z) (state_set ss xs k x)
 
-  -- one that was used retires
+  -- a used slot retires
   pub state_retired : (ss : List ℕ) (xs : List X) (k : ℕ) → 0 < get_or ss k 0 → slot_states (set ss k 1) xs ≡ slot_states ss xs
   state_retired [] xs k used = refl
   state_retired (s ∷ ss) [] zero used = refl
@@ -62,7 +62,7 @@ module _ {X : Type 0} where
       ap states_of is' ∙ (put ∙ (ap (λ (i : ℕ). set (slot_states (set p.standing c 0) p.states) i (Some x)) index ∙ (state_taken p.standing p.states c (Some x) ∙ ap (λ (z : Role X). set (states_of z) c (Some x)) (sym is))))
 
 module _ {T X : Type 0} (state : T → X) where
-  -- What stood in the berths of the slot c is what the caller has.
+  -- The caller has what was in the berths of the slot c.
   pub stored_as : (made made' : List X) (n n' : ℕ) (o o' : Option X) (c : ℕ) (ys zs : List (Option T)) → length ys ≡ n → WereStored state made n o ys → made ≡ made' → n ≡ n' → o ≡ o' → berths c 0 ys ≡ berths c 0 zs
       → (length zs ≡ n') × WereStored state made' n' o' zs
   stored_as made made' n n' o o' c ys zs size stored made_is readers state_is same = let e = berths_same c 0 ys zs same in

@@ -1,4 +1,4 @@
--- The readers' stages, and how many readers are at one.
+-- The readers' stages, and the number of readers at each stage.
 use Rattle.std.proofs.Common.{◌≡◌, ◌≢◌, ℕ, zero, suc, ◌+◌, ◌<◌, ◌≤◌, refl, ap, ◌∙◌, arith, eq-eqb, ne_eqb, List, length, set, get_or-set_same, get_or-set_other}
 use Rattle.std.specs.Prelude.{◌==◌, ◌&&◌, Bool, true, false, nat_lt, slice_index}
 use Rattle.std.proofs.lemmas.Bool.Decides.{nat_tests}
@@ -9,7 +9,7 @@ use Rattle.gen_slots.specs.declared.board.Plan.{Plan}
 use Rattle.gen_slots.specs.SlotRule.{tally, sum_below, count_at, count_inside, lags, laggards}
 use Rattle.gen_slots.proofs.Sums.{sum_below-same, sum_below-at, sum_below-plus, sum_below-zero, sum_below-none, sum_below-tally}
 
--- how many pass a test, where the reader r goes to the stage t
+-- how many readers pass a test after the reader r goes to the stage t
 count-put : (n : ℕ) (test : ℕ → Bool) (f : ℕ → ℕ) (r t : ℕ) → r < n → sum_below n (λ j. tally (test (put f r t j))) + tally (test (f r)) ≡ sum_below n (λ j. tally (test (f j))) + tally (test t)
 count-put n test f r t l = let here = ap (λ (z : ℕ). tally (test z)) (put_here f r t) in
     let all = sum_below-at n (λ j. tally (test (f j))) (λ j. tally (test (put f r t j))) r l (λ j other. ap (λ (z : ℕ). tally (test z)) (put_else f r t j other)) in omega (arith, here, all)
@@ -26,7 +26,7 @@ count_kept n f r t u l was now = let c = count-put n (λ z. z == u) f r t l in l
 pub count_le : (n : ℕ) (f : ℕ → ℕ) (u : ℕ) → count_at n f u ≤ n
 count_le n f u = sum_below-tally n (λ r. f r == u)
 
--- nobody is at a stage that none is counted at
+-- no reader is at a stage whose count is 0
 pub count_none : (n : ℕ) (f : ℕ → ℕ) (u r : ℕ) → count_at n f u ≡ 0 → r < n → f r ≢ u
 count_none n f u r none l e = let a = sum_below-none n (λ j. tally (f j == u)) r none l in let b = ap tally (eq-eqb (f r) u e) in absurd (omega (arith, a, b))
 
@@ -62,7 +62,7 @@ and_second false b e = refl
 pub and_both : (a b : Bool) → a ≡ true → b ≡ true → (a && b) ≡ true
 and_both a b e f = λ i. e i && f i
 
--- one slot more was tried
+-- one more slot was tried
 pub tried_more : (t : List ℕ) (i q : ℕ) → i < length t → ((k : ℕ) → k < i → k ≢ q → slice_index t k ≡ 1) → (k : ℕ) → k < i + 1 → k ≢ q → slice_index (set t i 1) k ≡ 1
 tried_more t i q l each k low other = dite (ℕ_discrete k i) (λ same. ap (slice_index (set t i 1)) same ∙ get_or-set_same t i 1 0 l) (λ apart. get_or-set_other t i k 1 0 apart ∙ each k (omega arith) other)
 
@@ -70,7 +70,7 @@ module _ {X : Type 0} where
   pub lags-at : (p : Plan X) (k : ℕ) → lags p (k + 2) ≡ ((slice_index p.standing k == 1) && (slice_index p.tried k == 0))
   lags-at p k = let e : k + 2 ≡ suc (suc k) = omega arith in ap (lags p) e
 
-  -- a reader that goes to a stage where it does not lag adds none
+  -- a reader that goes to a stage at which it doesn't lag adds no laggard
   pub laggards_less : (n : ℕ) (p : Plan X) (f : ℕ → ℕ) (r t : ℕ) → r < n → lags p t ≡ false → laggards n p (put f r t) ≤ laggards n p f
   laggards_less n p f r t l e = let c = count-put n (lags p) f r t l in let a = ap tally e in omega (arith, a, c)
 
@@ -80,7 +80,7 @@ module _ {X : Type 0} where
   pub laggards_start : (n : ℕ) (p : Plan X) → laggards n p (λ _. 0) ≡ 0
   laggards_start n p = sum_below-zero n (λ j. tally (lags p 0)) (λ j _. refl)
 
-  -- two plans that agree but at the slot s
+  -- two plans that are equal but for the slot s
   pub lags_else : (p p' : Plan X) (s t : ℕ) → t ≢ s + 2 → ((k : ℕ) → k ≢ s → slice_index p'.standing k ≡ slice_index p.standing k) → ((k : ℕ) → k ≢ s → slice_index p'.tried k ≡ slice_index p.tried k) → lags p' t ≡ lags p t
   lags_else p p' s zero apart same tries = refl
   lags_else p p' s (suc zero) apart same tries = refl
@@ -89,7 +89,7 @@ module _ {X : Type 0} where
   pub laggards_plan : (n : ℕ) (p p' : Plan X) (f : ℕ → ℕ) → ((r : ℕ) → r < n → lags p' (f r) ≡ lags p (f r)) → laggards n p' f ≡ laggards n p f
   laggards_plan n p p' f same = sum_below-same n (λ r. tally (lags p' (f r))) (λ r. tally (lags p (f r))) (λ r l. ap tally (same r l))
 
-  -- those at the slot s lag no more
+  -- readers of the slot s no longer lag
   pub laggards_drop : (n : ℕ) (p p' : Plan X) (f : ℕ → ℕ) (s : ℕ) → lags p (s + 2) ≡ true → lags p' (s + 2) ≡ false → ((t : ℕ) → t ≢ s + 2 → lags p' t ≡ lags p t)
       → laggards n p' f + count_at n f (s + 2) ≡ laggards n p f
   laggards_drop n p p' f s was now same = sum_below-plus n (λ r. tally (lags p' (f r))) (λ r. tally (f r == s + 2)) (λ r. tally (lags p (f r))) (λ r l. dite (ℕ_discrete (f r) (s + 2))

@@ -1,4 +1,4 @@
--- What it does to the table that a seat takes the berths of a slot, or gives them back.
+-- How the table changes when a seat takes the berths of a slot or gives them back.
 use Rattle.std.proofs.Common.{◌≡◌, ◌≢◌, ℕ, zero, suc, ◌+◌, ◌*◌, ◌<◌, ◌≤◌, refl, ap, ◌∙◌, arith, List, [], ◌∷◌, length, replicate, get_or, set, length-set, Option, Some, None}
 use mathlib.Core.Option.{none, some}
 use mathlib.Core.Option as maybe

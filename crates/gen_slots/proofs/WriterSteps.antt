@@ -60,7 +60,7 @@ module _ {T X : Type 0} (state : T → X) (follows : X → X → Type 0) (start 
   plans : (m m' : M) (p p' : Plan X) (next : Plan X → Plan X → Type 0) → m.0.role ≡ Keeper p → m'.0.role ≡ Keeper p' → next p p' → Plans m m' next
   plans m m' p p' next is now h q is' = (p', now, subst (λ (z : Plan X). next z p') (ap (plan_or p) (sym is ∙ is')) h)
 
-  -- the berths of a slot that nobody holds are at home, and what they hold
+  -- the berths of a slot that nobody holds are at home with their values
   stored_row : (s : St) (k : Rule s) (c : ℕ) → c < k.n + 2 → get_or k.plan.standing c 0 < 2 → count_at k.n k.stage (c + 2) ≡ 0 → k.plan.hand ≡ 0 → (ys : List (Option T)) × (length ys ≡ k.n) × Lined s.homes c 0 ys × WereStored state k.made k.n (get_or (slot_states k.plan.standing k.plan.states) c None) ys
   stored_row s k c l low none_there bare = let ok = k.each_slot c l in let lists = k.lists.2 in dite (ℕ_discrete (get_or k.plan.standing c 0) 0)
       (λ z. let row = empty_row s.homes c k.n 0 (λ r below. ok.unused z (λ e. omega arith) r (omega arith)) in (replicate k.n None, row.0, row.1, subst (λ (o : Option X). WereStored state k.made k.n o (replicate k.n None)) (sym (state_unused k.plan.standing k.plan.states c z)) refl))

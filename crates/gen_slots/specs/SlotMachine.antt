@@ -3,7 +3,8 @@ use Rattle.std.specs.Prelude.{◌≡◌, ℕ, ◌+◌, ◌%◌, ◌<◌, ◌≤�
 use Rattle.gen_slots.specs.declared.machine.Standing.{Standing}
 use Rattle.gen_slots.specs.declared.machine.Standing.TheVariants.{Published, Retired, Free}
 
--- counts of leaves and enters and the standing for each slot, and for each reader the slot that it holds
+-- for each slot its counts of leaves and enters and its status, and for each reader the slot that
+-- it holds
 pub record Machine : Type 0 where
   pub readers : ℕ
   pub published : ℕ
@@ -34,7 +35,7 @@ holders m s = count_by (is_slot s) m.held
 abbrev pub incremented_at : List ℕ → ℕ → List ℕ
 incremented_at counts s = slice_set counts s ((slice_index counts s + 1) % 72057594037927936)
 
--- the reader enters: it holds the published slot, whose count of enters rises
+-- the reader enters: it holds the published slot, whose count of enters rises by one
 abbrev pub entered_by : ℕ → Machine → Machine
 entered_by r m = record m { held = slice_set m.held r (Some m.published); entered = incremented_at m.entered m.published }
 
@@ -42,16 +43,17 @@ abbrev pub left_from : ℕ → Option ℕ → Machine → Machine
 left_from r (Some s) m = record m { held = slice_set m.held r None; done = incremented_at m.done s }
 left_from r None m = m
 
--- the reader leaves: it holds nothing, and the count of leaves of its slot rises
+-- the reader leaves: it holds nothing, and its slot's count of leaves rises by one
 abbrev pub left_by : ℕ → Machine → Machine
 left_by r m = left_from r (holder m r) m
 
--- the slot is checked: it is free where the answer is true
+-- the slot is checked: it becomes free if the answer is true
 abbrev pub checked_at : ℕ → Bool → Machine → Machine
 checked_at s true m = record m { standing = slice_set m.standing s Free }
 checked_at s false m = m
 
--- the slot is published: the one that was is retired, and its count of enters is its count of leaves
+-- the slot is published, and starts with its count of leaves as its count of enters; the slot that
+-- was published retires
 abbrev pub with_published : ℕ → Machine → Machine
 with_published s m = record m { published = s; standing = slice_set (slice_set m.standing m.published Retired) s Published; entered = slice_set m.entered s (slice_index m.done s) }
 
@@ -59,7 +61,8 @@ with_published s m = record m { published = s; standing = slice_set (slice_set m
 abbrev pub initial : ℕ → ℕ → Machine
 initial readers start = record { readers = readers; published = 0; done = replicate (readers + 2) start; entered = replicate (readers + 2) start; standing = Published ∷ replicate (readers + 1) Free; held = replicate readers None }
 
--- What every event keeps. By `counted` the enters are the leaves and the holders together, modulo 2 ^ 56
+-- The invariants that every event keeps. By `counted` the enters are the leaves and the holders
+-- together, modulo 2 ^ 56.
 pub record IsConsistent (m : Machine) : Type 0 where
   pub some : 0 < m.readers
   pub few : m.readers ≤ 16

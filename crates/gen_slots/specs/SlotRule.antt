@@ -1,12 +1,24 @@
 -- The rule of the table: what holds between any two steps, whatever the threads do. In words:
--- The seats: one is the writer's, each reader's number has at most one, and none before it was given. Notes hold no slot.
--- The published word: modulo 256 it is the slot that the writer has as published.
--- The counts: a slot's enters are its leaves and its holders, modulo 2 ^ 56; of a free slot the done word is the writer's number, and nobody holds it.
--- The lists: each begins the writer's, which is a chain. A slot that is not free has one state, of that list; the published slot's is its last, and the list of a reader that holds a slot ends with the slot's. While that slot is the published one, the reader's list is the writer's.
--- The berths: of a slot that is not free, a reader's is at home with the slot's state, or out with the reader that holds it; those of the slot in the writer's hand are the writer's alone; those of a slot never used are empty.
--- The tries: the retired slots that were tried since the last publication, and the readers that hold a retired slot not tried since then, are at most the readers.
--- The moves: what the views have counted is what the words had.
--- A reader's stage is 0 before it is made, 1 outside, and s + 2 while it holds the slot s. A slot's standing is 0 where it is free, 1 where it is retired and 2 where it is published.
+--
+-- - The seats: one is the writer's. Each reader's number has at most one seat, and none before the
+--   number is given. Notes hold no slot.
+-- - The published word: modulo 256 it is the number of the writer's published slot.
+-- - The counts: a slot's enters are its leaves and its holders, modulo 2 ^ 56. The done word of a
+--   free slot is the writer's number, and nobody holds the slot.
+-- - The lists: each is a beginning of the writer's list, which is a chain. A slot that isn't free
+--   has one state of that list. The published slot's state is the last one. The list of a reader
+--   that holds a slot ends with the slot's state. If that slot is the published one, the reader's
+--   list is the writer's.
+-- - The berths: a reader's berth of a slot that isn't free is at home with the slot's state, or out
+--   with the reader that holds the slot. The writer alone has the berths of the slot in its hand.
+--   Berths of a slot that was never used are empty.
+-- - The tries: count the retired slots that were tried since the last publication. Add the readers
+--   that hold a retired slot that wasn't tried since then. The sum is at most the number of
+--   readers.
+-- - The moves: the additions that the views have counted are those that the words got.
+--
+-- A reader's stage is 0 before it is made, 1 outside, and s + 2 while it holds the slot s. A slot's
+-- number in `standing` is 0 if it is free, 1 if it is retired and 2 if it is published.
 use Rattle.std.specs.Prelude.{◌≡◌, ◌≢◌, ◌==◌, ◌&&◌, ℕ, zero, suc, ◌+◌, ◌*◌, ◌%◌, ◌<◌, ◌≤◌, Bool, true, false, nat_lt, List, [], ◌∷◌, length, replicate, slice_index, sum_by, Contains, Option, Some, None}
 use mathlib.Core.Option.{some}
 use mathlib.Core.Option as maybe
@@ -53,18 +65,23 @@ module _ {T X : Type 0} (state : T → X) where
   abbrev pub AtHome : List (maybe.Option (Option T)) → ℕ → X → Type 0
   AtHome homes k x = (v : T) × (get_elem? homes k ≡ some (some (Some v))) × (state v ≡ x)
 
-  -- What holds of the slot s. Its done word counts its leaves from `start` on. Its enters are its leaves and its holders: in word 0 while it is published, in the writer's counts once it is retired
+  -- What holds of the slot s. Its done word counts its leaves from `start` on. Its enters are its
+  -- leaves and its holders. Word 0 has the enters while the slot is published, and the writer's
+  -- counts have them after it retired.
   pub record SlotKept (start : ℕ) (p : Plan X) (n : ℕ) (words : List ℕ) (homes : List (maybe.Option (Option T))) (stage leaves : ℕ → ℕ) (s : ℕ) : Type 0 where
     pub done : slice_index words (1 + s) ≡ (256 * (start + leaves s)) % 18446744073709551616
     pub live : s ≡ p.published → (slice_index words (1 + s) + 256 * count_at n stage (s + 2) + s) % 18446744073709551616 ≡ slice_index words 0
     pub retired : slice_index p.standing s ≡ 1 → (slice_index words (1 + s) + 256 * count_at n stage (s + 2)) % 18446744073709551616 ≡ slice_index p.counts s
     pub free : slice_index p.standing s ≡ 0 → (slice_index words (1 + s) ≡ slice_index p.counts s) × (count_at n stage (s + 2) ≡ 0)
-    -- a berth of a slot that is not free is at home with the slot's state, but where its reader holds the slot
+    -- a berth of a slot that isn't free is at home with the slot's state, unless its reader holds
+    -- the slot
     pub home : 0 < slice_index p.standing s → (r : ℕ) → r < n → stage r ≢ s + 2 → (x : X) → get_elem? p.states s ≡ some x → AtHome homes (32 * r + s) x
-    -- one of a slot that was never used is at home and empty
+    -- a berth of a slot that was never used is at home and empty
     pub unused : slice_index p.standing s ≡ 0 → p.hand ≢ s + 1 → (r : ℕ) → r < n → get_elem? homes (32 * r + s) ≡ some (some None)
 
-  -- what holds of the seat's view: a reader's number has one seat; the list of a reader that holds a slot ends with the slot's state, and is the writer's whole list while the slot is the published one
+  -- What holds of a seat's view. A reader's number has one seat. The list of a reader that holds a
+  -- slot ends with the slot's state. If that slot is the published one, it is the writer's whole
+  -- list.
   module _ (p : Plan X) (made : List X) (n writer : ℕ) (stage owner : ℕ → ℕ) (seat : ℕ) (seen : List X) where
     abbrev pub Plays : Role X → Type 0
     Plays Idle = Unit {0}
@@ -92,13 +109,15 @@ module _ {T X : Type 0} (state : T → X) where
     pub hand : (k : ℕ) → plan.hand ≡ k + 1 → (k < n + 2) × (slice_index plan.standing k ≡ 0)
     pub each_slot : (k : ℕ) → k < n + 2 → SlotKept start plan n s.words s.homes stage leaves k
     pub inside : (r : ℕ) → stage r < n + 4
-    -- A slot that a reader holds is not free
+    -- A slot that a reader holds is not free.
     pub in_use : (r k : ℕ) → r < n → stage r ≡ k + 2 → 0 < slice_index plan.standing k
     pub ungiven : (r : ℕ) → plan.given ≤ r → stage r ≡ 0
     pub chain : Chain follows made
-    -- the slots that were tried since the last publication, and the readers that hold a retired slot not tried since then
+    -- the number of slots that were tried since the last publication, plus the readers that hold a
+    -- retired slot that wasn't tried since then
     pub few_fail : sum_below (n + 2) (slice_index plan.tried) + laggards n plan stage ≤ n
-    -- the additions that the views have counted are the enters and the leaves: two for each leave, and one for each reader inside
+    -- The views have counted as many additions as there were enters and leaves: two for each leave,
+    -- and one for each reader inside.
     pub moved : sum_by moves_of s.views ≡ 2 * sum_below (n + 2) leaves + count_inside n stage
     pub each_seat : (j : ℕ) (d : SeatView X) → get_elem? s.views j ≡ some d → StartsWith made d.seen × StartsWith made d.told × Plays plan made n writer stage owner j d.seen d.role
 

@@ -10,7 +10,7 @@ pub data Event : Type 0 where
   checks : ℕ → Event
   publishes : ℕ → Event
 
--- where the event may come
+-- when the event may come
 abbrev pub MayStep : Machine → Event → Type 0
 MayStep m (enters r) = (r < m.readers) × (holder m r ≡ None)
 MayStep m (leaves r) = (r < m.readers) × IsSome (holder m r)
@@ -33,7 +33,8 @@ abbrev pub MayRun : Machine → List Event → Type 0
 MayRun m [] = Unit {0}
 MayRun m (e ∷ es) = MayStep m e × MayRun (after_event m e) es
 
--- The enters are the leaves and the holders, modulo 2 ^ 56, so the counts agree exactly where nobody holds the slot; a slot that a reader holds is not free, and is not published anew
+-- The enters are the leaves and the holders, modulo 2 ^ 56. So the counts agree exactly if nobody
+-- holds the slot. A slot that a reader holds isn't free, and isn't published anew.
 pub record IsSound (m : Machine) : Type 0 where
   pub counted : (s : ℕ) → s < m.readers + 2 → (slice_index m.done s + holders m s) % 72057594037927936 ≡ slice_index m.entered s
   pub few : (s : ℕ) → holders m s ≤ 16

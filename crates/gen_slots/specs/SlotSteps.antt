@@ -1,4 +1,4 @@
--- What each kind of step on the table tells.
+-- The clauses of each kind of step on the table.
 use Rattle.std.specs.Prelude.{◌≡◌, ◌≢◌, ℕ, zero, suc, ◌+◌, ◌-◌, ◌*◌, ◌%◌, ◌<◌, ◌≤◌, List, [], ◌∷◌, ◌++◌, length, get_or, slice_index, slice_set, replicate, Contains, Option, Some, None}
 use Rattle.atomic_table.specs.Table.{Me, Step}
 use Rattle.history_laws.specs.Histories.{StartsWith, EndsWith, Chain, longer}
@@ -28,11 +28,12 @@ module _ {X : Type 0} where
   abbrev pub taken_plan : Plan X → ℕ → Plan X
   taken_plan p s = record p { standing = slice_set p.standing s 0; tried = slice_set p.tried s 0; hand = s + 1; checks = p.checks + 1 }
 
-  -- the plan after it was found in use
+  -- the plan after the slot s was checked and found in use
   abbrev pub tried_plan : Plan X → ℕ → Plan X
   tried_plan p s = record p { tried = slice_set p.tried s 1; checks = p.checks + 1 }
 
-  -- of each slot the state that it was published with, and nothing where it was never used, by the standings and states of a plan between two publications
+  -- The state with which each slot was published, or none if it was never used. It is read from the
+  -- standings and states of a plan between two publications.
   abbrev pub slot_states : List ℕ → List X → List (Option X)
   slot_states [] xs = []
   slot_states (s ∷ ss) [] = []
@@ -52,18 +53,20 @@ module _ {X : Type 0} where
   next_reader (Keeper p) = Out p.given
   next_reader _ = Idle
 
--- the berths of the slot s from the k-th reader on, with what they hold
+-- the berths of the slot s from the k-th reader on, with their contents
 abbrev pub berths : {T : Type 0} → ℕ → ℕ → List (Option T) → List (ℕ × Option T)
 berths s k [] = []
 berths s k (y ∷ ys) = (32 * k + s, y) ∷ berths s (k + 1) ys
 
 module _ {T X : Type 0} where
-  -- what stood in a slot's berths: nothing where it was never used, and else values of its state, which was published
+  -- what was in a slot's berths: nothing if it was never used, and otherwise values of its state,
+  -- which was published
   abbrev pub WereStored : (T → X) → List X → ℕ → Option X → List (Option T) → Type 0
   WereStored state made n None ys = ys ≡ replicate n None
   WereStored state made n (Some x) ys = Contains made x × AllShow state x ys
 
-  -- the reader r holds the slot e % 256, its list became the writer's, and it has the value of its berth
+  -- the reader r holds the slot e % 256, its list is now the writer's, and it has the value of its
+  -- berth
   abbrev pub entered : (T → X) → (X → X → Type 0) → Step (Option T) → Me (Option T) (SeatView X) → ℕ → Me (Option T) (SeatView X) → Type 0
   entered state follows st m e m' = (r : ℕ) → m.0.role ≡ Out r
       → (32 * (e % 256) < st.slots + 64) × (m'.0.role ≡ Holds r (e % 256)) × (m'.0.moves ≡ m.0.moves + 1) × StartsWith m'.0.seen m.0.seen
@@ -77,7 +80,8 @@ module _ {T X : Type 0} where
   abbrev pub Plans : Me (Option T) (SeatView X) → Me (Option T) (SeatView X) → (Plan X → Plan X → Type 0) → Type 0
   Plans m m' next = (p : Plan X) → m.0.role ≡ Keeper p → (p' : Plan X) × (m'.0.role ≡ Keeper p') × next p p'
 
-  -- the slot that was checked is free and its berths are taken, or it was tried, and few were
+  -- Either the checked slot is free and its berths are taken, or it counts as tried. Few slots are
+  -- tried.
   abbrev pub checked : (T → X) → Step (Option T) → Me (Option T) (SeatView X) → ℕ → Me (Option T) (SeatView X) → Type 0
   checked state st m e m' = (m'.0.seen ≡ m.0.seen) × (m'.0.told ≡ m.0.told) × ((s : ℕ) → st.word ≡ 1 + s → Plans m m' (λ p p'.
       (e ≡ slice_index p.counts s → (p' ≡ taken_plan p s) × ((ys : List (Option T)) × (length ys ≡ p.readers) × WereStored state m.0.seen p.readers (get_or (slot_states p.standing p.states) s None) ys × (m'.1 ≡ berths s 0 ys)))
@@ -88,7 +92,7 @@ module _ {T X : Type 0} where
   published state follows st m e m' = (m'.1 ≡ []) × Chain follows m'.0.seen × (m'.0.told ≡ m.0.told) × Plans m m' (λ p p'. (x : X) (ys : List (Option T)) → m.1 ≡ berths (p.hand - 1) 0 ys → 0 < length ys → AllShow state x ys
       → (p' ≡ published_at p (p.hand - 1) e x) × (slot_states p'.standing p'.states ≡ slice_set (slot_states p.standing p.states) (p.hand - 1) (Some x)) × (m'.0.seen ≡ m.0.seen ++ x ∷ []))
 
-  -- the shorter list begins the longer, and the longer was seen
+  -- the shorter list is a beginning of the longer one, and the longer one was seen
   abbrev pub learned : (X → X → Type 0) → Step (Option T) → Me (Option T) (SeatView X) → ℕ → Me (Option T) (SeatView X) → Type 0
   learned follows st m e m' = (m' ≡ (seat_view m.0.role (longer m.0.seen m.0.told) [] m.0.moves, m.1)) × StartsWith m'.0.seen m.0.seen × StartsWith m'.0.seen m.0.told
       × ((p : Plan X) → m.0.role ≡ Keeper p → m'.0.seen ≡ m.0.seen) × Chain follows m'.0.seen

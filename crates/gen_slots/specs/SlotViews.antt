@@ -7,7 +7,8 @@ use Rattle.gen_slots.specs.declared.board.Role.{Role}
 use Rattle.gen_slots.specs.declared.board.Role.TheVariants.{Keeper}
 use Rattle.gen_slots.specs.SlotSteps.{slot_states}
 
--- of a reader, holding or not: which table it is of, the states that it has seen, its number, and how many atomic additions it has made
+-- A reader, holding a slot or not: its table, the states that it has seen, its number, and its
+-- number of atomic additions.
 pub record PassView (X : Type 0) : Type 0 where
   pub of : TableId
   pub seen : List X
@@ -22,7 +23,9 @@ pub record Telling (X : Type 0) : Type 0 where
   pub of : TableId
   pub list : List X
 
--- of the writer: the states that were published, where every count started, how many loads of done words it has made, which slot is published, and of each slot the state of its values, which is none where it was never used
+-- The writer: the states that were published, the start of every count, its number of loads of done
+-- words, and the published slot. Of each slot it has the state of its values, or none if the slot
+-- was never used.
 pub record Publishing (X : Type 0) : Type 0 where
   pub of : TableId
   pub made : List X
@@ -43,12 +46,12 @@ states_of _ = []
 abbrev pub publishing : {X : Type 0} → TableId → SeatView X → ℕ → ℕ → ℕ → Publishing X
 publishing z d readers published start = record { of = z; made = d.seen; readers = readers; start = start; checks = checks_of d.role; published = published; states = states_of d.role }
 
--- for each reader 32 berths, and for each of its slots and the two more a word, and one
+-- 32 berths for each reader, one word for each of readers + 2 slots, and one more word
 abbrev pub IsSized : TableId → Type 0
 IsSized z = (z.slots + 96 ≡ 32 * z.words) × (z.slots < 1024)
 
 module _ {X : Type 0} where
-  -- the plan while the slot s is in hand, after the tries t and m checks
+  -- the plan while the slot s is in hand, with the tries t, after m checks
   abbrev pub found_plan : Plan X → ℕ → List ℕ → ℕ → Plan X
   found_plan p s t m = record p { standing = slice_set p.standing s 0; tried = t; hand = s + 1; checks = p.checks + m }
 

@@ -1,4 +1,4 @@
-//! A count of steps that takes no bytes.
+//! A count of steps that takes no bytes at run time.
 ghost use Rattle.std.specs.Prelude.{◌≡◌, ◌+◌, ◌<◌};
 
 use std::marker::Model;

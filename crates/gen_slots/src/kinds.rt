@@ -1,4 +1,4 @@
-// The kinds of step on the table, and what each tells.
+// The kinds of step on the table, each with its clause.
 ghost use Rattle.std.specs.Prelude.{◌+◌, []};
 ghost use Rattle.gen_slots.specs.SlotSteps.{entered, left, checked, published, learned, given_one, next_reader};
 ghost use Rattle.gen_slots.specs.SlotRule.{seat_view};
@@ -36,7 +36,7 @@ impl<T: Version> Play<Option<T>, SeatView<T::State>> for Publish {
     ghost then = { published T.state T.follows };
 }
 
-// Word 0 is loaded after a note was taken in.
+// A reader or the writer loads word 0 after it took a note in.
 pub(crate) struct Learn;
 
 impl<T: Version> Play<Option<T>, SeatView<T::State>> for Learn {

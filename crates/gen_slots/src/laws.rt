@@ -1,5 +1,6 @@
-//! The laws of the rule, which no call's contract names: what it says of the running words, and that each kind of step
-//! keeps it, in every interleaving. There is no other step on a word.
+//! The laws of the rule, which no call's contract names. They say what the rule says of the running
+//! words, and that each kind of step keeps it in every interleaving. There is no other step on a
+//! word.
 ghost use Rattle.gen_slots.specs.RuleLaws.{Counts, HoldsSafely, Seats, Opens, EnterKeeps, LeaveKeeps, CheckKeeps, PublishKeeps, DealKeeps, TellKeeps, MeetKeeps, LearnKeeps};
 
 use crate::Version;

@@ -1,14 +1,42 @@
-//! Counted generation slots: readers enter the published slot and leave it by one atomic addition each, and one
-//! writer publishes into a slot that nobody holds, without waiting.
+//! Slots of generations: readers enter the published slot, and one writer publishes the next
+//! generation without waiting.
 //!
-//! A slot's enters are counted in the published word while it is published, and kept by the writer when it retires; its
-//! leaves have a word of their own. A retired slot whose two counts agree is held by nobody. No step resets a count, and
-//! counts are modulo 2 to the power 56.
+//! With two readers there are four slots. Readers and writer share these words:
 //!
-//! **Definitions:** `specs/SlotRule.antt` is the rule of the shared words, `SlotSteps.antt` what each
-//! kind of step tells, `SlotViews.antt` what contracts see of readers and writer, and
-//! `SlotMachine.antt` the machine without threads. **Theory:** docs/architecture.md, "Readers beside a
-//! writer". **Proofs:** docs/proofs.md, "Shared words (`gen_slots`, `gen_turns`)".
+//! ```text
+//! word 0, published       enters of the published slot * 256 + its number
+//! word 1 + s, done[s]     leaves of slot s * 256
+//! ```
+//!
+//! Each reader has a berth in each slot, with a value of the slot's state. Enter and leave are one
+//! atomic addition of 256 each. All counts start at 0, and slot 0 is published:
+//!
+//! ```text
+//!                       word 0        done[0]     slot 0        slot 1
+//! start                 0 * 256 + 0   0           published     free
+//! reader 0 enters       1 * 256 + 0   0           published     free
+//! reader 1 enters       2 * 256 + 0   0           published     free
+//! reader 1 leaves       2 * 256 + 0   1 * 256     published     free
+//! writer publishes 1    0 * 256 + 1   1 * 256     retired, 2    published
+//! reader 0 leaves       0 * 256 + 1   2 * 256     retired, 2    published
+//! ```
+//!
+//! The writer swaps word 0, and keeps the old one's count of enters, here 2. A check compares it
+//! with `done[0]`. After reader 1 left they differ, since reader 0 holds slot 0. After reader 0
+//! left they agree: nobody holds slot 0, and it is free again.
+//!
+//! Each reader holds at most one slot and one slot is published, so one of readers + 2 slots is
+//! free. The writer finds it in at most readers + 1 checks. A publication puts the new values into
+//! the berths of that slot, and hands back what was in them.
+//!
+//! No step resets a count. A slot starts with its leaves as its enters. Counts are modulo 2 to the
+//! power 56, and are compared for equality only.
+//!
+//! **Definitions:** `specs/SlotRule.antt` is the rule of the shared words, and `SlotSteps.antt` has
+//! the clauses of each kind of step. `SlotViews.antt` says what contracts see of readers and
+//! writer. `SlotMachine.antt` is the machine without threads. **Theory:** docs/architecture.md,
+//! "Readers beside a writer". **Proofs:** docs/proofs.md, "Shared words (`gen_slots`,
+//! `gen_turns`)".
 #![tactic(auto)]
 
 pub mod board;
@@ -28,13 +56,13 @@ pub use notes::Note;
 pub use publisher::Writer;
 pub use readers::{Held, Pass};
 
-/// A value with a state that is plain and does not change.
+/// A value with a plain state that doesn't change.
 pub trait Version {
     /// What the values of one publication have in common. No value of it is made.
     type State;
 
     ghost state: { Self → Self.State };
 
-    // Which state may be published next after which, as the second argument after the first.
+    // The second state may be published right after the first.
     ghost follows: { Self.State → Self.State → Type 0 };
 }

@@ -1,4 +1,5 @@
-//! The slot machine alone, without a table: counts of enters and leaves, and who holds which slot.
+//! The slot machine alone, without a table: the counts of enters and leaves, and which slot each
+//! reader holds.
 ghost use Rattle.std.specs.Prelude.{◌≡◌, ◌+◌, ◌<◌, ◌≤◌, ◌^◌, ◌↔◌, IsTrue, IfOk, IsSome, None, slice_index};
 ghost use Rattle.gen_slots.specs.declared.machine.Standing.TheVariants.{Retired, Free};
 ghost use Rattle.gen_slots.specs.SlotMachine.{initial, holder, entered_by, left_by, checked_at, with_published, holders, standing_of};
@@ -11,7 +12,7 @@ use std::marker::Model;
 // Counts are modulo 2 to the power 56, the bits of a word above the slot's number.
 const COUNTS: u64 = 1 << 56;
 
-/// What the writer may do with a slot.
+/// The status of a slot.
 #[derive(Clone, Copy, Debug, PartialEq, Eq)]
 pub enum Standing {
     /// Readers enter it.
@@ -44,7 +45,7 @@ impl Model for SlotCore {
 }
 
 impl SlotCore {
-    /// The machine at the start, with every count 0. Its one refusal is want of memory.
+    /// The machine at the start, with every count 0. It fails only if memory runs out.
     pub fn new(alloc: Global, readers: u32) -> Result<SlotCore, Memory>
         requires { (0 < readers) × (readers ≤ 16) }
         ensures { IfOk result (λ core. core ≡ initial readers 0) }
@@ -52,7 +53,7 @@ impl SlotCore {
         SlotCore::with_counts(alloc, readers, 0)
     }
 
-    /// The machine at the start, with every count at `start`. Its one refusal is want of memory.
+    /// The machine at the start, with every count at `start`. It fails only if memory runs out.
     pub fn with_counts(alloc: Global, readers: u32, start: u64) -> Result<SlotCore, Memory>
         requires readers { (0 < readers) × (readers ≤ 16) }
         requires start { start < 2 ^ 56 }
@@ -84,7 +85,7 @@ impl SlotCore {
         })
     }
 
-    /// The reader, which holds nothing, holds the published slot from now on.
+    /// The reader, which holds nothing, enters the published slot.
     pub fn enter(&mut self, reader: u32)
         requires number { reader < self.old.readers }
         requires outside { holder self.old reader ≡ None }
@@ -95,7 +96,7 @@ impl SlotCore {
         self.entered[at] = (self.entered[at] + 1) % COUNTS;
     }
 
-    /// The reader holds its slot no more.
+    /// The reader leaves its slot.
     pub fn leave(&mut self, reader: u32)
         requires number { reader < self.old.readers }
         requires inside { IsSome (holder self.old reader) }
@@ -107,7 +108,7 @@ impl SlotCore {
         }
     }
 
-    /// Is the retired slot held by nobody? Then it is free.
+    /// Whether nobody holds the retired slot. If so, it becomes free.
     pub fn check(&mut self, slot: u32) -> bool
         requires number { slot < self.old.readers + 2 }
         requires retired { standing_of self.old slot ≡ Retired }
@@ -123,7 +124,7 @@ impl SlotCore {
         unheld
     }
 
-    /// The free slot is published, and the one that was is retired.
+    /// Publishes the free slot. The slot that was published retires.
     pub fn publish(&mut self, slot: u32)
         requires number { slot < self.old.readers + 2 }
         requires free { standing_of self.old slot ≡ Free }
@@ -154,7 +155,7 @@ impl SlotCore {
     }
 }
 
-/// Over every list of events, from every count that a machine starts with, the facts of `Sound` hold.
+/// The facts of `IsSound` hold after every list of events, from every start value of the counts.
 pub fn every_run()
     ensures { EveryRun }
 {}

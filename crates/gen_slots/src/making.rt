@@ -1,4 +1,4 @@
-//! How a writer and its readers are made.
+//! Makes a writer and its readers.
 ghost use Rattle.std.specs.Prelude.{◌≡◌, ◌+◌, ◌*◌, ◌^◌, ◌≤◌, ◌<◌, [], ◌∷◌, ◌++◌, length, replicate, IfOk, OnOk, Some, None};
 ghost use Rattle.std.specs.Arc.{arc_value};
 ghost use Rattle.history_laws.specs.Histories.{Chain};
@@ -18,7 +18,8 @@ use std::alloc::Global;
 use std::snapshot::Snapshot;
 use std::sync::Arc;
 
-/// The writer, and one pass for each of 1 to 16 values, which have one state. Its one refusal is want of memory.
+/// The writer, and one pass for each of 1 to 16 values, which have one state. It fails only if
+/// memory runs out.
 pub fn make<T: Version + Send + Drop>(
     alloc: Global,
     first: Vec<T>,
@@ -32,7 +33,7 @@ pub fn make<T: Version + Send + Drop>(
     make_at(alloc, first, 0)
 }
 
-/// As `make`, with every count of enters and leaves at `start`. Its one refusal is want of memory.
+/// As `make`, with every count of enters and leaves at `start`. It fails only if memory runs out.
 pub fn make_at<T: Version + Send + Drop>(
     alloc: Global,
     first: Vec<T>,
@@ -67,7 +68,7 @@ pub fn make_at<T: Version + Send + Drop>(
     Ok((Writer::seated(board, place, readers, start), passes))
 }
 
-// The berths at the start, reader by reader: those of slot 0 have the values.
+// The berths at the start, in the order of the readers. Those of slot 0 have the values.
 fn lay<T: Drop>(alloc: Global, first: Vec<T>) -> Result<Vec<Option<T>>, Memory>
     ensures { IfOk result (λ v. v.items ≡ laid first.items) }
 {
@@ -78,7 +79,7 @@ fn lay<T: Drop>(alloc: Global, first: Vec<T>) -> Result<Vec<Option<T>>, Memory>
     Ok(berths)
 }
 
-// One reader's.
+// The berths of one reader.
 fn lay_one<T: Drop>(berths: &mut Vec<Option<T>>, value: T) -> Result<(), Memory>
     ensures { OnOk result (berths.new.items ≡ berths.old.items ++ Some value ∷ replicate 31 None) }
 {

@@ -1,4 +1,4 @@
-//! What one thread tells another.
+//! A note from one thread to another.
 ghost use Rattle.std.specs.Prelude.{◌≡◌, []};
 ghost use Rattle.history_laws.specs.Histories.{Chain};
 ghost use Rattle.gen_slots.specs.declared.board.Role.TheVariants.{Idle};
@@ -7,7 +7,7 @@ use crate::Version;
 use crate::board::Place;
 use std::marker::Model;
 
-/// The list of states that its giver had seen.
+/// The list of states that the thread that made the note had seen.
 #[derive(Drop)]
 pub struct Note<T: Version + Drop> {
     place: Place<T>,
@@ -42,7 +42,7 @@ impl<T: Version + Drop> Note<T> {
         place
     }
 
-    /// Each state of the list may follow the one before it. It does nothing.
+    /// A law: each state of the list may follow the one before it. It does nothing.
     pub fn known(&self)
         ensures { Chain T.follows self.now.list }
     {

@@ -1,4 +1,4 @@
-//! The writer, which finds a slot that nobody holds without waiting.
+//! The writer. It finds a slot that nobody holds, and never waits.
 ghost use Rattle.std.specs.Prelude.{◌≡◌, ◌≢◌, ℕ, ◌+◌, ◌-◌, ◌*◌, ◌%◌, ◌^◌, ◌≤◌, ◌<◌, List, [], ◌∷◌, ◌++◌, length, vec_capacity, get_or, replicate, slice_set, Some, None};
 ghost use Rattle.std.specs.Arc.{arc_value};
 ghost use Rattle.history_laws.specs.Histories.{StartsWith, EndsWith, Chain};
@@ -21,14 +21,14 @@ use std::sync::ledger::Ledger;
 
 type Top<T> = Shared<Option<T>, SeatView<<T as Version>::State>, Start<T>, Counted<T>>;
 
-/// The one writer of a `make`.
+/// The writer. Each `make` makes one.
 #[derive(Drop)]
 pub struct Writer<T: Version + Drop> {
     board: Arc<Board<T>, Global>,
     place: Place<T>,
     readers: usize,
     published: usize,
-    // Of a retired slot its enters, of a free one its leaves, times 256.
+    // Times 256: the enters of a retired slot, the leaves of a free one.
     counts: [u64; 18],
 }
 
@@ -45,7 +45,7 @@ impl<T: Version + Drop> Model for Writer<T> {
     ghost invariant = { λ w. (w.place.table_id ≡ (arc_value w.board).shared.table_id) × IsSized w.place.table_id × (0 < w.readers) × (w.readers ≤ 16) × (w.published < w.readers + 2) × (w.place.me.1 ≡ []) × (w.place.table_id.words ≡ w.readers + 3) × IsPlanAtRest w.readers w.published w.counts w.place.me.0.role × ((k : ℕ) → slice_index w.counts k % 256 ≡ 0) × Chain T.follows w.place.me.0.seen };
 }
 
-// Checks the slots but the published one, and takes the berths of the first that nobody holds.
+// Checks each slot but the published one, and takes the berths of the first that nobody holds.
 fn find<T: Version + Drop, L: Ledger>(
     top: &Top<T>,
     place: &mut Place<T>,
@@ -72,7 +72,7 @@ fn find<T: Version + Drop, L: Ledger>(
     unreachable!()
 }
 
-// Puts the values into the berths that the writer has, and takes what stood there.
+// Puts the values into the berths that the writer has. The vector then has what was in them.
 fn refill<T: Version + Drop>(
     top: &Top<T>,
     place: &mut Place<T>,
@@ -113,9 +113,11 @@ impl<T: Version + Drop> Writer<T> {
         }
     }
 
-    /// Publishes the state of these values, one for each reader, in a slot that nobody holds. The vector then has what
-    /// stood in that slot: values of the state that it was published with before, or nothing where it was never used.
-    /// It waits for nobody, takes no memory, and counts a step for each slot that it checks.
+    /// Publishes the state of these values, one for each reader, in a slot that nobody holds.
+    ///
+    /// Afterwards the vector has what was in that slot: values of the state with which it was
+    /// published before, or nothing if it was never used. The call waits for nobody and takes no
+    /// memory. It counts a step for each slot that it checks.
     pub fn publish<L: Ledger>(&mut self, berths: &mut Vec<Option<T>>, steps: &mut Steps<L>)
         requires values { (length berths.old.items ≡ self.old.readers) × ((x : T.State) × AllShow T.state x berths.old.items) }
         requires next { (x y : T.State) → AllShow T.state x berths.old.items → EndsWith self.old.made y → T.follows y x }
@@ -141,7 +143,7 @@ impl<T: Version + Drop> Writer<T> {
         self.published = slot;
     }
 
-    /// What was published, for a reader to know. It takes no memory.
+    /// A note of what was published, for a reader to take in. It takes no memory.
     pub fn note(&mut self) -> Note<T>
         ensures note { (result.of ≡ self.old.of) × (result.list ≡ self.old.made) }
         ensures same { self.new ≡ self.old }
@@ -150,7 +152,7 @@ impl<T: Version + Drop> Writer<T> {
         Note::seated(shared.split_seat::<Tell>(&mut self.place))
     }
 
-    /// The note's list begins what was published. It takes no memory.
+    /// Takes a note in: its list is a beginning of what was published. It takes no memory.
     pub fn hear(&mut self, note: Note<T>)
         requires { note.of ≡ self.old.of }
         ensures same { self.new ≡ self.old }
@@ -161,7 +163,7 @@ impl<T: Version + Drop> Writer<T> {
         shared.load::<Learn>(&mut self.place, 0);
     }
 
-    /// Each published state may follow the one before it. It does nothing.
+    /// A law: each published state may follow the one before it. It does nothing.
     pub fn known(&self)
         ensures { Chain T.follows self.now.made }
     {

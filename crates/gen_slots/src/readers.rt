@@ -35,8 +35,8 @@ impl<T: Version + Drop> Model for Pass<T> {
     ghost invariant = { λ p. (p.place.table_id ≡ (arc_value p.board).shared.table_id) × IsSized p.place.table_id × (p.reader < 16) × (p.place.me.0.role ≡ Out p.reader) × (p.place.me.1 ≡ []) × Chain T.follows p.place.me.0.seen };
 }
 
-/// A reader that holds a slot, with its value of it. The slot is not used again until `leave`, and for good where the
-/// `Held` is dropped.
+/// A reader that holds a slot, with its value of that slot. The slot isn't used again until
+/// `leave`. If the `Held` is dropped, it is never used again.
 #[derive(Drop)]
 pub struct Held<T: Version + Drop> {
     board: Arc<Board<T>, Global>,
@@ -73,7 +73,8 @@ impl<T: Version + Drop> Pass<T> {
         }
     }
 
-    /// Holds the slot that is published at the one atomic addition which this makes. It takes no memory.
+    /// Enters the slot that is published at this call's one atomic addition. The reader holds that
+    /// slot. It takes no memory.
     pub fn enter(self) -> Held<T>
         ensures seen { StartsWith result.seen self.seen }
         ensures moves { result.moves ≡ self.moves + 1 }
@@ -98,7 +99,7 @@ impl<T: Version + Drop> Pass<T> {
         }
     }
 
-    /// What this reader has seen, for another thread to know. It takes no memory.
+    /// A note of what this reader has seen, for another thread to take in. It takes no memory.
     pub fn note(&mut self) -> Note<T>
         ensures note { (result.of ≡ self.old.of) × (result.list ≡ self.old.seen) }
         ensures same { self.new ≡ self.old }
@@ -107,7 +108,8 @@ impl<T: Version + Drop> Pass<T> {
         Note::seated(shared.split_seat::<Tell>(&mut self.place))
     }
 
-    /// The longer of both lists is seen from now on; the other begins it. It takes no memory.
+    /// Takes a note in: of the two lists one is a beginning of the other, and the reader has then
+    /// seen the longer one. It takes no memory.
     pub fn meet(&mut self, note: Note<T>)
         requires { note.of ≡ self.old.of }
         ensures seen { self.new ≡ record self.old { seen = longer self.old.seen note.list } }
@@ -118,7 +120,7 @@ impl<T: Version + Drop> Pass<T> {
         shared.load::<Learn>(&mut self.place, 0);
     }
 
-    /// Each state of the list may follow the one before it. It does nothing.
+    /// A law: each state of the list may follow the one before it. It does nothing.
     pub fn known(&self)
         ensures { Chain T.follows self.now.seen }
     {
@@ -127,14 +129,15 @@ impl<T: Version + Drop> Pass<T> {
 }
 
 impl<T: Version + Drop> Held<T> {
-    /// A value of the held slot, whose state is the last that this reader has seen.
+    /// The value of the held slot. Its state is the last that this reader has seen.
     pub fn get(&self) -> &T
         ensures { EndsWith self.now.seen (T.state result.now) }
     {
         &self.value
     }
 
-    /// Holds nothing from the one atomic addition on which this makes. It takes no memory.
+    /// Leaves the slot. The reader holds nothing after the atomic addition that this call makes. It
+    /// takes no memory.
     pub fn leave(self) -> Pass<T>
         ensures { result ≡ record self { moves = self.moves + 1 } }
     {
@@ -155,7 +158,7 @@ impl<T: Version + Drop> Held<T> {
         }
     }
 
-    /// Each state of the list may follow the one before it. It does nothing.
+    /// A law: each state of the list may follow the one before it. It does nothing.
     pub fn known(&self)
         ensures { Chain T.follows self.now.seen }
     {

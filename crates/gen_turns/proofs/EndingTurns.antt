@@ -1,4 +1,4 @@
--- A turn ends, by an enter or by a publication: each keeps the rule of the table.
+-- The end of a turn, by an enter or by a publication, keeps the rule of the table.
 use Rattle.std.proofs.Common.{◌≡◌, ◌≢◌, ℕ, ◌+◌, ◌%◌, ◌<◌, ◌≤◌, List, [], ◌∷◌, ◌++◌, set, sym, refl, ap, ◌∙◌, subst, arith, Option, Some, None, length, length-set}
 use mathlib.Core.Option.{none, some}
 use mathlib.Core.List.{append-nil}
@@ -27,7 +27,7 @@ items_of [] = []
 items_of ((j, Some u) ∷ cs) = u.items
 items_of ((j, None) ∷ cs) = []
 
--- other seats stay as they are, where the number a enters or publishes
+-- other seats stay as they are when the number a enters or publishes
 others_play : {X : Type 0} (n : ℕ) (first made made' : List X) (given : ℕ) (last last' : ℕ → List X) (a : ℕ) → ((b : ℕ) → b ≢ a → last' b ≡ last b) → (a ≢ n → made' ≡ made) → (seen at_enter : List X) (role : Role) → ¬ (HasNumber n a role)
     → Plays n first made given last seen at_enter role → Plays n first made' given last' seen at_enter role
 others_play n first made made' given last last' a same_last same_made seen at_enter Idle other k = k

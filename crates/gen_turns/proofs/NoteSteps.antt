@@ -1,4 +1,5 @@
--- A note is cut off a view and taken into another, and what is learned then: each keeps the rule of the table.
+-- A note is split off a view, another view takes it in, and word 1 is loaded. Each keeps the rule
+-- of the table.
 use Rattle.std.proofs.Common.{◌≡◌, ◌≢◌, ℕ, List, [], ◌∷◌, ◌++◌, set, sym, refl, ap, ◌∙◌, subst, ⊎_elim, arith}
 use Rattle.std.proofs.lemmas.List.Sums.{sum_by-append}
 use mathlib.Core.Option.{none, some}
@@ -27,7 +28,7 @@ module _ {T X : Type 0} (state : T → X) (follows : X → X → Type 0) where
   abbrev Rule : St → Type 0
   Rule = Kept state follows
 
-  -- a note more
+  -- one more note
   note_more : (s : St) (k : Rule s) (seen : List X) → StartsWith k.made seen → Rule record { words = s.words; homes = s.homes; views = s.views ++ listing seen ∷ [] }
   note_more s k seen begins = let w : SeatView T X = listing seen in record {
     line = k.line;
@@ -52,7 +53,7 @@ module _ {T X : Type 0} (state : T → X) (follows : X → X → Type 0) where
   tells id v s k at = let s' : St = record { words = s.words; homes = s.homes; views = set s.views id v } in let k' : Rule s' = view_changes state follows s k id v v at refl refl refl (k.each_seat id v at) in
       note_more s' k' v.seen (k'.each_seat id v (set_here s.views id v (entry_read s.views id v at).0)).0
 
-  -- the same for any two views that are these
+  -- the same for any two views that equal these
   pub tells_as : (id : ℕ) (v left right : SeatView T X) → left ≡ v → right ≡ listing v.seen → Splits Rule id v left right
   tells_as id v left right same other = subst (λ (z : SeatView T X × SeatView T X). Splits Rule id v z.0 z.1) (λ i. (sym same i, sym other i)) (tells id v)
 

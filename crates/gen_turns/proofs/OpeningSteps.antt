@@ -29,13 +29,13 @@ lone v zero d e = (refl, some-injective v d e)
 lone v (suc j) d e = absurd (some-ne-none d (sym e))
 
 module _ {X : Type 0} (n : ℕ) (first made : List X) (given : ℕ) (last : ℕ → List X) (seen entered : List X) where
-  -- a number that wasn't given is in no seat
+  -- no seat has a number that wasn't given
   nobody_has : given < n → (role : Role) → Plays n first made given last seen entered role → ¬ (HasNumber n given role)
   nobody_has below Idle k has = has
   nobody_has below (Reader r) k has = let given_then = k.0 in omega (arith, given_then, has)
   nobody_has below (Keeper q g) k has = omega (arith, below, has)
 
-  -- a number more was given, and the seat isn't the writer's
+  -- one more number was given, and the seat isn't the writer's
   more_given : (role : Role) → ¬ (HasNumber n n role) → Plays n first made given last seen entered role → Plays n first made (given + 1) last seen entered role
   more_given Idle other k = k
   more_given (Reader r) other k = (let below = k.0 in omega (arith, below), k.1)

@@ -23,7 +23,7 @@ module _ {T X : Type 0} (state : T → X) where
   shown_fresh x made last (Some v ∷ ps) a (suc i) p e = shown_fresh x made last ps a.1 i p e
   shown_fresh x made last (None ∷ ps) a i p e = absurd a
 
-  -- values of the state that was published
+  -- the places have values of the state that was published
   pub stocked_new : (n : ℕ) (x : X) (made : List X) (last : ℕ → List X) (ps : List (Option T)) → length ps ≡ n → AllShow state x ps → IsStocked state n (made ++ x ∷ []) last ps
   stocked_new n x made last ps size a = (size, λ r p e. shown_fresh x made (last r) ps a r p e)
 

@@ -1,4 +1,4 @@
--- A ticket is drawn, and its seat looks whether it is served: each keeps the rule of the table.
+-- Two steps keep the rule of the table: a ticket is drawn, and its seat looks whether it is served.
 use Rattle.std.proofs.Common.{◌≡◌, ℕ, ◌+◌, ◌%◌, ◌^◌, ◌≤◌, List, [], ◌∷◌, ◌++◌, get_or, set, sym, refl, ◌∙◌, subst, arith, Option, Some, length-set}
 use mathlib.Core.Logic.{dite}
 use mathlib.Core.Option.{none}

@@ -1,9 +1,17 @@
 -- The rule of the table: what holds between any two steps, whatever the threads do. In words:
--- The seats: one is the writer's, each reader's number that was given is in one, and each that wasn't is in none. Only these have a ticket, each at most one.
--- The tickets: those that are out are exactly the numbers from the served one up to and without the next one, modulo 2 ^ 64. Each is one seat's.
--- The vector: it is at home, or out with the seat whose ticket is served. At home, a reader's place has a value of the last state that was published, or it is empty, where the list of that reader's last enter is the writer's whole list. Before a reader first enters, the first list counts as that of its last enter.
--- The lists: each seat's begins the writer's, which is a chain, and the list of a reader's last enter begins the reader's.
--- The seat with the vector notes the writer's list, and what the vector held when it was taken, which is as it is at home.
+--
+-- - The seats: one is the writer's. Each reader's number that was given is in one seat, and no
+--   other number is. Only these seats have a ticket, each at most one.
+-- - The tickets: those that are out are exactly the numbers from the served one up to the next one,
+--   modulo 2 ^ 64. Each is in one seat.
+-- - The vector: it is at home, or out with the seat whose ticket is served. At home, a reader's
+--   place has a value of the last state that was published. It is empty only if the list of that
+--   reader's last enter is the writer's whole list. Before a reader first enters, the first list
+--   counts as the list of its last enter.
+-- - The lists: each seat's list begins the writer's list, which is a chain. The list of a reader's
+--   last enter begins the reader's list.
+-- - The seat with the vector notes the writer's list, and what the vector held when the seat took
+--   it, which is as at home.
 use Rattle.std.specs.Prelude.{◌≡◌, ◌≢◌, ℕ, ◌+◌, ◌<◌, ◌≤◌, List, [], ◌∷◌, length, Option, Some, None}
 use Rattle.std.specs.List.{sum_by}
 use mathlib.Core.Option.{some}
@@ -48,14 +56,16 @@ module _ {T X : Type 0} where
   abbrev pub turns_of : SeatView T X → ℕ
   turns_of d = turns_at d.role
 
--- what holds by a seat's role of what it has seen, and had seen when it entered last: a reader's number was given, and the writer has seen the whole list
+-- What holds of the list that a seat has seen, and of the list that it had seen at its last enter,
+-- by its role. A reader's number was given. The writer has seen the whole list.
 abbrev pub Plays : {X : Type 0} → ℕ → List X → List X → ℕ → (ℕ → List X) → List X → List X → Role → Type 0
 Plays n first made given last seen entered Idle = Unit {0}
 Plays n first made given last seen entered (Reader r) = (r < given) × (last r ≡ entered)
 Plays n first made given last seen entered (Keeper q g) = (q ≡ n) × (g ≡ given) × (seen ≡ made) × (entered ≡ first)
 
 module _ {T X : Type 0} (state : T → X) where
-  -- a reader's place: a value of the last state, or nothing where the reader entered last with the whole list
+  -- a reader's place: a value of the last state, or nothing if the reader entered last with the
+  -- whole list
   abbrev pub ShowsLast : List X → List X → Option T → Type 0
   ShowsLast made last (Some v) = EndsWith made (state v)
   ShowsLast made last None = last ≡ made
@@ -70,7 +80,8 @@ module _ {T X : Type 0} (state : T → X) where
   AreLast made (Some v ∷ ps) = EndsWith made (state v) × AreLast made ps
   AreLast made (None ∷ ps) = AreLast made ps
 
-  -- what holds of a seat's view: with the vector it notes the whole list, and the vector as it is at home
+  -- what holds of a seat's view: if it has the vector, it notes the whole list, and the vector as
+  -- at home
   abbrev pub Sits : ℕ → List X → List X → ℕ → (ℕ → List X) → SeatView T X → Type 0
   Sits n first made given last d =
       StartsWith made d.seen × StartsWith made d.told × StartsWith d.seen d.entered × (1 < d.stage → HasTurns d.role) × (d.stage ≡ 3 → (d.whole ≡ made) × IsStocked n made last d.took) × Plays n first made given last d.seen d.entered d.role
@@ -85,7 +96,7 @@ module _ {T X : Type 0} (state : T → X) where
     pub few : (0 < n) × (n ≤ 16) × (given ≤ n)
     pub deep : length s.homes ≡ 1
     pub queue : InLine stage_of ticket_of s.words s.views line
-    -- the vector is at home, where nobody is served
+    -- the vector is at home if nobody is served
     pub home : ((j : ℕ) (d : SeatView T X) → get_elem? s.views j ≡ some d → d.stage ≢ 3) → (v : Vec (Option T)) × (get_elem? s.homes 0 ≡ some (some (Some v))) × IsStocked n made last v.items
     pub chain : Chain follows made
     pub starts : StartsWith made first

@@ -1,4 +1,4 @@
--- What each kind of step on the table tells.
+-- The clauses of each kind of step on the table.
 use Rattle.std.specs.Prelude.{◌≡◌, ◌≢◌, ℕ, ◌+◌, ◌<◌, List, [], ◌∷◌, ◌++◌, length, Option, Some}
 use mathlib.Core.Option.{some}
 use lib.ListN.{get_elem?}
@@ -11,7 +11,7 @@ use Rattle.gen_turns.specs.declared.board.Role.{Role}
 use Rattle.gen_turns.specs.declared.board.Role.TheVariants.{Idle, Reader, Keeper}
 use Rattle.gen_turns.specs.TurnRule.{Entry, ShowsLast, AreLast, seat_view}
 
--- a reader more was given
+-- one more reader was given
 abbrev pub one_more : Role → Role
 one_more (Keeper q g) = Keeper q (g + 1)
 one_more role = role
@@ -32,7 +32,7 @@ module _ {T X : Type 0} where
   abbrev pub with_note : SeatView T X → List X → SeatView T X
   with_note d told = record d { told = told }
 
-  -- the seat has the ticket that was found
+  -- the seat has the ticket that it found
   abbrev pub drew : Step (Entry T) → Me (Entry T) (SeatView T X) → ℕ → Me (Entry T) (SeatView T X) → Type 0
   drew st m e m' = m' ≡ (record m.0 { stage = 2; ticket = e }, m.1)
 
@@ -42,21 +42,21 @@ module _ {T X : Type 0} where
   Finds state whole seen entered ps (Reader r) = (r < length ps) × ((p : Option T) → get_elem? ps r ≡ some p → ShowsLast state whole entered p)
   Finds state whole seen entered ps (Keeper q g) = (whole ≡ seen) × (length ps ≡ q) × AreLast state whole ps
 
-  -- at its own ticket the seat has the vector, and else nothing changes
+  -- at its own ticket the seat has the vector, and at another one nothing changes
   abbrev pub looked : (T → X) → (X → X → Type 0) → Step (Entry T) → Me (Entry T) (SeatView T X) → ℕ → Me (Entry T) (SeatView T X) → Type 0
   looked state follows st m e m' =
       (e ≡ m.0.ticket → (v : Vec (Option T)) × (whole : List X) × (m' ≡ (record m.0 { stage = 3; whole = whole; took = v.items }, (0, Some v) ∷ m.1)) × StartsWith whole m.0.seen × Chain follows whole × Finds state whole m.0.seen m.0.entered v.items m.0.role)
       × (e ≢ m.0.ticket → m' ≡ m)
 
-  -- a reader's turn ends, and it has seen the whole list
+  -- a reader's turn ends, and the reader has seen the whole list
   abbrev pub entered : Step (Entry T) → Me (Entry T) (SeatView T X) → ℕ → Me (Entry T) (SeatView T X) → Type 0
   entered st m e m' = m' ≡ (record m.0 { stage = 1; seen = m.0.whole; entered = m.0.whole }, [])
 
-  -- the writer's turn ends, and the state of the values that it gave back was published
+  -- the writer's turn ends, and the state of the values that it gave back is published
   abbrev pub published : (T → X) → (X → X → Type 0) → Step (Entry T) → Me (Entry T) (SeatView T X) → ℕ → Me (Entry T) (SeatView T X) → Type 0
   published state follows st m e m' = Chain follows m'.0.seen × ((x : X) (v : Vec (Option T)) → m.1 ≡ (0, Some v) ∷ [] → 0 < length v.items → AllShow state x v.items → m' ≡ (record m.0 { stage = 1; seen = m.0.seen ++ x ∷ [] }, []))
 
-  -- the shorter list begins the longer, and the longer was seen
+  -- the shorter list begins the longer one, and the longer one was seen
   abbrev pub learned : (X → X → Type 0) → Step (Entry T) → Me (Entry T) (SeatView T X) → ℕ → Me (Entry T) (SeatView T X) → Type 0
   learned follows st m e m' = (m' ≡ (record m.0 { seen = longer m.0.seen m.0.told; told = [] }, m.1)) × StartsWith m'.0.seen m.0.seen × StartsWith m'.0.seen m.0.told
       × ((q g : ℕ) → m.0.role ≡ Keeper q g → m'.0.seen ≡ m.0.seen) × Chain follows m'.0.seen

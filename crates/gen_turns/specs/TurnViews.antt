@@ -7,7 +7,7 @@ use Rattle.gen_turns.specs.declared.board.Role.{Role}
 use Rattle.gen_turns.specs.declared.board.Role.TheVariants.{Keeper}
 use Rattle.gen_turns.specs.TurnRule.{Entry}
 
--- of a reader, entered or not: which table it is of, the states that it has seen, and its number
+-- A reader, entered or not: its table, the states that it has seen, and its number.
 pub record PassView (X : Type 0) : Type 0 where
   pub of : TableId
   pub seen : List X
@@ -21,7 +21,7 @@ pub record Telling (X : Type 0) : Type 0 where
   pub of : TableId
   pub list : List X
 
--- of the writer: the states that were published, and what stood in the places when its last turn came
+-- The writer: the states that were published, and what was in the places at its last turn.
 pub record Publishing (T X : Type 0) : Type 0 where
   pub of : TableId
   pub made : List X

@@ -1,7 +1,7 @@
 //! The table that the readers and the writer share.
 //!
-//! Word 0 is the next ticket, and word 1 the ticket that is served. The table's one entry is the vector of values, which
-//! is out with the seat whose ticket is served.
+//! Word 0 is the next ticket, and word 1 the ticket that is served. The table's one entry is the
+//! vector of values. The seat whose ticket is served may take it.
 use crate::Version;
 use atomic_table::{Seat, Table, TableRule};
 use std::alloc::Global;
@@ -13,40 +13,41 @@ use std::snapshot::Snapshot;
 /// or nothing once the reader took it.
 pub type Places<T> = Vec<Option<T>>;
 
-/// Whose seat it is. No value of it is made.
+/// Whose seat it is. Only contracts use it: no value of it is made.
 pub enum Role {
-    /// A note's, or nobody's.
+    /// A note's seat, or nobody's.
     Idle,
-    /// The reader's.
+    /// The seat of this reader.
     Reader(u64),
-    /// The writer's: the number of readers, and the number below which they were made.
+    /// The writer's seat: the number of readers, and the number below which readers were made.
     Keeper(u64, u64),
 }
 
-/// What a seat at the table knows. No value of it is made.
+/// What a seat at the table knows. Only contracts use it: no value of it is made.
 pub struct SeatView<T, X> {
     /// Whose seat it is.
     pub role: Role,
-    /// 1 with no ticket, 2 with one that is not served yet, and 3 with the vector.
+    /// 1 without a ticket, 2 with a ticket that is not served yet, and 3 with the vector.
     pub stage: u64,
     /// The ticket that it drew last.
     pub ticket: u64,
-    /// The states that it has seen, in the order of their publication.
+    /// The states that it has seen, in the order of publication.
     pub seen: LinkedList<X>,
-    /// Of a reader what it had seen when it entered last, and before it first entered the first list.
+    /// For a reader, what it had seen at its last enter. Before its first enter it is the first
+    /// list.
     pub entered: LinkedList<X>,
-    /// What a note told, until it is compared with `seen`.
+    /// The list of a note that was taken in, until it is compared with `seen`.
     pub told: LinkedList<X>,
-    /// What was published when its last turn came.
+    /// What was published at its last turn.
     pub whole: LinkedList<X>,
-    /// What the vector held when its last turn came.
+    /// What the vector held at its last turn.
     pub took: LinkedList<Option<T>>,
 }
 
-/// What the table is told when it is made.
+/// The start values of the table.
 #[derive(Drop)]
 pub struct Start<T> {
-    /// A value of the first state that is published.
+    /// A value of the state that is published first.
     pub first: Snapshot<T>,
     /// How many readers there are.
     pub readers: u64,
@@ -65,7 +66,7 @@ impl<T: Version> TableRule<Option<Places<T>>, SeatView<T, T::State>, Start<T>> f
     ghost first = { λ key. starting key.readers (T.state key.first.value) };
 }
 
-/// The table: the vector in its one entry, and the words of the line.
+/// The table: the vector in its one entry, and the words of the ticket line.
 pub type Board<T> = Table<
     Option<Places<T>>,
     SeatView<T, <T as Version>::State>,
@@ -74,5 +75,5 @@ pub type Board<T> = Table<
     Global,
 >;
 
-/// A seat at the table: what its holder knows, and the vector where it is served.
+/// A seat at the table: what its holder knows, and the vector if its ticket is served.
 pub type Place<T> = Seat<Option<Places<T>>, SeatView<T, <T as Version>::State>>;

@@ -1,5 +1,5 @@
-// The kinds of step on the table, and what each tells: a draw, a look (at a ticket of its own, or with none after a note
-// was taken in), a turn's end (an enter's or a publication's), and the splits and the join of views.
+// The kinds of step on the table, each with its clause. They are a draw, a look at word 1, and the
+// end of a turn by an enter or a publication. Views are also split and joined.
 ghost use Rattle.gen_turns.specs.TurnRule.{listing};
 ghost use Rattle.gen_turns.specs.TurnSteps.{drew, looked, entered, published, learned, given_one, next_reader, with_note};
 
@@ -7,14 +7,14 @@ use crate::Version;
 use crate::board::{Places, SeatView};
 use atomic_table::{Join, Play, Split};
 
-// 1 is added to word 0, which gave the ticket.
+// 1 is added to word 0. The old word is the ticket.
 pub(crate) struct Draw;
 
 impl<T: Version> Play<Option<Places<T>>, SeatView<T, T::State>> for Draw {
     ghost then = { drew };
 }
 
-// Word 1 is loaded by a seat that has a ticket. It takes the vector where its ticket is served.
+// A seat with a ticket loads word 1. It takes the vector if its ticket is served.
 pub(crate) struct Look;
 
 impl<T: Version> Play<Option<Places<T>>, SeatView<T, T::State>> for Look {
@@ -28,14 +28,14 @@ impl<T: Version> Play<Option<Places<T>>, SeatView<T, T::State>> for Learn {
     ghost then = { learned T.follows };
 }
 
-// The next ticket is stored in word 1, where a reader entered.
+// A reader entered, and stores the next ticket in word 1.
 pub(crate) struct EndEnter;
 
 impl<T: Version> Play<Option<Places<T>>, SeatView<T, T::State>> for EndEnter {
     ghost then = { entered };
 }
 
-// The next ticket is stored in word 1, where the writer published.
+// The writer published, and stores the next ticket in word 1.
 pub(crate) struct EndPublish;
 
 impl<T: Version> Play<Option<Places<T>>, SeatView<T, T::State>> for EndPublish {

@@ -1,5 +1,6 @@
-//! The laws of the rule, which no call's contract names: what it says of the tickets, the vector and the seats, and that
-//! each kind of step keeps it, in every interleaving. There is no other step on a word.
+//! The laws of the rule, which no call's contract names. They say what the rule says of the
+//! tickets, the vector and the seats, and that each kind of step keeps it in every interleaving.
+//! There is no other step on a word.
 ghost use Rattle.gen_turns.specs.RuleLaws.{Queues, HandsOn, Seats, Opens, DrawKeeps, LookKeeps, EnterKeeps, PublishKeeps, DealKeeps, TellKeeps, MeetKeeps, LearnKeeps};
 
 use crate::Version;
@@ -11,8 +12,9 @@ pub fn running_words<T: Version>()
     ensures seats { Seats T.state T.follows }
 {}
 
-/// The table at the start meets the rule, and each kind of step keeps it: a draw, a look at a ticket, the end of a turn
-/// by an enter or by a publication, a split for a reader or for a note, a join, and the look after one.
+/// The table at the start meets the rule, and each kind of step keeps it. The steps are a draw, a
+/// look at a ticket, and the end of a turn by an enter or a publication. The others are a split for
+/// a reader or a note, a join, and the look after it.
 pub fn every_step<T: Version>()
     ensures opening { Opens T.state T.follows }
     ensures draw { DrawKeeps T.state T.follows }

@@ -1,4 +1,4 @@
-//! How a writer and its readers are made.
+//! Makes a writer and its readers.
 ghost use Rattle.std.specs.Prelude.{◌≡◌, ◌≤◌, ◌<◌, [], ◌∷◌, length, IfOk};
 ghost use Rattle.std.specs.Arc.{arc_value};
 ghost use Rattle.history_laws.specs.Histories.{EndsWith, Chain};
@@ -17,7 +17,8 @@ use std::alloc::Global;
 use std::snapshot::Snapshot;
 use std::sync::Arc;
 
-/// The writer, and one pass for each of 1 to 16 values, which have one state. Its one refusal is want of memory.
+/// The writer, and one pass for each of 1 to 16 values, which have one state. It fails only if
+/// memory runs out.
 pub fn make<T: Version + Send + Drop>(
     alloc: Global,
     first: Vec<T>,

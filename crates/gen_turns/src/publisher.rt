@@ -16,7 +16,7 @@ use std::marker::Model;
 use std::mem;
 use std::sync::{Arc, Wait};
 
-/// The one writer of a `make`.
+/// The writer. Each `make` makes one.
 #[derive(Drop)]
 pub struct Writer<T: Version + Drop> {
     board: Arc<Board<T>, Global>,
@@ -36,7 +36,7 @@ impl<T: Version + Drop> Model for Writer<T> {
     ghost invariant = { λ w. (w.place.table_id ≡ (arc_value w.board).shared.table_id) × IsSized w.place.table_id × IsWriterRole w.place.me.0.role × (w.place.me.0.stage ≡ 1) × (w.place.me.1 ≡ []) × Chain T.follows w.place.me.0.seen };
 }
 
-// Gives the values back as the vector, and lets the next ticket be served.
+// Gives back the values as the vector, and lets the next ticket be served.
 fn end_turn<T: Version + Drop>(top: &Top<T>, place: &mut Place<T>, ticket: u64, values: Places<T>)
     requires table { (place.old.table_id ≡ top.now.table_id) × IsSized place.old.table_id }
     requires seat { IsWriterRole place.old.me.0.role × (place.old.me.0.stage ≡ 3) × (place.old.me.0.ticket ≡ ticket) × (place.old.me.1 ≡ (0, None) ∷ []) }
@@ -59,9 +59,11 @@ impl<T: Version + Drop> Writer<T> {
         Writer { board, place }
     }
 
-    /// Publishes the state of these values, one for each reader, at the writer's turn, for which it waits. The vector
-    /// then has what stood in the places: for a reader that entered since the last publication nothing, and for any
-    /// other its value of the state that was last. It takes no memory.
+    /// Publishes the state of these values, one for each reader, at the writer's turn. The call
+    /// waits for this turn, and takes no memory.
+    ///
+    /// Afterwards the vector has what was in the places. For a reader that entered since the last
+    /// publication this is nothing. For any other reader it is its value of the last state.
     pub fn publish<R: Wait>(&mut self, rt: &R, berths: &mut Vec<Option<T>>)
         requires values { (length berths.old.items ≡ self.old.readers) × ((x : T.State) × AllShow T.state x berths.old.items) }
         requires next { (x y : T.State) → AllShow T.state x berths.old.items → EndsWith self.old.made y → T.follows y x }
@@ -74,7 +76,7 @@ impl<T: Version + Drop> Writer<T> {
         end_turn(top, &mut self.place, ticket, values);
     }
 
-    /// What was published, for a reader to know. It takes no memory.
+    /// A note of what was published, for a reader to take in. It takes no memory.
     pub fn note(&mut self) -> Note<T>
         ensures note { (result.of ≡ self.old.of) × (result.list ≡ self.old.made) }
         ensures same { self.new ≡ self.old }
@@ -83,7 +85,7 @@ impl<T: Version + Drop> Writer<T> {
         Note::seated(shared.split_seat::<Tell>(&mut self.place))
     }
 
-    /// The note's list begins what was published. It takes no memory.
+    /// Takes a note in: its list begins what was published. It takes no memory.
     pub fn hear(&mut self, note: Note<T>)
         requires { note.of ≡ self.old.of }
         ensures same { self.new ≡ self.old }
@@ -94,7 +96,7 @@ impl<T: Version + Drop> Writer<T> {
         shared.load::<Learn>(&mut self.place, 1);
     }
 
-    /// Each published state may follow the one before it. It does nothing.
+    /// A law: each published state may follow the one before it. It does nothing.
     pub fn known(&self)
         ensures { Chain T.follows self.now.made }
     {

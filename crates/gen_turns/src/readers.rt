@@ -14,7 +14,7 @@ use std::alloc::Global;
 use std::marker::Model;
 use std::sync::{Arc, Wait};
 
-/// A reader that holds nothing. It keeps its value of the state that it entered with last.
+/// A reader that holds nothing. It keeps its value of the state of its last enter.
 #[derive(Drop)]
 pub struct Pass<T: Version + Drop> {
     board: Arc<Board<T>, Global>,
@@ -37,7 +37,7 @@ impl<T: Version + Drop> Model for Pass<T> {
     ghost invariant = { λ p. (p.place.table_id ≡ (arc_value p.board).shared.table_id) × IsSized p.place.table_id × (p.place.me.0.role ≡ Reader p.reader) × (p.place.me.0.stage ≡ 1) × (p.place.me.1 ≡ []) × EndsWith p.place.me.0.entered (T.state p.value) × Chain T.follows p.place.me.0.seen };
 }
 
-/// A reader that has entered, with its value of the state that it entered with.
+/// A reader that has entered, with its value of the state of this enter.
 #[derive(Drop)]
 pub struct Held<T: Version + Drop> {
     board: Arc<Board<T>, Global>,
@@ -60,7 +60,7 @@ impl<T: Version + Drop> Model for Held<T> {
     ghost invariant = { λ p. (p.place.table_id ≡ (arc_value p.board).shared.table_id) × IsSized p.place.table_id × (p.place.me.0.role ≡ Reader p.reader) × (p.place.me.0.stage ≡ 1) × (p.place.me.1 ≡ []) × (p.place.me.0.entered ≡ p.place.me.0.seen) × EndsWith p.place.me.0.seen (T.state p.value) × Chain T.follows p.place.me.0.seen };
 }
 
-// Gives the vector back without the reader's own place, and lets the next ticket be served.
+// Gives back the vector with the reader's own place empty, and lets the next ticket be served.
 fn end_turn<T: Version + Drop>(
     top: &Top<T>,
     place: &mut Place<T>,
@@ -98,7 +98,8 @@ impl<T: Version + Drop> Pass<T> {
         }
     }
 
-    /// Enters with the state that is published at this reader's turn, for which it waits. It takes no memory.
+    /// Enters with the state that is published at this reader's turn. The call waits for this turn,
+    /// and takes no memory.
     pub fn enter<R: Wait>(self, rt: &R) -> Held<T>
         ensures seen { StartsWith result.seen self.seen }
         ensures same { (result.of ≡ self.of) × (result.reader ≡ self.reader) }
@@ -122,7 +123,7 @@ impl<T: Version + Drop> Pass<T> {
         }
     }
 
-    /// What this reader has seen, for another thread to know. It takes no memory.
+    /// A note of what this reader has seen, for another thread to take in. It takes no memory.
     pub fn note(&mut self) -> Note<T>
         ensures note { (result.of ≡ self.old.of) × (result.list ≡ self.old.seen) }
         ensures same { self.new ≡ self.old }
@@ -131,7 +132,8 @@ impl<T: Version + Drop> Pass<T> {
         Note::seated(shared.split_seat::<Tell>(&mut self.place))
     }
 
-    /// The longer of both lists is seen from now on; the other begins it. It takes no memory.
+    /// Takes a note in: of the two lists one begins the other, and the reader has then seen the
+    /// longer one. It takes no memory.
     pub fn meet(&mut self, note: Note<T>)
         requires { note.of ≡ self.old.of }
         ensures seen { self.new ≡ record self.old { seen = longer self.old.seen note.list } }
@@ -142,7 +144,7 @@ impl<T: Version + Drop> Pass<T> {
         shared.load::<Learn>(&mut self.place, 1);
     }
 
-    /// Each state of the list may follow the one before it. It does nothing.
+    /// A law: each state of the list may follow the one before it. It does nothing.
     pub fn known(&self)
         ensures { Chain T.follows self.now.seen }
     {
@@ -158,7 +160,8 @@ impl<T: Version + Drop> Held<T> {
         &self.value
     }
 
-    /// The reader as it was before it entered, with what it has seen. It takes no memory, and does not wait.
+    /// The reader as it was before it entered, with what it has seen. It takes no memory, and
+    /// doesn't wait.
     pub fn leave(self) -> Pass<T>
         ensures { result ≡ self }
     {
@@ -176,7 +179,7 @@ impl<T: Version + Drop> Held<T> {
         }
     }
 
-    /// Each state of the list may follow the one before it. It does nothing.
+    /// A law: each state of the list may follow the one before it. It does nothing.
     pub fn known(&self)
         ensures { Chain T.follows self.now.seen }
     {

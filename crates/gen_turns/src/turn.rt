@@ -1,4 +1,4 @@
-// Waiting for a turn, which a reader and the writer do alike.
+// Waiting for a turn, which readers and the writer do in the same way.
 ghost use Rattle.std.specs.Prelude.{◌≡◌, [], ◌∷◌, List, None};
 ghost use Rattle.history_laws.specs.Histories.{StartsWith, Chain};
 ghost use Rattle.gen_turns.specs.TurnRule.{HasTurns};

@@ -10,7 +10,7 @@ module _ {X : Type 0} where
   prefix_of (x ∷ xs) [] r q e l = absurd (omega arith)
   prefix_of (x ∷ xs) (y ∷ ys) r q e l = let head : x ≡ y = cc in let tails : xs ++ r ≡ ys ++ q = cc in let t = prefix_of xs ys r q tails (omega arith) in (t.0, λ i. sym head i ∷ t.1 i)
 
-  -- of two lists that begin one, the shorter begins the longer
+  -- of two lists that begin the same list, the shorter begins the longer
   pub begins : (all xs ys : List X) → StartsWith all xs → StartsWith all ys → length xs ≤ length ys → StartsWith ys xs
   begins all xs ys a b l = prefix_of xs ys a.0 b.0 (sym a.1 ∙ b.1) l
 
@@ -33,7 +33,7 @@ module _ {X : Type 0} where
   pub by_longer : (xs ys : List X) (P : List X → Type 0) → (length xs < length ys → P ys) → (length ys ≤ length xs → P xs) → P (longer xs ys)
   by_longer xs ys P f g = longer_cases xs ys (nat_lt (length xs) (length ys)) refl P f g
 
-  -- both begin the longer, which begins what both begin
+  -- both begin the longer one, which begins what both begin
   pub longer_begins : (all xs ys : List X) → StartsWith all xs → StartsWith all ys → StartsWith all (longer xs ys) × StartsWith (longer xs ys) xs × StartsWith (longer xs ys) ys
   longer_begins all xs ys a b = by_longer xs ys (λ z. StartsWith all z × StartsWith z xs × StartsWith z ys)
       (λ l. (b, begins all xs ys a b (omega arith), starts_itself ys)) (λ l. (a, starts_itself xs, begins all ys xs b a l))

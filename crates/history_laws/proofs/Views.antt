@@ -1,4 +1,5 @@
--- The views of a table's seats, of which a step changes one or adds one, and functions that are changed at one number.
+-- The views of a table's seats, if a step changes or adds one, and functions that change at one
+-- number.
 use Rattle.std.proofs.Common.{◌≡◌, ◌≢◌, ◌⊎◌, ℕ, zero, suc, ◌+◌, ◌<◌, List, [], ◌∷◌, ◌++◌, length, get_or, set, sym, refl, ap, ◌∙◌, subst, ⊎_elim, inl, inr, arith}
 use Rattle.std.specs.List.{sum_by}
 use Rattle.std.proofs.lemmas.List.Sums.{sum_by-set}
@@ -8,13 +9,14 @@ use lib.ListN.{get_elem?}
 use Rattle.atomic_table.proofs.Lists.{at_set}
 
 module _ {D : Type 0} where
-  -- what holds of each view holds after one was changed, if it holds of the new one
+  -- if something holds of each view, it holds after one view changes, provided it holds of the new
+  -- one
   pub views_stay : (K : ℕ → D → Type 0) (vs : List D) (me : ℕ) (w : D) → K me w → ((j : ℕ) (d : D) → j ≢ me → get_elem? vs j ≡ some d → K j d)
       → (j : ℕ) (d : D) → get_elem? (set vs me w) j ≡ some d → K j d
   views_stay K vs me w mine others j d e = ⊎_elim (λ (t : (j ≡ me) × (w ≡ d)). subst (λ (x : ℕ × D). K x.0 x.1) (λ i. (sym t.0 i, t.1 i)) mine)
       (λ (t : (j ≢ me) × (get_elem? vs j ≡ some d)). others j d t.0 t.1) (at_set vs me j w d e)
 
-  -- an entry of a list with one more is one of the list, or the last
+  -- an entry of a list with one more item is an entry of the list, or the last one
   pub at_end : (l : List D) (a b : D) (j : ℕ) → get_elem? (l ++ a ∷ []) j ≡ some b → ((j < length l) × (get_elem? l j ≡ some b)) ⊎ ((j ≡ length l) × (a ≡ b))
   at_end [] a b zero e = inr (refl, some-injective a b e)
   at_end [] a b (suc j) e = absurd (some-ne-none b (sym e))
@@ -27,7 +29,7 @@ module _ {D : Type 0} where
   entry_read (x ∷ xs) zero v e = (omega arith, some-injective x v e)
   entry_read (x ∷ xs) (suc j) v e = let rest = entry_read xs j v e in let l = rest.0 in (omega (arith, l), rest.1)
 
-  -- a sum over the views, where one is changed
+  -- a sum over the views, after one changes
   pub sum_by-view_set : (f : D → ℕ) (vs : List D) (j : ℕ) (v w : D) → get_elem? vs j ≡ some v → sum_by f (set vs j w) + f v ≡ sum_by f vs + f w
   sum_by-view_set f vs j v w e = let read = entry_read vs j v e in ap (λ (z : D). sum_by f (set vs j w) + f z) (sym read.1) ∙ sum_by-set f vs j w v read.0
 
@@ -36,7 +38,7 @@ pick (yes _) a b = a
 pick (no _) a b = b
 
 module _ {A : Type 0} where
-  -- the function f, but c at i
+  -- the function f, with c at i
   pub put : (ℕ → A) → ℕ → A → ℕ → A
   put f i c j = pick (ℕ_discrete j i) c (f j)
 

@@ -80,7 +80,8 @@ joined-line pages j from k low high v fits a b h e = e ∙ go (cases_lt (from % 
       ∙ ap (λ t. t && bit high (from % 64 + k - 64)) (le-leb 64 (from % 64 + k) l)
       ∙ ap (λ w. bit w (from % 64 + k - 64)) b ∙ sym (word-read pages j (from / 64 + 1) (from % 64 + k - 64) (omega arith)) ∙ ap (line_bit pages j) at
 
--- the 64 places that stand fewer than 64 places behind those of a word, where the next word is in the same line
+-- the 64 places that come fewer than 64 places after those of a word, if the next word is in the
+-- same line
 pub joined-near : (pages : List (PageOf ℕ)) (p x n k low high v : ℕ) → low < 2 ^ 64 → low ≡ slice_index (words_at pages p) x → high ≡ slice_index (words_at pages p) (x + 1) → n < 64 → x % 8 + 1 < 8 → k < 64
     → bit v k ≡ (bit low (n + k) || (nat_le 64 (n + k) && bit high (n + k - 64))) → bit v k ≡ line_bit pages (x / 8) (64 * (p * 8 + x % 8) + n + k)
 joined-near pages p x n k low high v fits a b few near h e = go (64 * (p * 8 + x % 8) + n) refl where
@@ -472,7 +473,7 @@ rows-rooms pages len count n within e = bucket-All (λ (x : Row). n ≡ length x
   go : (j : ℕ) → j < count → n ≡ length (bucket_at (rows_of pages len count) j).bits + (bucket_at (rows_of pages len count) j).spare
   go j h = rw (row-at pages len count j h) (omega (arith, line-length pages len j, line-spare pages len j))
 
--- where there is room for a place, there is its page
+-- if there is room for a place, the place has its page
 pub room-page : (pages : List (PageOf ℕ)) (len count r : ℕ) → len ≤ 512 * length pages → IsWithinRoom r (rows_of pages len count) → r < 512 * length pages
 room-page pages len count r within room = go (cases_lt 0 count) where
   go : (0 < count) ⊎ (count ≤ 0) → r < 512 * length pages

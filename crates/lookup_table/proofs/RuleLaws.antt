@@ -1,4 +1,4 @@
--- What the buckets stand for as rules come and go.
+-- Which blocks the buckets represent as rules come and go.
 use Rattle.std.proofs.Common.{◌≡◌, refl, sym, ◌∙◌, ap, ℕ, ◌+◌, ◌-◌, ◌/◌, ◌^◌, ◌<◌, ◌≤◌, ◌⊎◌, [], ◌++◌, Bool, true, false, nat_lt, cond, List, length, get_or, take, drop, replicate, arith, inl, inr}
 use Rattle.std.proofs.lemmas.Bool.{cases_lt, lt-ltb, le-ltb}
 use Rattle.std.proofs.lemmas.List.{get_or_past, get_or_append_left, get_or-append_right, get_or-take, get_or-drop, get_or-replicate, length-take, length-drop, length-append, length-replicate}

@@ -42,7 +42,8 @@ joined-more buckets start step n rules row next bucket found same made so_far = 
 
 -- ---- one group
 
--- some bucket of the block's run is set for a rule exactly where some value of the group agrees with both blocks
+-- some bucket of the block's run is set for a rule exactly if some value of the group agrees with
+-- both blocks
 pub run-met : (width bits rules g r : ℕ) (block : Block) (buckets : List Row) (blocks : List Block) → StandsFor width bits rules buckets blocks → g < bits / width → r < rules
     → some_from (λ j. cell buckets j r) (bucket_place width g (first_agreeing width bits g block)) (agreeing_count width bits g block) ≡ meets width bits (block_at blocks r) block g
 run-met width bits rules g r block buckets blocks stands l h =
@@ -63,7 +64,7 @@ some-run p start (suc n) =
 pub record Met (width bits rules g : ℕ) (block : Block) (buckets : List Row) (old row : Row) : Type 0 where
   pub at : (blocks : List Block) → StandsFor width bits rules buckets blocks → (r : ℕ) → r < rules → at row.bits r ≡ (at old.bits r && meets width bits (block_at blocks r) block g)
 
--- where the block leaves the group free, nothing is to be done
+-- if the block leaves the group free, there is nothing to do
 pub met-free : (width bits rules g mask : ℕ) (block : Block) (buckets : List Row) (row : Row) → mask ≡ fixed width bits g block → mask ≡ 0 → Met width bits rules g block buckets row row
 met-free width bits rules g mask block buckets row e none = record {
   at = λ blocks stands r h. sym (ap (λ t. at row.bits r && t) (meets-free width bits g (block_at blocks r) block free) ∙ and-true (at row.bits r));
@@ -73,7 +74,7 @@ met-free width bits rules g mask block buckets row e none = record {
     all : (k : ℕ) → k ≤ width → 2 ^ width - 2 ^ k ≡ 0 → k ≡ width
     all k le f = elim (cases_lt k width) [ inl l ↦ let p : 2 ^ k < 2 ^ width = pow_below k width l in absurd (omega arith) | inr l ↦ omega arith ]
 
--- where one bucket agrees, the row is ANDed with it
+-- if one bucket agrees, the row is ANDed with that bucket
 pub met-one : (width bits rules g first count : ℕ) (block : Block) (buckets : List Row) (old row bucket : Row) → g < bits / width
     → first ≡ bucket_place width g (first_agreeing width bits g block) → count ≡ agreeing_count width bits g block → count ≡ 1
     → slice_get buckets first ≡ Some bucket → length old.bits ≡ rules → length bucket.bits ≡ rules → row.bits ≡ both old.bits bucket.bits → Met width bits rules g block buckets old row
@@ -85,7 +86,7 @@ met-one width bits rules g first count block buckets old row bucket l e f one fo
       ∙ ap (λ j. some_from (λ i. cell buckets i r) j (agreeing_count width bits g block)) e ∙ run-met width bits rules g r block buckets blocks stands l h);
 }
 
--- where some do, with the OR of these
+-- if several buckets agree, the row is ANDed with their OR
 pub met-some : (width bits rules g first count : ℕ) (block : Block) (buckets : List Row) (old row rest : Row) → g < bits / width
     → first ≡ bucket_place width g (first_agreeing width bits g block) → count ≡ agreeing_count width bits g block
     → IsJoined buckets first 1 count rules rest → length old.bits ≡ rules → row.bits ≡ both old.bits rest.bits → Met width bits rules g block buckets old row

@@ -81,7 +81,7 @@ buckets-few width bits buckets w count = go (eight-or-four width bits w) where
       let n : length buckets ≡ bits / 4 * 16 = rw e at count in
       omega (arith, w.most)
 
--- so many rules more are counted by a u32, where there is room for them
+-- a u32 counts that many more rules, if there is room for them
 pub few-rules : (width bits rules n room : ℕ) (buckets : List Row) → IsShaped width bits rules buckets → All (λ row. n ≤ row.spare) buckets → All (λ row. room ≡ length row.bits + row.spare) buckets → room < 2 ^ 32 → rules + n < 2 ^ 32
 few-rules width bits rules n room buckets shape spare rooms small =
     let some = buckets-some width bits buckets shape.groups shape.count in
@@ -97,7 +97,7 @@ rules-within width bits rules room buckets shape rooms =
     let b = All-bucket (λ (x : Row). room ≡ length x.bits + x.spare) buckets 0 rooms (omega arith) in
     omega arith
 
--- the pages of rules that close up, and of the summary above them
+-- the pages of the rules that move down, and of the summary above them
 pub first-long : (width bits rules : ℕ) (buckets : List Row) → IsShaped width bits rules buckets → length (bucket_at buckets 0).bits ≡ rules
 first-long width bits rules buckets shape =
     let some = buckets-some width bits buckets shape.groups shape.count in
@@ -180,7 +180,7 @@ marks-weaker unit width bits n m p buckets page within has = record { long = has
 pub no-marks : (unit width bits n p : ℕ) (buckets : List Row) (page : List ℕ) → page ≡ replicate (bits / 8 * 256) 0 → ((r : ℕ) → r < n → r / unit / 64 ≡ p → ⊥) → HasMarks unit width bits n buckets p page
 no-marks unit width bits n p buckets page e none = record { long = ap length e ∙ length-replicate (bits / 8 * 256) 0; marks = λ j r h l same agree. absurd (none r l same) }
 
--- rules that are behind a page, or before it, are none of its
+-- rules before or after a page are not rules of this page
 pub summed-weaker : (unit width bits n m : ℕ) (buckets : List Row) (pages : List (PageOf ℕ)) → m ≤ n → IsSummed unit width bits n buckets pages → IsSummed unit width bits m buckets pages
 summed-weaker unit width bits n m buckets pages le summed = record { few = summed.few; each = λ p h. marks-weaker unit width bits n m p buckets (words_at pages p) (λ r a e. omega arith) (summed.each p h) }
 
@@ -199,7 +199,7 @@ summed-more width bits q buckets pages page h has summed = record {
       subst (HasMarks 64 width bits (512 * (q + 1)) buckets p) (sym (ap (λ (m : PageOf ℕ). m.items) (get_or-set_other pages (q / 8) p page _ e)))
       (marks-weaker 64 width bits (512 * q) (512 * (q + 1)) p buckets (words_at pages p) (λ r a b. omega arith) (summed.each p l))
 
--- eight words for which there is no page
+-- eight words that have no page
 pub summed-past : (width bits q : ℕ) (buckets : List Row) (pages : List (PageOf ℕ)) → length pages ≤ q / 8 → IsSummed 64 width bits (512 * q) buckets pages → IsSummed 64 width bits (512 * (q + 1)) buckets pages
 summed-past width bits q buckets pages past summed = record {
   few = summed.few;
@@ -225,7 +225,7 @@ page-marks unit width bits n p buckets pages page summed h e = subst (HasMarks u
 pub summed-none : (unit width bits n : ℕ) (buckets : List Row) (pages : List (PageOf ℕ)) → pages ≡ [] → IsSummed unit width bits n buckets pages
 summed-none unit width bits n buckets pages e = record { few = let l = ap length e in omega arith; each = λ p h. absurd (omega (arith, ap length e)) }
 
--- the same pages, whosever they are
+-- the same pages, whoever owns them
 pub summed-same : (unit width bits n : ℕ) (buckets : List Row) (pages new : List (PageOf ℕ)) → map (λ page. page.items) new ≡ map (λ page. page.items) pages → IsSummed unit width bits n buckets pages → IsSummed unit width bits n buckets new
 summed-same unit width bits n buckets pages new same summed =
     let l = copied-length new pages same in
@@ -282,7 +282,7 @@ cells-closed width bits rules first n old new fits shape closed =
 
 -- ---- what is left out
 
--- the two halves of a byte tell which rules agree with it
+-- the two halves of a byte decide which rules agree with the byte
 pub agrees-at : (width bits rules g v r : ℕ) (buckets : List Row) (blocks : List Block) → IsWidth width bits → StandsFor width bits rules buckets blocks → g < bits / 8 → v < 2 ^ 8 → r < rules
     → agrees_at width buckets (g * 2 ^ 8 + v) r ≡ agrees 8 bits (block_at blocks r) g v
 agrees-at width bits rules g v r buckets blocks w stands h k l = go (eight-or-four width bits w) where
@@ -340,7 +340,7 @@ not-true : (b : Bool) → (b ≡ true → ⊥) → b ≡ false
 not-true true h = absurd (h refl)
 not-true false h = refl
 
--- so one without a mark holds none
+-- so a rule without such a mark doesn't hold the value
 pub leaves-none : (unit width bits rules p value r k candidates words marked : ℕ) (buckets : List Row) (page : List ℕ) (blocks : List Block) → IsWidth width bits → value < 2 ^ bits
     → StandsFor width bits rules buckets blocks → HasMarks unit width bits rules buckets p page
     → bit candidates k ≡ (bit words k && bit marked k) → bit words k ≡ true → (is_candidate bits page value k ≡ true → bit marked k ≡ true)

@@ -59,7 +59,7 @@ renewed-both from p pages old tops new order first second = record {
       second.before n j a (first.marks n j i l a (omega arith) (omega arith) m set)
   go n j i l h inside line m set (inr a) = second.marks n j i a h inside line m set
 
--- a page for which there is no top
+-- a page that has no top
 pub no-top : (p : ℕ) (pages tops : List (PageOf ℕ)) → length tops ≤ p / 64 → AreRenewed p (p + 1) pages tops tops
 no-top p pages tops past = record {
   long = refl;
@@ -137,7 +137,7 @@ pages-pushed bits tops top empty are = record { each = λ q h. go q h (cases_lt 
       let e : length tops ≡ q = omega (arith, length_push tops top) in
       record { long = ap (λ (m : PageOf ℕ). length m.items) (get_or_push tops top _ q e) ∙ ap length empty ∙ length-replicate (bits / 8 * 256) 0 }
 
--- a top more, which is empty until its pages are gone through
+-- one more top, which is empty until its pages are marked
 pub top-added : (width bits n to : ℕ) (buckets : List Row) (pages tops new : List (PageOf ℕ)) (top : PageOf ℕ) → n ≤ 4096 * to → length tops < 2 ^ 26 → top.items ≡ replicate (bits / 8 * 256) 0
     → AreRenewed (64 * length tops) to pages (tops ++ top ∷ []) new → IsSummed 64 width bits n buckets pages → IsSummed 4096 width bits n buckets tops → IsSummed 4096 width bits n buckets new
 top-added width bits n to buckets pages tops new top within small empty renewed summed topped = go (cases_lt n (262144 * length tops)) where
@@ -151,9 +151,9 @@ top-added width bits n to buckets pages tops new top within small empty renewed 
   go (inl l) = by n (omega arith) (omega arith) (λ r h m. h)
   go (inr l) = by (262144 * length tops) l (omega arith) (λ r h m. m)
 
--- ---- whose they are
+-- ---- who owns them
 
--- the tops above the pages of rules that close up
+-- the tops above the pages of the rules that move down
 pub own-tops : (tops : List (PageOf ℕ)) (first rules p : ℕ) → ((r : ℕ) → first ≤ r → r < rules → get_or (owns_of tops) (r / 262144) true ≡ true) → first < rules → first / 4096 ≤ p → 4096 * p < rules
     → get_or (owns_of tops) (p / 64) true ≡ true
 own-tops tops first rules p own some low high = go (cases_lt (4096 * p) first) where

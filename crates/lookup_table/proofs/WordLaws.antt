@@ -12,7 +12,7 @@ use Rattle.lookup_table.specs.Table.{bucket_place, cell, block_at, StandsFor}
 use Rattle.lookup_table.proofs.RowsLaws.{cell-read}
 use Rattle.lookup_table.proofs.MatchLaws.{set_in, set-in-all}
 
--- the word after the first n groups, and after one of them at least without what lies past the rules
+-- the word after the first n groups; after at least one group no bit past the last rule is set
 pub record WordMatched (width bits value n i rules : ℕ) (buckets : List Row) (word left : ℕ) : Type 0 where
   pub at : (k : ℕ) → k < 64 → bit left k ≡ (bit word k && set_in width bits buckets value (64 * i + k) n)
   pub past : 0 < n → (k : ℕ) → k < 64 → rules ≤ 64 * i + k → bit left k ≡ false

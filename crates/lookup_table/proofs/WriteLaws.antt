@@ -1,4 +1,4 @@
--- Words of pages that are written over one by one, and what becomes of the rows.
+-- Words of pages that are written one by one, and what this does to the rows.
 use Rattle.std.proofs.Common.{◌≡◌, refl, sym, ◌∙◌, ap, ℕ, zero, suc, ◌+◌, ◌-◌, ◌*◌, ◌/◌, ◌%◌, ◌<◌, ◌≤◌, ◌⊎◌, inl, inr, [], ◌∷◌, Bool, true, false, cond, ◌&&◌, ◌||◌, nat_lt, List, length, get_or, take, drop, set, replicate, arith}
 use Rattle.std.specs.Prelude.{slice_index}
 use Rattle.std.proofs.lemmas.Bool.{cases_lt, cases_eq, lt-ltb, le-ltb, le-leb, lt-leb, cond-true, cond-false}
@@ -14,7 +14,7 @@ use Rattle.lookup_table.proofs.LineLaws.{own-there, rows-length, row-at, line-le
 use Rattle.lookup_table.proofs.RowsLaws.{cell-is}
 use Rattle.lookup_table.proofs.RuleLaws.{at-without}
 
--- ---- whose the pages are
+-- ---- who owns the pages
 
 pub owns-same : (pages : List (PageOf ℕ)) (p : ℕ) (m n : PageOf ℕ) → m ≡ get_or pages p m → n.own ≡ m.own → owns_of (set pages p n) ≡ owns_of pages
 owns-same [] p m n e f = refl
@@ -191,7 +191,7 @@ closed-before pages first n j r h = cond-false _ (line_bit pages j (r + n)) (lin
 closed-behind : (pages : List (PageOf ℕ)) (first n j r : ℕ) → first ≤ r → closed_bit pages first n j r ≡ line_bit pages j (r + n)
 closed-behind pages first n j r h = cond-true _ (line_bit pages j (r + n)) (line_bit pages j r) (le-leb first r h)
 
--- a word before the first place that goes
+-- a word before the first place that is removed
 pub word-before : (pages : List (PageOf ℕ)) (first n p x : ℕ) → p * 8 + x % 8 < first / 64 → IsWordClosed first n p x pages pages
 word-before pages first n p x h = record {
   alike = alike-none pages;

@@ -51,7 +51,7 @@ rows_of pages len count = map (row_in pages len) (range_with_len 0 count)
 pub record IsPageOf (count : ℕ) (page : PageOf ℕ) : Type 0 where
   pub long : length page.items ≡ count * 8
 
--- The pages keep so many rows of so many places, and what lies past them isn't set.
+-- The pages keep `count` rows of `len` places, and no bit past these places is set.
 pub record AreLines (count len : ℕ) (pages : List (PageOf ℕ)) : Type 0 where
   pub each : All (IsPageOf count) pages
   pub within : len ≤ 512 * length pages
@@ -59,7 +59,7 @@ pub record AreLines (count len : ℕ) (pages : List (PageOf ℕ)) : Type 0 where
   pub few : count < 2 ^ 20
   pub past : (j r : ℕ) → j < count → len ≤ r → line_bit pages j r ≡ false
 
--- So do those of a list that has room for its pages and for no others.
+-- As `AreLines`, of a list of pages whose capacity is exactly its length.
 pub record AreKept (count len : ℕ) (pages : List (PageOf ℕ)) (capacity : ℕ) : Type 0 where
   pub lines : AreLines count len pages
   pub full : capacity ≡ length pages
@@ -70,7 +70,7 @@ pub record HasLine (j : ℕ) (pages : List (PageOf ℕ)) : Type 0 where
 
 -- ---- changes of pages
 
--- the same words, and maybe some more that are 0
+-- the same words, and maybe more words that are 0
 pub record IsMore (count : ℕ) (old new : List (PageOf ℕ)) : Type 0 where
   pub words : (p x : ℕ) → slice_index (words_at new p) x ≡ slice_index (words_at old p) x
   pub long : length old ≤ length new
@@ -81,36 +81,38 @@ pub record AreMarked (from to w k : ℕ) (old new : List ℕ) : Type 0 where
   pub long : length new ≡ length old
   pub bits : (x m : ℕ) → m < 64 → bit (slice_index new x) m ≡ (bit (slice_index old x) m || ((lies from to (x / 8) && x % 8 == w) && m == k))
 
--- as many pages of the same sizes, and each is whose it was
+-- as many pages of the same sizes, and each keeps its owner
 pub record IsAlike (old new : List (PageOf ℕ)) : Type 0 where
   pub long : length new ≡ length old
   pub sizes : (p : ℕ) → length (words_at new p) ≡ length (words_at old p)
   pub own : owns_of new ≡ owns_of old
 
--- word x of page p is written over
+-- word x of page p is overwritten
 pub record IsWordWritten (p x word : ℕ) (old new : List (PageOf ℕ)) : Type 0 where
   pub alike : IsAlike old new
   pub here : slice_index (words_at new p) x ≡ word
   pub others : (q y : ℕ) → (q ≡ p → y ≡ x → ⊥) → slice_index (words_at new q) y ≡ slice_index (words_at old q) y
 
--- line j has these bits, and the others are as they were
+-- line j has these bits, and the other lines are unchanged
 pub record IsLinePut (count j : ℕ) (bits : List Bool) (old new : List (PageOf ℕ)) : Type 0 where
   pub alike : IsAlike old new
   pub here : (r : ℕ) → r < length bits → line_bit new j r ≡ at bits r
   pub rest : (r : ℕ) → length bits ≤ r → line_bit old j r ≡ false → line_bit new j r ≡ false
   pub others : (i r : ℕ) → i < count → (i ≡ j → ⊥) → line_bit new i r ≡ line_bit old i r
 
--- bit r of row j without the n places from `first` on
+-- bit r of row j after the n places from `first` on are removed
 abbrev pub closed_bit : List (PageOf ℕ) → ℕ → ℕ → ℕ → ℕ → Bool
 closed_bit pages first n j r = cond (nat_le first r) (line_bit pages j (r + n)) (line_bit pages j r)
 
--- Word x of page p has what is left there without the n places from `first` on, and the others are as they were.
+-- Word x of page p has what is left there without the n places from `first` on. The other words are
+-- unchanged.
 pub record IsWordClosed (first n p x : ℕ) (old new : List (PageOf ℕ)) : Type 0 where
   pub alike : IsAlike old new
   pub here : (k : ℕ) → k < 64 → bit (slice_index (words_at new p) x) k ≡ closed_bit old first n (x / 8) (512 * p + 64 * (x % 8) + k)
   pub others : (q y : ℕ) → (q ≡ p → y ≡ x → ⊥) → slice_index (words_at new q) y ≡ slice_index (words_at old q) y
 
--- So have all words of the pages before page p and the first x words of page p, and the others are as they were.
+-- The same holds of all words of the pages before page p and of the first x words of page p. The
+-- others are unchanged.
 pub record AreClosed (count first n p x : ℕ) (old new : List (PageOf ℕ)) : Type 0 where
   pub alike : IsAlike old new
   pub before : (j r : ℕ) → j < count → r / 512 < p → line_bit new j r ≡ closed_bit old first n j r

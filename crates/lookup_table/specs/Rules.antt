@@ -1,4 +1,4 @@
--- What is said of a table, of its change and of a row of its rules.
+-- What contracts say of a table, of its changes and of a row of its rules.
 use Rattle.std.specs.Prelude.{◌≡◌, ℕ, ◌+◌, ◌*◌, ◌/◌, ◌<◌, ◌≤◌, Bool, true, ◌&&◌, List, ◌++◌, get_or}
 use Rattle.set_model.specs.declared.block.Block.{Block}
 use Rattle.set_model.specs.Runs.{without_run}
@@ -9,7 +9,7 @@ use Rattle.lookup_table.specs.declared.table.FieldTable.{FieldTable}
 use Rattle.lookup_table.specs.Lines.{OwnsNoPage}
 use Rattle.lookup_table.specs.Table.{StandsFor, bucket_place, block_at}
 
--- the table stands for these blocks, one per rule
+-- the table represents these blocks, one per rule
 abbrev pub Stands : FieldTable → List Block → Type 0
 Stands t blocks = StandsFor t.width t.bits t.rules t.buckets.rows blocks
 
@@ -30,34 +30,36 @@ pub record IsShared (t : FieldTable) : Type 0 where
   pub marks : OwnsNoPage (owns_of t.pages.items)
   pub tops : OwnsNoPage (owns_of t.tops.items)
 
--- A page is the new table's own where it was the old one's.
+-- Each page that was the old table's own is the new table's own.
 pub record IsAsOwn (old new : FieldTable) : Type 0 where
   pub rows : new.buckets.own ≡ old.buckets.own
   pub marks : owns_of new.pages.items ≡ owns_of old.pages.items
   pub tops : owns_of new.tops.items ≡ owns_of old.tops.items
 
--- The new table stands for each list of blocks that the old one stands for.
+-- The new table represents each list of blocks that the old one represents.
 abbrev pub KeepsRules : FieldTable → FieldTable → Type 0
 KeepsRules old new = (blocks : List Block) → Stands old blocks → Stands new blocks
 
--- The new table stands for the blocks of the old one and then for these, whatever the old one stands for.
+-- If the old table represents some blocks, the new table represents these and then the added
+-- blocks.
 abbrev pub AppendsRules : FieldTable → FieldTable → List Block → Type 0
 AppendsRules old new added = (blocks : List Block) → Stands old blocks → Stands new (blocks ++ added)
 
--- The new table stands for the blocks of the old one without the n from `first` on.
+-- If the old table represents some blocks, the new table represents them without the n from `first`
+-- on.
 abbrev pub DropsRules : FieldTable → FieldTable → ℕ → ℕ → Type 0
 DropsRules old new first n = (blocks : List Block) → Stands old blocks → Stands new (without_run blocks first n)
 
--- where the bucket of a value's group g stands
+-- the place of the bucket of a value's group g
 abbrev pub place_of : FieldTable → ℕ → ℕ → ℕ
 place_of t g value = bucket_place t.width g (group t.width t.bits g value)
 
--- Bit r of the row stays set exactly where the test holds of rule r's block.
+-- Bit r of the row stays set exactly if the test passes for rule r's block.
 abbrev pub KeepsWhere : FieldTable → (Block → Bool) → Row → Row → Type 0
 KeepsWhere t test old new = (blocks : List Block) → Stands t blocks
     → (r : ℕ) → r < t.rules → at new.bits r ≡ (at old.bits r && test (block_at blocks r))
 
--- The same of a word of rules, whose bit 0 stands for rule 64 * i.
+-- The same for a word of rules, whose bit 0 is rule 64 * i.
 abbrev pub KeepsBitsWhere : FieldTable → (Block → Bool) → ℕ → ℕ → ℕ → Type 0
 KeepsBitsWhere t test i old new = (blocks : List Block) → Stands t blocks
     → (k : ℕ) → k < 64 → 64 * i + k < t.rules → bit new k ≡ (bit old k && test (block_at blocks (64 * i + k)))

@@ -1,15 +1,15 @@
--- The buckets of a field's lookup table, and the rules that they stand for.
+-- The buckets of a field's lookup table, and the rules that they represent.
 --
--- A table has one row of buckets per group and one bucket per value of the group, each a bitmap of
--- the field's rules (the kernel's theory of operation of the pile of packet policies: "for each
--- group ... bitmap ... set if the rule matches the value").
+-- A table has one row of buckets per group and one bucket per value of the group. Each bucket is a
+-- bitmap of the field's rules. The kernel's theory of operation of the pile of packet policies
+-- says: "for each group ... bitmap ... set if the rule matches the value".
 use Rattle.std.specs.Prelude.{◌≡◌, ℕ, ◌+◌, ◌*◌, ◌/◌, ◌^◌, ◌<◌, Bool, List, [], length, get_or, map, All}
 use Rattle.set_model.specs.declared.block.Block.{Block}
 use Rattle.set_model.specs.Blocks.{IsWithin}
 use Rattle.bit_rows.specs.Row.{Row, at}
 use Rattle.field_groups.specs.Groups.{agrees, IsWidth}
 
--- where the bucket of value v of group g stands
+-- the place of the bucket of value v of group g
 abbrev pub bucket_place : ℕ → ℕ → ℕ → ℕ
 bucket_place width g v = g * 2 ^ width + v
 
@@ -31,8 +31,8 @@ pub record IsShaped (width bits rules : ℕ) (buckets : List Row) : Type 0 where
 abbrev pub block_at : List Block → ℕ → Block
 block_at blocks r = get_or blocks r (record { base = 0; free_bits = 0 })
 
--- The buckets stand for a list of blocks, one per rule: bit r of bucket v of group g is set exactly
--- where v agrees with the block of rule r on the bits of that group that the block fixes.
+-- The buckets represent a list of blocks, one per rule. Bit r of bucket v of group g is set exactly
+-- if v agrees with rule r's block on the bits that the block fixes in this group.
 pub record StandsFor (width bits rules : ℕ) (buckets : List Row) (blocks : List Block) : Type 0 where
   pub one_each : length blocks ≡ rules
   pub within : All (IsWithin bits) blocks

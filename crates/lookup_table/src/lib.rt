@@ -1,16 +1,40 @@
-//! The lookup table of one field of a set.
+//! The lookup table of one field: which of the field's rules hold a value.
 //!
-//! A field's rules are blocks. The table has a bucket for each group of the field's bits and each
-//! value of the group: a bitmap of the rules whose block agrees with the value in that group. The
-//! rules that hold a value are found by an AND over one bucket per group.
+//! Each rule of a field is a block, an aligned run of values such as an address prefix. Say that an
+//! address field has three rules:
 //!
-//! Buckets lie in pages of 512 rules that copies share. Above more than 64 rules stands a summary
-//! (`word_summary`), by which a lookup leaves out words of rules none of which holds the value.
+//! ```text
+//! rule 0   10.0.0.5         of element 0
+//! rule 1   192.168.1.0/24   of element 1, which has the range 192.168.1.0-192.168.2.1
+//! rule 2   192.168.2.0/31   of element 1
+//! ```
 //!
-//! **Definitions:** `specs/Table.antt` and `Rules.antt` say when a table stands for a list of blocks,
-//! `Lines.antt` how pages keep its rows, `Width.antt` how wide its groups are, and `Summary.antt` and
-//! `Candidates.antt` what the summary leaves out. **Theory:** docs/architecture.md, "The classifier, by
-//! one example". **Proofs:** docs/proofs.md, "Tables (`field_groups`, `lookup_table`)".
+//! The table cuts an address into four groups of eight bits. Each group has 256 buckets, one per
+//! value. Bit r of a bucket says whether rule r's block agrees with that value. These are some
+//! buckets, with rule 0 at the right:
+//!
+//! ```text
+//! group 0:  bucket 10   001    bucket 192   110
+//! group 1:  bucket 0    001    bucket 168   110
+//! group 2:  bucket 0    001    bucket 1     010    bucket 2   100
+//! group 3:  bucket 5    011    bucket 0     110
+//! ```
+//!
+//! A lookup of 192.168.1.5 ANDs one bucket per group: `111 & 110 & 110 & 010 & 011 = 010`. So rule
+//! 1 alone holds the address (`FieldTable::match_into`).
+//!
+//! A table takes groups of eight bits if it then has at most 2 MiB, and else groups of four
+//! (`width_for`).
+//!
+//! The buckets are in pages of 512 rules, which copies share. Rule 600 is bit 24 of word 1 in each
+//! line of page 1. A table with more than 64 rules may have a summary (`word_summary`). It names
+//! the words of 64 rules that a lookup must look at: no rule of another word holds the value.
+//!
+//! **Definitions:** `specs/Table.antt` and `Rules.antt` say which blocks a table represents.
+//! `Lines.antt` says how pages keep its rows, and `Width.antt` how wide its groups are.
+//! `Summary.antt` and `Candidates.antt` say what the summary leaves out. **Theory:**
+//! docs/architecture.md, "The classifier, by one example". **Proofs:** docs/proofs.md, "Tables
+//! (`field_groups`, `lookup_table`)".
 #![tactic(auto)]
 
 mod laws;

@@ -11,14 +11,17 @@ use shared_pages::{Page, copy_plain_pages, own_plain_pages, settle_plain_pages};
 use std::alloc::Global;
 use std::marker::Model;
 
-/// How many places a page has of each row, and how many words.
+/// How many places a page has of each row. `WORDS` is the same in words of 64.
 const PLACES: u32 = 512;
 
 const WORDS: usize = 8;
 
-/// The buckets of a table, in pages of 512 rules that copies share: a page has a line of eight words for
-/// each bucket. Contracts see the list of rows, and for each page whether it is this table's own. The list of
-/// pages has room for its pages and for no others, so a call that leaves as many pages takes no memory.
+/// The buckets of a table, in pages of 512 rules that copies share. A page has a line of eight
+/// words for each bucket.
+///
+/// Contracts see the list of rows, and for each page whether it is this table's own. The list of
+/// pages has exactly the capacity that it uses. So a call that leaves the number of pages takes no
+/// memory.
 #[derive(Drop)]
 pub struct Lines {
     count: u32,
@@ -46,7 +49,7 @@ impl Lines {
         self.count as u64
     }
 
-    /// How many places each row can have without more memory: at most 4,294,966,784.
+    /// How many places each row can have without taking memory: at most 4,294,966,784.
     pub fn room(&self) -> u32
         ensures rows { All (λ row. result ≡ length row.bits + row.spare) self.now.rows }
         ensures most { result + 512 ≤ 2 ^ 32 }
@@ -55,7 +58,8 @@ impl Lines {
         self.pages.len() as u32 * PLACES
     }
 
-    /// Page `p`, that of the 512 places from place `512 * p` on: a line of eight words for each row.
+    /// Page `p`, which has the 512 places from place `512 * p` on: a line of eight words for each
+    /// row.
     #[inline(always)]
     pub fn page(&self, p: u32) -> &[u64]
         requires { IsWithinRoom (512 * p) self.now.rows }
@@ -65,8 +69,8 @@ impl Lines {
         self.pages[p as usize].as_slice()
     }
 
-    /// The 64 places of row `j` from place `64 * i` on, the first in the lowest bit. A bit past the row's
-    /// end is 0.
+    /// The 64 places of row `j` from place `64 * i` on, with the first in the lowest bit. A bit
+    /// past the row's end is 0.
     #[inline(always)]
     pub fn word(&self, j: u64, i: u32) -> u64
         requires { j < length self.now.rows }
@@ -76,7 +80,7 @@ impl Lines {
         word_of(self.pages.as_slice(), j as usize, i as usize)
     }
 
-    /// Leaves a place of the row set where it is set in row `j` too.
+    /// Clears each place of the row that is not set in row `j`.
     pub(crate) fn and_into(&self, j: u64, row: &mut BitRow)
         requires row { j < length self.now.rows }
         requires length { length row.old.bits ≡ length (bucket_at self.now.rows j).bits }
@@ -88,7 +92,7 @@ impl Lines {
         }
     }
 
-    /// Sets a place of the row where it is set in row `j`.
+    /// Sets each place of the row that is set in row `j`.
     pub(crate) fn or_into(&self, j: u64, row: &mut BitRow)
         requires row { j < length self.now.rows }
         requires length { length row.old.bits ≡ length (bucket_at self.now.rows j).bits }
@@ -100,10 +104,10 @@ impl Lines {
         }
     }
 
-    /// Row `j` by itself.
+    /// A copy of row `j`.
     ///
     /// # Errors
-    /// `Memory` if there is none left.
+    /// `Memory` if memory runs out.
     pub fn row(&self, alloc: Global, j: u64) -> Result<BitRow, Memory>
         requires { j < length self.now.rows }
         ensures { IfOk result (λ row. row.bits ≡ (bucket_at self.now.rows j).bits) }
@@ -113,10 +117,10 @@ impl Lines {
         Ok(row)
     }
 
-    /// So many rows of `len` places, none of them set: at most 4,294,966,784 places.
+    /// `count` rows of `len` places, none of them set. `len` is at most 4,294,966,784.
     ///
     /// # Errors
-    /// `Memory` if there is none left.
+    /// `Memory` if memory runs out.
     pub(crate) fn zeros(alloc: Global, count: u32, len: u32) -> Result<Lines, Memory>
         requires few { count < 2 ^ 20 }
         requires most { len + 512 ≤ 2 ^ 32 }
@@ -129,11 +133,11 @@ impl Lines {
         Ok(Lines { count, len, pages })
     }
 
-    /// Takes room for `n` places more in each row, on pages that are the list's own. A row has at most
-    /// 4,294,966,784 places.
+    /// Takes room for `n` more places in each row, on pages that are the list's own. A row has at
+    /// most 4,294,966,784 places.
     ///
     /// # Errors
-    /// `Memory` if there is none left. The rows are as they were.
+    /// `Memory` if memory runs out. The rows are as they were.
     pub(crate) fn reserve(&mut self, n: u32) -> Result<(), Memory>
         requires some { 1 ≤ length self.old.rows }
         requires most { length (bucket_at self.old.rows 0).bits + n + 512 ≤ 2 ^ 32 }
@@ -151,7 +155,7 @@ impl Lines {
     /// Makes the pages of the places from `from` on the list's own.
     ///
     /// # Errors
-    /// `Memory` if there is none left. The rows are as they were.
+    /// `Memory` if memory runs out. The rows are as they were.
     pub(crate) fn own_from(&mut self, from: u32) -> Result<(), Memory>
         requires { 1 ≤ length self.old.rows }
         ensures rows { self.new.rows ≡ self.old.rows }
@@ -163,7 +167,7 @@ impl Lines {
         Ok(())
     }
 
-    /// Adds `n` places that are not set at the end of each row.
+    /// Adds `n` places at the end of each row. They are not set.
     pub(crate) fn raise(&mut self, n: u32)
         requires some { 1 ≤ length self.old.rows }
         requires room { All (λ row. n ≤ row.spare) self.old.rows }
@@ -194,8 +198,8 @@ impl Lines {
         );
     }
 
-    /// Takes the `n` places from `first` on out of each row. The later places close up, on pages that are
-    /// the list's own.
+    /// Removes the `n` places from `first` on from each row. Later places move down, on pages that
+    /// are the list's own.
     pub(crate) fn close_up(&mut self, first: u32, n: u32)
         requires some { 1 ≤ length self.old.rows }
         requires places { 1 ≤ n }
@@ -209,7 +213,7 @@ impl Lines {
         self.len -= n;
     }
 
-    /// Writes over row `j`, whose pages are the list's own.
+    /// Overwrites row `j`, whose pages are the list's own.
     pub(crate) fn put(&mut self, j: u64, row: &BitRow)
         requires row { j < length self.old.rows }
         requires length { length row.now.bits ≡ length (bucket_at self.old.rows j).bits }
@@ -223,7 +227,7 @@ impl Lines {
     /// Lets copies share the pages from now on. No word is copied.
     ///
     /// # Errors
-    /// `Memory` if there is none left. The rows are as they were.
+    /// `Memory` if memory runs out. The rows are as they were.
     pub(crate) fn settle(&mut self) -> Result<(), Memory>
         ensures rows { self.new.rows ≡ self.old.rows }
         ensures common { OnOk result (OwnsNoPage self.new.own) }
@@ -233,10 +237,10 @@ impl Lines {
         Ok(())
     }
 
-    /// The same rows once more: one count for each page that was settled.
+    /// A copy of the rows. It counts one reference for each settled page.
     ///
     /// # Errors
-    /// `Memory` if there is none left.
+    /// `Memory` if memory runs out.
     pub(crate) fn copy(&self, alloc: Global) -> Result<Lines, Memory>
         ensures { IfOk result (λ lines. lines ≡ self.now) }
     {
@@ -249,9 +253,9 @@ impl Lines {
     }
 }
 
-// The functions over the pages.
+// The functions below work on the list of pages.
 
-/// A page without rules for so many rows.
+/// A page without rules for `count` rows.
 fn zero_page(alloc: Global, count: u32) -> Result<Page<u64>, Memory>
     ensures words { IfOk result (λ page. page.items ≡ replicate (count * 8) 0) }
     ensures own { IfOk result (λ page. page.own ≡ true) }
@@ -259,10 +263,11 @@ fn zero_page(alloc: Global, count: u32) -> Result<Page<u64>, Memory>
     Page::filled(alloc, 0, count as usize * WORDS)
 }
 
-/// Adds pages without rules, up to `n` pages, whose places a u32 counts, and takes room for no others.
+/// Adds pages without rules, up to `n` pages, whose places fit a u32. The list's capacity is then
+/// exactly its length.
 ///
 /// # Errors
-/// `Memory` if there is none left. The pages so far stay.
+/// `Memory` if memory runs out. The pages so far stay.
 fn add_pages(alloc: Global, pages: &mut Vec<Page<u64>>, count: u32, n: usize) -> Result<(), Memory>
     requires full { vec_capacity pages.old ≡ length pages.old.items }
     requires most { 512 * n < 2 ^ 32 }
@@ -280,10 +285,10 @@ fn add_pages(alloc: Global, pages: &mut Vec<Page<u64>>, count: u32, n: usize) ->
     Ok(())
 }
 
-/// Takes pages up to page `end`, and makes those from page `from` on the list's own.
+/// Adds pages up to page `end`, and makes those from page `from` on the list's own.
 ///
 /// # Errors
-/// `Memory` if there is none left. The words are as they were.
+/// `Memory` if memory runs out. The words are as they were.
 fn open_pages(
     alloc: Global,
     pages: &mut Vec<Page<u64>>,
@@ -303,7 +308,7 @@ fn open_pages(
     own_plain_pages(alloc, pages, from, end)
 }
 
-/// Word `i` of line `j`. Behind the last page it is 0.
+/// Word `i` of line `j`. It is 0 after the last page.
 #[inline(always)]
 fn word_of(pages: &[Page<u64>], j: usize, i: usize) -> u64
     requires line { HasLine j pages.now }
@@ -328,7 +333,7 @@ fn word_at(pages: &[Page<u64>], p: usize, x: usize) -> u64
     page.as_slice()[x]
 }
 
-/// Writes over word `x` of page `p`, which is the list's own.
+/// Overwrites word `x` of page `p`, which is the list's own.
 #[inline(always)]
 fn write_word(pages: &mut Vec<Page<u64>>, p: usize, x: usize, word: u64)
     requires page { p < length pages.old.items }
@@ -373,7 +378,7 @@ fn set_bit(page: &mut Page<u64>, j: usize, w: usize, k: u32)
     page.put(x, word | 1u64 << k);
 }
 
-/// Writes the row over line `j`.
+/// Overwrites line `j` with the row.
 fn put_line(pages: &mut Vec<Page<u64>>, count: u32, j: usize, row: &BitRow)
     requires lines { All (IsPageOf count) pages.old.items }
     requires line { j < count }
@@ -388,8 +393,8 @@ fn put_line(pages: &mut Vec<Page<u64>>, count: u32, j: usize, row: &BitRow)
     }
 }
 
-/// Takes the `n` places from `first` on out of each line of the pages up to page `end`. The later places
-/// close up.
+/// Removes the `n` places from `first` on from each line of the pages up to page `end`. Later
+/// places move down.
 fn close_pages(pages: &mut Vec<Page<u64>>, count: u32, first: usize, n: usize, end: usize)
     requires lines { All (IsPageOf count) pages.old.items }
     requires few { count < 2 ^ 20 }
@@ -408,7 +413,8 @@ fn close_pages(pages: &mut Vec<Page<u64>>, count: u32, first: usize, n: usize, e
     }
 }
 
-/// Makes word `x` of page `p` what it is without these places, where the words behind it are as they were.
+/// Writes word `x` of page `p` as it is without these places. The words after it must be unchanged
+/// yet.
 #[inline(always)]
 fn close_word(pages: &mut Vec<Page<u64>>, p: usize, x: usize, first: usize, n: usize)
     requires line { HasLine (x / 8) pages.old.items }
@@ -430,7 +436,7 @@ fn close_word(pages: &mut Vec<Page<u64>>, p: usize, x: usize, first: usize, n: u
     write_word(pages, p, x, merged(before, moved, low as u32));
 }
 
-/// The 64 places of the line of word `x` of page `p` that stand `n` places behind those of this word.
+/// The 64 places that come `n` places after those of word `x` of page `p`, in the same line.
 #[inline(always)]
 fn moved_word(pages: &[Page<u64>], p: usize, x: usize, n: usize) -> u64
     requires line { HasLine (x / 8) pages.now }

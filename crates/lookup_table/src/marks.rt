@@ -10,7 +10,7 @@ use crate::lines::Lines;
 use field_groups::group_mask;
 use set_model::Block;
 
-/// Sets the rules from `first` on, one per block, in the buckets whose value agrees with the block.
+/// Sets the rules from `first` on, one per block, in each bucket whose value agrees with the block.
 pub(crate) fn mark_blocks(buckets: &mut Lines, blocks: &[Block], width: u32, bits: u32, first: u32)
     requires count { first + length blocks.now < 2 ^ 32 }
     requires shape { IsShaped width bits (first + length blocks.now) buckets.old.rows }
@@ -28,7 +28,8 @@ pub(crate) fn mark_blocks(buckets: &mut Lines, blocks: &[Block], width: u32, bit
     }
 }
 
-/// Sets rule `r` in the buckets whose value agrees with the block: in each group a run of them.
+/// Sets rule `r` in each bucket whose value agrees with the block. In each group these buckets are
+/// one run.
 fn mark_block(buckets: &mut Lines, block: Block, width: u32, bits: u32, r: u32)
     requires groups { IsWidth width bits }
     requires count { length buckets.old.rows ≡ bits / width * 2 ^ width }

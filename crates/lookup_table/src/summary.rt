@@ -13,10 +13,11 @@ use shared_pages::Page;
 use std::alloc::Global;
 use word_summary::{mark_block, mark_line, new_page, shared_words};
 
-// A table's summary is made from its buckets: a word of rules is marked for a value of a byte where
-// the buckets of that value leave a rule of the word.
+// The summary is made from the buckets of the table. A word of rules has a mark for a value of a
+// byte if the AND of that value's buckets keeps some rule of the word.
 
-/// Where the buckets stand that tell which rules agree with value `j % 256` of byte `j / 256`.
+/// The places of the buckets whose AND says which rules agree with value `j % 256` of byte `j /
+/// 256`.
 #[inline(always)]
 fn line_places(width: u32, j: u64) -> (u64, u64)
     requires { j < 2 ^ 40 }
@@ -31,7 +32,7 @@ fn line_places(width: u32, j: u64) -> (u64, u64)
     }
 }
 
-/// Makes the marks of the eight words of rules from word `8 * q` on anew, in the page that has them.
+/// Makes the marks of the eight words of rules from word `8 * q` on anew, in their page.
 fn renew_words(page: &mut Page<u64>, buckets: &Lines, width: u32, bits: u32, q: u32)
     requires groups { IsWidth width bits }
     requires count { length buckets.now.rows ≡ bits / width * 2 ^ width }
@@ -49,8 +50,8 @@ fn renew_words(page: &mut Page<u64>, buckets: &Lines, width: u32, bits: u32, q: 
     }
 }
 
-/// Makes the marks of the rules from rule `512 * from` up to rule `512 * end` anew, where there are pages
-/// for them. Those before them stand.
+/// Makes the marks of the rules from rule `512 * from` up to rule `512 * end` anew, if their pages
+/// exist. Earlier marks stay.
 pub(crate) fn renew_pages(
     pages: &mut Vec<Page<u64>>,
     buckets: &Lines,
@@ -74,7 +75,7 @@ pub(crate) fn renew_pages(
     }
 }
 
-/// Makes the marks of the eight words of rules from word `8 * q` on anew, if there is a page for them.
+/// Makes the marks of the eight words of rules from word `8 * q` on anew, if their page exists.
 fn renew_at(pages: &mut Vec<Page<u64>>, buckets: &Lines, width: u32, bits: u32, q: u32)
     requires groups { IsWidth width bits }
     requires count { length buckets.now.rows ≡ bits / width * 2 ^ width }
@@ -93,8 +94,8 @@ fn renew_at(pages: &mut Vec<Page<u64>>, buckets: &Lines, width: u32, bits: u32, 
     renew_words(page, buckets, width, bits, q);
 }
 
-/// Marks the rules of these blocks, from rule `first` on, where there are pages for them. A mark stands
-/// for `unit` rules.
+/// Marks the rules of these blocks, from rule `first` on, if their pages exist. A mark is for
+/// `unit` rules.
 pub(crate) fn mark_added(
     pages: &mut Vec<Page<u64>>,
     added: &[Block],
@@ -118,7 +119,7 @@ pub(crate) fn mark_added(
     }
 }
 
-/// Sets mark `m` in each line whose value agrees with the block, if there is a page for it.
+/// Sets mark `m` in each line whose value agrees with the block, if its page exists.
 fn set_mark(pages: &mut Vec<Page<u64>>, block: Block, bits: u32, m: u32)
     requires groups { IsWidth 8 bits }
     requires pages { ArePages bits pages.old.items }
@@ -158,10 +159,11 @@ fn summed_page(
     Ok(page)
 }
 
-/// Adds pages with their marks, up to `n` pages, and takes room for no others.
+/// Adds pages with their marks, up to `n` pages. The list's capacity is then exactly its length.
 ///
 /// # Errors
-/// `Memory` if there is none left. The pages so far are right.
+///
+/// `Memory` if memory runs out. The pages that were added have their marks.
 pub(crate) fn add_pages(
     alloc: Global,
     pages: &mut Vec<Page<u64>>,
@@ -186,7 +188,7 @@ pub(crate) fn add_pages(
     Ok(())
 }
 
-/// How many pages the summary of so many rules has. Up to 64 rules, all of one word, need none.
+/// How many pages the summary of so many rules has. Up to 64 rules are one word, and need no page.
 pub(crate) fn pages_for(is_summed: bool, rules: u32) -> u32
     ensures { result ≤ 2 ^ 20 }
 {
@@ -197,7 +199,7 @@ pub(crate) fn pages_for(is_summed: bool, rules: u32) -> u32
     }
 }
 
-/// The words of rules, of the 64 from word `64 * p` on, of a table with so many rules.
+/// Of the 64 words of rules from word `64 * p` on, those that a table of so many rules has.
 #[inline(always)]
 pub(crate) fn words_of(rules: u32, p: u32) -> u64
     ensures { (k : ℕ) → k < 64 → bit result k ≡ nat_lt (64 * (64 * p + k)) rules }

@@ -17,20 +17,21 @@ use word_summary::candidates;
 
 /// The lookup table of a field.
 ///
-/// `bits` is the number of the field's bits, `width` that of a group's and `rules` that of the
-/// rules. The bucket of value `v` of group `g`, most significant group first, stands at place
-/// `g * 2^width + v`. Its bit `r` says whether `v` agrees with rule `r`'s block on those bits of
-/// the group that the block fixes.
+/// `bits` is the number of bits of the field, `width` the number of bits of a group, and `rules`
+/// the number of rules. The bucket of value `v` of group `g` is at place `g * 2^width + v`; group 0
+/// has the most significant bits. Bit `r` of this bucket says whether `v` agrees with rule `r`'s
+/// block, on the bits that the block fixes in the group.
 ///
-/// A table that is summed has a summary above its rules: a page of marks for each 4,096 of them, once
-/// there are more than 64. `candidates` reads it. The summary is made from the buckets, and is the same
-/// at either width. Above 32,768 rules the pages have tops, one for each 64 of them, which
+/// A summed table has a summary of its rules as soon as it has more than 64. A page of marks covers
+/// 4,096 rules, and `candidates` reads it. The summary is made from the buckets, and doesn't depend
+/// on the width. Above 32,768 rules the pages have tops, one for each 64 pages, which
 /// `candidate_pages` reads.
 ///
-/// The buckets lie in pages of 512 rules, and the summary in those of 4,096, which copies share once the
-/// table was settled. A change is made on pages that are the table's own: [`FieldTable::reserve`] and
-/// [`FieldTable::own_from`] make them so, before it. No list of pages has room for more pages than it has:
-/// so an addition or a deletion, which leaves them as many, takes no memory.
+/// The buckets are in pages of 512 rules. Copies share these pages and the pages of marks once the
+/// table is settled. A change writes only pages that are the table's own: call
+/// [`FieldTable::reserve`] or [`FieldTable::own_from`] before it. Each list of pages has exactly
+/// the capacity that it uses. An addition or a deletion leaves the number of pages, so it takes no
+/// memory.
 #[derive(Drop)]
 pub struct FieldTable {
     /// How many bits a group has: 4 or 8.
@@ -41,11 +42,11 @@ pub struct FieldTable {
     pub rules: u32,
     /// The buckets, in pages of 512 rules.
     pub buckets: Lines,
-    /// Whether it has a summary above its rules.
+    /// Whether it has a summary of its rules.
     pub is_summed: bool,
-    /// The marks of each 4,096 rules.
+    /// The marks, one page for each 4,096 rules.
     pub pages: Vec<Page<u64>>,
-    /// The marks of each 64 of these pages.
+    /// The tops, one for each 64 pages of marks.
     pub tops: Vec<Page<u64>>,
     pub ghost shaped: { IsShaped width bits rules buckets.rows },
     pub ghost summed: { IsSummed 64 width bits rules buckets.rows pages.items },
@@ -68,11 +69,11 @@ impl FieldTable {
     ghost use Rattle.lookup_table.specs.Rows.{IsJoined, IsWide, halves_start, halves_step};
     ghost use Rattle.lookup_table.specs.Candidates.{LeavesNone};
 
-    /// A table without rules, in groups of eight bits, of a field of `bits` bits: a multiple of 8
-    /// from 8 to 128.
+    /// A table without rules, in groups of eight bits. `bits`, the number of bits of the field, is
+    /// a multiple of 8 from 8 to 128.
     ///
     /// # Errors
-    /// `Memory` if there is none left.
+    /// `Memory` if memory runs out.
     pub fn new(alloc: Global, bits: u32) -> Result<FieldTable, Memory>
         requires { IsWidth 8 bits }
         ensures width { IfOk result (λ t. t.width ≡ 8) }
@@ -92,7 +93,8 @@ impl FieldTable {
         })
     }
 
-    /// Says whether the table keeps a summary of its rules, from the next [`FieldTable::reserve`] on.
+    /// Sets whether the table keeps a summary of its rules. It takes effect with the next
+    /// [`FieldTable::reserve`].
     pub fn set_summed(&mut self, is_summed: bool)
         ensures summed { self.new.is_summed ≡ is_summed }
         ensures same { IsSameField self.old self.new }
@@ -110,7 +112,7 @@ impl FieldTable {
         group_count(self.width, self.bits)
     }
 
-    /// Where the bucket of a value's group `g` stands.
+    /// The place of the bucket of the value's group `g`.
     #[inline(always)]
     pub fn place(&self, value: u128, g: u32) -> usize
         requires group { g < self.now.bits / self.now.width }
@@ -131,11 +133,11 @@ impl FieldTable {
         self.buckets.page(i / 8)
     }
 
-    /// Takes room for `n` rules more, on pages that are the table's own. It takes constant time where
-    /// there is that room already. A table has at most 4,294,966,784 rules.
+    /// Takes room for `n` more rules, on pages that are the table's own. It takes constant time if
+    /// that room is there already. A table has at most 4,294,966,784 rules.
     ///
     /// # Errors
-    /// `Memory` if there is none left. The table is as it was.
+    /// `Memory` if memory runs out. The table is as it was.
     pub fn reserve(&mut self, n: u32) -> Result<(), Memory>
         requires { self.old.rules + n + 512 ≤ 2 ^ 32 }
         ensures same { IsSameField self.old self.new }
@@ -157,7 +159,7 @@ impl FieldTable {
     /// Makes the pages of the rules from `first` on, and of the summary above them, the table's own.
     ///
     /// # Errors
-    /// `Memory` if there is none left. The table is as it was.
+    /// `Memory` if memory runs out. The table is as it was.
     pub fn own_from(&mut self, first: u32) -> Result<(), Memory>
         ensures same { IsSameField self.old self.new }
         ensures rules { self.new.rules ≡ self.old.rules }
@@ -171,7 +173,7 @@ impl FieldTable {
     /// Makes the pages of the summary above the rules from `from` up to `to` the table's own.
     ///
     /// # Errors
-    /// `Memory` if there is none left. The table is as it was.
+    /// `Memory` if memory runs out. The table is as it was.
     fn own_summary(&mut self, from: u32, to: u32) -> Result<(), Memory>
         ensures same { IsSameField self.old self.new }
         ensures rules { self.new.rules ≡ self.old.rules }
@@ -187,10 +189,11 @@ impl FieldTable {
         Ok(())
     }
 
-    /// Takes pages of the summary, up to `pages` pages of marks and `tops` tops above them.
+    /// Adds pages to the summary, up to `pages` pages of marks and `tops` tops.
     ///
     /// # Errors
-    /// `Memory` if there is none left. The table is as it was, or has some of the pages.
+    ///
+    /// `Memory` if memory runs out. The table then may have some of the new pages.
     fn take_pages(&mut self, pages: u32, tops: u32) -> Result<(), Memory>
         requires pages { pages ≤ 2 ^ 26 }
         requires tops { tops ≤ 2 ^ 26 }
@@ -219,7 +222,7 @@ impl FieldTable {
         )
     }
 
-    /// Adds a rule with the next number, for which there is room in each bucket.
+    /// Adds a rule with the next number. Each bucket must have room for it.
     pub fn add_block(&mut self, block: Block)
         requires spare { All (λ row. 1 ≤ row.spare) self.old.buckets.rows }
         requires own { IsOwn self.old.rules (self.old.rules + 1) self.old }
@@ -233,7 +236,7 @@ impl FieldTable {
         self.add_blocks(&[block]);
     }
 
-    /// Adds rules with the next numbers, for which there is room in each bucket.
+    /// Adds rules with the next numbers. Each bucket must have room for them.
     pub fn add_blocks(&mut self, added: &[Block])
         requires spare { All (λ row. length added.now ≤ row.spare) self.old.buckets.rows }
         requires own { IsOwn self.old.rules (self.old.rules + length added.now) self.old }
@@ -244,7 +247,7 @@ impl FieldTable {
         ensures whose { IsAsOwn self.old self.new }
         ensures stands { AppendsRules self.old self.new added.now }
     {
-        // The room is what bounds the number of blocks.
+        // The room bounds the number of blocks.
         let _room = self.buckets.room();
         let count = added.len() as u32;
         let before = self.rules;
@@ -255,7 +258,7 @@ impl FieldTable {
         mark_added(&mut self.tops, added, self.bits, before, 4096);
     }
 
-    /// Takes the `n` rules from `first` on out. The later rules close up, on pages that are the table's
+    /// Removes the `n` rules from `first` on. Later rules move down, on pages that are the table's
     /// own.
     pub fn drop_rules(&mut self, first: u32, n: u32)
         requires within { first + n ≤ self.old.rules }
@@ -289,7 +292,7 @@ impl FieldTable {
         );
     }
 
-    /// Leaves bit `r` of the row set where rule `r`'s block holds the value.
+    /// Clears bit `r` of the row unless rule `r`'s block holds the value.
     pub fn match_into(&self, value: u128, row: &mut BitRow)
         requires length { length row.old.bits ≡ self.now.rules }
         requires value { value < 2 ^ self.now.bits }
@@ -302,9 +305,11 @@ impl FieldTable {
         }
     }
 
-    /// The words of rules, of the 64 from word `64 * p` on, that may have a rule whose block holds the
-    /// value. Bit 0 stands for the first. In a table without a summary they are all that have rules.
-    /// `lines` is where the lines of the value's last four bytes stand.
+    /// Candidates among the 64 words of rules from word `64 * p` on: the words that may have a rule
+    /// whose block holds the value. Bit 0 is the first word.
+    ///
+    /// Without a summary all words that have rules are candidates. `lines` has the places of the
+    /// lines of the value's last four bytes.
     #[inline(always)]
     pub fn candidates(&self, value: u128, lines: LastFour, p: u32) -> u64
         requires value { value < 2 ^ self.now.bits }
@@ -319,9 +324,11 @@ impl FieldTable {
         }
     }
 
-    /// The pages of 4,096 rules, of the 64 from page `64 * q` on, that may have a rule whose block holds the
-    /// value. Bit 0 stands for the first. In a table without tops they are all that have rules.
-    /// `lines` is where the lines of the value's last four bytes stand.
+    /// Candidates among the 64 pages of 4,096 rules from page `64 * q` on: the pages that may have
+    /// a rule whose block holds the value. Bit 0 is the first page.
+    ///
+    /// Without tops all pages that have rules are candidates. `lines` has the places of the lines
+    /// of the value's last four bytes.
     #[inline(always)]
     pub fn candidate_pages(&self, value: u128, lines: LastFour, q: u32) -> u64
         requires value { value < 2 ^ self.now.bits }
@@ -329,7 +336,7 @@ impl FieldTable {
         ensures none { LeavesNone self.now value 4096 q result }
         ensures within { (k : ℕ) → k < 64 → bit result k ≡ true → 4096 * (64 * q + k) < self.now.rules }
     {
-        // A page is to its words what a word is to its rules.
+        // A page has 64 words as a word has 64 rules.
         let pages = words_of(self.rules.div_ceil(64), q);
         if self.rules <= RULES_WITHOUT_TOPS {
             return pages;
@@ -340,8 +347,8 @@ impl FieldTable {
         }
     }
 
-    /// The bits of `word` whose rule's block holds the value, where bit 0 stands for rule `64 * i`.
-    /// Bits past the last rule are 0.
+    /// Those bits of `word` whose rule's block holds the value. Bit 0 is rule `64 * i`. Bits past
+    /// the last rule are 0.
     pub fn match_word(&self, value: u128, i: u32, word: u64) -> u64
         requires { value < 2 ^ self.now.bits }
         ensures held { KeepsBitsWhere self.now (λ rule. holds_value rule value) i word result }
@@ -361,9 +368,10 @@ impl FieldTable {
         left
     }
 
-    /// Leaves bit `r` of the row set where rule `r`'s block and this block hold a common value.
+    /// Clears bit `r` of the row unless rule `r`'s block and this block share a value.
     ///
-    /// `rest` has room for the rules. It is written over: it then has one place per rule.
+    /// `rest` must have room for the rules. It is overwritten, and has one place per rule
+    /// afterwards.
     pub fn share_into(&self, block: Block, row: &mut BitRow, rest: &mut BitRow)
         requires length { length row.old.bits ≡ self.now.rules }
         requires room { self.now.rules ≤ length rest.old.bits + rest.old.spare }
@@ -381,8 +389,8 @@ impl FieldTable {
         }
     }
 
-    /// Leaves bit `r` of the row set where some value of group `g` agrees with both rule `r`'s block
-    /// and this block.
+    /// Clears bit `r` of the row unless some value of group `g` agrees with both rule `r`'s
+    /// block and this block.
     fn share_group(&self, block: Block, g: u32, row: &mut BitRow, rest: &mut BitRow)
         requires group { g < self.now.bits / self.now.width }
         requires within { IsWithin self.now.bits block }
@@ -397,8 +405,8 @@ impl FieldTable {
         let (base, mask) = group_mask(block, self.width, self.bits, g);
         let first = ((g as u64) << self.width) + (base & mask) as u64;
         let count = (1u64 << self.width) - mask as u64;
-        // A block that fixes the whole group has one bucket, and needs no row between. Each rule agrees with some value of a
-        // group that the block leaves free, which is skipped.
+        // A block that fixes the whole group has one bucket, so it needs no OR of buckets. A group
+        // that the block leaves free is skipped, since each rule agrees with some value of it.
         if count == 1 {
             self.buckets.and_into(first, row);
         } else if mask != 0 {
@@ -408,8 +416,8 @@ impl FieldTable {
         }
     }
 
-    /// Sets a place of the row, none of which is set, where it is set in one of the `n` buckets at
-    /// `start`, `start + step` and so on.
+    /// Sets each place of the row that is set in one of the `n` buckets at `start`, `start + step`
+    /// and so on. No place of the row is set before.
     fn join_into(&self, start: u64, step: u64, n: u64, row: &mut BitRow)
         requires row { row.old.bits ≡ replicate self.now.rules false }
         requires step { step ≤ 16 }
@@ -426,7 +434,7 @@ impl FieldTable {
     /// The same rules in groups of `width` bits, which is 4 or 8.
     ///
     /// # Errors
-    /// `Memory` if there is none left.
+    /// `Memory` if memory runs out.
     pub fn with_width(&self, alloc: Global, width: u32) -> Result<FieldTable, Memory>
         requires { IsWidth width self.now.bits }
         ensures width { IfOk result (λ t. t.width ≡ width) }
@@ -451,7 +459,7 @@ impl FieldTable {
         ensures rules { IfOk result (λ t. t.rules ≡ self.now.rules) }
         ensures stands { IfOk result (KeepsRules self.now) }
     {
-        // The room is what bounds the number of rules.
+        // The room bounds the number of rules.
         let _room = self.buckets.room();
         let mut buckets = Lines::zeros(alloc, self.bits / 8 * 256, self.rules)?;
         'rows: for j in 0..self.bits / 8 * 256 {
@@ -471,8 +479,8 @@ impl FieldTable {
         Ok(table)
     }
 
-    /// Bucket `j` in groups of eight bits, from groups of four: a rule is set where it is set for
-    /// both halves of the value.
+    /// Bucket `j` in groups of eight bits, from groups of four. A rule is set if it is set for both
+    /// halves of the value.
     fn wide_bucket(&self, alloc: Global, j: u64) -> Result<BitRow, Memory>
         requires width { self.now.width ≡ 4 }
         requires place { j < self.now.bits / 8 * 256 }
@@ -492,7 +500,7 @@ impl FieldTable {
         ensures rules { IfOk result (λ t. t.rules ≡ self.now.rules) }
         ensures stands { IfOk result (KeepsRules self.now) }
     {
-        // The room is what bounds the number of rules.
+        // The room bounds the number of rules.
         let _room = self.buckets.room();
         let mut buckets = Lines::zeros(alloc, self.bits / 4 * 16, self.rules)?;
         'rows: for j in 0..self.bits / 4 * 16 {
@@ -512,8 +520,8 @@ impl FieldTable {
         Ok(table)
     }
 
-    /// Bucket `j` in groups of four bits, from groups of eight: a rule is set where it is set for
-    /// some value with that half.
+    /// Bucket `j` in groups of four bits, from groups of eight. A rule is set if it is set for some
+    /// value with that half.
     fn narrow_bucket(&self, alloc: Global, j: u64) -> Result<BitRow, Memory>
         requires width { self.now.width ≡ 8 }
         requires place { j < self.now.bits / 4 * 16 }
@@ -528,7 +536,7 @@ impl FieldTable {
     /// Lets copies share all pages from now on. No word is copied.
     ///
     /// # Errors
-    /// `Memory` if there is none left. The table is as it was.
+    /// `Memory` if memory runs out. The table is as it was.
     pub fn settle(&mut self) -> Result<(), Memory>
         ensures same { IsSameField self.old self.new }
         ensures rules { self.new.rules ≡ self.old.rules }
@@ -542,10 +550,10 @@ impl FieldTable {
         Ok(())
     }
 
-    /// The same table once more, with the same room: one count for each page that was settled.
+    /// A copy of the table, with the same room. It counts one reference for each settled page.
     ///
     /// # Errors
-    /// `Memory` if there is none left.
+    /// `Memory` if memory runs out.
     pub fn copy(&self, alloc: Global) -> Result<FieldTable, Memory>
         ensures width { IfOk result (λ t. t.width ≡ self.now.width) }
         ensures bits { IfOk result (λ t. t.bits ≡ self.now.bits) }

@@ -9,14 +9,14 @@ use shared_pages::Page;
 use std::alloc::Global;
 use word_summary::{mark_page, mark_run, new_page};
 
-// Above the pages of marks stand their tops, pages of the same form: a top has a mark for a page in each
-// line in which the page has one.
+// A top is a page of the same form above 64 pages of marks. It has a mark for a page in each line
+// in which that page has a mark.
 
-/// Up to so many rules, those of eight pages of marks, a summary needs no tops.
+/// A summary needs no tops up to this many rules, which have eight pages of marks.
 pub(crate) const RULES_WITHOUT_TOPS: u32 = 32_768;
 
-/// Makes the marks of the pages from page `from` up to page `to` anew, where there are tops for them.
-/// Those before them stand.
+/// Makes the marks of the pages from page `from` up to page `to` anew, if their tops exist. Earlier
+/// marks stay.
 pub(crate) fn renew_tops(
     tops: &mut Vec<Page<u64>>,
     pages: &[Page<u64>],
@@ -37,7 +37,7 @@ pub(crate) fn renew_tops(
     }
 }
 
-/// Makes the marks of page `p` anew, if there is a top for it.
+/// Makes the marks of page `p` anew, if its top exists.
 fn renew_top(tops: &mut Vec<Page<u64>>, pages: &[Page<u64>], bits: u32, p: u32)
     requires pages { ArePages bits pages.now }
     requires tops { ArePages bits tops.old.items }
@@ -65,15 +65,17 @@ fn mark_from(top: &mut Page<u64>, pages: &[Page<u64>], bits: u32, p: u32)
 {
     match pages.get(p as usize) {
         Some(page) => mark_page(top, page.as_slice(), p % 64),
-        // Any rule may be one of a page that isn't there.
+        // A missing page may have any rule, so it is marked in all lines.
         None => mark_run(top, 0, bits as usize / 8 * 256, p % 64),
     }
 }
 
-/// Adds tops with the marks of their pages, up to `n` tops, and takes room for no others.
+/// Adds tops with the marks of their pages, up to `n` tops. The list's capacity is then exactly its
+/// length.
 ///
 /// # Errors
-/// `Memory` if there is none left. The tops so far are right.
+///
+/// `Memory` if memory runs out. The tops that were added have their marks.
 pub(crate) fn add_tops(
     alloc: Global,
     tops: &mut Vec<Page<u64>>,

@@ -2,11 +2,11 @@ ghost use Rattle.std.specs.Prelude.{◌≡◌, ◌^◌, ◌<◌, ◌≤◌};
 ghost use Rattle.lookup_table.specs.Rows.{halves_start, halves_step};
 ghost use Rattle.lookup_table.specs.Width.{width_of};
 
-/// The bytes that a table in groups of eight bits may have.
+/// The most bytes that a table in groups of eight bits may have.
 const WIDE_BYTES: u64 = 2_097_152;
 
-/// The group width of a field of `bits` bits with so many rules: eight bits where such a table has
-/// at most 2 MiB, else four.
+/// The group width for a field of `bits` bits with so many rules: eight bits if such a table has at
+/// most 2 MiB, else four.
 pub fn width_for(bits: u32, rules: u32) -> u32
     requires { bits ≤ 128 }
     ensures { result ≡ width_of bits rules }
@@ -15,8 +15,8 @@ pub fn width_for(bits: u32, rules: u32) -> u32
     if bytes <= WIDE_BYTES { 8 } else { 4 }
 }
 
-/// Where the sixteen buckets of groups of eight bits begin whose values have that of bucket `j` of
-/// groups of four as their upper or lower half, and how far they are apart.
+/// Sixteen buckets of groups of eight bits have the value of bucket `j` of groups of four as their
+/// upper or lower half. Returns the place of the first of them, and their distance.
 pub(crate) fn halves_of(j: u64) -> (u64, u64)
     requires { j < 2 ^ 40 }
     ensures start { result.0 ≡ halves_start j }

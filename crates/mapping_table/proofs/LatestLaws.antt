@@ -1,4 +1,4 @@
--- What changes of ends leave of the moments of their words.
+-- How changes of ends affect the moments of their words.
 use Rattle.std.proofs.Common.{◌≡◌, refl, sym, ◌∙◌, ap, subst, ℕ, zero, suc, ◌+◌, ◌-◌, ◌*◌, ◌/◌, ◌%◌, ◌^◌, ◌<◌, ◌≤◌, ◌⊎◌, inl, inr, false, List, [], ◌∷◌, ◌++◌, length, get_or, take, drop, Option, Some, None, All, arith, length-append, length-drop}
 use Rattle.std.specs.Prelude.{max, unwrap_or}
 use Rattle.std.proofs.lemmas.Bool.{cases_lt}
@@ -13,7 +13,7 @@ use Rattle.mapping_table.proofs.WordLaws.{word-at}
 
 -- ---- the ends of a word
 
--- what holds of each end of a word, holds of each rule's
+-- what holds of each end of a word, holds of each of its rules
 pub word-each : (P : End → Type 0) (ends : List End) (w k : ℕ) (d : End) → All P (word_of w ends) → k / 64 ≡ w → k < length ends → P (get_or ends k d)
 word-each P ends w k d all e h =
     let place : 64 * w + k % 64 ≡ k = omega arith in
@@ -45,7 +45,7 @@ latest-more : (es : List End) (e : End) → latest_end (es ++ e ∷ []) ≡ max 
 latest-more [] e = omega arith
 latest-more (x ∷ es) e = let h = latest-more es e in omega arith
 
--- one end of a word further
+-- one more end of a word
 pub latest-next : (ends : List End) (w i n : ℕ) (d : End) → 64 * w ≤ i → i < 64 * w + 64 → i < length ends → n ≡ i - 64 * w
     → latest_end (take (n + 1) (word_of w ends)) ≡ max (latest_end (take n (word_of w ends))) (expiry_moment (get_or ends i d))
 latest-next ends w i n d low high within e =
@@ -88,7 +88,7 @@ bounded ends moments n each = record {
       latest-all (word_of w ends) m (word-all (λ e. expiry_moment e ≤ m) ends w (λ k d e h. subst (λ v. expiry_moment (get_or ends k d) ≤ get_or moments v 0) e (each k d h)));
 }
 
--- a rule more
+-- one more rule
 pub bounded-pushed : (ends : List End) (end : End) (before after : List ℕ) (w m : ℕ) → w ≡ length ends / 64 → m ≡ expiry_moment end → length after ≡ max (length before) (w + 1)
     → AreRaised w (w + 1) m before after → AreBounded ends before → AreBounded (ends ++ end ∷ []) after
 bounded-pushed ends end before after w m e f n so was = bounded (ends ++ end ∷ []) after (omega (arith, was.count, length-append ends (end ∷ []))) (λ k d h. go k d h (cases_lt k (length ends))) where
@@ -114,7 +114,7 @@ bounded-renewed first n from to m expiry old new before after low high f e moved
       go k d h (inr a) (inl b) = omega (arith, ap expiry_moment (moved.moved k d a (omega arith)), so.raised (k / 64) (omega arith) (omega arith))
       go k d h (inr a) (inr b) = kept k d h (moved.behind k d (omega arith))
 
--- some rules fewer, and the later ones at lower places
+-- some rules are removed, and later rules move to lower places
 pub bounded-dropped : (first n to len from : ℕ) (old moved : List End) (before after : List ℕ) → from ≡ first / 64 → first + n ≤ length old → IsMoved lowered_place first n to old moved
     → AreFound (take len moved) from before after → AreBounded old before → AreBounded (take len moved) after
 bounded-dropped first n to len from old moved before after e range so found was = record {

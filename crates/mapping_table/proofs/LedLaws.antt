@@ -28,7 +28,7 @@ position-nowhere p xs d before =
     let e = position_or_len_is p xs (length xs) d (omega arith) before (λ l. absurd (omega arith)) in
     sym (rw (e, not-lt (length xs) (length xs) (omega arith)) refl)
 
--- a matched rule leads to its element where that is live
+-- a matched rule leads to its element if the element is live
 pub led-there : (ends : List End) (row : List Bool) (now k : ℕ) (t : Bool) → length row ≡ length ends → k < length ends → get_or row k false ≡ true
     → lives (get_or ends k (record { place = 0; expiry = None })).expiry now ≡ t → is_led now (get_or (zip ends row) k no_end) ≡ t
 led-there ends row now k t g h set is =

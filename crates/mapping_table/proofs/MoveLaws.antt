@@ -1,4 +1,4 @@
--- Items that are moved to lower places, one by one.
+-- Items that move to lower places, one by one.
 use Rattle.std.proofs.Common.{◌≡◌, refl, sym, ◌∙◌, ap, ℕ, ◌+◌, ◌-◌, ◌<◌, ◌≤◌, ◌⊎◌, inl, inr, List, ◌++◌, length, get_or, map, take, drop, arith, append_assoc, length-append, length-drop, length-take-le}
 use Rattle.std.proofs.Math.ListN.{set, length-set}
 use Rattle.std.proofs.lemmas.Bool.{cases_lt}
@@ -7,7 +7,7 @@ use Rattle.std.proofs.lemmas.Grind.{get_or-set_at}
 use Rattle.mapping_table.specs.Spared.{IsMoved}
 
 module _ {X : Type 0} where
-  -- nothing is moved yet
+  -- no item has moved yet
   pub moved-none : (g : X → X) (first n to : ℕ) (xs : List X) → to ≡ first + n → IsMoved g first n to xs xs
   moved-none g first n to xs e = record {
     long = refl;
@@ -16,7 +16,7 @@ module _ {X : Type 0} where
     behind = λ j d h. refl;
   }
 
-  -- item i takes the place of the one that was moved last
+  -- item i takes the place after the item that moved last
   pub moved-more : (g : X → X) (first n i to next : ℕ) (old new : List X) (x d : X) → first ≤ i → to ≡ i + n → next ≡ i + 1 + n → i + n < length old
       → IsMoved g first n to old new → x ≡ g (get_or new (i + n) d) → IsMoved g first n next old (set new i x)
   moved-more g first n i to next old new x d f t s h so e = record {
@@ -32,7 +32,7 @@ module _ {X : Type 0} where
         let inside : i < length new = omega (arith, so.long) in
         get_or-set_at new i j x c same inside ∙ e ∙ ap g (so.behind (i + n) d (omega arith) ∙ get_or_default old (i + n) d c h) ∙ ap (λ k. g (get_or old (k + n) c)) (sym same)
 
-  -- all are moved, and what is left behind them is cut off
+  -- all items have moved, and the rest after them is cut off
   pub moved-all : (g : X → X) (first n to len : ℕ) (old new : List X) → to ≡ length old → first + n ≤ length old → len ≡ length old - n
       → IsMoved g first n to old new → take len new ≡ take first old ++ map g (drop (first + n) old)
   moved-all g first n to len old new t h m so = same_lists (take len new) (take first old ++ map g (drop (first + n) old)) (a ∙ sym b) at where
@@ -59,7 +59,7 @@ module _ {X : Type 0} where
     at : (k : ℕ) (d : X) → k < length (take len new) → get_or (take len new) k d ≡ get_or (take first old ++ map g (drop (first + n) old)) k d
     at k d l = let within : k < len = omega (arith, a) in get_or-take len new k d within ∙ go k d within (cases_lt k first)
 
-  -- the n items from `first` on are passed through g, and stay where they stand
+  -- the n items from `first` on are passed through g, and keep their places
   pub passed-all : (g : X → X) (first n to : ℕ) (old new : List X) → to ≡ first + n → first + n ≤ length old
       → IsMoved g first 0 to old new → new ≡ take first old ++ map g (take n (drop first old)) ++ drop (first + n) old
   passed-all g first n to old new t h so = same_lists new (take first old ++ (map g (take n (drop first old)) ++ drop (first + n) old)) (so.long ∙ sym b) (λ k d l. go k d (omega (arith, so.long)) (cases_lt k first) (cases_lt k to)) ∙ sym (append_assoc (take first old) (map g (take n (drop first old))) (drop (first + n) old)) where

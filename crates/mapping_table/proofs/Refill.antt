@@ -1,4 +1,4 @@
--- A refill, one rule further, and its end.
+-- A refill, after one more rule and at its end.
 use Rattle.std.proofs.Common.{zero, suc, add-zero, ◌≡◌, refl, sym, ◌∙◌, ap, ℕ, ◌+◌, ◌<◌, ◌≤◌, Bool, true, false, ◌&&◌, ◌||◌, List, length, take, get_or, arith}
 use Rattle.std.specs.List.{zip, list_any}
 use Rattle.std.proofs.lemmas.List.{take_all}

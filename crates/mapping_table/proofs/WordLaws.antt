@@ -1,4 +1,4 @@
--- The items of a word of 64, in the list and in what they stand in of it.
+-- The items of a word of 64, in the list and in the page or rest that has them.
 use Rattle.std.proofs.Common.{◌≡◌, refl, sym, ◌∙◌, ap, ℕ, ◌+◌, ◌-◌, ◌*◌, ◌/◌, ◌%◌, ◌<◌, ◌≤◌, List, length, get_or, take, drop, All, arith, length-drop}
 use Rattle.std.specs.Prelude.{min}
 use Rattle.std.proofs.lemmas.List.{length-take, get_or-take, get_or-drop, get_or_default, same_lists, take_rest, take_min, drop_min}
@@ -8,7 +8,7 @@ use Rattle.shared_pages.proofs.PageLaws.{items-length, read-page, read-last}
 use Rattle.mapping_table.specs.Spared.{word_of}
 
 module _ {X : Type 0} where
-  -- a run of up to 64 items, cut where the list ends
+  -- a run of up to 64 items, cut at the list's end
   pub run-cut : (items : List X) (first low many : ℕ) → low ≡ min first (length items) → many ≡ min (length (take (length items - low) (drop low items))) 64
       → take many (take (length items - low) (drop low items)) ≡ take 64 (drop first items)
   run-cut items first low many e f =
@@ -25,7 +25,7 @@ module _ {X : Type 0} where
   pub word-at : (items : List X) (w k : ℕ) (d : X) → k < 64 → get_or (word_of w items) k d ≡ get_or items (64 * w + k) d
   word-at items w k d h = run-at items (64 * w) k d h
 
-  -- what is read of a word that was taken is what stands in the list
+  -- an item of a word that was read is the item of the list
   pub word-within : (items word : List X) (w k : ℕ) → word ≡ word_of w items → k < 64 → 64 * w + k < length items → k < length word
   word-within items word w k e h l =
       let a = length-take 64 (drop (64 * w) items) in
@@ -70,7 +70,7 @@ module _ {X : Type 0} where
         ∙ sym (get_or_from_slice_get (items_in pages last) (64 * w + k) x d (read-page pages last (64 * w + k) m x whole (omega arith) here))
         ∙ sym (word-at (items_in pages last) w k d low)
 
-  -- a word behind the whole pages
+  -- a word after the whole pages
   pub last-word : (pages : List (PageOf X)) (last : List X) (w : ℕ) → All IsWhole pages → length pages ≤ 64 * w / 512
       → take 64 (drop (64 * w - 512 * length pages) last) ≡ word_of w (items_in pages last)
   last-word pages last w whole h = same_lists (take 64 (drop from last)) (word_of w (items_in pages last)) long at where

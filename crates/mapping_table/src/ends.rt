@@ -13,16 +13,17 @@ use set_tables::End;
 use std::alloc::Global;
 use std::marker::Model;
 
-/// The rules of the last field, each with its element's place and expiry, in pages of 512 that copies
-/// share. Beside them it shows a number `spare`: how many more rules it has room for; of each page
-/// whether it is this table's `own`, so that it can be changed; and what memory is `taken`: the
-/// capacities of its vectors.
+/// The rules of the last field, each with its element's place and expiry, in pages of 512 that
+/// copies share.
+///
+/// Contracts also see how many more rules have room (`spare`), and the capacities of its vectors
+/// (`taken`). Of each page they see whether it is this table's own (`own`), so that it can change.
 #[derive(Drop)]
 pub struct EndTable {
     ends: Roomy<End>,
-    /// For each word of 64 rules a moment, in milliseconds, by which all its ends are expired, or
-    /// `u64::MAX` where one has no expiry. It may be later than the latest expiry, and `u64::MAX` where
-    /// each has one: a renewal never lowers it.
+    /// For each word of 64 rules a moment, in milliseconds, by which all its ends are expired. It
+    /// is `u64::MAX` if an end has no expiry. The moment may be later than the latest expiry, even
+    /// `u64::MAX`, since a renewal never lowers it.
     latest: Vec<u64>,
 }
 
@@ -74,7 +75,7 @@ impl EndTable {
         self.ends.at(i)
     }
 
-    /// The ends of the rules of word `w`, the 64 from rule `64 * w` on, as far as there are any.
+    /// The ends of the rules of word `w`: at most 64, from rule `64 * w` on.
     #[inline(always)]
     pub fn word(&self, w: u32) -> &[End]
         ensures { result.now ≡ word_of w self.now.items }
@@ -82,10 +83,10 @@ impl EndTable {
         self.ends.word(w)
     }
 
-    /// Takes room for `n` rules more.
+    /// Takes room for `n` more rules.
     ///
     /// # Errors
-    /// `Memory` if there is none left. The rules stay.
+    /// `Memory` if memory runs out. The rules stay.
     pub fn reserve(&mut self, n: u32) -> Result<(), Memory>
         requires { length self.old.items + n < 2 ^ 32 }
         ensures items { self.new.items ≡ self.old.items }
@@ -98,7 +99,7 @@ impl EndTable {
         self.ends.reserve(n)
     }
 
-    /// Adds a rule, for which there is room. It takes no memory.
+    /// Adds a rule. There must be room for it. It takes no memory.
     pub fn push(&mut self, item: End)
         requires { 1 ≤ self.old.spare }
         ensures items { self.new.items ≡ self.old.items ++ item ∷ [] }
@@ -111,9 +112,11 @@ impl EndTable {
         self.ends.push(item);
     }
 
-    /// Whether all ends of word `w`, those of the rules from `64 * w` to `64 * w + 63`, are known to be
-    /// expired at `now`, in milliseconds, with no look at any of them. Where they aren't known to be,
-    /// they still may be expired: a renewal by an earlier expiry isn't told.
+    /// Whether all ends of word `w` are known to be expired at `now`, in milliseconds. These are
+    /// the ends of the rules from `64 * w` to `64 * w + 63`. The call looks at none of them.
+    ///
+    /// If it returns false, all may still be expired: a renewal by an earlier expiry doesn't lower
+    /// the word's moment.
     #[inline(always)]
     pub fn is_word_expired(&self, w: u32, now: u64) -> bool
         ensures { OnTrue result (All (λ e. lives e.expiry now ≡ false) (word_of w self.now.items)) }
@@ -124,7 +127,7 @@ impl EndTable {
         }
     }
 
-    /// The lowest matched rule whose expiry is none or later than `now`, in milliseconds.
+    /// The lowest matched rule that has no expiry, or an expiry later than `now`, in milliseconds.
     pub fn first_live(&self, matched: &BitRow, now: u64) -> Option<u32>
         requires { length matched.now.bits ≡ length self.now.items }
         ensures { result ≡ position (is_led now) (zip self.now.items matched.now.bits) }
@@ -135,7 +138,8 @@ impl EndTable {
     /// Makes the pages of the `n` rules from `first` on this table's own.
     ///
     /// # Errors
-    /// `Memory` if there is none left. The rules stay, and what was own still is.
+    ///
+    /// `Memory` if memory runs out. The rules stay, and pages that were the table's own still are.
     pub fn own_range(&mut self, first: u32, n: u32) -> Result<(), Memory>
         ensures items { self.new.items ≡ self.old.items }
         ensures spare { self.new.spare ≡ self.old.spare }
@@ -148,7 +152,8 @@ impl EndTable {
     /// Makes the pages from rule `first` on this table's own.
     ///
     /// # Errors
-    /// `Memory` if there is none left. The rules stay, and what was own still is.
+    ///
+    /// `Memory` if memory runs out. The rules stay, and pages that were the table's own still are.
     pub fn own_from(&mut self, first: u32) -> Result<(), Memory>
         ensures items { self.new.items ≡ self.old.items }
         ensures spare { self.new.spare ≡ self.old.spare }
@@ -158,8 +163,8 @@ impl EndTable {
         self.ends.own_from(first)
     }
 
-    /// Takes the `n` rules of one element, from `first` on, out. The elements of the later rules
-    /// stand one place lower. It takes no memory.
+    /// Removes the `n` rules of one element, from `first` on. The elements of later rules have a
+    /// place one lower. It takes no memory.
     pub fn drop_rules(&mut self, first: u32, n: u32)
         requires range { first + n ≤ length self.old.items }
         requires later { All (λ e. 1 ≤ e.place) (drop (first + n) self.old.items) }
@@ -191,7 +196,7 @@ impl EndTable {
     /// Lets copies share the pages from now on. No page is copied.
     ///
     /// # Errors
-    /// `Memory` if there is none left. The rules stay.
+    /// `Memory` if memory runs out. The rules stay.
     pub fn settle(&mut self) -> Result<(), Memory>
         ensures items { self.new.items ≡ self.old.items }
         ensures spare { self.new.spare ≡ self.old.spare }
@@ -200,10 +205,10 @@ impl EndTable {
         self.ends.settle()
     }
 
-    /// The same rules once more: one count for each page that was settled.
+    /// A copy of the rules. It counts one reference for each settled page.
     ///
     /// # Errors
-    /// `Memory` if there is none left.
+    /// `Memory` if memory runs out.
     pub fn copy(&self, alloc: Global) -> Result<EndTable, Memory>
         ensures { IfOk result (λ other. other.items ≡ self.now.items) }
     {
@@ -228,8 +233,8 @@ fn first_led(ends: &Roomy<End>, matched: &BitRow, now: u64) -> Option<u32>
     None
 }
 
-/// Writes the ends behind the `n` rules from `first` on over these and the later ones, each of an
-/// element one place lower.
+/// Moves the ends after the `n` rules from `first` on down by `n` rules. The place of each one's
+/// element is one lower.
 fn close_up(ends: &mut Roomy<End>, first: u32, n: u32)
     requires range { first + n ≤ length ends.old.items }
     requires later { All (λ e. 1 ≤ e.place) (drop (first + n) ends.old.items) }

@@ -7,8 +7,8 @@ use crate::roomy::Roomy;
 use set_model::expiry_moment;
 use set_tables::End;
 
-/// Whether each expiry up to `moment` has come at `now`. For the last moment there is that is never
-/// so, since it stands for no expiry, too.
+/// Whether each expiry up to `moment` has come at `now`. This is never so for the last moment,
+/// which also represents no expiry.
 #[inline(always)]
 pub(crate) fn is_past(moment: u64, now: u64) -> bool
     ensures { IsTrue result ↔ (moment < 2 ^ 64 - 1) × (moment ≤ now) }
@@ -31,7 +31,8 @@ fn latest_end(ends: &Roomy<End>, w: u32) -> u64
     latest
 }
 
-/// Raises the moment of word `w`. Behind the last word it is a new one, for which there is room.
+/// Raises the moment of word `w`. After the last word it adds a new moment, for which there must be
+/// room.
 pub(crate) fn raise_word(latest: &mut Vec<u64>, w: usize, moment: u64)
     requires place { w ≤ length latest.old.items }
     requires room { w < vec_capacity latest.old }
@@ -59,7 +60,7 @@ pub(crate) fn raise(latest: &mut Vec<u64>, from: usize, to: usize, moment: u64)
     }
 }
 
-/// Finds the moments of the words from `from` on anew, after rules have gone.
+/// Finds the moments of the words from `from` on anew, after rules were removed.
 pub(crate) fn find_latest(ends: &Roomy<End>, latest: &mut Vec<u64>, from: u32)
     requires from { 64 * from ≤ length ends.now.items + 63 }
     requires words { length ends.now.items ≤ 64 * length latest.old.items }

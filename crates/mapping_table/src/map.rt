@@ -9,8 +9,10 @@ use set_tables::Span;
 use std::alloc::Global;
 use std::marker::Model;
 
-/// The rules of a field, each with its span of the next field's rules. It shows a number `spare`:
-/// how many more rules it has room for; and what memory is `taken`: the capacities of its vectors.
+/// The rules of a field, each with its span of the next field's rules.
+///
+/// Contracts also see how many more rules have room (`spare`), and the capacities of its vectors
+/// (`taken`).
 #[derive(Drop)]
 pub struct MapTable {
     spans: Roomy<Span>,
@@ -53,7 +55,7 @@ impl MapTable {
         self.spans.at(i)
     }
 
-    /// The spans of the rules of word `w`, the 64 from rule `64 * w` on, as far as there are any.
+    /// The spans of the rules of word `w`: at most 64, from rule `64 * w` on.
     #[inline(always)]
     pub fn word(&self, w: u32) -> &[Span]
         ensures { result.now ≡ word_of w self.now.items }
@@ -61,10 +63,10 @@ impl MapTable {
         self.spans.word(w)
     }
 
-    /// Takes room for `n` rules more.
+    /// Takes room for `n` more rules.
     ///
     /// # Errors
-    /// `Memory` if there is none left. The rules stay.
+    /// `Memory` if memory runs out. The rules stay.
     pub fn reserve(&mut self, n: u32) -> Result<(), Memory>
         requires { length self.old.items + n < 2 ^ 32 }
         ensures items { self.new.items ≡ self.old.items }
@@ -75,7 +77,7 @@ impl MapTable {
         self.spans.reserve(n)
     }
 
-    /// Adds a rule, for which there is room. It takes no memory.
+    /// Adds a rule. There must be room for it. It takes no memory.
     pub fn push(&mut self, item: Span)
         requires { 1 ≤ self.old.spare }
         ensures items { self.new.items ≡ self.old.items ++ item ∷ [] }
@@ -86,8 +88,8 @@ impl MapTable {
         self.spans.push(item);
     }
 
-    /// Sets a bit of `next`, none of which is set, where the span of some matched rule holds its
-    /// place.
+    /// Sets each bit of `next` that is in the span of some matched rule. No bit of `next` is set
+    /// before.
     pub fn refill(&self, matched: &BitRow, next: &mut BitRow)
         requires rows { length matched.now.bits ≡ length self.now.items }
         requires zeros { next.old.bits ≡ replicate (length next.old.bits) false }
@@ -102,7 +104,8 @@ impl MapTable {
     /// Makes the pages from rule `first` on this table's own.
     ///
     /// # Errors
-    /// `Memory` if there is none left. The rules stay, and what was own still is.
+    ///
+    /// `Memory` if memory runs out. The rules stay, and pages that were the table's own still are.
     pub fn own_from(&mut self, first: u32) -> Result<(), Memory>
         ensures items { self.new.items ≡ self.old.items }
         ensures spare { self.new.spare ≡ self.old.spare }
@@ -112,7 +115,7 @@ impl MapTable {
         self.spans.own_from(first)
     }
 
-    /// Takes the `n` rules from `first` on out. The spans of the later rules begin `next_n` lower. It
+    /// Removes the `n` rules from `first` on. The spans of later rules begin `next_n` lower. It
     /// takes no memory.
     pub fn drop_rules(&mut self, first: u32, n: u32, next_n: u32)
         requires range { first + n ≤ length self.old.items }
@@ -129,7 +132,7 @@ impl MapTable {
     /// Lets copies share the pages from now on. No page is copied.
     ///
     /// # Errors
-    /// `Memory` if there is none left. The rules stay.
+    /// `Memory` if memory runs out. The rules stay.
     pub fn settle(&mut self) -> Result<(), Memory>
         ensures items { self.new.items ≡ self.old.items }
         ensures spare { self.new.spare ≡ self.old.spare }
@@ -138,10 +141,10 @@ impl MapTable {
         self.spans.settle()
     }
 
-    /// The same rules once more: one count for each page that was settled.
+    /// A copy of the rules. It counts one reference for each settled page.
     ///
     /// # Errors
-    /// `Memory` if there is none left.
+    /// `Memory` if memory runs out.
     pub fn copy(&self, alloc: Global) -> Result<MapTable, Memory>
         ensures { IfOk result (λ other. other.items ≡ self.now.items) }
     {
@@ -151,7 +154,7 @@ impl MapTable {
     }
 }
 
-/// Writes the spans behind the `n` rules from `first` on over these and the later ones, each `k` lower.
+/// Moves the spans after the `n` rules from `first` on down by `n` rules. Each begins `k` lower.
 fn close_up(spans: &mut Roomy<Span>, first: u32, n: u32, k: u32)
     requires range { first + n ≤ length spans.old.items }
     requires high { All (λ s. k ≤ s.first) (drop (first + n) spans.old.items) }

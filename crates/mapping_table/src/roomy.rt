@@ -12,7 +12,7 @@ use std::mem;
 #[derive(Drop)]
 pub struct Roomy<T> {
     whole: Vec<Page<T>>,
-    // What stands behind the whole pages: this list's own at every moment.
+    // The rest: the items after the whole pages. It is always this list's own.
     rest: Vec<T>,
     // How many items `rest` has room for.
     room: u32,
@@ -73,8 +73,8 @@ impl<T> Roomy<T> {
         }
     }
 
-    /// The items of word `w`, the 64 from place `64 * w` on, as far as there are any. They stand in one
-    /// page, or all of them behind the whole pages.
+    /// The items of word `w`: at most 64, from place `64 * w` on. They are all in one page, or all
+    /// in the rest.
     #[inline(always)]
     pub(crate) fn word(&self, w: u32) -> &[T]
         ensures { result.now ≡ word_of w self.now.items }
@@ -89,7 +89,7 @@ impl<T> Roomy<T> {
         }
     }
 
-    /// Adds an item at the end. There is room for it.
+    /// Adds an item at the end. There must be room for it.
     pub(crate) fn push(&mut self, item: T)
         requires { 1 ≤ self.old.spare }
         ensures items { self.new.items ≡ self.old.items ++ item ∷ [] }
@@ -102,7 +102,7 @@ impl<T> Roomy<T> {
 }
 
 impl<T: Copy + Drop> Roomy<T> {
-    /// Takes room for `n` more items, in what is the list's own.
+    /// Takes room for `n` more items, in the list's own memory.
     pub(crate) fn reserve(&mut self, n: u32) -> Result<(), Memory>
         requires { length self.old.items + n < 2 ^ 32 }
         ensures items { self.new.items ≡ self.old.items }
@@ -115,7 +115,7 @@ impl<T: Copy + Drop> Roomy<T> {
         self.grow(n)
     }
 
-    /// Takes room behind the whole pages.
+    /// Takes room in the rest for `n` more items.
     fn grow(&mut self, n: u32) -> Result<(), Memory>
         requires { length self.old.items + n < 2 ^ 32 }
         ensures items { self.new.items ≡ self.old.items }
@@ -132,7 +132,7 @@ impl<T: Copy + Drop> Roomy<T> {
         Ok(())
     }
 
-    /// Where a page or more stands behind the whole pages, makes one of them whole.
+    /// Makes the first 512 items of the rest a whole page, if the rest has that many.
     fn turn_page(&mut self) -> Result<(), Memory>
         ensures items { self.new.items ≡ self.old.items }
         ensures spare { self.new.spare ≡ self.old.spare }
@@ -171,7 +171,7 @@ impl<T: Copy + Drop> Roomy<T> {
         own_plain_pages(self.alloc, &mut self.whole, first as usize / PAGE, to)
     }
 
-    /// Writes over item `i`, whose page is this list's own.
+    /// Overwrites item `i`, whose page is this list's own.
     #[inline(always)]
     pub(crate) fn set(&mut self, i: u32, item: T)
         requires place { i < length self.old.items }
@@ -191,7 +191,7 @@ impl<T: Copy + Drop> Roomy<T> {
         }
     }
 
-    /// Leaves the first `len` items alone. The pages from there on are this list's own.
+    /// Keeps the first `len` items alone. The pages from there on are this list's own.
     pub(crate) fn truncate(&mut self, len: u32)
         requires place { len ≤ length self.old.items }
         requires own { OwnsFrom len self.old }
@@ -204,7 +204,7 @@ impl<T: Copy + Drop> Roomy<T> {
         self.rest.truncate(len as usize - before);
     }
 
-    /// Lets the page of item `len` be what stands behind the whole pages, without the later ones.
+    /// Makes the page of item `len` the rest, and drops the later pages.
     fn reopen(&mut self, len: u32)
         requires own { OwnsRange len 1 self.old }
         ensures items { take len self.new.items ≡ take len self.old.items }
@@ -232,7 +232,7 @@ impl<T: Copy + Drop> Roomy<T> {
         settle_plain_pages(self.alloc, &mut self.whole)
     }
 
-    /// The same items once more: one count for each whole page that was settled.
+    /// A copy of the items. It counts one reference for each settled page.
     pub(crate) fn copy(&self, alloc: Global) -> Result<Roomy<T>, Memory>
         ensures items { IfOk result (λ other. other.items ≡ self.now.items) }
         ensures spare { IfOk result (λ other. other.spare ≡ 0) }
@@ -250,7 +250,7 @@ impl<T: Copy + Drop> Roomy<T> {
     }
 }
 
-/// The 64 items from place `first` on, as far as there are any.
+/// At most 64 items from place `first` on.
 #[inline(always)]
 fn word_from<T>(items: &[T], first: usize) -> &[T]
     ensures { result.now ≡ take 64 (drop first items.now) }
@@ -269,7 +269,7 @@ fn first_page<T: Copy + Drop>(alloc: Global, items: &[T]) -> Result<Page<T>, Mem
     Page::from_slice(alloc, first)
 }
 
-/// Takes the first `n` items out. The others move down.
+/// Removes the first `n` items. The others move down.
 fn drop_front<T: Copy + Drop>(items: &mut Vec<T>, n: usize)
     requires { n ≤ length items.old.items }
     ensures items { items.new.items ≡ drop n items.old.items }

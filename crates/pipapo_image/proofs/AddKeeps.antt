@@ -4,7 +4,8 @@ use Rattle.set_model.specs.declared.element.NewElement.{NewElement}
 use Rattle.set_model.specs.declared.report.Why.{Why}
 use Rattle.set_model.specs.SetState.{State, Addition, Refused, add, add_by, twin_place, start_in_the_way, end_in_the_way, sharing_in_the_way, is_full, crowded_field}
 
--- The set that is left has the kinds and the size of the one before, and is the same where the addition is refused.
+-- The set that is left has the kinds and the size of the one before. A refused addition leaves the
+-- same set.
 pub record KeepsSet (s : State) (a : Addition × State) : Type 0 where
   pub kinds : a.1.kinds ≡ s.kinds
   pub size : a.1.size ≡ s.size

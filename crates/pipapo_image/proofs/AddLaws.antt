@@ -1,4 +1,4 @@
--- An addition, by what the lookups of the start key and the end key found, or of the intervals.
+-- An addition, decided by the lookups of the start key and the end key, or of the intervals.
 use Rattle.std.proofs.Common.{◌≡◌, ◌+◌, refl, sym, ◌∙◌, ap, subst, ℕ, ◌^◌, Bool, true, false, ◌==◌, nat_le, nat_lt, List, [], ◌∷◌, length, Option, Some, None, Result, Ok, Err, arith}
 use Rattle.std.specs.Prelude.{◌&&◌, ◌||◌, not, option_map, if◌then◌else◌, cond, IsErrAnd, find, position}
 use Rattle.std.specs.List.{list_all}
@@ -35,7 +35,8 @@ sharing-at s parts now None h = find-none (is_sharing parts now) s.elements h
 sharing-at s parts now (Some i) h = find-at (is_sharing parts now) s.elements i (record { id = 0; parts = []; expiry = None; comment = [] }) h
 
 -- ---- the cases of an addition
--- what refuses a new element, by who is in the way, whether the set is full, and which field is crowded
+-- why a new element is refused, by who is in the way, whether the set is full, and which field is
+-- crowded
 abbrev refused_by : State → Option ℕ → Bool → Option ℕ → Option Why
 refused_by s (Some i) full crowded = Some (Overlap (element_at s i).id)
 refused_by s None full crowded = option_or (if full then Some Full else None) (by_rules crowded)
@@ -58,7 +59,7 @@ there-again : (s : State) (e : NewElement) (i : ℕ) (x at_start at_end sharing 
 there-again s e i None at_start at_end sharing crowded full = refl
 there-again s e i (Some m) at_start at_end sharing crowded full = refl
 
--- where the sets may share keys, the element that holds the start key decides
+-- if elements may share keys, the element that holds the start key decides
 start-decides : (s : State) (e : NewElement) (now : ℕ) (o : Option ℕ)
     → add_by s e (same_at s e.parts o) e.expiry o (place s (end_key e.parts) now) None (is_full s) (crowded_field s e.parts) ≡ by_start s e now o
 start-decides s e now None =
@@ -97,12 +98,12 @@ single-key (p ∷ parts) h =
     let a = and_parts (p.low == p.high) (list_all (λ part. part.low == part.high) parts) h in
     ap (λ v. v ∷ end_key parts) (from-equal p.low p.high a.0) ∙ ap (λ vs. p.low ∷ vs) (single-key parts a.1)
 
--- Where no element holds it, none is in the way.
+-- If no element holds this key, no element is in the way.
 pub single-way : (s : State) (parts : List Interval) (now : ℕ) → list_all (λ part. part.low == part.high) parts ≡ true → place s (start_key parts) now ≡ None
     → by_way s parts (place s (end_key parts) now) ≡ by_size s parts (is_full s)
 single-way s parts now one none = ap (λ key. by_way s parts (place s key now)) (single-key parts one) ∙ ap (by_way s parts) none
 
--- They share a key with others exactly where these hold it.
+-- They share a key with other intervals exactly if these hold their key.
 single-shares : (parts others : List Interval) → list_all (λ part. part.low == part.high) others ≡ true → parts_share parts others ≡ parts_hold parts (start_key others)
 single-shares [] others h = refl
 single-shares (p ∷ parts) [] h = refl
@@ -121,7 +122,7 @@ single-place parts now (e ∷ es) one =
     ∙ ap (λ o. cond (answers (start_key parts) now e) (Some 0) (option_map (λ i. 1 + i) o)) (single-place parts now es one)
     ∙ sym (position-cons (answers (start_key parts) now) e es)
 
--- In a disjoint set, too, the element that holds their one key decides.
+-- In a disjoint set, too, the element that holds the one key decides.
 single-decides : (s : State) (e : NewElement) (now : ℕ) (o : Option ℕ) → list_all (λ part. part.low == part.high) e.parts ≡ true → place s (start_key e.parts) now ≡ o
     → by_twin s e now (same_at s e.parts o) ≡ by_start s e now o
 single-decides s e now None one is =
@@ -137,12 +138,13 @@ by-ends s e now false is h = add-by s e now is
 by-ends s e now true is h = add-apart s e now is ∙ single-decides s e now (place s (start_key e.parts) now) h refl
 
 -- ---- what is decided
--- Where elements may share keys, and for one key alone, the places of the start key and the end key decide.
+-- If elements may share keys, or if the intervals hold one key alone, the places of the start key
+-- and the end key decide.
 pub decision_by : (s : State) (e : NewElement) (now : ℕ) (r : Result Decision ChangeError) → (not s.disjoint || list_all (λ part. part.low == part.high) e.parts) ≡ true
     → IsDecision s e (by_start s e now (place s (start_key e.parts) now)) r → IsDecision s e (add s e now) r
 decision_by s e now r d h = subst (λ z. IsDecision s e z r) (sym (by-ends s e now s.disjoint refl d)) h
 
--- Else the place of the element that is there already decides.
+-- Otherwise the place of the element that is there already decides.
 pub decision_apart : (s : State) (e : NewElement) (now : ℕ) (r : Result Decision ChangeError) → (not s.disjoint || list_all (λ part. part.low == part.high) e.parts) ≡ false
     → IsDecision s e (by_twin s e now (twin_place s e.parts now)) r → IsDecision s e (add s e now) r
 decision_apart s e now r d h = go s.disjoint refl d where
@@ -150,7 +152,7 @@ decision_apart s e now r d h = go s.disjoint refl d where
   go false is d = absurd (cc d)
   go true is d = subst (λ z. IsDecision s e z r) (sym (add-apart s e now is)) h
 
--- The element that is there already, or that none is, decides.
+-- Whether an element is there already decides.
 pub decision_twin : (s : State) (e : NewElement) (now : ℕ) (o : Option ℕ) (r : Result Decision ChangeError) → o ≡ twin_place s e.parts now
     → IsDecision s e (by_twin s e now o) r → IsDecision s e (by_twin s e now (twin_place s e.parts now)) r
 decision_twin s e now o r at h = subst (λ z. IsDecision s e (by_twin s e now z) r) at h
@@ -160,7 +162,7 @@ pub decision_at : (s : State) (e : NewElement) (now i : ℕ) (r : Result Decisio
     → IsDecision s e (at_start s i e.expiry (same_parts (element_at s i).parts e.parts)) r → IsDecision s e (by_start s e now (place s (start_key e.parts) now)) r
 decision_at s e now i r at h = subst (λ o. IsDecision s e (by_start s e now o) r) at h
 
--- What nothing refuses is new.
+-- If nothing refuses the element, it is new.
 pub adds : (s : State) (e : NewElement) (why : Option Why) (columns : Vec (List Block)) → IsTest s e.parts why (Ok columns) → IsDecision s e (add_new s e why) (Ok (Adds columns))
 adds s e why columns h = (h.1, ap (add_new s e) h.0)
 
@@ -170,13 +172,13 @@ adds_none s e why errors.Memory h = tt
 
 pub ruleset decides = (adds, adds_none)
 
--- ---- what follows of a decision
--- What is done is the answer.
+-- ---- what follows from a decision
+-- If something is done, the call returns it.
 pub done : (s t : State) (e : NewElement) (now : ℕ) (decision : Decision) (came : Came) → IsDecision s e (add s e now) (Ok decision)
     → addition_said came ≡ comes decision s.next → t ≡ set_left s e decision → IsAnswer (add s e now) (Ok came) s t
 done s t e now decision came h a b = (a ∙ ap (λ z. z.0) (sym h.1), b ∙ ap (λ z. z.1) (sym h.1))
 
--- What is refused leaves the set.
+-- A refusal leaves the set.
 refused_as : (s : State) (e : NewElement) (now : ℕ) (error : ChangeError) → IsDecision s e (add s e now) (Err error) → IsAnswer (add s e now) (Err error) s s
 refused_as s e now (errors.Refused why) h = (ap (λ z. z.0) (sym h), ap (λ z. z.1) (sym h))
 refused_as s e now errors.Memory h = refl

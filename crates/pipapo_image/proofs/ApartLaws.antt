@@ -19,7 +19,7 @@ use Rattle.pipapo_image.specs.Image.Apart.{KeepsApart}
 
 -- ---- fewer elements
 
--- A list is another one without some of its elements, and with other expiries of some.
+-- A list is another list without some of its elements, and some elements may have other expiries.
 abbrev Thins : List Element → List Element → Type 0
 Thins [] [] = Unit {0}
 Thins [] (y ∷ ys) = ⊥
@@ -47,7 +47,7 @@ thin-same : (xs : List Element) → Thins xs xs
 thin-same [] = tt
 thin-same (x ∷ xs) = inr (x, xs, refl, refl, thin-same xs)
 
--- an element that passes a test more, before and after
+-- one more element that passes a test, before and after
 thin-step : (p q : Bool) (e f : Element) (xs ys : List Element) → f.parts ≡ e.parts → (q ≡ true → p ≡ true) → Thins xs ys → Thins (cond p (e ∷ xs) xs) (cond q (f ∷ ys) ys)
 thin-step true true e f xs ys same less h = inr (f, ys, refl, same, h)
 thin-step true false e f xs ys same less h = inl h
@@ -82,7 +82,7 @@ thin-removed m (suc i) [] = tt
 thin-removed m zero (e ∷ es) = thin-drop (live e m) e (living m es) (living m es) (thin-same (living m es))
 thin-removed m (suc i) (e ∷ es) = thin-step (live e m) (live e m) e e (living m es) (living m (remove es i)) refl (λ h. h) (thin-removed m i es)
 
--- the set of an answer, or this one where there is none
+-- the set of an answer, or this set if the answer has none
 abbrev set_of : State → Option (ℕ × State) → State
 set_of s None = s
 set_of s (Some found) = found.1

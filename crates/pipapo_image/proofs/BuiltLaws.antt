@@ -54,7 +54,7 @@ each-more {X} R old now i y d trans p h r = record { len = length-set now i y �
       subst (λ n. R (get_or old n e) (get_or (set now i y) n e)) (sym q) at_i
   go k e l (inr ne) = rw (get_or-set_other now i k y e ne) (p.each k e l)
 
--- what holds of the first i items, after another one was set
+-- what holds of the first i items, after one more was set
 pub set-more : {X : Type 0} (P : ℕ → X → Type 0) (now : List X) (i : ℕ) (y : X) → i < length now → ((k : ℕ) (d : X) → k < i → P k (get_or now k d)) → P i y
     → (k : ℕ) (d : X) → k < i + 1 → P k (get_or (set now i y) k d)
 set-more {X} P now i y inside before here k d h = go (cases_eq k i) where

@@ -1,4 +1,4 @@
--- Where the rules of an element lie among the ends.
+-- The place of an element's rules among the ends.
 use Rattle.std.proofs.Common.{◌≡◌, ◌∙◌, ap, ℕ, zero, suc, ◌+◌, ◌-◌, ◌<◌, ◌≤◌, ◌⊎◌, inl, inr, List, [], ◌∷◌, ◌++◌, length, take, get_or, arith, flat_map, length-append}
 use Rattle.std.proofs.lemmas.Bool.{cases_lt}
 use Rattle.std.proofs.lemmas.List.{length-replicate, get_or_append_left, get_or-append_right, get_or-replicate}
@@ -45,7 +45,7 @@ end-above here i (e ∷ es) (suc p) k d h l =
     let ih = end-above here (i + 1) es p (k - length (here e)) d (omega arith) (omega arith) in
     omega arith
 
--- a rule whose end has an earlier place lies before the rules of the element at that place
+-- a rule whose end has an earlier place comes before the rules of the element at that place
 pub before-place : (kinds : List Kind) (es : List Element) (list : List End) (p k : ℕ) (d : End) → list ≡ last_ends kinds es → k < length list → (get_or list k d).place < p
     → k + 1 ≤ length (field_rules kinds (length kinds - 1) (take p es))
 before-place kinds es list p k d e h less = go (cases_lt k (length (field_rules kinds (length kinds - 1) (take p es)))) where
@@ -67,7 +67,7 @@ not-before-place kinds es list p k d e more = go (cases_lt k (length (field_rule
       absurd (omega arith)
   go (inr a) = a
 
--- the rules of the first elements are no more than all
+-- the rules of the first elements are at most all rules
 pub rules-front : (here : Element → List Block) (es : List Element) (p : ℕ) → length (flat_map here (take p es)) ≤ length (flat_map here es)
 rules-front here [] zero = omega arith
 rules-front here [] (suc p) = omega arith

@@ -1,4 +1,5 @@
--- The first element of exactly these intervals, by the first one that holds their start key.
+-- The first element of exactly these intervals, found by the first element that holds their start
+-- key.
 use Rattle.std.proofs.Common.{◌≡◌, refl, sym, ◌∙◌, ap, ℕ, ◌+◌, ◌<◌, ◌≤◌, ◌⊎◌, inl, inr, Bool, true, false, ◌&&◌, List, [], ◌∷◌, length, get_or, zip, Some, None, nat_le, arith}
 use Rattle.std.specs.Prelude.{All, ◌==◌}
 use Rattle.std.specs.List.{list_all}
@@ -24,7 +25,7 @@ same-low xl pl a = grind (arith, nat_tests)
 below-same : (xh ph pl : ℕ) → (xh == ph) ≡ true → nat_le pl ph ≡ true → nat_le pl xh ≡ true
 below-same xh ph pl a b = grind (arith, nat_tests)
 
--- the same intervals as good ones hold the lows of these
+-- intervals that equal good ones hold the low ends of these
 same-hold : (kinds : List Kind) (xs ps : List Interval) → length kinds ≡ length ps → intervals_fit kinds ps ≡ true → list_all (λ p. (p.0.low == p.1.low) && (p.0.high == p.1.high)) (zip xs ps) ≡ true
     → parts_hold xs (start_key ps) ≡ true
 same-hold kinds [] ps n fit same = refl
@@ -52,7 +53,7 @@ not-exact kinds parts now e fit un = go (is_exactly parts now e) refl where
   go false h = refl
   go true h = absurd (cc (exact-holds kinds parts now e fit h, un))
 
--- none holds the start key
+-- no element holds the start key
 pub exact-nowhere : (s : State) (parts : List Interval) (now : ℕ) → parts_fit s.kinds parts ≡ true → None ≡ place s (start_key parts) now → IsExactPlace s parts now None
 exact-nowhere s parts now fit h = record {
   value = position-nowhere (is_exactly parts now) s.elements no_element
@@ -60,7 +61,8 @@ exact-nowhere s parts now fit h = record {
   within = tt;
 }
 
--- The first that holds it has these intervals, or has others, and then none before it or it itself has these.
+-- The first element that holds the start key has these intervals, or has others. If it has others,
+-- neither it nor an earlier element has these intervals.
 pub none-before : (s : State) (parts : List Interval) (now i : ℕ) → parts_fit s.kinds parts ≡ true → Some i ≡ place s (start_key parts) now
     → (k : ℕ) → k < i → is_exactly parts now (element_at s k) ≡ false
 none-before s parts now i fit h k l =
@@ -87,7 +89,7 @@ exact-first s parts now i fit h same =
       within = found.0;
     }
 
--- Intervals that don't fit are those of no element.
+-- Intervals that don't fit are the intervals of no element.
 same-fit : (kinds : List Kind) (xs ps : List Interval) → length kinds ≡ length xs → length xs ≡ length ps → intervals_fit kinds xs ≡ true
     → list_all (λ p. (p.0.low == p.1.low) && (p.0.high == p.1.high)) (zip xs ps) ≡ true → intervals_fit kinds ps ≡ true
 same-fit [] xs ps n m fit same = refl

@@ -1,4 +1,4 @@
--- Each element of an image has a rule in each field, so there are few.
+-- Each element of an image has a rule in each field, so an image has few elements.
 use Rattle.std.proofs.Common.{◌<◌, ◌≤◌, List, [], ◌∷◌, length, arith, length-append}
 use Rattle.std.specs.Prelude.{All}
 use Rattle.std.specs.List.{flat_map}

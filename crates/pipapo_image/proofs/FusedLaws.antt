@@ -54,7 +54,7 @@ matched-front test blocks spans row n m count room =
     ∙ ap (λ t. t && test (block_at blocks i)) (refilled-at spans row m i high ∙ sym (refilled-at spans row n i low))
     ∙ sym (left-at test blocks (refilled spans row n) i b inside))
 
--- the spans of field f lie inside a row of the most rules
+-- the spans of field f are within a row of the most rules
 pub inside-limit : (fields : List FieldTable) (maps : List (Spared Span)) (f n : ℕ) (m : Spared Span) (spans : List Span) → IsWalk fields maps → f < length maps → m ≡ get_or maps f m → spans ≡ m.items
     → n ≡ rules_limit → All (λ s. s.first + s.count ≤ n) spans
 inside-limit fields maps f n m spans w h me se e =
@@ -75,7 +75,7 @@ fused-first kinds es key t spans next stands same refills =
     ∙ ap (λ z. refilled z (matched (λ b. holds_value b (slice_index key 0)) (field_rules kinds 0 es) (replicate t.rules true)) (length next)) same
     ∙ ap (λ z. refilled (field_spans kinds 0 es) z (length next)) (first-row kinds es key t.rules (sym stands.one_each))
 
--- the rules of field f that are left of a row that the field before it reaches
+-- the rules of field f that a match leaves of a row that the field before it reaches
 left-next : (kinds : List Kind) (es : List Element) (key : List ℕ) (g f : ℕ) (row : List Bool) → f ≡ g + 1 → length (field_rules kinds f es) ≤ length row
     → row ≡ refilled (field_spans kinds g es) (row_of kinds es (key_tests key) g) (length row)
     → matched (λ b. holds_value b (slice_index key f)) (field_rules kinds f es) row ≡ row_of kinds es (key_tests key) f
@@ -89,7 +89,7 @@ left-next kinds es key g f row e =
     ∙ matched-front (λ b. holds_value b (slice_index key (g + 1))) (field_rules kinds (g + 1) es) (field_spans kinds g es) (row_of kinds es (key_tests key) g) (length (field_rules kinds (g + 1) es)) (length row) refl room
     ∙ next-row kinds es key g (length (field_rules kinds (g + 1) es)) (field_spans kinds g es) (row_of kinds es (key_tests key) g) refl refl refl)
 
--- what the rules of field f reach that are left
+-- what the rules of field f that are left reach
 pub fused-next : (kinds : List Kind) (es : List Element) (key : List ℕ) (g f : ℕ) (t : FieldTable) (spans : List Span) (row next : List Bool) → f ≡ g + 1 → Stands t (field_rules kinds f es) → t.rules ≤ length row
     → spans ≡ field_spans kinds f es → row ≡ refilled (field_spans kinds g es) (row_of kinds es (key_tests key) g) (length row)
     → Refills t spans (λ b. holds_value b (slice_index key f)) row next → next ≡ refilled (field_spans kinds f es) (row_of kinds es (key_tests key) f) (length next)
@@ -99,7 +99,7 @@ fused-next kinds es key g f t spans row next e stands room same is refills =
     ∙ ap (λ z. refilled z (matched (λ b. holds_value b (slice_index key f)) (field_rules kinds f es) row) (length next)) same
     ∙ ap (λ z. refilled (field_spans kinds f es) z (length next)) (left-next kinds es key g f row e (omega arith) is)
 
--- what the rules of the last field lead to that are left
+-- what the rules of the last field that are left lead to
 pub fused-led : (kinds : List Kind) (es : List Element) (key : List ℕ) (g f now : ℕ) (t : FieldTable) (ends : List End) (row : List Bool) (found : Option ℕ) → f ≡ g + 1 → Stands t (field_rules kinds f es)
     → t.rules ≤ length row → row ≡ refilled (field_spans kinds g es) (row_of kinds es (key_tests key) g) (length row)
     → Leads t ends (λ b. holds_value b (slice_index key f)) row now found → found ≡ led_to ends (row_of kinds es (key_tests key) f) now

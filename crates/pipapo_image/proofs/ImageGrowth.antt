@@ -42,7 +42,7 @@ find-same {X} p q (x ∷ xs) h =
       go : (a b : Bool) → a ≡ b → find p xs ≡ find q xs → cond a (Some x) (find p xs) ≡ cond b (Some x) (find q xs)
       go a b e ih = ap (λ z. cond z (Some x) (find p xs)) e ∙ ap (λ z. cond b (Some x) z) ih
 
--- none of the numbers passes where none is found
+-- no number passes if none is found
 step-none : (p : ℕ → Bool) (a m : ℕ) → find p (range_with_len a (suc m)) ≡ None → (p a ≡ false) × (find p (range_with_len (a + 1) m) ≡ None)
 step-none p a m e = cases (p a) refl (find p (range_with_len (a + 1) m)) refl e where
   cases : (t : Bool) → p a ≡ t → (o : Option ℕ) → find p (range_with_len (a + 1) m) ≡ o → cond t (Some a) o ≡ None → (p a ≡ false) × (find p (range_with_len (a + 1) m) ≡ None)
@@ -131,7 +131,7 @@ image-kept kinds es old new i k = record {
   few_rules = i.few_rules;
 }
 
--- the tables, or the others in their place, can take the columns
+-- the tables, or their replacements, have room for the columns
 pub ready : (s : State) (old new : Index) (parts : List Interval) (columns : List (List Block)) (others : List (Option FieldTable)) → IsImage s.kinds s.elements old
     → Built (IsColumn s.kinds parts) columns (length s.kinds) → Built (λ f o. (t : FieldTable) → IsOther (length (of_field columns f)) (get_or old.fields f t) o) others (length old.fields)
     → IsSameIndex old new → HasRoomFor new columns → AreReady new others columns
@@ -178,7 +178,7 @@ grown-table k rules column t u b (Some w) s kept other g =
       stands = g.stands rules (other.stands rules s.stands);
     }
 
--- the elements' tables, with those of one more
+-- the tables of the elements and one more element
 pub index-grown : (kinds : List Kind) (es : List Element) (e : Element) (old mid new : Index) (columns : List (List Block)) (others : List (Option FieldTable)) (end : End) → 1 ≤ length kinds
     → IsIndexOf kinds es old → Built (IsColumn kinds e.parts) columns (length kinds) → Built (λ f o. (t : FieldTable) → IsOther (length (of_field columns f)) (get_or old.fields f t) o) others (length old.fields)
     → IsSameIndex old mid → IsAppended mid new others columns end → end ≡ record { place = length es; expiry = e.expiry } → IsIndexOf kinds (es ++ e ∷ []) new

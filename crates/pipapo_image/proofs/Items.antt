@@ -14,7 +14,7 @@ use Rattle.set_tables.specs.Tables.{field_spans}
 use Rattle.pipapo_image.specs.Index.Walk.{IsWalk, IsKeyOf}
 use Rattle.pipapo_image.specs.Index.Standing.{AreFieldsOf, AreMapsOf}
 
--- the table of field f stands for the elements' rules there
+-- the table of field f represents the elements' rules there
 pub field-stands : (kinds : List Kind) (es : List Element) (fields : List FieldTable) (f : ℕ) (t : FieldTable) → AreFieldsOf kinds es fields → f < length fields → t ≡ get_or fields f t
     → Stands t (field_rules kinds f es)
 field-stands kinds es fields f t s h e =
@@ -26,7 +26,7 @@ pub map-spans : (kinds : List Kind) (es : List Element) (maps : List (Spared Spa
     → m.items ≡ field_spans kinds f es
 map-spans kinds es maps f m s h e = ap (λ z. z.items) e ∙ s.each f m h
 
--- the spans of field f lie inside a row of the next field's rules
+-- the spans of field f are within a row of the next field's rules
 pub inside-row : (fields : List FieldTable) (maps : List (Spared Span)) (f n : ℕ) (t : FieldTable) (m : Spared Span) → IsWalk fields maps → f < length maps
     → t ≡ get_or fields (f + 1) t → m ≡ get_or maps f m → n ≡ t.rules → All (λ s. s.first + s.count ≤ n) m.items
 inside-row fields maps f n t m w h te me e =

@@ -4,7 +4,7 @@ use Rattle.std.proofs.lemmas.List.{take_more, take_more_set, map-append}
 use Rattle.std.proofs.lemmas.Option.{get_or_from_slice_get, slice_get_within}
 use Rattle.set_model.specs.declared.kind.Interval.{Interval}
 
--- one value more, which is an end of the interval there
+-- one more value, which is an end of the interval there
 pub one-further : (which : Interval → ℕ) (parts : List Interval) (values : List ℕ) (f : ℕ) (p : Interval) → slice_get parts f ≡ Some p → f < length values
     → take f values ≡ map which (take f parts) → take (f + 1) (set values f (which p)) ≡ map which (take (f + 1) parts)
 one-further which parts values f p at there before =

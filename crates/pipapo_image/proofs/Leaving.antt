@@ -1,4 +1,4 @@
--- The expired elements go one by one, the last first.
+-- The expired elements are removed one by one, the last first.
 use Rattle.std.proofs.Common.{◌≡◌, refl, sym, ◌∙◌, ap, ℕ, ◌+◌, ◌-◌, ◌<◌, Bool, true, false, cond, List, [], ◌∷◌, ◌++◌, length, take, drop, get_or, arith, append_assoc}
 use Rattle.std.specs.Prelude.{filter, remove}
 use Rattle.std.proofs.lemmas.List.{take_more, drop_more, length-take-le, get_or_append_left, get_or-take}
@@ -9,11 +9,11 @@ use Rattle.set_model.specs.SetState.{State, without_at}
 use Rattle.expiry_scan.proofs.PlaceLaws.{no_element}
 use Rattle.pipapo_image.specs.Image.Steps.{without_expired_at}
 
--- the set without those of its elements from place n on that are expired
+-- the set without the expired elements from place n on
 abbrev pub purged_from : State → ℕ → ℕ → State
 purged_from s now n = record s { elements = take n s.elements ++ filter (λ e. live e now) (drop n s.elements) }
 
--- the elements before a place, that one, and the live ones behind it
+-- the elements before a place, the element there, and the live ones after it
 ahead : (es : List Element) (now i : ℕ) (d : Element) → i < length es
     → take (i + 1) es ++ filter (λ e. live e now) (drop (i + 1) es) ≡ take i es ++ get_or es i d ∷ filter (λ e. live e now) (drop (i + 1) es)
 ahead es now i d h =
@@ -53,6 +53,6 @@ one-of s now i t h l =
           let rest = filter (λ e. live e now) (drop (i + 1) s.elements) in
           ap make (ap (λ z. remove z i) (ahead s.elements now i no_element h) ∙ removed-item (take i s.elements) rest (get_or s.elements i no_element) i (length-take-le i s.elements (omega arith)) ∙ sym (behind s.elements now i no_element false h g))
 
--- One element more is looked at, before those that were.
+-- One more element is looked at, before the ones that were looked at already.
 pub one_looked_at : (s : State) (now i : ℕ) → i < length s.elements → without_expired_at (purged_from s now (i + 1)) i now ≡ purged_from s now i
 one_looked_at s now i h = one-of s now i (live (get_or s.elements i no_element) now) h refl

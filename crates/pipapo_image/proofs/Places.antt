@@ -1,4 +1,4 @@
--- The place that a lookup answers.
+-- The place that a lookup returns.
 use Rattle.std.proofs.Common.{◌≡◌, sym, ℕ, ◌<◌, Bool, List, [], ◌∷◌, length, Option, Some, None}
 use Rattle.std.specs.Prelude.{position, IfSome}
 use Rattle.std.proofs.lemmas.List.Quantifiers.{position-Some}

@@ -1,4 +1,4 @@
--- The elements that stay where the expired ones go.
+-- The elements that stay when the expired ones leave.
 use Rattle.std.proofs.Common.{◌≡◌, refl, sym, ◌∙◌, ap, ℕ, ◌+◌, ◌<◌, ◌≤◌, Bool, true, false, cond, nat_lt, not, List, [], ◌∷◌, ◌++◌, length, take, get_or, None, arith, flat_map, length-append, append-nil}
 use Rattle.std.specs.Prelude.{filter, count_by}
 use Rattle.std.proofs.lemmas.Bool.Decides.{nat_tests}
@@ -18,7 +18,7 @@ use Rattle.pipapo_image.specs.Image.Append.{with_last}
 use Rattle.pipapo_image.specs.Image.{IsImage}
 use Rattle.pipapo_image.proofs.GrowLaws.{number-none}
 
--- the set of those of the first n elements that stay, whose ids have not gone on yet
+-- the set of those of the first n elements that stay, with the ids as at the start
 abbrev pub kept : State → ℕ → ℕ → State
 kept s now n = record s { elements = filter (λ e. live e now) (take n s.elements); next = 0 }
 
@@ -38,7 +38,7 @@ not-above m n h = grind (arith, nat_tests)
 pub has-room : (s : State) (parts : List Interval) → ((f : ℕ) → f < length s.kinds → length (field_rules s.kinds f s.elements) + length (field_blocks s.kinds f parts) ≤ rules_limit) → crowded_field s parts ≡ None
 has-room s parts h = sym (number-none (is_crowded s parts) (length s.kinds) (λ f l. not-above (length (field_rules s.kinds f s.elements) + length (field_blocks s.kinds f parts)) rules_limit (h f l)))
 
--- an element of the list has room beside those that stay of the ones before it
+-- an element of the list has room after those of the earlier elements that stay
 pub room-kept : (s : State) (index : Index) (now i : ℕ) (e : Element) → IsImage s.kinds s.elements index → i < length s.elements → e ≡ get_or s.elements i e → crowded_field (kept s now i) e.parts ≡ None
 room-kept s index now i e image h g =
     has-room (kept s now i) e.parts
@@ -76,7 +76,7 @@ one-gone s now i e h g l =
     let here : p (get_or s.elements i e) ≡ false = ap p (sym g) ∙ l in
     sym (ap make (filter_more p s.elements i e h ∙ ap (λ t. filter p (take i s.elements) ++ cond t (get_or s.elements i e ∷ []) []) here ∙ append-nil (filter p (take i s.elements))))
 
--- where none is expired all stay
+-- if no element is expired, all stay
 none-gone : (now : ℕ) (es : List Element) → length (filter (is_expired now) es) ≡ 0 → filter (λ e. live e now) es ≡ es
 none-gone now [] h = refl
 none-gone now (e ∷ es) h = go (live e now) h (λ g. none-gone now es g) where

@@ -1,4 +1,4 @@
--- An image with another expiry of an element is an image.
+-- An image whose element gets another expiry is an image.
 use Rattle.std.proofs.Common.{◌≡◌, refl, sym, ◌∙◌, ap, subst, ℕ, zero, suc, ◌+◌, ◌-◌, ◌<◌, ◌≤◌, true, List, [], ◌∷◌, ◌++◌, length, take, drop, get_or, Option, arith, flat_map, length-append, append-nil, add-one}
 use Rattle.std.specs.Prelude.{All}
 use Rattle.std.proofs.lemmas.List.{set_split, take-append-drop, drop_more}
@@ -20,7 +20,7 @@ use Rattle.pipapo_image.specs.declared.index.Index.{Index}
 use Rattle.pipapo_image.specs.Index.Standing.{IsTableOf}
 use Rattle.pipapo_image.specs.Image.{IsImage}
 
--- the list before, the element, and the list behind it
+-- the list before, the element, and the list after it
 pub apart : (es : List Element) (i : ℕ) (d : Element) → i < length es → es ≡ take i es ++ get_or es i d ∷ drop (suc i) es
 apart es i d h = sym (take-append-drop i es) ∙ ap (λ z. take i es ++ z) (drop_more es i d h ∙ ap (λ n. get_or es i d ∷ drop n es) (add-one i))
 

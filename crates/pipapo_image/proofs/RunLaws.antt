@@ -1,4 +1,4 @@
--- Where the rules of an element lie in each field, from one field to the next.
+-- The places of an element's rules in each field, from one field to the next.
 use Rattle.std.proofs.Common.{◌≡◌, refl, sym, ◌∙◌, ap, subst, ℕ, suc, ◌+◌, ◌<◌, ◌≤◌, true, List, length, take, get_or, slice_get, Some, arith, add-one}
 use Rattle.std.specs.Prelude.{All}
 use Rattle.std.proofs.lemmas.List.Elements.{All-weaker, All-get_or}
@@ -49,7 +49,7 @@ some-at kinds es i f fit h l =
     let P : Element → Type 0 = λ e. parts_fit kinds e.parts ≡ true in
     some-rules kinds (get_or es i no_element).parts f (All-get_or P es i no_element h fit) l
 
--- a run is one of the element's rules, and lies inside the field's
+-- a run is the rules of one element, within the field's rules
 pub run-count : (kinds : List Kind) (es : List Element) (i f : ℕ) (run : Span) → i < length es → IsElementRun kinds es i f run → run.count ≡ length (split kinds f (get_or es i no_element))
 run-count kinds es i f run h r =
     let n = rules-next (split kinds f) es i no_element h in

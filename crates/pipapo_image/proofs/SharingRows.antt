@@ -31,7 +31,7 @@ or-assoc : (a b c : Bool) → ((a || b) || c) ≡ (a || (b || c))
 or-assoc true b c = refl
 or-assoc false b c = refl
 
--- one block more: what is set so far and what the blocks that are left share
+-- one more block: what is set so far, and what the blocks that are left share
 pub one-more : (rule block : Block) (left rest : List Block) (whole old one new : Bool) → left ≡ block ∷ rest → new ≡ (old || one) → one ≡ share_value rule block
     → (old || shares_some left rule) ≡ whole → (new || shares_some rest rule) ≡ whole
 one-more rule block left rest whole old one new l n o w =

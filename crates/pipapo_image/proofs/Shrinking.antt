@@ -32,12 +32,12 @@ use Rattle.pipapo_image.proofs.Renewal.{apart}
 use Rattle.pipapo_image.proofs.RunLaws.{run-count, run-within}
 
 -- ---- before the change
--- a table, or the other one in its place, has the rules of the list
+-- a table, or its replacement, has the rules of the list
 pub chosen-rules : (run : Span) (t : FieldTable) (o : Option FieldTable) → IsOtherWithout run t o → (chosen o t).rules ≡ t.rules
 chosen-rules run t None h = refl
 chosen-rules run t (Some u) h = h.rules
 
--- it is on pages of its own
+-- it has pages of its own
 chosen-own : (run : Span) (t : FieldTable) (o : Option FieldTable) → IsOtherWithout run t o → IsOwn run.first t.rules t → IsOwn run.first (chosen o t).rules (chosen o t)
 chosen-own run t None h own = own
 chosen-own run t (Some u) h own = h.own
@@ -150,7 +150,7 @@ rules-left kinds es i f run h r =
     ∙ ap (λ z. without_run (field_rules kinds f z) (length (field_rules kinds f (take i es))) (length (split kinds f e))) (apart es i no_element h)
     ∙ rules-without (split kinds f) (take i es) (drop (suc i) es) e
 
--- the elements' tables, without those of one
+-- the elements' tables, without one element
 pub index-shrunk : (kinds : List Kind) (es : List Element) (old new : Index) (i : ℕ) (runs : List Span) (others : List (Option FieldTable)) → 1 ≤ length kinds → i < length es
     → IsIndexOf kinds es old → AreRuns kinds es i runs (length kinds) → AreOthersWithout old.fields runs others (length old.fields) → IsDropped old new others runs
     → IsIndexOf kinds (remove es i) new

@@ -1,4 +1,4 @@
--- Where the rules of an element lie among the spans of a field.
+-- The places of an element's rules among the spans of a field.
 use Rattle.std.proofs.Common.{◌≡◌, sym, ◌∙◌, ap, ℕ, zero, suc, ◌+◌, ◌-◌, ◌<◌, ◌≤◌, ◌⊎◌, inl, inr, List, [], ◌∷◌, ◌++◌, length, take, get_or, arith, flat_map, length-append, add-zero}
 use Rattle.std.specs.Prelude.{All}
 use Rattle.std.proofs.lemmas.Bool.{cases_lt}
@@ -77,7 +77,8 @@ span-above here next from (e ∷ es) (suc p) k d h l =
     let ih = span-above here next (from + length (next e)) es p (k - length (here e)) d (omega arith) (omega arith) in
     omega arith
 
--- a rule whose span begins before the next field's rules of the element at a place lies before its rules here
+-- Take a rule whose span begins before the next field's rules of the element at a place. It comes
+-- before that element's rules here.
 pub before-rule : (here next : Element → List Block) (es : List Element) (list : List Span) (p k first : ℕ) (d : Span) → list ≡ spans here next 0 es → first ≡ length (flat_map next (take p es))
     → k < length list → (get_or list k d).first < first → k + 1 ≤ length (flat_map here (take p es))
 before-rule here next es list p k first d e n h less = go (cases_lt k (length (flat_map here (take p es)))) where

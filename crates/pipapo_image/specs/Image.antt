@@ -15,7 +15,7 @@ use Rattle.set_model.specs.SetState.{field_rules, rules_limit}
 use Rattle.pipapo_image.specs.declared.index.Index.{Index}
 use Rattle.pipapo_image.specs.Index.{IsIndexOf}
 
--- A set has 1 to 16 kinds, every element's intervals fit them, no field has too many rules, and the
+-- A set has 1 to 16 kinds. Every element's intervals fit them, and no field has too many rules. The
 -- index is the tables of the elements.
 pub record IsImage (kinds : List Kind) (elements : List Element) (index : Index) : Type 0 where
   pub some : 1 ≤ length kinds

@@ -1,4 +1,4 @@
--- An index: its shape, and the list of elements whose tables it is.
+-- An index: its shape, and the list of elements that its tables represent.
 pub mod Built
 pub mod Changes
 pub mod Copied
@@ -18,14 +18,14 @@ use Rattle.pipapo_image.specs.declared.index.Index.{Index}
 use Rattle.pipapo_image.specs.Index.Walk.{IsWalk}
 use Rattle.pipapo_image.specs.Index.Standing.{AreFieldsOf, AreMapsOf}
 
--- An index is shaped: at least one field, one mapping fewer than fields, spans inside the next
--- field's rules, and one end for each rule of the last.
+-- An index has at least one field, and one mapping fewer than fields. Each span is within the next
+-- field's rules. Each rule of the last field has one end.
 pub record IsShapedIndex (index : Index) : Type 0 where
   pub walk : IsWalk index.fields index.maps
   pub one_end_each : (t : FieldTable) → length index.ends.items ≡ (get_or index.fields (length index.fields - 1) t).rules
 
--- The index is the tables of the elements: the rules of each field at the right width, each rule's
--- span of the next field, and the ends of the last.
+-- The index is the tables of the elements. Each field has their rules at the right width, and each
+-- rule has its span of the next field. The last field's rules have their ends.
 pub record IsIndexOf (kinds : List Kind) (es : List Element) (index : Index) : Type 0 where
   pub fields : AreFieldsOf kinds es index.fields
   pub maps : AreMapsOf kinds es index.maps

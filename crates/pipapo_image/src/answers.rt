@@ -1,26 +1,30 @@
 use set_model::{Memory, Why};
 
-/// What came of an insertion.
+/// What an insertion did.
 #[derive(Clone, Copy, Debug, PartialEq, Eq)]
 pub enum Added {
     /// The element is new.
     New { id: u64 },
     /// An element of the same intervals is there, and nothing changed.
     Already { id: u64 },
-    /// An element of the same intervals is there, and has another expiry now.
+    /// An element of the same intervals is there, and now has another expiry.
     Renewed { id: u64 },
 }
 
-/// Why a change wasn't made: everything is as it was.
+/// Why a change wasn't made. The set is unchanged.
 ///
-/// The causes come in this order; the first that applies is told. An insertion has `Overlap` (1), `Full` (2) and
-/// `RulesFull` (3); a creation `Exists` (1), `Overlap` (2), `Full` (3) and `RulesFull` (4); a deletion `Missing` (1).
-/// Each may want memory.
+/// If several causes apply, the call returns the first in this order:
+///
+/// - an insertion: `Overlap`, `Full`, `RulesFull`
+/// - a creation: `Exists`, `Overlap`, `Full`, `RulesFull`
+/// - a deletion: `Missing`
+///
+/// Each call may also run out of memory.
 #[derive(Clone, Copy, Debug, PartialEq, Eq)]
 pub enum ChangeError {
     /// The set's elements and limits don't allow it.
     Refused(Why),
-    /// Want of memory.
+    /// Memory ran out.
     Memory,
 }
 

@@ -19,16 +19,16 @@ use set_model::{Duplicate, Found, Key, Kinds, Memory};
 use std::alloc::Global;
 use std::marker::Model;
 
-/// A set: its elements in order of insertion, beside their tables. Contracts see the kinds, the
-/// size, the mark disjoint, the elements and the next id.
+/// A set: its elements in the order of insertion, and their tables. Contracts see the kinds, the
+/// size, the flag `disjoint`, the elements and the next id.
 #[derive(Drop)]
 pub struct SetImage {
     /// What each field of a key is.
     pub(crate) kinds: Kinds,
-    /// How many elements it may have.
+    /// The most elements that it may have.
     pub(crate) size: Option<u32>,
-    /// Whether a common key with a live element refuses an addition. [`crate::apart_law`] says at
-    /// which moments no two live elements share a key then.
+    /// Whether a live element that shares a key refuses an addition. [`crate::apart_law`] says at
+    /// which moments no two live elements then share a key.
     pub(crate) disjoint: bool,
     /// The tables of the elements.
     pub(crate) index: Index,
@@ -58,7 +58,7 @@ impl SetImage {
     /// A set of 1 to 16 fields without elements.
     ///
     /// # Errors
-    /// `Memory` if there is none left.
+    /// `Memory` if memory runs out.
     pub fn new(
         alloc: Global,
         kinds: &Kinds,
@@ -82,7 +82,7 @@ impl SetImage {
     /// A set of the same kinds and size without the elements. Ids go on.
     ///
     /// # Errors
-    /// `Memory` if there is none left.
+    /// `Memory` if memory runs out.
     pub fn emptied(&self, alloc: Global) -> Result<SetImage, Memory>
         ensures { IfOk result (λ set. set ≡ cleared self.now) }
     {
@@ -91,11 +91,12 @@ impl SetImage {
         Ok(image)
     }
 
-    /// The same set once more. It shares the pages of the tables and of the elements that were settled
-    /// ([`SetImage::settle`]). The others are copied, but for the elements' intervals and comments.
+    /// A copy of the set. It shares the settled pages of the tables and of the elements
+    /// ([`SetImage::settle`]). It copies the other pages, but not the elements' intervals and
+    /// comments.
     ///
     /// # Errors
-    /// `Memory` if there is none left.
+    /// `Memory` if memory runs out.
     pub fn copy(&self, alloc: Global) -> Result<SetImage, Memory>
         ensures { IfOk result (λ set. set ≡ self.now) }
     {
@@ -116,15 +117,15 @@ impl SetImage {
         &self.kinds
     }
 
-    /// Whether a common key with a live element refuses an addition.
+    /// Whether a live element that shares a key refuses an addition.
     pub fn is_disjoint(&self) -> bool
         ensures { result ≡ self.now.disjoint }
     {
         self.disjoint
     }
 
-    /// The elements in order of insertion. Their intervals fit the kinds. There are at most 1,048,576,
-    /// since each has a rule in each field.
+    /// The elements in the order of insertion. Their intervals fit the kinds. There are at most
+    /// 1,048,576, since each has a rule in each field.
     pub fn elements(&self) -> &TimedElements
         ensures same { result.now ≡ self.now.elements }
         ensures fit { All (λ e. parts_fit self.now.kinds e.parts ≡ true) self.now.elements }
@@ -133,8 +134,8 @@ impl SetImage {
         &self.elements
     }
 
-    /// The set's tables. They are those of its elements at every moment between calls, and may be
-    /// asked for each key and for all intervals that fit the kinds.
+    /// The set's tables. Between calls they are always the tables of its elements. Callers may look
+    /// up each key, and all intervals that fit the kinds.
     pub fn index(&self) -> &Index
         ensures tables { IsIndexOf self.now.kinds self.now.elements result.now }
         ensures shaped { IsShapedIndex result.now }
@@ -145,7 +146,7 @@ impl SetImage {
         &self.index
     }
 
-    /// The place of the first element that is live at `now` and holds the key.
+    /// The place of the first element that is live at `now`, in milliseconds, and holds the key.
     pub(crate) fn place(&self, key: &[u128], now: u64, scratch: &mut Scratch) -> Option<u64>
         requires { key_fits self.now.kinds key.now ≡ true }
         ensures { IsPlace self.now key.now now result }
@@ -153,7 +154,7 @@ impl SetImage {
         self.index.find_values(key, now, scratch)
     }
 
-    /// The place of that element by the textbook lookup, for those who compare the two.
+    /// The place of the same element by the textbook lookup, to compare the two lookups.
     pub fn plain_place(&self, key: &Key, now: u64, scratch: &mut Scratch) -> Option<u64>
         requires { key_fits self.now.kinds key.now ≡ true }
         ensures { IsPlace self.now key.now now result }
@@ -162,7 +163,7 @@ impl SetImage {
     }
 
     /// The first element of the list that is live at `now`, in milliseconds, and holds the key.
-    /// `None` where there is none. It takes no memory.
+    /// `None` if there is none. It takes no memory.
     pub fn find(&self, key: &Key, now: u64, scratch: &mut Scratch) -> Option<Found>
         requires { key_fits self.now.kinds key.now ≡ true }
         ensures { result ≡ found self.now key.now now }

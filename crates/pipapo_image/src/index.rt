@@ -38,14 +38,14 @@ pub type Fields = Listed<FieldTable>;
 /// The mapping of each field but the last to the next one.
 pub type Maps = Listed<MapTable>;
 
-/// The tables of a list of elements. It holds no interval.
+/// The tables of a list of elements. They have no interval.
 #[derive(Drop)]
 pub struct Index {
     /// The rules of each field.
     pub fields: Fields,
-    /// The way from each field but the last to the next: one fewer than fields.
+    /// The mapping of each field but the last to the next: one fewer than fields.
     pub maps: Maps,
-    /// The way from the last field's rules to the elements.
+    /// The place and the expiry of the element for each rule of the last field.
     pub ends: EndTable,
 }
 
@@ -55,7 +55,7 @@ impl Index {
     /// The tables of no elements, with a field for each kind.
     ///
     /// # Errors
-    /// `Memory` if there is none left.
+    /// `Memory` if memory runs out.
     pub(crate) fn new(alloc: Global, kinds: &Kinds) -> Result<Index, Memory>
         requires { 1 ≤ length kinds.now }
         ensures { IfOk result (IsIndexOf kinds.now []) }
@@ -76,9 +76,9 @@ impl Index {
         })
     }
 
-    /// The place of the first element that is live at `now`, in milliseconds, and holds the key, in
-    /// every list of elements whose tables these are. `None` where there is none. It takes no
-    /// memory.
+    /// The place of the first element that is live at `now`, in milliseconds, and holds the key.
+    /// This holds for every list of elements that these tables represent. `None` if there is none.
+    /// It takes no memory.
     pub fn find(&self, key: &Key, now: u64, scratch: &mut Scratch) -> Option<u64>
         requires shaped { IsShapedIndex self.now }
         requires key { IsKeyOf self.now.fields key.now }
@@ -88,7 +88,7 @@ impl Index {
         self.find_values(key.as_slice(), now, scratch)
     }
 
-    /// The same of a key whose values stand in a row.
+    /// As `find`, with the key's values in a slice.
     pub(crate) fn find_values(&self, key: &[u128], now: u64, scratch: &mut Scratch) -> Option<u64>
         requires shaped { IsShapedIndex self.now }
         requires key { IsKeyOf self.now.fields key.now }
@@ -106,8 +106,8 @@ impl Index {
         )
     }
 
-    /// The same answer by the textbook: the whole row of a field is matched before the next field's
-    /// is refilled. It is there to compare with.
+    /// The same answer by the textbook lookup, to compare the two. It matches the whole row of a
+    /// field before it refills the next field's row.
     pub fn find_plain(&self, key: &Key, now: u64, scratch: &mut Scratch) -> Option<u64>
         requires shaped { IsShapedIndex self.now }
         requires key { IsKeyOf self.now.fields key.now }
@@ -126,8 +126,8 @@ impl Index {
     }
 }
 
-/// The table of a field without rules. The first field's keeps a summary: a lookup goes through all
-/// its rules, and in the later fields through those alone that are left.
+/// The table of a field without rules. Only the first field's table keeps a summary. A lookup goes
+/// through all rules of the first field, but in later fields only through the rules that are left.
 fn empty_table(alloc: Global, kind: Kind, is_first: bool) -> Result<FieldTable, Memory>
     ensures { IfOk result (IsTableOf kind []) }
 {
@@ -136,7 +136,7 @@ fn empty_table(alloc: Global, kind: Kind, is_first: bool) -> Result<FieldTable, 
     Ok(table)
 }
 
-/// Leaves bit `r` of the row set where rule `r`'s block holds the value.
+/// Clears bit `r` of the row unless rule `r`'s block holds the value.
 fn match_field(table: &FieldTable, value: u128, row: &mut BitRow)
     requires length { length row.old.bits ≡ table.now.rules }
     requires value { value < 2 ^ table.now.bits }
@@ -147,8 +147,9 @@ fn match_field(table: &FieldTable, value: u128, row: &mut BitRow)
     table.match_into(value, row);
 }
 
-/// Leaves in `row` the rules of the last field that the key leads to: all ones in the first field,
-/// an AND with one bucket per group, and on to the next field through the spans of what is left.
+/// Leaves in `row` the rules of the last field that the key leads to. It starts with all ones in
+/// the first field and ANDs one bucket per group. The spans of the rules that are left give the row
+/// of the next field.
 fn walk(fields: &[FieldTable], maps: &[MapTable], key: &[u128], row: &mut BitRow, next: &mut BitRow)
     requires shaped { IsWalk fields.now maps.now }
     requires key { IsKeyOf fields.now key.now }

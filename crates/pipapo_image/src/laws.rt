@@ -1,11 +1,12 @@
-// A law, as the contract of a function that does nothing, so that the check proves it and callers may
-// cite it.
+// The law of disjoint sets. It is the contract of a function that does nothing, so callers may cite
+// it.
 ghost use Rattle.pipapo_image.specs.Image.Apart.{KeepsApart};
 
-/// The live elements of a disjoint set share no key, at each moment from the latest one on at which an
-/// element was added or renewed. Where moments never fall, that is every moment at which the set is
-/// looked at. At an earlier one two elements may share a key: one that expires later on, and one that
-/// was added when it had.
+/// The live elements of a disjoint set share no key from the moment of the latest addition or
+/// renewal on. If moments never fall, this is every moment at which the set is looked at.
+///
+/// At an earlier moment two elements may share a key. The first had expired when the second was
+/// added, but was still live at the earlier moment.
 pub fn apart_law()
     ensures { KeepsApart }
 {}

@@ -12,8 +12,8 @@ struct Full {
     alloc: Global,
 }
 
-/// Builds a set of all elements but the last, changes a copy of it so many times, and gives how many
-/// elements the last copy had then.
+/// Builds a set of all elements but the last, and changes a copy of it `rounds` times. Returns how
+/// many elements the last copy then has.
 pub(crate) fn run(
     alloc: Global,
     kinds: &[u32],
@@ -29,11 +29,11 @@ pub(crate) fn run(
     Ok(full.change_copies(&element, rounds, change)?)
 }
 
-/// How many elements of a workload are kept back, to be added to a disjoint set of the others.
+/// How many elements of a workload aren't in the disjoint set at first, but are added to it.
 const KEPT_BACK: usize = 1_000;
 
-/// Builds a disjoint set of all elements but the last thousand, adds the first `count` of these, and
-/// gives how many elements it has then.
+/// Builds a disjoint set of all elements but the last thousand, and adds the first `count` of
+/// these. Returns how many elements it then has.
 pub(crate) fn run_disjoint(
     alloc: Global,
     kinds: &[u32],
@@ -50,7 +50,7 @@ pub(crate) fn run_disjoint(
     Ok(full.set.elements().len())
 }
 
-/// The element that is added, the last one, or deleted, one from the middle.
+/// The place of the element to change: the last one is added, one from the middle is deleted.
 fn place_of(count: usize, change: u32) -> usize {
     if change == 1 {
         count.saturating_sub(1)
@@ -111,8 +111,8 @@ impl Full {
     }
 }
 
-/// Makes a copy and adds an element to it (1), deletes one (2), purges it of every tenth (3), or does
-/// nothing with it (any other number). It gives how many elements it has then.
+/// Makes a copy and changes it: 1 adds an element, 2 deletes one, 3 purges every tenth. Any other
+/// number changes nothing. Returns how many elements the copy then has.
 fn change_copy(
     alloc: Global,
     set: &SetImage,
@@ -130,7 +130,7 @@ fn change_copy(
     Ok(copy.elements().len())
 }
 
-/// Adds an element at moment 0, where it isn't refused.
+/// Adds an element at moment 0, if it isn't refused.
 fn insert(alloc: Global, set: &mut SetImage, element: &NewElement, scratch: &mut Scratch) {
     if parts_fit(set.kinds(), &element.parts) {
         let _ = set.insert(alloc, element, 0, scratch);

@@ -1,8 +1,9 @@
-//! A set's image as a driver in C calls it, to measure lookups and insertions. No crate stands on
-//! this one, and the driver is no part of the program.
+//! A set's image with an interface in C, to measure lookups, insertions and changes.
 //!
-//! **Definitions:** none: it is to be safe alone. docs/performance.md says how `checks/speed` calls it,
-//! and what was measured.
+//! No crate depends on this one, and the driver in C is no part of the program.
+//!
+//! **Definitions:** none, since it only has to be safe. docs/performance.md says how `checks/speed`
+//! calls it, and what was measured.
 #![tactic(auto)]
 
 mod changes;
@@ -13,15 +14,16 @@ mod workload;
 use run::Lookups;
 use std::alloc::Global;
 
-/// Builds a set of these elements and looks up all keys `rounds` times: as packets do (`lookups` 0), by the
-/// textbook lookup (1), or as packets do where each element but the last expired before the next one came (2).
-/// It gives the bytes of the set's tables, and 0 where there is no memory or the
-/// workload is no good.
+/// Builds a set of these elements and looks up all keys `rounds` times. With `lookups` 0 they are
+/// the lookups of packets, and with 1 the textbook lookup. With 2 they are the lookups of packets,
+/// and each element but the last expired before the next one was added. Returns the bytes of the
+/// set's tables, or 0 if memory runs out or the workload is invalid.
 ///
 /// `kinds` has a number for each field: 0 to 5 for `ipv4_addr`, `ipv6_addr`, `ether_addr`,
-/// `inet_proto`, `inet_service` and `mark`. A value is two words, the lower one first. An element is
-/// a low and a high value for each field, and a key one value for each field. `answers` has then for
-/// each key the number of the element that it matched, from 1 on in the order of `elements`, or 0.
+/// `inet_proto`, `inet_service` and `mark`. A value is two words, the lower one first. An element
+/// is a low and a high value for each field, and a key is one value for each field. Afterwards
+/// `answers` has for each key the number of the element that it matched, or 0. Elements count from
+/// 1 in the order of `elements`.
 #[unsafe(no_mangle)]
 pub extern "C" fn pipapo_run(
     alloc: Global,
@@ -43,11 +45,11 @@ pub extern "C" fn pipapo_run(
     }
 }
 
-/// Builds a set of all elements but the last, of which every tenth expires, and makes `rounds` copies
-/// of it, one after the other. To each copy it adds the last element (`change` 1), or it deletes an
-/// element from its middle (2), or purges it of the expired ones (3), or does nothing more (any other
-/// number). It gives how many elements the last copy had then, and 0 where there is no memory or the
-/// workload is no good. The words are those of `pipapo_run`.
+/// Builds a set of all elements but the last, of which every tenth expires, and makes `rounds`
+/// copies of it, one after another. `change` says what it does with each copy: 1 adds the last
+/// element, 2 deletes an element from the middle, 3 purges the expired ones. Any other number
+/// changes nothing. Returns how many elements the last copy then has, or 0 if memory runs out or
+/// the workload is invalid. The words are as in `pipapo_run`.
 #[unsafe(no_mangle)]
 pub extern "C" fn pipapo_change(
     alloc: Global,
@@ -62,9 +64,9 @@ pub extern "C" fn pipapo_change(
     }
 }
 
-/// Builds a disjoint set of all elements but the last thousand, and adds the first `count` of these to
-/// it, where none shares a key with them. It gives how many elements the set has then, and 0 where there
-/// is no memory or the workload is no good. The words are those of `pipapo_run`.
+/// Builds a disjoint set of all elements but the last thousand, and adds the first `count` of these.
+/// It leaves out those that share a key with the set. Returns how many elements the set then has, or
+/// 0 if memory runs out or the workload is invalid. The words are as in `pipapo_run`.
 #[unsafe(no_mangle)]
 pub extern "C" fn pipapo_disjoint(
     alloc: Global,

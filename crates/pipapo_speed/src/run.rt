@@ -20,14 +20,15 @@ impl From<Memory> for Fault {
     }
 }
 
-/// Which lookups are measured, and in what set.
+/// Which lookups are measured, and in which set.
 #[derive(Clone, Copy, PartialEq, Eq)]
 pub(crate) enum Lookups {
-    /// Those that packets take.
+    /// The lookups of packets.
     Fused,
-    /// The textbook's.
+    /// The textbook lookup.
     Textbook,
-    /// Those that packets take, where each element but the last expired before the next one came.
+    /// The lookups of packets, in a set in which each element but the last expired before the next
+    /// one was added.
     Expired,
 }
 
@@ -37,13 +38,13 @@ struct Measured {
     set: SetImage,
     scratch: Scratch,
     numbers: Vec<u64>,
-    // The moment of the next addition, and behind the last one of all lookups.
+    // The moment of the next addition. After the last addition it is the moment of all lookups.
     now: u64,
     lookups: Lookups,
     alloc: Global,
 }
 
-/// Builds the set, looks the keys up, and gives the bytes of its tables.
+/// Builds the set and looks up the keys. Returns the bytes of the set's tables.
 pub(crate) fn run(
     alloc: Global,
     kinds: &[u32],
@@ -76,7 +77,7 @@ impl Measured {
         }
     }
 
-    /// Adds all elements. One that is refused is left out.
+    /// Adds all elements, but leaves out those that are refused.
     fn fill(&mut self, elements: &[u64], fields: usize) -> Result<(), Memory> {
         for e in 0..elements.len() / fields.saturating_mul(4).max(1) {
             self.add_one(elements, fields, e)?;
@@ -104,7 +105,7 @@ impl Measured {
         }
     }
 
-    /// Looks all keys up so many times.
+    /// Looks up all keys `rounds` times.
     fn look_up(&mut self, keys: &[u64], rounds: u32, answers: &mut [u64]) -> Result<(), Memory> {
         let keys = keys_of(self.alloc, self.set.kinds(), keys, answers.len())?;
         look_up_all(
@@ -119,7 +120,7 @@ impl Measured {
         Ok(())
     }
 
-    /// Turns places into the numbers of the elements. Both count from 1 on.
+    /// Turns places into the numbers of the elements. Both count from 1.
     fn number(&self, answers: &mut [u64]) {
         for answer in answers.iter_mut() {
             if *answer != 0 {
@@ -143,7 +144,7 @@ fn note(numbers: &mut Vec<u64>, number: u64) -> Result<(), Memory> {
     Ok(())
 }
 
-/// Adds an element. Whether it is new.
+/// Adds an element, and returns whether it is new.
 fn add(
     alloc: Global,
     set: &mut SetImage,
@@ -161,7 +162,7 @@ fn add(
     }
 }
 
-/// Looks each key up so many times.
+/// Looks up each key `rounds` times.
 fn look_up_all(
     set: &SetImage,
     keys: &[Key],
@@ -182,7 +183,7 @@ fn look_up_all(
     }
 }
 
-/// Looks each key up once. An answer is the place behind the element's, or 0.
+/// Looks up each key once. An answer is the element's place plus 1, or 0 if there is none.
 #[inline(never)]
 fn round(set: &SetImage, keys: &[Key], now: u64, scratch: &mut Scratch, answers: &mut [u64])
     requires { All (λ key. key_fits set.now.kinds key ≡ true) keys.now }
@@ -195,7 +196,7 @@ fn round(set: &SetImage, keys: &[Key], now: u64, scratch: &mut Scratch, answers:
     }
 }
 
-/// The same by the textbook lookup.
+/// As `round`, by the textbook lookup.
 #[inline(never)]
 fn plain_round(set: &SetImage, keys: &[Key], now: u64, scratch: &mut Scratch, answers: &mut [u64])
     requires { All (λ key. key_fits set.now.kinds key ≡ true) keys.now }
@@ -208,7 +209,7 @@ fn plain_round(set: &SetImage, keys: &[Key], now: u64, scratch: &mut Scratch, an
     }
 }
 
-/// The bytes that the rooms of the buckets, the mappings and the ends take.
+/// The bytes of the room of the buckets, the mappings and the ends.
 fn table_bytes(set: &SetImage) -> u64 {
     let index = set.index();
     let mut bytes = 0u64;

@@ -24,7 +24,7 @@ less-aligned n t j h none =
     let split : n % 2 ^ ((j - suc t) + suc t) ≡ n / 2 ^ suc t % 2 ^ (j - suc t) * 2 ^ suc t + n % 2 ^ suc t = mod-pow-add n (j - suc t) (suc t) in
     omega arith
 
--- an odd multiple of a power and that power make a multiple of the double
+-- an odd multiple of a power and that power make a multiple of the doubled power
 next-aligned : (n t : ℕ) → n % 2 ^ t ≡ 0 → (n % 2 ^ suc t ≡ 0 → ⊥) → (n + 2 ^ t) % 2 ^ suc t ≡ 0
 next-aligned n t low odd =
     let e : suc t ≡ 1 + t = omega arith in
@@ -54,14 +54,15 @@ length-first low high bits k h e = ap length (blocks-first low high bits h) ∙ 
 length-none : (low high bits : ℕ) → high < low → length (blocks low high bits) ≡ 0
 length-none low high bits h = ap length (blocks-none low high bits h)
 
--- where the block of k free bits starts at the base, and the one twice as large is too large
+-- if the block of k free bits starts at the base, and the one twice as large is too large
 free-up_to : (low high bits k : ℕ) → k ≤ bits → low % 2 ^ k ≡ 0 → low + 2 ^ k ≤ high + 1 → high + 1 < low + 2 ^ suc k → free_bits low high bits ≡ k
 free-up_to low high bits k within aligned fits small =
     greatest-is (is_block low high) bits k within (inl (block-passes low high k aligned fits)) (λ j a b. block-too_large low high j k a small)
 
 -- ---- at most two blocks for each bit
 
--- From a place aligned at 2 ^ k on, fewer than 2 ^ k values take at most k blocks, each smaller than the one before.
+-- From a place aligned at 2 ^ k on, fewer than 2 ^ k values have at most k blocks. Each is smaller
+-- than the one before.
 descending : (k low high bits : ℕ) → k ≤ bits → low % 2 ^ k ≡ 0 → high + 1 < low + 2 ^ k → length (blocks low high bits) ≤ k
 descending zero low high bits within aligned small = let e = length-none low high bits (omega arith) in omega arith
 descending (suc k) low high bits within aligned small =

@@ -13,7 +13,7 @@ use Rattle.range_expand.specs.Split.{IsFieldInterval}
 
 -- ---- the greatest number that passes a test
 
--- It is k where k passes, or is 0, and no larger number passes.
+-- It is k if k passes, or is 0, and no larger number passes.
 pub greatest-is : (test : ℕ → Bool) (n k : ℕ) → k ≤ n → (test k ≡ true) ⊎ (k ≡ 0) → ((j : ℕ) → k < j → j ≤ n → test j ≡ false) → greatest test n ≡ k
 greatest-is test zero k le passes more = omega arith
 greatest-is test (suc n) k le passes more = go (cases_eq k (suc n)) passes (λ b. greatest-is test n k b passes (λ j a c. more j a (omega arith))) where
@@ -49,7 +49,7 @@ greatest-passes test (suc n) = go (test (suc n)) refl (greatest-passes test n) w
 pub block-passes : (low high k : ℕ) → low % 2 ^ k ≡ 0 → low + 2 ^ k ≤ high + 1 → is_block low high k ≡ true
 block-passes low high k aligned fits = and_from _ _ (eq-eqb (low % 2 ^ k) 0 aligned) (le-leb (low + 2 ^ k) (high + 1) fits)
 
--- where the block of one more free bit is too large, so is each larger one
+-- if the block of one more free bit is too large, each larger one is, too
 pub block-too_large : (low high j k : ℕ) → k < j → high + 1 < low + 2 ^ suc k → is_block low high j ≡ false
 block-too_large low high j k h small =
     let larger : 2 ^ suc k ≤ 2 ^ j = pow_mono {i = suc k} {j = j} (omega arith) in
@@ -74,7 +74,7 @@ first-aligned low high bits = go (greatest-passes (is_block low high) bits) wher
 
 -- ---- the code's number of free bits
 
--- the low bits of a number are 0 where each of them is
+-- the low bits of a number are 0 if each of them is
 low-zero : (n t : ℕ) → ((i : ℕ) → i < t → bit_at n i ≡ 0) → n % 2 ^ t ≡ 0
 low-zero n zero none = mod-one n
 low-zero n (suc t) none =

@@ -1,4 +1,4 @@
--- What the blocks of an interval hold, and one step of the split.
+-- Which values the blocks of an interval hold, and one step of the split.
 use Rattle.std.proofs.Common.{◌≡◌, refl, sym, ◌∙◌, ap, ℕ, zero, suc, ◌+◌, ◌^◌, ◌<◌, ◌≤◌, ◌⊎◌, Bool, cond, ◌&&◌, nat_le, nat_lt, List, [], ◌∷◌, All, count_by, arith, inl, inr}
 use Rattle.std.proofs.lemmas.Bool.{cases_lt, lt-ltb, le-ltb, le-leb, lt-leb}
 use Rattle.std.proofs.lemmas.Nat.{pow_pos}
@@ -19,7 +19,7 @@ one_if t = cond t 1 0
 abbrev held_by : List Block → ℕ → ℕ
 held_by split v = count_by (λ b. holds_value b v) split
 
--- a value of a run is in its first part or in the rest of it
+-- a value of a run is in its first part or in the rest
 run-split : (low next high v : ℕ) → low ≤ next → next ≤ high + 1 → one_if (nat_le low v && nat_lt v next) + one_if (nat_le next v && nat_le v high) ≡ one_if (nat_le low v && nat_le v high)
 run-split low next high v a b = go (cases_lt v low) (cases_lt v next) (cases_lt high v) where
   go : (v < low) ⊎ (low ≤ v) → (v < next) ⊎ (next ≤ v) → (high < v) ⊎ (v ≤ high)

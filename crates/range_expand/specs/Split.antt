@@ -1,4 +1,4 @@
--- What is said of the split of an interval into blocks.
+-- What contracts say of the split of an interval into blocks.
 use Rattle.std.specs.Prelude.{◌≡◌, ℕ, ◌≤◌, ◌<◌, ◌^◌, ◌&&◌, nat_le, if◌then◌else◌, List, count_by}
 use Rattle.set_model.specs.declared.block.Block.{Block}
 use Rattle.set_model.specs.Blocks.{holds_value}
@@ -10,6 +10,6 @@ pub record IsFieldInterval (low high bits : ℕ) : Type 0 where
   pub some : 1 ≤ bits
   pub most : bits ≤ 128
 
--- Each value from low to high is held by exactly one of the blocks, and no other value by any.
+-- Exactly one of the blocks holds each value from low to high. No block holds another value.
 abbrev pub IsHeldOnce : ℕ → ℕ → List Block → Type 0
 IsHeldOnce low high split = (v : ℕ) → count_by (λ b. holds_value b v) split ≡ (if nat_le low v && nat_le v high then 1 else 0)

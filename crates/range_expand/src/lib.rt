@@ -1,9 +1,17 @@
-//! Splits an interval of field values into blocks.
+//! Splits an interval of field values into blocks, which are aligned runs of a power of two.
 //!
-//! A block is an aligned run of values whose number is a power of two. A lookup table holds each
-//! block as one rule, so an interval over `b` bits costs at most `2 * b` rules of its field.
+//! A lookup table has one rule for each block. The interval 192.168.1.0-192.168.2.1 has two:
 //!
-//! **Definitions:** `specs/Split.antt`, over the split itself in `set_model`, `specs/Blocks.antt`.
+//! ```text
+//! base 192.168.1.0   8 free bits   192.168.1.0/24   256 values
+//! base 192.168.2.0   1 free bit    192.168.2.0/31   2 values
+//! ```
+//!
+//! At each base the split takes the largest block that is aligned there and doesn't pass the
+//! interval's end. Then it goes on after that block. The port 80 alone is one block, and the ports
+//! 1024 to 65535 are six. An interval of a field of `b` bits has at most `2 * b` blocks.
+//!
+//! **Definitions:** `specs/Split.antt`, on the split itself in `set_model`, `specs/Blocks.antt`.
 //! **Theory:** docs/architecture.md, "The classifier, by one example".
 #![tactic(auto)]
 
@@ -18,8 +26,8 @@ use std::marker::Model;
 
 /// The blocks of an interval that are still to come, the lowest first.
 ///
-/// At each base the largest block is taken whose size is a power of two, that is aligned at the
-/// base and that doesn't pass the interval's end. Then the split goes on behind it.
+/// At each base the split takes the largest block that is aligned there and doesn't pass the
+/// interval's end. A block's size is a power of two. Then the split goes on after that block.
 #[derive(Drop)]
 pub struct Blocks {
     low: u128,
@@ -27,7 +35,7 @@ pub struct Blocks {
     bits: u32,
 }
 
-// An interval whose low is above its high has no block left, so the end needs no mark of its own
+// If an interval's low end is above its high end, it has no block left. So the end needs no flag
 // and no value above the greatest `u128`.
 impl Model for Blocks {
     ghost Value = { List Block };
@@ -40,7 +48,7 @@ impl Model for Blocks {
 impl Blocks {
     /// Splits the values from `low` to `high`, both included, of a field of `bits` bits.
     ///
-    /// Each of these values is held by exactly one of the blocks, and no other value by any.
+    /// Exactly one of the blocks holds each of these values, and no block holds another value.
     pub fn new(low: u128, high: u128, bits: u32) -> Blocks
         requires { IsFieldInterval low high bits }
         ensures split { result ≡ blocks low high bits }

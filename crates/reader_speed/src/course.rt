@@ -16,10 +16,10 @@ use set_model::{
 use std::alloc::Global;
 use std::thread::Threads;
 
-/// More generations than that are never asked for.
+/// The measurements never need more generations than this.
 const NUMBERS: u64 = 1 << 62;
 
-/// A control, a reader for each thread, and packets of its one set. All is ready for a section.
+/// A control, a reader for each thread, and packets of the only set, ready for a section.
 #[derive(Drop)]
 pub(crate) struct Course {
     pub(crate) control: Control,
@@ -92,7 +92,7 @@ fn packet(alloc: Global, schema: &Schema, key: &Key) -> Result<Packet, Fault>
     })
 }
 
-/// So many packets, whose keys come in turn.
+/// `count` packets, which go through the keys again and again.
 fn packets(alloc: Global, schema: &Schema, keys: &[Key], count: usize) -> Result<Packets, Fault>
     requires schema { length schema.now ≡ 1 }
     requires keys { 0 < length keys.now }
@@ -116,7 +116,7 @@ fn at_places(alloc: Global, readers: Vec<Reader>) -> Result<Vec<Option<Reader>>,
     Ok(places)
 }
 
-/// Whether there are numbers for as many generations as there are steps.
+/// Whether there are numbers for one generation per step.
 pub(crate) fn is_numbered(control: &Control, steps: &Steps) -> bool
     ensures { IsTrue result → HasNumbers control.now steps.now }
 {
@@ -124,7 +124,8 @@ pub(crate) fn is_numbered(control: &Control, steps: &Steps) -> bool
 }
 
 impl Course {
-    /// The workload's elements are committed, in generation 1.
+    /// A control that has committed the workload's elements in generation 1, with its readers and
+    /// packets.
     pub(crate) fn new<R: Threads + Sync>(
         rt: &R,
         alloc: Global,

@@ -6,7 +6,7 @@ use std::io;
 #[derive(Clone, Copy)]
 pub(crate) enum Fault {
     Usage,
-    /// The workload can't be read, or it has no fields, elements or keys.
+    /// The workload can't be parsed, or it has no fields, elements or keys.
     Workload,
     /// The file, the clock or the output failed.
     System,

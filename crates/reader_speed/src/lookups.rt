@@ -1,4 +1,4 @@
-//! Lookups a second of readers, and the time of a commit beside them.
+//! Lookups per second of readers, and the time of a commit beside them.
 ghost use Rattle.std.specs.Prelude.{◌≡◌, ◌<◌, ◌≤◌, All, Some};
 ghost use Rattle.set_model.specs.Runnable.{IsFitting};
 ghost use Rattle.gen_publish.specs.Publish.{ReaderView};
@@ -19,10 +19,11 @@ const RUN: u128 = 100_000_000;
 
 const RUNS: u32 = 9;
 
-/// The commits of a run stay far below it.
+/// The commits of a run are far fewer than this.
 const NUMBERS: u64 = 1 << 62;
 
-/// Prints how many lookups a second so many readers make, while the control rests and while it commits.
+/// Prints how many lookups per second `threads` readers make, while the control rests and while it
+/// commits.
 pub(crate) fn tell<R: Runtime<A = Global> + Threads + Sync>(
     rt: &R,
     alloc: Global,
@@ -54,7 +55,7 @@ pub(crate) fn tell<R: Runtime<A = Global> + Threads + Sync>(
     Ok(())
 }
 
-/// The lookups a second of all readers beside a control that commits, and the nanoseconds of a commit.
+/// The lookups per second of all readers while a control commits, and the nanoseconds of a commit.
 fn beside<R: Clock + Threads + Sync>(
     rt: &R,
     alloc: Global,
@@ -79,7 +80,8 @@ fn beside<R: Clock + Threads + Sync>(
     Ok((lookups?, time?))
 }
 
-/// Takes an element out and puts it back, each with a commit, for as long as a run is. It gives the nanoseconds of one.
+/// Removes an element and adds it again, with a commit after each, until the run ends. Returns the
+/// nanoseconds of a commit.
 fn commit_on(
     clock: &impl Clock,
     control: &mut Control,
@@ -104,7 +106,7 @@ fn commit_on(
     Err(Fault::System)
 }
 
-/// The lookups a second of all readers, each in a thread of its own.
+/// The lookups per second of all readers, each in its own thread.
 fn look_up_all<R: Clock + Threads + Sync>(
     rt: &R,
     readers: Vec<Option<Reader>>,
@@ -127,7 +129,7 @@ fn look_up_all<R: Clock + Threads + Sync>(
     Ok(sum)
 }
 
-/// The lookups a second of a reader, which looks all keys up under one enter, for as long as a run is.
+/// The lookups per second of a reader, which looks up all keys in one enter, until the run ends.
 fn look_up(clock: &impl Clock, reader: Reader, packets: &Packets) -> Result<u128, Fault>
     requires { All (IsFitting reader.schema) packets.now }
 {
@@ -144,7 +146,7 @@ fn look_up(clock: &impl Clock, reader: Reader, packets: &Packets) -> Result<u128
     Err(Fault::System)
 }
 
-/// Looks all keys up under one enter.
+/// Looks up all keys in one enter.
 fn pass(reader: Reader, packets: &Packets) -> Reader
     requires { All (IsFitting reader.schema) packets.now }
     ensures { result.schema ≡ reader.schema }

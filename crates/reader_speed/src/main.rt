@@ -1,16 +1,23 @@
-//! Measures readers and packet threads on a workload of `checks/workloads.py`. `checks/speed` calls it.
+//! Measures readers and packet threads on a workload of `checks/workloads.py`.
+//!
+//! `checks/speed` calls it, in one of these two ways:
 //!
 //! ```text
-//! reader_speed readers N FILE    lookups a second of 1, 2, 4 .. up to N readers, each in a thread of its own, while the
-//!                                control rests and while it commits as fast as it can, and the time of a commit
-//! reader_speed packets N FILE    packets a second of a section of 1,000,000 packets on 1, 2, 4 .. up to N threads
+//! reader_speed readers N FILE
+//! reader_speed packets N FILE
 //! ```
 //!
-//! A reader enters once for all keys of the workload; a packet thread enters and leaves for each packet. Each number is the
-//! best of several runs by the wall's time.
+//! `readers` prints the lookups per second of 1, 2, 4 .. up to N readers, each in its own thread. It
+//! measures them while the control rests, and while it commits as fast as it can. It also prints the
+//! time of a commit. A reader enters once for all keys of the workload.
 //!
-//! **Definitions:** `specs/Ready.antt` alone, what a section asks: it is to be safe alone.
-//! docs/performance.md says what was measured.
+//! `packets` prints the packets per second of a section of 1,000,000 packets, on 1, 2, 4 .. up to N
+//! threads. A packet thread enters and leaves for each packet.
+//!
+//! Each number is the best of several runs, by the wall clock.
+//!
+//! **Definitions:** `specs/Ready.antt` alone, which says what a section requires. The program only
+//! has to be safe. docs/performance.md says what was measured.
 #![tactic(auto)]
 
 ghost use Rattle.std.specs.Prelude.{◌<◌, ◌≤◌, IfOk};

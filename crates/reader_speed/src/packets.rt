@@ -1,4 +1,4 @@
-//! Packets a second of a section.
+//! Packets per second of a section.
 ghost use Rattle.std.specs.Prelude.{◌<◌, ◌≤◌};
 ghost use Rattle.reader_speed.specs.Ready.{AreReadersReady};
 
@@ -17,7 +17,7 @@ const PACKETS: u64 = 1_000_000;
 
 const RUNS: u32 = 9;
 
-/// A gate that takes the time, in nanoseconds after `start`.
+/// A gate that records the time, in nanoseconds after `start`.
 #[derive(Drop)]
 struct Stopwatch<'a, C: Clock> {
     clock: &'a C,
@@ -65,7 +65,7 @@ struct Times {
     packets: u64,
 }
 
-/// Prints how many packets a second so many threads answer.
+/// Prints how many packets per second so many threads answer.
 pub(crate) fn tell<R: Runtime<A = Global> + Threads + Sync>(
     rt: &R,
     alloc: Global,
@@ -92,7 +92,7 @@ pub(crate) fn tell<R: Runtime<A = Global> + Threads + Sync>(
     Ok(())
 }
 
-/// How many packets a second it is where all take these nanoseconds.
+/// How many packets per second it is if all take these nanoseconds.
 fn a_second(time: u64) -> u64 {
     PACKETS * 1_000_000_000 / time.max(1)
 }

@@ -1,9 +1,9 @@
-//! What `checks/workloads.py` writes.
+//! Reads the workloads that `checks/workloads.py` writes.
 use crate::fault::Fault;
 use set_model::{Comment, Interval, Key, Kind, Kinds, NewElement, Parts};
 use std::alloc::Global;
 
-/// The kinds of a set's fields, its elements, and keys that are looked up.
+/// The kinds of a set's fields, its elements, and the keys to look up.
 #[derive(Drop)]
 pub(crate) struct Workload {
     pub(crate) kinds: Kinds,

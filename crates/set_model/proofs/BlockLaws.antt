@@ -27,7 +27,7 @@ none : (n low high bits : ℕ) → high < low → blocks_within n low high bits 
 none zero low high bits h = refl
 none (suc n) low high bits h = ap (step (λ next. blocks_within n next high bits) low high bits) (le_false low high h)
 
--- as many turns as there are values are enough
+-- as many steps as there are values are enough
 pub blocks-enough : (n m low high bits : ℕ) → high + 1 ≤ low + n → high + 1 ≤ low + m → blocks_within n low high bits ≡ blocks_within m low high bits
 blocks-enough zero m low high bits a b = sym (none m low high bits (omega arith))
 blocks-enough (suc n) zero low high bits a b = none (suc n) low high bits (omega arith)
@@ -41,7 +41,7 @@ blocks-enough (suc n) (suc m) low high bits a b =
       same true ih = ap (λ z. (record { base = low; free_bits = free_bits low high bits }) ∷ z) ih
       same false ih = refl
 
--- the first block, and the split of what is behind it
+-- the first block, and the split of the values after it
 pub blocks-first : (low high bits : ℕ) → low ≤ high → blocks low high bits ≡ (record { base = low; free_bits = free_bits low high bits }) ∷ blocks (low + 2 ^ free_bits low high bits) high bits
 blocks-first low high bits h =
     let p = power-one (free_bits low high bits) in

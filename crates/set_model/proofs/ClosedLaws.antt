@@ -1,4 +1,4 @@
--- A section that ends its last transaction leaves none that has failed.
+-- A section that ends its last transaction leaves no failed transaction.
 use Rattle.std.proofs.Common.{◌≡◌, refl, ap, ◌∙◌, ℕ, zero, suc, ◌-◌, Bool, true, false, List, [], ◌∷◌, ◌++◌, length, Some, slice_get, length-append, arith}
 use Rattle.set_model.specs.declared.script.Step.{Step}
 use Rattle.set_model.specs.declared.script.Step.TheVariants.{Change, Flush, Commit, Abort}
@@ -21,7 +21,7 @@ steps-end : (mode : Mode) (c : Control) (s : Step) (ss : List Step) → opens (s
 steps-end mode c s [] e = last-ends mode c s e
 steps-end mode c s (t ∷ ts) e = steps-end mode (step mode c s) t ts e
 
--- Where nothing has failed before the section, nothing has failed behind it.
+-- If no transaction has failed before the section, none has failed after it.
 pub closed-section : (steps : List Step) → EndsClosed steps → (mode : Mode) (c : Control) → c.failed ≡ false → (section mode c steps).failed ≡ false
 closed-section [] e mode c quiet = quiet
 closed-section (s ∷ ss) e mode c quiet =
@@ -34,7 +34,7 @@ last-behind [] s (suc n) e = absurd (cc e)
 last-behind (t ∷ ts) s zero e = absurd (cc e)
 last-behind (t ∷ ts) s (suc n) e = last-behind ts s n (omega (arith, e))
 
--- Steps with an end of a transaction behind them end closed.
+-- Steps that are followed by the end of a transaction end closed.
 pub closed-behind : (ss : List Step) (s : Step) → opens (Some s) ≡ false → EndsClosed (ss ++ s ∷ [])
 closed-behind ss s e =
     let place : length (ss ++ s ∷ []) - 1 ≡ length ss = omega (arith, length-append ss (s ∷ [])) in

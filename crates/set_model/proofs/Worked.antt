@@ -1,4 +1,4 @@
--- Worked examples of the definitions. They compute: a wrong number here is refused.
+-- Worked examples of the definitions. They compute, so the proof check refuses a wrong number.
 use Rattle.std.specs.Prelude.{◌≡◌, refl, ℕ, zero, suc, ◌+◌, ◌-◌, ◌^◌, List, [], ◌∷◌, map, Some, None, Option, Bool, length, true, false, codes}
 use Rattle.std.proofs.Common.{ap, ◌∙◌, arith}
 use Rattle.std.specs.List.{position_or_len}
@@ -47,26 +47,27 @@ element parts expiry = record { parts = parts; expiry = expiry; comment = [] }
 abbrev plus : State → List Interval → Option ℕ → State
 plus s parts expiry = (add s (element parts expiry) 0).1
 
--- 10-20 and then 5-30: neither end of the second lies in the first, so it is added.
+-- 10-20 and then 5-30: neither end of the second is in the first, so the second is added.
 encloses : (add (plus (of_ports false) (ports 10 20) None) (element (ports 5 30) None) 0).0 ≡ New 1
 encloses = refl
 
--- 5-30 and then 10-20: the start of the second lies in the first.
+-- 5-30 and then 10-20: the start of the second is in the first.
 overlaps : (add (plus (of_ports false) (ports 5 30) None) (element (ports 10 20) None) 0).0 ≡ IsRefused (Overlap 0)
 overlaps = refl
 
--- 5-30 and then 1-10: the end of the second lies in the first.
+-- 5-30 and then 1-10: the end of the second is in the first.
 overlaps_at_end : (add (plus (of_ports false) (ports 5 30) None) (element (ports 1 10) None) 0).0 ≡ IsRefused (Overlap 0)
 overlaps_at_end = refl
 
--- Between 10-20 and 5-30 the earlier inserted one answers 15, and the other one 25.
+-- The set has 10-20 and then 5-30. A lookup of 15 finds the earlier inserted one, and a lookup of
+-- 25 the other one.
 abbrev two_ranges : State
 two_ranges = plus (plus (of_ports false) (ports 10 20) None) (ports 5 30) None
 
 earliest : map (λ key. place two_ranges key 0) ((15 ∷ []) ∷ (7 ∷ []) ∷ (30 ∷ []) ∷ (31 ∷ []) ∷ []) ≡ Some 0 ∷ Some 1 ∷ Some 1 ∷ None ∷ []
 earliest = refl
 
--- The same interval again is there already, and with an expiry it is renewed and keeps its place.
+-- The same interval again is there already. With an expiry it is renewed and keeps its place.
 already : (add two_ranges (element (ports 5 30) None) 0).0 ≡ Already 1
 already = refl
 
@@ -76,15 +77,15 @@ renewed = refl
 renewed_expiry : map (λ e. e.expiry) (add (plus two_ranges (port 80) (Some 30000)) (element (port 80) (Some 50000)) 20000).1.elements ≡ None ∷ None ∷ Some 50000 ∷ []
 renewed_expiry = refl
 
--- An expired element stands in nobody's way, and counts towards the size.
+-- An expired element is in nobody's way, but counts towards the size.
 expired_is_added : (add (plus (of_ports false) (port 80) (Some 30000)) (element (port 80) None) 30000).0 ≡ New 1
 expired_is_added = refl
 
 full : (add (plus (empty_set (Service ∷ []) (Some 1) false) (port 80) (Some 30000)) (element (port 81) None) 30000).0 ≡ IsRefused Full
 full = refl
 
--- A field has at most 1,048,576 rules. So many elements of port 80, each expired at once, have one rule each; they stand in
--- nobody's way, and count.
+-- A field has at most 1,048,576 rules. That many elements of port 80, each expired at once, have
+-- one rule each. They are in nobody's way, but count.
 expired_from : ℕ → ℕ → List Element
 expired_from id zero = []
 expired_from id (suc n) = record { id = id; parts = port 80; expiry = Some 0; comment = [] } ∷ expired_from (id + 1) n
@@ -113,15 +114,15 @@ too_many_rules = simp (none_answers, so_many, expired_rules) refl
 as_many_as_may_be : (add (expired_ports 1048575) (element (port 80) None) 0).0 ≡ New 1048575
 as_many_as_may_be = simp (none_answers, so_many, expired_rules) refl
 
--- In a disjoint set every shared key is refused, and neighbours are not.
+-- A disjoint set refuses every shared key, but not neighbours.
 shared_key : (add (plus (of_ports true) (ports 10 20) None) (element (ports 5 30) None) 0).0 ≡ IsRefused (Overlap 0)
 shared_key = refl
 
 neighbours : (add (plus (of_ports true) (ports 10 20) None) (element (ports 5 9) None) 0).0 ≡ New 1
 neighbours = refl
 
--- A disjoint set of 10-20, which expires at 30,000, and of 5-30, which was added then. From that moment
--- on they are apart. At an earlier one both are live and share 15.
+-- A disjoint set has 10-20, which expires at 30,000, and 5-30, which was added at that moment. From
+-- then on they share no key. At an earlier moment both are live and share 15.
 abbrev added_behind : State
 added_behind = (add (plus (of_ports true) (ports 10 20) (Some 30000)) (element (ports 5 30) None) 30000).1
 
@@ -131,7 +132,7 @@ apart_from_then_on = refl
 not_apart_before : is_apart added_behind 29999 ≡ false
 not_apart_before = refl
 
--- Where moments fall, a renewal at the earlier one keeps both live at the later one too.
+-- If moments fall, a renewal at the earlier moment keeps both live at the later one, too.
 renewed_before : is_apart (add added_behind (element (ports 10 20) (Some 50000)) 29999).1 30000 ≡ false
 renewed_before = refl
 
@@ -145,7 +146,7 @@ before_expiry = refl
 at_expiry : place timed (80 ∷ []) 30000 ≡ None
 at_expiry = refl
 
--- A purge takes expired elements, a new one gets the next id, and clearing keeps the ids going.
+-- A purge removes expired elements, a new element gets the next id, and ids go on after a flush.
 purged_ids : ids (purged timed 29999) ≡ 0 ∷ []
 purged_ids = refl
 
@@ -162,7 +163,8 @@ removed_id = refl
 removed_missing : removed two_ranges (ports 5 31) 0 ≡ None
 removed_missing = refl
 
--- The fourteen blocks of 1 to 254, one of all eight bits, six of 1024 to 65535, one of all 128 bits.
+-- The interval from 1 to 254 has fourteen blocks, and 1024 to 65535 has six. All eight bits are one
+-- block, and so are all 128 bits.
 fourteen : map (λ b. b.base) (blocks 1 254 8) ≡ 1 ∷ 2 ∷ 4 ∷ 8 ∷ 16 ∷ 32 ∷ 64 ∷ 128 ∷ 192 ∷ 224 ∷ 240 ∷ 248 ∷ 252 ∷ 254 ∷ []
 fourteen = refl
 
@@ -181,7 +183,7 @@ whole_ipv6 = refl
 inner_ipv6 : length (blocks 1 (2 ^ 128 - 2) 128) ≡ 254
 inner_ipv6 = refl
 
--- the set of ports `ip t p` or `ip t q` of scripts
+-- the sets of ports `ip t p` and `ip t q` of scripts
 abbrev declared_set : List ℕ → SetDecl
 declared_set name = record { family = Ip; table = codes "t"; name = name; kinds = Service ∷ []; interval = true; timed = true; disjoint = false; timeout = None; size = None }
 
@@ -191,7 +193,8 @@ one_set = declared_set (codes "p") ∷ []
 abbrev added : ℕ → List Interval → Step
 added line parts = Change line 0 Add (element parts None) 0
 
--- A refused change ends the transaction in strict mode, and is skipped where it keeps going.
+-- A refused change ends the transaction in strict mode. If the run keeps going, the change is
+-- skipped.
 abbrev overlapping : List Step
 overlapping = added 2 (ports 5 30) ∷ added 3 (ports 10 20) ∷ added 4 (port 80) ∷ Commit 0 ∷ []
 
@@ -215,26 +218,26 @@ aborted = refl
 aborted_ids : map ids (history Strict one_set ((added 2 (port 80) ∷ Commit 0 ∷ added 4 (port 81) ∷ Abort ∷ Commit 0 ∷ []) ∷ [])).last.sets ≡ (0 ∷ []) ∷ []
 aborted_ids = refl
 
--- `create` refuses what exists, `delete` what is missing, and `destroy` nothing.
+-- `create` refuses an element that exists, `delete` a missing one, and `destroy` neither.
 created_twice : (history Strict one_set ((added 2 (port 80) ∷ Change 3 0 Create (element (port 80) None) 0 ∷ Commit 0 ∷ []) ∷ [])).events ≡ Refused 3 0 (Exists 0) ∷ Dropped 0 ∷ []
 created_twice = refl
 
 destroyed_and_deleted : (history Strict one_set ((Change 2 0 Destroy (element (port 80) None) 0 ∷ Change 3 0 Delete (element (port 80) None) 0 ∷ Commit 0 ∷ []) ∷ [])).events ≡ Refused 3 0 Missing ∷ Dropped 0 ∷ []
 destroyed_and_deleted = refl
 
--- A commit purges and says how many elements it purged.
+-- A commit purges, and its event has the number of purged elements.
 purged_at_commit : (history Strict one_set ((Change 2 0 Add (element (port 80) (Some 30000)) 0 ∷ Commit 0 ∷ Change 4 0 Add (element (port 80) None) 30000 ∷ Commit 30000 ∷ []) ∷ [])).events
     ≡ Committed 1 0 ∷ Committed 2 1 ∷ []
 purged_at_commit = refl
 
--- A change of one set leaves the other untouched.
+-- A change of one set leaves the other unchanged.
 abbrev two_sets : List SetDecl
 two_sets = declared_set (codes "p") ∷ declared_set (codes "q") ∷ []
 
 other_untouched : map ids (history Strict two_sets ((added 3 (port 80) ∷ Change 4 1 Add (element (port 6) None) 0 ∷ Commit 0 ∷ Change 6 0 Delete (element (port 80) None) 0 ∷ Commit 0 ∷ []) ∷ [])).last.sets ≡ [] ∷ (0 ∷ []) ∷ []
 other_untouched = refl
 
--- The text of a run: two elements are committed, and of two packets one matches.
+-- The text of a run that commits two elements. Of two packets one matches.
 abbrev small_script : Script
 small_script = record { schema = one_set; sections = (added 2 (port 80) ∷ added 3 (port 81) ∷ Commit 0 ∷ []) ∷ []; last = 0 }
 

@@ -1,4 +1,5 @@
--- What a script does: generations, transactions, refusals (nft(8): a file is applied in whole transactions).
+-- What a script does: generations, transactions and refusals. As in nft(8), a file is applied in
+-- whole transactions.
 use Rattle.std.specs.Prelude.{ℕ, ◌+◌, Bool, true, false, List, [], ◌∷◌, ◌++◌, map, if◌then◌else◌, not, Option, Some, None, slice_get, slice_set, fold, count_by}
 use Rattle.std.specs.List.{sum_by as total_by, list_any}
 use Rattle.set_model.specs.declared.element.NewElement.{NewElement}
@@ -20,18 +21,18 @@ pub record Generation : Type 0 where
   pub number : ℕ
   pub sets : List State
 
--- What a refused change does to its transaction: it fails, or the change is skipped.
+-- What a refused change does to its transaction. The transaction fails, or skips the change.
 pub data Mode : Type 0 where
   Strict : Mode
   KeepGoing : Mode
 
--- the mode of a run that keeps going, or not
+-- the mode of a run, by whether it keeps going
 abbrev pub mode_of : Bool → Mode
 mode_of true = KeepGoing
 mode_of false = Strict
 
--- The generations so far and the last of them again, the sets with the open changes, whether the
--- open transaction has failed, and what was told.
+-- The generations so far, and the last of them again. The sets with the open changes. Whether the
+-- open transaction has failed. The events.
 pub record Control : Type 0 where
   pub committed : List Generation
   pub last : Generation
@@ -49,36 +50,36 @@ start schema = let g = first_generation schema in record { committed = g ∷ [];
 abbrev pub told : Control → Event → Control
 told c event = record c { events = c.events ++ event ∷ [] }
 
--- A refused change is told and leaves the open sets. In strict mode the transaction has failed.
+-- A refused change makes an event and leaves the open sets. In strict mode the transaction fails.
 abbrev pub refused : Mode → Control → ℕ → ℕ → Why → Control
 refused Strict c line set why = record (told c (events.Refused line set why)) { failed = true }
 refused KeepGoing c line set why = told c (events.Refused line set why)
 
--- what an addition is to the verb `add`: refused, or the set that it leaves
+-- what the verb `add` makes of an addition: a refusal, or the set that it leaves
 abbrev pub as_added : Addition × State → Option Why × State
 as_added (Refused why, s) = (Some why, s)
 as_added (New id, s) = (None, s)
 as_added (Already id, s) = (None, s)
 as_added (Renewed id, s) = (None, s)
 
--- what an addition to the set s is to `create`, which refuses elements that exist
+-- what `create` makes of an addition to the set s; it refuses elements that exist
 abbrev pub as_created : State → Addition × State → Option Why × State
 as_created s (Refused why, t) = (Some why, s)
 as_created s (New id, t) = (None, t)
 as_created s (Already id, t) = (Some (causes.Exists id), s)
 as_created s (Renewed id, t) = (Some (causes.Exists id), s)
 
--- what a removal from the set s is to `delete`
+-- what `delete` makes of a removal from the set s
 abbrev pub as_deleted : State → Option (ℕ × State) → Option Why × State
 as_deleted s None = (Some causes.Missing, s)
 as_deleted s (Some found) = (None, found.1)
 
--- what a removal from the set s is to `destroy`, which doesn't mind a missing element
+-- what `destroy` makes of a removal from the set s; it accepts a missing element
 abbrev pub as_destroyed : State → Option (ℕ × State) → Option Why × State
 as_destroyed s None = (None, s)
 as_destroyed s (Some found) = (None, found.1)
 
--- The answer to a change of one set: the cause that refuses it or none, and the set that it leaves.
+-- The answer to a change of one set: the cause of the refusal, if any, and the set that it leaves.
 abbrev pub changed_set : Verb → State → NewElement → ℕ → Option Why × State
 changed_set verbs.Add s e now = as_added (add s e now)
 changed_set verbs.Create s e now = as_created s (add s e now)
@@ -88,7 +89,7 @@ changed_set verbs.Destroy s e now = as_destroyed s (removed s e.parts now)
 abbrev pub with_set : Control → ℕ → State → Control
 with_set c set s = record c { sets = slice_set c.sets set s }
 
--- the control after a change of the set at a place was answered
+-- the control after the answer to a change of the set at a place
 abbrev pub answered : Mode → Control → ℕ → ℕ → Option Why × State → Control
 answered mode c line set (Some why, s) = refused mode c line set why
 answered mode c line set (None, s) = with_set c set s
@@ -116,11 +117,12 @@ committed c now =
     let g = next_generation c now in
     record (told c (events.Committed g.number (expired_count c.sets now))) { committed = c.committed ++ g ∷ []; last = g; sets = g.sets }
 
--- The open changes are gone: the open sets are those of the last generation, and nothing has failed.
+-- The open changes are dropped: the open sets are those of the last generation, and nothing has
+-- failed.
 abbrev pub rewound : Control → Event → Control
 rewound c event = record (told c event) { sets = c.last.sets; failed = false }
 
--- One step of a script. A failed transaction does nothing until its end, which drops it.
+-- One step of a script. A failed transaction does nothing until its end. Its end drops it.
 abbrev pub step : Mode → Control → Step → Control
 step mode c (Change line set verb e now) = if c.failed then c else changed mode c line set verb e now (slice_get c.sets set)
 step mode c (Flush line set now) = if c.failed then c else flushed c set (slice_get c.sets set)
@@ -135,7 +137,7 @@ section mode c steps = fold (step mode) c steps
 abbrev pub history : Mode → List SetDecl → List (List Step) → Control
 history mode schema sections = fold (section mode) (start schema) sections
 
--- An event tells that a change was refused.
+-- An event is the refusal of a change.
 abbrev pub is_refusal : Event → Bool
 is_refusal (events.Refused line set why) = true
 is_refusal (events.Committed generation purged) = false

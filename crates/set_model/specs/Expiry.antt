@@ -1,4 +1,4 @@
--- Moments and expiries: an element is expired at a moment that is not before its expiry.
+-- Moments and expiries. An element is expired from its expiry on.
 use Rattle.std.specs.Prelude.{ℕ, Bool, true, nat_lt, List, Option, Some, None, slice_get, slice_set}
 use Rattle.set_model.specs.declared.element.Element.{Element}
 
@@ -11,7 +11,7 @@ lives (Some expiry) now = nat_lt now expiry
 abbrev pub live : Element → ℕ → Bool
 live e now = lives e.expiry now
 
--- the elements with another expiry of the element e at place i
+-- the elements, after the element e at place i gets another expiry
 abbrev pub renewed_element : List Element → ℕ → Option ℕ → Option Element → List Element
 renewed_element elements i expiry None = elements
 renewed_element elements i expiry (Some e) = slice_set elements i (record e { expiry = expiry })

@@ -9,7 +9,8 @@ use Rattle.set_model.specs.Kind.{bits_of}
 abbrev pub is_value : Kind → ℕ → Bool
 is_value kind value = nat_lt value (2 ^ bits_of kind)
 
--- An interval of a kind doesn't fall, and its high end is a value of the kind.
+-- An interval is good: its low end is at most its high end, and the high end is a value of the
+-- kind.
 abbrev pub is_good : Kind → Interval → Bool
 is_good kind part = nat_le part.low part.high && is_value kind part.high
 

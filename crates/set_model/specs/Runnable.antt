@@ -1,4 +1,4 @@
--- Scripts and packets that can be run: their steps and keys fit the sets that are declared.
+-- Scripts and packets that can run: their steps and keys fit the declared sets.
 use Rattle.std.specs.Prelude.{◌≡◌, ◌≤◌, ◌<◌, ◌-◌, List, Bool, true, false, length, All, IsTrue, Option, Some, None, slice_get}
 use Rattle.set_model.specs.declared.packet.Packet.{Packet}
 use Rattle.set_model.specs.declared.script.SetDecl.{SetDecl}
@@ -12,7 +12,7 @@ pub record HasFields (d : SetDecl) : Type 0 where
   pub some : 0 < length d.kinds
   pub few : length d.kinds ≤ 16
 
--- A change and a flush are of a declared set, and a change's intervals fit the set's kinds.
+-- A change or a flush is of a declared set, and a change's intervals fit the set's kinds.
 abbrev pub IsRunnableStep : List SetDecl → Step → Type 0
 IsRunnableStep schema (Change line set verb e now) = (d : SetDecl) × (slice_get schema set ≡ Some d) × IsTrue (parts_fit d.kinds e.parts)
 IsRunnableStep schema (Flush line set now) = (d : SetDecl) × (slice_get schema set ≡ Some d)
@@ -27,11 +27,12 @@ opens (Some (Flush line set now)) = true
 opens (Some (Commit now)) = false
 opens (Some Abort) = false
 
--- Behind these steps of a section a transaction with a change is open: the last step is a change or a flush.
+-- After these steps of a section a transaction with a change is open: the last step is a change or
+-- a flush.
 abbrev pub is_open : List Step → Bool
 is_open steps = opens (slice_get steps (length steps - 1))
 
--- The last step of a section, where it has one, ends its transaction: it is a commit or an abort.
+-- The last step of a section, if it has one, ends its transaction: it is a commit or an abort.
 abbrev pub EndsClosed : List Step → Type 0
 EndsClosed steps = is_open steps ≡ false
 

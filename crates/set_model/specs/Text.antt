@@ -1,4 +1,4 @@
--- The text of a transcript: section by section what the control told, and then one line per packet.
+-- The text of a transcript: for each section the control's events, and then one line per packet.
 use Rattle.std.specs.Prelude.{ℕ, ◌+◌, ◌-◌, max, List, [], ◌∷◌, ◌++◌, length, take, drop, Option, Some, None, slice_get, codes, decimal}
 use Rattle.std.specs.List.{flat_map, range_with_len}
 use Rattle.set_model.specs.declared.script.Script.{Script}
@@ -19,7 +19,7 @@ use Rattle.set_model.specs.Legal.{section_events}
 abbrev pub line_feed : List ℕ
 line_feed = 10 ∷ []
 
--- a word and the number behind it
+-- a word and the number after it
 abbrev pub numbered : List ℕ → ℕ → List ℕ
 numbered word n = word ++ codes " " ++ decimal n
 
@@ -31,7 +31,7 @@ family_text Arp = codes "arp"
 family_text Bridge = codes "bridge"
 family_text Netdev = codes "netdev"
 
--- a set: its family, its table's name and its own
+-- a set: its family, its table's name and its own name
 abbrev pub set_text : Option SetDecl → List ℕ
 set_text None = []
 set_text (Some d) = family_text d.family ++ codes " " ++ d.table ++ codes " " ++ d.name
@@ -73,15 +73,15 @@ packets_before keys j = length (flat_map (λ packets. packets) (take (j - 1) key
 abbrev pub packets_up_to : List (List Packet) → ℕ → ℕ
 packets_up_to keys j = length (flat_map (λ packets. packets) (take j keys))
 
--- of the lines of all packets those of section j
+-- the lines of section j among the lines of all packets
 abbrev pub section_lines : List (List Packet) → ℕ → List Line → List Line
 section_lines keys j lines = drop (packets_before keys j) (take (packets_up_to keys j) lines)
 
--- how many sections a run has: those of the script, from 0 on, and those of the key file, from 1 on
+-- how many sections a run has: the script's from 0 on, and the key file's from 1 on
 abbrev pub section_count : Script → List (List Packet) → ℕ
 section_count script keys = max (length script.sections) (length keys + 1)
 
--- Of runs by the text of their packets' lines, a lookup's or a judge's.
+-- The text of runs, given the text of their packets' lines: a lookup's or a judge's.
 module _ (packets_text : List Line → List ℕ) where
   -- the text of section j
   abbrev pub section_text : Mode → Script → List (List Packet) → List Line → ℕ → List ℕ

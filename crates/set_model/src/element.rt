@@ -13,16 +13,16 @@ pub type Parts = Shared<Interval>;
 /// The bytes of an element's comment. Copies share their contents.
 pub type Comment = Shared<u8>;
 
-/// An element of a set: it holds each key whose every value lies in the interval of its field.
+/// An element of a set. It holds each key whose values are each in the interval of their field.
 #[derive(Drop)]
 pub struct Element {
-    /// Its number in the order of insertion, never given twice in one set.
+    /// The number in the order of insertion. No two elements of a set ever have the same.
     pub id: u64,
     /// One interval per field.
     pub parts: Parts,
-    /// The moment, in milliseconds, from which on it is expired; `None` where it never is.
+    /// The moment, in milliseconds, from which on it is expired. `None` if it never expires.
     pub expiry: Option<u64>,
-    /// Kept and printed, and no part of matching.
+    /// Kept and printed. It doesn't matter for matching.
     pub comment: Comment,
 }
 
@@ -37,14 +37,14 @@ impl Duplicate for Element {
     }
 }
 
-/// An element that is to be added, as yet without an id.
+/// An element that is to be added. It has no id yet.
 #[derive(Drop)]
 pub struct NewElement {
     /// One interval per field.
     pub parts: Parts,
-    /// The moment, in milliseconds, from which on it is expired; `None` where it never is.
+    /// The moment, in milliseconds, from which on it is expired. `None` if it never expires.
     pub expiry: Option<u64>,
-    /// Kept and printed, and no part of matching.
+    /// Kept and printed. It doesn't matter for matching.
     pub comment: Comment,
 }
 
@@ -58,8 +58,8 @@ impl Duplicate for NewElement {
     }
 }
 
-/// Whether an expiry has not come at a moment, both in milliseconds: there is none, or the moment
-/// is before it.
+/// Whether an element with this expiry is live at `now`, both in milliseconds: it has no expiry, or
+/// `now` is before it.
 #[inline(always)]
 pub fn is_live(expiry: Option<u64>, now: u64) -> bool
     ensures { result ≡ lives expiry now }
@@ -70,14 +70,14 @@ pub fn is_live(expiry: Option<u64>, now: u64) -> bool
     }
 }
 
-/// The moment that an expiry stands for, in milliseconds: the last one there is where there is none.
+/// The expiry as a moment in milliseconds. Without an expiry it is the last moment, `u64::MAX`.
 pub fn expiry_moment(expiry: Option<u64>) -> u64
     ensures { result ≡ unwrap_or expiry (2 ^ 64 - 1) }
 {
     expiry.unwrap_or(u64::MAX)
 }
 
-/// The elements of a set, in order of insertion.
+/// The elements of a set, in the order of insertion.
 pub type Elements = Listed<Element>;
 
 impl Listed<Element> {

@@ -6,7 +6,7 @@ ghost use Rattle.set_model.specs.Key.{is_good as good, values_fit, intervals_fit
 use crate::element::Parts;
 use crate::kind::{Interval, Key, Kind, Kinds};
 
-/// Whether a value has no more than so many bits.
+/// Whether a value has at most `bits` bits.
 pub fn is_below(value: u128, bits: u32) -> bool
     requires { bits ≤ 128 }
     ensures { result ≡ nat_lt value (2 ^ bits) }
@@ -23,7 +23,8 @@ fn all_values_fit(kinds: &[Kind], key: &[u128]) -> bool
         .all(|(kind, value)| is_below(*value, kind.bits()))
 }
 
-/// Whether an interval of a kind doesn't fall and stays within the kind's bits.
+/// Whether an interval's low end is at most its high end, and the high end is within the kind's
+/// bits.
 pub fn is_good(kind: Kind, part: &Interval) -> bool
     ensures { result ≡ good kind part.now }
 {
@@ -46,7 +47,8 @@ pub fn fits(kinds: &Kinds, key: &Key) -> bool
     kinds.len() == key.len() && all_values_fit(kinds.as_slice(), key.as_slice())
 }
 
-/// Whether there is one interval per kind, none of which falls or goes past its kind's bits.
+/// Whether there is one interval per kind. Each has a low end no higher than its high end, within
+/// the kind's bits.
 pub fn parts_fit(kinds: &Kinds, parts: &Parts) -> bool
     ensures { result ≡ the_parts_fit kinds.now parts.now }
 {

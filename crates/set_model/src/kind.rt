@@ -5,7 +5,7 @@ use crate::listed::{Duplicate, Listed};
 use crate::memory::Memory;
 use std::alloc::Global;
 
-/// What a field of a key is, as nft(8) names it: `ipv4_addr`, `ipv6_addr`, `ether_addr`,
+/// The kind of a field of a key, as nft(8) names it: `ipv4_addr`, `ipv6_addr`, `ether_addr`,
 /// `inet_proto`, `inet_service` and `mark`.
 #[derive(Clone, Copy, Debug, PartialEq, Eq)]
 pub enum Kind {

@@ -1,9 +1,29 @@
-//! The plain types of packet filter sets, and the definitions of what they mean: which element holds
-//! a key, what an added or removed element does, what a script commits, and which transcripts are
-//! legal. The definitions stand in `specs/` and are what every other crate's contracts cite.
+//! The types of packet filter sets and scripts, and the definitions of what they mean.
+//!
+//! Take a set of one port field with two elements, both without an expiry:
+//!
+//! ```text
+//! element 0:  ports 10-20
+//! element 1:  ports 5-30
+//! ```
+//!
+//! The definitions say what each call on such a set must do:
+//!
+//! - A lookup of port 15 finds element 0, the earliest inserted one that is live and holds the key.
+//!   A lookup of 25 finds element 1 (`specs/SetState.antt`).
+//! - Element 1 could be added, since neither of its ends is in 10-20. If it had been first, 10-20
+//!   would be refused: its start is in 5-30.
+//! - An element with the expiry 30,000 is live at 29,999 and expired at 30,000
+//!   (`specs/Expiry.antt`).
+//! - A refused change ends its transaction in strict mode. If the run keeps going, the change is
+//!   skipped (`specs/Control.antt`).
+//! - A packet may be looked up in the last generation before its section, in the last one after it,
+//!   or in one between (`specs/Legal.antt`).
+//!
+//! All definitions are in `specs/`. The contracts of every other crate cite them.
 //!
 //! **Definitions:** docs/definitions.md says what each file of `specs/` defines, and where it comes
-//! from; `proofs/Worked.antt` has worked examples.
+//! from. `proofs/Worked.antt` has worked examples, with these numbers among them.
 #![tactic(auto)]
 
 mod block;

@@ -4,9 +4,9 @@ use crate::memory::Memory;
 use std::alloc::Global;
 use std::marker::Model;
 
-/// A value that can be made once more, if there is memory for it.
+/// A value that can be copied, if there is memory for the copy.
 pub trait Duplicate {
-    /// The same value once more.
+    /// A copy of the value.
     fn copy(&self, alloc: Global) -> Result<Self, Memory>
         ensures { IfOk result (λ other. other ≡ self.now) };
 }
@@ -60,7 +60,7 @@ impl<T> Listed<T> {
         &self.items[i as usize]
     }
 
-    /// The items in a row.
+    /// The items as a slice.
     #[inline(always)]
     pub fn as_slice(&self) -> &[T]
         ensures { result.now ≡ self.now }
@@ -68,7 +68,7 @@ impl<T> Listed<T> {
         self.items.as_slice()
     }
 
-    /// The items in a row, to be changed in place.
+    /// The items as a slice, to change them in place.
     #[inline(always)]
     pub fn as_mut_slice(&mut self) -> &mut [T]
         ensures value { result.now ≡ self.old }
@@ -77,7 +77,7 @@ impl<T> Listed<T> {
         self.items.as_mut_slice()
     }
 
-    /// Adds an item at the end. After `Memory` the list is as it was.
+    /// Adds an item at the end. If memory runs out, the list is unchanged.
     pub fn push(&mut self, item: T) -> Result<(), Memory>
     where
         T: Drop,
@@ -88,7 +88,7 @@ impl<T> Listed<T> {
         Ok(())
     }
 
-    /// Takes the item at place `i` out. The later items close up. It takes no memory.
+    /// Removes the item at place `i`. Later items move down. It takes no memory.
     pub fn remove(&mut self, i: u64) -> T
         requires { i < length self.old }
         ensures item { slice_get self.old i ≡ Some result }

@@ -30,7 +30,7 @@ pub type Packets = Listed<Packet>;
 /// The packets of a key file, section by section. The first is section 1.
 pub type Keys = Listed<Packets>;
 
-/// Where a lookup found an element, and its id.
+/// The place and the id of an element that a lookup found.
 #[derive(Clone, Copy, Debug, PartialEq, Eq)]
 pub struct Found {
     /// The place in the list of elements, from 0.
@@ -39,7 +39,7 @@ pub struct Found {
     pub id: u64,
 }
 
-/// What a lookup says of a packet.
+/// The result of a packet's lookup.
 #[derive(Clone, Copy, Debug, PartialEq, Eq)]
 pub enum Verdict {
     None,

@@ -9,30 +9,30 @@ use std::alloc::Global;
 /// Why a change was refused.
 #[derive(Clone, Copy, Debug, PartialEq, Eq)]
 pub enum Why {
-    /// A live element stands in the way.
+    /// A live element is in the way.
     Overlap { id: u64 },
-    /// `create` found the element there.
+    /// The element that `create` names exists already.
     Exists { id: u64 },
-    /// The set has as many elements as it may have.
+    /// The set has all elements that it may have.
     Full,
-    /// The field would have more rules than a field may have.
+    /// The field would have too many rules.
     RulesFull { field: u32 },
-    /// `delete` found no such element.
+    /// The element that `delete` names is missing.
     Missing,
 }
 
-/// What the control tells of a script.
+/// An event of the control while it runs a script.
 #[derive(Clone, Copy, Debug, PartialEq, Eq)]
 pub enum Event {
     Refused { line: u64, set: u32, why: Why },
     Committed { generation: u64, purged: u64 },
     Aborted { generation: u64 },
-    /// A transaction that failed in strict mode came to its end.
+    /// A transaction that failed in strict mode has ended.
     Dropped { generation: u64 },
 }
 
 impl Event {
-    /// Whether it tells that a change was refused.
+    /// Whether it is the refusal of a change.
     pub fn is_refusal(&self) -> bool
         ensures { result ≡ refuses self.now }
     {
@@ -43,8 +43,8 @@ impl Event {
     }
 }
 
-/// The answer to one packet: its number, the thread that looked it up, and the generation and
-/// verdict that it got.
+/// The answer to one packet: its number, the thread that looked it up, the generation and the
+/// verdict.
 #[derive(Clone, Copy, Debug, PartialEq, Eq)]
 pub struct Line {
     /// The packet's number among all packets, from 0.

@@ -7,7 +7,7 @@ use std::alloc::Global;
 /// The bytes of a table's or set's name.
 pub type Name = Listed<u8>;
 
-/// The address family of a table, as nft(8) has them.
+/// The address family of a table, as in nft(8).
 #[derive(Clone, Copy, Debug, PartialEq, Eq)]
 pub enum Family {
     Ip,
@@ -29,15 +29,15 @@ pub struct SetDecl {
     pub name: Name,
     /// What each field of a key is.
     pub kinds: Kinds,
-    /// The flag `interval`: intervals of more than one value may stand in it.
+    /// The flag `interval`: elements may have intervals of more than one value.
     pub interval: bool,
     /// The flag `timeout`: elements may expire.
     pub timed: bool,
     /// The flag `disjoint`: no two live elements may share a key.
     pub disjoint: bool,
-    /// The life of an element that names none, in milliseconds.
+    /// The life of an element that has no timeout of its own, in milliseconds.
     pub timeout: Option<u64>,
-    /// How many elements it may have.
+    /// The most elements that it may have.
     pub size: Option<u32>,
 }
 
@@ -66,8 +66,8 @@ pub enum Verb {
     Destroy,
 }
 
-/// What a script does, one step after another. Lines count from 1, sets from 0 in the order of the
-/// schema, and moments are milliseconds.
+/// One step of a script. Lines count from 1, sets from 0 in the order of the schema. Moments are in
+/// milliseconds.
 #[derive(Drop)]
 pub enum Step {
     Change {
@@ -124,12 +124,12 @@ pub type Steps = Listed<Step>;
 /// The sections of a script, from 0 on.
 pub type Sections = Listed<Steps>;
 
-/// What a script's text stands for.
+/// What a script's text means.
 #[derive(Drop)]
 pub struct Script {
     /// The declared sets, in their order.
     pub schema: Schema,
-    /// The sections, of which there is one at least.
+    /// The sections. There is at least one.
     pub sections: Sections,
     /// The last moment of the script.
     pub last: u64,

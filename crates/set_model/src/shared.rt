@@ -6,16 +6,15 @@ use std::alloc::Global;
 use std::marker::Model;
 use std::sync::Arc;
 
-/// Where the items of a list stand whose copies may share them: in the list itself, or in one place that
-/// all its copies point to.
+/// The items of a list: in the list itself, or in one place to which all its copies point.
 #[derive(Drop)]
 pub enum Contents<T> {
     Own(Vec<T>),
     Common(Arc<Vec<T>, Global>),
 }
 
-/// A list of plain items whose copies share their contents, since every transaction copies the
-/// elements of the sets that it changes. Contracts see it as the list of its items.
+/// A list of plain items whose copies share their contents. Every transaction copies the elements
+/// of the sets that it changes, so copies must be cheap. Contracts see the list of its items.
 #[derive(Drop)]
 pub struct Shared<T> {
     contents: Contents<T>,
@@ -60,7 +59,7 @@ impl<T: Copy> Shared<T> {
         }
     }
 
-    /// The items in a row.
+    /// The items as a slice.
     pub fn as_slice(&self) -> &[T]
         ensures { result.now ≡ self.now }
     {
@@ -85,8 +84,8 @@ impl<T: Copy> Shared<T> {
         &self.as_slice()[i as usize]
     }
 
-    /// Adds an item at the end of this list, and of no other that shares its contents. After
-    /// `Memory` the list is as it was.
+    /// Adds an item at the end of this list. Lists that shared its contents are unchanged. If
+    /// memory runs out, so is this list.
     pub fn push(&mut self, item: T) -> Result<(), Memory>
         ensures ok { OnOk result (self.new ≡ self.old ++ item ∷ []) }
         ensures err { OnErr result (self.new ≡ self.old) }

@@ -1,4 +1,5 @@
--- The gaps of an image in which elements that left it stand, and what the set without them answers.
+-- The gaps of an image are the elements that left the set. These laws say what the set without them
+-- answers.
 use Rattle.std.proofs.Common.{◌≡◌, refl, sym, ◌∙◌, ap, ℕ, ◌+◌, ◌-◌, ◌<◌, ◌≤◌, min, max, Bool, true, cond, List, [], ◌∷◌, length, take, Option, Some, None, arith, length-take-le, take_all}
 use Rattle.std.specs.Prelude.{option_map, count_by, map}
 use Rattle.std.proofs.lemmas.List.{length-map, take-map}
@@ -25,7 +26,7 @@ marks-counted p [] = refl
 marks-counted p (x ∷ xs) =
     sum_by-cons (λ b. cond b 1 0) (p x) (map p xs) ∙ ap (λ n. cond (p x) 1 0 + n) (marks-counted p xs) ∙ sym (sum_by-cons (λ y. cond (p y) 1 0) x xs)
 
--- The rank of a place is how many elements that left stand before it.
+-- The rank of a place is the number of gaps before it.
 pub gaps_ranked : (passed : Option ℕ) (image : State) (gaps : List Bool) (i : ℕ) → gaps ≡ gap_marks passed image → i ≤ length image.elements
     → rank gaps (min i (length gaps)) ≡ gaps_before passed image i
 gaps_ranked None image gaps i e l = let none = ap length e in let few = rank-few gaps (min i (length gaps)) in omega (arith, none, few)
@@ -36,7 +37,7 @@ gaps_ranked (Some m) image gaps i e l =
     ap (rank gaps) within ∙ ap (λ z. rank z i) e ∙ ap (count_by (λ b. b)) (take-map p i image.elements) ∙ marks-counted p (take i image.elements)
 
 -- ---- moments
--- What is live at a moment is live at another one where it is live at the later of the two.
+-- An element is live at two moments exactly if it is live at the later one.
 answers-lived : (key : List ℕ) (m now : ℕ) (e : Element) → answers key (max m now) e ≡ true → live e m ≡ true
 answers-lived key m now e h = both-stay m (answers key (max m now)) (answers key now) (answers-both key m now) e h
 
@@ -51,7 +52,7 @@ moved-is image m i l =
     let long = length-take-le i image.elements l in
     omega (arith, both, gone, long)
 
--- an answer of the image as one of the set: the place less the gaps before it
+-- an answer of the image as an answer of the set: the place less the gaps before it
 abbrev pub closed : Option ℕ → State → Found → Found
 closed passed image f = record { place = f.place - gaps_before passed image f.place; id = f.id }
 
@@ -100,7 +101,7 @@ pub disjoint_stays : (passed : Option ℕ) (image : State) → (staying passed i
 disjoint_stays None image = refl
 disjoint_stays (Some m) image = refl
 
--- The set has the image's elements less the gaps.
+-- The set has as many elements as the image, less the gaps.
 pub gaps_and_others : (passed : Option ℕ) (image : State) → gaps_before passed image (length image.elements) + length (staying passed image).elements ≡ length image.elements
 gaps_and_others None image = omega arith
 gaps_and_others (Some m) image =

@@ -1,10 +1,11 @@
--- A list without the items that fail a test: the first that passes another one, and what changes in it.
+-- A list without the items that fail a test: the first item that passes another test, and changes
+-- of the list.
 use Rattle.std.proofs.Common.{◌≡◌, refl, sym, ◌∙◌, ap, ℕ, zero, suc, ◌+◌, ◌<◌, Bool, true, false, ◌&&◌, cond, List, [], ◌∷◌, length, take, get_or, slice_set, Option, Some, None, arith}
 use Rattle.std.specs.Prelude.{filter, position, remove, option_map}
 use Rattle.std.proofs.lemmas.List.Sums.{length-filter, count_by-le-length}
 use Rattle.set_tables.proofs.RowLaws.{position-cons}
 
--- where an item at a place stands among those that pass
+-- the place of an item among those that pass
 abbrev pub moved : {X : Type 0} → (X → Bool) → List X → ℕ → ℕ
 moved q xs i = length (filter q (take i xs))
 
@@ -26,7 +27,7 @@ module _ {X : Type 0} (q : X → Bool) where
     go true ih = ih
     go false ih = ih
 
-  -- what passes is removed, before or after the others are left out
+  -- an item that passes is removed, before or after the failing items are left out
   pub remove-kept : (xs : List X) (i : ℕ) (d : X) → i < length xs → q (get_or xs i d) ≡ true → remove (filter q xs) (moved q xs i) ≡ filter q (remove xs i)
   remove-kept [] i d l h = absurd (omega arith)
   remove-kept (x ∷ xs) zero d l h = rw h refl
@@ -36,7 +37,8 @@ module _ {X : Type 0} (q : X → Bool) where
     go true ih = ap (λ z. x ∷ z) ih
     go false ih = ih
 
-  -- what passes is replaced by what passes, before or after the others are left out
+  -- an item that passes is replaced by one that passes, before or after the failing items are left
+  -- out
   pub set-kept : (xs : List X) (i : ℕ) (y d : X) → i < length xs → q (get_or xs i d) ≡ true → q y ≡ true → slice_set (filter q xs) (moved q xs i) y ≡ filter q (slice_set xs i y)
   set-kept [] i y d l h k = absurd (omega arith)
   set-kept (x ∷ xs) zero y d l h k = rw (h, k) refl
@@ -46,7 +48,7 @@ module _ {X : Type 0} (q : X → Bool) where
     go true ih = ap (λ z. x ∷ z) ih
     go false ih = ih
 
-  -- What is replaced by an item that fails is left out.
+  -- An item that is replaced by a failing item is left out.
   pub set-gone : (xs : List X) (i : ℕ) (y : X) → i < length xs → q y ≡ false → filter q (slice_set xs i y) ≡ filter q (remove xs i)
   set-gone [] i y l k = absurd (omega arith)
   set-gone (x ∷ xs) zero y l k = rw k refl
@@ -62,7 +64,7 @@ module _ {X : Type 0} (q : X → Bool) where
         let c = ap length h in
         absurd (omega (arith, a, b, c))
 
-  -- Where all items pass, those that a removal leaves do.
+  -- If all items pass, those that a removal leaves pass, too.
   pub remove-whole : (xs : List X) (i : ℕ) → filter q xs ≡ xs → filter q (remove xs i) ≡ remove xs i
   remove-whole [] zero h = refl
   remove-whole [] (suc i) h = refl
@@ -71,7 +73,8 @@ module _ {X : Type 0} (q : X → Bool) where
       let a = whole-rest x xs h in
       ap (λ t. cond t (x ∷ filter q (remove xs i)) (filter q (remove xs i))) a.0 ∙ ap (λ z. x ∷ z) (remove-whole xs i a.1)
 
-  -- The first item that passes one test, of those that pass the other, is the first that passes both.
+  -- Take the items that pass one test. The first of them that passes the other test is the first
+  -- item that passes both.
   pub position-both : (both p : X → Bool) → ((x : X) → both x ≡ (q x && p x)) → (xs : List X) → position p (filter q xs) ≡ option_map (moved q xs) (position both xs)
   position-both both p each [] = refl
   position-both both p each (x ∷ xs) =
@@ -97,7 +100,7 @@ module _ {X : Type 0} (q : X → Bool) where
         behind false None = refl
         behind false (Some i) = let n : suc i ≡ 1 + i = omega arith in ap (λ k. Some (moved q (x ∷ xs) k)) n
 
-  -- What passes one test and then another passes both.
+  -- Items that pass one test and then another are the items that pass both.
   pub filter-both : (both p : X → Bool) → ((x : X) → both x ≡ (q x && p x)) → (xs : List X) → filter p (filter q xs) ≡ filter both xs
   filter-both both p each [] = refl
   filter-both both p each (x ∷ xs) = go (q x) (filter-both both p each xs) ∙ ap (λ v. cond v (x ∷ filter both xs) (filter both xs)) (sym (each x)) where

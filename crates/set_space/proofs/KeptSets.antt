@@ -1,4 +1,5 @@
--- What changes a set, and the same change of the set without the elements that are expired at a moment.
+-- A change of a set, and the same change of the set without the elements that are expired at a
+-- moment.
 use Rattle.std.proofs.Common.{◌≡◌, refl, sym, ◌∙◌, ap, ℕ, ◌+◌, ◌-◌, ◌<◌, ◌≤◌, ◌^◌, max, Bool, true, false, ◌&&◌, ◌||◌, ◌==◌, cond, nat_lt, nat_le, List, [], ◌∷◌, ◌++◌, length, get_or, slice_set, Option, Some, None, arith}
 use Rattle.std.specs.Prelude.{IfSome, if◌then◌else◌, filter, find, position, option_map, remove}
 use Rattle.std.specs.Option.{option_map_or}
@@ -24,11 +25,11 @@ use Rattle.set_space.proofs.KeptItems.{moved, moved-within, get_or-kept, remove-
 abbrev stays : ℕ → Element → Bool
 stays m e = live e m
 
--- its place among these
+-- its place among the elements that are live at the moment
 abbrev moved_in : ℕ → State → ℕ → ℕ
 moved_in m s i = moved (stays m) s.elements i
 
--- a place of an element that is live at the moment, where it is one
+-- a place, if there is one, of an element that is live at the moment
 abbrev StaysAt : ℕ → State → Option ℕ → Type 0
 StaysAt m s o = IfSome o (λ i. (i < length s.elements) × (stays m (element_at s i) ≡ true))
 
@@ -78,7 +79,7 @@ twin-kept m s parts (Some i) h =
       go true = (refl, h)
       go false = (refl, tt)
 
--- a place that counts where a test fails, and one that counts where it passes
+-- a place that counts if a test fails, and one that counts if it passes
 else-kept : (m : ℕ) (s : State) (t : Bool) (o : Option ℕ) → StaysAt m s o
     → ((if t then None else option_map (moved_in m s) o) ≡ option_map (moved_in m s) (if t then None else o)) × StaysAt m s (if t then None else o)
 else-kept m s true o h = (refl, tt)
@@ -142,7 +143,7 @@ renewed-kept m s i x l h k =
     ∙ ap (filter (stays m)) (sym (renewed-set s.elements i x l))
     )
 
--- An element with the expiry 0 is removed.
+-- An element that gets the expiry 0 is removed.
 pub marked-gone : (m : ℕ) (s : State) (i : ℕ) → i < length s.elements → purged (renewed s i (Some 0)) m ≡ purged (without_at s i) m
 marked-gone m s i l =
     let with_elements : List Element → State = λ es. record s { elements = es } in
@@ -150,13 +151,13 @@ marked-gone m s i l =
       never : (m : ℕ) → nat_lt m 0 ≡ false
       never m = grind (arith, nat_tests)
 
--- Where no element is expired at the moment, none is when one is removed.
+-- If no element is expired at the moment, none is after one is removed.
 pub whole-without : (m : ℕ) (s : State) (i : ℕ) → s ≡ purged s m → purged (without_at s i) m ≡ without_at s i
 whole-without m s i h =
     let with_elements : List Element → State = λ es. record s { elements = es } in
     ap with_elements (remove-whole (stays m) s.elements i (sym (ap (λ (t : State). t.elements) h)))
 
--- What is removed of a set, and of the set without the elements that are expired at the moment.
+-- A removal from a set, and from the set without the elements that are expired at the moment.
 pub removed-kept : (m : ℕ) (s : State) (parts : List Interval) (now : ℕ)
     → removed (purged s m) parts now ≡ option_map (λ i. ((element_at s i).id, purged (without_at s i) m)) (exact_place s parts (max m now))
 removed-kept m s parts now =
@@ -170,13 +171,14 @@ removed-kept m s parts now =
           ap (λ e. pair e (remove (purged s m).elements (moved_in m s i))) (element-kept m s i h.0 h.1) ∙ ap (pair (element_at s i)) (remove-kept (stays m) s.elements i no_element h.0 h.1)
 
 -- ---- additions
--- The size or the rules refuse an addition.
+-- The size or the number of rules refuses an addition.
 abbrev pub at_limit : Addition → Bool
 at_limit (Refused Full) = true
 at_limit (Refused (RulesFull f)) = true
 at_limit a = false
 
--- what comes of an addition, and the set that it leaves without the elements that are expired at the moment
+-- what an addition does, and the set that it leaves without the elements that are expired at the
+-- moment
 abbrev pub kept_of : ℕ → Addition × State → Addition × State
 kept_of m a = (a.0, purged a.1 m)
 
@@ -205,7 +207,7 @@ by-case m s e None x None None None None c' false f' l k t a b d fw cw h =
     ap (λ z. add_by (purged s m) e None x None None None z c') (fw refl) ∙ ap (λ z. add_by (purged s m) e None x None None None false z) (cw refl)
     ∙ ap (λ z. (New s.next, z)) (added-kept m s e l)
 
--- An addition that no limit refuses comes to the same.
+-- An addition that no limit refuses does the same in both sets.
 pub add-kept : (m : ℕ) (s : State) (e : NewElement) (now : ℕ) → lives e.expiry m ≡ true → at_limit (add s e (max m now)).0 ≡ false → add (purged s m) e now ≡ kept_of m (add s e (max m now))
 add-kept m s e now l h =
     let M = moved_in m s in

@@ -1,4 +1,4 @@
--- What is decided of an image is what the set without the elements that left it answers.
+-- What the image decides is what the set without the elements that left answers.
 use Rattle.std.proofs.Common.{◌≡◌, refl, sym, ◌∙◌, ap, ℕ, ◌-◌, ◌<◌, ◌==◌, max, Bool, true, false, not, List, Option, Some, None, Result, Ok, Err, length, arith}
 use Rattle.std.specs.Prelude.{count_by, option_map, unwrap_or}
 use Rattle.std.proofs.lemmas.Bool.Decides.{nat_tests}
@@ -24,7 +24,7 @@ use Rattle.set_space.specs.LazyImage.{staying, moment, is_at_limit, would_leave,
 use Rattle.set_space.proofs.KeptItems.{filter-both}
 use Rattle.set_space.proofs.KeptSets.{live-both, at_limit, kept_of, add-kept, removed-kept, marked-gone, whole-without}
 
--- a set from which no element has left is its image
+-- a set that no element has left is its image
 pub new_of : (p : Option ℕ) (s : State) → p ≡ None → staying p s ≡ s
 new_of None s is = refl
 new_of (Some m) s is = absurd (cc is)
@@ -57,24 +57,25 @@ live-of : (b : Bool) → not b ≡ false → b ≡ true
 live-of true h = refl
 live-of false h = absurd (cc h)
 
--- Where the element stays and no room is wanted, the image decides for the set.
+-- If the element stays and no limit refuses it, the image decides for the set.
 pub lazy_decision : (p : Option ℕ) (s : State) (e : NewElement) (now : ℕ) (r : Result Decision ChangeError)
     → would_leave p e.expiry ≡ false → IsDecision s e (add s e (moment p now)) r → wants_room p r ≡ false → IsLazyDecision p s e (add (staying p s) e now) r
 lazy_decision None s e now r l h w = plain-decision s e now r h
 lazy_decision (Some m) s e now r l h w = by-image m s e now r (live-of (lives e.expiry m) l) w h
 
 -- ---- removals
--- An element with the expiry 0 is deleted, where each other one of the set is live at that moment.
+-- To give an element the expiry 0 deletes it, if each other element of the set is live at that
+-- moment.
 pub marked : (p : Option ℕ) (s : State) (i : ℕ) → i < length s.elements → staying p s ≡ purged s (unwrap_or p 0) → purged (renewed s i (Some 0)) (unwrap_or p 0) ≡ staying p (without_at s i)
 marked None s i l h = marked-gone 0 s i l ∙ whole-without 0 s i h
 marked (Some m) s i l h = marked-gone m s i l
 
--- Where no element has the expiry 0, those that are live at moment 0 are all.
+-- If no element has the expiry 0, all are live at moment 0.
 pub none_expired : (p : Option ℕ) (s : State) (n : ℕ) → p ≡ None → n ≡ count_by (is_expired 0) s.elements → (n == 0) ≡ true → staying p s ≡ purged s (unwrap_or p 0)
 none_expired None s n is count none = let zero : n ≡ 0 = grind (arith, nat_tests) in all_stay s 0 (sym count ∙ zero)
 none_expired (Some m) s n is count none = refl
 
--- The others than those that are expired at the moment are counted.
+-- The elements that aren't expired at the moment are counted.
 pub counted : (p : Option ℕ) (s : State) (m n gone : ℕ) → p ≡ Some m → n ≡ length s.elements → gone ≡ count_by (is_expired m) s.elements → n - gone ≡ length (staying p s).elements
 counted None s m n gone is long count = absurd (cc is)
 counted (Some k) s m n gone is long count =
@@ -85,14 +86,14 @@ counted (Some k) s m n gone is long count =
     kept ∙ ap (λ z. length (purged s z).elements) (sym same)
 
 -- ---- purges
--- What is purged twice is purged at the later moment.
+-- Two purges are one purge at the later moment.
 pub purged_twice : (p : Option ℕ) (s : State) (now : ℕ) → purged s (moment p now) ≡ purged (staying p s) now
 purged_twice None s now = refl
 purged_twice (Some m) s now =
     let with_elements : List Element → State = λ es. record s { elements = es } in
     ap with_elements (sym (filter-both (λ e. live e m) (λ e. live e (max m now)) (λ e. live e now) (λ e. live-both e.expiry m now) s.elements))
 
--- Those of the image that stay in the set and are expired are the set's expired ones.
+-- The image's elements that are still in the set and are expired are the set's expired elements.
 pub leaving_counted : (p : Option ℕ) (s : State) (now n : ℕ) → n ≡ count_by (is_leaving p now) s.elements → n ≡ count_by (is_expired now) (staying p s).elements
 leaving_counted None s now n count = count
 leaving_counted (Some m) s now n count =

@@ -1,4 +1,4 @@
--- A refused addition leaves the set; what exists is no new element.
+-- A refused addition leaves the set unchanged. An element that exists already is no new element.
 use Rattle.std.proofs.Common.{◌≡◌, sym, ◌∙◌, ap, subst, ℕ, Option, Some, Result, Ok, Err, OnErr, IfOk, length}
 use Rattle.std.specs.Prelude.{IsErrAnd}
 use Rattle.set_model.specs.declared.element.NewElement.{NewElement}
@@ -36,7 +36,7 @@ module _ (p : Option ℕ) (image s : State) (e : NewElement) (now : ℕ) where
   creation_exists id (Renews p i) same h is = (ap (λ z. (as_created s z).0) h.1 ∙ cc is, same)
   creation_exists id (Adds columns) same h is = absurd (cc is)
 
-  -- What is refused leaves the set.
+  -- A refusal leaves the set unchanged.
   pub insertion_refused : (r : Result Came ChangeError) (error : ChangeError) → IsErrAnd r (λ z. z ≡ error) → staying p image ≡ s
       → IsLazyDecision p image e (add s e now) (Err error) → IsAnswer (add s e now) r s (staying p image)
   insertion_refused (Ok came) error is same h = absurd is
@@ -45,7 +45,7 @@ module _ (p : Option ℕ) (image s : State) (e : NewElement) (now : ℕ) where
     as_refused (errors.Refused why) h = (ap (λ z. z.0) (sym h), ap (λ z. z.1) (sym h))
     as_refused errors.Memory h = same
 
-  -- What is done is the answer.
+  -- If something is done, the call returns it.
   pub insertion_done : (t : State) (decision : Decision) (came : Came) → IsLazyDecision p image e (add s e now) (Ok decision)
       → addition_said came ≡ comes decision image.next → t ≡ staying p (set_left image e decision) → IsAnswer (add s e now) (Ok came) s t
   insertion_done t decision came h a b = (a ∙ ap (λ z. z.0) (sym h.1), b ∙ ap (λ z. z.1) (sym h.1))

@@ -1,4 +1,4 @@
--- The states of the sets of a work, where one of them changes or all changes are taken back.
+-- The states of the sets of a work, if one of them changes or all changes are taken back.
 use Rattle.std.proofs.Common.{◌≡◌, refl, sym, ◌∙◌, ap, subst, ℕ, zero, suc, ◌+◌, ◌<◌, ◌≤◌, List, [], ◌∷◌, ◌++◌, length, take, map, get_or, slice_get, slice_set, Some, Bool, true, not, count_by, arith, add-one}
 use Rattle.std.specs.Prelude.{IsTrue, ◌↔◌}
 use Rattle.std.proofs.lemmas.List.{map-append, take_all}
@@ -48,17 +48,17 @@ unchanged-from (o ∷ os) (b ∷ bs) h each =
     ap (λ z. open_state z b ∷ open_states os bs) here
     ∙ ap (λ r. b ∷ r) (unchanged-from os bs (omega (arith, h)) (λ i p lt. each (suc i) p (omega (arith, lt))))
 
--- Without a change the sets are the base's.
+-- Without a change the sets are those of the base.
 pub unchanged_states : (os : List OpenSet) (bs : List State) → length os ≡ length bs → ((i : ℕ) (o : OpenSet) → i < length bs → get_or os i o ≡ Unchanged) → open_states os bs ≡ bs
 unchanged_states os bs long each = unchanged-from os bs long each
 
--- A set that stands for the same state.
+-- A set that represents the same state.
 pub open-kept : (os : List OpenSet) (bs : List State) (i : ℕ) (o n : OpenSet) (b : State) → i < length os → o ≡ get_or os i o → slice_get bs i ≡ Some b
     → open_state n b ≡ open_state o b → open_states (slice_set os i n) bs ≡ open_states os bs
 open-kept os bs i o n b h e at same =
     open-set os bs i n b h at ∙ ap (λ z. slice_set (open_states os bs) i z) same ∙ set-same (open_states os bs) i (open_state o b) (open-at os bs i o b h e at)
 
--- one state more is published and counted
+-- one more state is published and counted
 take-more : (xs : List State) (i : ℕ) (x : State) → slice_get xs i ≡ Some x → take (suc i) xs ≡ take i xs ++ x ∷ []
 take-more [] i x h = absurd (cc h)
 take-more (y ∷ ys) zero x h = let e : y ≡ x = cc h in ap (λ z. z ∷ []) e
@@ -107,7 +107,7 @@ module _ (g d : Generation) (os : List OpenSet) (i : ℕ) (o : OpenSet) (b : Sta
   pub work-at : slice_get w.sets i ≡ Some (open_state o b)
   work-at = ap (λ (z : Open). slice_get z.sets i) (sym is) ∙ open-at os g.sets i o b in-open here in-base
 
-  -- The work where it was changed.
+  -- The work whose set was changed.
   pub one-changed : (step : State → State → Type 0) (n : OpenSet) → step (open_state o b) (open_state n b) → IsChange step w i (record { base = g; sets = open_states (slice_set os i n) g.sets })
   one-changed step n done = record {
     state = open_state o b;
@@ -117,19 +117,19 @@ module _ (g d : Generation) (os : List OpenSet) (i : ℕ) (o : OpenSet) (b : Sta
     others = ap (λ r. record { base = g; sets = r }) (open-set os g.sets i n b in-open in-base) ∙ ap (λ z. with_open_set z i (open_state n b)) is;
   }
 
-  -- The work where it was left.
+  -- The work whose set was left unchanged.
   pub none-changed : (n : OpenSet) → open_state n b ≡ open_state o b → record { base = g; sets = open_states (slice_set os i n) g.sets } ≡ w
   none-changed n left = ap (λ r. record { base = g; sets = r }) (open-kept os g.sets i o n b in-open here in-base left) ∙ is
 
 pub change-weaker : (P Q : State → State → Type 0) (old new : Open) (i : ℕ) → ((s t : State) → P s t → Q s t) → IsChange P old i new → IsChange Q old i new
 change-weaker P Q old new i more h = record { state = h.state; left = h.left; at = h.at; changed = more h.state h.left h.changed; others = h.others }
 
--- the sets of a work are as many as those of its base
+-- a work has as many sets as its base
 pub work-long : (g d : Generation) (os : List OpenSet) (w : Open) → record { base = g; sets = open_states os g.sets } ≡ w → length os ≡ length g.sets → d ≡ g → length d.sets ≡ length w.sets
 work-long g d os w is long same =
     ap (λ (z : Generation). length z.sets) same ∙ sym (open-long os g.sets long) ∙ ap (λ (z : Open). length z.sets) is
 
--- Intervals fit the set at a place exactly where they fit the kinds of its state.
+-- Intervals fit the set at a place exactly if they fit the kinds of its state.
 pub fits_at : (w : Open) (i : ℕ) (s : State) (parts : List Interval) (b : Bool) → slice_get w.sets i ≡ Some s → b ≡ parts_fit s.kinds parts → IsTrue b ↔ FitsSet w i parts
 fits_at w i s parts b at test = (
   λ fit t there. let same : s ≡ t = cc (sym at ∙ there) in subst (λ (z : State). parts_fit z.kinds parts ≡ true) same (sym test ∙ fit),

@@ -1,4 +1,4 @@
--- A set by its image, in which elements that left the set may stand yet.
+-- A set by its image, which may still have elements that left the set.
 use Rattle.std.specs.Prelude.{◌≡◌, ℕ, max, Bool, true, false, not, Option, Some, None, Result, Ok, Err}
 use Rattle.set_model.specs.declared.element.NewElement.{NewElement}
 use Rattle.set_model.specs.declared.report.Why.TheVariants.{Full, RulesFull}
@@ -11,13 +11,12 @@ use Rattle.pipapo_image.specs.declared.image.decision.Decision.{Decision}
 use Rattle.pipapo_image.specs.Image.Decision.{CanBeDone, comes, set_left}
 use Rattle.set_space.specs.declared.lazy_image.LazyImage.{LazyImage}
 
--- A set by its image, in which elements that left it may stand yet: the set has those that are live at
--- the moment by which they left.
+-- The set of an image: those elements that are live at the moment by which others left.
 abbrev pub staying : Option ℕ → State → State
 staying None image = image
 staying (Some m) image = purged image m
 
--- the set that a lazy image stands for
+-- the set that a lazy image represents
 abbrev pub set_of : LazyImage → State
 set_of lazy = staying lazy.passed lazy.image
 
@@ -26,24 +25,24 @@ abbrev pub moment : Option ℕ → ℕ → ℕ
 moment None now = now
 moment (Some m) now = max m now
 
--- The set's size or a field's rules refuse the element.
+-- The set's size or a field's number of rules refuses the element.
 abbrev pub is_at_limit : Result Decision ChangeError → Bool
 is_at_limit (Err (errors.Refused Full)) = true
 is_at_limit (Err (errors.Refused (RulesFull f))) = true
 is_at_limit r = false
 
--- An element with this expiry would be taken for one that left.
+-- The image would take an element with this expiry for one that left.
 abbrev pub would_leave : Option ℕ → Option ℕ → Bool
 would_leave None expiry = false
 would_leave (Some m) expiry = not (lives expiry m)
 
--- A limit refuses the element, which counts those that left.
+-- A limit refuses the element, and elements that left count towards the limit.
 abbrev pub wants_room : Option ℕ → Result Decision ChangeError → Bool
 wants_room None r = false
 wants_room (Some m) r = is_at_limit r
 
--- This is to be done to the image, and the set without the elements that left answers so; or it is a
--- refusal; or there was no memory.
+-- Either the image decides this, and the set without the elements that left gives the same answer;
+-- or it is a refusal; or memory ran out.
 abbrev pub IsLazyDecision : Option ℕ → State → NewElement → Addition × State → Result Decision ChangeError → Type 0
 IsLazyDecision passed image e answer (Ok decision) = CanBeDone image e.parts decision × (answer ≡ (comes decision image.next, staying passed (set_left image e decision)))
 IsLazyDecision passed image e answer (Err (errors.Refused why)) = answer ≡ (Refused why, staying passed image)

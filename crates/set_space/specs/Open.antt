@@ -1,5 +1,5 @@
--- The open transaction: a base generation and the sets with the open changes (nft(8): a file is applied
--- in whole transactions).
+-- The open transaction: a base generation and the sets with the open changes. As in nft(8), a file
+-- is applied in whole transactions.
 use Rattle.std.specs.Prelude.{◌≡◌, ◌≤◌, ℕ, true, false, List, [], length, Some, None, slice_get, slice_set}
 use Rattle.set_model.specs.declared.script.SetDecl.{SetDecl}
 use Rattle.set_model.specs.declared.kind.Interval.{Interval}
@@ -29,7 +29,7 @@ pub record CanBeBuilt (d : SetDecl) : Type 0 where
 abbrev pub FitsSet : Open → ℕ → List Interval → Type 0
 FitsSet w set parts = (s : State) → slice_get w.sets set ≡ Some s → parts_fit s.kinds parts ≡ true
 
--- The set at a place has no live element of exactly these intervals.
+-- The set at a place has no live element with exactly these intervals.
 abbrev pub Lacks : Open → ℕ → List Interval → ℕ → Type 0
 Lacks w set parts now = (s : State) → slice_get w.sets set ≡ Some s → removed s parts now ≡ None
 
@@ -37,7 +37,7 @@ Lacks w set parts now = (s : State) → slice_get w.sets set ≡ Some s → remo
 abbrev pub IsEmptyAt : Open → ℕ → Type 0
 IsEmptyAt w set = (s : State) → slice_get w.sets set ≡ Some s → s.elements ≡ []
 
--- The set at a place is changed, from one state to another, and nothing else is.
+-- The set at a place changes from one state to another. Nothing else changes.
 pub record IsChange (step : State → State → Type 0) (old : Open) (set : ℕ) (new : Open) : Type 0 where
   pub state : State
   pub left : State
@@ -45,7 +45,7 @@ pub record IsChange (step : State → State → Type 0) (old : Open) (set : ℕ)
   pub changed : step state left
   pub others : new ≡ with_open_set old set left
 
--- the control of a script at this work, with nothing told
+-- the control of a script at this work, without events
 abbrev pub as_control : Open → Control
 as_control w = record { committed = []; last = w.base; sets = w.sets; failed = false; events = [] }
 

@@ -11,10 +11,10 @@ use std::alloc::Global;
 use std::marker::Model;
 use std::sync::Arc;
 
-/// The sets as they stood at a commit, and the commit's number.
+/// The sets at a commit, and the number of the commit.
 #[derive(Drop)]
 pub struct Generation {
-    /// The number of the commit, from 0, which is the start.
+    /// The number of the commit. Number 0 is the start.
     pub number: u64,
     /// The declared sets, in their order.
     pub sets: Sets,
@@ -53,7 +53,7 @@ impl Generation {
     ///
     /// # Errors
     ///
-    /// `Memory` if there is none left.
+    /// `Memory` if memory runs out.
     pub fn first(alloc: Global, schema: &Schema) -> Result<Generation, Memory>
         requires { All CanBeBuilt schema.now }
         ensures { IfOk result (λ g. g ≡ first_generation schema.now) }

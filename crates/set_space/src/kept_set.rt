@@ -12,7 +12,8 @@ use set_model::{Found, Key, Kinds, Memory};
 use std::alloc::Global;
 use std::marker::Model;
 
-/// A set of a generation, shared by all generations in which it is the same. Contracts see its state.
+/// A set of a generation. All generations in which it is the same share it. Contracts see its
+/// state.
 #[derive(Drop)]
 pub struct KeptSet {
     lazy: LazyImage,
@@ -33,7 +34,7 @@ impl Model for KeptSet {
     ghost invariant = { λ a. a.gaps ≡ gap_marks a.lazy.passed a.lazy.image };
 }
 
-/// Which elements of an image left by a moment.
+/// Which elements of an image left by the moment `passed`.
 fn gaps_of(alloc: Global, image: &SetImage, passed: Option<u64>) -> Result<RankedBits, Memory>
     ensures { IfOk result (λ gaps. gaps ≡ gap_marks passed image.now) }
 {
@@ -43,7 +44,7 @@ fn gaps_of(alloc: Global, image: &SetImage, passed: Option<u64>) -> Result<Ranke
     }
 }
 
-/// How many gaps stand before a place of the image whose gaps they are.
+/// How many gaps come before a place of the image that has these gaps.
 #[inline]
 fn gaps_before(gaps: &RankedBits, place: u64) -> u64
     ensures { (passed : Option ℕ) (image : State) → gaps.now ≡ gap_marks passed image → place ≤ length image.elements
@@ -52,7 +53,7 @@ fn gaps_before(gaps: &RankedBits, place: u64) -> u64
     gaps.rank(place.min(gaps.len()))
 }
 
-/// Lets copies share an image from now on, and finds its gaps.
+/// Lets copies share an image from now on, and finds its gaps. Returns the gaps.
 fn settled(alloc: Global, lazy: &mut LazyImage) -> Result<RankedBits, Memory>
     ensures same { set_of lazy.new ≡ set_of lazy.old }
     ensures gaps { IfOk result (λ gaps. gaps ≡ gap_marks lazy.new.passed lazy.new.image) }
@@ -65,7 +66,7 @@ impl KeptSet {
     /// A set of 1 to 16 fields without elements.
     ///
     /// # Errors
-    /// `Memory` if there is none left.
+    /// `Memory` if memory runs out.
     pub(crate) fn new(
         alloc: Global,
         kinds: &Kinds,
@@ -82,8 +83,8 @@ impl KeptSet {
         })
     }
 
-    /// A changed set whose soonest expiries are found, for generations to share and copies to share its
-    /// elements. Where memory is missing the same set comes back.
+    /// Makes a changed set ready for sharing: generations share it, and copies share its pages. Its
+    /// soonest expiries are known already. If memory runs out, the same set comes back.
     pub(crate) fn of(alloc: Global, mut lazy: LazyImage) -> Result<KeptSet, LazyImage>
         ensures ok { IfOk result (λ kept. kept ≡ set_of lazy) }
         ensures err { IfErr result (λ same. set_of same ≡ set_of lazy) }
@@ -101,7 +102,7 @@ impl KeptSet {
         self.lazy.image.kinds()
     }
 
-    /// Whether a common key with a live element refuses an addition.
+    /// Whether a live element that shares a key refuses an addition.
     pub fn is_disjoint(&self) -> bool
         ensures { result ≡ self.now.disjoint }
     {
@@ -116,8 +117,8 @@ impl KeptSet {
         count - gaps_before(&self.gaps, count)
     }
 
-    /// The first element of the set's list that is live at `now`, in milliseconds, and holds the key.
-    /// `None` where there is none. It takes no memory.
+    /// The first element of the set that is live at `now`, in milliseconds, and holds the key.
+    /// `None` if there is none. It takes no memory.
     pub fn find(&self, key: &Key, now: u64, scratch: &mut Scratch) -> Option<Found>
         requires { key_fits self.now.kinds key.now ≡ true }
         ensures { result ≡ found self.now key.now now }
@@ -131,10 +132,10 @@ impl KeptSet {
         }
     }
 
-    /// The image of the set's elements alone, by which listings and dumps go.
+    /// An image of the set's elements alone, which listings and dumps use.
     ///
     /// # Errors
-    /// `Memory` if there is none left.
+    /// `Memory` if memory runs out.
     pub fn closed_up(&self, alloc: Global) -> Result<SetImage, Memory>
         ensures { IfOk result (λ image. image ≡ self.now) }
     {
@@ -144,14 +145,14 @@ impl KeptSet {
         }
     }
 
-    /// The image by which the set was kept.
+    /// The image that keeps the set.
     pub(crate) fn into_lazy(self) -> LazyImage
         ensures { set_of result ≡ self }
     {
         self.lazy
     }
 
-    /// The image by which the set is kept.
+    /// The image that keeps the set.
     pub(crate) fn lazy(&self) -> &LazyImage
         ensures { set_of result.now ≡ self.now }
     {

@@ -10,20 +10,20 @@ use pipapo_image::SetImage;
 use set_model::{Duplicate, Kinds, Memory};
 use std::alloc::Global;
 
-/// A set by its image. An element that left the set may stand in the image yet, until the rule numbers
-/// close up. One that was deleted has the expiry 0, so that it is live at no moment.
+/// A set by its image. An element that left the set may stay in the image until the rule numbers
+/// close up. A deleted element has the expiry 0, so it is live at no moment.
 #[derive(Drop)]
 pub(crate) struct LazyImage {
     pub(crate) image: SetImage,
-    /// Elements that are expired at this moment have left the set, though they may stand in the image.
-    /// `None`: none has.
+    /// Elements that are expired at this moment, in milliseconds, have left the set. They may still
+    /// be in the image. `None` if no element has left.
     pub(crate) passed: Option<u64>,
-    /// About how many elements that left stand in the image.
+    /// About how many elements in the image left the set.
     left: u64,
 }
 
 impl LazyImage {
-    /// A set that is its image.
+    /// A set that has all elements of its image.
     pub(crate) fn new(image: SetImage) -> LazyImage
         ensures image { result.image ≡ image }
         ensures none { result.passed ≡ None }
@@ -35,10 +35,10 @@ impl LazyImage {
         }
     }
 
-    /// The same set, which shares the pages of this one's image.
+    /// The same set. It shares the pages of this set's image.
     ///
     /// # Errors
-    /// `Memory` if there is none left.
+    /// `Memory` if memory runs out.
     pub(crate) fn copy(&self, alloc: Global) -> Result<LazyImage, Memory>
         ensures { IfOk result (λ other. (other.image ≡ self.now.image) × (other.passed ≡ self.now.passed)) }
     {
@@ -49,10 +49,10 @@ impl LazyImage {
         })
     }
 
-    /// The same set, in whose image no element that left stands.
+    /// The same set, with an image that has no other elements.
     ///
     /// # Errors
-    /// `Memory` if there is none left.
+    /// `Memory` if memory runs out.
     fn closed_up(&self, alloc: Global) -> Result<LazyImage, Memory>
         ensures same { IfOk result (λ other. set_of other ≡ set_of self.now) }
         ensures none { IfOk result (λ other. other.passed ≡ None) }
@@ -64,10 +64,10 @@ impl LazyImage {
         Ok(LazyImage::new(image))
     }
 
-    /// The set without the elements. Ids go on.
+    /// The set without its elements. Ids go on.
     ///
     /// # Errors
-    /// `Memory` if there is none left.
+    /// `Memory` if memory runs out.
     pub(crate) fn emptied(&self, alloc: Global) -> Result<LazyImage, Memory>
         ensures { IfOk result (λ other. set_of other ≡ cleared (set_of self.now)) }
     {
@@ -111,12 +111,12 @@ impl LazyImage {
         self.image.elements().count_leaving(self.passed, now)
     }
 
-    /// The set without the elements that are expired at `now`, in milliseconds; about `count` of them. They
-    /// stand in the image yet where they aren't many, unless it is full: then each addition would have the
-    /// numbers close up.
+    /// The set without the elements that are expired at `now`, in milliseconds, about `count` of
+    /// them. If they are few, they stay in the image, unless the image is full: each addition to a
+    /// full image would close its numbers up.
     ///
     /// # Errors
-    /// `Memory` if there is none left.
+    /// `Memory` if memory runs out.
     pub(crate) fn without_expired(
         &self,
         alloc: Global,
@@ -138,10 +138,10 @@ impl LazyImage {
         })
     }
 
-    /// Takes the elements that left out of the image, so that the rule numbers close up.
+    /// Removes the elements that left from the image, so that the rule numbers close up.
     ///
     /// # Errors
-    /// `Memory` if there is none left. The set is as it was.
+    /// `Memory` if memory runs out. The set is as it was.
     pub(crate) fn close_up(&mut self, alloc: Global) -> Result<(), Memory>
         ensures same { set_of self.new ≡ set_of self.old }
         ensures ok { OnOk result (self.new.passed ≡ None) }
@@ -152,17 +152,17 @@ impl LazyImage {
         Ok(())
     }
 
-    /// Looks for the soonest expiry of the set's elements anew, where it may be a later one than was known.
+    /// Finds the soonest expiries of the set's elements anew, if they may be later than known.
     pub(crate) fn find_soonest(&mut self)
         ensures { set_of self.new ≡ set_of self.old }
     {
         self.image.find_soonest(self.passed);
     }
 
-    /// Closes the rule numbers up where more than a quarter of the image may be elements that left.
+    /// Closes the rule numbers up if more than a quarter of the image may have left.
     ///
     /// # Errors
-    /// `Memory` if there is none left. The set is as it was.
+    /// `Memory` if memory runs out. The set is as it was.
     pub(crate) fn close_gaps(&mut self, alloc: Global) -> Result<(), Memory>
         ensures { set_of self.new ≡ set_of self.old }
     {
@@ -172,7 +172,7 @@ impl LazyImage {
         Ok(())
     }
 
-    /// Whether so many elements are more than a quarter of the image.
+    /// Whether `count` elements are more than a quarter of the image.
     fn is_many(&self, count: u64) -> bool {
         count > self.image.elements().len() / 4
     }

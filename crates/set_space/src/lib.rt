@@ -1,20 +1,40 @@
-//! Generations of sets, and the open changes of a transaction on them.
+//! Generations of sets, and the open transaction that changes them.
 //!
-//! A set that a transaction doesn't change is shared between the generations, unless an element of it
-//! has expired at the commit. What changes nothing, as a refused insertion or the deletion of a missing
-//! element, is found out before a copy is made, but in two cases: an addition that a limit refuses, and
-//! one whose expiry isn't after the moment by which others left, while these stand in the image yet.
+//! A [`Work`] is the open transaction. It has a base generation and the sets that it changed. The
+//! first change of a set copies it; the copy shares all pages that don't change. A commit
+//! (`Work::seal`) makes the next [`Generation`]. It shares every set without expired elements. Of a
+//! set with expired elements it makes a copy without them.
 //!
-//! Elements that left a set stand in its image for a while, and leave it together, so that not each
-//! deletion and each commit closes the rule numbers up. They are expired at a moment beside the image
-//! (`passed`), and the set is what is live at it. A set of a generation, a [`KeptSet`], takes the places
-//! of those that left off the place that the image answers, and shows nobody their rules.
+//! To remove an element from the tables moves all later rules. So elements that leave a set stay in
+//! its image for a while, and many leave it together. The moment `passed` is kept with the image:
+//! the set has those elements that are live at `passed`. Take a set with the ports 80 until 1000,
+//! 443, 8080 and 8443:
 //!
-//! **Definitions:** `specs/Open.antt` and `Answers.antt` say what a change answers and leaves,
-//! `OpenSets.antt` what one set of the open transaction is, `LazyImage.antt`, `KeptSet.antt` and
-//! `Copies.antt` which set an image stands for that elements left. **Theory:** docs/architecture.md,
-//! "The way of a change". **Proofs:** docs/proofs.md, "A work on sets (`set_space`), text piece by
-//! piece (`set_report`)".
+//! ```text
+//! commit at 500     passed: none   image: 80, 443, 8080, 8443   set: 80, 443, 8080, 8443
+//! commit at 1000    passed: 1000   image: 80, 443, 8080, 8443   set: 443, 8080, 8443
+//! ```
+//!
+//! A set of a generation, a [`KeptSet`], has one bit per element of the image, which says whether it
+//! left. The image finds port 443 at place 1. One element before it left, so the set returns place
+//! 0. A deletion gives its element the expiry 0, which is live at no moment.
+//!
+//! If more than a quarter of the image may have left, the tables are made anew without the elements
+//! that left. Comments call this closing the rule numbers up.
+//!
+//! A change without effect copies nothing, such as a refused addition or the deletion of a missing
+//! element. There are two exceptions, both in a set whose image has elements that left:
+//!
+//! - A limit refuses an addition. Elements that left count towards the limit.
+//! - An addition's expiry isn't after `passed`. The image would take its element for one that left.
+//!
+//! In both cases the numbers close up in a copy, and the transaction goes on with the copy.
+//!
+//! **Definitions:** `specs/Open.antt` and `Answers.antt` say what a change returns and leaves, and
+//! `OpenSets.antt` what one set of the open transaction is. `LazyImage.antt`, `KeptSet.antt` and
+//! `Copies.antt` say which set an image represents. **Theory:** docs/architecture.md, "The way of a
+//! change". **Proofs:** docs/proofs.md, "A work on sets (`set_space`), text piece by piece
+//! (`set_report`)".
 #![tactic(auto)]
 
 mod generation;

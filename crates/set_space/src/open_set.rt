@@ -18,18 +18,18 @@ use std::alloc::Global;
 use std::mem;
 use std::sync::Arc;
 
-/// A set of the open transaction, beside that of the base.
+/// A set of the open transaction, given the set of the base.
 #[derive(Drop)]
 pub(crate) enum OpenSet {
-    /// It is the base's.
+    /// It is the set of the base.
     Unchanged,
-    /// It was changed, and is this work's alone.
+    /// It was changed, and this work alone has it.
     Changed(LazyImage),
-    /// It was changed, and is shared with a generation that was sealed.
+    /// It was changed, and a sealed generation shares it.
     Sealed(Arc<KeptSet, Global>),
 }
 
-/// A changed set, for generations to share. Where memory is missing the same set comes back.
+/// Makes a changed set ready for sharing. If memory runs out, the same set comes back.
 fn settled(alloc: Global, lazy: LazyImage) -> Result<Arc<KeptSet, Global>, LazyImage>
     ensures ok { IfOk result (λ shared. arc_value shared ≡ set_of lazy) }
     ensures err { IfErr result (λ same. set_of same ≡ set_of lazy) }
@@ -44,7 +44,7 @@ fn settled(alloc: Global, lazy: LazyImage) -> Result<Arc<KeptSet, Global>, LazyI
 }
 
 impl OpenSet {
-    /// The image by which the set is kept.
+    /// The image that keeps the set.
     fn lazy<'a>(&'a self, base: &'a KeptSet) -> &'a LazyImage
         ensures { set_of result.now ≡ open_state self.now base.now }
     {
@@ -73,7 +73,7 @@ impl OpenSet {
         parts_fit(self.lazy(base).kinds(), parts)
     }
 
-    /// Goes on with a copy, where there is one.
+    /// Replaces the set by a copy, if there is one.
     fn take(&mut self, copy: Option<LazyImage>)
         ensures { (base : State) → open_state self.new base ≡ copied copy (open_state self.old base) }
     {
@@ -82,8 +82,8 @@ impl OpenSet {
         }
     }
 
-    /// Inserts into the set. One that isn't this work's alone is copied where something changes, and where its
-    /// rule numbers close up before that is known.
+    /// Inserts into the set. A set that is shared is copied if something changes. It is also copied
+    /// if its rule numbers must close up before this is known.
     pub(crate) fn insert(
         &mut self,
         alloc: Global,
@@ -103,8 +103,8 @@ impl OpenSet {
         came
     }
 
-    /// Inserts into the set where no live element of the same intervals is there. One that isn't this
-    /// work's alone is copied as by an insertion.
+    /// Inserts into the set, if it has no live element of the same intervals. A shared set is
+    /// copied as by `insert`.
     pub(crate) fn create(
         &mut self,
         alloc: Global,
@@ -124,8 +124,7 @@ impl OpenSet {
         came
     }
 
-    /// Takes the first live element of exactly these intervals out. A set that isn't this work's alone is
-    /// copied.
+    /// Removes the first live element with exactly these intervals. A shared set is copied.
     pub(crate) fn delete(
         &mut self,
         alloc: Global,
@@ -145,8 +144,8 @@ impl OpenSet {
         Ok(id)
     }
 
-    /// Takes all elements out, and answers how many there were. A set without elements stays as it is,
-    /// shared where it was.
+    /// Removes all elements, and returns their number. A set without elements is unchanged, and
+    /// stays shared if it was.
     pub(crate) fn flush(&mut self, alloc: Global, base: &KeptSet) -> Result<u64, Memory>
         ensures ok { IfOk result (λ n. (n ≡ length (open_state self.old base.now).elements) × (open_state self.new base.now ≡ cleared (open_state self.old base.now))) }
         ensures err { OnErr result (open_state self.new base.now ≡ open_state self.old base.now) }
@@ -161,8 +160,8 @@ impl OpenSet {
         Ok(count)
     }
 
-    /// Readies a changed set: its rule numbers close up where many elements left it, and its soonest expiry
-    /// is found.
+    /// Prepares a changed set for a commit. Its rule numbers close up if many elements left, and
+    /// its soonest expiries are found.
     fn ready(&mut self, alloc: Global) -> Result<(), Memory>
         ensures { (base : State) → open_state self.new base ≡ open_state self.old base }
     {
@@ -173,7 +172,7 @@ impl OpenSet {
         Ok(())
     }
 
-    /// Keeps a set that was shared, and shares it once more.
+    /// Keeps a set that was shared, and shares it again.
     fn keep(&mut self, kept: Arc<KeptSet, Global>) -> Result<Arc<KeptSet, Global>, Memory>
         ensures kept { (base : State) → open_state self.new base ≡ arc_value kept }
         ensures shared { IfOk result (λ other. arc_value other ≡ arc_value kept) }
@@ -183,7 +182,7 @@ impl OpenSet {
         Ok(other?)
     }
 
-    /// The set as it stands, shared and not copied.
+    /// Shares the set as it is. Nothing is copied.
     fn share(
         &mut self,
         alloc: Global,
@@ -206,8 +205,8 @@ impl OpenSet {
     }
 
     /// The set as it is published at `now`, in milliseconds: without the elements that are expired
-    /// then, and how many these are, fewer than 2^32. The open set stays as it is. A set of which none is
-    /// expired is shared and not copied.
+    /// then. Also returns their number, fewer than 2^32. The open set is unchanged. A set without
+    /// expired elements is shared and not copied.
     #[tactic(auto, using(pipapo_image::proofs::Purging::all_stay))]
     pub(crate) fn seal(
         &mut self,
@@ -226,8 +225,8 @@ impl OpenSet {
     }
 }
 
-/// A set without the elements that are expired at `now`, and how many these are. `None` where none
-/// is expired, so that the set can be shared; nothing is made anew then.
+/// A set without the elements that are expired at `now`, and their number. `None` if none is
+/// expired, so that the set can be shared. Then nothing is made anew.
 fn purged_anew(alloc: Global, lazy: &LazyImage, now: u64) -> Result<Option<(KeptSet, u64)>, Memory>
     ensures none { count_by (is_expired now) (set_of lazy.now).elements ≡ 0 → result ≡ Ok None }
     ensures some { IfOk result (λ anew. IsPurgedAnew (set_of lazy.now) now anew) }

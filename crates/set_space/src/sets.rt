@@ -7,8 +7,8 @@ use std::alloc::Global;
 use std::marker::Model;
 use std::sync::Arc;
 
-/// The sets of a generation, each shared with the other generations in which it is the same.
-/// Contracts see it as the list of the sets' states.
+/// The sets of a generation. Generations share each set that is the same in them. Contracts see the
+/// list of the sets' states.
 #[derive(Drop)]
 pub struct Sets {
     pub(crate) items: Vec<Arc<KeptSet, Global>>,
@@ -61,7 +61,7 @@ impl Sets {
     ///
     /// # Errors
     ///
-    /// `Memory` if there is none left.
+    /// `Memory` if memory runs out.
     pub(crate) fn push(&mut self, set: Arc<KeptSet, Global>) -> Result<(), Memory>
         ensures { OnOk result (self.new ≡ self.old ++ arc_value set ∷ []) }
     {

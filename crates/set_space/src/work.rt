@@ -18,8 +18,8 @@ use std::alloc::Global;
 use std::marker::Model;
 use std::sync::Arc;
 
-/// The open transaction: a base generation, and the sets with the open changes. It keeps the sets
-/// that were changed alone; the others are the base's. Contracts see the base and the states of all
+/// The open transaction: a base generation, and the sets with the open changes. It keeps only the
+/// changed sets; the others are those of the base. Contracts see the base and the states of all
 /// sets.
 #[derive(Drop)]
 pub struct Work {
@@ -43,7 +43,7 @@ impl Model for Work {
     ghost invariant = { λ a. (length a.sets.items ≡ length (arc_value a.base).sets) × (length a.sets.items ≤ 2 ^ 32) };
 }
 
-/// The sets of a generation without a change.
+/// The sets of a generation, unchanged.
 #[tactic(auto, using(crate::proofs::SetsLaws::unchanged_states))]
 fn unchanged(alloc: Global, base: &Generation) -> Result<Vec<OpenSet>, Memory>
     ensures long { IfOk result (λ sets. length sets.items ≡ length base.now.sets) }
@@ -87,7 +87,7 @@ fn seal_at(
 }
 
 /// The sets as they are published at `now`, and how many elements of all of them are expired then.
-/// The open sets stay as they are.
+/// The open sets are unchanged.
 fn seal_all(
     alloc: Global,
     sets: &mut [OpenSet],
@@ -115,7 +115,7 @@ impl Work {
     ///
     /// # Errors
     ///
-    /// `Memory` if there is none left.
+    /// `Memory` if memory runs out.
     pub fn new(alloc: Global, base: Arc<Generation, Global>) -> Result<Work, Memory>
         requires few { length (arc_value base).sets ≤ 2 ^ 32 }
         ensures { IfOk result (λ work. work ≡ opened (arc_value base)) }
@@ -143,8 +143,8 @@ impl Work {
         self.base.len()
     }
 
-    /// Whether these intervals may be handed to `insert` and `create`: there is one interval per field, of
-    /// its kind.
+    /// Whether `insert` and `create` accept these intervals: one interval per field, of the field's
+    /// kind.
     pub fn fits(&self, set: u32, parts: &Parts) -> bool
         requires { set < length self.now.sets }
         ensures { IsTrue result ↔ FitsSet self.now set parts.now }
@@ -168,12 +168,12 @@ impl Work {
         self.sets[set as usize].insert(self.alloc, base, element, now, &mut self.scratch)
     }
 
-    /// Inserts into a set where no live element of the same intervals is there.
+    /// Inserts into a set, if it has no live element of the same intervals.
     ///
     /// # Errors
     ///
-    /// `Exists` if one is there, also where a new expiry is handed in; the set stays. Then as of an
-    /// insertion. Each leaves the work as it was.
+    /// `Exists` if it has one, even if the new element has another expiry; the set stays. Otherwise
+    /// as of an insertion. Each leaves the work as it was.
     pub fn create(&mut self, set: u32, element: &NewElement, now: u64) -> Result<u64, ChangeError>
         requires set { set < length self.old.sets }
         requires fits { FitsSet self.old set element.now.parts }
@@ -184,12 +184,12 @@ impl Work {
         self.sets[set as usize].create(self.alloc, base, element, now, &mut self.scratch)
     }
 
-    /// Takes the first live element of exactly these intervals out of a set, and answers its id.
+    /// Removes the first live element with exactly these intervals from a set, and returns its id.
     ///
     /// # Errors
     ///
-    /// `Missing` exactly if there is none, also where no memory is left. `Memory` if there is none left
-    /// to take it out. Each leaves the work as it was.
+    /// `Missing` exactly if there is none, also if memory runs out. `Memory` if memory runs out
+    /// before the element is removed. Each leaves the work as it was.
     pub fn delete(&mut self, set: u32, parts: &Parts, now: u64) -> Result<u64, ChangeError>
         requires { set < length self.old.sets }
         ensures change { IsChange (λ s t. IsRemoval (removed s parts.now now) result s t) self.old set self.new }
@@ -200,11 +200,11 @@ impl Work {
         self.sets[set as usize].delete(self.alloc, base, parts, now, &mut self.scratch)
     }
 
-    /// As `delete`, and `None` where there is no such element, which takes no memory.
+    /// As `delete`, but returns `None` if there is no such element, which takes no memory.
     ///
     /// # Errors
     ///
-    /// `Memory` if there is none left to take it out. The work is as it was.
+    /// `Memory` if memory runs out before the element is removed. The work is as it was.
     pub fn destroy(&mut self, set: u32, parts: &Parts, now: u64) -> Result<Option<u64>, Memory>
         requires { set < length self.old.sets }
         ensures change { IsChange (λ s t. IsDestruction (removed s parts.now now) result s t) self.old set self.new }
@@ -218,12 +218,12 @@ impl Work {
         }
     }
 
-    /// Takes all elements out of a set, and answers how many there were. Ids go on. A set without
-    /// elements stays shared, and that takes no memory.
+    /// Removes all elements from a set, and returns their number. Ids go on. A set without elements
+    /// stays shared, and then the call takes no memory.
     ///
     /// # Errors
     ///
-    /// `Memory` if there is none left. The work is as it was.
+    /// `Memory` if memory runs out. The work is as it was.
     pub fn flush(&mut self, set: u32) -> Result<u64, Memory>
         requires { set < length self.old.sets }
         ensures change { IsChange (λ s t. IsFlush result s t) self.old set self.new }
@@ -234,13 +234,13 @@ impl Work {
         self.sets[set as usize].flush(self.alloc, base)
     }
 
-    /// The next generation: all sets as they stand, without the elements that are expired at `now`,
-    /// in milliseconds, and how many elements of all sets these are. The work stays as it is, with
-    /// its expired elements. A set of which no element is expired is shared and not copied.
+    /// The next generation: all sets without the elements that are expired at `now`, in
+    /// milliseconds. Also returns the number of these elements in all sets. The work is unchanged,
+    /// and keeps its expired elements. A set without expired elements is shared and not copied.
     ///
     /// # Errors
     ///
-    /// `Memory` if there is none left.
+    /// `Memory` if memory runs out.
     pub fn seal(&mut self, now: u64) -> Result<(Arc<Generation, Global>, u64), Memory>
         requires { self.old.base.number < 2 ^ 63 }
         ensures same { self.new ≡ self.old }
@@ -252,7 +252,7 @@ impl Work {
         Ok((generation, expired))
     }
 
-    /// The sealed generation is the base, with no open change. It takes no memory.
+    /// Makes the sealed generation the base, without open changes. It takes no memory.
     pub fn adopt(&mut self, sealed: Arc<Generation, Global>)
         requires { length (arc_value sealed).sets ≡ length self.old.base.sets }
         ensures { self.new ≡ opened (arc_value sealed) }
@@ -261,7 +261,7 @@ impl Work {
         self.abort();
     }
 
-    /// All sets are the base's again. It takes no memory.
+    /// Takes all open changes back: all sets are those of the base. It takes no memory.
     pub fn abort(&mut self)
         ensures { self.new ≡ opened self.old.base }
     {

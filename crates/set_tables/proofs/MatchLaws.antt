@@ -15,7 +15,7 @@ matched-at test (b ∷ blocks) (x ∷ row) (suc i) d h g =
     let g2 : length row ≡ length blocks = omega arith in
     matched-at test blocks row i d h2 g2
 
--- a row that keeps each place where the block passes
+-- a row that keeps each place whose block passes
 pub matched-by : (test : Block → Bool) (blocks : List Block) (row new : List Bool) (d : Block) → length row ≡ length blocks → length new ≡ length row
     → ((i : ℕ) → i < length blocks → get_or new i false ≡ (get_or row i false && test (get_or blocks i d))) → new ≡ matched test blocks row
 matched-by test blocks row new d g n each =

@@ -1,4 +1,4 @@
--- How matching, refilling and the ends act on rows that belong to a list of elements.
+-- What matching, refilling and the search of the ends do to rows of a list of elements.
 use Rattle.std.proofs.Common.{◌≡◌, refl, sym, ◌∙◌, ap, ℕ, zero, suc, ◌+◌, ◌<◌, ◌≤◌, Bool, true, false, ◌&&◌, ◌||◌, nat_lt, List, [], ◌∷◌, ◌++◌, length, map, cond, Option, Some, None, arith, length-append, zero-add, add-zero}
 use Rattle.std.specs.Prelude.{replicate, not}
 use Rattle.std.proofs.lemmas.List.{length-map, length-replicate, map-append, replicate-append-replicate}
@@ -21,7 +21,7 @@ use Rattle.set_tables.specs.Core.{hits}
 use Rattle.set_tables.specs.Rows.{matched, span_holds, reached, refilled, is_led, led_to}
 use Rattle.set_tables.specs.Tables.{spans, ends}
 
--- the row of a field where each rule has its element's mark
+-- the row of a field in which each rule has its element's mark
 abbrev pub marks : (Element → List Block) → (Element → Bool) → List Element → List Bool
 marks here mark es = flat_map (λ e. replicate (length (here e)) (mark e)) es
 
@@ -56,7 +56,7 @@ one-matched m test (b ∷ bs) = ap (λ z. (m && test b) ∷ z) (one-matched m te
 matched-append : (test : Block → Bool) (bs others : List Block) (row more : List Bool) → length bs ≡ length row → matched test (bs ++ others) (row ++ more) ≡ matched test bs row ++ matched test others more
 matched-append test bs others row more h = rw (zip-append bs others row more h) (map-append _ (zip bs row) (zip others more))
 
--- What a match leaves of marks.
+-- What a match leaves of a row of marks.
 pub marks-matched : (here : Element → List Block) (mark : Element → Bool) (test : Block → Bool) (es : List Element) → matched test (flat_map here es) (marks here mark es) ≡ hits here mark test es
 marks-matched here mark test [] = refl
 marks-matched here mark test (e ∷ es) =
@@ -94,7 +94,7 @@ span-above r first count h = grind (arith, nat_tests)
 span-within : (r first count : ℕ) → first ≤ r → r < first + count → span_holds r (record { first = first; count = count }) ≡ true
 span-within r first count h g = grind (arith, nat_tests)
 
--- Spans that begin behind r don't hold it.
+-- Spans that begin after r don't hold it.
 reached-below : (here next : Element → List Block) (mark : Element → Bool) (test : Block → Bool) (from : ℕ) (es : List Element) (r : ℕ) → r < from
     → reached (spans here next from es) (hits here mark test es) r ≡ false
 reached-below here next mark test from [] r h = refl
@@ -131,7 +131,7 @@ map-same : (f g : ℕ → Bool) (a n : ℕ) → ((r : ℕ) → a ≤ r → r < a
 map-same f g a zero h = refl
 map-same f g a (suc n) h = rw (h a (omega arith) (omega arith)) (ap (λ z. g a ∷ z) (map-same f g (a + 1) n (λ r p k. h r (omega arith) (omega arith))))
 
--- Behind a refill each rule of the next field has the mark of its element: whether that passed.
+-- After a refill each rule of the next field has its element's mark: whether the element passed.
 pub hits-refilled : (here next : Element → List Block) (mark : Element → Bool) (test : Block → Bool) (from : ℕ) (es : List Element)
     → map (reached (spans here next from es) (hits here mark test es)) (range_with_len from (length (flat_map next es))) ≡ marks next (passes here mark test) es
 hits-refilled here next mark test from [] = refl

@@ -1,4 +1,5 @@
--- The lookup in the tables of a list of elements finds the first that is live and holds the key.
+-- The lookup in the tables of a list of elements finds the first element that is live and holds the
+-- key.
 use Rattle.std.proofs.Common.{◌≡◌, refl, sym, ◌∙◌, ap, ℕ, zero, suc, ◌+◌, ◌-◌, ◌<◌, ◌≤◌, Bool, true, false, ◌&&◌, List, [], ◌∷◌, ◌++◌, length, cond, map, Option, Some, None, arith, get_or, zero-add, length-append, flat_map}
 use Rattle.std.specs.Prelude.{option_map, position, replicate, slice_index, slice_get, All}
 use Rattle.std.proofs.Math.Bool.{and_assoc}
@@ -54,7 +55,7 @@ covers-part : (kind : Kind) (v : ℕ) (part : Option Interval) → list_any (λ 
 covers-part kind v None = refl
 covers-part kind v (Some part) = blocks-cover part.low part.high (bits_of kind) v
 
--- some block of an element's interval holds the value where the interval does
+-- some block of an element's interval holds the value exactly if the interval does
 pub covers-field : (kinds : List Kind) (key : List ℕ) (f : ℕ) (e : Element) → f < length kinds → list_any (key_tests key f) (split kinds f e) ≡ holds_at e key f
 covers-field kinds key f e h =
     ap (λ k. list_any (key_tests key f) (blocks_of k (slice_get e.parts f))) (slice_get-get_or kinds f Ipv4 h)
@@ -70,7 +71,7 @@ hits-same : (here : Element → List Block) (mark other : Element → Bool) (tes
 hits-same here mark other test [] h = refl
 hits-same here mark other test (e ∷ es) h = rw (h e) (ap (λ z. map (λ b. other e && test b) (here e) ++ z) (hits-same here mark other test es h))
 
--- the core, at the key's tests
+-- the law of the core, with the tests of the key
 pub row-core : (kinds : List Kind) (es : List Element) (key : List ℕ) (f : ℕ) → f < length kinds → row_of kinds es (key_tests key) f ≡ key_row kinds es key f
 row-core kinds es key f h = hits-same (split kinds f) (passes_fields kinds (key_tests key) f) (held key f) (key_tests key f) es (λ e. passed-held kinds key f e (omega arith))
 
@@ -175,7 +176,7 @@ tables-shaped kinds es h few =
           rw (n, rules-at kinds es (length kinds - 1) j) (length-ends (split kinds (length kinds - 1)) 0 es);
     }
 
--- from the row behind the last field
+-- from the row after the last field
 pub led-finds : (kinds : List Kind) (es : List Element) (key : List ℕ) (now : ℕ) → 1 ≤ length kinds → length key ≡ length kinds → All (λ e. length e.parts ≡ length kinds) es
     → led_to (last_ends kinds es) (row_of kinds es (key_tests key) (length kinds - 1)) now ≡ position (answers key now) es
 led-finds kinds es key now h k all =

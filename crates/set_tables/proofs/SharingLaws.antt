@@ -59,11 +59,12 @@ meets (suc n) low high bits from to h some = go (cases_lt high low) (λ next g. 
 full : (low high from to : ℕ) → low ≤ high → (nat_le low high && (nat_lt low to && nat_lt from (high + 1))) ≡ (nat_lt low to && nat_lt from (high + 1))
 full low high from to h = grind (arith, nat_tests)
 
--- Some block of an interval's split meets a run of values where the interval does.
+-- Some block of an interval's split has a value in a run exactly if the interval has one.
 blocks-meet : (low high bits from to : ℕ) → low ≤ high → from < to → list_any (meets_run from to) (blocks low high bits) ≡ (nat_lt low to && nat_lt from (high + 1))
 blocks-meet low high bits from to h some = meets (high + 1) low high bits from to (omega arith) some ∙ full low high from to h
 
--- A block shares a value with some block of an interval's split where it meets the interval.
+-- A block shares a value with some block of an interval's split exactly if it shares one with the
+-- interval.
 block-shares : (low high bits : ℕ) (b : Block) → low ≤ high → shares_some (blocks low high bits) b ≡ meets_run low (high + 1) b
 block-shares low high bits b h =
     let p : 0 < 2 ^ b.free_bits = pow_pos b.free_bits in
@@ -72,7 +73,7 @@ block-shares low high bits b h =
 up-to : (a b c d : ℕ) → (nat_lt a (b + 1) && nat_lt c (d + 1)) ≡ (nat_le a b && nat_le c d)
 up-to a b c d = grind (arith, nat_tests)
 
--- Some blocks of two intervals' splits share a value where the intervals do.
+-- Some blocks of two intervals' splits share a value exactly if the intervals do.
 pub splits-share : (p q : Interval) (bits : ℕ) → p.low ≤ p.high → q.low ≤ q.high
     → list_any (shares_some (blocks q.low q.high bits)) (blocks p.low p.high bits) ≡ (nat_le p.low q.high && nat_le q.low p.high)
 splits-share p q bits h g =
@@ -83,7 +84,7 @@ splits-share p q bits h g =
 
 -- ---- one field
 
--- Two intervals, where there are two, share a value.
+-- Two intervals, if both exist, share a value.
 abbrev parts_meet : Option Interval → Option Interval → Bool
 parts_meet None q = false
 parts_meet (Some p) None = false
@@ -104,7 +105,7 @@ from-le m n h = grind (arith, nat_tests)
 from-equal : (m n : ℕ) → (m == n) ≡ true → n ≡ m
 from-equal m n h = grind (arith, nat_tests)
 
--- the intervals of a list that fits don't fall
+-- an interval of a list that fits has a low end no higher than its high end
 in-order : (kinds : List Kind) (parts : List Interval) (f : ℕ) (d : Interval) → intervals_fit kinds parts ≡ true → f < length kinds → f < length parts
     → (get_or parts f d).low ≤ (get_or parts f d).high
 in-order [] parts f d h a b = absurd (omega arith)
@@ -178,7 +179,7 @@ pub search-shares : (kinds : List Kind) (es : List Element) (parts : List Interv
 search-shares kinds es parts now some fit all =
     search-passed kinds es (share_tests kinds parts) now some ∙ position-same _ _ es (λ i d l. passed-shares kinds parts now (get_or es i d) some fit (all i d l))
 
--- from the row behind the last field
+-- from the row after the last field
 pub led-shares : (kinds : List Kind) (es : List Element) (parts : List Interval) (now : ℕ) → 1 ≤ length kinds → parts_fit kinds parts ≡ true → All (λ e. parts_fit kinds e.parts ≡ true) es
     → led_to (last_ends kinds es) (row_of kinds es (share_tests kinds parts) (length kinds - 1)) now ≡ position (is_sharing parts now) es
 led-shares kinds es parts now some fit all =

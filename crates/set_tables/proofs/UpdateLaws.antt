@@ -22,7 +22,7 @@ pub length-ends : (here : Element → List Block) (i : ℕ) (es : List Element) 
 length-ends here i [] = refl
 length-ends here i (e ∷ es) = simp (length-append, length-replicate, length-ends here (i + 1) es)
 
--- ---- more elements behind
+-- ---- more elements at the end
 pub spans-append : (here next : Element → List Block) (from : ℕ) (es others : List Element)
     → spans here next from (es ++ others) ≡ spans here next from es ++ spans here next (from + length (flat_map next es)) others
 spans-append here next from [] others = rw (add-zero from) refl
@@ -82,7 +82,8 @@ rules-without here before after e =
     ∙ ap (λ z. flat_map here before ++ z) (drop-front (flat_map here before) (here e) (flat_map here after) _ _ refl refl)
     ∙ sym (flat_map-append here before after)
 
--- the spans of an element's rules: each is its rules of the next field, from rule `from` on
+-- the spans of an element's rules: each is the element's rules of the next field, from rule `from`
+-- on
 abbrev pub one_span : (Element → List Block) → (Element → List Block) → ℕ → Element → List Span
 one_span here next from e = replicate (length (here e)) (record { first = from; count = length (next e) })
 
@@ -100,7 +101,7 @@ spans-without here next before after e =
     ∙ ap (λ z. spans here next 0 before ++ z) (lowered-spans here next (length (next e)) (0 + n) after)
     ∙ sym (spans-append here next 0 before after)
 
--- the ends of an element's rules: each tells its place and its expiry
+-- the ends of an element's rules: each has the element's place and expiry
 abbrev pub one_end : (Element → List Block) → ℕ → Element → List End
 one_end here i e = replicate (length (here e)) (record { place = i; expiry = e.expiry })
 
@@ -154,7 +155,7 @@ spans-renewed here next before after e x h g =
     ∙ ap (λ bs. spans here next 0 before ++ (replicate (length (here e)) (record { first = 0 + n; count = length bs }) ++ spans here next ((0 + n) + length bs) after)) g
     ∙ sym (spans-append here next 0 before (e ∷ after))
 
--- ---- what stands behind an element that goes
+-- ---- what comes after an element that is removed
 pub spans-from : (here next : Element → List Block) (low from : ℕ) (es : List Element) → low ≤ from → All (λ s. low ≤ s.first) (spans here next from es)
 spans-from here next low from [] h = λ k d l. absurd (omega arith)
 spans-from here next low from (e ∷ es) h =

@@ -1,4 +1,4 @@
--- The laws that are proved of the tables.
+-- The laws of the tables.
 use Rattle.std.specs.Prelude.{◌≡◌, ℕ, ◌≤◌, ◌<◌, ◌&&◌, nat_le, Bool, true, List, length, position, All}
 use Rattle.std.specs.List.{list_any}
 use Rattle.set_model.specs.declared.kind.Kind.{Kind}
@@ -13,16 +13,18 @@ use Rattle.set_tables.specs.Search.{searched, row_behind, key_tests}
 use Rattle.set_tables.specs.Core.{row_of, key_row}
 use Rattle.set_tables.specs.Sharing.{shares_some, share_tests}
 
--- Some block of an interval's split holds a value exactly where the interval does.
+-- Some block of an interval's split holds a value exactly if the interval does.
 abbrev pub BlocksCover : Type 0
 BlocksCover = (low high bits v : ℕ) → list_any (λ b. holds_value b v) (blocks low high bits) ≡ (nat_le low v && nat_le v high)
 
--- Behind field f a walk by any tests has the rules that pass, of elements that passed all fields before.
+-- After field f a walk by any tests has the rules that pass, of elements that passed all earlier
+-- fields.
 abbrev pub RowsHoldMarks : Type 0
 RowsHoldMarks = (kinds : List Kind) (es : List Element) (tests : ℕ → Block → Bool) (f : ℕ) → f < length kinds
     → row_behind tests (tables kinds es).rules (tables kinds es).maps f ≡ row_of kinds es tests f
 
--- Behind field f a lookup has the rules whose block holds the value, of elements that hold the key in all fields before.
+-- After field f a lookup has the rules whose block holds the value, of elements that hold the key
+-- in all earlier fields.
 abbrev pub RowsHoldCore : Type 0
 RowsHoldCore = (kinds : List Kind) (es : List Element) (key : List ℕ) (f : ℕ) → f < length kinds
     → row_behind (key_tests key) (tables kinds es).rules (tables kinds es).maps f ≡ key_row kinds es key f
@@ -32,7 +34,8 @@ abbrev pub LookupFindsFirst : Type 0
 LookupFindsFirst = (kinds : List Kind) (es : List Element) (key : List ℕ) (now : ℕ) → 1 ≤ length kinds → length key ≡ length kinds
     → All (λ e. length e.parts ≡ length kinds) es → searched (key_tests key) (tables kinds es) now ≡ position (answers key now) es
 
--- Some blocks of the splits of two intervals that don't fall share a value exactly where the intervals do.
+-- Take two intervals, each with a low end no higher than its high end. Some blocks of their splits
+-- share a value exactly if the intervals do.
 abbrev pub SplitsShare : Type 0
 SplitsShare = (p q : Interval) (bits : ℕ) → p.low ≤ p.high → q.low ≤ q.high
     → list_any (shares_some (blocks q.low q.high bits)) (blocks p.low p.high bits) ≡ (nat_le p.low q.high && nat_le q.low p.high)

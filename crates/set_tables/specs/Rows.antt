@@ -1,4 +1,4 @@
--- What matching, refilling and the search of the ends do to rows, and what changes spans and ends.
+-- What matching, refilling and the search of the ends do to rows. How spans and ends change.
 use Rattle.std.specs.Prelude.{ℕ, ◌+◌, ◌-◌, Bool, ◌&&◌, nat_lt, nat_le, List, ◌++◌, take, drop, map, Option, option_map, find}
 use Rattle.std.specs.List.{zip, list_any, range_with_len}
 use Rattle.set_model.specs.declared.block.Block.{Block}
@@ -6,7 +6,7 @@ use Rattle.set_model.specs.Expiry.{lives}
 use Rattle.set_tables.specs.declared.Span.{Span}
 use Rattle.set_tables.specs.declared.End.{End}
 
--- A bit stays set where its rule's block passes the test.
+-- A bit stays set if its rule's block passes the test.
 abbrev pub matched : (Block → Bool) → List Block → List Bool → List Bool
 matched test blocks row = map (λ p. p.1 && test p.0) (zip blocks row)
 
@@ -22,7 +22,8 @@ reaches r p = p.1 && span_holds r p.0
 abbrev pub reached : List Span → List Bool → ℕ → Bool
 reached spans row r = list_any (reaches r) (zip spans row)
 
--- the row of the next field, which has n rules: a bit is set where some matched rule's span holds it
+-- the row of the next field, which has n rules: a bit is set if it is in the span of some matched
+-- rule
 abbrev pub refilled : List Span → List Bool → ℕ → List Bool
 refilled spans row n = map (reached spans row) (range_with_len 0 n)
 
@@ -38,15 +39,16 @@ led_to ends row now = option_map (λ p. p.0.place) (find (is_led now) (zip ends 
 abbrev pub lowered : ℕ → Span → Span
 lowered k s = record { first = s.first - k; count = s.count }
 
--- an end of an element that stands one place lower
+-- an end whose element has a place one lower
 abbrev pub lowered_place : End → End
 lowered_place e = record { place = e.place - 1; expiry = e.expiry }
 
--- The n rules from `first` on go. The next field has next_n rules fewer before the later ones.
+-- The n rules from `first` on are removed. The next field has next_n fewer rules before the later
+-- ones.
 abbrev pub spans_without : List Span → ℕ → ℕ → ℕ → List Span
 spans_without spans first n next_n = take first spans ++ map (lowered next_n) (drop (first + n) spans)
 
--- The n rules from `first` on, of one element, go.
+-- The n rules from `first` on, of one element, are removed.
 abbrev pub ends_without : List End → ℕ → ℕ → List End
 ends_without ends first n = take first ends ++ map lowered_place (drop (first + n) ends)
 

@@ -1,5 +1,5 @@
--- The lookup in tables, field by field: match the field's rules, refill the next field's row from
--- the spans of the matched ones, and take the first live end of the last.
+-- The lookup in tables, field by field. It matches a field's rules, and refills the next field's
+-- row from the spans of the matched ones. In the last field it takes the first live end.
 use Rattle.std.specs.Prelude.{◌≡◌, ℕ, zero, suc, ◌+◌, ◌-◌, ◌<◌, ◌≤◌, Bool, true, List, [], length, replicate, Option, slice_index_or, slice_index, All}
 use Rattle.set_model.specs.declared.block.Block.{Block}
 use Rattle.set_model.specs.Blocks.{holds_value}
@@ -8,7 +8,7 @@ use Rattle.set_tables.specs.declared.Span.{Span}
 use Rattle.set_tables.specs.Rows.{matched, refilled, led_to}
 use Rattle.set_tables.specs.Tables.{Tables}
 
--- the list of field f, empty past the last
+-- the list of field f, or an empty list after the last field
 abbrev pub of_field : {X : Type 0} → List (List X) → ℕ → List X
 of_field lists f = slice_index_or lists f []
 
@@ -16,7 +16,7 @@ of_field lists f = slice_index_or lists f []
 abbrev pub key_tests : List ℕ → ℕ → Block → Bool
 key_tests key f b = holds_value b (slice_index key f)
 
--- the row behind field f
+-- the row after field f
 abbrev pub row_behind : (ℕ → Block → Bool) → List (List Block) → List (List Span) → ℕ → List Bool
 row_behind tests rules maps zero = matched (tests 0) (of_field rules 0) (replicate (length (of_field rules 0)) true)
 row_behind tests rules maps (suc f) =
@@ -26,8 +26,8 @@ row_behind tests rules maps (suc f) =
 abbrev pub searched : (ℕ → Block → Bool) → Tables → ℕ → Option ℕ
 searched tests t now = led_to t.ends (row_behind tests t.rules t.maps (length t.rules - 1)) now
 
--- Tables are shaped: one list of spans fewer than of rules, one span for each rule, which lies
--- inside the next field's rules, one end for each rule of the last field, and not too many rules.
+-- There is one list of spans fewer than lists of rules. Each rule has one span, within the next
+-- field's rules, and each rule of the last field has one end. No field has too many rules.
 pub record AreShaped (t : Tables) : Type 0 where
   pub one_fewer : length t.maps + 1 ≡ length t.rules
   pub one_each : (f : ℕ) → f < length t.maps → length (of_field t.maps f) ≡ length (of_field t.rules f)

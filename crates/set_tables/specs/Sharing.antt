@@ -1,4 +1,4 @@
--- The walk by intervals, in place of a key: which rules share a value with one of their blocks.
+-- The walk by intervals instead of a key: which rules share a value with a block of the intervals.
 use Rattle.std.specs.Prelude.{ℕ, Bool, List}
 use Rattle.std.specs.List.{list_any}
 use Rattle.set_model.specs.declared.kind.Kind.{Kind}

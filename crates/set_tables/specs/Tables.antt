@@ -1,6 +1,6 @@
 -- The tables of a list of elements: the rules of each field, a span for each rule of all fields but
--- the last, and an end for each rule of the last (the kernel's theory of operation of the pile of
--- packet policies: "insertion ... ranges are expanded to composing netmasks ... mapping").
+-- the last, and an end for each rule of the last. The kernel's theory of operation of the pile of
+-- packet policies says: "insertion ... ranges are expanded to composing netmasks ... mapping".
 use Rattle.std.specs.Prelude.{ℕ, suc, ◌+◌, ◌-◌, List, [], ◌∷◌, ◌++◌, map, length, replicate}
 use Rattle.std.specs.List.{range_with_len}
 use Rattle.set_model.specs.declared.kind.Kind.{Kind}
@@ -14,15 +14,16 @@ use Rattle.set_tables.specs.declared.End.{End}
 abbrev pub split : List Kind → ℕ → Element → List Block
 split kinds f e = field_blocks kinds f e.parts
 
--- One span for each rule of a field, whose blocks of an element are `here` and those of the next
--- field `next`: the next field's rules of the same element. Before them it has `from` rules.
+-- One span for each rule of a field: the next field's rules of the same element. `here` are an
+-- element's blocks in the field, and `next` its blocks in the next field. The next field has `from`
+-- rules before them.
 abbrev pub spans : (Element → List Block) → (Element → List Block) → ℕ → List Element → List Span
 spans here next from [] = []
 spans here next from (e ∷ es) =
     replicate (length (here e)) (record { first = from; count = length (next e) }) ++ spans here next (from + length (next e)) es
 
 -- One end for each rule of the last field: the place of its element, and its expiry. The first of
--- these elements stands at `place`.
+-- these elements is at `place`.
 abbrev pub ends : (Element → List Block) → ℕ → List Element → List End
 ends here place [] = []
 ends here place (e ∷ es) = replicate (length (here e)) (record { place = place; expiry = e.expiry }) ++ ends here (place + 1) es

@@ -1,13 +1,28 @@
-//! The tables of a set, and what a lookup in them finds.
+//! The tables of a set as lists, and the law that a lookup in them finds the right element.
 //!
-//! A set's tables are its elements' intervals cut into blocks, one list of rules per field, with a
-//! span of the next field's rules for each rule and an end for each rule of the last field. The
-//! definitions stand in `specs/`. The functions here do nothing: each has a law as its contract.
+//! The tables have three parts: the rules of each field, a span for each rule of all fields but the
+//! last, and an end for each rule of the last. The example set has these tables:
 //!
-//! **Definitions:** `specs/Tables.antt` for the tables, `Search.antt` and `Rows.antt` for the walk by a
-//! key, `Sharing.antt` for that by intervals, `Laws.antt` for what is proved of both. **Theory:**
-//! docs/architecture.md, "The classifier, by one example". **Proofs:** docs/proofs.md, "A set's tables
-//! and image (`set_tables`, `mapping_table`, `pipapo_image`)".
+//! ```text
+//! element 0:  10.0.0.5                  . 1024
+//! element 1:  192.168.1.0-192.168.2.1   . 2048
+//!
+//! address rules   10.0.0.5, 192.168.1.0/24, 192.168.2.0/31
+//! spans           from 0: 1 rule, from 1: 1 rule, from 1: 1 rule
+//! port rules      1024, 2048
+//! ends            place 0, place 1
+//! ```
+//!
+//! A lookup of 192.168.1.5 . 2048 starts with all address rules. A match leaves rule 1. Its span
+//! sets port rule 1 in the next row, a match leaves it there, and its end has place 1. `lookup_law`
+//! says that this is the place of the first element that is live and holds the key.
+//!
+//! The definitions are in `specs/`. The functions here do nothing: each has a law as its contract.
+//!
+//! **Definitions:** `specs/Tables.antt` has the tables, and `Search.antt` and `Rows.antt` the walk
+//! by a key. `Sharing.antt` has the walk by intervals, and `Laws.antt` the laws of both.
+//! **Theory:** docs/architecture.md, "The classifier, by one example". **Proofs:** docs/proofs.md,
+//! "A set's tables and image (`set_tables`, `mapping_table`, `pipapo_image`)".
 #![tactic(auto)]
 
 mod laws;
@@ -28,6 +43,6 @@ pub struct Span {
 pub struct End {
     /// The place of the element in the list, from 0.
     pub place: u64,
-    /// The moment, in milliseconds, from which on it is expired; `None` where it never is.
+    /// The moment, in milliseconds, from which on it is expired. `None` if it never expires.
     pub expiry: Option<u64>,
 }

@@ -1,4 +1,5 @@
--- The items of whole pages, one after the other, and of the last page behind them; and whose the pages are.
+-- The items of whole pages, one page after another, and then the items of the last page. Who owns
+-- the pages.
 use Rattle.std.proofs.Common.{◌≡◌, refl, sym, ◌∙◌, ap, ℕ, zero, suc, ◌+◌, ◌-◌, ◌*◌, ◌/◌, ◌%◌, ◌<◌, ◌≤◌, List, [], ◌∷◌, ◌++◌, length, get_or, map, true, false, All, take, drop, arith, length-append, append_assoc, slice_get, Some, flat_map, ◌⊎◌, inl, inr}
 use Rattle.std.specs.Prelude.{insert, remove}
 use Rattle.std.proofs.lemmas.Bool.{cases_lt}

@@ -6,11 +6,11 @@ pub record PageOf (X : Type 0) : Type 0 where
   pub items : List X
   pub own : Bool
 
--- the items of the pages, one after the other, and then those of the last page
+-- the items of the pages, one page after another, and then the items of the last page
 abbrev pub items_in : {X : Type 0} → List (PageOf X) → List X → List X
 items_in pages last = flat_map (λ page. page.items) pages ++ last
 
--- whose the pages are: true for one that is this list's alone
+-- for each page, whether it is this list's alone
 abbrev pub owns_of : {X : Type 0} → List (PageOf X) → List Bool
 owns_of pages = map (λ page. page.own) pages
 
@@ -26,8 +26,8 @@ pub record AreCommon {X : Type 0} (n : ℕ) (pages : List (PageOf X)) : Type 0 w
 pub record IsWhole {X : Type 0} (page : PageOf X) : Type 0 where
   pub whole : length page.items ≡ 512
 
--- The pages before the last one are whole ones, the last one has at most as many items and is empty in
--- an empty list alone, and all items are counted.
+-- Each page before the last one is whole. The last page has at most 512 items, and is empty only in
+-- an empty list. `len` is the number of all items.
 pub record IsPaged {X : Type 0} (pages : List (PageOf X)) (last : List X) (len : ℕ) : Type 0 where
   pub whole : All IsWhole pages
   pub within : length last ≤ 512

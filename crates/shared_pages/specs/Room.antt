@@ -4,7 +4,8 @@ use Rattle.set_model.specs.declared.shared.Contents.{Contents}
 use Rattle.set_model.specs.declared.shared.Contents.TheVariants.{Own, Common}
 use Rattle.set_model.specs.Contents.{items_of}
 
--- how many items a page's own vector has room for; a common one is counted for none, since nobody writes to it
+-- How many items a page's own vector has room for. A common page counts as 0, since nobody writes
+-- to it.
 abbrev pub room_of : {T : Type 0} → Contents T → ℕ
 room_of (Own items) = vec_capacity items
 room_of (Common items) = 0

@@ -1,10 +1,14 @@
-//! Lists in pages that copies share.
+//! Lists in pages of 512 items that copies share.
 //!
-//! Each transaction copies the sets that it changes. A list that was settled is copied by one count a
-//! page and copies no item; a change makes the pages that it touches the list's own.
+//! Each transaction copies the sets that it changes. Take a list of 1,300 items, which has three
+//! pages: items 0 to 511, 512 to 1023, and 1024 to 1299. `settle` makes its pages common. A copy
+//! then counts one reference for each page, and copies no item. A change of item 600 in the copy
+//! copies page 1, the page of this item. Pages 0 and 2 stay shared. If item 600 is removed, later
+//! items move down from page to page, so pages 1 and 2 become the copy's own.
 //!
-//! **Definitions:** `specs/Paged.antt` has the items and whose the pages are, `Contents.antt` where a
-//! page's items stand. **Theory:** docs/architecture.md, "The classifier, by one example".
+//! **Definitions:** `specs/Paged.antt` has the items and the owners of the pages. `Contents.antt`
+//! of `set_model` has the items of a page, own or shared. **Theory:** docs/architecture.md, "The
+//! classifier, by one example".
 #![tactic(auto)]
 
 mod page;

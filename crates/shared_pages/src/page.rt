@@ -9,9 +9,9 @@ use std::marker::Model;
 use std::mem;
 use std::sync::Arc;
 
-/// Some items whose copies share them once they were made common. Contracts see the items, and whether
-/// they are this page's own. Its own items take memory for a page of 512, or for as many as they are, and
-/// never for more.
+/// Some items, which copies share once they are common. Contracts see the items, and whether they
+/// are this page's own. A page's own items take memory for at most 512 items, or for as many as they
+/// are if these are more.
 #[derive(Drop)]
 pub struct Page<T> {
     contents: Contents<T>,
@@ -29,7 +29,7 @@ impl<T> Model for Page<T> {
     ghost invariant = { λ a. TakesNoMore a.contents };
 }
 
-/// The items once more, with room for a whole page.
+/// A copy of the items, with room for a whole page.
 fn copied<T: Duplicate + Drop>(alloc: Global, items: &[T]) -> Result<Vec<T>, Memory>
     ensures items { IfOk result (λ all. all.items ≡ items.now) }
     ensures room { IfOk result (λ all. vec_capacity all ≡ max 512 (length items.now)) }
@@ -41,7 +41,7 @@ fn copied<T: Duplicate + Drop>(alloc: Global, items: &[T]) -> Result<Vec<T>, Mem
     Ok(all)
 }
 
-/// Plain items once more, with no room for others: in one piece.
+/// A copy of plain items in one piece, without room for others.
 fn copied_plain<T: Copy + Drop>(alloc: Global, items: &[T]) -> Result<Vec<T>, Memory>
     ensures items { IfOk result (λ all. all.items ≡ items.now) }
     ensures room { IfOk result (λ all. vec_capacity all ≡ length items.now) }
@@ -50,11 +50,11 @@ fn copied_plain<T: Copy + Drop>(alloc: Global, items: &[T]) -> Result<Vec<T>, Me
     if all.capacity() == items.len() {
         return Ok(all);
     }
-    // It has just that room, but no clause of `from_slice` says so.
+    // The copy has exactly that room, but no clause of `from_slice` says so.
     copied_singly(alloc, items)
 }
 
-/// Plain items once more, with no room for others: one by one.
+/// A copy of plain items, one by one, without room for others.
 fn copied_singly<T: Copy + Drop>(alloc: Global, items: &[T]) -> Result<Vec<T>, Memory>
     ensures items { IfOk result (λ all. all.items ≡ items.now) }
     ensures room { IfOk result (λ all. vec_capacity all ≡ length items.now) }
@@ -66,7 +66,7 @@ fn copied_singly<T: Copy + Drop>(alloc: Global, items: &[T]) -> Result<Vec<T>, M
     Ok(all)
 }
 
-/// Takes room for an item more where there is none: for twice as many items, and for no more than a page.
+/// Takes room for one more item if there is none. The room doubles, but not beyond a page.
 fn make_room<T>(items: &mut Vec<T>) -> Result<(), Memory>
     requires few { length items.old.items < 512 }
     requires within { vec_capacity items.old ≤ 512 }
@@ -81,7 +81,7 @@ fn make_room<T>(items: &mut Vec<T>) -> Result<(), Memory>
     Ok(())
 }
 
-/// The items in a place that copies can share. After `Memory` they stay where they are.
+/// Moves the items to a place that copies can share. If memory runs out, they stay as they are.
 fn settled<T: Drop>(alloc: Global, items: Vec<T>) -> (Contents<T>, Result<(), Memory>)
     ensures items { items_of result.0 ≡ items.items }
     ensures room { room_of result.0 ≤ vec_capacity items }
@@ -103,7 +103,7 @@ impl<T> Page<T> {
         }
     }
 
-    /// The items in a row.
+    /// The items as a slice.
     #[inline(always)]
     pub fn as_slice(&self) -> &[T]
         ensures { result.now ≡ self.now.items }
@@ -114,8 +114,8 @@ impl<T> Page<T> {
         }
     }
 
-    /// Takes item `i` out of the page's own items, of which there are 512 at most. The later ones close up.
-    /// It takes no memory.
+    /// Removes item `i` from the page's own items, of which there are at most 512. Later items move
+    /// down. It takes no memory.
     pub fn remove(&mut self, i: usize) -> T
         requires own { self.old.own ≡ true }
         requires few { length self.old.items ≤ 512 }
@@ -130,8 +130,7 @@ impl<T> Page<T> {
         }
     }
 
-    /// Takes item `i` out of the page's own items and puts `next` behind the last one. It takes no
-    /// memory.
+    /// Removes item `i` from the page's own items, and adds `next` at the end. It takes no memory.
     pub fn pass(&mut self, i: usize, next: T) -> T
         requires own { self.old.own ≡ true }
         requires place { i < length self.old.items }
@@ -151,10 +150,10 @@ impl<T> Page<T> {
 }
 
 impl<T: Drop> Page<T> {
-    /// Lets copies share the items from now on. No item is copied.
+    /// Lets copies share the items from now on. It copies no item.
     ///
     /// # Errors
-    /// `Memory` if there is none left. The items are as they were.
+    /// `Memory` if memory runs out. The items are as they were.
     pub fn settle(&mut self, alloc: Global) -> Result<(), Memory>
         ensures items { self.new.items ≡ self.old.items }
         ensures common { OnOk result (self.new.own ≡ false) }
@@ -170,10 +169,10 @@ impl<T: Drop> Page<T> {
 }
 
 impl<T: Duplicate + Drop> Page<T> {
-    /// Makes the items this page's own: they are copied where others may share them.
+    /// Makes the items this page's own. They are copied if others may share them.
     ///
     /// # Errors
-    /// `Memory` if there is none left. The page is as it was.
+    /// `Memory` if memory runs out. The page is as it was.
     pub fn own(&mut self, alloc: Global) -> Result<(), Memory>
         ensures items { self.new.items ≡ self.old.items }
         ensures own { OnOk result (self.new.own ≡ true) }
@@ -186,10 +185,11 @@ impl<T: Duplicate + Drop> Page<T> {
         Ok(())
     }
 
-    /// Adds an item behind the last one, to this page and to no copy. There are fewer than 512.
+    /// Adds an item at the end of this page. Copies are unchanged. The page must have fewer than
+    /// 512 items.
     ///
     /// # Errors
-    /// `Memory` if there is none left. The items are as they were.
+    /// `Memory` if memory runs out. The items are as they were.
     pub fn push(&mut self, alloc: Global, item: T) -> Result<(), Memory>
         requires { length self.old.items < 512 }
         ensures ok { OnOk result (self.new.items ≡ self.old.items ++ item ∷ []) }
@@ -206,10 +206,10 @@ impl<T: Duplicate + Drop> Page<T> {
         Ok(())
     }
 
-    /// Writes over item `i`, in this page and in no copy.
+    /// Overwrites item `i` of this page. Copies are unchanged.
     ///
     /// # Errors
-    /// `Memory` if there is none left. The items are as they were.
+    /// `Memory` if memory runs out. The items are as they were.
     pub fn set(&mut self, alloc: Global, i: usize, item: T) -> Result<(), Memory>
         requires { i < length self.old.items }
         ensures ok { OnOk result (self.new.items ≡ slice_set self.old.items i item) }
@@ -225,8 +225,8 @@ impl<T: Duplicate + Drop> Page<T> {
         Ok(())
     }
 
-    /// The same items once more: one count where they are common, and item by item where they are
-    /// the page's own.
+    /// A copy of the page. It counts one reference if the items are common. Otherwise it copies
+    /// them one by one.
     pub fn copy(&self, alloc: Global) -> Result<Self, Memory>
         ensures { IfOk result (λ other. other.items ≡ self.now.items) }
     {
@@ -240,10 +240,10 @@ impl<T: Duplicate + Drop> Page<T> {
 
 // Plain items are copied in one piece.
 impl<T: Copy + Drop> Page<T> {
-    /// The items once more, as a page of its own.
+    /// A page with its own copy of these items.
     ///
     /// # Errors
-    /// `Memory` if there is none left.
+    /// `Memory` if memory runs out.
     pub fn from_slice(alloc: Global, items: &[T]) -> Result<Self, Memory>
         ensures items { IfOk result (λ page. page.items ≡ items.now) }
         ensures own { IfOk result (λ page. page.own ≡ true) }
@@ -253,10 +253,10 @@ impl<T: Copy + Drop> Page<T> {
         })
     }
 
-    /// A page of `n` such items, its own.
+    /// A page with `n` times this item, its own.
     ///
     /// # Errors
-    /// `Memory` if there is none left.
+    /// `Memory` if memory runs out.
     pub fn filled(alloc: Global, item: T, n: usize) -> Result<Self, Memory>
         ensures items { IfOk result (λ page. page.items ≡ replicate n item) }
         ensures own { IfOk result (λ page. page.own ≡ true) }
@@ -270,8 +270,8 @@ impl<T: Copy + Drop> Page<T> {
         })
     }
 
-    /// Hands the page's own items out. It takes no memory, and they have room for 512 items, or for as many
-    /// as they are, and for no more.
+    /// Hands out the page's own items. It takes no memory. The vector has room for at most 512
+    /// items, or for as many as it has if these are more.
     pub fn into_vec(self) -> Vec<T>
         requires { self.own ≡ true }
         ensures items { result.items ≡ self.items }
@@ -284,7 +284,7 @@ impl<T: Copy + Drop> Page<T> {
         }
     }
 
-    /// Writes over item `i` of the page's own items. It takes no memory.
+    /// Overwrites item `i` of the page's own items. It takes no memory.
     #[inline(always)]
     pub fn put(&mut self, i: usize, item: T)
         requires own { self.old.own ≡ true }
@@ -298,10 +298,10 @@ impl<T: Copy + Drop> Page<T> {
         }
     }
 
-    /// Makes the items this page's own: they are copied where others may share them.
+    /// Makes the items this page's own. They are copied if others may share them.
     ///
     /// # Errors
-    /// `Memory` if there is none left. The page is as it was.
+    /// `Memory` if memory runs out. The page is as it was.
     pub fn own_plain(&mut self, alloc: Global) -> Result<(), Memory>
         ensures items { self.new.items ≡ self.old.items }
         ensures own { OnOk result (self.new.own ≡ true) }
@@ -315,8 +315,8 @@ impl<T: Copy + Drop> Page<T> {
         Ok(())
     }
 
-    /// The same items once more: one count where they are common, and in one piece where they are the
-    /// page's own.
+    /// A copy of the page. It counts one reference if the items are common. Otherwise it copies
+    /// them in one piece.
     pub fn copy_plain(&self, alloc: Global) -> Result<Self, Memory>
         ensures { IfOk result (λ other. other ≡ self.now) }
     {

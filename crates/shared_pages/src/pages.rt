@@ -8,8 +8,8 @@ use std::alloc::Global;
 use std::marker::Model;
 use std::mem;
 
-/// A list in pages of 512 items, which its copies share once it was settled. Contracts see the list of
-/// its items.
+/// A list in pages of 512 items, which its copies share once it is settled. Contracts see the list
+/// of its items.
 #[derive(Drop)]
 pub struct Pages<T> {
     // Each page before the last one is whole.
@@ -69,10 +69,10 @@ impl<T> Pages<T> {
 }
 
 impl<T: Duplicate + Drop> Pages<T> {
-    /// Adds an item at the end, to this list and to no copy.
+    /// Adds an item at the end of this list. Copies are unchanged.
     ///
     /// # Errors
-    /// `Memory` if there is none left. The list is as it was.
+    /// `Memory` if memory runs out. The list is as it was.
     #[tactic(auto, using(crate::proofs::PageLaws::items_counted))]
     pub fn push(&mut self, item: T) -> Result<(), Memory>
         requires { length self.old < 2 ^ 64 - 1 }
@@ -91,10 +91,10 @@ impl<T: Duplicate + Drop> Pages<T> {
         Ok(())
     }
 
-    /// Writes over the item at place `i`, in this list and in no copy.
+    /// Overwrites the item at place `i` of this list. Copies are unchanged.
     ///
     /// # Errors
-    /// `Memory` if there is none left. The list is as it was.
+    /// `Memory` if memory runs out. The list is as it was.
     pub fn set(&mut self, i: u64, item: T) -> Result<(), Memory>
         requires { i < length self.old }
         ensures ok { OnOk result (self.new ≡ slice_set self.old i item) }
@@ -111,11 +111,11 @@ impl<T: Duplicate + Drop> Pages<T> {
         Ok(())
     }
 
-    /// Takes the item at place `i` out of this list, and of no copy. The later items close up: they
-    /// move from page to page, and these pages are this list's own from then on.
+    /// Removes the item at place `i` from this list. Copies are unchanged. Later items move down
+    /// from page to page, and these pages are this list's own from then on.
     ///
     /// # Errors
-    /// `Memory` if there is none left. The list is as it was.
+    /// `Memory` if memory runs out. The list is as it was.
     pub fn remove(&mut self, i: u64) -> Result<T, Memory>
         requires { i < length self.old }
         ensures item { IfOk result (λ item. slice_get self.old i ≡ Some item) }
@@ -130,10 +130,10 @@ impl<T: Duplicate + Drop> Pages<T> {
         Ok(item)
     }
 
-    /// Lets copies share all pages from now on. No item is copied.
+    /// Lets copies share all pages from now on. It copies no item.
     ///
     /// # Errors
-    /// `Memory` if there is none left. The list is as it was.
+    /// `Memory` if memory runs out. The list is as it was.
     pub fn settle(&mut self) -> Result<(), Memory>
         ensures { self.new ≡ self.old }
     {
@@ -164,7 +164,7 @@ fn page_of<T: Duplicate + Drop>(alloc: Global, item: T) -> Result<Page<T>, Memor
     Ok(page)
 }
 
-/// The pages once more.
+/// A copy of the pages.
 fn copied_pages<T: Duplicate + Drop>(
     alloc: Global,
     pages: &[Page<T>],
@@ -197,7 +197,7 @@ fn own_pages<T: Duplicate + Drop>(
 /// Lets copies share the pages.
 ///
 /// # Errors
-/// `Memory` if there is none left. The items are as they were.
+/// `Memory` if memory runs out. The items are as they were.
 pub fn settle_pages<T: Drop>(alloc: Global, pages: &mut Vec<Page<T>>) -> Result<(), Memory>
     ensures items { map (λ page. page.items) pages.new.items ≡ map (λ page. page.items) pages.old.items }
     ensures room { vec_capacity pages.new ≡ vec_capacity pages.old }
@@ -210,7 +210,7 @@ pub fn settle_pages<T: Drop>(alloc: Global, pages: &mut Vec<Page<T>>) -> Result<
     Ok(())
 }
 
-/// Takes the item at place `i` out of the whole pages and the last one. It takes no memory.
+/// Removes the item at place `i` from the whole pages and the last one. It takes no memory.
 fn take_out<T>(whole: &mut Vec<Page<T>>, last: &mut Page<T>, i: usize) -> T
     requires whole { All IsWhole whole.old.items }
     requires own { AreOwn (i / 512) whole.old.items }
@@ -233,7 +233,7 @@ fn take_out<T>(whole: &mut Vec<Page<T>>, last: &mut Page<T>, i: usize) -> T
     items.pass(i % PAGE, next)
 }
 
-/// Takes the first item behind this page out, so that the later ones close up. It takes no memory.
+/// Removes the first item after this page, so that later items move down. It takes no memory.
 fn take_behind<T>(whole: &mut Vec<Page<T>>, last: &mut Page<T>, page: usize) -> T
     requires page { page < length whole.old.items }
     requires whole { All IsWhole whole.old.items }
@@ -256,7 +256,7 @@ fn take_behind<T>(whole: &mut Vec<Page<T>>, last: &mut Page<T>, page: usize) -> 
     next
 }
 
-/// Lets the last page go where it is empty.
+/// If the last page is empty, drops it and takes the whole page before it.
 fn drop_empty<T: Drop>(whole: &mut Vec<Page<T>>, last: &mut Page<T>)
     requires { All IsWhole whole.old.items }
     ensures items { items_in whole.new.items last.new.items ≡ items_in whole.old.items last.old.items }

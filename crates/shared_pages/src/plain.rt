@@ -5,10 +5,11 @@ use crate::page::Page;
 use set_model::Memory;
 use std::alloc::Global;
 
-/// The pages of plain items once more: one count for each that was settled. The list has room for no others.
+/// A copy of the pages of plain items. It counts one reference for each settled page. The list has
+/// room for no more pages.
 ///
 /// # Errors
-/// `Memory` if there is none left.
+/// `Memory` if memory runs out.
 pub fn copy_plain_pages<T: Copy + Drop>(
     alloc: Global,
     pages: &[Page<T>],
@@ -23,11 +24,13 @@ pub fn copy_plain_pages<T: Copy + Drop>(
     Ok(others)
 }
 
-/// Makes the pages of plain items from page `from` up to page `to` this list's own. The list has room for
-/// as many pages as before.
+/// Makes the pages of plain items from page `from` up to page `to` this list's own. The list has
+/// room for as many pages as before.
 ///
 /// # Errors
-/// `Memory` if there is none left. The items are as they were, and what was own still is.
+///
+/// `Memory` if memory runs out. The items are as they were, and pages that were the list's own
+/// still are.
 pub fn own_plain_pages<T: Copy + Drop>(
     alloc: Global,
     pages: &mut Vec<Page<T>>,

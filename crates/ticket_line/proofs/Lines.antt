@@ -73,7 +73,7 @@ module _ {D : Type 0} (stage ticket : D → ℕ) where
           (λ (t : (j ≢ id) × (get_elem? views j ≡ some e)). k.first p j e h t.1 three) (seen_as j e g);
     }
 
-    -- A seat without a ticket draws the next one, and goes behind the line.
+    -- A seat without a ticket draws the next one, and goes to the end of the line.
     pub draws : stage d < 2 → stage w ≡ 2 → ticket w ≡ get_or words 0 0 → length line < 18446744073709551616 → (next : ℕ) → next ≡ (get_or words 0 0 + 1) % 18446744073709551616
         → InLine stage ticket (set words 0 next) (set views id w) (line ++ id ∷ [])
     draws low two numbered few next is =
@@ -142,7 +142,7 @@ module _ {D : Type 0} (stage ticket : D → ℕ) where
           nobody,
         )
 
-  -- Who is served is done, and the next ticket is served.
+  -- The served seat is done, and the next ticket is served.
   pub ends : (words : List ℕ) (views : List D) (line : List ℕ) (id : ℕ) (d w : D) (next : ℕ) → get_elem? views id ≡ some d → InLine stage ticket words views line → stage d ≡ 3 → stage w < 2 → next ≡ (get_or words 1 0 + 1) % 18446744073709551616
       → InLine stage ticket (set words 1 next) (set views id w) (behind_first line)
   ends words views [] id d w next at k three low is = absurd (some-ne-none id (sym (k.waits id d at (omega (arith, three))).1))
@@ -173,7 +173,7 @@ module _ {D : Type 0} (stage ticket : D → ℕ) where
       behind zero j h other = absurd (other (some-injective x j h))
       behind (suc p) j h other = (p, h)
 
-  -- A seat more, without a ticket.
+  -- One more seat, without a ticket.
   pub joins_none : (words : List ℕ) (views : List D) (line : List ℕ) (w : D) → InLine stage ticket words views line → stage w < 2 → InLine stage ticket words (views ++ w ∷ []) line
   joins_none words views line w k low = let u : weight w ≡ 0 = none_at (stage w) low in let more = sum_by-append weight views (w ∷ []) in let count = k.count in record {
     wide = k.wide;

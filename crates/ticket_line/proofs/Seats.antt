@@ -15,17 +15,17 @@ at_most_one zero = omega arith
 at_most_one (suc zero) = omega arith
 at_most_one (suc (suc n)) = omega arith
 
--- a sum over views is no more than another where no view's part is
+-- a sum over views is no more than another sum if no view's part is
 sums_le : {D : Type 0} (f g : D → ℕ) (vs : List D) → ((j : ℕ) (d : D) → get_elem? vs j ≡ some d → f d ≤ g d) → sum_by f vs ≤ sum_by g vs
 sums_le f g [] low = omega arith
 sums_le f g (v ∷ vs) low = let here = low 0 v refl in let rest = sums_le f g vs (λ j d at. low (suc j) d at) in let a = sum_by-cons f v vs in let b = sum_by-cons g v vs in omega (arith, here, rest, a, b)
 
 module _ {D : Type 0} (stage ticket : D → ℕ) (words : List ℕ) (views : List D) (line : List ℕ) (k : InLine stage ticket words views line) where
-  -- As many seats wait at most as may have a ticket.
+  -- No more seats wait than may have a ticket.
   pub few_wait : (may : D → ℕ) → ((j : ℕ) (d : D) → get_elem? views j ≡ some d → tickets_at (stage d) ≤ may d) → length line ≤ sum_by may views
   few_wait may low = let most = sums_le (λ d. tickets_at (stage d)) may views low in let count = k.count in omega (arith, most, count)
 
-  -- Where a seat with a ticket stands in the line, which its ticket tells.
+  -- The place of a seat with a ticket in the line, given by its ticket.
   place_of : (j : ℕ) (d : D) → get_elem? views j ≡ some d → 1 < stage d → (p : ℕ) × (get_elem? line p ≡ some j) × (ticket d ≡ (get_or words 1 0 + p) % 18446744073709551616)
   place_of j d at waits = let mine = k.waits j d at waits in let old = k.each mine.0 j mine.1 in (mine.0, mine.1, ap ticket (some-injective d old.0 (sym at ∙ old.1)) ∙ old.3)
 
@@ -38,7 +38,7 @@ module _ {D : Type 0} (stage ticket : D → ℕ) (words : List ℕ) (views : Lis
       some-injective i j (sym mine.1 ∙ ap (get_elem? line) one_place ∙ its.1)
 
   module _ (id : ℕ) (d : D) (at : get_elem? views id ≡ some d) (three : stage d ≡ 3) where
-    -- Who is served has the ticket that is.
+    -- The served seat has the served ticket.
     pub served_ticket : ticket d ≡ get_or words 1 0
     served_ticket = let mine = place_of id d at (omega (arith, three)) in let first = k.first mine.0 id d mine.1 at three in let number = mine.2 in let small = k.small in omega (arith, number, first, small)
 
@@ -50,7 +50,8 @@ module _ {D : Type 0} (stage ticket : D → ℕ) (words : List ℕ) (views : Lis
         other (some-injective j id (sym its.1 ∙ ap (get_elem? line) (its_first ∙ sym first) ∙ mine.1))
 
 module _ {D : Type 0} where
-  -- Nobody is served where nobody is once one seat has another view, if that one is served where it was.
+  -- If one seat gets another view, nobody is served unless somebody was served before, or that view
+  -- is.
   pub nobody_still : (stage : D → ℕ) (views : List D) (id : ℕ) (d w : D) → get_elem? views id ≡ some d → (stage d ≡ 3 → stage w ≡ 3)
       → ((j : ℕ) (e : D) → get_elem? (set views id w) j ≡ some e → stage e ≢ 3) → (j : ℕ) (e : D) → get_elem? views j ≡ some e → stage e ≢ 3
   nobody_still stage views id d w at still away j e h three = dite (ℕ_discrete j id)
@@ -59,7 +60,7 @@ module _ {D : Type 0} where
       (λ other. away j e (set_else views id j w other ∙ h) three)
 
 module _ {D : Type 0} (P : D → Type 0) where
-  -- One seat at most is of some sort, where no other seat comes to be.
+  -- At most one seat is of some sort, if no other seat becomes one.
   pub one_still : (vs : List D) (id : ℕ) (d w : D) → get_elem? vs id ≡ some d → (P w → P d)
       → ((i j : ℕ) (x y : D) → get_elem? vs i ≡ some x → get_elem? vs j ≡ some y → P x → P y → i ≡ j)
       → (i j : ℕ) (x y : D) → get_elem? (set vs id w) i ≡ some x → get_elem? (set vs id w) j ≡ some y → P x → P y → i ≡ j
@@ -72,7 +73,7 @@ module _ {D : Type 0} (P : D → Type 0) where
           (λ (t : (k ≢ id) × (get_elem? vs k ≡ some z)). (z, t.1, is))
           (at_set vs id k w z h)
 
-  -- A seat more.
+  -- One more seat.
   pub one_with : (vs : List D) (w : D)
       → ((i j : ℕ) (x y : D) → get_elem? vs i ≡ some x → get_elem? vs j ≡ some y → P x → P y → i ≡ j)
       → ((j : ℕ) (y : D) → get_elem? vs j ≡ some y → P y → ¬ (P w))

@@ -1,5 +1,6 @@
--- A line of seats with tickets, as a ticket lock keeps it: word 0 is the next ticket, and word 1 the one that is served.
--- Who draws a ticket goes behind the line, the first of the line may be served, and who is done leaves it.
+-- A line of seats with tickets, as a ticket lock keeps it. Word 0 is the next ticket, and word 1
+-- the one that is served. A seat that draws a ticket goes to the end of the line. The first seat of
+-- the line may be served, and leaves the line when it is done.
 use Rattle.std.specs.Prelude.{◌≡◌, ℕ, zero, suc, ◌+◌, ◌%◌, ◌<◌, List, [], ◌∷◌, length, slice_index}
 use Rattle.std.specs.List.{sum_by}
 use mathlib.Core.Option.{some}
@@ -10,7 +11,8 @@ abbrev pub behind_first : List ℕ → List ℕ
 behind_first [] = []
 behind_first (j ∷ line) = line
 
--- A seat's stage is 1 with no ticket, 2 with one that it waits with, and 3 while it is served. It has this many tickets.
+-- A seat's stage is 1 without a ticket, 2 while it waits with a ticket, and 3 while it is served.
+-- It has this many tickets.
 abbrev pub tickets_at : ℕ → ℕ
 tickets_at zero = 0
 tickets_at (suc zero) = 0
@@ -21,7 +23,9 @@ module _ {D : Type 0} (stage ticket : D → ℕ) where
   abbrev pub waiting : List D → ℕ
   waiting views = sum_by (λ d. tickets_at (stage d)) views
 
-  -- The tickets that are out are exactly the numbers from the served one up to and without the next one, modulo 2 ^ 64: the line has a seat for each, in their order. Each seat with a ticket stands in it once, and only the first is served.
+  -- The tickets that are out are exactly the numbers from the served one up to the next one, modulo
+  -- 2 ^ 64. The line has a seat for each, in their order. Each seat with a ticket is in it once,
+  -- and only the first is served.
   pub record InLine (words : List ℕ) (views : List D) (line : List ℕ) : Type 0 where
     pub wide : length words ≡ 2
     pub small : slice_index words 1 < 18446744073709551616

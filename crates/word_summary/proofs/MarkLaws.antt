@@ -152,7 +152,7 @@ set-there old j k h l =
     ap (λ x. bit x k) (get_or-set_same old j (bit_or (slice_index old j) (1 * 2 ^ k % 2 ^ 64)) 0 h) ∙ bit-or (slice_index old j) (1 * 2 ^ k % 2 ^ 64) k
     ∙ or-set (bit (slice_index old j) k) (bit (1 * 2 ^ k % 2 ^ 64) k) (bit-one k k l ∙ ap (λ t. t && nat_lt (k - k) 1) (leb k k (omega arith)) ∙ lt-ltb (k - k) 1 (omega arith))
 
--- a line of those up to this one
+-- a line that is among those up to this one
 pub same-line : (old new : List ℕ) (w k j : ℕ) → ClearsNone old new → bit (slice_index new w) k ≡ true → (j < w → bit (slice_index old j) k ≡ true) → j < w + 1 → bit (slice_index new j) k ≡ true
 same-line old new w k j keeps here before h = go (cases_lt j w) where
   go : (j < w) ⊎ (w ≤ j) → bit (slice_index new j) k ≡ true
@@ -181,7 +181,8 @@ every-from : (p : ℕ → Bool) (n : ℕ) → ((g : ℕ) → g < n → p g ≡ t
 every-from p zero each = refl
 every-from p (suc n) each = and-true-both (every p n) (p n) (every-from p n (λ g h. each g (omega arith))) (each n (omega arith))
 
--- What is left behind byte n: each candidate, and words that are marked for each byte from byte n on.
+-- What is left after byte n: each candidate, and only words that are marked for each byte from byte
+-- n on.
 pub record AreLeft (bits n : ℕ) (page : List ℕ) (value left : ℕ) : Type 0 where
   pub all : (k : ℕ) → k < 64 → is_candidate bits page value k ≡ true → bit left k ≡ true
   pub marked : (k g : ℕ) → k < 64 → n ≤ g → g < bits / 8 → bit left k ≡ true → bit (slice_index page (g * 256 + group 8 bits g value)) k ≡ true
@@ -247,7 +248,7 @@ left-all bits page value left so_far = record {
   one : (k : ℕ) → k < 64 → bit left k ≡ true → is_candidate bits page value k ≡ true
   one k h set = every-from (λ g. bit (slice_index page (g * 256 + group 8 bits g value)) k) (bits / 8) (λ g l. so_far.marked k g h (omega arith) l set)
 
--- one word at most
+-- at most one word
 pub left-single : (bits n : ℕ) (page : List ℕ) (value left : ℕ) → IsSingle left → AreLeft bits n page value left → AreCandidates bits page value left
 left-single bits n page value left single so_far = record { all = so_far.all; two = λ j k order h a b. absurd (single.one j k order a b) }
 

@@ -1,22 +1,28 @@
-//! A summary of the rules of a field: for each byte of the field's value and each value of the byte,
-//! which words of 64 rules have one that agrees.
+//! A summary of a field's rules: marks of the words of 64 rules that a lookup must look at.
 //!
-//! A lookup ANDs one line of marks for each byte of its key: those of the last four bytes, and of the bytes
-//! before them until at most one word is left. It visits only the words that are left. They are candidates:
-//! a word in which some rule agrees with each byte, but no rule with all of them, is one too. No word with a
-//! rule that holds the key is left out.
+//! For each byte of a field's value and each value of that byte, a word has a mark if one of its
+//! rules agrees with the byte. Say that word 0 has the rule 10.0.0.5, and word 1 the rules
+//! 192.168.1.0/24 and 192.168.2.0/31. For 192.168.1.5 these marks are set:
 //!
-//! The marks of 64 words of rules are a page of words that copies share: a line for each byte of a
-//! field's value and each of the byte's 256 values, line `g * 256 + v` for value `v` of byte `g`. Bit
-//! `k` of a line stands for word `k`.
+//! ```text
+//! byte 0, 192   word 1
+//! byte 1, 168   word 1
+//! byte 2, 1     word 1
+//! byte 3, 5     words 0, 1      10.0.0.5 has this byte, and 192.168.1.0/24 leaves it free
+//! ```
 //!
-//! Pages may have pages of the same form above them, called tops, in which bit `k` of a line stands for
-//! page `k` and tells whether the page has a mark in that line.
+//! A lookup ANDs the lines of the last four bytes. In a longer field the other bytes follow only
+//! until at most one word is left. Here word 1 is left, and the lookup visits it alone. A word that
+//! is left may have no match: 192.168.2.200 leaves word 1, since two different rules agree with its
+//! last two bytes. No word with a match is left out.
 //!
-//! **Definitions:** `specs/Marks.antt`; that no word with a rule that holds a value is left out stands
-//! in `lookup_table`, `specs/Summary.antt` and `Candidates.antt`. **Theory:** docs/architecture.md,
-//! "The classifier, by one example". **Proofs:** docs/proofs.md, "Tables (`field_groups`,
-//! `lookup_table`)".
+//! The marks of 64 words are a page of 64-bit words, which copies share. Line `g * 256 + v` is for
+//! value `v` of byte `g`, and its bit `k` is for word `k`. Pages may have tops, which are pages of
+//! the same form. Bit `k` of a line of a top says whether page `k` has a mark in that line.
+//!
+//! **Definitions:** `specs/Marks.antt`. That no word with a match is left out is in `lookup_table`,
+//! `specs/Summary.antt` and `Candidates.antt`. **Theory:** docs/architecture.md, "The classifier,
+//! by one example". **Proofs:** docs/proofs.md, "Tables (`field_groups`, `lookup_table`)".
 #![tactic(auto)]
 
 mod marks;

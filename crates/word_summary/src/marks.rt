@@ -13,7 +13,7 @@ use std::alloc::Global;
 /// A page without marks, of a field of `bits` bits.
 ///
 /// # Errors
-/// `Memory` if there is none left.
+/// `Memory` if memory runs out.
 pub fn new_page(alloc: Global, bits: u32) -> Result<Page<u64>, Memory>
     requires { IsWidth 8 bits }
     ensures lines { IfOk result (λ page. page.items ≡ replicate (bits / 8 * 256) 0) }
@@ -22,8 +22,9 @@ pub fn new_page(alloc: Global, bits: u32) -> Result<Page<u64>, Memory>
     Page::filled(alloc, 0, bits as usize / 8 * 256)
 }
 
-/// The words that may have a rule which holds the value: those that are marked for each of its bytes, or
-/// one word at most. Bit 0 stands for the first. `last` is where the lines of its last four bytes stand.
+/// The words that may have a rule that holds the value: those that are marked for each of its
+/// bytes, or at most one word. Bit 0 is the first word. `last` has the places of the lines of its
+/// last four bytes.
 #[inline(always)]
 pub fn candidates(lines: &[u64], value: u128, bits: u32, last: LastFour) -> u64
     requires groups { IsWidth 8 bits }
@@ -32,7 +33,8 @@ pub fn candidates(lines: &[u64], value: u128, bits: u32, last: LastFour) -> u64
     requires last { AreLastFour 8 bits value last }
     ensures { AreCandidates bits lines.now value result }
 {
-    // The last bytes tell most rules apart. In four of them there is no stop, where a wrong guess of it costs more than the bytes.
+    // The last bytes separate most rules. These four are ANDed without a stop: a mispredicted
+    // branch would cost more than the bytes.
     let mut left = lines[last.fourth] & lines[last.third] & lines[last.second] & lines[last.last];
     'bytes: for i in 0..last.rest {
         if is_single(left) {
@@ -45,7 +47,7 @@ pub fn candidates(lines: &[u64], value: u128, bits: u32, last: LastFour) -> u64
     left
 }
 
-/// Whether a look at more bytes pays no more: at most one word is left.
+/// Whether a look at more bytes no longer pays: at most one word is left.
 #[inline(always)]
 fn is_single(left: u64) -> bool
     ensures { result ≡ true → IsSingle left }
@@ -53,7 +55,7 @@ fn is_single(left: u64) -> bool
     left & left.wrapping_sub(1) == 0
 }
 
-/// Which of the eight words of two lines of a page have a bit in common. Bit 0 stands for the first.
+/// Which of the eight words of two lines of a page have a common bit. Bit 0 is the first word.
 #[inline(always)]
 pub fn shared_words(words: &[u64], upper: usize, lower: usize) -> u64
     requires upper { upper * 8 + 8 ≤ length words.now }
@@ -70,7 +72,7 @@ pub fn shared_words(words: &[u64], upper: usize, lower: usize) -> u64
     marks
 }
 
-/// Makes a line's `n` marks from mark `first` on anew. Bit 0 of `marks` stands for the first of them.
+/// Makes `n` marks of a line anew, from mark `first` on. Bit 0 of `marks` is the first of them.
 #[inline(always)]
 pub fn mark_line(page: &mut Page<u64>, line: usize, first: u32, n: u32, marks: u64)
     requires own { page.old.own ≡ true }
@@ -88,8 +90,8 @@ pub fn mark_line(page: &mut Page<u64>, line: usize, first: u32, n: u32, marks: u
     page.put(line, low | (high | marks) << first);
 }
 
-/// Makes mark `k` of each line of a top anew, where `lines` are those of the page that it stands for: it
-/// is set where the page has a mark in the line.
+/// Makes mark `k` of each line of a top anew. `lines` are the lines of page `k`: the mark is set if
+/// the page has a mark in the line.
 pub fn mark_page(top: &mut Page<u64>, lines: &[u64], k: u32)
     requires own { top.old.own ≡ true }
     requires lines { length lines.now ≡ length top.old.items }
@@ -102,7 +104,8 @@ pub fn mark_page(top: &mut Page<u64>, lines: &[u64], k: u32)
     }
 }
 
-/// Marks word `k` in each line whose value agrees with the block: for each byte a run of lines.
+/// Marks word `k` in each line whose value agrees with the block. For each byte these lines are one
+/// run.
 pub fn mark_block(page: &mut Page<u64>, block: Block, bits: u32, k: u32)
     requires own { page.old.own ≡ true }
     requires groups { IsWidth 8 bits }

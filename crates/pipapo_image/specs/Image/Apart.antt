@@ -6,10 +6,12 @@ use Rattle.set_model.specs.declared.element.NewElement.{NewElement}
 use Rattle.set_model.specs.SetState.{State, empty_set, add, removed, purged, cleared}
 use Rattle.set_model.specs.Apart.{IsApart}
 
--- At which moments the live elements of a disjoint set share no key. An empty set keeps them apart at
--- each moment. What holds at a moment holds at each later one. An addition, which may renew an
--- expiry, keeps it from its own moment on, where it held at one that is not later. What takes
--- elements out keeps it at each moment.
+-- The moments at which the live elements of a disjoint set share no key. An empty set keeps them
+-- apart at each moment. If they are apart at a moment, they are apart at each later one.
+--
+-- If they are apart at a moment no later than an addition, the addition keeps them apart from its
+-- own moment on. A renewal is an addition, too. Calls that remove elements keep them apart at each
+-- moment.
 pub record KeepsApart : Type 0 where
   pub empty : (kinds : List Kind) (size : Option ℕ) (disjoint : Bool) (now : ℕ) → IsApart (empty_set kinds size disjoint) now
   pub later : (s : State) (m now : ℕ) → m ≤ now → IsApart s m → IsApart s now

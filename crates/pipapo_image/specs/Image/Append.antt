@@ -1,4 +1,4 @@
--- An element that comes to the end of a set's list, as it is.
+-- An element that is added at the end of a set's list, as it is.
 use Rattle.std.specs.Prelude.{[], ◌∷◌, ◌++◌}
 use Rattle.set_model.specs.declared.element.Element.{Element}
 use Rattle.set_model.specs.SetState.{State}

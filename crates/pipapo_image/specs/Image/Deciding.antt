@@ -1,5 +1,5 @@
--- How an insertion is decided, by what lookups found: of the start key and the end key, or in a
--- disjoint set of the start key and the intervals.
+-- How lookups decide an insertion. The set looks up the start key and the end key. A disjoint set
+-- looks up the start key and the intervals.
 use Rattle.std.specs.Prelude.{◌≡◌, ℕ, ◌<◌, Bool, true, false, List, length, Option, Some, None, Result, Ok, Err, option_map, IfSome, if◌then◌else◌}
 use Rattle.std.specs.Option.{option_or}
 use Rattle.std.specs.Global.{Vec}
@@ -15,7 +15,8 @@ use Rattle.pipapo_image.specs.declared.answers.ChangeError.{ChangeError}
 use Rattle.pipapo_image.specs.declared.answers.ChangeError.TheVariants as errors
 use Rattle.pipapo_image.specs.Image.Decision.{IsWithinLimits}
 
--- A new element is within all limits and nothing refuses it; or this refuses it; or there was no memory.
+-- Either a new element is within all limits and nothing refuses it, or this refuses it, or memory
+-- ran out.
 abbrev pub IsTest : State → List Interval → Option Why → Result (Vec (List Block)) ChangeError → Type 0
 IsTest s parts why (Ok columns) = (why ≡ None) × IsWithinLimits s parts columns.items
 IsTest s parts why (Err (errors.Refused cause)) = why ≡ Some cause
@@ -25,41 +26,41 @@ IsTest s parts why (Err errors.Memory) = Unit
 abbrev pub by_rules : Option ℕ → Option Why
 by_rules crowded = option_map (λ f. RulesFull f) crowded
 
--- by whether the set is full
+-- why it is refused, by whether the set is full
 abbrev pub by_size : State → List Interval → Bool → Option Why
 by_size s parts full = option_or (if full then Some Full else None) (by_rules (crowded_field s parts))
 
--- by the place of the element that is in the way, if one is
+-- why it is refused, by the place of the element that is in the way, if there is one
 abbrev pub by_way : State → List Interval → Option ℕ → Option Why
 by_way s parts (Some i) = Some (Overlap (element_at s i).id)
 by_way s parts None = by_size s parts (is_full s)
 
--- what comes of intervals that are not there yet, by what refuses them
+-- what happens to intervals that are not in the set, by what refuses them
 abbrev pub add_new : State → NewElement → Option Why → Addition × State
 add_new s e (Some why) = (Refused why, s)
 add_new s e None = (New s.next, with_element s e)
 
--- what comes of an element that is there already, at a place: a new expiry renews it
+-- what happens to an element that is there already, at a place: a new expiry renews it
 abbrev pub add_again : State → Option ℕ → ℕ → Addition × State
 add_again s None i = (Already (element_at s i).id, s)
 add_again s (Some moment) i = (Renewed (element_at s i).id, renewed s i (Some moment))
 
--- The element at a place holds the start key; it has the same intervals or not.
+-- The element at a place holds the start key. It has the same intervals or others.
 abbrev pub at_start : State → ℕ → Option ℕ → Bool → Addition × State
 at_start s i x true = add_again s x i
 at_start s i x false = (Refused (Overlap (element_at s i).id), s)
 
--- what comes of an addition, by the place of the element that holds the start key
+-- what an addition does, by the place of the element that holds the start key
 abbrev pub by_start : State → NewElement → ℕ → Option ℕ → Addition × State
 by_start s e now (Some i) = at_start s i e.expiry (same_parts (element_at s i).parts e.parts)
 by_start s e now None = add_new s e (by_way s e.parts (place s (end_key e.parts) now))
 
--- an answer that is the place of the element that is there already, which is one of the list
+-- an answer that is the place of the element that is there already, within the list
 pub record IsTwinPlace (s : State) (parts : List Interval) (now : ℕ) (result : Option ℕ) : Type 0 where
   pub value : result ≡ twin_place s parts now
   pub within : IfSome result (λ i. i < length s.elements)
 
--- what comes of an addition in a disjoint set, by the place of the element that is there already
+-- what an addition does in a disjoint set, by the place of the element that is there already
 abbrev pub by_twin : State → NewElement → ℕ → Option ℕ → Addition × State
 by_twin s e now (Some i) = add_again s e.expiry i
 by_twin s e now None = add_new s e (by_way s e.parts (sharing_place s e.parts now))

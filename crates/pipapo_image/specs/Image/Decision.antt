@@ -1,5 +1,5 @@
--- What is decided of an insertion before anything changes, what it answers and the set that it leaves
--- where it is carried out.
+-- What is decided of an insertion before anything changes, with its answer and the set that it
+-- leaves if it is carried out.
 use Rattle.std.specs.Prelude.{◌≡◌, ℕ, ◌-◌, ◌^◌, ◌<◌, List, length, Option, Some, None, Result, Ok, Err}
 use Rattle.set_model.specs.declared.block.Block.{Block}
 use Rattle.set_model.specs.declared.kind.Interval.{Interval}
@@ -19,13 +19,13 @@ pub record IsWithinLimits (s : State) (parts : List Interval) (columns : List (L
   pub few : crowded_field s parts ≡ None
   pub next : s.next < 2 ^ 64 - 1
 
--- what comes where this is done
+-- the result if this is carried out
 abbrev pub comes : Decision → ℕ → Addition
 comes (Stays id) next = Already id
 comes (Renews i id) next = Renewed id
 comes (Adds columns) next = New next
 
--- the element that is there already, by its id
+-- the id of the element that is there already
 abbrev pub existing : Decision → Option ℕ
 existing (Stays id) = Some id
 existing (Renews i id) = Some id
@@ -37,13 +37,13 @@ set_left s e (Stays id) = s
 set_left s e (Renews i id) = renewed s i e.expiry
 set_left s e (Adds columns) = with_element s e
 
--- It can be done.
+-- It can be carried out.
 abbrev pub CanBeDone : State → List Interval → Decision → Type 0
 CanBeDone s parts (Stays id) = Unit
 CanBeDone s parts (Renews i id) = i < length s.elements
 CanBeDone s parts (Adds columns) = IsWithinLimits s parts columns.items
 
--- This is to be done; or it is a refusal; or there was no memory.
+-- Either this is to be carried out, or it is a refusal, or memory ran out.
 abbrev pub IsDecision : State → NewElement → Addition × State → Result Decision ChangeError → Type 0
 IsDecision s e answer (Ok decision) = CanBeDone s e.parts decision × (answer ≡ (comes decision s.next, set_left s e decision))
 IsDecision s e answer (Err (errors.Refused why)) = answer ≡ (Refused why, s)

@@ -1,4 +1,4 @@
--- What an insertion answers, and the set that it leaves.
+-- What an insertion returns, and the set that it leaves.
 use Rattle.std.specs.Prelude.{◌≡◌, Result, Ok, Err}
 use Rattle.set_model.specs.SetState.{State, Addition}
 use Rattle.set_model.specs.SetState.Addition.{New, Already, Renewed, Refused}
@@ -7,13 +7,14 @@ use Rattle.pipapo_image.specs.declared.answers.Added.TheVariants.{New as CameNew
 use Rattle.pipapo_image.specs.declared.answers.ChangeError.{ChangeError}
 use Rattle.pipapo_image.specs.declared.answers.ChangeError.TheVariants as errors
 
--- what the answer of a call says, where there was memory
+-- the result that the answer of a call names, if memory didn't run out
 abbrev pub addition_said : Came → Addition
 addition_said (CameNew id) = New id
 addition_said (CameAlready id) = Already id
 addition_said (CameRenewed id) = Renewed id
 
--- The call gives this answer and leaves this set; or there was no memory, and the set is as it was.
+-- Either the call gives this answer and leaves this set, or memory ran out and the set is
+-- unchanged.
 abbrev pub IsAnswer : Addition × State → Result Came ChangeError → State → State → Type 0
 IsAnswer answer (Ok came) old new = (addition_said came ≡ answer.0) × (new ≡ answer.1)
 IsAnswer answer (Err (errors.Refused why)) old new = (Refused why ≡ answer.0) × (new ≡ answer.1)

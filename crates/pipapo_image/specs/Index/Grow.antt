@@ -17,19 +17,19 @@ pub record IsColumn (kinds : List Kind) (parts : List Interval) (f : ℕ) (colum
   pub split : column ≡ field_blocks kinds f parts
   pub within : (k : Kind) → All (IsWithin (bits_of (get_or kinds f k))) column
 
--- Each bucket of the table has room for n rules more, on pages that are the table's own.
+-- Each bucket of the table has room for n more rules, on pages that are the table's own.
 pub record HasSpare (n : ℕ) (t : FieldTable) : Type 0 where
   pub rows : All (λ row. n ≤ row.spare) t.buckets.rows
   pub own : IsOwn t.rules (t.rules + n) t
 
--- the same table, with other room
+-- the same table, maybe with other room
 pub record IsKept (a b : FieldTable) : Type 0 where
   pub width : b.width ≡ a.width
   pub bits : b.bits ≡ a.bits
   pub rules : b.rules ≡ a.rules
   pub stands : KeepsRules a b
 
--- the same rules in groups of the width that n rules more want, with room for these
+-- the same rules in groups of the width for n more rules, with room for these
 pub record IsRewidened (n : ℕ) (t u : FieldTable) : Type 0 where
   pub width : u.width ≡ width_of t.bits (t.rules + n)
   pub bits : u.bits ≡ t.bits
@@ -37,17 +37,17 @@ pub record IsRewidened (n : ℕ) (t u : FieldTable) : Type 0 where
   pub stands : KeepsRules t u
   pub spare : HasSpare n u
 
--- a table of another width, where n rules more want one
+-- a table of another width, if n more rules need one
 abbrev pub IsOther : ℕ → FieldTable → Option FieldTable → Type 0
 IsOther n t None = t.width ≡ width_of t.bits (t.rules + n)
 IsOther n t (Some u) = IsRewidened n t u
 
--- the other table, where there is one
+-- the replacement, if there is one
 abbrev pub chosen : Option FieldTable → FieldTable → FieldTable
 chosen None t = t
 chosen (Some u) t = u
 
--- the table with the rules of a column more
+-- the table with the rules of one more column
 pub record IsGrownBy (column : List Block) (a b : FieldTable) : Type 0 where
   pub width : b.width ≡ a.width
   pub bits : b.bits ≡ a.bits
@@ -58,11 +58,11 @@ pub record IsGrownBy (column : List Block) (a b : FieldTable) : Type 0 where
 abbrev pub counts : List FieldTable → List ℕ
 counts fields = map (λ t. t.rules) fields
 
--- the span of a new rule of field f: the new rules of the next field
+-- the span of a new rule of field f, which is the new rules of the next field
 abbrev pub new_span : List ℕ → List (List Block) → ℕ → Span
 new_span counts columns f = record { first = slice_index counts (f + 1); count = length (of_field columns (f + 1)) }
 
--- The table can take its column.
+-- The table has room for its column.
 pub record IsReady (column : List Block) (t : FieldTable) : Type 0 where
   pub spare : HasSpare (length column) t
   pub within : All (IsWithin t.bits) column

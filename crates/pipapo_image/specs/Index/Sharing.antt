@@ -1,4 +1,4 @@
--- The first element that stands in the way of intervals in a set whose elements share no key.
+-- The first element that is in the way of intervals, in a set whose elements share no key.
 use Rattle.std.specs.Prelude.{◌≡◌, ℕ, ◌<◌, List, length, Option, IfSome, get_or}
 use Rattle.lookup_table.specs.declared.table.FieldTable.{FieldTable}
 use Rattle.range_expand.specs.Split.{IsFieldInterval}
@@ -16,7 +16,7 @@ pub record AreIntervalsOf (fields : List FieldTable) (parts : List Interval) : T
 abbrev pub sharing_found : State → List Interval → ℕ → Option Found
 sharing_found s parts now = found_at s (sharing_place s parts now)
 
--- an answer that is that place, which is one of the list
+-- an answer that is that place, within the list
 pub record IsSharingPlace (s : State) (parts : List Interval) (now : ℕ) (result : Option ℕ) : Type 0 where
   pub value : result ≡ sharing_place s parts now
   pub within : IfSome result (λ i. i < length s.elements)

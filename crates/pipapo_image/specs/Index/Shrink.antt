@@ -1,4 +1,4 @@
--- What an element that goes does to an index.
+-- What a leaving element does to an index.
 use Rattle.std.specs.Prelude.{◌≡◌, ℕ, suc, ◌+◌, ◌-◌, ◌<◌, ◌≤◌, List, length, drop, get_or, Option, Some, None, All}
 use Rattle.lookup_table.specs.declared.table.FieldTable.{FieldTable}
 use Rattle.lookup_table.specs.Rules.{IsOwn, KeepsRules, DropsRules}
@@ -11,8 +11,8 @@ use Rattle.pipapo_image.specs.Index.Built.{Built, Passed}
 use Rattle.pipapo_image.specs.Index.Grow.{chosen}
 use Rattle.pipapo_image.specs.Index.Runs.{run_at}
 
--- the same rules in groups of the width that is wanted without those of a run, on pages that are the
--- table's own from there on
+-- the same rules in groups of the width that is right without a run, on pages that are the table's
+-- own from the run on
 pub record IsRegrouped (run : Span) (t u : FieldTable) : Type 0 where
   pub width : u.width ≡ width_of t.bits (t.rules - run.count)
   pub bits : u.bits ≡ t.bits
@@ -20,12 +20,12 @@ pub record IsRegrouped (run : Span) (t u : FieldTable) : Type 0 where
   pub stands : KeepsRules t u
   pub own : IsOwn run.first u.rules u
 
--- a table of another width, where one is wanted without the rules of a run
+-- a table of another width, if the field needs one without the rules of a run
 abbrev pub IsOtherWithout : Span → FieldTable → Option FieldTable → Type 0
 IsOtherWithout run t None = t.width ≡ width_of t.bits (t.rules - run.count)
 IsOtherWithout run t (Some u) = IsRegrouped run t u
 
--- one of these for each of the first n fields
+-- such a table, or none, for each of the first n fields
 abbrev pub AreOthersWithout : List FieldTable → List Span → List (Option FieldTable) → ℕ → Type 0
 AreOthersWithout fields runs others n = Built (λ f o. (t : FieldTable) → IsOtherWithout (run_at runs f) (get_or fields f t) o) others n
 
@@ -36,8 +36,8 @@ pub record IsShrunk (run : Span) (a b : FieldTable) : Type 0 where
   pub rules : b.rules + run.count ≡ a.rules
   pub stands : DropsRules a b run.first run.count
 
--- Each table, or the other one in its place, has the rules of its run, on pages that are its own from
--- there on.
+-- Each table, or its replacement, has the rules of its run, on pages that are its own from there
+-- on.
 pub record AreWithin (fields : List FieldTable) (others : List (Option FieldTable)) (runs : List Span) : Type 0 where
   pub one_each : length runs ≡ length fields
   pub one_other : length others ≡ length fields
@@ -45,8 +45,8 @@ pub record AreWithin (fields : List FieldTable) (others : List (Option FieldTabl
   pub own : (f : ℕ) (t : FieldTable) → f < length fields
       → IsOwn (run_at runs f).first (chosen (get_or others f None) (get_or fields f t)).rules (chosen (get_or others f None) (get_or fields f t))
 
--- Each mapping has the spans of its run, on pages that are its own from there on, and the later ones begin
--- behind the next field's run.
+-- Each mapping has the spans of its run, on pages that are its own from there on. The later spans
+-- begin after the next field's run.
 pub record AreSpansWithin (maps : List (Spared Span)) (runs : List Span) : Type 0 where
   pub one_more : length runs ≡ length maps + 1
   pub within : (f : ℕ) (m : Spared Span) → f < length maps → (run_at runs f).first + (run_at runs f).count ≤ length (get_or maps f m).items
@@ -59,7 +59,8 @@ pub record OwnsRuns (index : Index) (runs : List Span) : Type 0 where
   pub maps : (f : ℕ) (m : Spared Span) → f < length index.maps → OwnsFrom (run_at runs f).first (get_or index.maps f m)
   pub ends : OwnsFrom (run_at runs (length runs - 1)).first index.ends
 
--- The index has the rules of these runs, all of one element, on pages that are its own from there on.
+-- The index has the rules of these runs, all of one element, on pages that are its own from there
+-- on.
 pub record IsDroppable (index : Index) (others : List (Option FieldTable)) (runs : List Span) : Type 0 where
   pub some : 1 ≤ length runs
   pub fields : AreWithin index.fields others runs

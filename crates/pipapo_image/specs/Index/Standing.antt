@@ -1,4 +1,4 @@
--- What it is for tables to be those of a list of elements.
+-- When tables represent a list of elements.
 use Rattle.std.specs.Prelude.{◌≡◌, ℕ, ◌+◌, ◌<◌, List, length, get_or}
 use Rattle.lookup_table.specs.declared.table.FieldTable.{FieldTable}
 use Rattle.lookup_table.specs.Rules.{Stands}
@@ -12,13 +12,14 @@ use Rattle.set_model.specs.SetState.{field_rules}
 use Rattle.set_tables.specs.declared.Span.{Span}
 use Rattle.set_tables.specs.Tables.{field_spans}
 
--- A field's table is of its kind's bits, has the width for so many rules, and stands for the rules.
+-- A field's table has the bits of the field's kind and the width for so many rules. It represents
+-- these rules.
 pub record IsTableOf (kind : Kind) (rules : List Block) (t : FieldTable) : Type 0 where
   pub bits : t.bits ≡ bits_of kind
   pub width : t.width ≡ width_of (bits_of kind) (length rules)
   pub stands : Stands t rules
 
--- each field's table is that of the elements' rules
+-- each field's table represents the elements' rules
 pub record AreFieldsOf (kinds : List Kind) (es : List Element) (fields : List FieldTable) : Type 0 where
   pub one_each : length fields ≡ length kinds
   pub each : (f : ℕ) (k : Kind) (t : FieldTable) → f < length kinds → IsTableOf (get_or kinds f k) (field_rules kinds f es) (get_or fields f t)

@@ -5,8 +5,8 @@ use Rattle.mapping_table.specs.Spared.{Spared}
 use Rattle.set_model.specs.SetState.{rules_limit}
 use Rattle.set_tables.specs.declared.Span.{Span}
 
--- There is one mapping fewer than fields. A mapping has one span for each rule of its field, which
--- lies inside the next field's rules, and no field has too many rules.
+-- There is one mapping fewer than fields. A mapping has one span for each rule of its field, within
+-- the next field's rules. No field has too many rules.
 pub record IsWalk (fields : List FieldTable) (maps : List (Spared Span)) : Type 0 where
   pub one_fewer : length maps + 1 ≡ length fields
   pub few : (f : ℕ) (t : FieldTable) → f < length fields → (get_or fields f t).rules ≤ rules_limit

@@ -13,8 +13,8 @@ use set_tables::End;
 use std::alloc::Global;
 
 impl SetImage {
-    /// Puts an element at the end of the list, whose rules are these columns and within all limits.
-    /// All memory is taken before the first change.
+    /// Puts an element at the end of the list. Its rules are these columns, within all limits. The
+    /// call takes all memory before the first change.
     pub(crate) fn append_element(
         &mut self,
         alloc: Global,
@@ -38,8 +38,8 @@ impl SetImage {
         Ok(())
     }
 
-    /// Puts a copy of an element, which shares its contents, at the end of the list. Its rules are
-    /// within all limits.
+    /// Puts a copy of an element, which shares its contents, at the end of the list. Its rules must
+    /// be within all limits.
     pub(crate) fn append_copy(&mut self, alloc: Global, element: &Element) -> Result<(), Memory>
         requires fit { parts_fit self.old.kinds element.now.parts ≡ true }
         requires few { crowded_field self.old element.now.parts ≡ None }

@@ -14,12 +14,12 @@ use crate::index::scratch::Scratch;
 use set_model::{Block, Interval, Listed, NewElement, Parts, Why};
 use std::alloc::Global;
 
-/// What an insertion does, where nothing refuses it.
+/// What an insertion does, if nothing refuses it.
 #[derive(Drop)]
 pub enum Decision {
     /// The element of the same intervals stays as it is.
     Stays { id: u64 },
-    /// The element of the same intervals, at this place, gets another expiry.
+    /// The element of the same intervals, at place `place`, gets another expiry.
     Renews { place: u64, id: u64 },
     /// A new element is added, with these rules.
     Adds { columns: Vec<Listed<Block>> },
@@ -28,8 +28,8 @@ pub enum Decision {
 impl Decision {
     ghost use Rattle.pipapo_image.specs.Image.Decision.{existing};
 
-    /// The id of the element of the same intervals that is there already. `None` where a new one is
-    /// added.
+    /// The id of the element of the same intervals that is there already. `None` if a new element
+    /// is added.
     pub fn existing(&self) -> Option<u64>
         ensures { result ≡ existing self.now }
     {
@@ -56,7 +56,7 @@ fn all_same(a: &[Interval], b: &[Interval]) -> bool
         .all(|(x, y)| x.low == y.low && x.high == y.high)
 }
 
-/// Whether each interval has one value, so that the end key is the start key.
+/// Whether each interval has one value. Then the end key is the start key.
 fn is_single(parts: &[Interval]) -> bool
     ensures { result ≡ list_all (λ part. part.low == part.high) parts.now }
 {
@@ -64,10 +64,11 @@ fn is_single(parts: &[Interval]) -> bool
 }
 
 impl SetImage {
-    /// Decides what an insertion of this element does. The set stays as it is. `now` is in
+    /// Decides what an insertion of this element does. The set is unchanged. `now` is in
     /// milliseconds.
     ///
     /// # Errors
+    ///
     /// As of an insertion.
     pub fn decide(
         &self,
@@ -86,15 +87,15 @@ impl SetImage {
         }
     }
 
-    /// Whether only elements that hold the start key or the end key can be in the way: where others may
-    /// share keys, and where the intervals hold one key alone.
+    /// Whether only elements that hold the start key or the end key can be in the way. This is so
+    /// if elements may share keys, and if the intervals hold one key alone.
     fn is_by_ends(&self, parts: &Parts) -> bool
         ensures { result ≡ (not self.now.disjoint || list_all (λ part. part.low == part.high) parts.now) }
     {
         !self.disjoint || is_single(parts.as_slice())
     }
 
-    /// Decides where no two live elements may share a key.
+    /// Decides in a set in which no two live elements may share a key.
     #[tactic(auto, using(crate::proofs::AddLaws::decides))]
     fn decide_apart(
         &self,
@@ -114,7 +115,7 @@ impl SetImage {
         }
     }
 
-    /// Decides where only elements that hold the start key or the end key can be in the way.
+    /// Decides if only elements that hold the start key or the end key can be in the way.
     #[tactic(auto, using(crate::proofs::AddLaws::decides))]
     fn decide_by_ends(
         &self,
@@ -135,7 +136,7 @@ impl SetImage {
     }
 
     /// The place of the element that is there already: the first live one that holds the start key,
-    /// where it has the same intervals.
+    /// if it has the same intervals.
     fn twin_place(&self, parts: &Parts, now: u64, scratch: &mut Scratch) -> Option<u64>
         requires { parts_fit self.now.kinds parts.now ≡ true }
         ensures { IsTwinPlace self.now parts.now now result }
@@ -161,7 +162,7 @@ impl SetImage {
         self.elements.at(i).id
     }
 
-    /// Decides where the element at place `i` holds the start key.
+    /// Decides if the element at place `i` holds the start key.
     fn decide_at(&self, i: u64, element: &NewElement) -> Result<Decision, ChangeError>
         requires { i < length self.now.elements }
         ensures { IsDecision self.now element.now (at_start self.now i element.now.expiry (same_parts (element_at self.now i).parts element.now.parts)) result }
@@ -173,7 +174,7 @@ impl SetImage {
         }
     }
 
-    /// What an insertion of an element of the intervals of the one at place `i` does.
+    /// What an insertion does if the element at place `i` has the same intervals.
     fn decide_again(&self, i: u64, element: &NewElement) -> Decision
         requires { i < length self.now.elements }
         ensures { IsDecision self.now element.now (add_again self.now element.now.expiry i) (Ok result) }
@@ -186,8 +187,8 @@ impl SetImage {
         }
     }
 
-    /// The rules of a new element, where no live element holds the start key. An end key that is the
-    /// start key isn't looked up again.
+    /// The rules of a new element, if no live element holds the start key. If the end key is the
+    /// start key, it isn't looked up again.
     fn columns_apart(
         &self,
         alloc: Global,
@@ -208,7 +209,7 @@ impl SetImage {
         }
     }
 
-    /// The rules of a new element, where no element has the same intervals.
+    /// The rules of a new element, if no element has the same intervals.
     fn columns_unshared(
         &self,
         alloc: Global,
@@ -225,7 +226,7 @@ impl SetImage {
         }
     }
 
-    /// The rules of a new element, where nothing overlaps.
+    /// The rules of a new element, if nothing overlaps.
     fn columns_within(
         &self,
         alloc: Global,
@@ -241,7 +242,7 @@ impl SetImage {
         }
     }
 
-    /// Whether the set may have no further element.
+    /// Whether the set has all elements that it may have.
     pub fn is_full(&self) -> bool
         ensures full { result ≡ is_full self.now }
         ensures next { result ≡ false → self.now.next < 2 ^ 64 - 1 }
@@ -253,7 +254,7 @@ impl SetImage {
         many || self.next == u64::MAX
     }
 
-    /// The rules of a new element, where no field gets too many.
+    /// The rules of a new element, if no field gets too many.
     fn columns_uncrowded(
         &self,
         alloc: Global,

@@ -12,19 +12,20 @@ use std::alloc::Global;
 
 impl SetImage {
     /// The first element that is live at `now`, in milliseconds, and has exactly these intervals.
-    /// `None` where there is none. It takes no memory.
+    /// `None` if there is none. It takes no memory.
     pub fn find_exact(&self, parts: &Parts, now: u64, scratch: &mut Scratch) -> Option<Found>
         ensures { result ≡ exactly_found self.now parts.now now }
     {
         self.found_at(self.exact_at(parts, now, scratch))
     }
 
-    /// Takes the first element out that is live at `now`, in milliseconds, and has exactly these
-    /// intervals, and answers its id. The rules of the later elements close up.
+    /// Removes the first element that is live at `now`, in milliseconds, and has exactly these
+    /// intervals. Returns its id. The rules of later elements move down.
     ///
     /// # Errors
-    /// `Missing` exactly if there is no such element, also where an expired one has these intervals.
-    /// `Memory` if there is none left. Each leaves the set as it was.
+    ///
+    /// `Missing` exactly if there is no such element, also if an expired element has these
+    /// intervals. `Memory` if memory runs out. Each leaves the set as it was.
     #[tactic(auto, using(crate::proofs::Shrinking::never_missing))]
     pub fn delete(
         &mut self,
@@ -42,8 +43,8 @@ impl SetImage {
         }
     }
 
-    /// The place of the first element that is live and has exactly these intervals: the first live one
-    /// that holds their start key, or a later one where that has other intervals.
+    /// The place of the first element that is live and has exactly these intervals. It is the first
+    /// live element that holds their start key, or a later one if that element has other intervals.
     fn exact_at(&self, parts: &Parts, now: u64, scratch: &mut Scratch) -> Option<u64>
         ensures { IsExactPlace self.now parts.now now result }
     {
@@ -57,8 +58,8 @@ impl SetImage {
         }
     }
 
-    /// The place of the first element that is live and has exactly these intervals, where none has up to
-    /// place `i`.
+    /// The place of the first element that is live and has exactly these intervals, if no element
+    /// up to place `i` has them.
     fn exact_behind(&self, i: u64, parts: &Parts, now: u64) -> Option<u64>
         requires place { i < length self.now.elements }
         requires none { (k : ℕ) → k < i + 1 → is_exactly parts.now now (element_at self.now k) ≡ false }
@@ -81,10 +82,12 @@ impl SetImage {
         is_live(self.elements.at(i).expiry, now) && self.has_parts(i, parts)
     }
 
-    /// Takes the element at place `i` out, and answers its id. The rules of the later elements close up.
+    /// Removes the element at place `i`, and returns its id. The rules of later elements move down.
+    /// The call takes all memory before the first change.
     ///
     /// # Errors
-    /// `Memory` if there is none left, all of which is taken before the first change. The set is as it was.
+    ///
+    /// `Memory` if memory runs out. The set is as it was.
     pub fn remove_at(&mut self, alloc: Global, i: u64) -> Result<u64, Memory>
         requires { i < length self.old.elements }
         ensures ok { IfOk result (λ id. (id ≡ (element_at self.old i).id) × (self.new ≡ without_at self.old i)) }

@@ -15,13 +15,15 @@ use set_model::{Block, Duplicate, Element, Listed, Memory, NewElement};
 use std::alloc::Global;
 
 impl SetImage {
-    /// Adds an element at the end of the list, or renews one of the same intervals, or says why
-    /// not. `now` is in milliseconds.
+    /// Adds an element at the end of the list, renews an element of the same intervals, or returns
+    /// the refusal. `now` is in milliseconds.
     ///
     /// # Errors
-    /// `Overlap` if a live element holds the start key and has other intervals, or else holds the
-    /// end key, and in a disjoint set if one shares any key; then `Full`; then `RulesFull` with the first field that would have too many rules.
-    /// `Memory` if there is none left. Each leaves the set as it was.
+    ///
+    /// `Overlap` if a live element is in the way: it holds the start key and has other intervals,
+    /// or else holds the end key. In a disjoint set each live element that shares a key is in the
+    /// way. Then `Full`. Then `RulesFull`, with the first field that would have too many rules.
+    /// `Memory` if memory runs out. Each leaves the set as it was.
     pub fn insert(
         &mut self,
         alloc: Global,
@@ -37,10 +39,10 @@ impl SetImage {
         Ok(came)
     }
 
-    /// Does what was decided of this set, or of one that was the same, and of this element.
+    /// Carries out a decision on this set, or on an equal one, and on this element.
     ///
     /// # Errors
-    /// `Memory` if there is none left. The set is as it was.
+    /// `Memory` if memory runs out. The set is as it was.
     pub fn carry_out(
         &mut self,
         alloc: Global,
@@ -65,11 +67,11 @@ impl SetImage {
         }
     }
 
-    /// Gives the element at place `i` another expiry, in milliseconds. All memory is taken before the
-    /// first change.
+    /// Gives the element at place `i` another expiry, in milliseconds. The call takes all memory
+    /// before the first change.
     ///
     /// # Errors
-    /// `Memory` if there is none left. The set is as it was.
+    /// `Memory` if memory runs out. The set is as it was.
     pub fn renew(&mut self, alloc: Global, i: u64, expiry: Option<u64>) -> Result<(), Memory>
         requires { i < length self.old.elements }
         ensures ok { OnOk result (self.new ≡ renewed self.old i expiry) }
@@ -85,8 +87,8 @@ impl SetImage {
         Ok(())
     }
 
-    /// Puts a new element at the end, which is within all limits. All memory is taken before the
-    /// first change.
+    /// Puts a new element, which is within all limits, at the end. The call takes all memory before
+    /// the first change.
     fn push_new(
         &mut self,
         alloc: Global,

@@ -6,7 +6,7 @@ use crate::image::SetImage;
 use crate::index::scratch::Scratch;
 use set_model::Parts;
 
-/// The key with which intervals start, and zeros behind it.
+/// The key with which intervals start, and then zeros.
 fn starts(parts: &Parts) -> [u128; 16]
     requires { length parts.now ≤ 16 }
     ensures { take (length parts.now) result ≡ start_key parts.now }
@@ -18,7 +18,7 @@ fn starts(parts: &Parts) -> [u128; 16]
     lows
 }
 
-/// The key with which intervals end, and zeros behind it.
+/// The key with which intervals end, and then zeros.
 fn ends(parts: &Parts) -> [u128; 16]
     requires { length parts.now ≤ 16 }
     ensures { take (length parts.now) result ≡ end_key parts.now }

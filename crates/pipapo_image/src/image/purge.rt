@@ -9,20 +9,20 @@ use expiry_scan::{TimedElements, expired};
 use set_model::Memory;
 use std::alloc::Global;
 
-/// Whether `count` of `len` elements are taken out one by one in less time than it takes to make the
-/// tables of the others anew: a deletion, a pass over the tables, takes about as long as the addition of
-/// 64 elements and of a 64th of all.
+/// Whether it is faster to remove `count` of `len` elements one by one than to make the tables of
+/// the others anew. A deletion is a pass over the tables. It takes about as long as the addition of
+/// 64 elements and of a 64th of all elements.
 fn is_few(count: u64, len: u64) -> bool {
     count <= len / (len / 64 + 64)
 }
 
 impl SetImage {
-    /// Takes all elements that are expired at `now`, in milliseconds, out, and answers how many
-    /// there were. The others keep their order and their ids. Where none is expired nothing is done;
-    /// else the set is the live part of what it was.
+    /// Removes all elements that are expired at `now`, in milliseconds, and returns their number.
+    /// The others keep their order and their ids. If none is expired, nothing is done. Otherwise
+    /// the set becomes its live part.
     ///
     /// # Errors
-    /// `Memory` if there is none left. The set is as it was.
+    /// `Memory` if memory runs out. The set is as it was.
     #[tactic(auto, using(crate::proofs::Purging::all_stay))]
     pub fn purge(&mut self, alloc: Global, now: u64) -> Result<u64, Memory>
         ensures ok { IfOk result (λ n. (n ≡ count_by (is_expired now) self.old.elements) × (self.new ≡ purged self.old now)) }
@@ -37,12 +37,12 @@ impl SetImage {
         Ok(count)
     }
 
-    /// The same set without the elements that are expired at `now`, in milliseconds; this one stays as
-    /// it is. A few are taken out of a copy, and of many the tables are made anew from the elements that
-    /// stay.
+    /// The same set without the elements that are expired at `now`, in milliseconds. This set is
+    /// unchanged. Few elements are removed from a copy. If many are expired, the tables are made
+    /// anew from the elements that stay.
     ///
     /// # Errors
-    /// `Memory` if there is none left.
+    /// `Memory` if memory runs out.
     pub fn live_part(&self, alloc: Global, now: u64) -> Result<SetImage, Memory>
         ensures { IfOk result (λ set. set ≡ purged self.now now) }
     {
@@ -61,7 +61,7 @@ impl SetImage {
         }
     }
 
-    /// A copy of the set, out of which the expired elements are taken one by one, the last first.
+    /// A copy of the set. The expired elements are removed from it one by one, the last first.
     fn copy_without_expired(&self, alloc: Global, now: u64) -> Result<SetImage, Memory>
         ensures { IfOk result (λ set. set ≡ purged self.now now) }
     {
@@ -73,7 +73,7 @@ impl SetImage {
         Ok(kept)
     }
 
-    /// Takes the element at place `i` out where it is expired.
+    /// Removes the element at place `i` if it is expired.
     fn remove_expired_at(&mut self, alloc: Global, i: u64, now: u64) -> Result<(), Memory>
         requires { i < length self.old.elements }
         ensures { OnOk result (self.new ≡ without_expired_at self.old i now) }
@@ -99,18 +99,18 @@ impl SetImage {
         Ok(kept)
     }
 
-    /// Finds the soonest expiries anew, page by page, where elements came, changed or left by `passed`. Before a page's no call
-    /// that looks for expired elements goes through the page.
+    /// Finds the soonest expiry of a page anew, if elements of the page came, changed or left by
+    /// `passed`. A search for expired elements skips a page until the page's soonest expiry.
     pub fn find_soonest(&mut self, passed: Option<u64>)
         ensures { self.new ≡ self.old }
     {
         self.elements.find_soonest(passed);
     }
 
-    /// Lets copies share the elements and the tables from now on. None of them is copied.
+    /// Lets copies share the elements and the tables from now on. It copies neither.
     ///
     /// # Errors
-    /// `Memory` if there is none left. The set is as it was.
+    /// `Memory` if memory runs out. The set is as it was.
     pub fn settle(&mut self) -> Result<(), Memory>
         ensures { self.new ≡ self.old }
     {
@@ -119,10 +119,10 @@ impl SetImage {
         Ok(())
     }
 
-    /// Takes all elements out, and answers how many there were. Ids go on.
+    /// Removes all elements, and returns their number. Ids go on.
     ///
     /// # Errors
-    /// `Memory` if there is none left. The set is as it was.
+    /// `Memory` if memory runs out. The set is as it was.
     pub fn clear(&mut self, alloc: Global) -> Result<u64, Memory>
         ensures ok { IfOk result (λ n. (n ≡ length self.old.elements) × (self.new ≡ cleared self.old)) }
         ensures err { OnErr result (self.new ≡ self.old) }

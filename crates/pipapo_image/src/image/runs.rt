@@ -14,8 +14,8 @@ use set_model::Memory;
 use set_tables::Span;
 use std::alloc::Global;
 
-/// How many of a field's rules lead to rules of the next field below `first`, which is the first
-/// rule of some element there. The spans lie in the order of the rules that they lead to.
+/// How many of a field's rules lead to rules of the next field below `first`. Rule `first` is the
+/// first rule of an element there. The spans have the order of the rules to which they lead.
 fn rules_below(map: &MapTable, first: u32) -> u32
     ensures { (kinds : List Kind) (es : List Element) (f place : ℕ) → map.now.items ≡ field_spans kinds f es → All (λ e. 1 ≤ length (split kinds (suc f) e)) es
         → first ≡ length (field_rules kinds (suc f) (take place es)) → result ≡ length (field_rules kinds f (take place es)) }
@@ -34,8 +34,8 @@ fn rules_below(map: &MapTable, first: u32) -> u32
     low
 }
 
-/// How many of the first field's rules belong to the elements before a place: found in the ends, and
-/// from there back through the mappings.
+/// How many of the first field's rules belong to the elements before a place. It is found in the
+/// ends, and then in the mappings from the last to the first.
 fn first_rules(maps: &[MapTable], ends: &EndTable, place: u64) -> u32
     ensures { (kinds : List Kind) (es : List Element) → AreMapsOf kinds es maps.now → ends.now.items ≡ last_ends kinds es → All (λ e. parts_fit kinds e.parts ≡ true) es
         → result ≡ length (field_rules kinds 0 (take place es)) }
@@ -50,8 +50,8 @@ fn first_rules(maps: &[MapTable], ends: &EndTable, place: u64) -> u32
 }
 
 impl SetImage {
-    /// Where the rules of the element at place `i` lie in each field: in the first by a search, and
-    /// in each further one where the mapping leads.
+    /// The places of the rules of the element at place `i` in each field. A search finds them in
+    /// the first field, and the mappings lead to them in the others.
     pub(crate) fn runs(&self, alloc: Global, i: u64) -> Result<Vec<Span>, Memory>
         requires { i < length self.now.elements }
         ensures { IfOk result (λ runs. AreRuns self.now.kinds self.now.elements i runs.items (length self.now.kinds)) }

@@ -9,8 +9,7 @@ use set_model::{Found, Parts};
 
 impl SetImage {
     /// The first element of the list that is live at `now`, in milliseconds, and shares a key with
-    /// the intervals. `None` where there is none. It is found in the tables alone, and takes no
-    /// memory.
+    /// the intervals. `None` if there is none. It reads the tables alone, and takes no memory.
     pub fn first_sharing(&self, parts: &Parts, now: u64, scratch: &mut Scratch) -> Option<Found>
         requires { parts_fit self.now.kinds parts.now ≡ true }
         ensures found { result ≡ sharing_found self.now parts.now now }

@@ -14,7 +14,7 @@ impl Index {
     /// Takes room for the columns of a new element. Nothing else changes.
     ///
     /// # Errors
-    /// `Memory` if there is none left.
+    /// `Memory` if memory runs out.
     pub(crate) fn reserve(&mut self, columns: &[Listed<Block>]) -> Result<(), Memory>
         requires shaped { IsShapedIndex self.old }
         requires columns { AreColumnsOf self.old columns.now }
@@ -28,8 +28,8 @@ impl Index {
         Ok(())
     }
 
-    /// Adds the rules of an element: its columns, to the tables of another width where there are
-    /// such.
+    /// Adds the rules of an element: one column for each field. A field whose table needs another
+    /// width takes its replacement.
     pub(crate) fn append(
         &mut self,
         others: &mut [Option<FieldTable>],

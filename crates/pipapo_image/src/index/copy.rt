@@ -12,7 +12,7 @@ use mapping_table::MapTable;
 use set_model::{Duplicate, Memory};
 use std::alloc::Global;
 
-/// The same table once more.
+/// A copy of the table.
 fn table_again(alloc: Global, table: &FieldTable) -> Result<FieldTable, Memory>
     ensures { IfOk result (IsKept table.now) }
 {
@@ -43,10 +43,10 @@ fn maps_again(alloc: Global, maps: &[MapTable]) -> Result<Maps, Memory>
 impl Index {
     ghost use Rattle.pipapo_image.specs.Index.Changes.{IsSameIndex};
 
-    /// The same tables once more.
+    /// A copy of the tables.
     ///
     /// # Errors
-    /// `Memory` if there is none left.
+    /// `Memory` if memory runs out.
     pub(crate) fn copy(&self, alloc: Global) -> Result<Index, Memory>
         ensures { IfOk result (IsSameIndex self.now) }
     {

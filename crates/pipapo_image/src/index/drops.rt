@@ -14,8 +14,8 @@ use set_model::Memory;
 use set_tables::Span;
 use std::alloc::Global;
 
-/// The table in groups of another width, if one is wanted without the rules of a run, which can be taken
-/// out of it.
+/// The table in groups of another width, if it needs one without the rules of a run. The run can be
+/// removed from it.
 fn other_width(alloc: Global, table: &FieldTable, run: Span) -> Result<Option<FieldTable>, Memory>
     requires { run.count ≤ table.now.rules }
     ensures { IfOk result (IsOtherWithout run table.now) }
@@ -29,7 +29,7 @@ fn other_width(alloc: Global, table: &FieldTable, run: Span) -> Result<Option<Fi
     Ok(Some(other))
 }
 
-/// The tables of another width of the fields that want one without the rules of their run.
+/// The tables of another width for the fields that need one without the rules of their run.
 fn other_widths_without(
     alloc: Global,
     fields: &[FieldTable],
@@ -46,7 +46,7 @@ fn other_widths_without(
     Ok(others)
 }
 
-/// Takes the rules of a run out of a table, or out of the other one in its place.
+/// Removes the rules of a run from a table, or from its replacement.
 fn drop_run(field: &mut FieldTable, other: Option<FieldTable>, run: Span)
     requires within { run.first + run.count ≤ (chosen other field.old).rules }
     requires own { IsOwn run.first (chosen other field.old).rules (chosen other field.old) }
@@ -58,7 +58,7 @@ fn drop_run(field: &mut FieldTable, other: Option<FieldTable>, run: Span)
     field.drop_rules(run.first, run.count);
 }
 
-/// Takes the rules of each field's run out of its table, or out of the other one in its place.
+/// Removes the rules of each field's run from its table, or from its replacement.
 fn drop_runs(fields: &mut [FieldTable], others: &mut [Option<FieldTable>], runs: &[Span])
     requires { AreWithin fields.old others.old runs.now }
     ensures { Passed (λ f a b. IsShrunk (run_at runs.now f) (chosen (get_or others.old f None) a) b) fields.old fields.new (length fields.old) }
@@ -69,7 +69,7 @@ fn drop_runs(fields: &mut [FieldTable], others: &mut [Option<FieldTable>], runs:
     }
 }
 
-/// Takes the spans of each field's run out of its mapping.
+/// Removes the spans of each field's run from its mapping.
 fn drop_spans(maps: &mut [MapTable], runs: &[Span])
     requires { AreSpansWithin maps.old runs.now }
     ensures { Passed (λ f a b. b.items ≡ spans_without a.items (run_at runs.now f).first (run_at runs.now f).count (run_at runs.now (suc f)).count) maps.old maps.new (length maps.old) }
@@ -81,7 +81,7 @@ fn drop_spans(maps: &mut [MapTable], runs: &[Span])
     }
 }
 
-/// Takes the rules of each field's run out of its table, or out of the other one in its place.
+/// Removes the rules of each field's run from its table, or from its replacement.
 fn take_runs_out(fields: &mut Fields, others: &mut [Option<FieldTable>], runs: &[Span])
     requires { AreWithin fields.old others.old runs.now }
     ensures { Passed (λ f a b. IsShrunk (run_at runs.now f) (chosen (get_or others.old f None) a) b) fields.old fields.new (length fields.old) }
@@ -89,7 +89,7 @@ fn take_runs_out(fields: &mut Fields, others: &mut [Option<FieldTable>], runs: &
     drop_runs(fields.as_mut_slice(), others, runs);
 }
 
-/// Takes the spans of each field's run out of its mapping.
+/// Removes the spans of each field's run from its mapping.
 fn take_spans_out(maps: &mut Maps, runs: &[Span])
     requires { AreSpansWithin maps.old runs.now }
     ensures { Passed (λ f a b. b.items ≡ spans_without a.items (run_at runs.now f).first (run_at runs.now f).count (run_at runs.now (suc f)).count) maps.old maps.new (length maps.old) }
@@ -101,11 +101,11 @@ impl Index {
     ghost use Rattle.pipapo_image.specs.Index.Changes.{IsSameIndex};
     ghost use Rattle.pipapo_image.specs.Index.Shrink.{OwnsRuns, IsDroppable, IsDropped};
 
-    /// Takes all memory that the removal of an element wants: the pages from its run on are made the
-    /// tables' own, and it gives the tables of another width. Nothing else changes.
+    /// Takes all memory that the removal of an element needs. It makes the pages from the element's
+    /// run on the tables' own, and returns the tables of another width. Nothing else changes.
     ///
     /// # Errors
-    /// `Memory` if there is none left.
+    /// `Memory` if memory runs out.
     pub(crate) fn prepare_without(
         &mut self,
         alloc: Global,
@@ -122,8 +122,8 @@ impl Index {
         other_widths_without(alloc, self.fields.as_slice(), runs)
     }
 
-    /// Takes the rules of an element out: its run in each field, of the tables of another width
-    /// where there are such.
+    /// Removes the rules of an element, which are one run in each field. A field whose table needs
+    /// another width takes its replacement.
     pub(crate) fn drop_element(&mut self, others: &mut [Option<FieldTable>], runs: &[Span])
         requires { IsDroppable self.old others.old runs.now }
         ensures { IsDropped self.old self.new others.old runs.now }

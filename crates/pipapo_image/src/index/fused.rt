@@ -17,7 +17,7 @@ use fused_lookup::{Window, lead_from, lead_from_first, refill_from, refill_from_
 use lookup_table::FieldTable;
 use mapping_table::{EndTable, MapTable};
 
-/// The place that the key leads to: each word of rules that is left in a field goes on to the next
+/// The place to which the key leads. Each word of rules that is left in a field goes to the next
 /// field, or to the ends, before the next word is looked at. Both rows are blank before and after.
 pub(crate) fn fused_walk(
     fields: &[FieldTable],
@@ -46,8 +46,8 @@ pub(crate) fn fused_walk(
     lead_from(&fields[last], ends, key[last], now, window, row)
 }
 
-/// Leaves in `row` what the key reaches of the last field's rules, where that isn't the first. It
-/// gives the row's window.
+/// Leaves in `row` the rules of the last field that the key reaches, if there are two fields or
+/// more. Returns the row's window.
 fn walk_fields(
     fields: &[FieldTable],
     maps: &[MapTable],

@@ -14,7 +14,7 @@ use set_model::{Block, Listed, Memory};
 use set_tables::{End, Span};
 use std::alloc::Global;
 
-/// The table in groups of another width, if `n` rules more want one.
+/// The table in groups of another width, if `n` more rules need one.
 fn other_width(alloc: Global, table: &FieldTable, n: u32) -> Result<Option<FieldTable>, Memory>
     requires { table.now.rules + n ≤ rules_limit }
     ensures { IfOk result (IsOther n table.now) }
@@ -28,7 +28,7 @@ fn other_width(alloc: Global, table: &FieldTable, n: u32) -> Result<Option<Field
     Ok(Some(other))
 }
 
-/// The tables of another width of the fields whose columns want one.
+/// The tables of another width for the fields whose columns need one.
 pub(crate) fn other_widths(
     alloc: Global,
     fields: &[FieldTable],
@@ -80,7 +80,7 @@ pub(crate) fn reserve_maps(maps: &mut [MapTable], columns: &[Listed<Block>]) -> 
     Ok(())
 }
 
-/// Adds a column to a table, or to the other one in its place.
+/// Adds a column to a table, or to its replacement.
 fn add_column(field: &mut FieldTable, other: Option<FieldTable>, column: &[Block])
     requires { IsReady column.now (chosen other field.old) }
     ensures { IsGrownBy column.now (chosen other field.old) field.new }
@@ -91,7 +91,7 @@ fn add_column(field: &mut FieldTable, other: Option<FieldTable>, column: &[Block
     field.add_blocks(column);
 }
 
-/// Adds each field's column to its table, or to the other one in its place.
+/// Adds each field's column to its table, or to its replacement.
 pub(crate) fn add_columns(
     fields: &mut [FieldTable],
     others: &mut [Option<FieldTable>],
@@ -117,7 +117,7 @@ fn push_spans(map: &mut MapTable, n: u32, span: Span)
     }
 }
 
-/// Adds `n` times the same end.
+/// Adds the same end `n` times.
 pub(crate) fn push_ends(ends: &mut EndTable, n: u32, end: End)
     requires { n ≤ ends.old.spare }
     ensures { ends.new.items ≡ ends.old.items ++ replicate n end }
@@ -127,7 +127,8 @@ pub(crate) fn push_ends(ends: &mut EndTable, n: u32, end: End)
     }
 }
 
-/// Adds to each mapping a span for each block of its column: the blocks of the next column.
+/// Adds a span to each mapping for each block of its column. The span has the blocks of the next
+/// column.
 fn add_spans(fields: &[FieldTable], maps: &mut [MapTable], columns: &[Listed<Block>])
     requires fields { length maps.old + 1 ≡ length fields.now }
     requires columns { length columns.now ≡ length fields.now }
@@ -157,7 +158,7 @@ pub(crate) fn reserve_columns(fields: &mut Fields, columns: &[Listed<Block>]) ->
     Ok(())
 }
 
-/// Adds each field's column to its table, or to the other one in its place.
+/// Adds each field's column to its table, or to its replacement.
 pub(crate) fn put_columns(
     fields: &mut Fields,
     others: &mut [Option<FieldTable>],

@@ -119,7 +119,7 @@ impl Index {
     /// Makes the pages from an element's run on the tables' own, in each field. Nothing else changes.
     ///
     /// # Errors
-    /// `Memory` if there is none left.
+    /// `Memory` if memory runs out.
     pub(crate) fn own_runs(&mut self, runs: &[Span]) -> Result<(), Memory>
         requires maps { length runs.now ≡ length self.old.maps + 1 }
         requires fields { length runs.now ≡ length self.old.fields }
@@ -136,7 +136,7 @@ impl Index {
     /// Makes the pages of the `n` ends from `first` on the tables' own. Nothing else changes.
     ///
     /// # Errors
-    /// `Memory` if there is none left.
+    /// `Memory` if memory runs out.
     pub(crate) fn own_ends(&mut self, first: u32, n: u32) -> Result<(), Memory>
         ensures kept { IsSameIndex self.old self.new }
         ensures own { OnOk result (OwnsRange first n self.new.ends) }
@@ -148,7 +148,7 @@ impl Index {
     /// Lets copies share the tables from now on. Nothing else changes.
     ///
     /// # Errors
-    /// `Memory` if there is none left.
+    /// `Memory` if memory runs out.
     pub(crate) fn settle(&mut self) -> Result<(), Memory>
         ensures { IsSameIndex self.old self.new }
     {

@@ -6,7 +6,7 @@ ghost use Rattle.set_tables.specs.Tables.{last_ends};
 
 use mapping_table::EndTable;
 
-/// The number of the last field's rules that belong to the elements before a place. The ends lie in
+/// The number of the last field's rules that belong to the elements before a place. The ends have
 /// the order of the places.
 pub(crate) fn rules_before(ends: &EndTable, place: u64) -> u32
     ensures within { result ≤ length ends.now.items }

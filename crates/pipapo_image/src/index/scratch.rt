@@ -9,16 +9,16 @@ use std::marker::Model;
 /// The most rules that a field has.
 pub(crate) const MOST_RULES: u32 = 1_048_576;
 
-/// The rows that a lookup works in, each with room for as many rules as a field can have, and for no
-/// more: so a lookup leaves no memory taken. One is made for many lookups; what it holds between two
-/// of them is of no account.
+/// The rows that a lookup works in. Each has room for exactly as many rules as a field can have, so
+/// a lookup takes no memory. One scratch serves many lookups, and no lookup depends on what an
+/// earlier one left.
 #[derive(Drop)]
 pub struct Scratch {
     pub(crate) row: BitRow,
     pub(crate) next: BitRow,
     pub(crate) rest: BitRow,
     pub(crate) sum: BitRow,
-    // Two rows between fields, blank between lookups.
+    // Two rows for the fused lookup, blank between lookups.
     pub(crate) here: BitRow,
     pub(crate) beyond: BitRow,
 }
@@ -36,10 +36,10 @@ impl Model for Scratch {
 }
 
 impl Scratch {
-    /// Takes the rows' room: 768 KiB in all.
+    /// Takes the memory of the rows: 768 KiB in all.
     ///
     /// # Errors
-    /// `Memory` if there is none left.
+    /// `Memory` if memory runs out.
     pub fn new(alloc: Global) -> Result<Scratch, Memory> {
         Ok(Scratch {
             row: blank_row(alloc)?,

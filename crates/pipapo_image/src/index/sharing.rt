@@ -30,8 +30,8 @@ impl Index {
     ghost use Rattle.pipapo_image.specs.Index.{IsShapedIndex, IsIndexOf};
 
     /// The place of the first element that is live at `now`, in milliseconds, and shares a key with
-    /// the intervals, in every list of elements whose tables these are. `None` where there is none.
-    /// It looks at rules alone: no interval is compared. It takes no memory.
+    /// the intervals. This holds for every list of elements that these tables represent. `None` if
+    /// there is none. It reads rules and compares no interval. It takes no memory.
     pub fn find_sharing(&self, parts: &Parts, now: u64, scratch: &mut Scratch) -> Option<u64>
         requires shaped { IsShapedIndex self.now }
         requires parts { AreIntervalsOf self.now.fields parts.now }
@@ -52,8 +52,9 @@ impl Index {
     }
 }
 
-/// Leaves in `row` the rules of the last field that share a value with the interval there and that
-/// such rules of the fields before lead to. The other rows are written over.
+/// Leaves in `row` the rules of the last field that share a value with its interval and that can be
+/// reached. Rules of each earlier field that share a value with the interval there lead to them.
+/// The other rows are overwritten.
 fn share_walk(
     fields: &[FieldTable],
     maps: &[MapTable],
@@ -90,8 +91,8 @@ fn share_walk(
     }
 }
 
-/// Leaves bit `r` of the row set where rule `r`'s block shares a value with the interval. The other
-/// rows are written over.
+/// Clears bit `r` of the row unless rule `r`'s block shares a value with the interval. The
+/// other rows are overwritten.
 fn share_field(
     table: &FieldTable,
     part: Interval,
@@ -118,8 +119,8 @@ fn share_field(
     row.and_from(sum);
 }
 
-/// Leaves bit `r` of `sum` set where rule `r`'s block shares a value with one of these blocks. The
-/// other rows are written over.
+/// Sets exactly those bits `r` of `sum` whose rule's block shares a value with one of these blocks.
+/// The other rows are overwritten.
 fn share_blocks(
     table: &FieldTable,
     split: Blocks,

@@ -12,7 +12,7 @@ use set_model::{Memory, NewElement, Parts, Why, is_live};
 use shared_pages::PAGE;
 use std::alloc::Global;
 
-/// Whether the set's size or a field's rules refuse an element.
+/// Whether the set's size or a field's number of rules refuses an element.
 fn is_at_limit(answer: &Result<Decision, ChangeError>) -> bool
     ensures { result ≡ is_at_limit answer.now }
 {
@@ -43,10 +43,11 @@ impl LazyImage {
         Ok(came)
     }
 
-    /// Inserts into the set where no live element of the same intervals is there.
+    /// Inserts into the set, if it has no live element of the same intervals.
     ///
     /// # Errors
-    /// `Exists` if one is there; then as of an insertion. The set is as it was.
+    ///
+    /// `Exists` if it has one. Otherwise as of an insertion. The set is as it was.
     pub(crate) fn create(
         &mut self,
         alloc: Global,
@@ -67,10 +68,10 @@ impl LazyImage {
         }
     }
 
-    /// Takes the first live element of exactly these intervals out, and answers its id.
+    /// Removes the first live element with exactly these intervals, and returns its id.
     ///
     /// # Errors
-    /// `Missing` exactly if there is no such element. `Memory` if there is none left. The set is as it was.
+    /// `Missing` exactly if there is no such element. `Memory` if memory runs out. The set is as it was.
     pub(crate) fn delete(
         &mut self,
         alloc: Global,
@@ -88,11 +89,12 @@ impl LazyImage {
         }
     }
 
-    /// Decides what an insertion of this element does to the image. `now` is in milliseconds. Where that
-    /// needn't hold of the set, the rule numbers close up before: it is looked up once more only behind a
-    /// limit's refusal.
+    /// Decides what an insertion of this element does to the image. `now` is in milliseconds. If
+    /// the image can't decide for the set, the rule numbers close up first. A second lookup is
+    /// needed only after a limit's refusal.
     ///
     /// # Errors
+    ///
     /// As of an insertion. The set is as it was.
     fn decide(
         &mut self,
@@ -114,7 +116,8 @@ impl LazyImage {
         answer
     }
 
-    /// Closes the rule numbers up where many elements left, or this one would be taken for one that did.
+    /// Closes the rule numbers up if many elements left, or if the image would take this element
+    /// for one that left.
     fn make_way(&mut self, alloc: Global, element: &NewElement) -> Result<(), Memory>
         ensures same { set_of self.new ≡ set_of self.old }
         ensures stays { OnOk result (would_leave self.new.passed element.now.expiry ≡ false) }
@@ -126,8 +129,8 @@ impl LazyImage {
         Ok(())
     }
 
-    /// What the image decides of an insertion of this element. `None` where that needn't hold of the set, so
-    /// that the rule numbers are to close up before.
+    /// What the image decides of an insertion of this element. `None` if the image can't decide for
+    /// the set, so that the rule numbers must close up first.
     pub(super) fn decided(
         &self,
         alloc: Global,
@@ -164,7 +167,7 @@ impl LazyImage {
         self.image.decide(alloc, element, self.moment(now), scratch)
     }
 
-    /// Whether the element would be taken for one that left.
+    /// Whether the image would take the element for one that left.
     fn would_leave(&self, element: &NewElement) -> bool
         ensures { result ≡ would_leave self.now.passed element.now.expiry }
     {
@@ -174,17 +177,17 @@ impl LazyImage {
         }
     }
 
-    /// Whether a limit refuses an element where others that left count.
+    /// Whether a limit refuses an element, and elements that left count towards the limit.
     fn wants_room(&self, answer: &Result<Decision, ChangeError>) -> bool
         ensures { result ≡ wants_room self.now.passed answer.now }
     {
         self.passed.is_some() && is_at_limit(answer)
     }
 
-    /// Takes the element at place `i` of the image out of the set, and answers its id.
+    /// Removes the element at place `i` of the image from the set, and returns its id.
     ///
     /// # Errors
-    /// `Memory` if there is none left. The set is as it was.
+    /// `Memory` if memory runs out. The set is as it was.
     pub(super) fn remove_at(&mut self, alloc: Global, i: u64) -> Result<u64, Memory>
         requires { i < length self.old.image.elements }
         ensures id { IfOk result (λ id. id ≡ (element_at self.old.image i).id) }
@@ -198,9 +201,9 @@ impl LazyImage {
         }
     }
 
-    /// Whether the element at place `i` of the image, when it is deleted, stands there until the numbers
-    /// close up together: not where little closes up behind it, at most a page of elements, nor in a full
-    /// image, whose numbers each addition would close up.
+    /// Whether the element at place `i` of the image stays there if it is deleted, until the
+    /// numbers close up. It is removed at once if at most a page of elements moves down. It is also
+    /// removed at once from a full image, since each addition would close the numbers up.
     fn waits(&self, i: u64) -> bool
         requires { i < length self.now.image.elements }
         ensures { result ≡ true → set_of self.now ≡ purged self.now.image (unwrap_or self.now.passed 0) }
@@ -209,8 +212,8 @@ impl LazyImage {
         behind > PAGE as u64 && !self.image.is_full() && self.can_wait()
     }
 
-    /// Whether each element of the set is live at the moment by which others left, so that one with the
-    /// expiry 0 is one of these.
+    /// Whether each element of the set is live at the moment by which others left. Then an element
+    /// with the expiry 0 has left.
     fn can_wait(&self) -> bool
         ensures { result ≡ true → set_of self.now ≡ purged self.now.image (unwrap_or self.now.passed 0) }
     {
@@ -220,7 +223,8 @@ impl LazyImage {
         }
     }
 
-    /// Gives the element at place `i` of the image the expiry 0, which deletes it from the set. Its id.
+    /// Gives the element at place `i` of the image the expiry 0, which deletes it from the set.
+    /// Returns its id.
     fn mark(&mut self, alloc: Global, i: u64) -> Result<u64, Memory>
         requires within { i < length self.old.image.elements }
         requires live { set_of self.old ≡ purged self.old.image (unwrap_or self.old.passed 0) }

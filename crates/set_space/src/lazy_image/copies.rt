@@ -13,12 +13,13 @@ use set_model::{Memory, NewElement, Parts, Why};
 use std::alloc::Global;
 
 impl LazyImage {
-    /// What comes of an insertion of this element, and a copy of the set with it; no copy where nothing
-    /// changes. Where the rule numbers close up before the element is refused, there is one in which they
-    /// did, so that they needn't again. `now` is in milliseconds.
+    /// The result of an insertion of this element, and a copy of the set with it. There is no copy
+    /// if nothing changes. A refusal may come after the rule numbers closed up in a copy. Then that
+    /// copy is returned, so that they needn't close up again. `now` is in milliseconds.
     ///
     /// # Errors
-    /// `Memory` if there is none left; of the insertion, as of one into an image.
+    ///
+    /// `Memory` if memory runs out. The result has the errors of an insertion into an image.
     pub(crate) fn inserted(
         &self,
         alloc: Global,
@@ -43,8 +44,8 @@ impl LazyImage {
         }
     }
 
-    /// A copy in which what was decided of an insertion is done, and what came of it; no copy where nothing
-    /// changes.
+    /// Carries out an insertion's decision in a copy. Returns the copy and the result. There is no
+    /// copy if nothing changes.
     fn inserted_as(
         &self,
         alloc: Global,
@@ -63,12 +64,13 @@ impl LazyImage {
         Ok((came, Some(changed)))
     }
 
-    /// What comes of a creation of this element, and a copy of the set with it, as of an insertion. `now` is in
-    /// milliseconds.
+    /// The result of a creation of this element, and a copy of the set with it, as of an insertion.
+    /// `now` is in milliseconds.
     ///
     /// # Errors
-    /// `Memory` if there is none left; of the creation, `Exists` if an element of the same intervals is there,
-    /// then as of an insertion.
+    ///
+    /// `Memory` if memory runs out. The result has `Exists` if the set has an element of the same
+    /// intervals. Otherwise it has the errors of an insertion.
     pub(crate) fn created(
         &self,
         alloc: Global,
@@ -90,7 +92,7 @@ impl LazyImage {
         }
     }
 
-    /// What comes of a creation of which this was decided, and a copy in which it is done.
+    /// Carries out a creation's decision in a copy. Returns the copy and the result.
     fn created_as(
         &self,
         alloc: Global,
@@ -110,7 +112,7 @@ impl LazyImage {
         }
     }
 
-    /// A copy in which this is done, and what came of it.
+    /// A copy in which the decision is carried out, and the result.
     fn carried_out(
         &self,
         alloc: Global,
@@ -127,10 +129,11 @@ impl LazyImage {
         Ok((came, changed))
     }
 
-    /// A copy of the set without the first live element of exactly these intervals, and its id.
+    /// A copy of the set without the first live element with exactly these intervals, and the
+    /// element's id.
     ///
     /// # Errors
-    /// `Missing` exactly if there is no such element. `Memory` if there is none left.
+    /// `Missing` exactly if there is no such element. `Memory` if memory runs out.
     pub(crate) fn without(
         &self,
         alloc: Global,
@@ -148,7 +151,7 @@ impl LazyImage {
         }
     }
 
-    /// A copy of the set without the element at place `i` of the image, and its id.
+    /// A copy of the set without the element at place `i` of the image, and the element's id.
     fn without_at(&self, alloc: Global, i: u64) -> Result<(u64, LazyImage), Memory>
         requires { i < length self.now.image.elements }
         ensures id { IfOk result (λ r. r.0 ≡ (element_at self.now.image i).id) }

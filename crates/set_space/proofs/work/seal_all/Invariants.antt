@@ -4,7 +4,8 @@ use Rattle.set_model.specs.Control.{expired_count}
 use Rattle.set_space.specs.OpenSets.{open_states}
 use Rattle.set_space.proofs.work.seal_all.Given as goal
 
--- The open sets stand for the same states; those so far are published and counted, fewer than 2^32 a set.
+-- The open sets represent the same states. The sets so far are published and their expired elements
+-- counted, fewer than 2^32 for each set.
 abbrev pub invariant-sets : goal.invariant-sets
 invariant-sets l =
     (length l.sets ≡ length l.initial.sets)
