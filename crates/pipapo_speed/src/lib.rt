@@ -2,7 +2,7 @@
 //!
 //! No crate depends on this one, and the driver in C is no part of the program.
 //!
-//! **Definitions:** none, since it only has to be safe. docs/performance.md says how `checks/speed`
+//! **Definitions:** none, since it only has to be safe. docs/performance.md says how `bench/speed`
 //! calls it, and what was measured.
 #![tactic(auto)]
 

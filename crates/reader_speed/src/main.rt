@@ -1,6 +1,6 @@
-//! Measures readers and packet threads on a workload of `checks/workloads.py`.
+//! Measures readers and packet threads on a workload of `bench/workloads.py`.
 //!
-//! `checks/speed` calls it, in one of these two ways:
+//! `bench/speed` calls it, in one of these two ways:
 //!
 //! ```text
 //! reader_speed readers N FILE

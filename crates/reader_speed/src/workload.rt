@@ -1,4 +1,4 @@
-//! Reads the workloads that `checks/workloads.py` writes.
+//! Reads the workloads that `bench/workloads.py` writes.
 use crate::fault::Fault;
 use set_model::{Comment, Interval, Key, Kind, Kinds, NewElement, Parts};
 use std::alloc::Global;
