@@ -1,7 +1,7 @@
 //! The texts that the program prints about itself.
 
 /// The page of `--version`: the name and the version.
-pub const VERSION: &str = "pipapo 0.1.0\n";
+pub const VERSION: &str = "pipapo 0.2.0\n";
 
 /// The page of `help`: all commands, options and statuses.
 pub const PROGRAM: &str = "\

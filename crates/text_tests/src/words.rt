@@ -218,7 +218,7 @@ const PAGES: &[u8] = b"\
     help|pipapo runs nftables set scripts and looks packets up in the sets.~\
     --help|pipapo runs nftables set scripts and looks packets up in the sets.~\
     -h|pipapo runs nftables set scripts and looks packets up in the sets.~\
-    --version|pipapo 0.1.0~\
+    --version|pipapo 0.2.0~\
     help run|usage: pipapo run SCRIPT KEYS [--threads N] [--keep-going]~\
     run --help|usage: pipapo run SCRIPT KEYS [--threads N] [--keep-going]~\
     run -h|usage: pipapo run SCRIPT KEYS [--threads N] [--keep-going]~\
