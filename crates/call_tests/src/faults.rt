@@ -46,7 +46,7 @@ fn pages(rt: HostRuntime) -> Result<(), Fail> {
     for (words, page) in pages {
         check(&rt, rt.alloc(), words, &[], page.text().as_bytes(), 0)?;
     }
-    check(&rt, rt.alloc(), &["--version"], &[], b"pipapo 0.1.0\n", 0)
+    check(&rt, rt.alloc(), &["--version"], &[], b"pipapo 0.2.0\n", 0)
 }
 
 #[test]
