@@ -1,0 +1,28 @@
+/* The calls that give C strings, which no export of the proved archive can return. */
+#include "pipapo.h"
+
+const char *pipapo_strerror(uint32_t error) {
+    switch (error) {
+    case PIPAPO_OK: return "success";
+    case PIPAPO_MEMORY: return "out of memory";
+    case PIPAPO_NOTHING: return "the handle is empty";
+    case PIPAPO_HANDLE: return "the handle is of the other kind";
+    case PIPAPO_SCHEMA: return "a set needs 1 to 16 fields of known kinds, and a known family";
+    case PIPAPO_READERS: return "1 to 16 readers are needed";
+    case PIPAPO_SET: return "there is no set of this number";
+    case PIPAPO_LENGTH: return "the number of bytes isn't that of the set's fields";
+    case PIPAPO_INTERVAL: return "an interval's low value is above its high value";
+    case PIPAPO_TURN: return "the reader holds a generation already, or holds none";
+    case PIPAPO_NUMBERS: return "there are no numbers for further generations";
+    case PIPAPO_OVERLAP: return "a live element is in the way";
+    case PIPAPO_EXISTS: return "a live element has the same intervals";
+    case PIPAPO_FULL: return "the set is full";
+    case PIPAPO_RULES_FULL: return "a field has too many rules";
+    case PIPAPO_MISSING: return "no live element has these intervals";
+    default: return "unknown error";
+    }
+}
+
+uint32_t pipapo_version(void) {
+    return PIPAPO_VERSION;
+}

@@ -1,0 +1,70 @@
+# The library from C: every call and refusal, each allocation failing in turn, readers in threads beside a control, the C++
+# handles, the Python module, the example; under sanitizers and valgrind; and that the header declares what is exported.
+# The archive isn't instrumented, so the sanitizers see the C code and its calls of malloc and free alone.
+. "$(dirname "$0")/../preamble.sh"
+needs gcc g++ ar rt
+tests=$top/tests/c
+made=$room/library
+c/build "$made" /usr >"$room/log" 2>&1 || {
+    complain "the library isn't built"
+    tail -20 "$room/log"
+    finish
+}
+strict="-Wall -Wextra -Wpedantic -Werror -I$top/include"
+seconds=${PIPAPO_THREAD_SECONDS:-2}
+
+# Builds a test with these words, and runs it with those of $arguments.
+runs() { # COMPILER FILE WORD ..
+    compiler=$1
+    file=$2
+    shift 2
+    # shellcheck disable=SC2086
+    "$compiler" $strict "$@" -pthread -o "$room/test" "$file" "$made/libpipapo.a" && "$room/test" $arguments ||
+        complain "$(basename "$file") fails with $compiler $*"
+}
+
+arguments=
+runs gcc "$tests/calls.c" -std=c11 -O2
+runs gcc "$tests/calls.c" -std=c11 -O1 -g -fsanitize=address,undefined
+runs gcc "$tests/failing.c" -std=c11 -O2 -Wl,--wrap=malloc,--wrap=realloc,--wrap=free
+runs g++ "$tests/handles.cpp" -std=c++17 -O2
+if has clang; then
+    runs clang "$tests/calls.c" -std=c11 -O2
+    runs clang++ "$tests/handles.cpp" -std=c++17 -O2
+else
+    skip_part "clang isn't installed"
+fi
+runs gcc "$tests/guarded.c" -std=c11 -O2 -DPIPAPO_CHECKED
+runs gcc "$tests/calls.c" -std=c11 -O2 -DPIPAPO_CHECKED
+arguments=$seconds
+runs gcc "$tests/threads.c" -std=c11 -O2
+runs gcc "$tests/threads.c" -std=c11 -O1 -g -fsanitize=thread
+if has valgrind; then
+    gcc $strict -std=c11 -O1 -g -o "$room/test" "$tests/calls.c" "$made/libpipapo.a" &&
+        valgrind -q --leak-check=full --error-exitcode=9 "$room/test" || complain "valgrind finds errors"
+else
+    skip_part "valgrind isn't installed"
+fi
+
+# Only the calls of the header are exported.
+others=$(nm -D --defined-only "$made/libpipapo.so.0" | awk '$2 != "A" && $3 !~ /^pipapo_/ { print $3 }')
+[ -z "$others" ] || complain "the shared library exports $others"
+
+# The example, on a capture of which three of six packets have a key. The rules let all three through.
+gcc $strict -std=c11 -O2 -pthread -o "$room/classify" c/examples/classify.c "$made/libpipapo.a" &&
+    "$room/classify" c/examples/allow.rules examples/capture/six.pcap 100 >"$room/counts" || complain "the example fails"
+awk '$1 == "thread" && $3 > 0 && $3 == $5 { ++threads } END { exit threads != 4 }' "$room/counts" ||
+    complain "the example writes $(cat "$room/counts")"
+if "$room/classify" examples/capture/allow.nft examples/capture/six.pcap 2>"$room/refused"; then
+    complain "the example takes rules that aren't in its form"
+fi
+
+if has python3; then
+    python3 "$tests/layout.py" "$top" >"$room/layout.c" && gcc $strict -std=c11 -c -o "$room/layout.o" "$room/layout.c" ||
+        complain "the header doesn't declare what is exported"
+    PIPAPO_LIBRARY=$made/libpipapo.so.0 PYTHONPATH=$top/python python3 "$top/tests/python/test_pipapo.py" ||
+        complain "the Python module fails"
+else
+    skip_part "python3 isn't installed"
+fi
+finish

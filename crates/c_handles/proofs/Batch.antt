@@ -1,0 +1,56 @@
+-- One key more of many.
+use Rattle.std.proofs.Common.{refl, ◌≡◌, ℕ, suc, zero, ◌+◌, ◌-◌, ◌<◌, ◌≤◌, List, [], ◌∷◌, ◌++◌, length, take, drop, ap, sym, ◌∙◌, subst, arith}
+use Rattle.std.proofs.lemmas.List.{take_more_set, take_all, length-set, append_assoc, append-nil}
+use Rattle.std.proofs.Math.ListN.{set}
+use Rattle.set_model.specs.SetState.{State}
+use Rattle.pipapo_image.specs.Image.Found.{found}
+use Rattle.set_model.specs.declared.kind.Kind.{Kind}
+use Rattle.packed_values.specs.Packed.{values_in}
+use Rattle.std.specs.Prelude.{slice_get, Option, Some, IfOk}
+use Rattle.std.specs.declared.result.Result.{Result}
+use Rattle.std.specs.declared.result.Result.TheVariants.{Ok, Err}
+use Rattle.history_laws.specs.Histories.{StartsWith, EndsWith}
+use Rattle.set_model.specs.Control.{Generation}
+use Rattle.set_model.specs.declared.packet.Found.{Found}
+use Rattle.gen_publish.specs.Publish.{IsLookup}
+use Rattle.c_handles.proofs.Found.{one_state}
+use Rattle.c_handles.specs.Codes.{id_of}
+use Rattle.c_handles.specs.Calls.{ids_in, kinds_in, AreFound, HasFoundAll}
+
+less : (n : ℕ) (i : ℕ) → i < n → n - i ≡ suc (n - (i + 1))
+less n i h = omega arith
+
+pub one_more : (s : State) (kinds : List Kind) (size : ℕ) (now : ℕ) (ids : List ℕ) (i : ℕ) (rest : List ℕ) (x : ℕ) (all : List ℕ) → i < length ids → x ≡ id_of (found s (values_in kinds (take size rest)) now)
+    → take i ids ++ ids_in s kinds size now (length ids - i) rest ≡ all → take (i + 1) (set ids i x) ++ ids_in s kinds size now (length (set ids i x) - (i + 1)) (drop size rest) ≡ all
+one_more s kinds size now ids i rest x all h ex e =
+    let left : List ℕ = ids_in s kinds size now (length ids - (i + 1)) (drop size rest) in
+    let count : length (set ids i x) - (i + 1) ≡ length ids - (i + 1) = ap (λ (n : ℕ). n - (i + 1)) (length-set ids i x) in
+    let now_so : take (i + 1) (set ids i x) ++ ids_in s kinds size now (length (set ids i x) - (i + 1)) (drop size rest) ≡ (take i ids ++ x ∷ []) ++ left =
+    ap (λ (xs : List ℕ). xs ++ ids_in s kinds size now (length (set ids i x) - (i + 1)) (drop size rest)) (take_more_set ids i x h) ∙ ap (λ (n : ℕ). (take i ids ++ x ∷ []) ++ ids_in s kinds size now n (drop size rest)) count in
+    let before : take i ids ++ ids_in s kinds size now (length ids - i) rest ≡ take i ids ++ id_of (found s (values_in kinds (take size rest)) now) ∷ left =
+    ap (λ (n : ℕ). take i ids ++ ids_in s kinds size now n rest) (less (length ids) i h) in
+    now_so ∙ (append_assoc (take i ids) (x ∷ []) left ∙ (ap (λ (y : ℕ). take i ids ++ y ∷ left) ex ∙ (sym before ∙ e)))
+
+pub found_at : (g : Generation) (s : State) (set : ℕ) (key : List ℕ) (now : ℕ) (answer : Option Found) → IsLookup g set key now answer → slice_get g.sets set ≡ Some s → answer ≡ found s key now
+found_at g s set key now answer l at = l.first_match ∙ ap (λ (t : State). found t key now) (one_state l.state s (sym l.at ∙ at))
+
+none_left : (n : ℕ) (i : ℕ) → n ≤ i → n - i ≡ zero
+none_left n i h = omega arith
+
+pub no_more : (s : State) (kinds : List Kind) (size : ℕ) (now : ℕ) (ids : List ℕ) (i : ℕ) (rest : List ℕ) (all : List ℕ) → length ids ≤ i → take i ids ++ ids_in s kinds size now (length ids - i) rest ≡ all → ids ≡ all
+no_more s kinds size now ids i rest all h e =
+    let end : take i ids ++ ids_in s kinds size now (length ids - i) rest ≡ take i ids ++ [] = ap (λ (n : ℕ). take i ids ++ ids_in s kinds size now n rest) (none_left (length ids) i h) in
+    sym (append-nil (take i ids) ∙ take_all i ids h) ∙ (sym end ∙ e)
+
+pub all_found : {E : Type 0} (r : Result ℕ E) (old : List Generation) (held : List Generation) (new : List Generation) (kinds there : List (List Kind)) (set : ℕ) (bytes : List ℕ) (now : ℕ) (ids : List ℕ)
+    → there ≡ kinds → IfOk r (λ n. (g : Generation) → EndsWith held g → AreFound g (kinds_in there set) set bytes now ids n) → StartsWith held old → held ≡ new → IfOk r (HasFoundAll old new kinds set bytes now ids)
+all_found (Ok n) old held new kinds there set bytes now ids same h s e = record {
+  seen = subst (λ (l : List Generation). StartsWith l old) e s;
+  answers = λ g last. subst (λ (ks : List (List Kind)). AreFound g (kinds_in ks set) set bytes now ids n) same (h g (subst (λ (l : List Generation). EndsWith l g) (sym e) last));
+}
+all_found (Err x) old held new kinds there set bytes now ids same h s e = tt
+
+-- no key, no id
+pub none_asked : (s : State) (kinds : List Kind) (size now : ℕ) (ids bytes : List ℕ) → length ids ≡ 0 → ids ≡ ids_in s kinds size now (length ids) bytes
+none_asked s kinds size now [] bytes h = refl
+none_asked s kinds size now (id ∷ ids) bytes h = absurd (omega (arith, h))

@@ -1,0 +1,4 @@
+pub mod Codes
+pub mod Holding
+pub mod Calls
+pub mod Starting

@@ -1,0 +1,113 @@
+//! Why a call was refused.
+ghost use Rattle.std.specs.Prelude.{◌<◌};
+
+use pipapo_image::ChangeError;
+use set_model::{Memory, Why};
+use std::alloc::{AllocError, AllocFailed};
+
+/// The number of a call that was done.
+pub const DONE: u32 = 0;
+
+/// Why a call did nothing.
+#[derive(Clone, Copy)]
+pub enum Fault {
+    /// Want of memory.
+    Memory,
+    /// The handle holds nothing.
+    Empty,
+    /// The handle is a reader's where a control's is wanted, or the other way round.
+    Handle,
+    /// A set has no fields or more than 16, or a field is of no kind, or a family is none.
+    Schema,
+    /// Not 1 to 16 readers.
+    Readers,
+    /// No such set.
+    Set,
+    /// The bytes are too few or too many for the set's fields.
+    Length,
+    /// An interval falls.
+    Interval,
+    /// The reader holds a generation already, or holds none.
+    Turn,
+    /// There are no numbers for further generations.
+    Numbers,
+    /// The text isn't in the grammar of scripts.
+    Script,
+    /// A change of a script was refused.
+    Change,
+    /// The change was refused.
+    Refused(Why),
+}
+
+impl Fault {
+    /// Its number in `pipapo.h`.
+    pub fn code(self) -> u32
+        ensures { 0 < result }
+    {
+        match self {
+            Fault::Memory => 1,
+            Fault::Empty => 2,
+            Fault::Handle => 3,
+            Fault::Schema => 4,
+            Fault::Readers => 5,
+            Fault::Set => 6,
+            Fault::Length => 7,
+            Fault::Interval => 8,
+            Fault::Turn => 9,
+            Fault::Numbers => 10,
+            Fault::Script => 11,
+            Fault::Change => 12,
+            Fault::Refused(why) => match why {
+                Why::Overlap { id: _ } => 16,
+                Why::Exists { id: _ } => 17,
+                Why::Full => 18,
+                Why::RulesFull { field: _ } => 19,
+                Why::Missing => 20,
+            },
+        }
+    }
+
+    /// The id of the element in the way; 0 if there is none.
+    pub(crate) fn id(self) -> u64 {
+        match self {
+            Fault::Refused(Why::Overlap { id }) => id,
+            Fault::Refused(Why::Exists { id }) => id,
+            _ => 0,
+        }
+    }
+
+    /// The field that is full; 0 if none is.
+    pub(crate) fn field(self) -> u32 {
+        match self {
+            Fault::Refused(Why::RulesFull { field }) => field,
+            _ => 0,
+        }
+    }
+}
+
+impl From<Memory> for Fault {
+    fn from(_: Memory) -> Fault {
+        Fault::Memory
+    }
+}
+
+impl From<AllocError> for Fault {
+    fn from(_: AllocError) -> Fault {
+        Fault::Memory
+    }
+}
+
+impl<T: Drop> From<AllocFailed<T>> for Fault {
+    fn from(_: AllocFailed<T>) -> Fault {
+        Fault::Memory
+    }
+}
+
+impl From<ChangeError> for Fault {
+    fn from(error: ChangeError) -> Fault {
+        match error {
+            ChangeError::Refused(why) => Fault::Refused(why),
+            ChangeError::Memory => Fault::Memory,
+        }
+    }
+}

@@ -1,0 +1,31 @@
+//! What a C program holds of a control and its readers, and its calls on them. The static library `pipapo_c` exports these
+//! calls, and `pipapo.h` declares them.
+//!
+//! C holds a `Handle` for the control and one for each reader: a pointer to a box, or null. Each call takes the box out of
+//! the handle, works on what it holds, and puts it back. So a call refuses an empty handle, and a handle of the other
+//! kind. A handle may go to another thread (`Send` is proved). One call at a time may use it.
+//!
+//! **Definitions:** `specs/Holding.antt` has what a handle owns, `specs/Calls.antt` what a lookup, a change and a commit
+//! through a handle do, `specs/Codes.antt` the numbers that C gets.
+#![tactic(auto)]
+
+mod answer;
+mod changes;
+mod control_calls;
+mod fault;
+mod handle;
+mod loose;
+mod object;
+mod reader_calls;
+mod seat;
+mod shapes;
+mod starting;
+
+pub use answer::Answer;
+pub use control_calls::{abort, commit, create, delete, destroy, flush, insert, number};
+pub use fault::{DONE, Fault};
+pub use handle::{Handle, Opaque};
+pub use object::Object;
+pub use reader_calls::{enter, generation, leave, lookup, lookup_many};
+pub use shapes::SetShape;
+pub use starting::{Boxes, boxed, free, hand_out, start};

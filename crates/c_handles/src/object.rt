@@ -1,0 +1,88 @@
+//! What a handle holds.
+ghost use Rattle.std.specs.Prelude.{◌≡◌, IfOk, OnErr};
+ghost use Rattle.c_handles.specs.Calls.{HasEntered, HasFoundAll, HasLookedUp, HasGeneration, seen_of, kinds_of};
+ghost use Rattle.c_handles.specs.Codes.{id_of};
+
+use crate::fault::Fault;
+use crate::seat::Seat;
+use gen_publish::Control;
+use set_model::Found;
+
+/// A control, or a reader.
+#[derive(Drop)]
+pub enum Object {
+    Control(Control),
+    Reader(Seat),
+}
+
+/// The id that C gets: the largest number if nothing is found.
+pub(crate) fn id_or_none(found: Option<Found>) -> u64
+    ensures { result ≡ id_of found }
+{
+    match found {
+        Some(found) => found.id,
+        None => u64::MAX,
+    }
+}
+
+impl Object {
+    /// Holds the published generation, and gives its number.
+    pub(crate) fn enter(&mut self) -> Result<u64, Fault>
+        ensures ok { IfOk result (HasEntered (seen_of self.old) (seen_of self.new)) }
+        ensures err { OnErr result (self.new ≡ self.old) }
+    {
+        match self {
+            Object::Control(_) => Err(Fault::Handle),
+            Object::Reader(seat) => seat.enter(),
+        }
+    }
+
+    /// Holds nothing any more.
+    pub(crate) fn leave(&mut self) -> Result<(), Fault>
+        ensures seen { seen_of self.new ≡ seen_of self.old }
+        ensures err { OnErr result (self.new ≡ self.old) }
+    {
+        match self {
+            Object::Control(_) => Err(Fault::Handle),
+            Object::Reader(seat) => seat.leave(),
+        }
+    }
+
+    /// The number of the held generation.
+    pub(crate) fn generation(&self) -> Result<u64, Fault>
+        ensures { IfOk result (HasGeneration (seen_of self.now)) }
+    {
+        match self {
+            Object::Control(_) => Err(Fault::Handle),
+            Object::Reader(seat) => seat.generation(),
+        }
+    }
+
+    /// Looks a key up.
+    pub(crate) fn lookup(&mut self, set: u32, key: &[u8], now: u64) -> Result<Option<Found>, Fault>
+        ensures ok { IfOk result (HasLookedUp (seen_of self.old) (seen_of self.new) (kinds_of self.old) set key.now now) }
+        ensures kinds { kinds_of self.new ≡ kinds_of self.old }
+    {
+        match self {
+            Object::Control(_) => Err(Fault::Handle),
+            Object::Reader(seat) => seat.lookup(set, key, now),
+        }
+    }
+
+    /// Looks keys up in one generation, and gives its number.
+    pub(crate) fn lookup_all(
+        &mut self,
+        set: u32,
+        keys: &[u8],
+        now: u64,
+        ids: &mut [u64],
+    ) -> Result<u64, Fault>
+        ensures ok { IfOk result (HasFoundAll (seen_of self.old) (seen_of self.new) (kinds_of self.old) set keys.now now ids.new) }
+        ensures kinds { kinds_of self.new ≡ kinds_of self.old }
+    {
+        match self {
+            Object::Control(_) => Err(Fault::Handle),
+            Object::Reader(seat) => seat.lookup_all(set, keys, now, ids),
+        }
+    }
+}

@@ -1,0 +1,36 @@
+-- The values that bytes stand for: field after field, each in network byte order.
+use Rattle.std.specs.Prelude.{ℕ, ◌+◌, ◌/◌, List, [], ◌∷◌, length, take, drop}
+use Rattle.set_model.specs.declared.kind.Kind.{Kind}
+use Rattle.set_model.specs.declared.kind.Kind.TheVariants.{Ipv4, Ipv6, Ether, Proto, Service, Mark}
+use Rattle.set_model.specs.declared.kind.Interval.{Interval}
+use Rattle.addr_text.specs.Numbers.{big_endian}
+
+-- how many bytes a value of a kind has
+abbrev pub width_of : Kind → ℕ
+width_of Ipv4 = 4
+width_of Ipv6 = 16
+width_of Ether = 6
+width_of Proto = 1
+width_of Service = 2
+width_of Mark = 4
+
+-- how many bytes a key of these kinds has
+abbrev pub packed_length : List Kind → ℕ
+packed_length [] = 0
+packed_length (kind ∷ kinds) = width_of kind + packed_length kinds
+
+-- the values that bytes stand for
+abbrev pub values_in : List Kind → List ℕ → List ℕ
+values_in [] bytes = []
+values_in (kind ∷ kinds) bytes = big_endian 256 (take (width_of kind) bytes) ∷ values_in kinds (drop (width_of kind) bytes)
+
+-- the intervals between the values of two keys
+abbrev pub intervals_in : List Kind → List ℕ → List ℕ → List Interval
+intervals_in [] lows highs = []
+intervals_in (kind ∷ kinds) lows highs =
+    record { low = big_endian 256 (take (width_of kind) lows); high = big_endian 256 (take (width_of kind) highs) } ∷
+    intervals_in kinds (drop (width_of kind) lows) (drop (width_of kind) highs)
+
+-- the intervals of an element: its low values are the first half of the bytes, its high values the other half
+abbrev pub parts_in : List Kind → List ℕ → List Interval
+parts_in kinds bounds = intervals_in kinds (take (length bounds / 2) bounds) (drop (length bounds / 2) bounds)

@@ -1,0 +1,10 @@
+//! Values as packets have them: the bytes of each field in network byte order, one field after the other.
+//!
+//! **Definitions:** `specs/Packed.antt` says which values bytes stand for.
+#![tactic(auto)]
+
+mod kind_width;
+mod unpack;
+
+pub use kind_width::width;
+pub use unpack::{read_key, read_parts};

@@ -1,0 +1,196 @@
+//! The library as a C program calls it: `pipapo.h` declares these calls. No crate is built on this one.
+//!
+//! Each export is a call of `c_handles`, and states that call's clauses again. A `Global` takes no bytes, so C passes
+//! nothing for it. A slice is a pointer and a count.
+//!
+//! **Definitions:** those of `c_handles`.
+#![tactic(auto)]
+
+ghost use Rattle.std.specs.Prelude.{◌≡◌, ◌<◌, length, None};
+ghost use Rattle.c_handles.specs.Starting.{HasStarted};
+ghost use Rattle.c_handles.specs.Calls.{HasInserted, HasCreated, HasDeleted, HasDestroyed, HasFlushed, HasCommitted, HasAborted, HasNumber, HasEntered, HasFound, HasFoundAll, HasGeneration, seen_by, kinds_by};
+
+use c_handles::{Answer, Handle, SetShape};
+use std::alloc::Global;
+
+#[unsafe(no_mangle)]
+pub extern "C" fn pipapo_start(
+    alloc: Global,
+    sets: &[SetShape],
+    control: &mut Handle,
+    readers: &mut [Handle],
+) -> u32
+    ensures done { result ≡ 0 → HasStarted (length sets.now) control.new.held }
+    ensures refused { 0 < result → (control.new ≡ control.old) × (readers.new ≡ readers.old) }
+{
+    c_handles::start(alloc, sets, control, readers)
+}
+
+#[unsafe(no_mangle)]
+pub extern "C" fn pipapo_free(alloc: Global, handle: &mut Handle)
+    ensures { handle.new.held ≡ None }
+{
+    c_handles::free(alloc, handle);
+}
+
+#[unsafe(no_mangle)]
+pub extern "C" fn pipapo_insert(
+    alloc: Global,
+    control: &mut Handle,
+    set: u32,
+    bounds: &[u8],
+    expiry: u64,
+    comment: &[u8],
+    now: u64,
+    answer: &mut Answer,
+) -> u32
+    ensures done { result ≡ 0 → HasInserted control.old.held set bounds.now expiry comment.now now control.new.held answer.new }
+    ensures refused { 0 < result → control.new.held ≡ control.old.held }
+{
+    c_handles::insert(alloc, control, set, bounds, expiry, comment, now, answer)
+}
+
+#[unsafe(no_mangle)]
+pub extern "C" fn pipapo_create(
+    alloc: Global,
+    control: &mut Handle,
+    set: u32,
+    bounds: &[u8],
+    expiry: u64,
+    comment: &[u8],
+    now: u64,
+    answer: &mut Answer,
+) -> u32
+    ensures done { result ≡ 0 → HasCreated control.old.held set bounds.now expiry comment.now now control.new.held answer.new }
+    ensures refused { 0 < result → control.new.held ≡ control.old.held }
+{
+    c_handles::create(alloc, control, set, bounds, expiry, comment, now, answer)
+}
+
+#[unsafe(no_mangle)]
+pub extern "C" fn pipapo_delete(
+    alloc: Global,
+    control: &mut Handle,
+    set: u32,
+    bounds: &[u8],
+    now: u64,
+    answer: &mut Answer,
+) -> u32
+    ensures done { result ≡ 0 → HasDeleted control.old.held set bounds.now now control.new.held answer.new }
+    ensures refused { 0 < result → control.new.held ≡ control.old.held }
+{
+    c_handles::delete(alloc, control, set, bounds, now, answer)
+}
+
+#[unsafe(no_mangle)]
+pub extern "C" fn pipapo_destroy(
+    alloc: Global,
+    control: &mut Handle,
+    set: u32,
+    bounds: &[u8],
+    now: u64,
+    answer: &mut Answer,
+) -> u32
+    ensures done { result ≡ 0 → HasDestroyed control.old.held set bounds.now now control.new.held answer.new }
+    ensures refused { 0 < result → control.new.held ≡ control.old.held }
+{
+    c_handles::destroy(alloc, control, set, bounds, now, answer)
+}
+
+#[unsafe(no_mangle)]
+pub extern "C" fn pipapo_flush(
+    alloc: Global,
+    control: &mut Handle,
+    set: u32,
+    count: &mut u64,
+) -> u32
+    ensures done { result ≡ 0 → HasFlushed control.old.held set control.new.held count.new }
+    ensures refused { 0 < result → control.new.held ≡ control.old.held }
+{
+    c_handles::flush(alloc, control, set, count)
+}
+
+#[unsafe(no_mangle)]
+pub extern "C" fn pipapo_commit(
+    alloc: Global,
+    control: &mut Handle,
+    now: u64,
+    generation: &mut u64,
+    purged: &mut u64,
+) -> u32
+    ensures done { result ≡ 0 → HasCommitted control.old.held now control.new.held (record { generation = generation.new; purged = purged.new }) }
+    ensures refused { 0 < result → control.new.held ≡ control.old.held }
+{
+    c_handles::commit(alloc, control, now, generation, purged)
+}
+
+#[unsafe(no_mangle)]
+pub extern "C" fn pipapo_abort(alloc: Global, control: &mut Handle) -> u32
+    ensures done { result ≡ 0 → HasAborted control.old.held control.new.held }
+    ensures refused { 0 < result → control.new.held ≡ control.old.held }
+{
+    c_handles::abort(alloc, control)
+}
+
+#[unsafe(no_mangle)]
+pub extern "C" fn pipapo_number(alloc: Global, control: &mut Handle, generation: &mut u64) -> u32
+    ensures same { control.new.held ≡ control.old.held }
+    ensures done { result ≡ 0 → HasNumber control.old.held generation.new }
+{
+    c_handles::number(alloc, control, generation)
+}
+
+#[unsafe(no_mangle)]
+pub extern "C" fn pipapo_enter(alloc: Global, reader: &mut Handle, generation: &mut u64) -> u32
+    ensures done { result ≡ 0 → HasEntered (seen_by reader.old.held) (seen_by reader.new.held) generation.new }
+    ensures refused { 0 < result → reader.new.held ≡ reader.old.held }
+{
+    c_handles::enter(alloc, reader, generation)
+}
+
+#[unsafe(no_mangle)]
+pub extern "C" fn pipapo_leave(alloc: Global, reader: &mut Handle) -> u32
+    ensures seen { seen_by reader.new.held ≡ seen_by reader.old.held }
+    ensures refused { 0 < result → reader.new.held ≡ reader.old.held }
+{
+    c_handles::leave(alloc, reader)
+}
+
+#[unsafe(no_mangle)]
+pub extern "C" fn pipapo_generation(alloc: Global, reader: &mut Handle, generation: &mut u64) -> u32
+    ensures same { reader.new.held ≡ reader.old.held }
+    ensures done { result ≡ 0 → HasGeneration (seen_by reader.old.held) generation.new }
+{
+    c_handles::generation(alloc, reader, generation)
+}
+
+#[unsafe(no_mangle)]
+pub extern "C" fn pipapo_lookup(
+    alloc: Global,
+    reader: &mut Handle,
+    set: u32,
+    key: &[u8],
+    now: u64,
+    id: &mut u64,
+) -> u32
+    ensures done { result ≡ 0 → HasFound (seen_by reader.old.held) (seen_by reader.new.held) (kinds_by reader.old.held) set key.now now id.new }
+    ensures kinds { kinds_by reader.new.held ≡ kinds_by reader.old.held }
+{
+    c_handles::lookup(alloc, reader, set, key, now, id)
+}
+
+#[unsafe(no_mangle)]
+pub extern "C" fn pipapo_lookup_many(
+    alloc: Global,
+    reader: &mut Handle,
+    set: u32,
+    keys: &[u8],
+    now: u64,
+    ids: &mut [u64],
+    generation: &mut u64,
+) -> u32
+    ensures done { result ≡ 0 → HasFoundAll (seen_by reader.old.held) (seen_by reader.new.held) (kinds_by reader.old.held) set keys.now now ids.new generation.new }
+    ensures kinds { kinds_by reader.new.held ≡ kinds_by reader.old.held }
+{
+    c_handles::lookup_many(alloc, reader, set, keys, now, ids, generation)
+}

@@ -1,0 +1,253 @@
+/* pipapo.h: proved packet filter sets for C and C++.
+ *
+ * A set has 1 to 16 fields, for example an IPv4 address and a port. An element has one interval per field. A lookup takes
+ * one value per field. It returns the earliest inserted element that is live and whose every interval holds its value.
+ *
+ * A control changes the sets. A commit publishes all changes at once, as the next generation. Readers look keys up in a
+ * generation. Changes and commits never block a reader, and readers never block a commit.
+ *
+ *     pipapo_control control = PIPAPO_EMPTY;
+ *     pipapo_reader reader = PIPAPO_EMPTY;
+ *     pipapo_set set = {.kinds = {PIPAPO_IPV4, PIPAPO_SERVICE}, .fields = 2};
+ *     struct key { uint8_t address[4], port[2]; };
+ *     struct key range[2] = {{{192, 0, 2, 0}, {0, 80}}, {{192, 0, 2, 255}, {1, 187}}};  // 192.0.2.0/24 . 80-443
+ *     struct key packet = {{192, 0, 2, 7}, {1, 187}};
+ *     uint64_t generation, purged, id;
+ *     pipapo_answer answer;
+ *
+ *     pipapo_start(&set, 1, &control, &reader, 1);
+ *     pipapo_insert(&control, 0, range, sizeof range, PIPAPO_NEVER, "", 0, 0, &answer);
+ *     pipapo_commit(&control, 0, &generation, &purged);
+ *     pipapo_lookup(&reader, 0, &packet, sizeof packet, 0, &id);                        // id is answer.id
+ *     pipapo_free(&reader);
+ *     pipapo_free(&control);
+ *
+ * VALUES. A key is one value per field, in the order of the set's fields, with nothing between them. Each value is in
+ * network byte order, as a packet has it: an IPv4 address takes 4 bytes, an IPv6 address 16, an Ethernet address 6, a
+ * protocol 1, a port 2, a mark 4. The host's byte order never matters. An element's bounds are two keys, one directly after
+ * the other: the low values of all fields, then the high values. An interval includes both its bounds.
+ *
+ * MOMENTS are milliseconds since any start that the program chooses. An element that expires at moment m is live before m.
+ *
+ * RETURN VALUES. Each call returns PIPAPO_OK (0), or the reason why it did nothing. A refused call changes nothing that a
+ * handle holds. A lookup that is refused while its reader holds no generation may make the reader enter and leave one.
+ *
+ * THREADS. The control and each reader may be in a thread of their own. No call waits for another thread. One handle is for
+ * one call at a time. A handle may go to another thread through a lock, the start or end of a thread, or a sequentially
+ * consistent atomic. Different handles need no order.
+ *
+ * MEMORY. Only pipapo_start, the changes and pipapo_commit allocate, by malloc and realloc. The control and each reader take
+ * 768 KiB for the rows of a lookup, and the control takes the sets. A generation's memory is freed by the control.
+ *
+ * THE CALLER MUST SEE TO THIS, since no call can test it. Otherwise the behaviour is undefined:
+ *   - No pointer is null, also if its count is 0. Each points to as much memory as its count says.
+ *   - A handle is PIPAPO_EMPTY before its first use. Only these calls write to it.
+ *   - A handle that was copied is used through one copy alone, and freed once.
+ *   - At most one call at a time uses a handle.
+ *   - `answers` doesn't overlap `keys`, nor any other output its inputs.
+ *   - No call is made from a signal handler, nor in the child of a fork of a process with threads.
+ *   - malloc, realloc and free are of one allocator.
+ * With -DPIPAPO_CHECKED a state word for each handle catches the third and the fourth, and ends the program with a message
+ * (pipapo_guard.h). It is for tests: each call then takes a lock.
+ */
+#ifndef PIPAPO_H
+#define PIPAPO_H
+
+#include <stddef.h>
+#include <stdint.h>
+
+#ifdef __cplusplus
+extern "C" {
+#endif
+
+#define PIPAPO_VERSION_MAJOR 0
+#define PIPAPO_VERSION_MINOR 1
+#define PIPAPO_VERSION_PATCH 0
+#define PIPAPO_VERSION ((PIPAPO_VERSION_MAJOR << 16) | (PIPAPO_VERSION_MINOR << 8) | PIPAPO_VERSION_PATCH)
+
+#if defined(__GNUC__)
+#define PIPAPO_NONNULL __attribute__((nonnull))
+#define PIPAPO_CHECK_RESULT __attribute__((warn_unused_result))
+#else
+#define PIPAPO_NONNULL
+#define PIPAPO_CHECK_RESULT
+#endif
+
+/* A handle holds a control or a reader; its pointer is null if it holds nothing. Pass its address. */
+typedef struct { void *at; } pipapo_control;
+typedef struct { void *at; } pipapo_reader;
+#define PIPAPO_EMPTY { NULL }
+
+/* What a field is, as nft(8) names it. */
+enum pipapo_kind {
+    PIPAPO_IPV4 = 0,    /* ipv4_addr, 4 bytes */
+    PIPAPO_IPV6 = 1,    /* ipv6_addr, 16 bytes */
+    PIPAPO_ETHER = 2,   /* ether_addr, 6 bytes */
+    PIPAPO_PROTO = 3,   /* inet_proto, 1 byte */
+    PIPAPO_SERVICE = 4, /* inet_service, 2 bytes */
+    PIPAPO_MARK = 5     /* mark, 4 bytes */
+};
+
+enum pipapo_family {
+    PIPAPO_FAMILY_IP = 0,
+    PIPAPO_FAMILY_IP6 = 1,
+    PIPAPO_FAMILY_INET = 2,
+    PIPAPO_FAMILY_ARP = 3,
+    PIPAPO_FAMILY_BRIDGE = 4,
+    PIPAPO_FAMILY_NETDEV = 5
+};
+
+/* A set to be made. Zero all that you don't need. */
+typedef struct {
+    uint32_t kinds[16]; /* an enum pipapo_kind for each field */
+    uint32_t fields;    /* 1 to 16 */
+    uint32_t family;    /* an enum pipapo_family */
+    uint32_t disjoint;  /* not 0: an element that shares a key with a live one is refused */
+    uint32_t size;      /* at most so many elements; 0: any number */
+    uint8_t table[64];  /* the table's name, which ends at the first zero byte; for listings alone */
+    uint8_t name[64];   /* the set's name, alike */
+} pipapo_set;
+
+/* What a change answers. */
+typedef struct {
+    uint64_t id;      /* the element's id; after PIPAPO_OVERLAP and PIPAPO_EXISTS that of the element in the way; else 0 */
+    uint32_t field;   /* after PIPAPO_RULES_FULL the field that is full, from 0; else 0 */
+    uint32_t outcome; /* an enum pipapo_outcome */
+} pipapo_answer;
+
+enum pipapo_outcome {
+    PIPAPO_REFUSED = 0,
+    PIPAPO_NEW = 1,     /* the element is new */
+    PIPAPO_ALREADY = 2, /* an element of the same intervals is there, and stays as it was */
+    PIPAPO_RENEWED = 3, /* an element of the same intervals is there, and has the new expiry now */
+    PIPAPO_REMOVED = 4, /* the element is gone */
+    PIPAPO_ABSENT = 5   /* there was no such element */
+};
+
+enum pipapo_error {
+    PIPAPO_OK = 0,
+    PIPAPO_MEMORY = 1,      /* out of memory */
+    PIPAPO_NOTHING = 2,     /* the handle holds nothing: it is empty or freed */
+    PIPAPO_HANDLE = 3,      /* a reader where a control is wanted, or the other way round */
+    PIPAPO_SCHEMA = 4,      /* a set has no fields, or more than 16, or a number that is no kind or no family */
+    PIPAPO_READERS = 5,     /* not 1 to 16 readers */
+    PIPAPO_SET = 6,         /* there is no set of this number */
+    PIPAPO_LENGTH = 7,      /* not as many bytes as the set's fields have */
+    PIPAPO_INTERVAL = 8,    /* the low value of an interval is above its high value */
+    PIPAPO_TURN = 9,        /* the reader holds a generation already, or holds none */
+    PIPAPO_NUMBERS = 10,    /* there are no numbers for further generations */
+    PIPAPO_OVERLAP = 16,    /* a live element is in the way */
+    PIPAPO_EXISTS = 17,     /* pipapo_create: a live element has the same intervals */
+    PIPAPO_FULL = 18,       /* the set has as many elements as it may have */
+    PIPAPO_RULES_FULL = 19, /* a field would have too many rules (2 to the power 20) */
+    PIPAPO_MISSING = 20     /* pipapo_delete: no live element has exactly these intervals */
+};
+
+#define PIPAPO_NONE UINT64_MAX  /* no element was found */
+#define PIPAPO_NEVER UINT64_MAX /* the element doesn't expire */
+
+/* Makes a control and `reader_count` readers, 1 to 16, over these sets, which get the numbers 0, 1, .. and are empty. The
+ * generation is 0. What the handles held before is freed.
+ * Errors: READERS, SCHEMA, MEMORY. The handles are then as they were.
+ * Cost: 768 KiB for the control and for each reader. */
+PIPAPO_NONNULL PIPAPO_CHECK_RESULT
+uint32_t pipapo_start(const pipapo_set *sets, size_t set_count, pipapo_control *control, pipapo_reader *readers,
+                      size_t reader_count);
+
+/* Frees what a pipapo_control or a pipapo_reader holds, and leaves the handle empty. An empty handle stays empty. The order
+ * in which handles are freed doesn't matter: readers may outlive their control. A reader that is freed while it holds a
+ * generation keeps that generation's slot, and blocks nobody. */
+PIPAPO_NONNULL
+void pipapo_free(void *handle);
+
+/* Changes of the open sets. No reader sees them before the commit. `bounds` is two keys (VALUES, above), and `length` their
+ * bytes together. `answer` is written in any case.
+ * Errors: NOTHING, HANDLE, SET, LENGTH, INTERVAL, MEMORY, and those named at each. A refused change leaves all sets as they
+ * were, and the transaction stays open. */
+
+/* Inserts an element. `comment` is kept with it, and plays no part in lookups. If a live element has the same intervals, it
+ * stays, and gets the new expiry unless that is PIPAPO_NEVER.
+ * Errors: OVERLAP with the id of the element in the way; then FULL; then RULES_FULL with the field.
+ * Cost: one or two lookups, and the new rules. */
+PIPAPO_NONNULL PIPAPO_CHECK_RESULT
+uint32_t pipapo_insert(pipapo_control *control, uint32_t set, const void *bounds, size_t length, uint64_t expiry,
+                       const char *comment, size_t comment_length, uint64_t now, pipapo_answer *answer);
+
+/* As pipapo_insert, but refused if a live element has the same intervals. Errors: EXISTS with its id, then as pipapo_insert. */
+PIPAPO_NONNULL PIPAPO_CHECK_RESULT
+uint32_t pipapo_create(pipapo_control *control, uint32_t set, const void *bounds, size_t length, uint64_t expiry,
+                       const char *comment, size_t comment_length, uint64_t now, pipapo_answer *answer);
+
+/* Removes the first live element that has exactly these intervals. Errors: MISSING.
+ * Cost: a lookup, and the pages of the element's rules. */
+PIPAPO_NONNULL PIPAPO_CHECK_RESULT
+uint32_t pipapo_delete(pipapo_control *control, uint32_t set, const void *bounds, size_t length, uint64_t now,
+                       pipapo_answer *answer);
+
+/* As pipapo_delete, but PIPAPO_OK with PIPAPO_ABSENT if there is no such element. */
+PIPAPO_NONNULL PIPAPO_CHECK_RESULT
+uint32_t pipapo_destroy(pipapo_control *control, uint32_t set, const void *bounds, size_t length, uint64_t now,
+                        pipapo_answer *answer);
+
+/* Removes all elements of an open set; `count` gets how many there were. Ids go on. Errors: NOTHING, HANDLE, SET, MEMORY. */
+PIPAPO_NONNULL PIPAPO_CHECK_RESULT
+uint32_t pipapo_flush(pipapo_control *control, uint32_t set, uint64_t *count);
+
+/* Publishes the open sets as the next generation, without the elements that are expired at `now`. `generation` gets its
+ * number, `purged` how many elements were expired.
+ * Errors: NOTHING, HANDLE, NUMBERS, MEMORY. The open sets are then as they were.
+ * Cost: what was changed, page by page, and one pointer per reader. It never waits for a reader. */
+PIPAPO_NONNULL PIPAPO_CHECK_RESULT
+uint32_t pipapo_commit(pipapo_control *control, uint64_t now, uint64_t *generation, uint64_t *purged);
+
+/* Takes all changes since the last commit back. Errors: NOTHING, HANDLE. Allocates nothing. */
+PIPAPO_NONNULL PIPAPO_CHECK_RESULT
+uint32_t pipapo_abort(pipapo_control *control);
+
+/* The number of the last generation. Errors: NOTHING, HANDLE. */
+PIPAPO_NONNULL PIPAPO_CHECK_RESULT
+uint32_t pipapo_number(pipapo_control *control, uint64_t *generation);
+
+/* Makes the reader hold the last published generation until pipapo_leave; `generation` gets its number, which is never below
+ * one that this reader got before. Errors: NOTHING, HANDLE, TURN. Cost: one atomic addition. Allocates nothing. */
+PIPAPO_NONNULL PIPAPO_CHECK_RESULT
+uint32_t pipapo_enter(pipapo_reader *reader, uint64_t *generation);
+
+/* Lets the generation go. Errors: NOTHING, HANDLE, TURN. Cost: one atomic addition. */
+PIPAPO_NONNULL PIPAPO_CHECK_RESULT
+uint32_t pipapo_leave(pipapo_reader *reader);
+
+/* The number of the generation that the reader holds. Errors: NOTHING, HANDLE, TURN. */
+PIPAPO_NONNULL PIPAPO_CHECK_RESULT
+uint32_t pipapo_generation(pipapo_reader *reader, uint64_t *generation);
+
+/* Looks a key up in the held generation, or in the last published one if the reader holds none. `id` gets the id of the
+ * earliest inserted element that is live at `now` and holds the key, or PIPAPO_NONE.
+ * Errors: NOTHING, HANDLE, SET, LENGTH; `id` is then as it was.
+ * Cost: a lookup, and two atomic additions if the reader holds no generation. Allocates nothing. */
+PIPAPO_NONNULL PIPAPO_CHECK_RESULT
+uint32_t pipapo_lookup(pipapo_reader *reader, uint32_t set, const void *key, size_t length, uint64_t now, uint64_t *id);
+
+/* Looks `count` keys up, all in one generation: the held one, or else the last published one. The keys follow one another,
+ * and `length` is their bytes together. `answers` gets the id of each key's element, or PIPAPO_NONE; `generation` the
+ * generation's number.
+ * Errors: as pipapo_lookup; `answers` may then be written in part. Allocates nothing. */
+PIPAPO_NONNULL PIPAPO_CHECK_RESULT
+uint32_t pipapo_lookup_many(pipapo_reader *reader, uint32_t set, const void *keys, size_t length, uint64_t now,
+                            uint64_t *answers, size_t count, uint64_t *generation);
+
+/* One line that explains an enum pipapo_error, without a newline. Never null; the text is static. */
+const char *pipapo_strerror(uint32_t error);
+
+/* PIPAPO_VERSION of the library that runs. */
+uint32_t pipapo_version(void);
+
+#ifdef __cplusplus
+}
+#endif
+
+#ifdef PIPAPO_CHECKED
+#include "pipapo_guard.h"
+#endif
+
+#endif

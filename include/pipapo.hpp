@@ -1,0 +1,135 @@
+// pipapo.hpp: handles of pipapo.h that move and free themselves, for C++17. The calls and their promises are those of
+// pipapo.h.
+#ifndef PIPAPO_HPP
+#define PIPAPO_HPP
+
+#include <cstddef>
+#include <cstdint>
+#include <utility>
+
+#include "pipapo.h"
+
+namespace pipapo {
+
+/// A handle that is freed at its end. It moves, and is never copied.
+template <typename Raw>
+class Handle {
+public:
+    Handle() noexcept = default;
+    Handle(const Handle &) = delete;
+    Handle &operator=(const Handle &) = delete;
+
+    Handle(Handle &&other) noexcept : raw_(std::exchange(other.raw_, Raw{nullptr})) {}
+
+    Handle &operator=(Handle &&other) noexcept {
+        if (this != &other) {
+            pipapo_free(&raw_);
+            raw_ = std::exchange(other.raw_, Raw{nullptr});
+        }
+        return *this;
+    }
+
+    ~Handle() { pipapo_free(&raw_); }
+
+    /// Whether it holds something.
+    explicit operator bool() const noexcept { return raw_.at != nullptr; }
+
+    /// For a call of pipapo.h.
+    Raw *get() noexcept { return &raw_; }
+
+    /// Frees what it holds.
+    void reset() noexcept { pipapo_free(&raw_); }
+
+private:
+    Raw raw_{nullptr};
+};
+
+/// A reader. Each call answers an enum pipapo_error.
+class Reader : public Handle<pipapo_reader> {
+public:
+    [[nodiscard]] std::uint32_t enter(std::uint64_t &generation) noexcept { return pipapo_enter(get(), &generation); }
+    [[nodiscard]] std::uint32_t leave() noexcept { return pipapo_leave(get()); }
+
+    [[nodiscard]] std::uint32_t generation(std::uint64_t &number) noexcept {
+        return pipapo_generation(get(), &number);
+    }
+
+    /// `key` is a type without padding that has the bytes of a key, as a struct of arrays of std::uint8_t.
+    template <typename Key>
+    [[nodiscard]] std::uint32_t lookup(std::uint32_t set, const Key &key, std::uint64_t now, std::uint64_t &id) noexcept {
+        static_assert(alignof(Key) == 1, "a key is made of bytes");
+        return pipapo_lookup(get(), set, &key, sizeof key, now, &id);
+    }
+
+    template <typename Key>
+    [[nodiscard]] std::uint32_t lookup_many(std::uint32_t set, const Key *keys, std::size_t count, std::uint64_t now,
+                                            std::uint64_t *answers, std::uint64_t &generation) noexcept {
+        static_assert(alignof(Key) == 1, "a key is made of bytes");
+        return pipapo_lookup_many(get(), set, keys, count * sizeof *keys, now, answers, count, &generation);
+    }
+};
+
+/// A control. Each call answers an enum pipapo_error.
+class Control : public Handle<pipapo_control> {
+public:
+    /// Makes a control and the readers of an array. What they held is freed.
+    template <std::size_t Sets, std::size_t Readers>
+    [[nodiscard]] std::uint32_t start(const pipapo_set (&sets)[Sets], Reader (&readers)[Readers]) noexcept {
+        pipapo_reader made[Readers] = {};
+        std::uint32_t error = pipapo_start(sets, Sets, get(), made, Readers);
+        for (std::size_t i = 0; i < Readers && error == PIPAPO_OK; ++i) {
+            readers[i].reset();
+            *readers[i].get() = made[i];
+        }
+        return error;
+    }
+
+    /// `low` and `high` are two keys.
+    template <typename Key>
+    [[nodiscard]] std::uint32_t insert(std::uint32_t set, const Key &low, const Key &high, pipapo_answer &answer,
+                                       std::uint64_t now = 0, std::uint64_t expiry = PIPAPO_NEVER) noexcept {
+        const Key bounds[2] = {low, high};
+        static_assert(alignof(Key) == 1, "a key is made of bytes");
+        return pipapo_insert(get(), set, bounds, sizeof bounds, expiry, "", 0, now, &answer);
+    }
+
+    template <typename Key>
+    [[nodiscard]] std::uint32_t create(std::uint32_t set, const Key &low, const Key &high, pipapo_answer &answer,
+                                       std::uint64_t now = 0, std::uint64_t expiry = PIPAPO_NEVER) noexcept {
+        const Key bounds[2] = {low, high};
+        static_assert(alignof(Key) == 1, "a key is made of bytes");
+        return pipapo_create(get(), set, bounds, sizeof bounds, expiry, "", 0, now, &answer);
+    }
+
+    template <typename Key>
+    [[nodiscard]] std::uint32_t remove(std::uint32_t set, const Key &low, const Key &high, pipapo_answer &answer,
+                                       std::uint64_t now = 0) noexcept {
+        const Key bounds[2] = {low, high};
+        static_assert(alignof(Key) == 1, "a key is made of bytes");
+        return pipapo_delete(get(), set, bounds, sizeof bounds, now, &answer);
+    }
+
+    template <typename Key>
+    [[nodiscard]] std::uint32_t destroy(std::uint32_t set, const Key &low, const Key &high, pipapo_answer &answer,
+                                        std::uint64_t now = 0) noexcept {
+        const Key bounds[2] = {low, high};
+        static_assert(alignof(Key) == 1, "a key is made of bytes");
+        return pipapo_destroy(get(), set, bounds, sizeof bounds, now, &answer);
+    }
+
+    [[nodiscard]] std::uint32_t flush(std::uint32_t set, std::uint64_t &count) noexcept {
+        return pipapo_flush(get(), set, &count);
+    }
+
+    [[nodiscard]] std::uint32_t commit(std::uint64_t now, std::uint64_t &generation, std::uint64_t &purged) noexcept {
+        return pipapo_commit(get(), now, &generation, &purged);
+    }
+
+    [[nodiscard]] std::uint32_t abort() noexcept { return pipapo_abort(get()); }
+
+    [[nodiscard]] std::uint32_t number(std::uint64_t &generation) noexcept { return pipapo_number(get(), &generation); }
+};
+
+} // namespace pipapo
+
+#endif

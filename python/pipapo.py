@@ -1,0 +1,394 @@
+"""Proved packet filter sets, over the shared library libpipapo.
+
+A set has fields, for example an IPv4 address and a port. An element has one interval per field. A lookup takes one value
+per field and returns the id of the earliest inserted element that is live and whose every interval holds its value.
+
+    >>> with Control([Set([Kind.IPV4, Kind.SERVICE])]) as control:
+    ...     with control.transaction() as change:
+    ...         added = change.insert(0, ["192.0.2.0", 80], ["192.0.2.255", 443])
+    ...     with control.readers[0] as held:
+    ...         held.lookup(0, ["192.0.2.7", 443]), held.lookup(0, ["192.0.2.7", 444])
+    (0, None)
+
+Values are numbers, texts of addresses ("192.0.2.7", "2001:db8::1", "02:00:00:00:00:05"), or bytes in network byte order.
+Moments are milliseconds. Each handle is for one thread at a time.
+
+The library is found by the environment variable PIPAPO_LIBRARY, or else as libpipapo.so.0.
+"""
+
+from __future__ import annotations
+
+import ctypes
+import enum
+import ipaddress
+import os
+from collections.abc import Iterable, Sequence
+from dataclasses import dataclass
+from types import TracebackType
+from typing import Union
+
+__all__ = ["Answer", "Control", "Error", "Kind", "Outcome", "PipapoError", "Reader", "Receipt", "Set", "Transaction", "Value"]
+
+Value = Union[int, str, bytes]
+
+_LARGEST = 2**64 - 1
+
+
+class Kind(enum.IntEnum):
+    """What a field is, as nft(8) names it."""
+
+    IPV4 = 0
+    IPV6 = 1
+    ETHER = 2
+    PROTO = 3
+    SERVICE = 4
+    MARK = 5
+
+    @property
+    def width(self) -> int:
+        """How many bytes a value of this kind has."""
+        return (4, 16, 6, 1, 2, 4)[self]
+
+    def pack(self, value: Value) -> bytes:
+        """The bytes of a value in network byte order. Raises ValueError if it is no value of this kind."""
+        if isinstance(value, str):
+            value = self._read(value)
+        if isinstance(value, bytes):
+            if len(value) != self.width:
+                raise ValueError(f"{self.name} has {self.width} bytes, not {len(value)}")
+            return value
+        if not 0 <= value < 256**self.width:
+            raise ValueError(f"{value} is no {self.name}")
+        return value.to_bytes(self.width, "big")
+
+    def _read(self, text: str) -> int | bytes:
+        if self is Kind.IPV4:
+            return ipaddress.IPv4Address(text).packed
+        if self is Kind.IPV6:
+            return ipaddress.IPv6Address(text).packed
+        if self is Kind.ETHER:
+            return bytes.fromhex(text.replace(":", ""))
+        return int(text, 0)
+
+
+class Outcome(enum.IntEnum):
+    """What a change did."""
+
+    REFUSED = 0
+    NEW = 1
+    ALREADY = 2
+    RENEWED = 3
+    REMOVED = 4
+    ABSENT = 5
+
+
+class Error(enum.IntEnum):
+    """Why a call did nothing."""
+
+    MEMORY = 1
+    NOTHING = 2
+    HANDLE = 3
+    SCHEMA = 4
+    READERS = 5
+    SET = 6
+    LENGTH = 7
+    INTERVAL = 8
+    TURN = 9
+    NUMBERS = 10
+    OVERLAP = 16
+    EXISTS = 17
+    FULL = 18
+    RULES_FULL = 19
+    MISSING = 20
+
+
+@dataclass(frozen=True)
+class Answer:
+    """What a change answers: the element's id, and what was done."""
+
+    id: int
+    outcome: Outcome
+
+
+@dataclass(frozen=True)
+class Receipt:
+    """A commit's generation, and how many elements were expired."""
+
+    generation: int
+    purged: int
+
+
+class PipapoError(Exception):
+    """A call was refused, and changed nothing. `id` is the element in the way, `field` the field that is full."""
+
+    def __init__(self, error: Error, id: int = 0, field: int = 0) -> None:
+        super().__init__(_library.pipapo_strerror(error).decode())
+        self.error = error
+        self.id = id
+        self.field = field
+
+
+@dataclass(frozen=True)
+class Set:
+    """A set to be made: the kind of each field, at most how many elements (0: any number), and whether an element that
+    shares a key with a live one is refused."""
+
+    kinds: Sequence[Kind]
+    size: int = 0
+    disjoint: bool = False
+
+
+class _Handle(ctypes.Structure):
+    _fields_ = [("at", ctypes.c_void_p)]
+
+
+class _Set(ctypes.Structure):
+    _fields_ = [
+        ("kinds", ctypes.c_uint32 * 16),
+        ("fields", ctypes.c_uint32),
+        ("family", ctypes.c_uint32),
+        ("disjoint", ctypes.c_uint32),
+        ("size", ctypes.c_uint32),
+        ("table", ctypes.c_uint8 * 64),
+        ("name", ctypes.c_uint8 * 64),
+    ]
+
+
+class _Answer(ctypes.Structure):
+    _fields_ = [("id", ctypes.c_uint64), ("field", ctypes.c_uint32), ("outcome", ctypes.c_uint32)]
+
+
+def _load() -> ctypes.CDLL:
+    library = ctypes.CDLL(os.environ.get("PIPAPO_LIBRARY", "libpipapo.so.0"))
+    handle, number, size = ctypes.POINTER(_Handle), ctypes.c_uint64, ctypes.c_size_t
+    out, text, index = ctypes.POINTER(ctypes.c_uint64), ctypes.c_char_p, ctypes.c_uint32
+    answer = ctypes.POINTER(_Answer)
+    calls = {
+        "start": [ctypes.POINTER(_Set), size, handle, handle, size],
+        "insert": [handle, index, text, size, number, text, size, number, answer],
+        "create": [handle, index, text, size, number, text, size, number, answer],
+        "delete": [handle, index, text, size, number, answer],
+        "destroy": [handle, index, text, size, number, answer],
+        "flush": [handle, index, out],
+        "commit": [handle, number, out, out],
+        "abort": [handle],
+        "number": [handle, out],
+        "enter": [handle, out],
+        "leave": [handle],
+        "generation": [handle, out],
+        "lookup": [handle, index, text, size, number, out],
+        "lookup_many": [handle, index, text, size, number, out, size, out],
+    }
+    for name, parameters in calls.items():
+        call = getattr(library, f"pipapo_{name}")
+        call.argtypes, call.restype = parameters, ctypes.c_uint32
+    library.pipapo_free.argtypes, library.pipapo_free.restype = [handle], None
+    library.pipapo_strerror.argtypes, library.pipapo_strerror.restype = [ctypes.c_uint32], ctypes.c_char_p
+    library.pipapo_version.argtypes, library.pipapo_version.restype = [], ctypes.c_uint32
+    return library
+
+
+_library = _load()
+
+
+def version() -> tuple[int, int, int]:
+    """The version of the library that runs."""
+    number = _library.pipapo_version()
+    return number >> 16, number >> 8 & 255, number & 255
+
+
+def _must(error: int, answer: _Answer | None = None) -> None:
+    if error:
+        raise PipapoError(Error(error), answer.id if answer else 0, answer.field if answer else 0)
+
+
+class _Shape:
+    """The kinds of all sets."""
+
+    def __init__(self, sets: Sequence[Set]) -> None:
+        self._kinds = [tuple(one.kinds) for one in sets]
+
+    def pack(self, set: int, values: Iterable[Value]) -> bytes:
+        values = list(values)
+        if not 0 <= set < len(self._kinds):
+            raise PipapoError(Error.SET)
+        kinds = self._kinds[set]
+        if len(values) != len(kinds):
+            raise PipapoError(Error.LENGTH)
+        return b"".join(kind.pack(value) for kind, value in zip(kinds, values))
+
+
+class Reader:
+    """Looks keys up. As a context manager it holds one generation: `with reader as held: held.lookup(..)`."""
+
+    def __init__(self, shape: _Shape, handle: _Handle) -> None:
+        self._shape, self._handle = shape, handle
+
+    def enter(self) -> int:
+        """Holds the last published generation, and returns its number."""
+        number = ctypes.c_uint64()
+        _must(_library.pipapo_enter(self._handle, number))
+        return number.value
+
+    def leave(self) -> None:
+        """Lets the generation go."""
+        _must(_library.pipapo_leave(self._handle))
+
+    @property
+    def generation(self) -> int:
+        """The number of the generation that it holds."""
+        number = ctypes.c_uint64()
+        _must(_library.pipapo_generation(self._handle, number))
+        return number.value
+
+    def lookup(self, set: int, key: Iterable[Value], now: int = 0) -> int | None:
+        """The id of the earliest inserted element that is live at `now` and holds the key."""
+        packed, found = self._shape.pack(set, key), ctypes.c_uint64()
+        _must(_library.pipapo_lookup(self._handle, set, packed, len(packed), now, found))
+        return None if found.value == _LARGEST else found.value
+
+    def lookup_many(self, set: int, keys: Iterable[Iterable[Value]], now: int = 0) -> tuple[list[int | None], int]:
+        """The ids of the elements of many keys, all in one generation, and that generation's number."""
+        packed = [self._shape.pack(set, key) for key in keys]
+        found, number = (ctypes.c_uint64 * max(1, len(packed)))(), ctypes.c_uint64()
+        row = b"".join(packed)
+        _must(_library.pipapo_lookup_many(self._handle, set, row, len(row), now, found, len(packed), number))
+        return [None if one == _LARGEST else one for one in found[: len(packed)]], number.value
+
+    def close(self) -> None:
+        """Frees the reader. A closed reader stays closed."""
+        _library.pipapo_free(self._handle)
+
+    def __enter__(self) -> Reader:
+        self.enter()
+        return self
+
+    def __exit__(self, kind: type[BaseException] | None, error: BaseException | None, trace: TracebackType | None) -> None:
+        self.leave()
+
+
+class Transaction:
+    """The open changes of a control. As a context manager it commits at its end, or takes all changes back if an exception
+    ends it. `receipt` is then the commit's."""
+
+    def __init__(self, control: Control, now: int) -> None:
+        self._control, self._now = control, now
+        self.receipt: Receipt | None = None
+
+    def insert(self, set: int, low: Iterable[Value], high: Iterable[Value] | None = None, *, expiry: int | None = None, comment: str = "") -> Answer:
+        """Inserts an element between two keys; without `high`, of the values of `low`."""
+        return self._control.insert(set, low, high, expiry=expiry, comment=comment, now=self._now)
+
+    def create(self, set: int, low: Iterable[Value], high: Iterable[Value] | None = None, *, expiry: int | None = None, comment: str = "") -> Answer:
+        """As insert, but refused if an element has the same intervals."""
+        return self._control.create(set, low, high, expiry=expiry, comment=comment, now=self._now)
+
+    def delete(self, set: int, low: Iterable[Value], high: Iterable[Value] | None = None) -> Answer:
+        """Removes the element of exactly these intervals."""
+        return self._control.delete(set, low, high, now=self._now)
+
+    def destroy(self, set: int, low: Iterable[Value], high: Iterable[Value] | None = None) -> Answer:
+        """As delete, but no error if there is none."""
+        return self._control.destroy(set, low, high, now=self._now)
+
+    def flush(self, set: int) -> int:
+        """Removes all elements of a set, and returns how many there were."""
+        return self._control.flush(set)
+
+    def __enter__(self) -> Transaction:
+        return self
+
+    def __exit__(self, kind: type[BaseException] | None, error: BaseException | None, trace: TracebackType | None) -> None:
+        if kind is None:
+            self.receipt = self._control.commit(self._now)
+        else:
+            self._control.abort()
+
+
+class Control:
+    """Changes sets, and commits generations of them. `readers` are 1 to 16. As a context manager it closes itself and its
+    readers."""
+
+    def __init__(self, sets: Sequence[Set], readers: int = 1) -> None:
+        shapes = (_Set * max(1, len(sets)))()
+        for shape, one in zip(shapes, sets):
+            if len(one.kinds) > 16:
+                raise PipapoError(Error.SCHEMA)
+            shape.kinds[: len(one.kinds)] = [int(kind) for kind in one.kinds]
+            shape.fields, shape.size, shape.disjoint = len(one.kinds), one.size, one.disjoint
+        self._shape, self._handle = _Shape(sets), _Handle()
+        # each reader's handle keeps the array alive
+        handles = (_Handle * max(1, readers))()
+        _must(_library.pipapo_start(shapes, len(sets), self._handle, handles, readers))
+        self.readers = [Reader(self._shape, handle) for handle in handles]
+
+    def _bounds(self, set: int, low: Iterable[Value], high: Iterable[Value] | None) -> bytes:
+        packed = self._shape.pack(set, low)
+        return packed + (packed if high is None else self._shape.pack(set, high))
+
+    def _add(self, call: str, set: int, bounds: bytes, expiry: int | None, comment: str, now: int) -> Answer:
+        text, answer = comment.encode(), _Answer()
+        moment = _LARGEST if expiry is None else expiry
+        export = getattr(_library, call)
+        _must(export(self._handle, set, bounds, len(bounds), moment, text, len(text), now, answer), answer)
+        return Answer(answer.id, Outcome(answer.outcome))
+
+    def _remove(self, call: str, set: int, bounds: bytes, now: int) -> Answer:
+        answer = _Answer()
+        _must(getattr(_library, call)(self._handle, set, bounds, len(bounds), now, answer), answer)
+        return Answer(answer.id, Outcome(answer.outcome))
+
+    def insert(self, set: int, low: Iterable[Value], high: Iterable[Value] | None = None, *, expiry: int | None = None, comment: str = "", now: int = 0) -> Answer:
+        """Inserts an element between two keys; without `high`, of the values of `low`."""
+        return self._add("pipapo_insert", set, self._bounds(set, low, high), expiry, comment, now)
+
+    def create(self, set: int, low: Iterable[Value], high: Iterable[Value] | None = None, *, expiry: int | None = None, comment: str = "", now: int = 0) -> Answer:
+        """As insert, but refused if an element has the same intervals."""
+        return self._add("pipapo_create", set, self._bounds(set, low, high), expiry, comment, now)
+
+    def delete(self, set: int, low: Iterable[Value], high: Iterable[Value] | None = None, *, now: int = 0) -> Answer:
+        """Removes the first live element of exactly these intervals."""
+        return self._remove("pipapo_delete", set, self._bounds(set, low, high), now)
+
+    def destroy(self, set: int, low: Iterable[Value], high: Iterable[Value] | None = None, *, now: int = 0) -> Answer:
+        """As delete, but no error if there is none."""
+        return self._remove("pipapo_destroy", set, self._bounds(set, low, high), now)
+
+    def flush(self, set: int) -> int:
+        """Removes all elements of a set, and returns how many there were."""
+        count = ctypes.c_uint64()
+        _must(_library.pipapo_flush(self._handle, set, count))
+        return count.value
+
+    def commit(self, now: int = 0) -> Receipt:
+        """Publishes the open sets as the next generation, without the elements that are expired at `now`."""
+        number, purged = ctypes.c_uint64(), ctypes.c_uint64()
+        _must(_library.pipapo_commit(self._handle, now, number, purged))
+        return Receipt(number.value, purged.value)
+
+    def abort(self) -> None:
+        """Takes all changes since the last commit back."""
+        _must(_library.pipapo_abort(self._handle))
+
+    @property
+    def number(self) -> int:
+        """The number of the last generation."""
+        number = ctypes.c_uint64()
+        _must(_library.pipapo_number(self._handle, number))
+        return number.value
+
+    def transaction(self, now: int = 0) -> Transaction:
+        """Changes that are committed together at the end of a `with`."""
+        return Transaction(self, now)
+
+    def close(self) -> None:
+        """Frees the control and its readers."""
+        for reader in self.readers:
+            reader.close()
+        _library.pipapo_free(self._handle)
+
+    def __enter__(self) -> Control:
+        return self
+
+    def __exit__(self, kind: type[BaseException] | None, error: BaseException | None, trace: TracebackType | None) -> None:
+        self.close()

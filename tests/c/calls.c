@@ -1,0 +1,305 @@
+/* Each call from C, in its good and its refused cases. */
+#include "check.h"
+
+#define NET UINT32_C(0xc0000200) /* 192.0.2.0 */
+
+static const pipapo_set shapes[2] = {
+    {.kinds = {PIPAPO_IPV4, PIPAPO_SERVICE}, .fields = 2},
+    {.kinds = {PIPAPO_IPV6}, .fields = 1, .size = 2, .disjoint = 1},
+};
+
+static void start(pipapo_control *control, pipapo_reader *readers, size_t count) {
+    CHECK(pipapo_start(shapes, 2, control, readers, count) == PIPAPO_OK);
+    CHECK(control->at != NULL);
+    for (size_t i = 0; i < count; ++i) CHECK(readers[i].at != NULL);
+}
+
+/* Every call on a handle that holds nothing, and on a handle of the other kind. */
+static void wrong_handles(void) {
+    pipapo_control empty = PIPAPO_EMPTY, control = PIPAPO_EMPTY;
+    pipapo_reader nobody = PIPAPO_EMPTY, reader = PIPAPO_EMPTY;
+    start(&control, &reader, 1);
+    flows bounds = flows_of(NET, NET + 255, 80, 443);
+    flow key = flow_of(NET, 80);
+    pipapo_control *controls[2] = {&empty, (pipapo_control *)&reader};
+    pipapo_reader *readers[2] = {&nobody, (pipapo_reader *)&control};
+    const uint32_t wanted[2] = {PIPAPO_NOTHING, PIPAPO_HANDLE};
+    for (int i = 0; i < 2; ++i) {
+        pipapo_answer answer = {77, 77, 77};
+        uint64_t number = 77, other = 77;
+        CHECK(pipapo_insert(controls[i], 0, &bounds, sizeof bounds, PIPAPO_NEVER, "", 0, 0, &answer) == wanted[i]);
+        CHECK(answer.id == 0 && answer.field == 0 && answer.outcome == PIPAPO_REFUSED);
+        CHECK(pipapo_create(controls[i], 0, &bounds, sizeof bounds, PIPAPO_NEVER, "", 0, 0, &answer) == wanted[i]);
+        CHECK(pipapo_delete(controls[i], 0, &bounds, sizeof bounds, 0, &answer) == wanted[i]);
+        CHECK(pipapo_destroy(controls[i], 0, &bounds, sizeof bounds, 0, &answer) == wanted[i]);
+        CHECK(pipapo_flush(controls[i], 0, &number) == wanted[i]);
+        CHECK(pipapo_commit(controls[i], 0, &number, &other) == wanted[i]);
+        CHECK(pipapo_abort(controls[i]) == wanted[i]);
+        CHECK(pipapo_number(controls[i], &number) == wanted[i]);
+        CHECK(pipapo_enter(readers[i], &number) == wanted[i]);
+        CHECK(pipapo_leave(readers[i]) == wanted[i]);
+        CHECK(pipapo_generation(readers[i], &number) == wanted[i]);
+        CHECK(pipapo_lookup(readers[i], 0, &key, sizeof key, 0, &number) == wanted[i]);
+        CHECK(pipapo_lookup_many(readers[i], 0, &key, sizeof key, 0, &number, 1, &other) == wanted[i]);
+        CHECK(number == 77 && other == 77);
+    }
+    CHECK(control.at != NULL && reader.at != NULL && empty.at == NULL && nobody.at == NULL);
+    pipapo_free(&empty);
+    pipapo_free(&control);
+    pipapo_free(&reader);
+    CHECK(control.at == NULL && reader.at == NULL);
+    pipapo_free(&control);
+}
+
+static void refused_starts(void) {
+    pipapo_control control = PIPAPO_EMPTY;
+    pipapo_reader readers[17] = {PIPAPO_EMPTY};
+    CHECK(pipapo_start(shapes, 2, &control, readers, 0) == PIPAPO_READERS);
+    CHECK(pipapo_start(shapes, 2, &control, readers, 17) == PIPAPO_READERS);
+    pipapo_set bad = shapes[0];
+    bad.fields = 0;
+    CHECK(pipapo_start(&bad, 1, &control, readers, 1) == PIPAPO_SCHEMA);
+    bad.fields = 17;
+    CHECK(pipapo_start(&bad, 1, &control, readers, 1) == PIPAPO_SCHEMA);
+    bad.fields = 2;
+    bad.kinds[1] = PIPAPO_MARK + 1;
+    CHECK(pipapo_start(&bad, 1, &control, readers, 1) == PIPAPO_SCHEMA);
+    bad = shapes[0];
+    bad.family = PIPAPO_FAMILY_NETDEV + 1;
+    CHECK(pipapo_start(&bad, 1, &control, readers, 1) == PIPAPO_SCHEMA);
+    CHECK(control.at == NULL && readers[0].at == NULL);
+
+    /* a start that is refused leaves what the handles hold, and one that isn't takes its place */
+    start(&control, readers, 16);
+    void *held = readers[3].at;
+    CHECK(pipapo_start(&bad, 1, &control, readers, 16) == PIPAPO_SCHEMA);
+    CHECK(readers[3].at == held);
+    start(&control, readers, 2);
+    for (int i = 0; i < 16; ++i) pipapo_free(&readers[i]);
+    pipapo_free(&control);
+}
+
+static void changes(void) {
+    pipapo_control control = PIPAPO_EMPTY;
+    pipapo_reader reader = PIPAPO_EMPTY;
+    pipapo_answer answer;
+    uint64_t generation = 77, purged = 77, count = 77, id = 77;
+    start(&control, &reader, 1);
+    flows web = flows_of(NET, NET + 255, 80, 443);
+    flow key = flow_of(NET + 7, 100);
+
+    /* sets, lengths, intervals */
+    CHECK(insert_flows(&control, 2, web, PIPAPO_NEVER, 0, &answer) == PIPAPO_SET);
+    CHECK(pipapo_delete(&control, 2, &web, sizeof web, 0, &answer) == PIPAPO_SET);
+    CHECK(pipapo_destroy(&control, 2, &web, sizeof web, 0, &answer) == PIPAPO_SET);
+    CHECK(pipapo_flush(&control, 2, &count) == PIPAPO_SET);
+    const size_t lengths[] = {0, 1, 6, 11, 13, 24};
+    const uint8_t bytes[24] = {0};
+    for (size_t i = 0; i < sizeof lengths / sizeof *lengths; ++i)
+        CHECK(pipapo_insert(&control, 0, bytes, lengths[i], PIPAPO_NEVER, "", 0, 0, &answer) == PIPAPO_LENGTH);
+    CHECK(insert_flows(&control, 0, flows_of(NET, NET + 255, 443, 80), PIPAPO_NEVER, 0, &answer) == PIPAPO_INTERVAL);
+    CHECK(insert_flows(&control, 0, flows_of(NET + 1, NET, 80, 80), PIPAPO_NEVER, 0, &answer) == PIPAPO_INTERVAL);
+
+    /* new, already there, renewed, in the way */
+    CHECK(pipapo_insert(&control, 0, &web, sizeof web, PIPAPO_NEVER, "web", 3, 0, &answer) == PIPAPO_OK);
+    CHECK(answer.id == 0 && answer.outcome == PIPAPO_NEW);
+    CHECK(insert_flows(&control, 0, web, PIPAPO_NEVER, 0, &answer) == PIPAPO_OK);
+    CHECK(answer.id == 0 && answer.outcome == PIPAPO_ALREADY);
+    CHECK(pipapo_create(&control, 0, &web, sizeof web, PIPAPO_NEVER, "", 0, 0, &answer) == PIPAPO_EXISTS);
+    CHECK(answer.id == 0 && answer.outcome == PIPAPO_REFUSED);
+    CHECK(insert_flows(&control, 0, flows_of(NET, NET + 255, 100, 500), PIPAPO_NEVER, 0, &answer) == PIPAPO_OVERLAP);
+    CHECK(answer.id == 0 && answer.outcome == PIPAPO_REFUSED);
+    flows guests = flows_of(NET + 256, NET + 511, 1, 65535);
+    CHECK(pipapo_create(&control, 0, &guests, sizeof guests, 1000, "", 0, 0, &answer) == PIPAPO_OK);
+    CHECK(answer.id == 1 && answer.outcome == PIPAPO_NEW);
+    CHECK(insert_flows(&control, 0, guests, 2000, 500, &answer) == PIPAPO_OK);
+    CHECK(answer.id == 1 && answer.outcome == PIPAPO_RENEWED);
+    CHECK(insert_flows(&control, 0, flows_of(NET + 300, NET + 300, 1, 1), PIPAPO_NEVER, 500, &answer) == PIPAPO_OVERLAP);
+    CHECK(answer.id == 1);
+
+    /* nobody sees a change before the commit */
+    CHECK(lookup_flow(&reader, 0, key, 0, &id) == PIPAPO_OK && id == PIPAPO_NONE);
+    CHECK(pipapo_number(&control, &generation) == PIPAPO_OK && generation == 0);
+    CHECK(pipapo_commit(&control, 500, &generation, &purged) == PIPAPO_OK && generation == 1 && purged == 0);
+    CHECK(pipapo_number(&control, &generation) == PIPAPO_OK && generation == 1);
+    CHECK(lookup_flow(&reader, 0, key, 0, &id) == PIPAPO_OK && id == 0);
+
+    /* elements expire at their moment */
+    CHECK(lookup_flow(&reader, 0, flow_of(NET + 256, 1), 1999, &id) == PIPAPO_OK && id == 1);
+    CHECK(lookup_flow(&reader, 0, flow_of(NET + 256, 1), 2000, &id) == PIPAPO_OK && id == PIPAPO_NONE);
+    CHECK(pipapo_commit(&control, 2000, &generation, &purged) == PIPAPO_OK && generation == 2 && purged == 1);
+
+    /* deletions, taken back and made again */
+    CHECK(pipapo_delete(&control, 0, &guests, sizeof guests, 2000, &answer) == PIPAPO_MISSING);
+    CHECK(answer.outcome == PIPAPO_REFUSED);
+    CHECK(pipapo_destroy(&control, 0, &guests, sizeof guests, 2000, &answer) == PIPAPO_OK);
+    CHECK(answer.outcome == PIPAPO_ABSENT);
+    CHECK(pipapo_delete(&control, 0, &web, sizeof web, 2000, &answer) == PIPAPO_OK);
+    CHECK(answer.id == 0 && answer.outcome == PIPAPO_REMOVED);
+    CHECK(pipapo_abort(&control) == PIPAPO_OK);
+    CHECK(pipapo_destroy(&control, 0, &web, sizeof web, 2000, &answer) == PIPAPO_OK);
+    CHECK(answer.id == 0 && answer.outcome == PIPAPO_REMOVED);
+    CHECK(pipapo_commit(&control, 2000, &generation, &purged) == PIPAPO_OK && generation == 3 && purged == 0);
+    CHECK(lookup_flow(&reader, 0, key, 2000, &id) == PIPAPO_OK && id == PIPAPO_NONE);
+
+    /* ids go on after a flush */
+    for (uint32_t i = 0; i < 3; ++i) {
+        CHECK(insert_flows(&control, 0, flows_of(NET + i, NET + i, 1, 1), PIPAPO_NEVER, 2000, &answer) == PIPAPO_OK);
+        CHECK(answer.id == 2 + i);
+    }
+    CHECK(pipapo_flush(&control, 0, &count) == PIPAPO_OK && count == 3);
+    CHECK(pipapo_flush(&control, 0, &count) == PIPAPO_OK && count == 0);
+    CHECK(insert_flows(&control, 0, web, PIPAPO_NEVER, 2000, &answer) == PIPAPO_OK && answer.id == 5);
+    pipapo_free(&control);
+    pipapo_free(&reader);
+}
+
+/* A disjoint set of at most two IPv6 addresses. */
+static void limits(void) {
+    pipapo_control control = PIPAPO_EMPTY;
+    pipapo_reader reader = PIPAPO_EMPTY;
+    pipapo_answer answer;
+    uint64_t generation, purged, id;
+    uint8_t bounds[32] = {0x20, 0x01, 0x0d, 0xb8};
+    start(&control, &reader, 1);
+    memcpy(bounds + 16, bounds, 16);
+    bounds[15] = 16;
+    bounds[31] = 31;
+    CHECK(pipapo_insert(&control, 1, bounds, 32, PIPAPO_NEVER, "", 0, 0, &answer) == PIPAPO_OK && answer.id == 0);
+    /* it encloses the first, and shares its keys */
+    bounds[15] = 0;
+    bounds[31] = 255;
+    CHECK(pipapo_insert(&control, 1, bounds, 32, PIPAPO_NEVER, "", 0, 0, &answer) == PIPAPO_OVERLAP && answer.id == 0);
+    bounds[31] = 15;
+    CHECK(pipapo_insert(&control, 1, bounds, 32, PIPAPO_NEVER, "", 0, 0, &answer) == PIPAPO_OK && answer.id == 1);
+    bounds[15] = bounds[31] = 99;
+    CHECK(pipapo_insert(&control, 1, bounds, 32, PIPAPO_NEVER, "", 0, 0, &answer) == PIPAPO_FULL);
+    CHECK(pipapo_create(&control, 1, bounds, 32, PIPAPO_NEVER, "", 0, 0, &answer) == PIPAPO_FULL);
+    CHECK(pipapo_commit(&control, 0, &generation, &purged) == PIPAPO_OK);
+    bounds[15] = 31;
+    CHECK(pipapo_lookup(&reader, 1, bounds, 16, 0, &id) == PIPAPO_OK && id == 0);
+    bounds[15] = 15;
+    CHECK(pipapo_lookup(&reader, 1, bounds, 16, 0, &id) == PIPAPO_OK && id == 1);
+    bounds[15] = 32;
+    CHECK(pipapo_lookup(&reader, 1, bounds, 16, 0, &id) == PIPAPO_OK && id == PIPAPO_NONE);
+    pipapo_free(&control);
+    pipapo_free(&reader);
+}
+
+/* One set of every kind: each byte of a value counts, the first most. */
+static void every_kind(void) {
+    static const struct { uint32_t kind; size_t bytes; } kinds[] = {
+        {PIPAPO_IPV4, 4}, {PIPAPO_IPV6, 16}, {PIPAPO_ETHER, 6}, {PIPAPO_PROTO, 1}, {PIPAPO_SERVICE, 2}, {PIPAPO_MARK, 4},
+    };
+    for (size_t k = 0; k < sizeof kinds / sizeof *kinds; ++k) {
+        pipapo_set set = {.kinds = {kinds[k].kind}, .fields = 1};
+        pipapo_control control = PIPAPO_EMPTY;
+        pipapo_reader reader = PIPAPO_EMPTY;
+        pipapo_answer answer;
+        uint64_t generation, purged, id;
+        size_t size = kinds[k].bytes;
+        uint8_t bounds[32], key[16];
+        CHECK(pipapo_start(&set, 1, &control, &reader, 1) == PIPAPO_OK);
+        /* from 10 .. 10 to 20 .. 20 */
+        memset(bounds, 10, size);
+        memset(bounds + size, 20, size);
+        CHECK(pipapo_insert(&control, 0, bounds, 2 * size, PIPAPO_NEVER, "", 0, 0, &answer) == PIPAPO_OK);
+        CHECK(pipapo_insert(&control, 0, bounds, size, PIPAPO_NEVER, "", 0, 0, &answer) == PIPAPO_LENGTH);
+        CHECK(pipapo_commit(&control, 0, &generation, &purged) == PIPAPO_OK);
+        for (size_t at = 0; at < size; ++at) {
+            /* between both bounds the first byte alone decides, and at a bound the next ones */
+            memset(key, 10, size);
+            CHECK(pipapo_lookup(&reader, 0, key, size, 0, &id) == PIPAPO_OK && id == 0);
+            key[at] = 9;
+            CHECK(pipapo_lookup(&reader, 0, key, size, 0, &id) == PIPAPO_OK && id == PIPAPO_NONE);
+            memset(key, 20, size);
+            CHECK(pipapo_lookup(&reader, 0, key, size, 0, &id) == PIPAPO_OK && id == 0);
+            key[at] = 21;
+            CHECK(pipapo_lookup(&reader, 0, key, size, 0, &id) == PIPAPO_OK && id == PIPAPO_NONE);
+            memset(key, 255, size);
+            key[0] = 15;
+            CHECK(pipapo_lookup(&reader, 0, key, size, 0, &id) == PIPAPO_OK && id == 0);
+        }
+        pipapo_free(&control);
+        pipapo_free(&reader);
+    }
+}
+
+static void turns(void) {
+    pipapo_control control = PIPAPO_EMPTY;
+    pipapo_reader readers[2] = {PIPAPO_EMPTY, PIPAPO_EMPTY};
+    pipapo_answer answer;
+    uint64_t generation = 77, purged, id = 77;
+    start(&control, readers, 2);
+    flow key = flow_of(NET + 7, 100);
+
+    CHECK(pipapo_leave(&readers[0]) == PIPAPO_TURN);
+    CHECK(pipapo_generation(&readers[0], &generation) == PIPAPO_TURN && generation == 77);
+    CHECK(pipapo_enter(&readers[0], &generation) == PIPAPO_OK && generation == 0);
+    generation = 77;
+    CHECK(pipapo_enter(&readers[0], &generation) == PIPAPO_TURN && generation == 77);
+    CHECK(pipapo_generation(&readers[0], &generation) == PIPAPO_OK && generation == 0);
+
+    /* what a reader holds stays as it is */
+    CHECK(insert_flows(&control, 0, flows_of(NET, NET + 255, 80, 443), PIPAPO_NEVER, 0, &answer) == PIPAPO_OK);
+    CHECK(pipapo_commit(&control, 0, &generation, &purged) == PIPAPO_OK && generation == 1);
+    CHECK(lookup_flow(&readers[0], 0, key, 0, &id) == PIPAPO_OK && id == PIPAPO_NONE);
+    CHECK(lookup_flow(&readers[1], 0, key, 0, &id) == PIPAPO_OK && id == 0);
+    CHECK(pipapo_generation(&readers[0], &generation) == PIPAPO_OK && generation == 0);
+    CHECK(pipapo_leave(&readers[0]) == PIPAPO_OK);
+    CHECK(pipapo_leave(&readers[0]) == PIPAPO_TURN);
+    CHECK(lookup_flow(&readers[0], 0, key, 0, &id) == PIPAPO_OK && id == 0);
+
+    /* keys that are refused */
+    id = 77;
+    CHECK(lookup_flow(&readers[0], 2, key, 0, &id) == PIPAPO_SET);
+    CHECK(lookup_flow(&readers[0], 1, key, 0, &id) == PIPAPO_LENGTH);
+    for (size_t length = 0; length < 6; ++length)
+        CHECK(pipapo_lookup(&readers[0], 0, &key, length, 0, &id) == PIPAPO_LENGTH);
+    CHECK(id == 77);
+
+    /* many keys, of a reader that holds a generation, and of one that holds none */
+    flow keys[4] = {flow_of(NET, 80), flow_of(NET + 256, 80), flow_of(NET + 255, 443), flow_of(NET, 444)};
+    for (int held = 0; held < 2; ++held) {
+        uint64_t ids[4] = {77, 77, 77, 77};
+        if (held) CHECK(pipapo_enter(&readers[0], &generation) == PIPAPO_OK);
+        CHECK(pipapo_lookup_many(&readers[0], 0, keys, sizeof keys, 0, ids, 4, &generation) == PIPAPO_OK && generation == 1);
+        CHECK(ids[0] == 0 && ids[1] == PIPAPO_NONE && ids[2] == 0 && ids[3] == PIPAPO_NONE);
+        CHECK(pipapo_lookup_many(&readers[0], 0, keys, sizeof keys - 1, 0, ids, 4, &generation) == PIPAPO_LENGTH);
+        CHECK(pipapo_lookup_many(&readers[0], 0, keys, sizeof keys, 0, ids, 3, &generation) == PIPAPO_LENGTH);
+        CHECK(pipapo_lookup_many(&readers[0], 2, keys, sizeof keys, 0, ids, 4, &generation) == PIPAPO_SET);
+        generation = 77;
+        CHECK(pipapo_lookup_many(&readers[0], 0, keys, 0, 0, ids, 0, &generation) == PIPAPO_OK && generation == 1);
+    }
+
+    /* the control ends first, readers go on, and one that holds a generation ends, too */
+    pipapo_free(&control);
+    CHECK(lookup_flow(&readers[0], 0, key, 0, &id) == PIPAPO_OK && id == 0);
+    CHECK(lookup_flow(&readers[1], 0, key, 0, &id) == PIPAPO_OK && id == 0);
+    pipapo_free(&readers[0]);
+    CHECK(lookup_flow(&readers[0], 0, key, 0, &id) == PIPAPO_NOTHING);
+    pipapo_free(&readers[1]);
+}
+
+static void texts(void) {
+    CHECK(pipapo_version() == PIPAPO_VERSION);
+    CHECK(strcmp(pipapo_strerror(PIPAPO_OK), "success") == 0);
+    CHECK(strcmp(pipapo_strerror(PIPAPO_MEMORY), "out of memory") == 0);
+    CHECK(strcmp(pipapo_strerror(77), "unknown error") == 0);
+    /* each error has a text of its own */
+    for (uint32_t a = 0; a <= PIPAPO_MISSING; ++a)
+        for (uint32_t b = 0; b < a; ++b)
+            CHECK(strcmp(pipapo_strerror(a), pipapo_strerror(b)) != 0 || strcmp(pipapo_strerror(a), "unknown error") == 0);
+}
+
+int main(void) {
+    wrong_handles();
+    refused_starts();
+    changes();
+    limits();
+    every_kind();
+    turns();
+    texts();
+    printf("calls: %d failures\n", failures);
+    return failures != 0;
+}

@@ -1,0 +1,63 @@
+// The handles of pipapo.hpp: they move, free themselves, and make the calls of pipapo.h.
+#include <cstdio>
+#include <type_traits>
+#include <utility>
+
+#include "pipapo.hpp"
+
+static int failures;
+#define CHECK(what) \
+    do { \
+        if (!(what)) { \
+            std::fprintf(stderr, "%s:%d: %s\n", __FILE__, __LINE__, #what); \
+            ++failures; \
+        } \
+    } while (0)
+
+static_assert(!std::is_copy_constructible_v<pipapo::Control> && !std::is_copy_assignable_v<pipapo::Reader>);
+static_assert(std::is_nothrow_move_constructible_v<pipapo::Control> && std::is_nothrow_move_assignable_v<pipapo::Reader>);
+
+struct Flow {
+    std::uint8_t address[4], port[2];
+};
+
+int main() {
+    pipapo_set sets[1] = {};
+    sets[0].kinds[0] = PIPAPO_IPV4;
+    sets[0].kinds[1] = PIPAPO_SERVICE;
+    sets[0].fields = 2;
+    pipapo::Control control;
+    pipapo::Reader readers[2];
+    pipapo_answer answer{};
+    std::uint64_t generation = 77, purged = 77, id = 77, ids[2] = {77, 77}, count = 77;
+    CHECK(!control && control.abort() == PIPAPO_NOTHING);
+    CHECK(control.start(sets, readers) == PIPAPO_OK && control && readers[1]);
+
+    const Flow low = {{192, 0, 2, 0}, {0, 80}}, high = {{192, 0, 2, 255}, {1, 187}};
+    CHECK(control.insert(0, low, high, answer) == PIPAPO_OK && answer.id == 0 && answer.outcome == PIPAPO_NEW);
+    CHECK(control.create(0, low, high, answer) == PIPAPO_EXISTS);
+    CHECK(control.commit(0, generation, purged) == PIPAPO_OK && generation == 1 && purged == 0);
+    CHECK(control.number(generation) == PIPAPO_OK && generation == 1);
+
+    pipapo::Reader reader = std::move(readers[0]);
+    CHECK(reader && !readers[0]);
+    readers[0] = std::move(reader);
+    CHECK(readers[0] && !reader);
+    const Flow keys[2] = {{{192, 0, 2, 7}, {0, 99}}, {{192, 0, 3, 7}, {0, 99}}};
+    CHECK(readers[0].enter(generation) == PIPAPO_OK && generation == 1);
+    CHECK(readers[0].generation(generation) == PIPAPO_OK && generation == 1);
+    CHECK(readers[0].lookup(0, keys[0], 0, id) == PIPAPO_OK && id == 0);
+    CHECK(readers[0].lookup_many(0, keys, 2, 0, ids, generation) == PIPAPO_OK && ids[0] == 0 && ids[1] == PIPAPO_NONE);
+    CHECK(readers[0].leave() == PIPAPO_OK);
+
+    CHECK(control.remove(0, low, high, answer) == PIPAPO_OK && answer.outcome == PIPAPO_REMOVED);
+    CHECK(control.destroy(0, low, high, answer) == PIPAPO_OK && answer.outcome == PIPAPO_ABSENT);
+    CHECK(control.abort() == PIPAPO_OK);
+    CHECK(control.flush(0, count) == PIPAPO_OK && count == 1);
+    pipapo::Control other = std::move(control);
+    CHECK(!control && other);
+    other.reset();
+    CHECK(!other);
+    std::printf("handles: %d failures\n", failures);
+    return failures != 0;
+}

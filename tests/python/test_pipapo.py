@@ -1,0 +1,148 @@
+"""The Python module over the shared library. Run by pytest, or alone: python3 test_pipapo.py"""
+
+import doctest
+import random
+import threading
+
+import pipapo
+from pipapo import Control, Error, Kind, Outcome, PipapoError, Receipt, Set
+
+FLOWS = [Set([Kind.IPV4, Kind.SERVICE])]
+
+
+def refusal(call, *arguments, **named):
+    """The refusal of a call that must be refused."""
+    try:
+        call(*arguments, **named)
+    except PipapoError as error:
+        return error
+    raise AssertionError("the call was not refused")
+
+
+def test_example():
+    assert doctest.testmod(pipapo).failed == 0
+    assert pipapo.version() == (0, 1, 0)
+
+
+def test_changes_are_seen_after_the_commit():
+    with Control(FLOWS) as control:
+        reader = control.readers[0]
+        with control.transaction() as change:
+            added = change.insert(0, ["192.0.2.0", 80], ["192.0.2.255", 443], comment="web")
+            assert (added.id, added.outcome) == (0, Outcome.NEW)
+            assert change.insert(0, ["192.0.2.0", 80], ["192.0.2.255", 443]).outcome == Outcome.ALREADY
+            assert reader.lookup(0, ["192.0.2.7", 80]) is None
+        assert change.receipt == Receipt(1, 0) and control.number == 1
+        assert reader.lookup(0, ["192.0.2.7", 443]) == 0
+        assert reader.lookup(0, [0xC0000207, b"\x01\xbb"]) == 0
+        assert reader.lookup(0, ["192.0.2.7", 444]) is None
+
+
+def test_an_exception_takes_changes_back():
+    with Control(FLOWS) as control:
+        try:
+            with control.transaction() as change:
+                change.insert(0, ["192.0.2.1", 22])
+                raise KeyError
+        except KeyError:
+            pass
+        assert change.receipt is None and control.number == 0
+        assert control.commit() == Receipt(1, 0)
+        assert control.readers[0].lookup(0, ["192.0.2.1", 22]) is None
+
+
+def test_refusals():
+    with Control(FLOWS) as control:
+        control.insert(0, ["192.0.2.0", 80], ["192.0.2.255", 443])
+        overlap = refusal(control.insert, 0, ["192.0.2.9", 80], ["192.0.2.9", 90])
+        assert (overlap.error, overlap.id) == (Error.OVERLAP, 0)
+        exists = refusal(control.create, 0, ["192.0.2.0", 80], ["192.0.2.255", 443])
+        assert (exists.error, exists.id, str(exists)) == (Error.EXISTS, 0, "a live element has the same intervals")
+        assert refusal(control.delete, 0, ["192.0.2.1", 80]).error == Error.MISSING
+        assert control.destroy(0, ["192.0.2.1", 80]).outcome == Outcome.ABSENT
+        assert refusal(control.insert, 0, ["192.0.2.2", 80], ["192.0.2.1", 80]).error == Error.INTERVAL
+        assert refusal(control.insert, 1, ["192.0.2.2", 80]).error == Error.SET
+        assert refusal(control.insert, 0, ["192.0.2.2"]).error == Error.LENGTH
+        assert refusal(control.readers[0].leave).error == Error.TURN
+        assert control.flush(0) == 1
+    assert refusal(control.commit).error == Error.NOTHING
+    assert refusal(Control, [Set([])]).error == Error.SCHEMA
+    assert refusal(Control, FLOWS, readers=0).error == Error.READERS
+    assert refusal(Control, FLOWS, readers=17).error == Error.READERS
+
+
+def test_values():
+    assert Kind.ETHER.pack("02:00:00:00:00:05") == b"\x02\0\0\0\0\x05"
+    assert Kind.IPV6.pack("2001:db8::1") == bytes.fromhex("20010db8000000000000000000000001")
+    assert Kind.PROTO.pack(6) == b"\x06" and Kind.MARK.pack("0x10") == b"\0\0\0\x10"
+    for kind, value in ((Kind.SERVICE, 65536), (Kind.PROTO, -1), (Kind.IPV4, b"\1\2\3"), (Kind.IPV4, "192.0.2")):
+        try:
+            kind.pack(value)
+        except ValueError:
+            continue
+        raise AssertionError(f"{value} was taken for a {kind.name}")
+
+
+def test_elements_expire():
+    with Control([Set([Kind.IPV4])]) as control:
+        control.insert(0, ["192.0.2.1"], expiry=1000)
+        assert control.commit() == Receipt(1, 0)
+        reader = control.readers[0]
+        assert reader.lookup(0, ["192.0.2.1"], 999) == 0 and reader.lookup(0, ["192.0.2.1"], 1000) is None
+        assert control.commit(1000) == Receipt(2, 1)
+
+
+def test_random_calls_agree_with_a_list():
+    """The set is compared with a list that is searched from its front."""
+    random.seed(56)
+    with Control([Set([Kind.SERVICE, Kind.PROTO])]) as control:
+        elements = []
+        for step in range(400):
+            low = [random.randrange(40), random.randrange(6)]
+            high = [low[0] + random.randrange(4), low[1] + random.randrange(2)]
+            try:
+                added = control.insert(0, low, high)
+                if added.outcome == Outcome.NEW:
+                    elements.append((added.id, low, high))
+            except PipapoError as error:
+                assert error.error == Error.OVERLAP and any(error.id == one for one, _, _ in elements)
+            if elements and step % 5 == 4:
+                gone = elements.pop(random.randrange(len(elements)))
+                assert control.delete(0, gone[1], gone[2]).id == gone[0]
+            if step % 20 == 19:
+                control.commit()
+                keys = [[a, b] for a in range(45) for b in range(8)]
+                wanted = [next((i for i, low, high in elements if all(l <= v <= h for l, v, h in zip(low, key, high))), None) for key in keys]
+                assert control.readers[0].lookup_many(0, keys) == (wanted, control.number)
+
+
+def test_readers_in_threads():
+    with Control([Set([Kind.SERVICE])], readers=4) as control:
+        ended, wrong = threading.Event(), []
+
+        def read_on(reader):
+            while not ended.is_set():
+                with reader as held:
+                    number = held.generation
+                    if held.lookup(0, [number]) != (number - 1 if number else None):
+                        wrong.append(number)
+
+        threads = [threading.Thread(target=read_on, args=[reader]) for reader in control.readers]
+        for thread in threads:
+            thread.start()
+        for number in range(1, 500):
+            if number > 1:
+                control.delete(0, [number - 1])
+            control.insert(0, [number])
+            assert control.commit().generation == number
+        ended.set()
+        for thread in threads:
+            thread.join()
+        assert not wrong
+
+
+if __name__ == "__main__":
+    for name, test in list(globals().items()):
+        if name.startswith("test_"):
+            test()
+            print(f"{name}: passed")
