@@ -3,6 +3,8 @@
 # The archive isn't instrumented, so the sanitizers see the C code and its calls of malloc and free alone.
 . "$(dirname "$0")/../preamble.sh"
 needs gcc g++ ar rt
+archive=$top/crates/pipapo_c/out/libpipapo_c.a
+[ -f "$archive" ] || skip "the library isn't built; c/build proves and builds it, one crate after another"
 tests=$top/tests/c
 made=$room/library
 c/build "$made" /usr >"$room/log" 2>&1 || {
