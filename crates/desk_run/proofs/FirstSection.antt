@@ -45,7 +45,7 @@ module _ (schema : List SetDecl) (steps : List Step) (closed : EndsClosed steps)
       let same : k.work.sets ≡ k.work.base.sets = sym st.sets ∙ section-rests mode (start schema) steps closed refl ∙ ap (λ g. g.sets) st.last in
       λ i. record { base = k.work.base; sets = same i }
 
-  -- Where a control is started and does the section, it stands where the definition's control does.
+  -- The program starts a control, which does the section. It is then in the state of the definition's control.
   pub stands_behind : (keep_going : Bool) (k new : Steering) (told : List Event) → StandsAt [] (start schema) (run k false []) → Ran keep_going steps k new told → StandsAt [] (history (mode_of keep_going) schema (steps ∷ [])) (run new false told)
   stands_behind keep_going k new told st ran = next_stands keep_going schema (steps ∷ []) 0 steps k new [] told told (omega arith) refl closed st ran refl
 
@@ -55,7 +55,7 @@ first_alone mode schema [] = refl
 first_alone mode schema (steps ∷ sections) = refl
 
 module _ {T : Type 0} where
-  -- Of no sections the first is empty, and none are behind it.
+  -- If there are no sections, the first is empty, and none follow it.
   pub first_of_none : (sections : List (List T)) → length sections ≡ 0 → ([] ≡ section_at sections 0) × (sections ≡ drop 1 sections)
   first_of_none [] none = (refl, refl)
   first_of_none (x ∷ sections) none = absurd (omega (arith, none))

@@ -1,4 +1,4 @@
--- What a log that replays keeps: the declared sets, and so what a writer of its text asks.
+-- What a log that replays keeps: the declared sets. A writer of its text requires them.
 use Rattle.std.proofs.Common.{◌≡◌, sym, ◌∙◌, ap, subst, ℕ, List, [], ◌∷◌, length, map, fold, Some, slice_get, arith, All}
 use Rattle.std.proofs.lemmas.List.{length-map, length-append}
 use Rattle.std.proofs.lemmas.List.Elements.{All-nil, All-cons}
@@ -20,7 +20,7 @@ record IsDeclared (schema : List SetDecl) (c : Control) : Type 0 where
   pub kinds : IsOf (declared_kinds schema) c
   pub sizes : Shows (λ (s : State). s.size) (map (λ (d : SetDecl). d.size) schema) (work_of c)
 
--- The last of the committed generations is the one that a control stands on.
+-- The last committed generation is the base of the control's open transaction.
 one_end : (c : Control) → IsNumbered c → (g : Generation) → EndsWith c.committed g → c.last ≡ g
 one_end c n g ends =
     let size = ap length ends.1 in let sum = length-append ends.0 (g ∷ []) in let long = n.long in
@@ -72,7 +72,7 @@ module _ (schema : List SetDecl) where
       (subst (All (NamesSet (length (declared_kinds schema)))) here (section_of (declared_kinds schema) (mode_of e.keep_going) c e.steps h.kinds).named)
       (all_said (after_entry c e) log (after_declared c e h) rest)
 
--- A log that replays behind sections.
+-- A log that replays after sections.
 module _ (mode : Mode) (schema : List SetDecl) (sections : List (List Step)) (committed : List Generation) (log : List Entry) (r : Replays (history mode schema sections).committed committed log) where
   abbrev begun : Control
   begun = history mode schema sections
@@ -82,7 +82,7 @@ module _ (mode : Mode) (schema : List SetDecl) (sections : List (List Step)) (co
       let h = history_declared schema mode sections in
       subst (λ (g : Generation). IsDeclared schema (at_rest begun.committed g)) (one_end begun h.numbered r.last r.begins) (rest_declared schema begun h)
 
-  -- What is told of each entry names a declared set.
+  -- The report of each entry names a declared set.
   pub log_declares : All (λ e. All (NamesSet (length schema)) (said e)) log
   log_declares = subst (λ (n : ℕ). All (λ (e : Entry). All (NamesSet n) (said e)) log) (length-map schema (λ (d : SetDecl). d.kinds)) (all_said schema (at_rest begun.committed r.last) log begun_declared r.tells)
 

@@ -1,4 +1,4 @@
--- A desk that is opened for sections, and one that isn't since there are none.
+-- A desk that is opened for sections. If there are none, no desk is opened.
 use Rattle.std.proofs.Common.{◌≡◌, refl, sym, ◌∙◌, ap, subst, ℕ, ◌+◌, ◌-◌, ◌<◌, ◌≤◌, Bool, true, false, cond, List, [], ◌∷◌, ◌++◌, length, take, get_or, Option, Some, slice_get, slice_index_or, arith, All}
 use Rattle.std.proofs.lemmas.List.{take_more}
 use Rattle.std.proofs.lemmas.List.Elements.{All-nil, All-push, All-weaker}
@@ -55,7 +55,7 @@ module _ (of : TableId) (schema : List SetDecl) (base : List Generation) (thread
   pub first_base : (first : Seated) → slice_get clerks 0 ≡ Some first → first.base ≡ base
   first_base first at = ap (λ (s : Seated). s.base) (opened.each 0 first at)
 
-  -- Each may do its section, where that has no more steps than each has transactions left.
+  -- Each may do its section, if the section has no more steps than each has transactions left.
   pub all_ready : (sections : List (List Step)) → length sections ≡ threads → All (All (IsRunnableStep schema)) sections → All EndsClosed sections → All (λ steps. length steps ≤ each) sections → All (MayDoSection sections) clerks
   all_ready sections sizes fits closed enough = all_from (MayDoSection sections) clerks ready where
     ready : (place : ℕ) (c : Seated) → slice_get clerks place ≡ Some c → MayDoSection sections c

@@ -1,4 +1,4 @@
--- What a desk has done is what its text tells.
+-- The text of a desk reports what the desk has done.
 use Rattle.std.proofs.Common.{◌≡◌, refl, sym, ◌∙◌, ap, subst, ℕ, Bool, false, ◌||◌, List, [], ◌∷◌, ◌++◌, length, take, drop, flat_map, All}
 use Rattle.std.specs.List.{list_any}
 use Rattle.set_model.specs.declared.report.Event.{Event}
@@ -21,12 +21,12 @@ use Rattle.desk_run.proofs.FirstSection.{first_alone}
 use Rattle.desk_run.proofs.LogLaws.{last_declared, log_declares}
 
 module _ {A B : Type 0} (test : B → Bool) (f : A → List B) where
-  -- One of the items of some lists passes a test where one of a list does.
+  -- One of the items of some lists passes a test if one of a list does.
   any_of_lists : (xs : List A) → list_any test (flat_map f xs) ≡ list_any (λ x. list_any test (f x)) xs
   any_of_lists [] = refl
   any_of_lists (x ∷ xs) = list_any-append test (f x) (flat_map f xs) ∙ ap (λ b. list_any test (f x) || b) (any_of_lists xs)
 
--- A refusal was told first, or of an entry of a log.
+-- The first section reported a refusal, or an entry of the log did.
 pub refusal_of_log : (events : List Event) (log : List Entry) → (list_any is_refusal events || list_any (λ e. list_any is_refusal (said e)) log) ≡ list_any is_refusal (events ++ flat_map said log)
 refusal_of_log events log = ap (λ b. list_any is_refusal events || b) (sym (any_of_lists is_refusal said log)) ∙ sym (list_any-append is_refusal events (flat_map said log))
 
@@ -40,7 +40,7 @@ module _ (script : Script) (keep_going : Bool) (first : List Step) (later : List
   replays : Replays (after_first_section keep_going script).committed then.committed log
   replays = subst (λ (z : List Generation). Replays z then.committed log) (sym stands.committed) ran.replays
 
-  -- what a writer of the text asks
+  -- what a writer of the text requires
   pub told_named : All (NamesSet (length script.schema)) told
   told_named = events_declared (mode_of keep_going) script.schema (take 1 script.sections) control told stands
 

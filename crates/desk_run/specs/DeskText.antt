@@ -1,4 +1,4 @@
--- What `desk` writes: what the first section told, the log of the control threads behind it, and the last generation.
+-- What `desk` writes: the first section's reports, the log of the control threads after it, and the last generation.
 use Rattle.std.specs.Prelude.{◌≡◌, ℕ, Bool, List, ◌++◌, drop, take, All, codes}
 use Rattle.std.specs.List.{flat_map, list_any}
 use Rattle.history_laws.specs.Histories.{EndsWith}
@@ -12,35 +12,35 @@ use Rattle.set_report.specs.ListText.{list_text}
 use Rattle.control_desk.specs.declared.entry.Entry.{Entry}
 use Rattle.control_desk.specs.Woven.{IsWoven, Replays, said}
 
--- what stands in front of each line that a control thread's transaction told
+-- the control thread's number, in front of each line of its transactions
 abbrev pub clerk_prefix : ℕ → List ℕ
 clerk_prefix clerk = numbered (codes "# clerk") clerk ++ codes " "
 
--- what a transaction told, line by line, behind its control thread's number
+-- the reports of a transaction, one a line, each after its control thread's number
 abbrev pub entry_text : List SetDecl → Entry → List ℕ
 entry_text schema e = told_text (clerk_prefix e.clerk) schema (said e)
 
--- what the transactions of a log told, in their order
+-- the reports of a log's transactions, in their order
 abbrev pub log_text : List SetDecl → List Entry → List ℕ
 log_text schema log = flat_map (entry_text schema) log
 
--- the control behind the first section of a script, which runs alone
+-- the control after the first section of a script, which runs alone
 abbrev pub after_first_section : Bool → Script → Control
 after_first_section keep_going script = history (mode_of keep_going) script.schema (take 1 script.sections)
 
--- What the first section told as remarks, then the log, and the last generation as a script, at the script's last moment: nft(8)
--- reads it, since all that was told are comments.
+-- The first section's reports as remarks, then the log, and the last generation as a script, at the script's last
+-- moment. nft(8) reads it, since all reports are comments.
 abbrev pub desk_text : Bool → Script → List Entry → Generation → List ℕ
 desk_text keep_going script log last =
     remarks_text script.schema (after_first_section keep_going script).events ++ (log_text script.schema log ++ list_text script.schema last.sets script.last)
 
--- all that was told: of the first section, and of the transactions of the log
+-- all reports: of the first section, and of the transactions of the log
 abbrev pub all_told : Bool → Script → List Entry → List Event
 all_told keep_going script log = (after_first_section keep_going script).events ++ flat_map said log
 
--- The first section of a script ran alone, and then the others as control threads at one desk: the log is woven of these sections,
--- replays from the generations of the first section to those that end with the listed one, and each transaction is in this mode. A
--- refusal is told exactly where the text has one.
+-- The first section of a script ran alone, and then the others as control threads at one desk. The log is woven of
+-- these sections. It replays from the first section's generations to those that end with the listed one. Each
+-- transaction is in this mode. The text reports a refusal exactly if `refused` is true.
 pub record IsDeskText (script : Script) (keep_going : Bool) (refused : Bool) (output : List ℕ) : Type 0 where
   pub log : List Entry
   pub committed : List Generation

@@ -1,8 +1,8 @@
-//! Submissions, as a gate is told of them.
+//! The bell of a desk, which also reports each submission to a gate.
 use control_desk::Bell;
 use packet_pool::Gate;
 
-/// A bell that tells a gate, too, whose section a transaction is submitted of.
+/// A bell that also reports to a gate which section submits a transaction.
 #[derive(Drop)]
 pub(crate) struct GateBell<'a, B, G> {
     pub(crate) bell: &'a B,

@@ -1,8 +1,24 @@
-//! A script whose later sections are several control threads' at one desk: the first section runs alone, and then each of the
-//! others is submitted by a control thread of its own, transaction by transaction.
+//! Runs a script's first section alone, and each later section as a control thread at one desk.
 //!
-//! [`desk`] gives what the first section told, the log of the control threads in the order in which it
-//! was done, and the last generation as a script.
+//! # Theory of operation
+//!
+//! Take a script of three sections. The first declares a set of ports. The second adds port 80 and commits, and the
+//! third adds port 443 and commits. [`desk`] runs it so:
+//!
+//! ```text
+//! the control alone    section 0    declares the set, commits generation 1
+//! control thread 1     section 1    adds port 80, commits
+//! control thread 2     section 2    adds port 443, commits
+//! ```
+//!
+//! **Order.** The control threads submit whole transactions to one control. Their schedule decides which of them is
+//! first, so either commit may make generation 2. The log has the transactions in the order in which the control did
+//! them.
+//!
+//! **Text.** [`desk`] returns the first section's reports, the reports of the log's transactions in their order, and the
+//! last generation as a script. Reports are comments, so nft(8) reads the text.
+//!
+//! **No later sections.** Then no desk is opened, and the log is empty.
 //!
 //! **Definitions:** `specs/DeskText.antt`, over `control_desk`'s `specs/Woven.antt`. **Theory:**
 //! docs/architecture.md, "The way of a run" and "Several control threads". **Proofs:** docs/proofs.md,

@@ -33,8 +33,8 @@ fn has_room(control: &Control, clerks: u32, each: u64) -> bool
     }
 }
 
-/// Does sections behind a control, each by a control thread of its own, and gives the control and the log. Where there are
-/// none no desk is opened.
+/// Does sections after a control, each by a control thread of its own, and returns the control and the log.
+/// If there are no sections, it opens no desk.
 pub(crate) fn run_later<R: Threads + Wait + Sync, B: Bell>(
     rt: &R,
     alloc: Global,

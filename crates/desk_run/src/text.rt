@@ -1,4 +1,4 @@
-//! What the transactions of a log told, as text.
+//! The reports of a log's transactions, as text.
 ghost use Rattle.std.specs.Prelude.{◌≡◌, ◌++◌, length, All, IfOk, OnOk};
 ghost use Rattle.control_desk.specs.Woven.{said};
 ghost use Rattle.set_report.specs.Writes.{NamesSet};
@@ -11,7 +11,7 @@ use std::alloc::Global;
 use text_pieces::Piece::{Number, Word};
 use text_pieces::append_pieces;
 
-/// What stands in front of each line of a control thread.
+/// The control thread's number, in front of each of its lines.
 fn prefix_of(alloc: Global, clerk: u32) -> Result<Vec<u8>, Memory>
     ensures { IfOk result (λ prefix. prefix.items ≡ clerk_prefix clerk) }
 {
@@ -23,7 +23,7 @@ fn prefix_of(alloc: Global, clerk: u32) -> Result<Vec<u8>, Memory>
     Ok(prefix)
 }
 
-/// What was told of an entry: its refusals, and then its end.
+/// The reports of an entry: its refusals, and then its end.
 fn events_of(alloc: Global, entry: &Entry) -> Result<Events, Memory>
     ensures { IfOk result (λ events. events ≡ said entry.now) }
 {
@@ -32,7 +32,7 @@ fn events_of(alloc: Global, entry: &Entry) -> Result<Events, Memory>
     Ok(events)
 }
 
-/// Appends what was told of a transaction, each line behind the number of the control thread that submitted it.
+/// Appends the reports of a transaction, each line after the number of the control thread that submitted it.
 fn write_entry(
     alloc: Global,
     schema: &Schema,
@@ -47,7 +47,7 @@ fn write_entry(
     write_events(schema, &events, prefix.as_slice(), out)
 }
 
-/// Appends what was told of all transactions of a log, in their order.
+/// Appends the reports of all transactions of a log, in their order.
 pub(crate) fn write_log(
     alloc: Global,
     schema: &Schema,

@@ -24,7 +24,7 @@ use std::alloc::Global;
 use std::sync::Wait;
 use std::thread::Threads;
 
-/// The first of some sections, which is taken away from them, or one without steps where there is none.
+/// Takes the first section away from the others. Returns one without steps if there is none.
 fn take_first(alloc: Global, sections: &mut Sections) -> Steps
     ensures first { result ≡ section_at sections.old 0 }
     ensures others { sections.new ≡ drop 1 sections.old }
@@ -36,7 +36,7 @@ fn take_first(alloc: Global, sections: &mut Sections) -> Steps
     }
 }
 
-/// Does the first section of a script on a new control, alone, and gives the control and what it told.
+/// Does the first section of a script on a new control, alone, and returns the control and its reports.
 fn run_first<G: Gate>(
     alloc: Global,
     schema: Schema,
@@ -60,7 +60,7 @@ fn run_first<G: Gate>(
     Ok((control, told))
 }
 
-/// What a desk writes: what its first section told, its log, and its last generation as a script.
+/// The text of a desk: the first section's reports, the log, and the last generation as a script.
 fn write_desk(
     alloc: Global,
     schema: &Schema,
@@ -81,35 +81,37 @@ fn write_desk(
     Ok(text)
 }
 
-/// Whether what was told of a transaction tells that a change was refused.
+/// Whether a change of this transaction was refused.
 fn has_refusal(entry: &Entry) -> bool
     ensures { result ≡ list_any is_refusal (said entry.now) }
 {
     tells_refusal(entry.refused.as_slice()) || tells_refusal(&[entry.end])
 }
 
-/// Whether one of these transactions had a change refused.
+/// Whether a change of one of these transactions was refused.
 fn have_refusal(entries: &[Entry]) -> bool
     ensures { result ≡ list_any (λ e. list_any is_refusal (said e)) entries.now }
 {
     entries.iter().any(|entry| has_refusal(entry))
 }
 
-/// Whether a refusal was told first, or of a transaction of the log.
+/// Whether a change of the first section or of a transaction of the log was refused.
 fn any_refusal(told: &Events, log: &Log) -> bool
     ensures { result ≡ list_any is_refusal (told.now ++ flat_map said log.now) }
 {
     tells_refusal(told.as_slice()) || have_refusal(log.as_slice())
 }
 
-/// Runs the first section of a script alone, and then each of the others by a control thread of its own, all of which submit
-/// their transactions to one control; and gives what was told, transaction by transaction, and the last generation as a script.
-/// It waits for the control threads, and calls the bell before each submission. The gate is told of the first section, and then
-/// of the section of each submission before it.
+/// Runs the first section of a script alone, and then each of the others by a control thread of its own. All
+/// of these submit their transactions to one control. Returns the reports, transaction by transaction, and
+/// the last generation as a script.
+///
+/// It waits for the control threads, and calls the bell before each submission. The gate learns of the first
+/// section, and then of the section of each submission before it.
 ///
 /// # Errors
 ///
-/// `Memory` where there is none left.
+/// `Memory` if memory runs out.
 pub fn desk<R: Threads + Wait + Sync, B: Bell, G: Gate>(
     rt: &R,
     alloc: Global,

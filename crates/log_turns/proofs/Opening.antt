@@ -1,4 +1,4 @@
--- The table at the start keeps its rule, and so does the making of a control thread's seat, and a join of seats that are done.
+-- The table keeps its rule at the start, when a control thread's seat is made, and when seats that are done join.
 use Rattle.std.proofs.Common.{◌≡◌, ◌≢◌, ℕ, zero, suc, ◌+◌, ◌-◌, ◌*◌, ◌<◌, ◌≤◌, ◌==◌, cond, List, [], ◌∷◌, ◌++◌, All, length, length-append, set, sym, refl, ap, ◌∙◌, subst, ⊎_elim, arith, Option, Some}
 use Rattle.std.specs.List.{sum_by}
 use Rattle.std.proofs.lemmas.List.Sums.{sum_by-cons, sum_by-append}
@@ -31,7 +31,7 @@ module _ {B E G : Type 0} (log : B → List E) (base : B → List G) (number : B
   abbrev PlaysAs : ℕ → ℕ → B → SeatView B E G → Role → Type 0
   PlaysAs = Plays log base number clerk each
 
-  -- a number more was given, and the seat gives none
+  -- one more number was given, and this seat gives none
   more_given : (n given : ℕ) (value : B) (d : SeatView B E G) (role : Role) → ¬ (IsOpener role) → PlaysAs n given value d role → PlaysAs n (given + 1) value d role
   more_given n given value d Idle none k = k
   more_given n given value d (Opener g) none k = absurd (none tt)

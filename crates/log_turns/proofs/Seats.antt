@@ -33,7 +33,7 @@ sums_none f [] none = refl
 sums_none f (v ∷ vs) none = let here = none 0 v refl in let rest = sums_none f vs (λ j d at. none (suc j) d at) in let a = sum_by-cons f v vs in omega (arith, here, rest, a)
 
 module _ {E : Type 0} where
-  -- how often a number stands among the kept logs
+  -- how often a number occurs among the kept logs
   abbrev pub times_in : ℕ → List (ℕ × List E) → ℕ
   times_in c ps = sum_by (λ p. cond (p.0 == c) 1 0) ps
 
@@ -43,7 +43,7 @@ module _ {E : Type 0} where
   pub never_alone : (c o : ℕ) (seen : List E) → o ≢ c → times_in c ((o, seen) ∷ []) ≡ 0
   never_alone c o seen apart = let a = sum_by-cons (λ (p : ℕ × List E). cond (p.0 == c) 1 0) (o, seen) [] in let none : ◌≡◌ {A = ℕ} (cond (o == c) 1 0) 0 = grind (arith, nat_tests, apart) in omega (arith, a, none)
 
-  -- where it never does, none is its
+  -- if a number never occurs, no kept log is its own
   pub all_others : (c : ℕ) (ps : List (ℕ × List E)) → times_in c ps ≡ 0 → All (λ p. p.0 ≢ c) ps
   all_others c [] none = All-nil (λ p. p.0 ≢ c)
   all_others c (p ∷ ps) none =
@@ -51,7 +51,7 @@ module _ {E : Type 0} where
       let apart : p.0 ≢ c = (λ same. let one : ◌≡◌ {A = ℕ} (cond (p.0 == c) 1 0) 1 = grind (arith, nat_tests, same) in omega (arith, a, one, none)) in
       All-cons (λ p. p.0 ≢ c) p ps apart (all_others c ps (omega (arith, a, none)))
 
-  -- a number above all never stands there
+  -- a number greater than all never occurs
   pub none_above : (most c : ℕ) (ps : List (ℕ × List E)) → most < c → All (λ p. p.0 ≤ most) ps → times_in c ps ≡ 0
   none_above most c [] above all = refl
   none_above most c (p ∷ ps) above all =
@@ -65,11 +65,11 @@ module _ {E : Type 0} (clerk : E → ℕ) where
       let here : clerk x ≡ c = All-head (λ e. clerk e ≡ c) x xs all in let test : (clerk x == other) ≡ false = grind (arith, nat_tests, here, apart) in
       (λ i. cond (test i) (x ∷ filter (λ e. clerk e == other) xs) (filter (λ e. clerk e == other) xs)) ∙ none_of c other xs apart (All-tail (λ e. clerk e ≡ c) x xs all)
 
-  -- another's entries behind the log are none of a control thread's
+  -- the entries that another control thread adds to the log are none of this control thread's
   pub others_entries : (c other : ℕ) (xs added : List E) → other ≢ c → All (λ e. clerk e ≡ c) added → filter (λ e. clerk e == other) (xs ++ added) ≡ filter (λ e. clerk e == other) xs
   others_entries c other xs added apart all = filter-append (λ e. clerk e == other) xs added ∙ ap (λ z. filter (λ e. clerk e == other) xs ++ z) (none_of c other added apart all) ∙ append-nil (filter (λ e. clerk e == other) xs)
 
-  -- a number above all has no entry
+  -- a number greater than all has no entry
   pub new_entries : (given : ℕ) (xs : List E) → All (λ e. (0 < clerk e) × (clerk e ≤ given)) xs → filter (λ e. clerk e == (given + 1)) xs ≡ []
   new_entries given [] all = refl
   new_entries given (x ∷ xs) all =

@@ -59,7 +59,7 @@ module _ {B E G : Type 0} (log : B → List E) (base : B → List G) (number : B
   left_whole (Clerk c) left turns = refl
   left_whole Gatherer left turns = refl
 
-  -- a seat with a number stands in all but these
+  -- a seat with a number keeps its part of the rule if all but these stay the same
   plays_on : (n given : ℕ) (value : B) (d w : SeatView B E G) (role : Role) → HasTurns role → w.threads ≡ d.threads → w.base ≡ d.base → w.kept ≡ d.kept → PlaysAs n given value d role → PlaysAs n given value w role
   plays_on n given value d w Idle turns threads_is base_is kept_is k = absurd turns
   plays_on n given value d w (Opener g) turns threads_is base_is kept_is k = absurd turns
@@ -160,14 +160,14 @@ module _ {B E G : Type 0} (log : B → List E) (base : B → List G) (number : B
         ((λ hit. absurd (miss hit)), λ _. refl),
       ))
 
-  -- where the states before the log are the same
+  -- if the states before the log are the same
   other_plays : (n given : ℕ) (value v : B) (d : SeatView B E G) (role : Role) → base v ≡ base value → PlaysAs n given value d role → PlaysAs n given v d role
   other_plays n given value v d Idle based k = k
   other_plays n given value v d (Opener g) based k = (k.0, k.1, k.2, k.3 ∙ sym based, k.4)
   other_plays n given value v d (Clerk c) based k = (k.0, k.1 ∙ sym based)
   other_plays n given value v d Gatherer based k = (k.0, k.1 ∙ sym based, k.2)
 
-  -- where entries of one control thread are added, the logs of others are kept
+  -- if entries of one control thread are added, the logs of others are kept
   others_kept : (given : ℕ) (value v : B) (c : ℕ) (added : List E) → log v ≡ log value ++ added → All (λ e. clerk e ≡ c) added → (ps : List (ℕ × List E)) → All (λ p. p.0 ≢ c) ps → All (Keeps log base number clerk given value) ps → All (Keeps log base number clerk given v) ps
   others_kept given value v c added logged own [] apart all = All-nil (Keeps log base number clerk given v)
   others_kept given value v c added logged own (p ∷ ps) apart all =

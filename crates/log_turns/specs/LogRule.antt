@@ -1,10 +1,15 @@
 -- The rule of the table: what holds between any two steps, whatever the threads do. In words:
--- The seats: each number of a control thread that was given is in one seat, its own or one that gathered it, and one that wasn't is in none. One seat at most gives numbers. Only seats with a number have a ticket, each at most one.
--- The tickets: those that are out are exactly the numbers from the served one up to and without the next one, modulo 2 ^ 64. Each is one seat's.
--- The value: it is at home, or out with the seat whose ticket is served, which notes it as it took it.
--- The logs: each seat's begins the value's, and so does each that a gatherer keeps. The entries of a number are the same in the value's log and in the one that is kept for it. Each entry names a number that was given.
+-- The seats: each control thread's number that was given is in one seat, its own or one that gathered it. A number
+-- that wasn't given is in no seat. One seat at most gives numbers. Only seats with a number have a ticket, each at
+-- most one.
+-- The tickets: those that are out are exactly the numbers from the served one to the last before the next one, modulo
+-- 2 ^ 64. Each is one seat's.
+-- The value: it is in the table, or the seat whose ticket is served has it. That seat notes the value as it took it.
+-- The logs: each seat's log is a front of the value's log, and so is each log that a gatherer keeps. A number's
+-- entries are the same in the value's log and in the log that is kept for it. Each entry has a number that was given.
 -- The base: the states before the log are those that each control thread began with.
--- The numbers: the value's, what all control threads have left, and what those have that weren't given yet, are at most the bound.
+-- The numbers: the value's number, the states that all control threads have left, and those of the control threads
+-- that weren't made yet. Together they are at most the bound.
 use Rattle.std.specs.Prelude.{◌≡◌, ◌≢◌, ℕ, ◌+◌, ◌-◌, ◌*◌, ◌<◌, ◌≤◌, ◌==◌, cond, List, [], ◌∷◌, All, filter, length, Option, Some, None}
 use Rattle.std.specs.List.{sum_by}
 use mathlib.Core.Option.{some}
@@ -27,7 +32,7 @@ IsOpener Gatherer = ⊥
 abbrev pub IsClerk : Role → Type 0
 IsClerk role = (c : ℕ) × (role ≡ Clerk c)
 
--- it is a control thread's, or that of some that are done
+-- it is a control thread's, or is for some that are done
 abbrev pub HasTurns : Role → Type 0
 HasTurns Idle = ⊥
 HasTurns (Opener given) = ⊥
@@ -77,13 +82,14 @@ module _ {B E G : Type 0} where
   abbrev pub times_of : ℕ → SeatView B E G → ℕ
   times_of c d = sum_by (λ p. cond (p.0 == c) 1 0) (kept_of d)
 
--- A value has a log, whose entries have a control thread's number each; the states before the log; and a number that each state more raises by one.
+-- A value has a log, the states before the log, and a number. Each entry of the log has a control thread's number.
+-- Each state more raises the number by one.
 module _ {B E G : Type 0} (log : B → List E) (base : B → List G) (number : B → ℕ) (clerk : E → ℕ) where
   -- the entries of a control thread
   abbrev pub of_clerk : ℕ → List E → List E
   of_clerk c entries = filter (λ e. clerk e == c) entries
 
-  -- A log is kept for a control thread: it begins the value's, and has all of the thread's entries.
+  -- A log is kept for a control thread: it is a front of the value's log, and has all of the thread's entries.
   abbrev pub Keeps : ℕ → B → ℕ × List E → Type 0
   Keeps given value p = (0 < p.0) × (p.0 ≤ given) × StartsWith (log value) p.1 × (of_clerk p.0 (log value) ≡ of_clerk p.0 p.1)
 
@@ -117,6 +123,6 @@ module _ {B E G : Type 0} (log : B → List E) (base : B → List G) (number : B
     pub each_seat : (j : ℕ) (d : SeatView B E G) → get_elem? s.views j ≡ some d → Sits each n given value d
 
 module _ {B E G : Type 0} where
-  -- the opener's view at the start, where each of so many control threads is to have so many left
+  -- the opener's view at the start: each of so many control threads is to have so many states left
   abbrev pub opening_view : ℕ → ℕ → List G → SeatView B E G
   opening_view each n base = record { role = Opener 0; threads = n; stage = 1; ticket = 0; seen = []; base = base; left = each; took = None; kept = [] }

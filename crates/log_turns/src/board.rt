@@ -1,17 +1,17 @@
 //! The table that the control threads share.
 //!
-//! Word 0 is the next ticket, and word 1 the ticket that is served. The table's one entry is the value, which is out with
-//! the seat whose ticket is served.
+//! Word 0 is the next ticket, and word 1 the ticket that is served. The table's one entry is the value,
+//! unless the seat whose ticket is served has it.
 use crate::{Logged, SeatView};
 use atomic_table::{Join, Play, Seat, Shared, Split, Table, TableRule};
 use std::alloc::Global;
 use std::marker::PhantomData;
 use std::snapshot::Snapshot;
 
-/// What the table is told when it is made.
+/// What a new table is made of.
 #[derive(Drop)]
 pub struct Start<T> {
-    /// The value as it stands before the first turn.
+    /// The value before the first turn.
     pub first: Snapshot<T>,
     /// How many control threads there are.
     pub clerks: u64,
@@ -41,7 +41,7 @@ pub type Board<T> = Table<
     Global,
 >;
 
-/// A seat at the table: what its holder knows, and the value where it is served.
+/// A seat at the table: what its holder knows, and the value if its ticket is served.
 pub type Place<T> = Seat<Option<T>, SeatView<T, <T as Logged>::Entry, <T as Logged>::State>>;
 
 /// The table, shared by all that have a seat at it.
@@ -52,7 +52,7 @@ pub type Top<T> = Shared<
     Turned<T>,
 >;
 
-// 1 is added to word 0, which gave the ticket.
+// Adds 1 to word 0, whose old value is the ticket.
 pub(crate) struct Draw;
 
 impl<T: Logged> Play<Option<T>, SeatView<T, T::Entry, T::State>> for Draw {
@@ -61,7 +61,7 @@ impl<T: Logged> Play<Option<T>, SeatView<T, T::Entry, T::State>> for Draw {
     ghost then = { drew };
 }
 
-// Word 1 is loaded by a seat that has a ticket. It takes the value where its ticket is served.
+// A seat with a ticket loads word 1. It takes the value if its ticket is served.
 pub(crate) struct Look;
 
 impl<T: Logged> Play<Option<T>, SeatView<T, T::Entry, T::State>> for Look {
@@ -71,7 +71,7 @@ impl<T: Logged> Play<Option<T>, SeatView<T, T::Entry, T::State>> for Look {
     ghost then = { looked T.log T.base T.number T.clerk most };
 }
 
-// The next ticket is stored in word 1, and the value is given back.
+// Stores the next ticket in word 1, and gives the value back.
 pub(crate) struct Done;
 
 impl<T: Logged> Play<Option<T>, SeatView<T, T::Entry, T::State>> for Done {
@@ -80,7 +80,7 @@ impl<T: Logged> Play<Option<T>, SeatView<T, T::Entry, T::State>> for Done {
     ghost then = { ended_turn T.log T.base T.number T.clerk };
 }
 
-// A control thread's seat is made.
+// Makes a control thread's seat.
 pub(crate) struct Deal;
 
 impl<B, E, G> Split<SeatView<B, E, G>> for Deal {
@@ -91,7 +91,7 @@ impl<B, E, G> Split<SeatView<B, E, G>> for Deal {
     ghost right = { next_clerk };
 }
 
-// A seat that is done is taken in by another.
+// One seat takes in another that is done.
 pub(crate) struct Gather;
 
 impl<B, E, G> Join<SeatView<B, E, G>> for Gather {

@@ -1,4 +1,4 @@
-//! How the seats at a table are made, and taken in once their control threads are done.
+//! Makes the seats at a table, and takes them in after their control threads are done.
 ghost use Rattle.std.specs.Prelude.{◌≡◌, ◌<◌, ℕ, []};
 ghost use Rattle.log_turns.specs.declared.Role.TheVariants.{Opener};
 ghost use Rattle.log_turns.specs.LogRule.{HasTurns, IsSized};

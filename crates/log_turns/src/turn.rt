@@ -1,4 +1,4 @@
-//! A turn: a seat draws a ticket and waits for the value, and gives it back with what it logged.
+//! A turn: a seat draws a ticket, waits for the value, and gives it back with what it logged.
 ghost use Rattle.std.specs.Prelude.{◌≡◌, ℕ, ◌-◌, ◌+◌, ◌≤◌, [], ◌∷◌, length, None, Some};
 ghost use Rattle.log_turns.specs.declared.Role.TheVariants.{Clerk};
 ghost use Rattle.log_turns.specs.LogRule.{HasTurns, IsClerk, IsSized, most};
@@ -16,8 +16,8 @@ const PAUSE: u64 = 50;
 /// The most turns for which a pause grows.
 const LONGEST: u64 = 16;
 
-/// Lets other threads work until this one looks again, if so many turns come before its own. The next in line
-/// gives its time slice away and looks at once; each thread after it sleeps, the longer the later its turn is.
+/// Lets other threads work before the next look, if so many turns come before its own. The next in line gives
+/// its time slice away and looks at once. Each thread after it sleeps; the later its turn is, the longer.
 fn pause<R: Wait>(rt: &R, parker: &Parker, turns: u64) {
     if turns <= 1 {
         thread::yield_now();
@@ -26,7 +26,8 @@ fn pause<R: Wait>(rt: &R, parker: &Parker, turns: u64) {
     }
 }
 
-/// Draws a ticket, and waits until it is served. Then the seat has the value.
+/// Draws a ticket, and waits until it is served. Then the seat has the value. Returns the ticket and the
+/// value.
 pub fn take_turn<T: Logged + Drop, R: Wait>(rt: &R, top: &Top<T>, place: &mut Place<T>) -> (u64, T)
     requires table { (place.old.table_id ≡ top.now.table_id) × IsSized place.old.table_id }
     requires seat { HasTurns place.old.me.0.role × (place.old.me.0.stage ≡ 1) × (place.old.me.1 ≡ []) }
@@ -48,7 +49,7 @@ pub fn take_turn<T: Logged + Drop, R: Wait>(rt: &R, top: &Top<T>, place: &mut Pl
     unreachable!()
 }
 
-/// Gives the value back with what was logged, and lets the next ticket be served.
+/// Gives the value back with what was logged, and serves the next ticket.
 pub fn end_turn<T: Logged + Drop>(top: &Top<T>, place: &mut Place<T>, ticket: u64, value: T)
     requires table { (place.old.table_id ≡ top.now.table_id) × IsSized place.old.table_id }
     requires seat { IsClerk place.old.me.0.role × (place.old.me.0.stage ≡ 3) × (place.old.me.0.ticket ≡ ticket) × (place.old.me.1 ≡ (0, None) ∷ []) }

@@ -7,8 +7,9 @@ use std::rt::Files;
 /// The standard input, output and error, as Linux names what a process has open.
 const STANDARD: [&str; 3] = ["/proc/self/fd/0", "/proc/self/fd/1", "/proc/self/fd/2"];
 
-/// A file that takes the place of a closed descriptor, and that can't be used in that direction: one to read from
-/// is opened for writing alone, and the reverse. So each call on it fails, as on a closed descriptor.
+/// A file that takes the place of a closed descriptor, and that can't be used in its direction. In the place
+/// of the input it is open for writing alone, and in the place of an output for reading alone. So each call
+/// on it fails, as on a closed descriptor.
 fn stand_in<R: Files>(rt: &R, is_input: bool) -> io::Result<R::File> {
     let mut options = OpenOptions::new();
     options.read(!is_input).write(is_input);

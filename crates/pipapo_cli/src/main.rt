@@ -1,10 +1,11 @@
-//! The command `pipapo`: packet filter sets under a script, and packets looked up in them.
+//! The command `pipapo`: runs scripts of packet filter sets, and looks packets up in them.
 //!
-//! `top_call::call::call` is the program, and its contract says what a run promises (`crates/top_call/specs/Promises.antt`).
-//! No contract covers `main`. Read its twenty lines for what is trusted of it (README.md, "What is trusted"):
+//! `top_call::call::call` is the program, and its contract says what a run promises
+//! (`crates/top_call/specs/Promises.antt`). No contract covers `main`. Read its twenty lines for what is
+//! trusted of it (README.md, "What is trusted"):
 //!
-//! - before it opens a file, each closed standard descriptor gets a stand-in on which every call fails;
-//! - it passes on all words that the system gives but the program's name;
+//! - before it opens a file, it fills each closed standard descriptor with a file on which every call fails;
+//! - it passes on all words that the system gives except the program's name;
 //! - files are the system's, and the name `-` is the standard input;
 //! - output goes to the standard output, and notes for a person go to the standard error;
 //! - progress is shown on the standard error if that is a terminal, and nowhere else;

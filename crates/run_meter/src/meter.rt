@@ -1,4 +1,4 @@
-//! How far a run is, told to a person at a terminal.
+//! How far a run is, shown to a person at a terminal.
 ghost use Rattle.std.specs.Prelude.{◌≡◌, List, ℕ, Option};
 
 use packet_pool::Gate;
@@ -14,9 +14,9 @@ const PAUSE: u64 = 100;
 /// How many packets are answered between two looks at the clock.
 const STEP: u64 = 256;
 
-/// Where a meter's line stands.
+/// The screen that shows a meter's line.
 pub trait Screen {
-    /// Shows bytes. Where that fails they are lost.
+    /// Shows bytes. If that fails they are lost.
     fn show(&self, bytes: &[u8]);
 }
 
@@ -27,20 +27,20 @@ impl Screen for Stderr {
     }
 }
 
-/// A gate that tells how far a run is, at most ten times a second, each text in the place of the one before.
+/// A gate that shows how far a run is, at most ten times a second, each text over the one before.
 #[derive(Drop)]
 pub struct Meter<'a, C: Clock, S: Screen + Drop> {
     alloc: Global,
     clock: &'a C,
-    /// Where the texts stand; none where nobody sees them.
+    /// The screen of the texts; none if nobody sees them.
     screen: Option<S>,
-    /// When the meter was made, where the clock tells that.
+    /// When the meter was made, if there is a clock.
     began: Option<Instant>,
-    /// When the last text was told, in milliseconds from then on.
+    /// When the last text was shown, in milliseconds after `began`.
     told: AtomicU64,
-    /// Whether a text stands: 1, and else 0.
+    /// 1 if a text is on the screen, and 0 otherwise.
     stands: AtomicU64,
-    /// The section's number, and that of the last one, from 0 on.
+    /// The section's number and the last section's number, both from 0 on.
     section: AtomicU64,
     last: AtomicU64,
     /// How many packets the section has, and how many of them are answered.
@@ -49,7 +49,7 @@ pub struct Meter<'a, C: Clock, S: Screen + Drop> {
 }
 
 impl<'a, C: Clock, S: Screen + Drop> Meter<'a, C, S> {
-    /// A meter that tells that files are read. Without a screen it does nothing.
+    /// A meter that shows that files are read. Without a screen it does nothing.
     pub fn new(alloc: Global, clock: &'a C, screen: Option<S>) -> Meter<'a, C, S> {
         if let Some(screen) = &screen {
             screen.show(b"pipapo: reading");
@@ -68,13 +68,13 @@ impl<'a, C: Clock, S: Screen + Drop> Meter<'a, C, S> {
         }
     }
 
-    /// How many milliseconds have passed, where the clock tells that.
+    /// How many milliseconds have passed, if there is a clock.
     fn passed(&self) -> Option<u64> {
         let passed = self.began?.elapsed(self.clock).ok()?;
         u64::try_from(passed.as_millis()).ok()
     }
 
-    /// Whether the last text is old enough for another one, which no other thread tells.
+    /// Whether the last text is old enough for another one, and no other thread is going to show one.
     fn is_due(&self) -> bool {
         let Some(passed) = self.passed() else {
             return false;
@@ -87,11 +87,11 @@ impl<'a, C: Clock, S: Screen + Drop> Meter<'a, C, S> {
                 .is_ok()
     }
 
-    /// How far the run is, as it is told: in the place of what stands. Sections are counted from 1.
+    /// The text of how far the run is, which overwrites the text on the screen. Sections count from 1.
     ///
     /// # Errors
     ///
-    /// `AllocError` if there is no memory for it.
+    /// `AllocError` if memory runs out.
     pub fn text(&self) -> Result<String, AllocError> {
         let section = self.section.load(Ordering::SeqCst).saturating_add(1);
         let last = self.last.load(Ordering::SeqCst).saturating_add(1);
@@ -105,7 +105,7 @@ impl<'a, C: Clock, S: Screen + Drop> Meter<'a, C, S> {
         )
     }
 
-    /// Tells how far the run is, where that is due and there is memory for it.
+    /// Shows how far the run is, if that is due and memory suffices.
     #[cold]
     fn tell(&self, screen: &S) {
         if !self.is_due() {
@@ -117,7 +117,7 @@ impl<'a, C: Clock, S: Screen + Drop> Meter<'a, C, S> {
         }
     }
 
-    /// Takes away the text that stands.
+    /// Clears the text on the screen.
     pub fn finish(&self) {
         if let Some(screen) = &self.screen {
             if self.stands.swap(0, Ordering::SeqCst) == 1 {
@@ -165,7 +165,7 @@ impl<C: Clock + Sync, S: Screen + Sync + Drop> Gate for Meter<'_, C, S> {
     }
 }
 
-/// What takes bytes in the place of a meter's text: before the first of them it takes the text away.
+/// A writer that shares a terminal with a meter. It clears the meter's text before its first byte.
 #[derive(Drop)]
 pub struct InPlace<'a, 'b, T: Drop, C: Clock, S: Screen + Drop> {
     inner: T,
@@ -173,7 +173,7 @@ pub struct InPlace<'a, 'b, T: Drop, C: Clock, S: Screen + Drop> {
 }
 
 impl<'a, 'b, T: Drop, C: Clock, S: Screen + Drop> InPlace<'a, 'b, T, C, S> {
-    /// What hands on to `inner`, in the place of the meter's text.
+    /// Passes bytes on to `inner`, over the meter's text.
     pub fn new(inner: T, meter: &'a Meter<'b, C, S>) -> InPlace<'a, 'b, T, C, S> {
         InPlace { inner, meter }
     }

@@ -1,4 +1,4 @@
--- What a call wrote, by its status, and where nothing failed outside.
+-- What a call wrote, by its status, and if nothing failed outside.
 use Rattle.std.proofs.Common.{◌<◌, ◌≤◌, Bool, true, false, ◌≡◌, ◌≢◌, refl, sym, ◌∙◌, ap, subst, ℕ, ◌==◌, ◌||◌, if◌then◌else◌, List, [], ◌∷◌, ◌++◌, length, Option, Some, None, inl, inr, arith, append-nil}
 use Rattle.std.specs.Prelude.{◌⊎◌}
 use Rattle.std.specs.Io.KnownBytes.{Appends, Keeps}
@@ -42,7 +42,7 @@ use Rattle.top_call.specs.Answers.{Ends, EndsDuly, written, cut, memory, IsDue, 
 use Rattle.top_call.specs.Exactly.{HasScript, HasKeys, HasRules, HasCaptured, Completes, DeliversText, DeliversRun, DeliversJudgement, DeliversDesk, RanOut}
 use Rattle.top_call.proofs.Endings.{done-small, does, Wrote, HasWritten, drilled, page-told}
 
--- The numbers that are a form's status, told apart from the others.
+-- The numbers that are a form's status.
 is_form : ℕ → Bool
 is_form n = (n == 3) || (n == 4) || (n == 9) || (n == 10) || (n == 11)
 
@@ -78,7 +78,7 @@ done-no-form true = refl
 done-no-form false = refl
 
 module _ (c : Call) where
-  -- With status 5 a read fault was told.
+  -- With status 5 the line of a read fault was written.
   file-fault : (d : Command) (fault : FileFault) → StopsAt c.shelf d fault → file_status fault ≡ 5 → Appends c.taken_before c.taken_now (file_line fault) → TellsReadFault c
   unfolding is_form
   file-fault d (files.Bad flaw) s e line = absurd (form-apart (form_of flaw) 5 (sym e) refl)
@@ -106,7 +106,7 @@ module _ (c : Call) where
   pub tells-read-fault : EndsDuly c → c.status ≡ 5 → TellsReadFault c
   tells-read-fault ends e = ends-fault c.status ends e
 
-  -- With the status of a form the line of what is wrong with a file of that form was told.
+  -- With the status of a form the line of what is wrong with a file of that form was written.
   module _ (form : FileForm) where
     file-flaw : (d : Command) (fault : FileFault) → IsCommand c.words d → StopsAt c.shelf d fault → file_status fault ≡ form_status form → Appends c.taken_before c.taken_now (file_line fault) → TellsFlaw form c
     unfolding is_form
@@ -134,7 +134,7 @@ module _ (c : Call) where
     ends-flaw result (cut status text due front rose) e = absurd (form-apart form 6 e refl)
     ends-flaw result (memory due keeps quiet) e = absurd (form-apart form 7 e refl)
 
-  -- With status 12 a desk's script with too many sections was told.
+  -- With status 12 the line of a desk's script with too many sections was written.
   file-no-twelve : (f : FileFault) → file_status f ≡ 12 → ⊥
   file-no-twelve (files.Bad flaw) e = form-no-twelve (form_of flaw) e where
     form-no-twelve : (form : FileForm) → form_status form ≡ 12 → ⊥
@@ -207,7 +207,8 @@ kept-by-nothing (Some xs) (Some ys) h = h ∙ append-nil xs
 abbrev HasFew : (List ℕ → Option (List ℕ)) → Command → Type 0
 HasFew told c = (name : List ℕ) (keep_going : Bool) (s : Script) → c ≡ desk name keep_going → ReadsAs told name (λ text. IsScriptText text s) → most_sections < length s.sections → ⊥
 
--- Where a command's files are all told and of their forms, and nothing failed outside, its output was written, or memory was wanting.
+-- The shelf shows a command's files, they are of their forms, and nothing failed outside. Then the command's output
+-- was written, or memory ran out.
 module _ (words : List (List ℕ)) (shelf : Shelved) (quiet : Rose shelf.faults_before shelf.faults_now → ⊥) (c : Command) (is_c : IsCommand words c) (sets : List SetDecl) (given : AreGiven shelf.told sets (inputs c)) where
   pub file-given : (fault : FileFault) → StopsAt shelf c fault → fault ≡ files.Memory
   file-given (files.Bad flaw) s = absurd (given-refuses shelf.told c s.earlier s.input s.later s.sets sets flaw s.in_order s.read_before.are_of s.cause.2 s.cause.3 (given-front shelf.told sets s.earlier (s.input ∷ s.later) here) (given-one shelf.told sets s.earlier s.input s.later here)) where
@@ -247,7 +248,7 @@ module _ (words : List (List ℕ)) (shelf : Shelved) (quiet : Rose shelf.faults_
       given-done b n result (cut status text due front rose) sink = absurd (sink rose)
       given-done b n result (memory due keeps same) sink = inr (refl, keeps)
 
--- The files of a command with a script alone, and of a run, are told and of their forms.
+-- If a command has a script alone, or is a run, the shelf shows its files and they are of their forms.
 pub given-script : (told : List ℕ → Option (List ℕ)) (name : List ℕ) (s : Script) → HasScript told name s → Has told name (IsOf forms.script s.schema)
 given-script told name s h = record { text = h.text; is_told = h.is_told; fits = h.fits; holds = (s, h.holds, refl) }
 
@@ -260,7 +261,7 @@ given-rules told name s r h = record { text = h.text; is_told = h.is_told; fits 
 abbrev rules-of : List SetDecl → List Chain → Bool → Rules
 rules-of sets chains accept = record { schema = sets; chains = chains; accept = accept }
 
--- A text stands for the same rules over the same sets.
+-- A text is read as the same rules over the same sets.
 one-rules : (s : Script) (text : List ℕ) (a b : Rules) → AreRulesOf s text a → AreRulesOf s text b → a ≡ b
 one-rules s text a b h k =
     let same : (a.chains, a.accept) ≡ (b.chains, b.accept) = rules_single s.schema text (a.chains, a.accept) (b.chains, b.accept) h.is_text k.is_text in
@@ -280,7 +281,7 @@ module _ (c : Call) (ends : EndsDuly c) (quiet : IsQuiet c) where
   pub ended : (d : Command) (sets : List SetDecl) → IsCommand c.words d → AreGiven c.shelf.told sets (inputs d) → HasFew c.shelf.told d → HasWritten c ⊎ RanOut c
   ended d sets is_d given few = given-done c.words c.shelf quiet.shelf d is_d sets given few c.taken_before c.taken_now c.faults_before c.faults_now c.status ends quiet.sink
 
-  -- the transcript of the script and the key file that the texts stand for
+  -- the transcript of the script and the key file in these texts
   same-files : (n : ℕ) (mode : Mode) (script keys_name : List ℕ) (s : Script) (packets : List (List Packet)) (hs : HasScript c.shelf.told script s) (hk : HasKeys c.shelf.told keys_name s packets) (w : HasWritten c)
       → IsTranscript hs.text hk.text n mode w.refused w.text → DeliversRun n mode s packets c
   same-files n mode script keys_name s packets hs hk w t =
@@ -319,7 +320,7 @@ module _ (c : Call) (ends : EndsDuly c) (quiet : IsQuiet c) where
       let is_text : w.text ≡ transcript_text mode s (taken ∷ []) t.lines = t.text ∙ ap (λ (x : Script). transcript_text mode x (t.packets ∷ []) t.lines) one ∙ ap (λ (k : List Packet). transcript_text mode s (k ∷ []) t.lines) other in
       record { lines = t.lines; legal = is_legal; delivers = record { written = subst (λ (o : List ℕ). Appends c.taken_before c.taken_now o) is_text w.appends; status = w.status ∙ ap done_status (t.refusal ∙ ap (has_refusal mode) one) } }
 
-  -- a text of the script that a text stands for
+  -- a text of the script that was read
   same-script : (text : Mode → Script → List ℕ) (mode : Mode) (script : List ℕ) (s : Script) (hs : HasScript c.shelf.told script s) (w : HasWritten c) → IsTextOf text hs.text mode w.refused w.text → DeliversText mode s (text mode s) c
   same-script text mode script s hs w t =
       let one : t.script ≡ s = script_single hs.text t.script s t.script_is hs.holds in

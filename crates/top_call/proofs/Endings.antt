@@ -22,7 +22,7 @@ use Rattle.top_call.specs.Causes.{IsCause, no_command, of_file, too_many, no_mem
 use Rattle.top_call.specs.Lines.{done_status, form_status, file_status, status_of, fault_line}
 use Rattle.top_call.specs.Answers.{Ends, EndsDuly, written, cut, memory, IsDue, output, page, refusal, IsExactly, HasOutput, IsComplete, Writes, Transcribes, Judges, Captures, Lists, Dumps, Weaves, Drills, Delivers, TellsPage}
 
--- the status of an output is 0 or 1, and that of a fault greater
+-- an output's status is 0 or 1, and a fault's status is greater
 pub done-small : (refused : Bool) → done_status refused ≤ 1
 done-small true = omega arith
 done-small false = omega arith
@@ -78,7 +78,7 @@ module _ (words : List (List ℕ)) (shelf : Shelved) (taken_before taken_now : O
   wrote b n result (cut status text due front rose) e none = absurd (not-done 6 (omega arith) e)
   wrote b n result (memory due keeps quiet) e none = absurd (not-done 7 (omega arith) e)
 
--- Of words that ask for a page, the page is due and nothing else.
+-- If the words ask for a page, the page is due and nothing else.
 module _ (words : List (List ℕ)) (shelf : Shelved) (p : Page) (asks : AsksFor words p) where
   no-cause : (fault : Fault) → IsCause words shelf fault → ⊥
   no-cause fault (no_command none nothing same) = none.no_page p asks
@@ -91,7 +91,7 @@ module _ (words : List (List ℕ)) (shelf : Shelved) (p : Page) (asks : AsksFor 
   due-page status text (page q asks_other nothing quiet) = (refl, ap page_text (one-page words q p asks_other asks))
   due-page status text (refusal fault cause) = absurd (no-cause fault cause)
 
-  -- Where nothing failed outside the page is written: memory isn't wanting for it.
+  -- If nothing failed outside the page is written: memory can't run out for it.
   pub page-ends : (taken_before taken_now : Option (List ℕ)) (b n result : ℕ) → Ends (IsDue words shelf) taken_before taken_now b n result → (result ≡ 6 → ⊥) → (result ≡ 0) × Appends taken_before taken_now (page_text p)
   page-ends taken_before taken_now b n result (written status text due appends quiet) not_six = let d = due-page status text due in (d.0, subst (λ (t : List ℕ). Appends taken_before taken_now t) d.1 appends)
   page-ends taken_before taken_now b n result (cut status text due front rose) not_six = absurd (not_six refl)
@@ -156,7 +156,7 @@ module _ (c : Call) where
   pub tells-page : EndsDuly c → IsComplete c.status → TellsPage c
   tells-page ends e = paged ends (λ k. not-done c.status (rw k (omega arith)) e)
 
-  -- Where the sink's count didn't rise, the page was written in any case.
+  -- If the sink's count didn't rise, the page was written in any case.
   pub page-told : EndsDuly c → (Rose c.faults_before c.faults_now → ⊥) → TellsPage c
   page-told ends quiet = paged ends (not-cut c.status ends) where
     not-cut : (result : ℕ) → Ends (IsDue c.words c.shelf) c.taken_before c.taken_now c.faults_before c.faults_now result → result ≡ 6 → ⊥

@@ -1,4 +1,4 @@
--- Each status comes exactly where its cause is there.
+-- Each status comes exactly if its cause is there.
 use Rattle.std.specs.Borrow.{Bor}
 use Rattle.std.proofs.Common.{Bool, false, ap, sym, ◌≡◌, ◌≤◌, ◌<◌, ◌∙◌, refl, subst, ℕ, List, [], ◌∷◌, ◌++◌, length, Option, Some, inl, inr, arith}
 use Rattle.std.specs.Prelude.{◌⊎◌}
@@ -33,10 +33,10 @@ use Rattle.top_call.proofs.Noting.{no-note}
 use Rattle.top_call.proofs.Endings.{does, page-told, transcribes, judges, captures, lists, dumps, weaves, drills, tells-page}
 use Rattle.top_call.proofs.Completed.{completes, file-given, given-script, tells-read-fault, tells-flaw, tells-too-many, shelf-moved, sink-moved}
 
--- A file that came to its turn, and is told.
+-- A file came to its turn, and the shelf shows its text.
 module _ (shelf : Shelved) (quiet : Rose shelf.faults_before shelf.faults_now → ⊥) (c : Command) (earlier later : List Input) (i : Input) (sets : List SetDecl) (text : List ℕ)
     (in_order : inputs c ≡ earlier ++ i ∷ later) (given : AreGiven shelf.told sets earlier) (is_told : shelf.told i.name ≡ Some text) where
-  -- where another file, in its turn, can't be had
+  -- if another file, in its turn, can't be had
   turns-of : (fault : FileFault) (s : StopsAt shelf c fault) → Turns s.earlier s.input earlier i
   turns-of fault s = two-turns s.earlier s.input s.later earlier i later (sym s.in_order ∙ in_order)
 
@@ -117,7 +117,7 @@ module _ (words : List (List ℕ)) (shelf : Shelved) (c : Command) (is_c : IsCom
   ends-status taken_before taken_now b n result (cut r text due front rose) sink = absurd (sink rose)
   ends-status taken_before taken_now b n result (memory due keeps quiet) sink = inr refl
 
--- Words of a desk whose script has too many sections have the line of that.
+-- If the words are a desk whose script has too many sections, its line is written.
 module _ (words : List (List ℕ)) (shelf : Shelved) (quiet : Rose shelf.faults_before shelf.faults_now → ⊥) (script : List ℕ) (keep_going : Bool) (s : Script) (is_desk : IsCommand words (desk script keep_going)) (hs : HasScript shelf.told script s) (many : most_sections < length s.sections) where
   cause-many : (fault : Fault) → IsCause words shelf fault → (status_of fault ≡ 12) ⊎ (status_of fault ≡ 7)
   cause-many Usage (no_command none nothing still) = absurd (none.no_work (desk script keep_going) is_desk)
@@ -143,7 +143,7 @@ module _ (words : List (List ℕ)) (shelf : Shelved) (quiet : Rose shelf.faults_
   ends-many taken_before taken_now b n result (cut r text due front rose) sink = absurd (sink rose)
   ends-many taken_before taken_now b n result (memory due keeps still) sink = inr refl
 
--- Words that are no command have the usage line.
+-- If the words are no command, the usage line is written.
 module _ (words : List (List ℕ)) (shelf : Shelved) (none : IsNoCommand words) where
   cause-usage : (fault : Fault) → IsCause words shelf fault → status_of fault ≡ 2
   cause-usage Usage (no_command other nothing quiet) = refl

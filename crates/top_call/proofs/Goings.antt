@@ -85,7 +85,7 @@ module _ (c : Call) where
       goes-fault (faults.TooManyClerks name) (too_many name h) (asks-files c.words c.shelf (desk name.now h.keep_going) h.is_desk h.has_read) ends
       (sections-noted c name.now h (ended-of (status_of (faults.TooManyClerks name)) (fault_line (faults.TooManyClerks name)) c.taken_before c.taken_now c.faults_before c.faults_now c.status ends) mid silent tells)
 
-  -- memory was wanting for the words, or for the output
+  -- memory ran out for the words, or for the output
   pub goes-early : (d : Command) → IsCommand c.words d → c.shelf.asked ≡ [] → c.shelf.faults_now ≡ c.shelf.faults_before → Silent → EndsWith (status_of faults.Memory) (fault_line faults.Memory) → Goes c
   goes-early d is_d nothing quiet silent ends = goes-fault faults.Memory (no_memory d is_d (inl nothing) quiet) (asks-nothing c.words c.shelf nothing) ends (no_note silent)
 

@@ -1,4 +1,4 @@
--- What a person is told of a call.
+-- The note for a person beside a call's output.
 use Rattle.std.proofs.Common.{◌≡◌, ◌≤◌, refl, subst, ℕ, Bool, true, List, Option, inl, inr, arith}
 use Rattle.command_words.specs.Words.{Command, IsCommand}
 use Rattle.fault_notes.specs.Shown.{Begins, name_text}
@@ -30,23 +30,23 @@ due-above words shelf status text (on_sections name t has is ended) e = ended-ab
 due-above words shelf status text (on_changes output t has ended) e = ended-above 1 status (omega arith) ended e
 
 module _ (c : Call) where
-  -- With status 0 nothing was told.
+  -- With status 0 no note was written.
   pub no-note : IsNoted c → c.status ≡ 0 → c.noted_now ≡ c.noted_before
   no-note (nothing same) e = same
   no-note (note text quiet due told) e = absurd (due-above c.words c.shelf c.status text due e)
 
-  -- What was told of a file that can't be had is due.
+  -- The note on a file that can't be had is due.
   pub file-noted : (d : Command) (fault : FileFault) → IsCommand c.words d → StopsTelling c.shelf d c.noted_before c.noted_now fault → Ended (file_status fault) c.status → IsNoted c
   file-noted d fault is_d s ended =
       tells-as (IsNoteOn c.shelf.told s.stops.sets s.stops.input.name fault) (IsDueNote c.words c.shelf c.status) c.noted_before c.noted_now (λ text is. on_file d fault s.stops text is_d is ended) s.noted
 
-  -- What was told of a desk's script with too many sections is due.
+  -- The note on a desk's script with too many sections is due.
   pub sections-noted : (name : List ℕ) → HasManySections c.words c.shelf name → Ended 12 c.status → (mid : Option (List ℕ)) → mid ≡ c.noted_before → MayTell (Begins (name_text name)) mid c.noted_now → IsNoted c
   sections-noted name has ended mid silent tells =
       subst (λ (b : Option (List ℕ)). MayTell (IsDueNote c.words c.shelf c.status) b c.noted_now) silent
       (tells-as (Begins (name_text name)) (IsDueNote c.words c.shelf c.status) mid c.noted_now (λ text is. on_sections name text has is ended) tells)
 
-  -- What was told of refused changes is due.
+  -- The note on refused changes is due.
   pub changes-noted : (refused : Bool) (output : List ℕ) → HasOutput c.words c.shelf refused output → Ended (done_status refused) c.status → (mid : Option (List ℕ)) → mid ≡ c.noted_before → MayTell (λ (_ : List ℕ). refused ≡ true) mid c.noted_now → IsNoted c
   changes-noted refused output has ended mid silent tells =
       subst (λ (b : Option (List ℕ)). MayTell (IsDueNote c.words c.shelf c.status) b c.noted_now) silent

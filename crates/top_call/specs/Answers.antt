@@ -1,4 +1,4 @@
--- How a call ends: the status, what was written, and the counts of faults; and what that says of each command.
+-- How a call ends: the status, what the sink took, and the counts of faults. What this means for each command.
 use Rattle.std.specs.Prelude.{Bool, ◌≡◌, ◌⊎◌, ℕ, List, [], ◌∷◌, ◌++◌, Option, Some}
 use Rattle.std.specs.Io.KnownBytes.{Appends, Keeps}
 use Rattle.pip_base.specs.Causes.{Rose}
@@ -18,16 +18,16 @@ use Rattle.top_call.specs.Calls.{Call}
 use Rattle.top_call.specs.Causes.{IsCause, HasManySections}
 use Rattle.top_call.specs.Lines.{done_status, status_of, fault_line, flaw_line, read_fault_line, too_many_line}
 
--- The command of the words has this output: all its files were asked for and read, no fault was counted, and this is what the
--- command does.
+-- The command of these words has this output: all its files were asked for and read, no fault was counted, and this
+-- is what the command does.
 pub record HasOutput (words : List (List ℕ)) (shelf : Shelved) (refused : Bool) (text : List ℕ) : Type 0 where
   pub command : Command
   pub is_command : IsCommand words command
   pub has_read : HasRead shelf command
   pub is_output : IsOutput command shelf.told refused text
 
--- The status and text that are due: the output of a command with 0 or 1; a page with 0, where the words ask for it and no file was
--- asked for; or a fault's status and line where the fault has its cause.
+-- The status and text that are due. A command's output has 0 or 1. A page has 0, if the words ask for it and no file
+-- was asked for. A fault has its own status and line, if its cause is there.
 pub data IsDue (words : List (List ℕ)) (shelf : Shelved) : ℕ → List ℕ → Type 0 where
   output : (refused : Bool) (text : List ℕ) → HasOutput words shelf refused text → IsDue words shelf (done_status refused) text
   page : (p : Page) → AsksFor words p → shelf.asked ≡ [] → shelf.faults_now ≡ shelf.faults_before → IsDue words shelf 0 (page_text p)
@@ -37,8 +37,8 @@ pub data IsDue (words : List (List ℕ)) (shelf : Shelved) : ℕ → List ℕ �
 abbrev pub IsExactly : ℕ → List ℕ → ℕ → List ℕ → Type 0
 IsExactly status text other_status other_text = (other_status ≡ status) × (other_text ≡ text)
 
--- A call ends by its status: the text that is due was written whole; or the sink failed, and a front of it was written; or memory
--- was wanting, and nothing was written.
+-- A call ends by its status: the text that is due was written whole; or the sink failed after a front of it; or
+-- memory ran out, and nothing was written.
 pub data Ends (due : ℕ → List ℕ → Type 0) (taken_before taken_now : Option (List ℕ)) (before now : ℕ) : ℕ → Type 0 where
   written : (status : ℕ) (text : List ℕ) → due status text → Appends taken_before taken_now text → now ≡ before → Ends due taken_before taken_now before now status
   cut : (status : ℕ) (text : List ℕ) → due status text → AppendsFront taken_before taken_now text → Rose before now → Ends due taken_before taken_now before now 6
@@ -52,16 +52,16 @@ EndsDuly c = Ends (IsDue c.words c.shelf) c.taken_before c.taken_now c.faults_be
 abbrev pub IsComplete : ℕ → Type 0
 IsComplete result = (result ≡ 0) ⊎ (result ≡ 1)
 
--- What the sink took in a call is an output of which this holds, where the sink tells what it took; the status is 1 exactly where
--- the output tells a refusal.
+-- What the sink took in a call is an output with this property, if the sink shows what it took. The status is 1
+-- exactly if the output reports a refusal.
 abbrev pub Writes : (Bool → List ℕ → Type 0) → Call → Type 0
 Writes IsText c =
     (before now : List ℕ) → c.taken_before ≡ Some before → c.taken_now ≡ Some now
     → (refused : Bool) × (output : List ℕ) × (c.status ≡ done_status refused) × (now ≡ before ++ output) × IsText refused output
 
--- The headline, of a call that ended with status 0 or 1: where the words are a run and the shelf tells the bytes under both
--- names, what the sink took in this call is the text of a legal transcript of the script and the key file, with as many packet
--- threads as the words say. The status is 1 exactly where a change is refused.
+-- The headline, of a call that ended with status 0 or 1. The words are a run, and the shelf shows the bytes under
+-- both names. Then the sink took the text of a legal transcript of the script and the key file, with as many packet
+-- threads as the words say. The status is 1 exactly if a change is refused.
 abbrev pub Transcribes : Call → Type 0
 Transcribes c =
     (script keys script_text keys_text : List ℕ) (threads : ℕ) (keep_going : Bool) → IsRunCommand c.words script keys threads keep_going → c.shelf.told script ≡ Some script_text → c.shelf.told keys ≡ Some keys_text
@@ -74,23 +74,23 @@ Judges c =
     → c.shelf.told script ≡ Some script_text → c.shelf.told rules ≡ Some rules_text → c.shelf.told keys ≡ Some keys_text
     → Writes (IsJudgement script_text rules_text keys_text threads (mode_of keep_going)) c
 
--- The same of a capture's packets, which the plan takes from it.
+-- The same of a capture's packets, which the plan takes from the capture.
 abbrev pub Captures : Call → Type 0
 Captures c =
     (script plan packets script_text plan_text capture_text : List ℕ) (threads : ℕ) (keep_going : Bool) → IsCaptureCommand c.words script plan packets threads keep_going
     → c.shelf.told script ≡ Some script_text → c.shelf.told plan ≡ Some plan_text → c.shelf.told packets ≡ Some capture_text
     → Writes (IsCaptured script_text plan_text capture_text threads (mode_of keep_going)) c
 
--- The same of a listing: what the sink took in this call is the listing of the script, behind what its control told.
+-- The same of a listing: the sink took what the script's control reported, and then the listing of the script.
 abbrev pub Lists : Call → Type 0
 Lists c = (script script_text : List ℕ) (keep_going : Bool) → IsListCommand c.words script keep_going → c.shelf.told script ≡ Some script_text → Writes (IsListing script_text (mode_of keep_going)) c
 
--- The same of a dump: the tables of the script's sets, behind what its control told.
+-- The same of a dump: the sink took what the script's control reported, and then the tables of the script's sets.
 abbrev pub Dumps : Call → Type 0
 Dumps c = (script script_text : List ℕ) (keep_going : Bool) → IsDumpCommand c.words script keep_going → c.shelf.told script ≡ Some script_text → Writes (IsTables script_text (mode_of keep_going)) c
 
--- The same of a desk: what the sink took in this call is what the script's first section told, what each transaction of the other
--- sections' control threads told, in the order in which they were done, and the last generation of these.
+-- The same of a desk. The sink took the reports of the script's first section. The reports of each transaction of the
+-- other sections' control threads follow, in the order of the transactions, and then their last generation.
 abbrev pub Weaves : Call → Type 0
 Weaves c = (script script_text : List ℕ) (keep_going : Bool) → IsDeskCommand c.words script keep_going → c.shelf.told script ≡ Some script_text → Writes (IsWovenOf script_text keep_going) c
 
@@ -99,15 +99,15 @@ pub record Delivers (text : List ℕ) (c : Call) : Type 0 where
   pub written : Appends c.taken_before c.taken_now text
   pub status : c.status ≡ 0
 
--- The same of a drill, with any number of packet threads: what the sink took is the drill's line, and the status is 0.
+-- The same of a drill, with any number of packet threads: the sink took the drill's line, and the status is 0.
 abbrev pub Drills : Call → Type 0
 Drills c = (seed count threads : ℕ) → IsDrillCommand c.words seed count threads → Delivers (drill_text seed count) c
 
--- The same of a page: what the sink took is the page that the words ask for, and the status is 0.
+-- The same of a page: the sink took the page that the words ask for, and the status is 0.
 abbrev pub TellsPage : Call → Type 0
 TellsPage c = (p : Page) → AsksFor c.words p → Delivers (page_text p) c
 
--- A read fault was told: the line names the last name that was asked for, and the shelf's count rose.
+-- A read fault was reported: the line names the last name that was asked for, and the shelf's count rose.
 pub record TellsReadFault (c : Call) : Type 0 where
   pub front : List (List ℕ)
   pub name : List ℕ
@@ -115,7 +115,7 @@ pub record TellsReadFault (c : Call) : Type 0 where
   pub rose : Rose c.shelf.faults_before c.shelf.faults_now
   pub line : Appends c.taken_before c.taken_now (read_fault_line name)
 
--- What is wrong with a file of this form was told, which came to its turn.
+-- The line of a file of this form was written: the file came to its turn, and isn't of its form.
 pub record TellsFlaw (form : FileForm) (c : Call) : Type 0 where
   pub command : Command
   pub flaw : Flaw
@@ -124,7 +124,7 @@ pub record TellsFlaw (form : FileForm) (c : Call) : Type 0 where
   pub of_form : form_of flaw ≡ form
   pub written : Appends c.taken_before c.taken_now (flaw_line flaw)
 
--- That a desk's script has too many sections was told by its name.
+-- The line of a desk's script with too many sections was written, with the script's name.
 pub record TellsTooMany (c : Call) : Type 0 where
   pub name : List ℕ
   pub has_many : HasManySections c.words c.shelf name

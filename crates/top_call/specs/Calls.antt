@@ -3,8 +3,8 @@ use Rattle.std.specs.Prelude.{ℕ, List, Option}
 use Rattle.pip_base.specs.Causes.{Rose}
 use Rattle.input_files.specs.Reads.{Shelved}
 
--- The words; what the shelf shows; what the sink took, where it tells that, and how often it failed, before the call and behind it;
--- what a person was told before and behind it, where the notes tell that; and the status.
+-- The words; what the shelf shows; what the sink took and how often it failed, before and after the call; the notes
+-- before and after the call; and the status. A sink or notes may show nothing of what they took.
 pub record Call : Type 1 where
   pub words : List (List ℕ)
   pub shelf : Shelved
@@ -16,7 +16,7 @@ pub record Call : Type 1 where
   pub noted_now : Option (List ℕ)
   pub status : ℕ
 
--- Nothing failed outside: neither the shelf's count of faults rose nor the sink's.
+-- Nothing failed outside: neither the shelf's count of faults nor the sink's rose.
 pub record IsQuiet (c : Call) : Type 0 where
   pub shelf : Rose c.shelf.faults_before c.shelf.faults_now → ⊥
   pub sink : Rose c.faults_before c.faults_now → ⊥

@@ -11,7 +11,7 @@ use Rattle.top_call.specs.declared.fault.Fault.{Fault}
 use Rattle.top_call.specs.declared.fault.Fault.TheVariants.{Usage, File, TooManyClerks, Memory}
 use Rattle.top_call.specs.Transcript.{most_sections}
 
--- The words are a desk of a script that was read, and has more sections than there may be.
+-- The words are a desk. Its script was read, and has more sections than a desk may have.
 pub record HasManySections (words : List (List ℕ)) (shelf : Shelved) (name : List ℕ) : Type 0 where
   pub keep_going : Bool
   pub script : Script
@@ -20,8 +20,9 @@ pub record HasManySections (words : List (List ℕ)) (shelf : Shelved) (name : L
   pub reads : ReadsAs shelf.told name (λ text. IsScriptText text script)
   pub many : most_sections < length script.sections
 
--- A fault has its cause: the words are no command, and nothing was asked for; or one of the command's files can't be had, in its
--- turn; or a desk's script has too many sections; or memory was wanting, before the first file or behind the last.
+-- The cause of a fault: the words are no command, and no file was asked for; or one of the command's files can't be
+-- had, in its turn; or a desk's script has too many sections; or memory ran out, before the first file or after the
+-- last.
 pub data IsCause (words : List (List ℕ)) (shelf : Shelved) : Fault → Type 0 where
   no_command : IsNoCommand words → shelf.asked ≡ [] → shelf.faults_now ≡ shelf.faults_before → IsCause words shelf Usage
   of_file : (c : Command) (fault : FileFault) → IsCommand words c → StopsAt shelf c fault → IsCause words shelf (File fault)

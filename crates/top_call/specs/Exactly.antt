@@ -1,4 +1,5 @@
--- The status of a call in which nothing failed outside, and what it wrote, by the words and by the bytes that the shelf tells.
+-- The status of a call in which nothing failed outside, and what it wrote, by the words and the bytes that the shelf
+-- shows.
 use Rattle.std.specs.Prelude.{Bool, ◌≡◌, ◌≤◌, ◌<◌, ◌⊎◌, ℕ, List, [], ◌∷◌, ◌++◌, length, Option, Some}
 use Rattle.std.specs.Io.KnownBytes.{Appends, Keeps}
 use Rattle.set_model.specs.declared.script.Script.{Script}
@@ -31,19 +32,20 @@ use Rattle.top_call.specs.Calls.{Call}
 use Rattle.top_call.specs.Lines.{done_status, form_status}
 use Rattle.top_call.specs.Answers.{Delivers, TellsPage}
 
--- A file's bytes, within their size, stand for this script.
+-- A file's bytes, within their size, are read as this script.
 abbrev pub HasScript : (List ℕ → Option (List ℕ)) → List ℕ → Script → Type 0
 HasScript told name s = Has told name (λ text. IsScriptText text s)
 
--- A file's bytes, within their size, stand for these packets under the sets of a script.
+-- A file's bytes, within their size, are read as these packets under the sets of a script.
 abbrev pub HasKeys : (List ℕ → Option (List ℕ)) → List ℕ → Script → List (List Packet) → Type 0
 HasKeys told name s keys = Has told name (λ text. IsKeysText s.schema text keys)
 
--- A file's bytes, within their size, stand for these rules over the sets of a script.
+-- A file's bytes, within their size, are read as these rules over the sets of a script.
 abbrev pub HasRules : (List ℕ → Option (List ℕ)) → List ℕ → Script → Rules → Type 0
 HasRules told name s rules = Has told name (λ text. AreRulesOf s text rules)
 
--- The bytes of two files, within their size, are a plan under the sets of a script, and a capture of which the plan makes these packets.
+-- The bytes of two files, within their size, are a plan under the sets of a script, and a capture. The plan makes
+-- these packets of the capture.
 pub record HasCaptured (told : List ℕ → Option (List ℕ)) (plan_name capture_name : List ℕ) (s : Script) (packets : List Packet) : Type 0 where
   pub lines : List PlanLine
   pub frames : List Frame
@@ -51,11 +53,12 @@ pub record HasCaptured (told : List ℕ → Option (List ℕ)) (plan_name captur
   pub capture : Has told capture_name (λ text. IsCapture text frames)
   pub made : packets ≡ planned_packets lines frames
 
--- A call has this status, or memory was wanting.
+-- A call has this status, or memory ran out.
 abbrev pub IsStatus : ℕ → Call → Type 0
 IsStatus status c = (c.status ≡ status) ⊎ (c.status ≡ 7)
 
--- A file came to its turn, and the shelf tells its text: the command's files before it are told and of their forms.
+-- A file came to its turn, and the shelf shows its text. The shelf also shows the files before it, and these are of
+-- their forms.
 pub record HasTurn (c : Call) (earlier : List Input) (i : Input) (text : List ℕ) : Type 0 where
   pub command : Command
   pub later : List Input
@@ -65,7 +68,8 @@ pub record HasTurn (c : Call) (earlier : List Input) (i : Input) (text : List �
   pub given : AreGiven c.shelf.told sets earlier
   pub is_told : c.shelf.told i.name ≡ Some text
 
--- Each status comes exactly where its cause is there, in the order of the tests: the words, the files in their turns, the work.
+-- Each status comes exactly if its cause is there, in the order of the tests: the words, the files in their turns,
+-- the work.
 pub record IsExact (c : Call) : Type 0 where
   pub usage : IsNoCommand c.words → c.status ≡ 2
   pub large : (earlier : List Input) (i : Input) (text : List ℕ) → HasTurn c earlier i text → size_limit < length text → IsStatus 8 c
@@ -84,28 +88,29 @@ pub record IsExact (c : Call) : Type 0 where
   pub done_drill : (seed count threads : ℕ) → IsDrillCommand c.words seed count threads → IsStatus 0 c
   pub done_page : (p : Page) → AsksFor c.words p → c.status ≡ 0
 
--- This text of a script was written whole; the status is 1 where a change is refused, and else 0.
+-- This text of a script was written whole. The status is 1 if a change is refused, and 0 otherwise.
 pub record DeliversText (mode : Mode) (s : Script) (text : List ℕ) (c : Call) : Type 0 where
   pub written : Appends c.taken_before c.taken_now text
   pub status : c.status ≡ done_status (has_refusal mode s)
 
--- Memory was wanting, and nothing was written.
+-- Memory ran out, and nothing was written.
 abbrev pub RanOut : Call → Type 0
 RanOut c = (c.status ≡ 7) × Keeps c.taken_before c.taken_now
 
--- The transcript of a script and a key file, with so many threads, was written.
+-- The transcript of a script and a key file was written, with so many threads.
 pub record DeliversRun (threads : ℕ) (mode : Mode) (s : Script) (keys : List (List Packet)) (c : Call) : Type 0 where
   pub lines : List Line
   pub legal : Legal s keys threads mode lines
   pub delivers : DeliversText mode s (transcript_text mode s keys lines) c
 
--- What chains decide on the packets of a key file, beside a script, with so many threads, was written.
+-- The transcript of a script and a key file was written, with so many threads, and the chains' verdict on each
+-- packet.
 pub record DeliversJudgement (threads : ℕ) (mode : Mode) (s : Script) (rules : Rules) (keys : List (List Packet)) (c : Call) : Type 0 where
   pub lines : List Line
   pub legal : AreLegal (IsJudged rules) s keys threads mode lines
   pub delivers : DeliversText mode s (run_text (judged_text rules) mode s keys lines) c
 
--- The text of a desk was written; the status is 1 where it tells a refusal, and else 0.
+-- The text of a desk was written. The status is 1 if the text reports a refusal, and 0 otherwise.
 pub record DeliversDesk (s : Script) (keep_going : Bool) (c : Call) : Type 0 where
   pub refused : Bool
   pub text : List ℕ
@@ -113,8 +118,8 @@ pub record DeliversDesk (s : Script) (keep_going : Bool) (c : Call) : Type 0 whe
   pub written : Appends c.taken_before c.taken_now text
   pub status : c.status ≡ done_status refused
 
--- Where the words are a command, and its files are within their size and of their forms, the output of exactly these was written; or
--- memory was wanting, and nothing was written. A drill has no files. A page is written in any case.
+-- The words are a command, and its files are within their size and of their forms. Then the output of exactly these
+-- files was written; or memory ran out, and nothing was written. A drill has no files. A page is written in any case.
 pub record Completes (c : Call) : Type 0 where
   pub run : (script keys : List ℕ) (threads : ℕ) (keep_going : Bool) (s : Script) (packets : List (List Packet)) → IsRunCommand c.words script keys threads keep_going → HasScript c.shelf.told script s → HasKeys c.shelf.told keys s packets
       → DeliversRun threads (mode_of keep_going) s packets c ⊎ RanOut c

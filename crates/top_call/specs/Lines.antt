@@ -12,7 +12,7 @@ use Rattle.input_files.specs.Inputs.{FileForm, script, keys, rules, plan, captur
 use Rattle.top_call.specs.declared.fault.Fault.{Fault}
 use Rattle.top_call.specs.declared.fault.Fault.TheVariants.{Usage, File, TooManyClerks, Memory}
 
--- the status of an output: 1 where it tells a refusal, and else 0
+-- the status of an output: 1 if it reports a refusal, and 0 otherwise
 abbrev pub done_status : Bool → ℕ
 done_status true = 1
 done_status false = 0
@@ -59,11 +59,11 @@ reason_text reasons.Set = codes "set"
 reason_text reasons.Number = codes "number"
 reason_text reasons.Statement = codes "statement"
 
--- what stands behind the number of a bad token's line
+-- what follows the line number of a bad token: the reason
 abbrev pub reason_end : Reason → List ℕ
 reason_end reason = codes ": " ++ reason_text reason ++ codes "\n"
 
--- a line that names the line of a bad token and the reason
+-- a line with the line number of a bad token, and the reason
 abbrev pub placed_line : List ℕ → ℕ → Reason → List ℕ
 placed_line front line reason = (front ++ decimal line) ++ reason_end reason
 
@@ -74,7 +74,7 @@ capture_reason_text capture_reasons.Cut = codes "cut"
 capture_reason_text capture_reasons.Version = codes "version"
 capture_reason_text capture_reasons.LinkType = codes "link type"
 
--- what stands behind the number of a capture's byte
+-- what follows the number of a capture's byte: the reason
 abbrev pub capture_end : CaptureReason → List ℕ
 capture_end reason = codes ": " ++ capture_reason_text reason ++ codes "\n"
 
@@ -96,7 +96,7 @@ too_large_line = named_line (codes "pipapo: too large: ")
 abbrev pub too_many_line : List ℕ → List ℕ
 too_many_line = named_line (codes "pipapo: too many clerks: ")
 
--- the line of a file that can't be had; want of memory has none
+-- the line of a file that can't be had; there is none if memory ran out
 abbrev pub file_line : FileFault → List ℕ
 file_line (files.Bad flaw) = flaw_line flaw
 file_line (files.ReadFault name) = read_fault_line name.now

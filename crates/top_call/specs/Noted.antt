@@ -1,4 +1,4 @@
--- What a person is told beside a call's output.
+-- The note for a person beside a call's output.
 use Rattle.std.specs.Prelude.{◌≡◌, ◌⊎◌, ℕ, true, List}
 use Rattle.command_words.specs.Words.{Command, IsCommand}
 use Rattle.fault_notes.specs.Shown.{Begins, name_text}
@@ -15,14 +15,14 @@ use Rattle.top_call.specs.Answers.{HasOutput}
 abbrev pub Ended : ℕ → ℕ → Type 0
 Ended due status = (status ≡ due) ⊎ (status ≡ 6)
 
--- The notes that are due: one that begins with the name of a file which can't be had, in its turn, and the place of what is wrong with
--- its text; or one that begins with the name of a desk's script which has too many sections; or one on the changes that an output
--- tells to be refused.
+-- The notes that are due. One begins with the name of a file that can't be had, in its turn, and the place of what is
+-- wrong with its text. One begins with the name of a desk's script that has too many sections. One is on the refused
+-- changes that an output reports.
 pub data IsDueNote (words : List (List ℕ)) (shelf : Shelved) (status : ℕ) : List ℕ → Type 0 where
   on_file : (c : Command) (fault : FileFault) (stops : StopsAt shelf c fault) (text : List ℕ) → IsCommand words c → IsNoteOn shelf.told stops.sets stops.input.name fault text → Ended (file_status fault) status → IsDueNote words shelf status text
   on_sections : (name text : List ℕ) → HasManySections words shelf name → Begins (name_text name) text → Ended 12 status → IsDueNote words shelf status text
   on_changes : (output text : List ℕ) → HasOutput words shelf true output → Ended 1 status → IsDueNote words shelf status text
 
--- A person was told nothing in a call, or one note that is due.
+-- A call writes no note, or one note that is due.
 abbrev pub IsNoted : Call → Type 0
 IsNoted c = MayTell (IsDueNote c.words c.shelf c.status) c.noted_before c.noted_now

@@ -22,13 +22,13 @@ use Rattle.command_words.specs.Words.{Command, run, list, dump, drill, judge, ca
 use Rattle.input_files.specs.declared.work.Work.{Work}
 use Rattle.input_files.specs.declared.work.Work.TheVariants as works
 
--- A text stands for these rules over the sets of a script.
+-- A text is read as these rules over the sets of a script.
 pub record AreRulesOf (script : Script) (text : List ℕ) (rules : Rules) : Type 0 where
   pub over : rules.schema ≡ script.schema
   pub is_text : IsRulesText script.schema text (rules.chains, rules.accept)
 
--- The output is the text of a legal transcript, with so many threads, of the script and the key file that the texts stand for. It
--- tells a refusal exactly where a change of the script is refused.
+-- The output is the text of a legal transcript, with so many threads, of the script and the key file in these texts.
+-- It reports a refusal exactly if a change of the script is refused.
 pub record IsTranscript (script_text keys_text : List ℕ) (threads : ℕ) (mode : Mode) (refused : Bool) (output : List ℕ) : Type 0 where
   pub script : Script
   pub keys : List (List Packet)
@@ -50,7 +50,8 @@ pub record IsCaptured (script_text plan_text capture_text : List ℕ) (threads :
   pub text : output ≡ transcript_text mode script (packets ∷ []) lines
   pub refusal : refused ≡ has_refusal mode script
 
--- The same of a rules file: what becomes of a packet is what its chains decide by the sets of one generation, in place of a lookup.
+-- The same of a rules file: its chains decide on each packet by the sets of one generation. A decision takes the
+-- place of a lookup.
 pub record IsJudgement (script_text rules_text keys_text : List ℕ) (threads : ℕ) (mode : Mode) (refused : Bool) (output : List ℕ) : Type 0 where
   pub script : Script
   pub rules : Rules
@@ -63,7 +64,7 @@ pub record IsJudgement (script_text rules_text keys_text : List ℕ) (threads : 
   pub text : output ≡ run_text (judged_text rules) mode script keys lines
   pub refusal : refused ≡ has_refusal mode script
 
--- The output is this text of the script that a text stands for. It tells a refusal exactly where a change of the script is
+-- The output is this text of the script that was read. It reports a refusal exactly if a change of the script is
 -- refused.
 pub record IsTextOf (text : Mode → Script → List ℕ) (script_text : List ℕ) (mode : Mode) (refused : Bool) (output : List ℕ) : Type 0 where
   pub script : Script
@@ -82,15 +83,15 @@ IsTables = IsTextOf tables_text
 abbrev pub most_sections : ℕ
 most_sections = 17
 
--- The output is the text of a desk, of the script that a text stands for: its first section alone, and then a log that is woven of
--- the others.
+-- The output is the text of a desk, of the script that was read: its first section alone, and then a log that is
+-- woven of the others.
 pub record IsWovenOf (script_text : List ℕ) (keep_going : Bool) (refused : Bool) (output : List ℕ) : Type 0 where
   pub script : Script
   pub script_is : IsScriptText script_text script
   pub few : length script.sections ≤ most_sections
   pub is_desk : IsDeskText script keep_going refused output
 
--- What a command writes, by the bytes that are told under its files' names, and whether that tells a refusal.
+-- What a command writes, by the bytes under its files' names, and whether its text reports a refusal.
 abbrev pub IsOutput : Command → (List ℕ → Option (List ℕ)) → Bool → List ℕ → Type 0
 IsOutput (run script keys threads keep_going) told refused output = (script_text keys_text : List ℕ) → told script ≡ Some script_text → told keys ≡ Some keys_text → IsTranscript script_text keys_text threads (mode_of keep_going) refused output
 IsOutput (list script keep_going) told refused output = (script_text : List ℕ) → told script ≡ Some script_text → IsListing script_text (mode_of keep_going) refused output
@@ -110,7 +111,7 @@ pub record HasTranscript (s : Script) (packets : List (List Packet)) (threads : 
   pub legal : Legal s packets threads mode lines
   pub text_is : text ≡ transcript_text mode s packets lines
 
--- The same where chains judge the packets.
+-- The same if chains judge the packets.
 pub record HasJudgement (s : Script) (rules : Rules) (packets : List (List Packet)) (threads : ℕ) (mode : Mode) (text : List ℕ) : Type 0 where
   pub lines : List Line
   pub over : rules.schema ≡ s.schema
@@ -135,7 +136,7 @@ pub record IsOverfull (c : Command) (work : Work) (name : Bor (List ℕ)) : Type
   pub is_name : c ≡ desk name.now keep_going
   pub many : most_sections < length script.sections
 
--- What a command's work gives: its text, and whether that tells a refusal.
+-- The text of a command's work, and whether it reports a refusal.
 abbrev pub GivesText : Work → Bool → List ℕ → Type 0
 GivesText (works.Run s packets threads keep_going) refused text = HasTranscript s packets threads (mode_of keep_going) text × (refused ≡ has_refusal (mode_of keep_going) s)
 GivesText (works.List s keep_going) refused text = (text ≡ listing_text (mode_of keep_going) s) × (refused ≡ has_refusal (mode_of keep_going) s)

@@ -1,4 +1,4 @@
-//! A call of the program: its words, as the system tells them, and what comes of them.
+//! A call of the program: its words, as the system gives them, and what the program does with them.
 ghost use Rattle.std.specs.Prelude.{◌≡◌, ◌≢◌, [], drop, map, IsErr, IsOkAnd, IfOk, IfErr, OnErr};
 ghost use Rattle.std.specs.String.{string_bytes};
 ghost use Rattle.std.specs.IoError.{error_kind};
@@ -23,12 +23,11 @@ fn without_first(alloc: Global, all: Args) -> Result<Vec<String>, AllocError>
     all.skip(1).collect(alloc)
 }
 
-/// The words behind the program's name, of all words that the system tells. Words that can't be told, as one that
-/// isn't UTF-8, are none.
+/// The words after the program's name. If the system can't give them, as one isn't UTF-8, there are none.
 ///
 /// # Errors
 ///
-/// `Memory` if there is none left for the words.
+/// `Memory` if memory runs out.
 pub fn words_behind(alloc: Global, told: io::Result<Args>) -> Result<Vec<String>, Memory>
     ensures words { IfOk told (λ all. IfOk result (λ words. words.items ≡ drop 1 (into_iter_items all))) }
     ensures memory { IfErr told (λ error. error_kind error ≡ OutOfMemory → IsErr result) }
@@ -41,8 +40,8 @@ pub fn words_behind(alloc: Global, told: io::Result<Args>) -> Result<Vec<String>
     }
 }
 
-/// Does what the words ask for, and answers the status. Where there was no memory for the words it is 7, and no file
-/// is asked for and nothing is written. The `gate` is told how far the run is.
+/// Does what the words ask for, and returns the status. If memory ran out for the words, the status is 7: no
+/// file is asked for, and nothing is written. The `gate` learns how far the run is.
 pub fn call<R: Threads + Wait + Sync, F: Shelf, K: Sink, N: Notes, G: Gate>(
     rt: &R,
     alloc: Global,

@@ -44,7 +44,8 @@ fn overfull<'a>(command: Command<'a>, work: &Work) -> Option<(&'a str, u64)>
     }
 }
 
-/// Does what a command asks for, writes what comes of it, tells a person what was wrong, and answers the status.
+/// Does what a command asks for, writes its output or its line, writes the note for a person, and returns the
+/// status.
 fn do_command<'a, R: Threads + Wait + Sync, F: Shelf, K: Sink, N: Notes, G: Gate>(
     rt: &R,
     alloc: Global,
@@ -78,7 +79,7 @@ fn do_command<'a, R: Threads + Wait + Sync, F: Shelf, K: Sink, N: Notes, G: Gate
     }
 }
 
-/// Does what words ask for that ask for no page, writes what comes of it, and answers the status.
+/// Carries out words that ask for no page, and returns the status.
 fn carry_out_command<R: Threads + Wait + Sync, F: Shelf, K: Sink, N: Notes, G: Gate>(
     rt: &R,
     alloc: Global,
@@ -99,7 +100,7 @@ fn carry_out_command<R: Threads + Wait + Sync, F: Shelf, K: Sink, N: Notes, G: G
     }
 }
 
-/// Does what the words ask for, writes what comes of it, and answers the status.
+/// Carries out the words, and returns the status.
 fn carry_out<R: Threads + Wait + Sync, F: Shelf, K: Sink, N: Notes, G: Gate>(
     rt: &R,
     alloc: Global,
@@ -120,34 +121,37 @@ fn carry_out<R: Threads + Wait + Sync, F: Shelf, K: Sink, N: Notes, G: Gate>(
 
 /// The command `pipapo`. Its words are one of these, the options in any order among the names:
 ///
-/// - `run SCRIPT KEYS [--threads N] [--keep-going]` runs a script beside the packets of a key file, which
-///   N packet threads look up, 1 to 16 and else 1, and writes the transcript;
-/// - `list SCRIPT [--keep-going]` runs a script, and lists its last generation as a script;
-/// - `dump SCRIPT [--keep-going]` runs a script, and writes the tables of its last generation;
+/// - `run SCRIPT KEYS [--threads N] [--keep-going]` runs a script while N packet threads look up the packets
+///   of a key file, and writes the transcript. N is 1 to 16, and 1 without the option.
+/// - `list SCRIPT [--keep-going]` runs a script, and lists its last generation as a script.
+/// - `dump SCRIPT [--keep-going]` runs a script, and writes the tables of its last generation.
 /// - `drill SEED COUNT [--threads N]` runs a script of COUNT elements beside as many packets, all drawn from
-///   SEED, and writes one line of what came of them;
-/// - `judge SCRIPT RULES KEYS [--threads N] [--keep-going]` runs a script beside the packets of a key file, on which the
-///   chains of a rules file decide, and writes the transcript with the deciding rules;
-/// - `capture SCRIPT PLAN PCAP [--threads N] [--keep-going]` runs a script beside the packets that a plan takes from a
-///   capture, and writes the transcript;
-/// - `desk SCRIPT [--keep-going]` runs the first section of a script, and then each of the others by a control thread of
-///   its own, and writes what each transaction told, in the order in which they were done, and the last generation.
+///   SEED. It writes a summary of one line.
+/// - `judge SCRIPT RULES KEYS [--threads N] [--keep-going]` runs a script while the chains of a rules file
+///   decide on the packets of a key file. It writes the transcript with the deciding rules.
+/// - `capture SCRIPT PLAN PCAP [--threads N] [--keep-going]` runs a script beside the packets that a plan
+///   takes from a capture, and writes the transcript.
+/// - `desk SCRIPT [--keep-going]` runs the first section of a script, and then each of the others by a
+///   control thread of its own. It writes the reports of all transactions in their order, and the last
+///   generation.
 ///
-/// `help`, `--help` and `-h` alone, `help` before the word of a command and the other two behind it ask for help, and
-/// `--version` alone for the version: the page is written, with 0, and no file is asked for.
+/// Five forms of words ask for help: `help`, `--help` or `-h` alone, `help` before the word of a command, and
+/// `--help` or `-h` after it. `--version` alone asks for the version. Then the page is written, the status is
+/// 0, and no file is asked for.
 ///
-/// With `--keep-going` a refused change is skipped, and doesn't fail its transaction. Where the words,
-/// a file or its reading is at fault, one line is written in place of the output. Where a file is at fault or a change was
-/// refused, a person is told more by `notes`, if there is memory for it; neither status nor output hangs on that. The `gate`
-/// is told of each section, step, lookup and commit; the program tells a person by it how far it is. The status is:
+/// With `--keep-going` a refused change is skipped, and doesn't fail its transaction. If the words, a file or
+/// its reading is at fault, one line is written in place of the output. If a file is at fault or a change was
+/// refused, `notes` gets a note for a person, unless memory runs out for it. Neither status nor output
+/// depends on that. The `gate` learns of each section, step, lookup and commit, which the program shows as
+/// its progress. The status is:
 ///
-/// - 0: the whole output was written, and tells no refusal;
-/// - 1: the whole output was written, and tells that a change was refused;
+/// - 0: the whole output was written, and reports no refusal;
+/// - 1: the whole output was written, and reports that a change was refused;
 /// - 2: the words are no command, and the usage line was written;
 /// - 3, 4, 9, 11: the script, the key file, the rules file, the plan isn't in its grammar;
 /// - 5: a file couldn't be opened or read;
 /// - 6: the sink failed, after a front of what was to be written;
-/// - 7: want of memory, and nothing was written;
+/// - 7: memory ran out, and nothing was written;
 /// - 8: a file has more than 67,108,864 bytes;
 /// - 10: the capture is outside its form;
 /// - 12: the script of a desk has more than 17 sections.
@@ -162,7 +166,8 @@ pub fn pipapo<R: Threads + Wait + Sync, F: Shelf, K: Sink, N: Notes, G: Gate>(
 ) -> u8
     requires { F.asked shelf.old ≡ [] }
 
-    // A call is a record of what its outside shows, and what it promises is said of that, sentence by sentence.
+    // The record `Call` is what the outside shows of this call. `Promises` has the promises on it, one clause
+    // each.
     ensures { Promises (record { words = map string_bytes words.now; shelf = record { told = F.told shelf.old; asked = F.asked shelf.new; faults_before = F.faults shelf.old; faults_now = F.faults shelf.new; picked_before = F.is_picked shelf.old; picked_now = F.is_picked shelf.new; left = F.left shelf.new }; taken_before = K.taken sink.old; taken_now = K.taken sink.new; faults_before = K.faults sink.old; faults_now = K.faults sink.new; noted_before = N.told notes.old; noted_now = N.told notes.new; status = result }) }
 {
     carry_out(rt, alloc, words, shelf, sink, notes, gate)

@@ -18,7 +18,7 @@ use token_forms::Reason;
 const USAGE: &[u8] =
     b"pipapo: usage: run SCRIPT KEYS [--threads N] [--keep-going] | list SCRIPT [--keep-going] | dump SCRIPT [--keep-going] | drill SEED COUNT [--threads N] | judge SCRIPT RULES KEYS [--threads N] [--keep-going] | capture SCRIPT PLAN PCAP [--threads N] [--keep-going] | desk SCRIPT [--keep-going]\n";
 
-/// Writes a text, and answers its status, or 6 where the sink fails.
+/// Writes a text, and returns its status, or 6 if the sink fails.
 pub fn deliver<K: Sink>(sink: &mut K, status: u8, text: &[u8]) -> u8
     ensures { Ends (IsExactly status text.now) (K.taken sink.old) (K.taken sink.new) (K.faults sink.old) (K.faults sink.new) result }
 {
@@ -35,7 +35,7 @@ pub fn deliver_page<K: Sink>(sink: &mut K, page: Page) -> u8
     deliver(sink, 0, page.text().as_bytes())
 }
 
-/// Writes two pieces, one behind the other.
+/// Writes two pieces, one after the other.
 fn write_both<K: Sink>(sink: &mut K, first: &[u8], second: &[u8]) -> Result<(), WriteFault>
     ensures bytes { OnOk result (Appends (K.taken sink.old) (K.taken sink.new) (first.now ++ second.now)) }
     ensures front { OnErr result (AppendsFront (K.taken sink.old) (K.taken sink.new) (first.now ++ second.now)) }
@@ -47,7 +47,7 @@ fn write_both<K: Sink>(sink: &mut K, first: &[u8], second: &[u8]) -> Result<(), 
     }
 }
 
-/// Writes three pieces, one behind the other.
+/// Writes three pieces, one after the other.
 fn write_three<K: Sink>(
     sink: &mut K,
     first: &[u8],
@@ -64,7 +64,7 @@ fn write_three<K: Sink>(
     }
 }
 
-/// Writes three pieces, one behind the other, and answers their status, or 6 where the sink fails.
+/// Writes three pieces, one after the other, and returns their status, or 6 if the sink fails.
 fn deliver_three<K: Sink>(sink: &mut K, status: u8, first: &[u8], second: &[u8], third: &[u8]) -> u8
     ensures { Ends (IsExactly status ((first.now ++ second.now) ++ third.now)) (K.taken sink.old) (K.taken sink.new) (K.faults sink.old) (K.faults sink.new) result }
 {
@@ -74,7 +74,7 @@ fn deliver_three<K: Sink>(sink: &mut K, status: u8, first: &[u8], second: &[u8],
     }
 }
 
-/// What stands behind the number of a bad token's line: the reason.
+/// What follows the line number of a bad token: the reason.
 fn reason_end(reason: Reason) -> &'static [u8]
     ensures { result.now ≡ end_of_line reason }
 {
@@ -92,7 +92,7 @@ fn reason_end(reason: Reason) -> &'static [u8]
     }
 }
 
-/// Writes the line of a bad token, and answers its status, or 6 where the sink fails.
+/// Writes the line of a bad token, and returns its status, or 6 if the sink fails.
 fn deliver_placed<K: Sink>(sink: &mut K, status: u8, front: &[u8], line: u64, reason: Reason) -> u8
     ensures { Ends (IsExactly status (placed_line front.now line reason)) (K.taken sink.old) (K.taken sink.new) (K.faults sink.old) (K.faults sink.new) result }
 {
@@ -106,14 +106,14 @@ fn deliver_placed<K: Sink>(sink: &mut K, status: u8, front: &[u8], line: u64, re
     )
 }
 
-/// Writes a line that ends with a name, and answers its status, or 6 where the sink fails.
+/// Writes a line that ends with a name, and returns its status, or 6 if the sink fails.
 fn deliver_named<K: Sink>(sink: &mut K, status: u8, front: &[u8], name: &str) -> u8
     ensures { Ends (IsExactly status (named_line front.now name.now)) (K.taken sink.old) (K.taken sink.new) (K.faults sink.old) (K.faults sink.new) result }
 {
     deliver_three(sink, status, front, name.as_bytes(), b"\n")
 }
 
-/// What stands behind the number of a capture's byte: the reason.
+/// What follows the number of a capture's byte: the reason.
 fn capture_end(reason: CaptureReason) -> &'static [u8]
     ensures { result.now ≡ end_of_capture reason }
 {
@@ -125,7 +125,7 @@ fn capture_end(reason: CaptureReason) -> &'static [u8]
     }
 }
 
-/// Writes the line of a capture's first fault, and answers its status, or 6 where the sink fails.
+/// Writes the line of a capture's first fault, and returns its status, or 6 if the sink fails.
 fn deliver_capture<K: Sink>(sink: &mut K, byte: u64, reason: CaptureReason) -> u8
     ensures { Ends (IsExactly 10 ((codes "pipapo: capture byte " ++ decimal byte) ++ end_of_capture reason)) (K.taken sink.old) (K.taken sink.new) (K.faults sink.old) (K.faults sink.new) result }
 {
@@ -139,7 +139,8 @@ fn deliver_capture<K: Sink>(sink: &mut K, byte: u64, reason: CaptureReason) -> u
     )
 }
 
-/// Tells what is wrong with a file's text: its line and the status of its form, or 6 where the sink fails.
+/// Writes the line of what is wrong with a file's text. Returns the status of the file's form, or 6 if the
+/// sink fails.
 fn tell_flaw<K: Sink>(sink: &mut K, flaw: Flaw) -> u8
     ensures { Ends (IsExactly (form_status (form_of flaw)) (flaw_line flaw)) (K.taken sink.old) (K.taken sink.new) (K.faults sink.old) (K.faults sink.new) result }
 {
@@ -160,8 +161,8 @@ fn tell_flaw<K: Sink>(sink: &mut K, flaw: Flaw) -> u8
     }
 }
 
-/// Tells why a file can't be had: its line and its status, or 6 where the sink fails. Want of memory is told by its
-/// status alone.
+/// Writes the line of a file that can't be had. Returns its status, or 6 if the sink fails. Out of memory has
+/// a status and no line.
 fn tell_file<K: Sink>(sink: &mut K, fault: FileFault<'_>) -> u8
     ensures { Ends (IsExactly (file_status fault.entry) (file_line fault.entry)) (K.taken sink.old) (K.taken sink.new) (K.faults sink.old) (K.faults sink.new) result }
 {
@@ -173,8 +174,8 @@ fn tell_file<K: Sink>(sink: &mut K, fault: FileFault<'_>) -> u8
     }
 }
 
-/// Tells a fault: its line and its status, or 6 where the sink fails. Want of memory is told by its
-/// status alone.
+/// Writes the line of a fault. Returns its status, or 6 if the sink fails. Out of memory has a status and no
+/// line.
 pub fn tell<K: Sink>(sink: &mut K, fault: Fault<'_>) -> u8
     ensures { Ends (IsExactly (status_of fault.entry) (fault_line fault.entry)) (K.taken sink.old) (K.taken sink.new) (K.faults sink.old) (K.faults sink.new) result }
 {

@@ -9,6 +9,6 @@ pub enum Fault<'a> {
     File(FileFault<'a>),
     /// The script of this name has more sections than a desk has control threads for.
     TooManyClerks(&'a str),
-    /// Want of memory, for the words or for the output.
+    /// Memory ran out, for the words or for the output.
     Memory,
 }

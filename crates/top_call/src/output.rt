@@ -1,4 +1,4 @@
-//! What a command gives: the work on what its files stand for.
+//! A command's output, from what was read of its files.
 ghost use Rattle.std.specs.Prelude.{◌≡◌, [], ◌∷◌, All, List, IfOk};
 ghost use Rattle.set_model.specs.declared.script.SetDecl.{SetDecl as Declared};
 ghost use Rattle.set_model.specs.Runnable.{IsFitting};
@@ -29,11 +29,11 @@ fn captured(alloc: Global, plan: &Plan, frames: &Frames) -> Result<Keys, Memory>
     Ok(keys)
 }
 
-/// The output of a command's work. The `gate` is told of each section, step, lookup and commit.
+/// The output of a command's work. The `gate` learns of each section, step, lookup and commit.
 ///
 /// # Errors
 ///
-/// `Memory` where there is none left.
+/// `Memory` if memory runs out.
 pub fn output_of<R: Threads + Wait + Sync, G: Gate>(
     rt: &R,
     alloc: Global,

@@ -1,4 +1,4 @@
-//! What a person is told of refused changes, and of a desk's script that has too many sections.
+//! Notes for a person, on refused changes and on a desk's script that has too many sections.
 ghost use Rattle.std.specs.Prelude.{◌≡◌, true};
 ghost use Rattle.fault_notes.specs.Shown.{Begins, name_text};
 ghost use Rattle.fault_notes.specs.Told.{MayTell};
@@ -10,8 +10,8 @@ use script_run::Output;
 use set_script::read_script;
 use std::alloc::Global;
 
-/// Tells which changes of a command's script were refused, by the lines of its output. The script is read anew from its text.
-/// Where no change was refused or memory wants nothing is told.
+/// Writes a note on the changes of a command's script that were refused, by the lines of its output. It reads
+/// the script again from its text. Writes none if no change was refused, or if memory runs out.
 pub fn tell_refusals<N: Notes>(
     alloc: Global,
     notes: &mut N,
@@ -33,7 +33,7 @@ pub fn tell_refusals<N: Notes>(
     }
 }
 
-/// Tells that a desk's script has too many sections.
+/// Writes the note that a desk's script has too many sections.
 pub fn tell_too_many<N: Notes>(alloc: Global, notes: &mut N, name: &str, sections: u64)
     ensures { MayTell (Begins (name_text name.now)) (N.told notes.old) (N.told notes.new) }
 {
