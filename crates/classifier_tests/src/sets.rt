@@ -100,7 +100,7 @@ impl Trial {
     }
 }
 
-/// Hands a set without elements, which is disjoint or not, to a check.
+/// Makes a set without elements, which is disjoint or not, and runs a check on it.
 pub(crate) fn on_new_set<F: FnOnce(&mut Trial) -> Result<(), Memory>>(
     rt: &impl Abort,
     alloc: Global,

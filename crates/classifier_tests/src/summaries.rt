@@ -47,7 +47,7 @@ fn delete_address(rt: &impl Abort, trial: &mut Trial, n: u64) {
     assert!(rt; gone == Ok(n));
 }
 
-/// Lets the first address live on, takes the expired ones out, and looks up all.
+/// Lets the first address stay, takes the expired ones out, and looks up all.
 fn purge_addresses(rt: &impl Abort, trial: &mut Trial, n: u64) {
     let renewed = Ok(Added::Renewed { id: 0 });
     adds(rt, trial, address(0), address(0), Some(LATER + 1), renewed);
@@ -60,7 +60,7 @@ fn purge_addresses(rt: &impl Abort, trial: &mut Trial, n: u64) {
     }
 }
 
-/// Hands the set, and a copy of it with which it shares its pages, to a check.
+/// Runs a check on the set and on a copy that shares its pages.
 fn on_copy<F: FnOnce(&mut Trial, &mut SetImage) -> Result<(), Memory>>(
     trial: &mut Trial,
     check: F,
