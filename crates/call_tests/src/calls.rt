@@ -1,4 +1,4 @@
-//! Calls of the program over files in memory, and what must come of them.
+//! Calls of the program over files in memory, with the output and status that each must have.
 ghost use Rattle.std.specs.Prelude.{◌≡◌, [], IfOk};
 
 use packet_pool::{Gate, OpenGate};
@@ -13,7 +13,7 @@ use top_call::call::call;
 /// A file: its name and its bytes.
 pub type File<'a> = (&'a str, &'a [u8]);
 
-/// What fails of a call, each counted from 1. At 0 nothing fails.
+/// Which calls fail, each counted from 1. At 0 nothing fails.
 #[derive(Clone, Copy)]
 pub struct Failing {
     /// The call of the shelf.
@@ -31,7 +31,7 @@ pub const NOTHING: Failing = Failing {
     room: 10_000,
 };
 
-/// What must come of a call.
+/// The output, the note and the status that a call must have.
 #[derive(Clone, Copy)]
 pub struct Wanted<'a> {
     status: u8,
@@ -114,7 +114,7 @@ pub fn front(bytes: &[u8], end: usize) -> &[u8] {
     bytes.get(..end).unwrap_or(bytes)
 }
 
-/// Calls the program, and answers the status.
+/// Calls the program, and returns the status.
 pub fn run_call<R: Threads + Wait + Sync, G: Gate>(
     rt: &R,
     alloc: Global,
@@ -140,7 +140,7 @@ fn compare(rt: &impl Abort, wanted: Wanted<'_>, status: u8, output: &[u8], notes
     }
 }
 
-/// Calls the program over files, some of whose calls fail, and compares what comes of it.
+/// Calls the program over files, some of whose calls fail, and compares output, note and status.
 pub fn check_failing<R: Threads + Wait + Abort + Sync>(
     rt: &R,
     alloc: Global,

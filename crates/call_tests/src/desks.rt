@@ -76,7 +76,7 @@ const CASES: [Case; 5] = [
                  }\n",
         status: 1,
     },
-    // a transaction behind one that failed
+    // a transaction after one that failed
     Case {
         words: &["desk", "a.nft"],
         script: "add set ip t p { type inet_service ; flags interval ; }\n\

@@ -86,7 +86,7 @@ fn a_script_under_the_name_of_the_standard_input(rt: HostRuntime) -> Result<(), 
     )
 }
 
-/// Runs a script beside a key file, and some call fails.
+/// Runs a script beside a key file, while one call fails.
 fn check_run<R: Threads + Wait + Abort + Sync>(
     rt: &R,
     alloc: Global,
@@ -171,7 +171,7 @@ fn an_output_without_room(rt: HostRuntime) -> Result<(), Fail> {
     Ok(())
 }
 
-// A script of nothing is whole, and so is one without its last line feed. Each other front ends too early.
+// A script without text is whole, and so is one without its last line feed. Each other front ends too early.
 #[test]
 fn a_script_may_be_cut_anywhere(rt: HostRuntime) -> Result<(), Fail> {
     let len = SCRIPT.len();

@@ -1,7 +1,10 @@
-//! Tests of the top call over files in memory: each command's worked examples, faults of words, files and outputs, notes, and packet
-//! threads held for one another.
+//! Tests the top call over files in memory, by worked examples of each command.
 //!
-//! **Definitions:** none; this crate has only tests. **Theory:** docs/formats.md, and docs/architecture.md, "The way of a run".
+//! Faults of words, files and outputs come next, then notes, and packet threads that a gate holds for one
+//! another.
+//!
+//! **Definitions:** none; this crate has only tests. **Theory:** docs/formats.md, and docs/architecture.md,
+//! "The way of a run".
 #![tactic(auto)]
 
 #[cfg(test)]

@@ -66,7 +66,7 @@ const LISTED: [Case; 10] = [
                  }\n",
         status: 0,
     },
-    // a listing, and what is listed of it
+    // a listing, and the listing of that listing
     Case {
         words: &LIST,
         script: TWO_ELEMENTS,

@@ -10,7 +10,7 @@ const OVERLAP: &[u8] =
 const EIGHTEEN_SECTIONS: &[u8] =
     b"add set ip t p { type inet_service ; }\nround\nround\nround\nround\nround\nround\nround\nround\nround\nround\nround\nround\nround\nround\nround\nround\nround\n";
 
-/// A call and what a person reads of it.
+/// A call and its note for a person.
 struct Noted {
     words: &'static [&'static str],
     files: &'static [File<'static>],

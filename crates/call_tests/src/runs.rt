@@ -391,7 +391,7 @@ const LISTINGS: [Case; 4] = [
                  packet 1 thread 0 generation 1 none\n",
         status: 0,
     },
-    // a listing with what is left of lives
+    // a listing with the rest of each life
     Case {
         words: &RUN,
         script: "table ip filter {\n\

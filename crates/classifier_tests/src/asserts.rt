@@ -1,4 +1,5 @@
-// Comparisons that name the case. They stand here alone, since each place that prints two values is slow to prove.
+// Comparisons that name the case. They have a module of their own, since each place that prints two values is
+// slow to prove.
 use std::process::Abort;
 
 /// Asserts that two numbers are the same.

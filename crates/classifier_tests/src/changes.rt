@@ -28,7 +28,7 @@ impl PlainSet {
         Err(ChangeError::Refused(Why::Missing))
     }
 
-    /// Takes the expired elements out, and answers how many there were.
+    /// Takes the expired elements out, and returns how many there were.
     fn purge(&mut self, now: u64) -> u64 {
         let before = self.elements.len();
         self.elements.retain(|element| element.is_live(now));
@@ -77,7 +77,7 @@ fn delete_one(
     Ok(())
 }
 
-/// Looks a key up, and answers how many elements were found.
+/// Looks a key up, and returns how many elements were found.
 fn look_up_one(
     rt: &impl Abort,
     random: &mut Random,
@@ -114,7 +114,8 @@ fn change(
     }
 }
 
-/// Makes 750 changes of both, each at a moment below 3,000, and a lookup behind each. Answers how many elements were found.
+/// Makes 750 changes of both, each at a moment below 3,000, and a lookup after each. Returns how many
+/// elements were found.
 fn hits(
     rt: &impl Abort,
     random: &mut Random,
@@ -132,7 +133,7 @@ fn hits(
     Ok(hits)
 }
 
-/// Compares both, and sees that keys are both found and not.
+/// Compares both, and asserts that some keys are found and some aren't.
 fn compare(
     rt: &impl Abort,
     random: &mut Random,

@@ -33,8 +33,7 @@ impl PlainSet {
         None
     }
 
-    /// The place of the first element that is live and holds the start key, where it has these
-    /// intervals.
+    /// The place of the first element that is live and holds the start key, if it has these intervals.
     fn twin(&self, parts: &[Interval], now: u64) -> Result<Option<usize>, Memory> {
         let lows = lows(self.alloc, parts)?;
         let Some(place) = self.place(lows.as_slice(), now) else {
@@ -46,7 +45,7 @@ impl PlainSet {
         }
     }
 
-    /// Adds an element to a disjoint set, or renews it, or says which element is in the way.
+    /// Adds an element to a disjoint set, or renews it, or reports which element is in the way.
     fn add_apart(
         &mut self,
         parts: &[Interval],
@@ -63,7 +62,7 @@ impl PlainSet {
     }
 }
 
-/// An expiry soon behind `now`, or none.
+/// An expiry soon after `now`, or none.
 fn expiry_of(random: &mut Random, now: u64) -> Option<u64> {
     match random.below(4) {
         0 => None,
@@ -71,7 +70,7 @@ fn expiry_of(random: &mut Random, now: u64) -> Option<u64> {
     }
 }
 
-/// Adds an element at a moment to both, and compares what comes of it.
+/// Adds an element at a moment to both, and compares the results.
 fn add_one(
     rt: &impl Abort,
     trial: &mut Trial,
@@ -89,8 +88,8 @@ fn add_one(
     assert!(rt; answer == wanted);
 }
 
-/// Asks both for the first element that shares a key with some intervals, adds these to both at the
-/// same moment, and answers how many such elements there were.
+/// Asks both for the first element that shares a key with some intervals. Adds these intervals to both at the
+/// same moment. Returns how many elements shared a key.
 fn step(
     rt: &impl Abort,
     random: &mut Random,
@@ -107,7 +106,8 @@ fn step(
     Ok(sharing.is_some() as u32)
 }
 
-/// Twelve steps of a set without elements, which is disjoint or not. Answers how often an element shared a key.
+/// Twelve steps of a set without elements, which is disjoint or not. Returns how often an element shared a
+/// key.
 fn check_set(
     rt: &impl Abort,
     random: &mut Random,
@@ -124,7 +124,8 @@ fn check_set(
     Ok(shared)
 }
 
-/// Compares so many sets, every other one of them disjoint, and sees that elements both share keys and don't.
+/// Compares so many sets, every other one of them disjoint. Asserts that some elements share keys and some
+/// don't.
 fn check_sets(
     rt: &impl Abort,
     random: &mut Random,
@@ -183,7 +184,7 @@ fn an_enclosing_interval_is_refused(rt: HostRuntime) -> Result<(), Fail> {
     })?)
 }
 
-/// The network of an address's first byte, and of its second one where there is one.
+/// The network of an address's first byte, and of its second byte if there is one.
 fn network(first: u8, second: Option<u8>) -> Interval {
     let (low, rest) = match second {
         Some(second) => (
@@ -198,7 +199,7 @@ fn network(first: u8, second: Option<u8>) -> Interval {
     }
 }
 
-/// Adds a network and ports at moment 0, and sees what comes of it.
+/// Adds a network and ports at moment 0, and asserts the result.
 fn adds_pair(
     rt: &impl Abort,
     trial: &mut Trial,

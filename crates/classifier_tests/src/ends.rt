@@ -8,7 +8,7 @@ use std::alloc::Global;
 use std::process::Abort;
 use std::test::Fail;
 
-/// The ends of `n` rules that expire at 10, and of one behind them with this expiry.
+/// The ends of `n` rules that expire at 10, and of one more rule with this expiry.
 fn table(alloc: Global, n: u32, last: Option<u64>) -> Result<EndTable, Memory>
     requires { n < 1000 }
     ensures len { IfOk result (λ ends. length ends.items ≡ n + 1) }

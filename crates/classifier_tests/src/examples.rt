@@ -1,4 +1,4 @@
-// Worked examples of a set: what an addition answers, and what is found behind it.
+// Worked examples of a set: the result of an addition, and what lookups find after it.
 use crate::sets::{Trial, on_new_set};
 use pipapo_image::{Added, ChangeError};
 use set_model::{Interval, Kind, Why};
@@ -7,7 +7,7 @@ use std::test::Fail;
 
 const PORTS: [Kind; 1] = [Kind::Service];
 
-/// Adds the values from `low` to `high` at moment 0, and sees what comes of it.
+/// Adds the values from `low` to `high` at moment 0, and asserts the result.
 pub(crate) fn adds(
     rt: &impl Abort,
     trial: &mut Trial,
@@ -20,7 +20,7 @@ pub(crate) fn adds(
     assert!(rt; answer == wanted);
 }
 
-/// Looks a value up, and sees that the element of this id answers, or none.
+/// Looks a value up, and asserts that it finds the element of this id, or none.
 pub(crate) fn finds(
     rt: &impl Abort,
     trial: &mut Trial,

@@ -67,7 +67,8 @@ fn add_all(rt: &impl Abort, alloc: Global, elements: &mut TimedElements) -> Resu
     Ok(())
 }
 
-// Asserts how many are expired at a moment, how many of these didn't leave by another, and how many stand before a place.
+// Asserts how many elements are expired at a moment, how many of these didn't leave by another, and how many
+// are before a place.
 fn assert_expired(
     rt: &impl Abort,
     alloc: Global,
@@ -90,7 +91,7 @@ fn assert_expired(
     Ok(())
 }
 
-// Asserts which of all are expired, whatever the moment by which elements were said to have left.
+// Asserts which of all elements are expired, whatever moment is given as the one by which elements left.
 fn assert_all(rt: &impl Abort, alloc: Global, elements: &mut TimedElements) -> Result<(), Memory> {
     for left in [None, Some(11), Some(511), Some(1_011)] {
         elements.find_soonest(left);
@@ -102,7 +103,7 @@ fn assert_all(rt: &impl Abort, alloc: Global, elements: &mut TimedElements) -> R
     Ok(())
 }
 
-// Lets the element at place 600 expire at 400, and takes that at place 11 out.
+// Lets the element at place 600 expire at 400, and takes the element at place 11 out.
 fn change(rt: &impl Abort, alloc: Global, elements: &mut TimedElements) -> Result<u64, Memory> {
     elements.find_soonest(Some(511));
     assert!(rt; elements.len() == 1_100);

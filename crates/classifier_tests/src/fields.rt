@@ -11,7 +11,7 @@ use set_model::Block;
 use std::process::Abort;
 use std::test::Fail;
 
-// Whether a block is there and has this base and so many free bits.
+// Whether there is a block with this base and so many free bits.
 fn is_block(block: Option<Block>, base: u128, free_bits: u32) -> bool {
     match block {
         Some(block) => block.base == base && block.free_bits == free_bits,
@@ -126,7 +126,7 @@ fn masks_of_blocks(rt: HostRuntime) {
     assert_mask(&rt, all, 4, 128, 31, (0, 0));
 }
 
-// Asserts in which places of a list the last four groups of a value stand, and how many groups there are before them.
+// Asserts the places of the last four groups of a value in a list, and how many groups are before them.
 fn assert_last(rt: &impl Abort, value: u128, width: u32, bits: u32, wanted: [u64; 4], rest: u32)
     requires { IsWidth width bits }
 {
@@ -151,7 +151,7 @@ fn last_four_groups(rt: HostRuntime) {
     );
     assert_last(&rt, 0xC0A8_0105, 4, 32, [64, 81, 96, 117], 4);
 
-    // Port 443 has two bytes, so the first stands three times.
+    // Port 443 has two bytes, so the first is there three times.
     assert_last(&rt, 0x01BB, 8, 16, [1, 1, 1, 256 + 0xBB], 0);
 
     // The last four bytes of 2001:db8::80.

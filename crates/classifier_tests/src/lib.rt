@@ -1,8 +1,10 @@
-//! Tests of the classifier: blocks, groups, rows of bits, pages, tables, ends and expiries by worked examples, and the image of a
-//! set beside a plain list of elements that look random.
+//! Tests the classifier by worked examples, and the image of a set beside a plain list of elements.
 //!
-//! **Definitions:** none; it has tests alone. **Theory:** docs/architecture.md, "The classifier, by one
-//! example".
+//! The examples are of blocks, groups, rows of bits, pages, tables, ends and expiries. The elements of the
+//! plain list look random.
+//!
+//! **Definitions:** none; this crate has only tests. **Theory:** docs/architecture.md, "The classifier, by
+//! one example".
 #![tactic(auto)]
 
 #[cfg(test)]

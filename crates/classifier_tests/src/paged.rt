@@ -98,7 +98,8 @@ fn copies(page: &Page<Traced>) -> Option<u64> {
     }
 }
 
-/// Asserts that a copy of a page of one item copies it, unless the page was settled, and until the copy changes.
+/// Asserts that a copy of a page of one item copies the item, unless the page was settled, and until the copy
+/// changes.
 fn check_page(rt: &impl Abort, alloc: Global, page: &mut Page<Traced>) -> Result<(), Memory> {
     same_if_any(rt, copies(&page.copy(alloc)?), Some(1), 0);
     page.settle(alloc)?;

@@ -71,7 +71,7 @@ impl PlainSet {
         })
     }
 
-    /// Adds an element, or renews it, or says which element is in the way.
+    /// Adds an element, or renews it, or reports which element is in the way.
     pub(crate) fn add(
         &mut self,
         parts: &[Interval],

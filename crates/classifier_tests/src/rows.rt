@@ -52,7 +52,7 @@ fn check_ranges(rt: &impl Abort, row: &mut BitRow) {
     assert_words(rt, row, 0, 0b11);
 }
 
-// Adds a one and three zeros behind 64 places, and lets 66 places be ones.
+// Adds a one and three zeros after 64 places, and sets 66 places to ones.
 fn check_pushes(rt: &impl Abort, row: &mut BitRow) -> Result<(), Memory> {
     assert!(rt; row.len() == 64);
     row.reserve(4)?;

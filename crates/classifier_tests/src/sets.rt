@@ -1,4 +1,4 @@
-// A set with what a lookup works in. Calls first see that their conditions hold.
+// A set with the memory that a lookup uses. Calls first check that their conditions hold.
 ghost use Rattle.std.specs.Prelude.{◌≡◌, true};
 ghost use Rattle.set_model.specs.Key.{key_fits};
 ghost use Rattle.set_model.specs.SetState.{place};
@@ -37,7 +37,7 @@ impl Trial {
         }
     }
 
-    /// Begins anew with a set without elements, which is disjoint or not.
+    /// Starts again with a set without elements, which is disjoint or not.
     pub(crate) fn restart(
         &mut self,
         rt: &impl Abort,
@@ -77,7 +77,7 @@ impl Trial {
         self.set.delete(self.alloc, &parts, now, &mut self.scratch)
     }
 
-    /// Looks a key up, and sees that the textbook lookup finds the same place.
+    /// Looks a key up, and asserts that the textbook lookup finds the same place.
     pub(crate) fn find(
         &mut self,
         rt: &impl Abort,
@@ -100,7 +100,7 @@ impl Trial {
     }
 }
 
-/// Hands a set without elements, which is disjoint or not, to a check.
+/// Makes a set without elements, which is disjoint or not, and runs a check on it.
 pub(crate) fn on_new_set<F: FnOnce(&mut Trial) -> Result<(), Memory>>(
     rt: &impl Abort,
     alloc: Global,
@@ -155,7 +155,7 @@ fn find_in(
     found
 }
 
-/// The place of the first live element that holds the key, as the set's tables alone tell it.
+/// The place of the first live element that holds the key, by the set's tables alone.
 fn place_by_tables(set: &SetImage, key: &Key, now: u64, scratch: &mut Scratch) -> Option<u64>
     requires { key_fits set.now.kinds key.now ≡ true }
     ensures { result ≡ place set.now key.now now }

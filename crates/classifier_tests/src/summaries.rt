@@ -1,5 +1,6 @@
 // Sets about as large as a step of their tables and summary: a word of 64 rules, a page of 512, a page of
-// marks for 4,096, and 32,768, above which a second level stands. Copies of them live on beside each other.
+// marks for 4,096, and 32,768. Above 32,768 the summary has a second level. Copies of the sets live on beside
+// each other.
 use crate::examples::{adds, finds};
 use crate::sets::{Trial, on_new_set};
 use pipapo_image::{Added, SetImage};
@@ -12,7 +13,7 @@ use std::test::Fail;
 /// A moment at which elements with an expiry are expired.
 const LATER: u64 = 2_000;
 
-/// An address for each number, far from those of the numbers before and behind it.
+/// An address for each number, far from the addresses of the numbers before and after it.
 fn address(n: u64) -> u128 {
     (n.wrapping_mul(0x9E37_79B1) % 0x1_0000_0000) as u128
 }
@@ -30,7 +31,7 @@ fn add_addresses(rt: &impl Abort, trial: &mut Trial, from: u64, to: u64) {
     }
 }
 
-/// Looks up the addresses of these numbers, but for one that was taken out.
+/// Looks up the addresses of these numbers, except one that was taken out.
 fn find_addresses(rt: &impl Abort, trial: &mut Trial, n: u64, gone: Option<u64>) {
     for i in 0..n {
         let id = if Some(i) == gone { None } else { Some(i) };
@@ -46,7 +47,7 @@ fn delete_address(rt: &impl Abort, trial: &mut Trial, n: u64) {
     assert!(rt; gone == Ok(n));
 }
 
-/// Lets the first address live on, takes the expired ones out, and looks up all.
+/// Lets the first address stay, takes the expired ones out, and looks up all.
 fn purge_addresses(rt: &impl Abort, trial: &mut Trial, n: u64) {
     let renewed = Ok(Added::Renewed { id: 0 });
     adds(rt, trial, address(0), address(0), Some(LATER + 1), renewed);
@@ -59,7 +60,7 @@ fn purge_addresses(rt: &impl Abort, trial: &mut Trial, n: u64) {
     }
 }
 
-/// Hands the set, and a copy of it with which it shares its pages, to a check.
+/// Runs a check on the set and on a copy that shares its pages.
 fn on_copy<F: FnOnce(&mut Trial, &mut SetImage) -> Result<(), Memory>>(
     trial: &mut Trial,
     check: F,
@@ -71,8 +72,8 @@ fn on_copy<F: FnOnce(&mut Trial, &mut SetImage) -> Result<(), Memory>>(
     check(trial, &mut copy)
 }
 
-/// Adds `n` addresses, copies the set, and takes one of them out of the copy and the expired ones out of
-/// the set. The set as it was before the last address lives on.
+/// Adds `n` addresses and copies the set. Takes one address out of the copy, and the expired ones out of the
+/// set. The set as it was before the last address lives on.
 fn check(rt: &impl Abort, trial: &mut Trial, n: u64) -> Result<(), Memory> {
     let last = n.saturating_sub(1);
     add_addresses(rt, trial, 0, last);
@@ -116,13 +117,14 @@ fn steps_of_the_second_level(rt: HostRuntime) -> Result<(), Fail> {
     check_sizes(&rt, rt.alloc(), Kind::Ipv4, &[32_768, 32_769])
 }
 
-/// Sees that the groups of the first field have so many bits.
+/// Asserts that the groups of the first field have so many bits.
 fn has_width(rt: &impl Abort, trial: &Trial, width: u32) {
     assert!(rt; trial.set.index().fields.len() == 1);
     assert!(rt; trial.set.index().fields.at(0).width == width);
 }
 
-/// A set of 4,096 long addresses has groups of eight bits, and of four with one more, until one goes.
+/// A set of 4,096 long addresses has groups of eight bits. With one more address it has groups of four, until
+/// one goes.
 fn check_widths(rt: &impl Abort, trial: &mut Trial) {
     add_addresses(rt, trial, 0, 4_096);
     has_width(rt, trial, 8);

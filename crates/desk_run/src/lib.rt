@@ -2,11 +2,11 @@
 //!
 //! # Theory of operation
 //!
-//! Take a script of three sections. The first declares a set of ports. The second adds port 80 and commits, and the
+//! Take a script of three sections. The first adds port 22 to a set of ports. The second adds port 80 and commits, and the
 //! third adds port 443 and commits. [`desk`] runs it so:
 //!
 //! ```text
-//! the control alone    section 0    declares the set, commits generation 1
+//! the control alone    section 0    adds port 22, commits generation 1
 //! control thread 1     section 1    adds port 80, commits
 //! control thread 2     section 2    adds port 443, commits
 //! ```

@@ -52,8 +52,8 @@ module _ {B E G : Type 0} (log : B → List E) (base : B → List G) (number : B
       (e ≡ m.0.ticket → (v : B) × (m' ≡ (record m.0 { stage = 3; took = Some v }, (0, Some v) ∷ m.1)) × Finds bound m.0 v)
       × (e ≢ m.0.ticket → m' ≡ m)
 
-  -- A turn may end with this value. The log has new entries at its end, all of this control thread, and at most as
-  -- many as it had left. There is at most one state more for each entry.
+  -- A turn may end with this value. The log has new entries at its end, all of this control thread, and not more than
+  -- it had left. There is at most one state more for each entry.
   pub record MayGive (c : ℕ) (d : SeatView B E G) (v : B) : Type 0 where
     pub took : B
     pub was : d.took ≡ Some took

@@ -56,7 +56,7 @@ fn held_at_commits(
     held
 }
 
-/// Asserts that what place i holds is generation i.
+/// Asserts that place i of the list holds generation i.
 fn assert_in_order(rt: &impl Abort, held: &[Held]) {
     for (i, one) in held.iter().enumerate() {
         assert_eq!(rt; one.generation(), i as u64);
@@ -168,7 +168,7 @@ fn flush(rt: &impl Abort, alloc: Global, control: &mut Control) -> Result<u64, M
     control.flush(0)
 }
 
-/// Asserts what additions to a set without elements answer.
+/// Asserts what additions to a set without elements return.
 fn assert_additions(rt: &impl Abort, alloc: Global, control: &mut Control) {
     let new = add(rt, alloc, control, 80, 80, None);
     assert_eq!(rt; new, Ok(Added::New { id: 0 }));
@@ -178,7 +178,7 @@ fn assert_additions(rt: &impl Abort, alloc: Global, control: &mut Control) {
     assert_eq!(rt; wider, Err(ChangeError::Refused(Why::Overlap { id: 0 })));
 }
 
-/// Asserts what is answered in a set of at most two elements that has port 80.
+/// Asserts the results in a set of at most two elements that has port 80.
 fn assert_creations(rt: &impl Abort, alloc: Global, control: &mut Control) {
     let there = create(rt, alloc, control, 80, 0);
     assert_eq!(rt; there, Err(ChangeError::Refused(Why::Exists { id: 0 })));
@@ -187,7 +187,7 @@ fn assert_creations(rt: &impl Abort, alloc: Global, control: &mut Control) {
     assert_eq!(rt; third, Err(ChangeError::Refused(Why::Full)));
 }
 
-/// Asserts what is answered in a set that has the ports 80 and 81.
+/// Asserts the results in a set that has the ports 80 and 81.
 fn assert_removals(rt: &impl Abort, alloc: Global, control: &mut Control) {
     let missing = delete(rt, alloc, control, 82);
     assert_eq!(rt; missing, Err(ChangeError::Refused(Why::Missing)));
@@ -223,7 +223,7 @@ fn add_expiring(rt: &impl Abort, alloc: Global, control: &mut Control) {
     let _ = add(rt, alloc, control, 443, 443, Some(30_000)).expect(rt, "room");
 }
 
-/// Asserts what a commit at moment 30000 answers.
+/// Asserts what a commit at moment 30000 returns.
 fn assert_commit(rt: &impl Abort, control: &mut Control, generation: u64, purged: u64) {
     let receipt = commit(rt, control, 30_000);
     assert_eq!(rt; receipt, Receipt { generation, purged });

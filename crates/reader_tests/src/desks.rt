@@ -24,7 +24,8 @@ fn transaction(alloc: Global, schema: &Schema, port: u128) -> Result<Steps, Memo
     Ok(steps)
 }
 
-/// The two control threads of a desk, each of which may submit two transactions, and one for each of them.
+/// The two control threads of a desk, which may submit two transactions each, and one transaction for each
+/// thread.
 #[derive(Drop)]
 struct Desk {
     one: Clerk,
@@ -62,7 +63,7 @@ fn committed(generation: u64) -> Event {
     }
 }
 
-/// Asserts what both control threads are answered. The second has not seen the first's commit.
+/// Asserts the answers to both control threads. The second has not seen the first's commit.
 fn assert_late<R: Wait + Abort>(rt: &R, desk: &mut Desk)
     requires left { (desk.old.one.left ≡ 2) × (desk.old.two.left ≡ 2) }
     requires first { IsTransaction desk.old.first × All (IsRunnableStep desk.old.one.schema) desk.old.first }

@@ -1,4 +1,4 @@
-//! A set of a generation that elements left.
+//! A set of a generation after some elements left it.
 use crate::fixture::{add, alone, commit, key};
 use gen_publish::Control;
 use pipapo_image::{Scratch, SetImage};
@@ -40,7 +40,7 @@ fn assert_two_left(rt: &impl Abort, alloc: Global, set: &KeptSet) {
     assert_found(rt, alloc, set, 4, Some(Found { place: 2, id: 4 }));
 }
 
-/// Asserts that the image has what stays alone.
+/// Asserts that only the elements that stay are in the image.
 fn assert_closed_up(rt: &impl Abort, image: &SetImage) {
     let elements = image.elements();
     assert_eq!(rt; elements.len(), 8);

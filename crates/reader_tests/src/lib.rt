@@ -1,6 +1,6 @@
-//! Tests of what readers, a writer and control threads do beside each other, on the same calls as a user makes.
+//! Tests readers, a writer and control threads beside each other, through the calls that a user makes.
 //!
-//! **Definitions:** none; it has tests alone. **Theory:** docs/architecture.md, "Readers beside a
+//! **Definitions:** none; this crate has only tests. **Theory:** docs/architecture.md, "Readers beside a
 //! writer".
 #![tactic(auto)]
 

@@ -15,7 +15,7 @@ use std::process::Abort;
 use std::test::Fail;
 use std::thread::Threads;
 
-/// Answers every packet with the number of the generation that is held.
+/// Decides on every packet by the number of the held generation.
 struct NumberJudge;
 
 impl Judge for NumberJudge {
@@ -82,7 +82,7 @@ fn at_places(alloc: Global, readers: Vec<Reader>) -> Result<Vec<Option<Reader>>,
     Ok(places)
 }
 
-/// What a section takes.
+/// A control, its readers, steps and packets: all that a section needs.
 #[derive(Drop)]
 struct Prepared {
     control: Control,
@@ -110,7 +110,7 @@ fn prepare(alloc: Global, threads: u32, count: u64) -> Result<Prepared, Memory>
     })
 }
 
-/// Each line is its packet's, and has its generation's number for a verdict.
+/// Asserts that each line is its packet's, with its generation's number as the decision.
 fn assert_numbers(rt: &impl Abort, lines: &[Line]) {
     for (p, line) in lines.iter().enumerate() {
         assert_eq!(rt; line.packet, 100 + p as u64);
@@ -124,7 +124,7 @@ fn assert_numbers(rt: &impl Abort, lines: &[Line]) {
     }
 }
 
-/// Each line has generation 1 and element 0.
+/// Asserts that each line has generation 1 and element 0.
 fn assert_found(rt: &impl Abort, lines: &[Line]) {
     for line in lines {
         assert_eq!(rt; line.generation, 1);
@@ -132,7 +132,7 @@ fn assert_found(rt: &impl Abort, lines: &[Line]) {
     }
 }
 
-/// Answers 33 packets beside a commit, each with its generation's number.
+/// Decides on 33 packets beside a commit, each by its generation's number.
 fn beside_commit<R: Threads + Abort + Sync>(
     rt: &R,
     alloc: Global,

@@ -7,7 +7,7 @@ use std::process::Abort;
 use std::test::Fail;
 use std::thread::{Threads, join};
 
-/// How many lookups are wrong in a generation n, which has the ports 0 to n - 1.
+/// How many lookups return a wrong id in generation n, which has the ports 0 to n - 1.
 fn wrong(rt: &impl Abort, held: &mut Held, keys: &[Key]) -> u64 {
     let now = held.generation();
     let mut wrong = 0u64;
@@ -19,7 +19,7 @@ fn wrong(rt: &impl Abort, held: &mut Held, keys: &[Key]) -> u64 {
     wrong
 }
 
-/// How often a lookup was wrong or a generation older than the one before.
+/// How often a lookup returned a wrong id, or a generation was older than the one before.
 fn faults(rt: &impl Abort, mut held: Held, keys: &[Key]) -> u64 {
     let (mut last, mut faults) = (0, 0u64);
     for _ in 0..5000u32 {

@@ -64,7 +64,7 @@ fn assert_publishes<L: Ledger>(
     assert_eq!(rt; found, before);
 }
 
-/// Publishes a number. What the first reader's berth of the slot held before, or 99 if it was empty.
+/// Publishes a number. Returns what the first reader's berth of the slot held before, or 99 if it was empty.
 fn publish<L: Ledger>(
     rt: &impl Abort,
     alloc: Global,
@@ -112,8 +112,8 @@ fn tell(writer: &mut Writer<Number>, first: &mut Pass<Number>, second: &mut Pass
     writer.known();
 }
 
-/// Asserts what both readers enter and what each publication finds in its slot. Slot 1 is new; then slot 0 has state 0,
-/// slot 1 state 1 and slot 0 state 2.
+/// Asserts what both readers enter, and what each publication finds in its slot. Slot 1 is new at first. Then
+/// slot 0 has state 0, slot 1 has state 1, and slot 0 has state 2.
 fn assert_entered<L: Ledger>(
     rt: &impl Abort,
     alloc: Global,

@@ -24,7 +24,7 @@ fn made(alloc: Global) -> Result<(Writer<Number>, Pass<Number>, Pass<Number>), M
     Ok((writer, first, second))
 }
 
-/// Publishes a number. What both places held before, or 99 if one was empty.
+/// Publishes a number. Returns what both places held before, or 99 if one was empty.
 fn publish<R: Wait + Abort>(
     rt: &R,
     alloc: Global,

@@ -1,4 +1,4 @@
-//! Runs whose order is held by a gate: packet threads beside one another, and beside the control.
+//! Runs in which a gate keeps an order: packet threads beside one another, and beside the control.
 ghost use Rattle.std.specs.Prelude.{◌≤◌, ◌<◌, IfOk, All};
 ghost use Rattle.set_model.specs.Runnable.{IsFitting};
 
@@ -17,16 +17,16 @@ use std::thread::Threads;
 /// How often a held call looks before it gives up.
 const TURNS: u64 = 50_000_000;
 
-/// Who waits for whom.
+/// Which calls wait for which.
 #[derive(Clone, Copy)]
 enum Order {
-    /// Each of two packets for the other.
+    /// Two packets wait for each other.
     Meeting(u64, u64),
-    /// The first commit for packet 1, and that packet for the commit.
+    /// The first commit waits for packet 1, and that packet waits for the commit.
     Crossing,
-    /// Packets for the commit of their round. Each round has two packets and makes one generation.
+    /// Packets wait for the commit of their round. Each round has two packets and makes one generation.
     CommitsFirst,
-    /// Commits for the packets of their round.
+    /// Commits wait for the packets of their round.
     PacketsFirst,
 }
 
@@ -244,7 +244,7 @@ const HELD: [(&str, &str, Order, &str); 4] = [
          packet 2 thread 0 generation 2 element 1\n\
          packet 3 thread 0 generation 2 element 0\n",
     ),
-    // the script's sections go on behind those of the packets
+    // the script has more sections than the key file
     (
         "add set ip t p { type inet_service ; flags interval ; }\ncommit\nround\ncommit\nround\ncommit\n",
         "ip t p 80\n",

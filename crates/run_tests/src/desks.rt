@@ -1,4 +1,4 @@
-//! Control threads that a bell holds for each other, and what a gate sees of a desk.
+//! Control threads that a bell holds for each other, and the sections that a gate sees of a desk.
 use control_desk::{Bell, QuietBell};
 use desk_run::desk;
 use packet_pool::{Gate, OpenGate};
@@ -51,7 +51,8 @@ impl Bell for Meeting {
     }
 }
 
-/// A gate that keeps what it was told of sections: behind a 1 two digits a section, its number and that of the last one.
+/// A gate that keeps the sections that it sees as digits: a 1, and then two digits for each section. These
+/// are its number and the last section's number.
 #[derive(Drop)]
 struct Told {
     digits: AtomicU64,
@@ -74,7 +75,7 @@ impl Gate for Told {
     fn closed(&self, _generation: u64) {}
 }
 
-/// Runs the script of a text at a desk, and answers its output.
+/// Runs the script of a text at a desk, and returns its output.
 fn run<R: Threads + Wait + Sync + Abort, B: Bell, G: Gate>(
     rt: &R,
     alloc: Global,

@@ -1,4 +1,4 @@
-//! What a user of the library writes: the example of its first page, and a script that is loaded.
+//! The code of a library user: the example of the library's first page, and a script that is loaded.
 ghost use Rattle.std.specs.Prelude.{◌≡◌, length, All, IfOk};
 ghost use Rattle.set_space.specs.Open.{CanBeBuilt};
 

@@ -1,7 +1,10 @@
-//! Tests below the top call: packet threads and control threads that are held for one another, what a gate and a terminal show of a
-//! run, lines of reports, listings that are read again, generated workloads, and the library's front door.
+//! Tests below the top call: held threads, gates, reports, listings, workloads, and the library's front door.
 //!
-//! **Definitions:** none; this crate has only tests. **Theory:** docs/architecture.md, "The way of a run"; docs/formats.md.
+//! Packet threads and control threads are held for one another. A gate and a terminal show a run, listings
+//! are read again, and workloads are generated.
+//!
+//! **Definitions:** none; this crate has only tests. **Theory:** docs/architecture.md, "The way of a run";
+//! docs/formats.md.
 #![tactic(auto)]
 
 #[cfg(test)]

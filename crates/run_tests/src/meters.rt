@@ -35,7 +35,7 @@ impl Screen for Counted<'_> {
     }
 }
 
-/// Shows a second of commits, one each millisecond, and compares how many texts came.
+/// Shows a second of commits, one each millisecond, and compares the number of texts.
 fn check_second<S: Screen + Sync + Drop>(
     rt: &impl Abort,
     clock: &SetClock,

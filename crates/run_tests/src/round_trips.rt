@@ -1,4 +1,4 @@
-//! Scripts that look random are listed, and the listing, read as a script and listed again, is the same.
+//! Lists scripts that look random. A listing that is read as a script and listed again stays the same.
 use crate::scripts::script;
 use packet_pool::OpenGate;
 use script_run::listing;
@@ -7,7 +7,7 @@ use std::alloc::Global;
 use std::process::Abort;
 use std::test::Fail;
 
-/// The listing of a script, without the lines of what the control told.
+/// The listing of a script, without the lines of its reports.
 fn listed(alloc: Global, text: &[u8]) -> Result<Vec<u8>, Fail> {
     let output = listing(alloc, read_script(alloc, text)?, true, &OpenGate)?;
     sets_of(alloc, output.text.as_slice())
@@ -32,7 +32,7 @@ fn check_again(rt: &impl Abort, alloc: Global, first: &[u8]) -> Result<(), Fail>
     Ok(())
 }
 
-/// Lists the script of a seed twice, and answers whether it has sets.
+/// Lists the script of a seed twice, and returns whether it has sets.
 fn check(rt: &impl Abort, alloc: Global, seed: u64) -> Result<bool, Fail> {
     let text = script(alloc, seed)?;
     let first = listed(alloc, text.as_bytes())?;

@@ -12,7 +12,7 @@ pub(crate) struct Draft {
     alloc: Global,
 }
 
-/// What a script holds of a set.
+/// The fields of a set, its flags and its elements in a script.
 #[derive(Clone, Copy)]
 struct Shape {
     /// Which of the kinds its fields have: field f has kind `first_kind` + f, modulo 6.
@@ -121,7 +121,7 @@ impl Draft {
         self.put(" ; ")
     }
 
-    /// The items of a set behind its type.
+    /// The items of a set after its type.
     fn put_items(&mut self, shape: Shape) -> Result<(), Memory> {
         self.put("flags interval")?;
         if shape.disjoint {

@@ -7,8 +7,8 @@ use std::process::Abort;
 use std::sync::atomic::{AtomicU64, Ordering};
 use std::test::Fail;
 
-/// A gate that keeps each section as three digits behind a 1: its number, that of the last one, and its count of packets. It counts
-/// steps, too.
+/// A gate that keeps sections as digits: a 1, and then three digits for each section. These are its number,
+/// the last section's number, and its count of packets. The gate also counts steps.
 #[derive(Drop)]
 struct Told {
     digits: AtomicU64,

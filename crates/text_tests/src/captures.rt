@@ -131,7 +131,7 @@ fn planned(alloc: Global, plan: &Plan, words: &[u8]) -> Result<Vec<u8>, Memory> 
     }
 }
 
-/// The packets that a plan makes of the capture in words behind its `=`.
+/// The packets that a plan makes of the capture in words after its `=`.
 fn told_packets(alloc: Global, case: &[u8]) -> Result<Vec<u8>, Memory> {
     let (plan, words) = cut(case, b'=');
     match read_plan(alloc, &schema_of(alloc, SETS)?, plan) {
@@ -140,7 +140,8 @@ fn told_packets(alloc: Global, case: &[u8]) -> Result<Vec<u8>, Memory> {
     }
 }
 
-// the third and the fourth begin as a pcapng file and as one of gzip, the one with 71 is a cooked capture of Linux
+// the third begins as a pcapng file, and the fourth as a gzip file; the one with 71 is a cooked capture of
+// Linux
 /// Captures that are refused, by the byte and the reason.
 const FAULTS: &[u8] = b"\
     |0 magic~\

@@ -1,4 +1,4 @@
-//! Tables of cases. A case is a text and what is told of it, as `at 5|read~`: neither of them has a `|` or a `~`.
+//! Tables of cases. A case is a text and the reader's result, as `at 5|read~`. Neither has a `|` or a `~`.
 use set_model::Memory;
 use std::alloc::Global;
 use std::process::Abort;
@@ -6,7 +6,8 @@ use std::str;
 use text_pieces::{Piece, append_pieces};
 use token_forms::{BadToken, Reason};
 
-/// What is before the first such byte of a text, and what is behind it; the whole text and nothing if it has none.
+/// The parts of a text before and after the first byte `at`. If there is none, these are the whole text and
+/// nothing.
 pub fn cut(text: &[u8], at: u8) -> (&[u8], &[u8]) {
     match text.iter().position(|byte| *byte == at) {
         Some(place) => (&text[..place], &text[place + 1..]),
@@ -14,7 +15,7 @@ pub fn cut(text: &[u8], at: u8) -> (&[u8], &[u8]) {
     }
 }
 
-/// Asserts that a text is told so, and shows what is told else.
+/// Asserts that a result is the expected one, and prints it otherwise.
 fn assert_is(rt: &impl Abort, told: Result<Vec<u8>, Memory>, expected: &[u8]) {
     match told {
         Ok(told) => assert!(rt; told.as_slice() == expected, "{:?}", str::from_utf8(&told)),
@@ -22,7 +23,7 @@ fn assert_is(rt: &impl Abort, told: Result<Vec<u8>, Memory>, expected: &[u8]) {
     }
 }
 
-/// Asserts that a table has so many cases, and that each of its texts is told as its case says.
+/// Asserts that a table has so many cases, and that each text has the result of its case.
 pub fn assert_told<F>(rt: &impl Abort, alloc: Global, cases: &[u8], count: u64, tell: F)
 where
     F: Fn(Global, &[u8]) -> Result<Vec<u8>, Memory>,
@@ -39,7 +40,7 @@ where
     assert_eq!(rt; seen, count);
 }
 
-/// A text behind another one.
+/// One text after another.
 pub fn joined(alloc: Global, front: &[u8], behind: &[u8]) -> Result<Vec<u8>, Memory> {
     let mut text = Vec::from_slice(alloc, front)?;
     text.extend_from_slice(behind)?;

@@ -52,7 +52,7 @@ fn assert_kept(rt: &impl Abort, elements: &Elements) {
     }
 }
 
-/// Asserts that a copy is changed, and what it is of isn't.
+/// Asserts that a copy changes, and that its original doesn't.
 fn assert_apart(rt: &impl Abort, alloc: Global, shared: &Elements) -> Result<(), Memory> {
     let taken = changed(&mut shared.copy(alloc)?)?;
     assert!(rt; taken.parts.as_slice() == [FIRST, SECOND].as_slice());

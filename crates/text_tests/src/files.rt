@@ -1,5 +1,5 @@
-//! The trusted edge, over the system's own files: a shelf of real files, and a sink and notes whose standard output and
-//! standard error are one of them, so that a test reads what arrived.
+//! The trusted edge, over the system's own files: a shelf of real files, a sink, and notes. The standard
+//! output and the standard error are files, so that a test reads what arrived.
 ghost use Rattle.std.specs.Prelude.{ℕ, ◌+◌, ◌<◌, ◌≤◌, length};
 
 use pip_base::{
@@ -120,7 +120,7 @@ fn has_piece<S: Shelf>(shelf: &mut S, file: u32, wanted: &[u8]) -> bool
     }
 }
 
-/// Whether `accept` and `drop` are read in turn, each in its own file.
+/// Whether alternating reads return `accept` and `drop`, each from its own file.
 fn are_in_turn<S: Shelf>(shelf: &mut S, first: u32, second: u32) -> bool
     requires first { S.is_picked shelf.old first }
     requires second { S.is_picked shelf.old second }
@@ -132,7 +132,7 @@ fn are_in_turn<S: Shelf>(shelf: &mut S, first: u32, second: u32) -> bool
         && has_piece(shelf, second, b"")
 }
 
-/// Picks two files, and reads them in turn.
+/// Opens two files, and reads them alternately.
 fn are_read_in_turn<S: Shelf>(alloc: Global, shelf: &mut S) -> bool
     requires { length (S.asked shelf.old) < 100 }
 {
@@ -145,7 +145,7 @@ fn are_read_in_turn<S: Shelf>(alloc: Global, shelf: &mut S) -> bool
     are_in_turn(shelf, first, second)
 }
 
-/// Two files that are read in turn: each read goes on in its own file.
+/// Alternating reads of two files: each read goes on in its own file.
 #[test]
 fn two_real_files_are_read_in_turn(rt: HostRuntime) {
     assert!(rt; is_made(&rt, "pip_base_first.txt", "accept"));
@@ -221,14 +221,14 @@ fn a_full_device_and_a_write_of_no_bytes_are_faults(rt: HostRuntime) {
     assert!(rt; is_file(&rt, "pip_base_none.txt", b""));
 }
 
-/// Tells two texts on a standard error.
+/// Prints two texts on a standard error.
 fn tell_two(error: File) {
     let mut notes = ErrNotes::new(error);
     notes.tell(b"x.nft:1:1: this word\n");
     notes.tell(b"stands nowhere\n");
 }
 
-/// Each text arrives once and in order, and a standard error that takes nothing is borne.
+/// Each text arrives once and in order. A standard error that takes nothing is no failure.
 #[test]
 fn notes_arrive_once(rt: HostRuntime) -> Result<(), Fail> {
     tell_two(File::create(&rt, "pip_base_notes.txt")?);

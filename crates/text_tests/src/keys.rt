@@ -36,12 +36,12 @@ const PORTS: &[u8] = b"\
     add set ip round x { type inet_service ; }\n\
     ";
 
-/// What is read of a text for `PORTS`.
+/// The packets of a text for `PORTS`.
 fn port_keys(alloc: Global, text: &[u8]) -> Result<Vec<u8>, Memory> {
     told_keys(alloc, &schema_of(alloc, PORTS)?, text)
 }
 
-/// What is read of a text where no set is declared.
+/// The packets of a text if no set is declared.
 fn keys_of_no_set(alloc: Global, text: &[u8]) -> Result<Vec<u8>, Memory> {
     told_keys(alloc, &Schema::new(alloc), text)
 }
@@ -52,7 +52,7 @@ const VALUE_SETS: &[u8] = b"\
     add set inet t m { type ipv6_addr . ether_addr . inet_proto . mark ; }\n\
     ";
 
-/// What is read of a text for `VALUE_SETS`.
+/// The packets of a text for `VALUE_SETS`.
 fn value_keys(alloc: Global, text: &[u8]) -> Result<Vec<u8>, Memory> {
     told_keys(alloc, &schema_of(alloc, VALUE_SETS)?, text)
 }

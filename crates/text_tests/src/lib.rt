@@ -1,9 +1,12 @@
-//! Tests of the texts that are read and told: addresses and times, scripts, key files, rules files, captures and their plans,
-//! notes of faults, and the words of a command; of files and outputs, real ones and in memory; and of copies of elements.
+//! Tests the texts that the program reads and writes, by tables of cases.
 //!
-//! Most cases are rows of tables, each a text and what is told of it (`cases.rt`).
+//! The texts are addresses and times, scripts, key files, rules files, captures and their plans, notes of
+//! faults, and the words of a command. Files and outputs are real ones or in memory. Copies of elements have
+//! tests here, too.
 //!
-//! **Definitions:** none; it has tests alone. **Theory:** docs/formats.md.
+//! Most cases are rows of tables, each a text and the reader's result (`cases.rt`).
+//!
+//! **Definitions:** none; this crate has only tests. **Theory:** docs/formats.md.
 #![tactic(auto)]
 
 #[cfg(test)]

@@ -1,4 +1,4 @@
-//! What a person is told: of bad tokens, of captures, of files and of refused changes.
+//! Notes for a person: on bad tokens, captures, files and refused changes.
 use crate::cases::{assert_told, cut, joined, number};
 use fault_notes::{
     BadToken, CaptureReason, Note, TextKind, bad_text_note, capture_note, read_fault_note,
@@ -54,7 +54,7 @@ fn bad_token_of(words: &[u8]) -> BadToken {
     }
 }
 
-/// What is told of a text's bad token. Before the text are its kind, as s for a script, and the bad token.
+/// The note on a text's bad token. Before the text are its kind, as s for a script, and the bad token.
 fn told_bad(alloc: Global, case: &[u8]) -> Result<Vec<u8>, Memory> {
     let (front, text) = cut(case, b';');
     let (kind, bad) = cut(front, b' ');
@@ -73,7 +73,7 @@ fn capture_reason_of(word: &[u8]) -> CaptureReason {
     }
 }
 
-/// What is told of a file that is no capture. Before the file are the byte and the reason.
+/// The note on a file that is no capture. Before the file are the byte and the reason.
 fn told_capture(alloc: Global, case: &[u8]) -> Result<Vec<u8>, Memory> {
     let (front, file) = cut(case, b';');
     let (byte, reason) = cut(front, b' ');
@@ -81,7 +81,7 @@ fn told_capture(alloc: Global, case: &[u8]) -> Result<Vec<u8>, Memory> {
     told_note(alloc, capture_note(alloc, "c", file, number(byte), reason))
 }
 
-/// What is told of some faults of files, by their names.
+/// The notes on some faults of files, by their names.
 fn told_file(alloc: Global, fault: &[u8]) -> Result<Vec<u8>, Memory> {
     told_note(
         alloc,
@@ -106,7 +106,7 @@ fn told_of(alloc: Global, script: &Script, output: &[u8]) -> Result<Vec<u8>, Mem
     )
 }
 
-/// What is told of the refused changes of an output of `OVERLAP`.
+/// The note on the refused changes of an output of `OVERLAP`.
 fn told_refusals(alloc: Global, output: &[u8]) -> Result<Vec<u8>, Memory> {
     match read_script(alloc, OVERLAP) {
         Ok(script) => told_of(alloc, &script, output),
@@ -145,7 +145,7 @@ const RULES_AND_PLANS: &[u8] = b"\
 ";
 
 // `tcpdump -i any` writes captures of type 113, in both orders of bytes
-/// Files that are no captures that are read.
+/// Files that are no captures that the program reads.
 const CAPTURES: &[u8] = b"\
     0 magic;\x0a\x0d\x0d\x0a\x1c\x00|c: byte 0: this is a pcapng file: write it as pcap, as editcap -F pcap does\n~\
     0 magic;\x1f\x8b\x08\x00|c: byte 0: this is a file that gzip has packed: unpack it first\n~\
@@ -166,7 +166,7 @@ const FILES: &[u8] = b"\
     18|a.nft: the script has 18 sections, and desk runs 17 at most: the first, and one for each of 16 control threads; join some, by leaving lines 'round' out\n~\
 ";
 
-// of several control threads, whose sections come in any order, no older element is told
+// a desk's sections come in any order, so its note shows no older element
 /// Refused changes with both elements.
 const REFUSALS: &[u8] = b"\
     line 6 refused overlap ip t s element 0\nfail generation 0\n|x.nft:6:3: 10.0.1.128/25 overlaps 10.0.1.0/24 (line 5)\n~\
@@ -184,7 +184,7 @@ fn notes(rt: HostRuntime) {
     assert_told(&rt, rt.alloc(), REFUSALS, 4, told_refusals);
 }
 
-/// So many times the same line.
+/// The same line, so many times.
 fn repeated(alloc: Global, times: u64, line: &[u8]) -> Result<Vec<u8>, Memory> {
     let mut text = Vec::new(alloc);
     for _ in 0..times {
@@ -193,7 +193,7 @@ fn repeated(alloc: Global, times: u64, line: &[u8]) -> Result<Vec<u8>, Memory> {
     Ok(text)
 }
 
-/// Whether of so many refused changes 20 are told, and the others counted.
+/// Whether a note on so many refused changes shows 20, and counts the others.
 fn are_counted(alloc: Global, refused: u64, counted: &[u8]) -> Result<bool, Memory> {
     let full = b"x.nft:5:3: 10.0.1.0/24 doesn't fit: the set has as many elements as it may have\n";
     let expected = joined(alloc, &repeated(alloc, 20, full)?, counted)?;

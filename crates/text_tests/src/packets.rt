@@ -1,4 +1,4 @@
-//! What is told of packets.
+//! Packets as the texts of results.
 use set_model::{Memory, Packet, Packets};
 use text_pieces::{Piece, append_pieces};
 

@@ -1,4 +1,4 @@
-//! Rules files: what is read of them, the faults of those that are refused, and what their rules decide.
+//! Rules files: their chains, the faults of those that are refused, and what their rules decide.
 ghost use Rattle.std.specs.Prelude.{◌≤◌, length, IfOk};
 ghost use Rattle.set_model.specs.Runnable.{IsFitting};
 ghost use Rattle.set_script.specs.Limits.{most_sets};
@@ -71,12 +71,12 @@ fn told_chains(alloc: Global, chains: &ChainList, accept: bool) -> Result<Vec<u8
     Ok(told)
 }
 
-/// What a copy of the chains has.
+/// The chains of a copy.
 fn told_copy(alloc: Global, rules: &Chains) -> Result<Vec<u8>, Memory> {
     told_chains(alloc, &rules.chains.copy(alloc)?, rules.accept)
 }
 
-/// What is read of a rules file, or its line and the reason for which it is refused.
+/// The chains of a rules file, or its line and the reason for which it is refused.
 fn told_rules(alloc: Global, text: &[u8]) -> Result<Vec<u8>, Memory> {
     match read_rules(alloc, &schema_of(alloc, SETS)?, text) {
         Ok(rules) => told_copy(alloc, &rules),
@@ -106,7 +106,7 @@ fn told_count(alloc: Global, rules: &Chains) -> Result<Vec<u8>, Memory> {
     }
 }
 
-/// What is read of a chain of so many rules.
+/// The count of a chain of so many rules, or the line and the reason of its refusal.
 fn told_length(alloc: Global, rules: &[u8]) -> Result<Vec<u8>, Memory> {
     let text = long_chain(alloc, number(rules))?;
     match read_rules(alloc, &schema_of(alloc, SETS)?, &text) {
@@ -189,8 +189,8 @@ const RULES: &[u8] = b"\
     chain main { out t bad accept }\npolicy drop\n|main{out 1 accept;}drop~\
 ";
 
-// a jump to itself, to a later and to an unknown chain, a name twice; what isn't a set's name; separators, and what is
-// behind the policy; a fifth chain, and a fifth test
+// a jump to itself, to a later and to an unknown chain, a name twice; what isn't a set's name; separators,
+// and text after the policy; a fifth chain, and a fifth test
 /// Lines and reasons.
 const FAULTS: &[u8] = b"\
     |1 end~\
@@ -220,7 +220,7 @@ const LENGTHS: &[u8] = b"\
     65|66 statement~\
 ";
 
-/// If a chain returns or decides nothing, the one that it was reached from goes on.
+/// If a chain returns or decides nothing, the chain that jumped to it goes on.
 const DECISIONS: &[u8] = b"\
     23 chain block { in ip t bad drop }\nchain main { jump block ; in ip t ok accept }\npolicy drop\n|rule 0~\
     80 chain block { in ip t bad drop }\nchain main { jump block ; in ip t ok accept }\npolicy drop\n|rule 2~\

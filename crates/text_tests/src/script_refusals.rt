@@ -16,13 +16,13 @@ fn refusal(alloc: Global, text: &[u8]) -> Result<Vec<u8>, Memory> {
     }
 }
 
-/// That of a statement behind a set of addresses and ports.
+/// The line and the reason for a statement after a set of addresses and ports.
 fn statement_refusal(alloc: Global, text: &[u8]) -> Result<Vec<u8>, Memory> {
     let set = b"add set ip filter s { type ipv4_addr . inet_service ; flags interval ; }\n";
     refusal(alloc, &joined(alloc, set, text)?)
 }
 
-/// That of an element of this set.
+/// The line and the reason for an element of this set.
 fn element_refusal(alloc: Global, text: &[u8]) -> Result<Vec<u8>, Memory> {
     statement_refusal(
         alloc,
@@ -30,13 +30,13 @@ fn element_refusal(alloc: Global, text: &[u8]) -> Result<Vec<u8>, Memory> {
     )
 }
 
-/// That of an element of a timed set of ports.
+/// The line and the reason for an element of a timed set of ports.
 fn option_refusal(alloc: Global, text: &[u8]) -> Result<Vec<u8>, Memory> {
     let front = b"add set t s { type inet_service; flags timeout }; delete element t s { ";
     refusal(alloc, &joined(alloc, front, text)?)
 }
 
-/// That of a set's kinds.
+/// The line and the reason for a set's kinds.
 fn type_refusal(alloc: Global, text: &[u8]) -> Result<Vec<u8>, Memory> {
     refusal(alloc, &joined(alloc, b"add set t s { type ", text)?)
 }
@@ -265,7 +265,7 @@ fn declarations(alloc: Global) -> Result<Vec<u8>, Memory> {
     Ok(text)
 }
 
-/// Asserts that a set behind these is refused in its line, if they are the most.
+/// Asserts that one more set after these is refused in its line, if a script can't have more.
 fn assert_most(rt: &impl Abort, alloc: Global, sets: &[u8]) -> Result<(), Memory> {
     assert!(rt; refusal(alloc, sets)?.as_slice() == b"read".as_slice());
     let more = joined(alloc, sets, b"table t { set s { type mark } }")?;

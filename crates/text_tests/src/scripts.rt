@@ -153,7 +153,7 @@ fn told_script(alloc: Global, script: &Script) -> Result<Vec<u8>, Memory> {
     Ok(told)
 }
 
-/// What is read of a script.
+/// The sets and steps of a script.
 fn told_text(alloc: Global, text: &[u8]) -> Result<Vec<u8>, Memory> {
     match read_script(alloc, text) {
         Ok(script) => told_script(alloc, &script),

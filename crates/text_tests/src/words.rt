@@ -43,7 +43,7 @@ fn told_task<'a>(
     )
 }
 
-/// What is done with a script; a name or number of threads that it has not is told as empty or 0.
+/// A command on a script. A missing name is shown as empty, and a missing number of threads as 0.
 fn told_script(
     alloc: Global,
     script: &str,
@@ -119,7 +119,7 @@ fn told_words(alloc: Global, words: &[String]) -> Result<Vec<u8>, Memory> {
     }
 }
 
-/// What the words of a line ask for.
+/// The command or page of a line's words.
 fn asked(alloc: Global, line: &[u8]) -> Result<Vec<u8>, Memory> {
     told_words(alloc, &words_of(alloc, line)?)
 }

@@ -99,7 +99,7 @@ module _ (shelf : Shelved) (quiet : Rose shelf.faults_before shelf.faults_now �
     read-bad : HasRead shelf c → ⊥
     read-bad r = read-outside r.sets later (subst (λ (z : List Input). AreOf shelf.told r.sets z) in_order r.all.are_of)
 
--- What a command of these words comes to, by what its files come to.
+-- The result of a command of these words, by the results of its files.
 module _ (words : List (List ℕ)) (shelf : Shelved) (c : Command) (is_c : IsCommand words c) (status : ℕ) (no_read : HasRead shelf c → ⊥) (of_stop : (fault : FileFault) → StopsAt shelf c fault → (file_status fault ≡ status) ⊎ (file_status fault ≡ 7)) where
   cause-status : (fault : Fault) → IsCause words shelf fault → (status_of fault ≡ status) ⊎ (status_of fault ≡ 7)
   cause-status Usage (no_command none nothing quiet) = absurd (none.no_work c is_c)

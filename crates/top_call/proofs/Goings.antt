@@ -1,4 +1,4 @@
--- A call goes by what its command comes to: an output, a fault or a page.
+-- A call ends with the result of its command: an output, a fault or a page.
 use Rattle.std.specs.Borrow.{Bor}
 use Rattle.std.proofs.Common.{◌≡◌, subst, ℕ, Bool, true, List, [], Option, inr, inl}
 use Rattle.command_words.specs.declared.page.Page.{Page}

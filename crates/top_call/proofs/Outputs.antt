@@ -1,4 +1,4 @@
--- What a command's work gives is the command's output.
+-- The text that a command's work makes is the command's output.
 use Rattle.std.proofs.Common.{refl, sym, subst, ℕ, Bool, List, Option}
 use Rattle.command_words.specs.Words.{Command}
 use Rattle.input_files.specs.declared.work.Work.{Work}

@@ -105,7 +105,7 @@ IsOutput (capture script plan packets threads keep_going) told refused output =
     → IsCaptured script_text plan_text capture_text threads (mode_of keep_going) refused output
 IsOutput (desk script keep_going) told refused output = (script_text : List ℕ) → told script ≡ Some script_text → IsWovenOf script_text keep_going refused output
 
--- The lines are legal ones of a script and its packets, and the text is that of their transcript.
+-- The lines are legal ones of a script and its packets, and the text is the text of their transcript.
 pub record HasTranscript (s : Script) (packets : List (List Packet)) (threads : ℕ) (mode : Mode) (text : List ℕ) : Type 0 where
   pub lines : List Line
   pub legal : Legal s packets threads mode lines

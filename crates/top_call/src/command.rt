@@ -135,9 +135,9 @@ fn carry_out<R: Threads + Wait + Sync, F: Shelf, K: Sink, N: Notes, G: Gate>(
 ///   control thread of its own. It writes the reports of all transactions in their order, and the last
 ///   generation.
 ///
-/// Five forms of words ask for help: `help`, `--help` or `-h` alone, `help` before the word of a command, and
-/// `--help` or `-h` after it. `--version` alone asks for the version. Then the page is written, the status is
-/// 0, and no file is asked for.
+/// `help`, `--help` or `-h` alone asks for help, and so do `help` before the word of a command and `--help` or
+/// `-h` after it. `--version` alone asks for the version. Then the page is written, the status is 0, and no
+/// file is asked for.
 ///
 /// With `--keep-going` a refused change is skipped, and doesn't fail its transaction. If the words, a file or
 /// its reading is at fault, one line is written in place of the output. If a file is at fault or a change was

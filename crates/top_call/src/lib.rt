@@ -4,11 +4,11 @@
 //!
 //! [`call::words_behind`] returns the words after the program's name. [`call::call`] reads the files of a command, runs
 //! it, writes its output in one piece, and returns the status. Take `x.nft` with element 0 at 10.0.0.5 . 1024 and
-//! element 1 at 192.168.1.0-192.168.2.1 . 2048. In `overlap.nft` a later transaction adds 10.0.0.0/8 . 1024:
+//! element 1 at 192.168.1.0-192.168.2.1 . 2048. In `overlap.nft` a later transaction adds 192.168.1.128 . 2048:
 //!
 //! ```text
-//! list x.nft         0: the listing of both elements.
-//! list overlap.nft   1: the report of the refused change, and the listing of both elements.
+//! list x.nft         0: the report of the commit, and the listing of both elements.
+//! list overlap.nft   1: the reports of the commit and of the refused change, and the listing of both elements.
 //! list               2: the usage line.
 //! list missing.nft   5: a line that ends with missing.nft.
 //! ```
