@@ -1,5 +1,6 @@
 //! The counted slots.
-ghost use Rattle.std.specs.Prelude.{◌≡◌, ◌^◌, ◌<◌, IfOk};
+ghost use Rattle.std.specs.Prelude.{◌≡◌, ◌^◌, ◌<◌, length, IfOk};
+ghost use Rattle.history_laws.specs.States.{AllShow};
 ghost use Rattle.gen_slots.specs.SlotMachine.{initial};
 
 use crate::numbers::{Number, first_values, next_values, shown};
@@ -64,6 +65,21 @@ fn assert_publishes<L: Ledger>(
     assert_eq!(rt; found, before);
 }
 
+/// Publishes values of the state `x`. Returns what the first reader's berth of the slot held before, or 99 if it was empty.
+fn put<L: Ledger>(
+    writer: &mut Writer<Number>,
+    mut values: Vec<Option<Number>>,
+    x: u64,
+    steps: &mut Steps<L>,
+) -> u64
+    requires readers { (writer.old.readers ≡ 2) × (length values.items ≡ 2) }
+    requires state { AllShow (λ n. n.0) x values.items }
+    ensures kept { (writer.new.readers ≡ 2) × (writer.new.of ≡ writer.old.of) }
+{
+    writer.publish(&mut values, steps);
+    shown(&values[0])
+}
+
 /// Publishes a number. Returns what the first reader's berth of the slot held before, or 99 if it was empty.
 fn publish<L: Ledger>(
     rt: &impl Abort,
@@ -75,9 +91,8 @@ fn publish<L: Ledger>(
     requires readers { writer.old.readers ≡ 2 }
     ensures kept { (writer.new.readers ≡ 2) × (writer.new.of ≡ writer.old.of) }
 {
-    let mut values = next_values(alloc, x).expect(rt, "memory");
-    writer.publish(&mut values, steps);
-    shown(&values[0])
+    let values = next_values(alloc, x).expect(rt, "memory");
+    put(writer, values, x, steps)
 }
 
 fn number(held: &Held<Number>) -> u64 {

@@ -1,5 +1,6 @@
 //! The ticket lock.
-ghost use Rattle.std.specs.Prelude.{◌≡◌, IfOk};
+ghost use Rattle.std.specs.Prelude.{◌≡◌, length, IfOk};
+ghost use Rattle.history_laws.specs.States.{AllShow};
 
 use crate::numbers::{Number, first_values, next_values, shown};
 use gen_turns::{Held, Pass, Writer, make};
@@ -24,6 +25,21 @@ fn made(alloc: Global) -> Result<(Writer<Number>, Pass<Number>, Pass<Number>), M
     Ok((writer, first, second))
 }
 
+/// Publishes values of the state `x`. Returns what both places held before, or 99 if one was empty.
+fn put<R: Wait>(
+    rt: &R,
+    writer: &mut Writer<Number>,
+    mut values: Vec<Option<Number>>,
+    x: u64,
+) -> (u64, u64)
+    requires readers { (writer.old.readers ≡ 2) × (length values.items ≡ 2) }
+    requires state { AllShow (λ n. n.0) x values.items }
+    ensures kept { (writer.new.readers ≡ 2) × (writer.new.of ≡ writer.old.of) }
+{
+    writer.publish(rt, &mut values);
+    (shown(&values[0]), shown(&values[1]))
+}
+
 /// Publishes a number. Returns what both places held before, or 99 if one was empty.
 fn publish<R: Wait + Abort>(
     rt: &R,
@@ -34,9 +50,8 @@ fn publish<R: Wait + Abort>(
     requires readers { writer.old.readers ≡ 2 }
     ensures kept { (writer.new.readers ≡ 2) × (writer.new.of ≡ writer.old.of) }
 {
-    let mut values = next_values(alloc, x).expect(rt, "memory");
-    writer.publish(rt, &mut values);
-    (shown(&values[0]), shown(&values[1]))
+    let values = next_values(alloc, x).expect(rt, "memory");
+    put(rt, writer, values, x)
 }
 
 /// Publishes a number, and asserts what both places held before: 99 if one was empty.
