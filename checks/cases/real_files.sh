@@ -70,7 +70,8 @@ echo '# more' >growing.nft
 grows=$!
 "$program" list growing.nft >written
 status=$?
-kill $grows
+# (a trap of this shell may still catch a TERM there)
+kill -KILL $grows
 wait $grows 2>/dev/null
 case $status in
 0) [ -s written ] && { echo "a growing file: wrote"; cat written; bad=1; } ;;
