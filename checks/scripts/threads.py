@@ -312,6 +312,8 @@ def worked_examples():
     faults = []
     for name in sorted(os.listdir(EXAMPLES)):
         folder = os.path.join(EXAMPLES, name)
+        if not os.path.isdir(folder):
+            continue
         with open(os.path.join(folder, "words")) as words, open(os.path.join(folder, "transcript")) as transcript:
             text = transcript.read()
             if words.read().startswith("run") and not text.startswith("pipapo: "):
