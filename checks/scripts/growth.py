@@ -122,6 +122,31 @@ def expired(count):
         yield f"add element ip t p {{ {30000 - n}-{30000 + n} }}"
 
 
+def replacements(count):
+    """A set that is kept at its size: so many elements, and a commit that replaces the first of them for each."""
+    yield f"add set ip t s {{ type ipv4_addr . inet_service ; flags interval ; size {count} ; }}"
+    for n in range(count):
+        yield f"add element ip t s {{ 10.{n >> 16 & 255}.{n >> 8 & 255}.{n & 255} . {1024 + n % 1000} }}"
+    yield "commit"
+    for n in range(count):
+        yield f"delete element ip t s {{ 10.{n >> 16 & 255}.{n >> 8 & 255}.{n & 255} . {1024 + n % 1000} }}"
+        yield f"add element ip t s {{ 11.{n >> 16 & 255}.{n >> 8 & 255}.{n & 255} . {1024 + n % 1000} }}"
+        yield "commit"
+
+
+def many_rules(count):
+    """So many elements of 254 rules each, and a hundred commits that replace one in the middle."""
+    yield "add set ip6 t s { type ipv6_addr ; flags interval ; }"
+    for n in range(count):
+        yield f"add element ip6 t s {{ {n + 1:x}::1-{n + 1:x}:ffff:ffff:ffff:ffff:ffff:ffff:fffe }}"
+    yield "commit"
+    for n in range(100):
+        at = count // 2 + n % 20
+        yield f"delete element ip6 t s {{ {at:x}::1-{at:x}:ffff:ffff:ffff:ffff:ffff:ffff:fffe }}"
+        yield f"add element ip6 t s {{ {at:x}::1-{at:x}:ffff:ffff:ffff:ffff:ffff:ffff:fffe }}"
+        yield "commit"
+
+
 def short_elements(count):
     """One statement of so many elements, all of them the same port."""
     yield "add set ip t p { type inet_service ; }"
@@ -149,6 +174,8 @@ ROWS = [
     ("destructions of missing elements", missing, 20000, 0),
     ("a thousand packets that expired elements hold", expired, 7000, 1000),
     ("short elements in one statement", short_elements, 500000, 0),
+    ("replacements of the first element of a full set, one commit each", replacements, 2000, 0),
+    ("replacements in the middle of elements of many rules", many_rules, 200, 0),
 ]
 
 

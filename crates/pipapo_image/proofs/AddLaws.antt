@@ -17,7 +17,7 @@ use Rattle.set_model.specs.declared.report.Why.TheVariants.{Overlap, Full}
 use Rattle.set_model.specs.Kind.{bits_of}
 use Rattle.set_model.specs.Key.{parts_fit, intervals_fit, key_fits, values_fit, is_good, is_value, start_key, end_key, parts_hold, same_parts, parts_share}
 use Rattle.set_model.specs.Expiry.{live}
-use Rattle.set_model.specs.SetState.{State, add, add_by, answers, element_at, same_at, twin_place, place, sharing_place, is_sharing, is_full, crowded_field}
+use Rattle.set_model.specs.SetState.{State, add, add_by, answers, element_at, same_at, twin_place, place, sharing_place, is_sharing, crowded_field}
 use Rattle.set_tables.proofs.RowLaws.{find-at, find-none, position-cons}
 use Rattle.pipapo_image.specs.declared.answers.Added.{Added as Came}
 use Rattle.pipapo_image.specs.declared.answers.ChangeError.{ChangeError}
@@ -26,7 +26,7 @@ use Rattle.pipapo_image.specs.declared.image.decision.Decision.{Decision}
 use Rattle.pipapo_image.specs.declared.image.decision.Decision.TheVariants.{Adds}
 use Rattle.pipapo_image.specs.Image.Insert.{IsAnswer, addition_said}
 use Rattle.pipapo_image.specs.Image.Decision.{IsDecision, comes, set_left}
-use Rattle.pipapo_image.specs.Image.Deciding.{IsTest, by_start, by_way, by_size, by_twin, by_rules, at_start, add_new, add_again}
+use Rattle.pipapo_image.specs.Image.Deciding.{IsTest, add_if, by_start, by_way, by_size, by_twin, by_rules, at_start, add_new, add_again}
 use Rattle.pipapo_image.proofs.ImageUse.{from-equal}
 
 -- the first that shares a key, by its place
@@ -41,9 +41,9 @@ abbrev refused_by : State → Option ℕ → Bool → Option ℕ → Option Why
 refused_by s (Some i) full crowded = Some (Overlap (element_at s i).id)
 refused_by s None full crowded = option_or (if full then Some Full else None) (by_rules crowded)
 
-by-way : (s : State) (parts : List Interval) (o : Option ℕ) → refused_by s o (is_full s) (crowded_field s parts) ≡ by_way s parts o
-by-way s parts None = refl
-by-way s parts (Some i) = refl
+by-way : (s : State) (parts : List Interval) (full : Bool) (o : Option ℕ) → refused_by s o full (crowded_field s parts) ≡ by_way s parts full o
+by-way s parts full None = refl
+by-way s parts full (Some i) = refl
 
 new-at-end : (s : State) (e : NewElement) (x at_end crowded : Option ℕ) (full : Bool) → add_by s e None x None at_end None full crowded ≡ add_new s e (refused_by s at_end full crowded)
 new-at-end s e x (Some i) crowded full = refl
@@ -60,35 +60,35 @@ there-again s e i None at_start at_end sharing crowded full = refl
 there-again s e i (Some m) at_start at_end sharing crowded full = refl
 
 -- if elements may share keys, the element that holds the start key decides
-start-decides : (s : State) (e : NewElement) (now : ℕ) (o : Option ℕ)
-    → add_by s e (same_at s e.parts o) e.expiry o (place s (end_key e.parts) now) None (is_full s) (crowded_field s e.parts) ≡ by_start s e now o
-start-decides s e now None =
-    new-at-end s e e.expiry (place s (end_key e.parts) now) (crowded_field s e.parts) (is_full s) ∙ ap (add_new s e) (by-way s e.parts (place s (end_key e.parts) now))
-start-decides s e now (Some i) = go (same_parts (element_at s i).parts e.parts) where
-  go : (t : Bool) → add_by s e (if t then Some i else None) e.expiry (Some i) (place s (end_key e.parts) now) None (is_full s) (crowded_field s e.parts) ≡ at_start s i e.expiry t
-  go true = there-again s e i e.expiry (Some i) (place s (end_key e.parts) now) None (crowded_field s e.parts) (is_full s)
+start-decides : (s : State) (e : NewElement) (now : ℕ) (full : Bool) (o : Option ℕ)
+    → add_by s e (same_at s e.parts o) e.expiry o (place s (end_key e.parts) now) None full (crowded_field s e.parts) ≡ by_start s e now full o
+start-decides s e now full None =
+    new-at-end s e e.expiry (place s (end_key e.parts) now) (crowded_field s e.parts) full ∙ ap (add_new s e) (by-way s e.parts full (place s (end_key e.parts) now))
+start-decides s e now full (Some i) = go (same_parts (element_at s i).parts e.parts) where
+  go : (t : Bool) → add_by s e (if t then Some i else None) e.expiry (Some i) (place s (end_key e.parts) now) None full (crowded_field s e.parts) ≡ at_start s i e.expiry t
+  go true = there-again s e i e.expiry (Some i) (place s (end_key e.parts) now) None (crowded_field s e.parts) full
   go false = refl
 
-pub add-by : (s : State) (e : NewElement) (now : ℕ) → s.disjoint ≡ false → add s e now ≡ by_start s e now (place s (start_key e.parts) now)
-add-by s e now d =
+pub add-by : (s : State) (e : NewElement) (now : ℕ) (full : Bool) → s.disjoint ≡ false → add_if full s e now ≡ by_start s e now full (place s (start_key e.parts) now)
+add-by s e now full d =
     let at_start = place s (start_key e.parts) now in
     let at_end = place s (end_key e.parts) now in
-    ap (λ t. add_by s e (same_at s e.parts at_start) e.expiry (if t then None else at_start) (if t then None else at_end) (if t then sharing_place s e.parts now else None) (is_full s) (crowded_field s e.parts)) d
-    ∙ start-decides s e now at_start
+    ap (λ t. add_by s e (same_at s e.parts at_start) e.expiry (if t then None else at_start) (if t then None else at_end) (if t then sharing_place s e.parts now else None) full (crowded_field s e.parts)) d
+    ∙ start-decides s e now full at_start
 
 -- in a disjoint set, the element that is there already
-twin-decides : (s : State) (e : NewElement) (now : ℕ) (o : Option ℕ)
-    → add_by s e o e.expiry None None (sharing_place s e.parts now) (is_full s) (crowded_field s e.parts) ≡ by_twin s e now o
-twin-decides s e now None =
-    new-apart s e e.expiry (sharing_place s e.parts now) (crowded_field s e.parts) (is_full s) ∙ ap (add_new s e) (by-way s e.parts (sharing_place s e.parts now))
-twin-decides s e now (Some i) = there-again s e i e.expiry None None (sharing_place s e.parts now) (crowded_field s e.parts) (is_full s)
+twin-decides : (s : State) (e : NewElement) (now : ℕ) (full : Bool) (o : Option ℕ)
+    → add_by s e o e.expiry None None (sharing_place s e.parts now) full (crowded_field s e.parts) ≡ by_twin s e now full o
+twin-decides s e now full None =
+    new-apart s e e.expiry (sharing_place s e.parts now) (crowded_field s e.parts) full ∙ ap (add_new s e) (by-way s e.parts full (sharing_place s e.parts now))
+twin-decides s e now full (Some i) = there-again s e i e.expiry None None (sharing_place s e.parts now) (crowded_field s e.parts) full
 
-pub add-apart : (s : State) (e : NewElement) (now : ℕ) → s.disjoint ≡ true → add s e now ≡ by_twin s e now (twin_place s e.parts now)
-add-apart s e now d =
+pub add-apart : (s : State) (e : NewElement) (now : ℕ) (full : Bool) → s.disjoint ≡ true → add_if full s e now ≡ by_twin s e now full (twin_place s e.parts now)
+add-apart s e now full d =
     let at_start = place s (start_key e.parts) now in
     let at_end = place s (end_key e.parts) now in
-    ap (λ t. add_by s e (twin_place s e.parts now) e.expiry (if t then None else at_start) (if t then None else at_end) (if t then sharing_place s e.parts now else None) (is_full s) (crowded_field s e.parts)) d
-    ∙ twin-decides s e now (twin_place s e.parts now)
+    ap (λ t. add_by s e (twin_place s e.parts now) e.expiry (if t then None else at_start) (if t then None else at_end) (if t then sharing_place s e.parts now else None) full (crowded_field s e.parts)) d
+    ∙ twin-decides s e now full (twin_place s e.parts now)
 
 -- ---- intervals of one value each
 -- They end with the key with which they start.
@@ -99,9 +99,9 @@ single-key (p ∷ parts) h =
     ap (λ v. v ∷ end_key parts) (from-equal p.low p.high a.0) ∙ ap (λ vs. p.low ∷ vs) (single-key parts a.1)
 
 -- If no element holds this key, no element is in the way.
-pub single-way : (s : State) (parts : List Interval) (now : ℕ) → list_all (λ part. part.low == part.high) parts ≡ true → place s (start_key parts) now ≡ None
-    → by_way s parts (place s (end_key parts) now) ≡ by_size s parts (is_full s)
-single-way s parts now one none = ap (λ key. by_way s parts (place s key now)) (single-key parts one) ∙ ap (by_way s parts) none
+pub single-way : (s : State) (parts : List Interval) (now : ℕ) (full : Bool) → list_all (λ part. part.low == part.high) parts ≡ true → place s (start_key parts) now ≡ None
+    → by_way s parts full (place s (end_key parts) now) ≡ by_size s parts full
+single-way s parts now full one none = ap (λ key. by_way s parts full (place s key now)) (single-key parts one) ∙ ap (by_way s parts full) none
 
 -- They share a key with other intervals exactly if these hold their key.
 single-shares : (parts others : List Interval) → list_all (λ part. part.low == part.high) others ≡ true → parts_share parts others ≡ parts_hold parts (start_key others)
@@ -123,44 +123,44 @@ single-place parts now (e ∷ es) one =
     ∙ sym (position-cons (answers (start_key parts) now) e es)
 
 -- In a disjoint set, too, the element that holds the one key decides.
-single-decides : (s : State) (e : NewElement) (now : ℕ) (o : Option ℕ) → list_all (λ part. part.low == part.high) e.parts ≡ true → place s (start_key e.parts) now ≡ o
-    → by_twin s e now (same_at s e.parts o) ≡ by_start s e now o
-single-decides s e now None one is =
-    ap (λ z. add_new s e (by_way s e.parts z)) (single-place e.parts now s.elements one ∙ ap (λ key. place s key now) (sym (single-key e.parts one)))
-single-decides s e now (Some i) one is = go (same_parts (element_at s i).parts e.parts) where
-  go : (t : Bool) → by_twin s e now (if t then Some i else None) ≡ at_start s i e.expiry t
+single-decides : (s : State) (e : NewElement) (now : ℕ) (full : Bool) (o : Option ℕ) → list_all (λ part. part.low == part.high) e.parts ≡ true → place s (start_key e.parts) now ≡ o
+    → by_twin s e now full (same_at s e.parts o) ≡ by_start s e now full o
+single-decides s e now full None one is =
+    ap (λ z. add_new s e (by_way s e.parts full z)) (single-place e.parts now s.elements one ∙ ap (λ key. place s key now) (sym (single-key e.parts one)))
+single-decides s e now full (Some i) one is = go (same_parts (element_at s i).parts e.parts) where
+  go : (t : Bool) → by_twin s e now full (if t then Some i else None) ≡ at_start s i e.expiry t
   go true = refl
-  go false = ap (λ z. add_new s e (by_way s e.parts z)) (single-place e.parts now s.elements one ∙ is)
+  go false = ap (λ z. add_new s e (by_way s e.parts full z)) (single-place e.parts now s.elements one ∙ is)
 
-by-ends : (s : State) (e : NewElement) (now : ℕ) (t : Bool) → s.disjoint ≡ t → (not t || list_all (λ part. part.low == part.high) e.parts) ≡ true
-    → add s e now ≡ by_start s e now (place s (start_key e.parts) now)
-by-ends s e now false is h = add-by s e now is
-by-ends s e now true is h = add-apart s e now is ∙ single-decides s e now (place s (start_key e.parts) now) h refl
+by-ends : (s : State) (e : NewElement) (now : ℕ) (full t : Bool) → s.disjoint ≡ t → (not t || list_all (λ part. part.low == part.high) e.parts) ≡ true
+    → add_if full s e now ≡ by_start s e now full (place s (start_key e.parts) now)
+by-ends s e now full false is h = add-by s e now full is
+by-ends s e now full true is h = add-apart s e now full is ∙ single-decides s e now full (place s (start_key e.parts) now) h refl
 
 -- ---- what is decided
 -- If elements may share keys, or if the intervals hold one key alone, the places of the start key
 -- and the end key decide.
-pub decision_by : (s : State) (e : NewElement) (now : ℕ) (r : Result Decision ChangeError) → (not s.disjoint || list_all (λ part. part.low == part.high) e.parts) ≡ true
-    → IsDecision s e (by_start s e now (place s (start_key e.parts) now)) r → IsDecision s e (add s e now) r
-decision_by s e now r d h = subst (λ z. IsDecision s e z r) (sym (by-ends s e now s.disjoint refl d)) h
+pub decision_by : (s : State) (e : NewElement) (now : ℕ) (full : Bool) (r : Result Decision ChangeError) → (not s.disjoint || list_all (λ part. part.low == part.high) e.parts) ≡ true
+    → IsDecision s e (by_start s e now full (place s (start_key e.parts) now)) r → IsDecision s e (add_if full s e now) r
+decision_by s e now full r d h = subst (λ z. IsDecision s e z r) (sym (by-ends s e now full s.disjoint refl d)) h
 
 -- Otherwise the place of the element that is there already decides.
-pub decision_apart : (s : State) (e : NewElement) (now : ℕ) (r : Result Decision ChangeError) → (not s.disjoint || list_all (λ part. part.low == part.high) e.parts) ≡ false
-    → IsDecision s e (by_twin s e now (twin_place s e.parts now)) r → IsDecision s e (add s e now) r
-decision_apart s e now r d h = go s.disjoint refl d where
-  go : (t : Bool) → s.disjoint ≡ t → (not t || list_all (λ part. part.low == part.high) e.parts) ≡ false → IsDecision s e (add s e now) r
+pub decision_apart : (s : State) (e : NewElement) (now : ℕ) (full : Bool) (r : Result Decision ChangeError) → (not s.disjoint || list_all (λ part. part.low == part.high) e.parts) ≡ false
+    → IsDecision s e (by_twin s e now full (twin_place s e.parts now)) r → IsDecision s e (add_if full s e now) r
+decision_apart s e now full r d h = go s.disjoint refl d where
+  go : (t : Bool) → s.disjoint ≡ t → (not t || list_all (λ part. part.low == part.high) e.parts) ≡ false → IsDecision s e (add_if full s e now) r
   go false is d = absurd (cc d)
-  go true is d = subst (λ z. IsDecision s e z r) (sym (add-apart s e now is)) h
+  go true is d = subst (λ z. IsDecision s e z r) (sym (add-apart s e now full is)) h
 
 -- Whether an element is there already decides.
-pub decision_twin : (s : State) (e : NewElement) (now : ℕ) (o : Option ℕ) (r : Result Decision ChangeError) → o ≡ twin_place s e.parts now
-    → IsDecision s e (by_twin s e now o) r → IsDecision s e (by_twin s e now (twin_place s e.parts now)) r
-decision_twin s e now o r at h = subst (λ z. IsDecision s e (by_twin s e now z) r) at h
+pub decision_twin : (s : State) (e : NewElement) (now : ℕ) (full : Bool) (o : Option ℕ) (r : Result Decision ChangeError) → o ≡ twin_place s e.parts now
+    → IsDecision s e (by_twin s e now full o) r → IsDecision s e (by_twin s e now full (twin_place s e.parts now)) r
+decision_twin s e now full o r at h = subst (λ z. IsDecision s e (by_twin s e now full z) r) at h
 
 -- The element that holds the start key decides.
-pub decision_at : (s : State) (e : NewElement) (now i : ℕ) (r : Result Decision ChangeError) → Some i ≡ place s (start_key e.parts) now
-    → IsDecision s e (at_start s i e.expiry (same_parts (element_at s i).parts e.parts)) r → IsDecision s e (by_start s e now (place s (start_key e.parts) now)) r
-decision_at s e now i r at h = subst (λ o. IsDecision s e (by_start s e now o) r) at h
+pub decision_at : (s : State) (e : NewElement) (now : ℕ) (full : Bool) (i : ℕ) (r : Result Decision ChangeError) → Some i ≡ place s (start_key e.parts) now
+    → IsDecision s e (at_start s i e.expiry (same_parts (element_at s i).parts e.parts)) r → IsDecision s e (by_start s e now full (place s (start_key e.parts) now)) r
+decision_at s e now full i r at h = subst (λ o. IsDecision s e (by_start s e now full o) r) at h
 
 -- If nothing refuses the element, it is new.
 pub adds : (s : State) (e : NewElement) (why : Option Why) (columns : Vec (List Block)) → IsTest s e.parts why (Ok columns) → IsDecision s e (add_new s e why) (Ok (Adds columns))

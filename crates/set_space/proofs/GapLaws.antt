@@ -15,7 +15,8 @@ use Rattle.set_model.specs.SetState.{State, answers, place, element_at, purged}
 use Rattle.expiry_scan.specs.Expired.{is_expired}
 use Rattle.expiry_scan.proofs.PlaceLaws.{no_element}
 use Rattle.pipapo_image.specs.Image.Found.{found, found_at}
-use Rattle.set_space.specs.LazyImage.{staying, moment}
+use Rattle.set_space.specs.LazyImage.{moment}
+use Rattle.set_space.specs.Staying.{staying}
 use Rattle.set_space.specs.KeptSet.{gap_marks, gaps_before}
 use Rattle.set_space.proofs.KeptItems.{moved, get_or-kept, position-both}
 use Rattle.set_space.proofs.KeptSets.{answers-both, both-stay}

@@ -1,23 +1,22 @@
 -- A change of a set, and the same change of the set without the elements that are expired at a
 -- moment.
-use Rattle.std.proofs.Common.{◌≡◌, refl, sym, ◌∙◌, ap, ℕ, ◌+◌, ◌-◌, ◌<◌, ◌≤◌, ◌^◌, max, Bool, true, false, ◌&&◌, ◌||◌, ◌==◌, cond, nat_lt, nat_le, List, [], ◌∷◌, ◌++◌, length, get_or, slice_set, Option, Some, None, arith}
+use Rattle.std.proofs.Common.{◌≡◌, refl, sym, ◌∙◌, ap, ℕ, ◌+◌, ◌<◌, ◌≤◌, max, Bool, true, false, ◌&&◌, cond, nat_lt, List, [], ◌∷◌, ◌++◌, length, get_or, slice_set, Option, Some, None, arith}
 use Rattle.std.specs.Prelude.{IfSome, if◌then◌else◌, filter, find, position, option_map, remove}
-use Rattle.std.specs.Option.{option_map_or}
 use Rattle.std.specs.List.{range_with_len}
 use Rattle.std.proofs.lemmas.Bool.{and_parts}
 use Rattle.std.proofs.lemmas.Bool.Decides.{nat_tests}
 use Rattle.std.proofs.lemmas.List.Elements.{filter-append}
 use Rattle.std.proofs.lemmas.List.Quantifiers.{position-Some}
-use Rattle.std.proofs.lemmas.List.Sums.{length-filter, count_by-le-length}
 use Rattle.std.proofs.lemmas.Option.{slice_get-get_or}
 use Rattle.set_model.specs.declared.kind.Interval.{Interval}
 use Rattle.set_model.specs.declared.element.Element.{Element}
 use Rattle.set_model.specs.declared.element.NewElement.{NewElement}
-use Rattle.set_model.specs.declared.report.Why.TheVariants.{Overlap, Full, RulesFull}
+use Rattle.set_model.specs.declared.report.Why.TheVariants.{Overlap, RulesFull}
 use Rattle.set_model.specs.Key.{start_key, end_key, same_parts}
 use Rattle.set_model.specs.Expiry.{lives, live, renewed_at, renewed_element}
 use Rattle.set_model.specs.SetState.{State, Addition, New, Already, Renewed, Refused, holds, shares, answers, is_sharing, is_exactly, element_at, place, same_at, twin_place, sharing_place, start_in_the_way, end_in_the_way, sharing_in_the_way, is_full, is_crowded, crowded_field, field_blocks, field_rules, rules_limit, with_element, renewed, add, add_by, exact_place, without_at, removed, purged}
 use Rattle.expiry_scan.proofs.PlaceLaws.{no_element}
+use Rattle.pipapo_image.specs.Image.Deciding.{add_if}
 use Rattle.pipapo_image.proofs.Purging.{filter-fewer}
 use Rattle.set_space.proofs.KeptItems.{moved, moved-within, get_or-kept, remove-kept, set-kept, set-gone, remove-whole, position-both}
 
@@ -90,24 +89,7 @@ then-kept : (m : ℕ) (s : State) (t : Bool) (o : Option ℕ) → StaysAt m s o
 then-kept m s true o h = (refl, h)
 then-kept m s false o h = (refl, tt)
 
--- ---- fewer elements are no more than may be
-or-false : (a b c : Bool) → (b ≡ true → a ≡ true) → a || c ≡ false → b || c ≡ false
-or-false true b c less h = absurd (cc h)
-or-false false true c less h = absurd (cc (less refl))
-or-false false false c less h = h
-
-not-full : (m : ℕ) (s : State) → is_full s ≡ false → is_full (purged s m) ≡ false
-not-full m s h = or-false _ _ (s.next == 2 ^ 64 - 1) (go s.size) h where
-  fewer : (size n m : ℕ) → m ≤ n → nat_le size m ≡ true → nat_le size n ≡ true
-  fewer size n m l h = grind (arith, nat_tests)
-
-  go : (size : Option ℕ) → option_map_or (λ n. nat_le n (length (purged s m).elements)) size false ≡ true → option_map_or (λ n. nat_le n (length s.elements)) size false ≡ true
-  go None h = h
-  go (Some size) h =
-      let a = length-filter (stays m) s.elements in
-      let b = count_by-le-length (stays m) s.elements in
-      fewer size (length s.elements) (length (purged s m).elements) (omega arith) h
-
+-- ---- fewer elements have fewer rules
 find-fewer : {X : Type 0} (p q : X → Bool) (xs : List X) → ((x : X) → q x ≡ true → p x ≡ true) → find p xs ≡ None → find q xs ≡ None
 find-fewer p q [] less h = refl
 find-fewer {X} p q (x ∷ xs) less h = go (p x) (q x) (less x) (λ g. find-fewer p q xs less g) h where
@@ -171,9 +153,8 @@ removed-kept m s parts now =
           ap (λ e. pair e (remove (purged s m).elements (moved_in m s i))) (element-kept m s i h.0 h.1) ∙ ap (pair (element_at s i)) (remove-kept (stays m) s.elements i no_element h.0 h.1)
 
 -- ---- additions
--- The size or the number of rules refuses an addition.
+-- The number of rules refuses an addition.
 abbrev pub at_limit : Addition → Bool
-at_limit (Refused Full) = true
 at_limit (Refused (RulesFull f)) = true
 at_limit a = false
 
@@ -189,27 +170,28 @@ added-kept m s e h =
     let one : filter (stays m) (new ∷ []) ≡ new ∷ [] = ap (λ t. cond t (new ∷ []) []) h in
     ap make (sym (filter-append (stays m) s.elements (new ∷ []) ∙ ap (λ z. (purged s m).elements ++ z) one))
 
-by-case : (m : ℕ) (s : State) (e : NewElement) (twin x at_start at_end sharing crowded crowded' : Option ℕ) (full full' : Bool) → lives e.expiry m ≡ true → lives x m ≡ true
-    → StaysAt m s twin → StaysAt m s at_start → StaysAt m s at_end → StaysAt m s sharing → (full ≡ false → full' ≡ false) → (crowded ≡ None → crowded' ≡ None)
+by-case : (m : ℕ) (s : State) (e : NewElement) (twin x at_start at_end sharing crowded crowded' : Option ℕ) (full : Bool) → lives e.expiry m ≡ true → lives x m ≡ true
+    → StaysAt m s twin → StaysAt m s at_start → StaysAt m s at_end → StaysAt m s sharing → (crowded ≡ None → crowded' ≡ None)
     → at_limit (add_by s e twin x at_start at_end sharing full crowded).0 ≡ false
-    → add_by (purged s m) e (option_map (moved_in m s) twin) x (option_map (moved_in m s) at_start) (option_map (moved_in m s) at_end) (option_map (moved_in m s) sharing) full' crowded'
+    → add_by (purged s m) e (option_map (moved_in m s) twin) x (option_map (moved_in m s) at_start) (option_map (moved_in m s) at_end) (option_map (moved_in m s) sharing) full crowded'
     ≡ kept_of m (add_by s e twin x at_start at_end sharing full crowded)
-by-case m s e (Some i) None at_start at_end sharing c c' f f' l k t a b d fw cw h = ap (λ (z : Element). (Already z.id, purged s m)) (element-kept m s i t.0 t.1)
-by-case m s e (Some i) (Some x) at_start at_end sharing c c' f f' l k t a b d fw cw h =
+by-case m s e (Some i) None at_start at_end sharing c c' f l k t a b d cw h = ap (λ (z : Element). (Already z.id, purged s m)) (element-kept m s i t.0 t.1)
+by-case m s e (Some i) (Some x) at_start at_end sharing c c' f l k t a b d cw h =
     ap (λ (z : Element). (Renewed z.id, renewed (purged s m) (moved_in m s i) (Some x))) (element-kept m s i t.0 t.1)
     ∙ ap (λ z. (Renewed (element_at s i).id, z)) (renewed-kept m s i (Some x) t.0 t.1 k)
-by-case m s e None x (Some i) at_end sharing c c' f f' l k t a b d fw cw h = ap (λ (z : Element). (Refused (Overlap z.id), purged s m)) (element-kept m s i a.0 a.1)
-by-case m s e None x None (Some i) sharing c c' f f' l k t a b d fw cw h = ap (λ (z : Element). (Refused (Overlap z.id), purged s m)) (element-kept m s i b.0 b.1)
-by-case m s e None x None None (Some i) c c' f f' l k t a b d fw cw h = ap (λ (z : Element). (Refused (Overlap z.id), purged s m)) (element-kept m s i d.0 d.1)
-by-case m s e None x None None None c c' true f' l k t a b d fw cw h = absurd (cc h)
-by-case m s e None x None None None (Some g) c' false f' l k t a b d fw cw h = absurd (cc h)
-by-case m s e None x None None None None c' false f' l k t a b d fw cw h =
-    ap (λ z. add_by (purged s m) e None x None None None z c') (fw refl) ∙ ap (λ z. add_by (purged s m) e None x None None None false z) (cw refl)
-    ∙ ap (λ z. (New s.next, z)) (added-kept m s e l)
+by-case m s e None x (Some i) at_end sharing c c' f l k t a b d cw h = ap (λ (z : Element). (Refused (Overlap z.id), purged s m)) (element-kept m s i a.0 a.1)
+by-case m s e None x None (Some i) sharing c c' f l k t a b d cw h = ap (λ (z : Element). (Refused (Overlap z.id), purged s m)) (element-kept m s i b.0 b.1)
+by-case m s e None x None None (Some i) c c' f l k t a b d cw h = ap (λ (z : Element). (Refused (Overlap z.id), purged s m)) (element-kept m s i d.0 d.1)
+by-case m s e None x None None None c c' true l k t a b d cw h = refl
+by-case m s e None x None None None (Some g) c' false l k t a b d cw h = absurd (cc h)
+by-case m s e None x None None None None c' false l k t a b d cw h =
+    ap (λ z. add_by (purged s m) e None x None None None false z) (cw refl) ∙ ap (λ z. (New s.next, z)) (added-kept m s e l)
 
--- An addition that no limit refuses does the same in both sets.
-pub add-kept : (m : ℕ) (s : State) (e : NewElement) (now : ℕ) → lives e.expiry m ≡ true → at_limit (add s e (max m now)).0 ≡ false → add (purged s m) e now ≡ kept_of m (add s e (max m now))
-add-kept m s e now l h =
+-- An addition that the number of rules doesn't refuse does the same in both sets, if both know
+-- whether the smaller one is full.
+pub add-kept : (m : ℕ) (s : State) (e : NewElement) (now : ℕ) (full : Bool) → full ≡ is_full (purged s m) → lives e.expiry m ≡ true → at_limit (add_if full s e (max m now)).0 ≡ false
+    → add (purged s m) e now ≡ kept_of m (add_if full s e (max m now))
+add-kept m s e now full is l h =
     let M = moved_in m s in
     let n = max m now in
     let t = purged s m in
@@ -221,12 +203,13 @@ add-kept m s e now l h =
     let at_start = else-kept m s s.disjoint (place s start n) (stay start) in
     let at_end = else-kept m s s.disjoint (place s end n) (stay end) in
     let sharing = then-kept m s s.disjoint (sharing_place s e.parts n) (place-stays m s (is_sharing e.parts n) (both-stay m (is_sharing e.parts n) (is_sharing e.parts now) (sharing-both e.parts m now))) in
-    ap (λ o. add_by t e (same_at t e.parts o) e.expiry (if s.disjoint then None else o) (end_in_the_way t e.parts now) (sharing_in_the_way t e.parts now) (is_full t) (crowded_field t e.parts)) (at start)
-    ∙ ap (λ o. add_by t e o e.expiry (if s.disjoint then None else option_map M (place s start n)) (end_in_the_way t e.parts now) (sharing_in_the_way t e.parts now) (is_full t) (crowded_field t e.parts)) twin.0
-    ∙ ap (λ o. add_by t e (option_map M (twin_place s e.parts n)) e.expiry o (end_in_the_way t e.parts now) (sharing_in_the_way t e.parts now) (is_full t) (crowded_field t e.parts)) at_start.0
-    ∙ ap (λ o. add_by t e (option_map M (twin_place s e.parts n)) e.expiry (option_map M (start_in_the_way s e.parts n)) o (sharing_in_the_way t e.parts now) (is_full t) (crowded_field t e.parts))
+    ap (λ f. add_if f t e now) (sym is)
+    ∙ ap (λ o. add_by t e (same_at t e.parts o) e.expiry (if s.disjoint then None else o) (end_in_the_way t e.parts now) (sharing_in_the_way t e.parts now) full (crowded_field t e.parts)) (at start)
+    ∙ ap (λ o. add_by t e o e.expiry (if s.disjoint then None else option_map M (place s start n)) (end_in_the_way t e.parts now) (sharing_in_the_way t e.parts now) full (crowded_field t e.parts)) twin.0
+    ∙ ap (λ o. add_by t e (option_map M (twin_place s e.parts n)) e.expiry o (end_in_the_way t e.parts now) (sharing_in_the_way t e.parts now) full (crowded_field t e.parts)) at_start.0
+    ∙ ap (λ o. add_by t e (option_map M (twin_place s e.parts n)) e.expiry (option_map M (start_in_the_way s e.parts n)) o (sharing_in_the_way t e.parts now) full (crowded_field t e.parts))
     (ap (λ o. if s.disjoint then None else o) (at end) ∙ at_end.0)
-    ∙ ap (λ o. add_by t e (option_map M (twin_place s e.parts n)) e.expiry (option_map M (start_in_the_way s e.parts n)) (option_map M (end_in_the_way s e.parts n)) o (is_full t) (crowded_field t e.parts))
+    ∙ ap (λ o. add_by t e (option_map M (twin_place s e.parts n)) e.expiry (option_map M (start_in_the_way s e.parts n)) (option_map M (end_in_the_way s e.parts n)) o full (crowded_field t e.parts))
     (ap (λ o. if s.disjoint then o else None) (position-both (stays m) (is_sharing e.parts n) (is_sharing e.parts now) (sharing-both e.parts m now) s.elements) ∙ sharing.0)
-    ∙ by-case m s e (twin_place s e.parts n) e.expiry (start_in_the_way s e.parts n) (end_in_the_way s e.parts n) (sharing_in_the_way s e.parts n) (crowded_field s e.parts) (crowded_field t e.parts) (is_full s) (is_full t)
-    l l twin.1 at_start.1 at_end.1 sharing.1 (not-full m s) (uncrowded m s e.parts) h
+    ∙ by-case m s e (twin_place s e.parts n) e.expiry (start_in_the_way s e.parts n) (end_in_the_way s e.parts n) (sharing_in_the_way s e.parts n) (crowded_field s e.parts) (crowded_field t e.parts) full
+    l l twin.1 at_start.1 at_end.1 sharing.1 (uncrowded m s e.parts) h

@@ -15,7 +15,8 @@ use Rattle.pipapo_image.specs.Image.Decision.{comes, set_left, existing}
 use Rattle.pipapo_image.specs.Image.Insert.{IsAnswer, addition_said}
 use Rattle.pipapo_image.specs.Image.Remove.{IsRemoval}
 use Rattle.pipapo_image.proofs.AddKeeps.{add_keeps}
-use Rattle.set_space.specs.LazyImage.{staying, IsLazyDecision}
+use Rattle.set_space.specs.LazyImage.{IsLazyDecision}
+use Rattle.set_space.specs.Staying.{staying}
 use Rattle.set_space.specs.Answers.{IsCreation, IsFlush}
 
 -- ---- of a decision

@@ -1,20 +1,17 @@
 -- A set by its image, which may still have elements that left the set.
 use Rattle.std.specs.Prelude.{◌≡◌, ℕ, max, Bool, true, false, not, Option, Some, None, Result, Ok, Err}
 use Rattle.set_model.specs.declared.element.NewElement.{NewElement}
-use Rattle.set_model.specs.declared.report.Why.TheVariants.{Full, RulesFull}
+use Rattle.set_model.specs.declared.report.Why.TheVariants.{RulesFull}
 use Rattle.set_model.specs.Expiry.{lives}
-use Rattle.set_model.specs.SetState.{State, Addition, purged}
+use Rattle.set_model.specs.SetState.{State, Addition}
 use Rattle.set_model.specs.SetState.Addition.{Refused}
 use Rattle.pipapo_image.specs.declared.answers.ChangeError.{ChangeError}
 use Rattle.pipapo_image.specs.declared.answers.ChangeError.TheVariants as errors
 use Rattle.pipapo_image.specs.declared.image.decision.Decision.{Decision}
+use Rattle.pipapo_image.specs.declared.image.decision.Decision.TheVariants.{Stays, Renews, Adds}
 use Rattle.pipapo_image.specs.Image.Decision.{CanBeDone, comes, set_left}
+use Rattle.set_space.specs.Staying.{staying}
 use Rattle.set_space.specs.declared.lazy_image.LazyImage.{LazyImage}
-
--- The set of an image: those elements that are live at the moment by which others left.
-abbrev pub staying : Option ℕ → State → State
-staying None image = image
-staying (Some m) image = purged image m
 
 -- the set that a lazy image represents
 abbrev pub set_of : LazyImage → State
@@ -25,9 +22,8 @@ abbrev pub moment : Option ℕ → ℕ → ℕ
 moment None now = now
 moment (Some m) now = max m now
 
--- The set's size or a field's number of rules refuses the element.
+-- A field's number of rules refuses the element.
 abbrev pub is_at_limit : Result Decision ChangeError → Bool
-is_at_limit (Err (errors.Refused Full)) = true
 is_at_limit (Err (errors.Refused (RulesFull f))) = true
 is_at_limit r = false
 
@@ -36,10 +32,16 @@ abbrev pub would_leave : Option ℕ → Option ℕ → Bool
 would_leave None expiry = false
 would_leave (Some m) expiry = not (lives expiry m)
 
--- A limit refuses the element, and elements that left count towards the limit.
+-- The number of rules refuses the element, and elements that left have rules, too.
 abbrev pub wants_room : Option ℕ → Result Decision ChangeError → Bool
 wants_room None r = false
 wants_room (Some m) r = is_at_limit r
+
+-- how many elements a decision adds
+abbrev pub added_by : Decision → ℕ
+added_by (Stays id) = 0
+added_by (Renews i id) = 0
+added_by (Adds columns) = 1
 
 -- Either the image decides this, and the set without the elements that left gives the same answer;
 -- or it is a refusal; or memory ran out.

@@ -4,3 +4,4 @@ pub mod KeptSet
 pub mod OpenSets
 pub mod Answers
 pub mod Copies
+pub mod Staying

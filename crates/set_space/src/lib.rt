@@ -19,13 +19,17 @@
 //! left. The image finds port 443 at place 1. One element before it left, so the set returns place
 //! 0. A deletion gives its element the expiry 0, which is live at no moment.
 //!
-//! If more than a quarter of the image may have left, the tables are made anew without the elements
-//! that left. Comments call this closing the rule numbers up.
+//! If more than a quarter of the image has left, the tables are made anew without the elements that
+//! left. Comments call this closing the rule numbers up.
+//!
+//! A set counts its own elements, and compares that count with its size. With `size 3` the set above
+//! is full after the second commit. If another port then replaces one of its ports, the image has
+//! five ports and the set three. So such a replacement costs no pass over the tables.
 //!
 //! A change without effect copies nothing, such as a refused addition or the deletion of a missing
 //! element. There are two exceptions, both in a set whose image has elements that left:
 //!
-//! - A limit refuses an addition. Elements that left count towards the limit.
+//! - The rules of a field refuse an addition. Rules of elements that left count towards their limit.
 //! - An addition's expiry isn't after `passed`. The image would take its element for one that left.
 //!
 //! In both cases the numbers close up in a copy, and the transaction goes on with the copy.

@@ -5,7 +5,7 @@ ghost use Rattle.set_model.specs.SetState.{add, element_at, place, twin_place, s
 ghost use Rattle.pipapo_image.specs.Index.Built.{Built};
 ghost use Rattle.pipapo_image.specs.Index.Grow.{IsColumn};
 ghost use Rattle.pipapo_image.specs.Image.Decision.{IsDecision};
-ghost use Rattle.pipapo_image.specs.Image.Deciding.{IsTest, IsTwinPlace, by_start, by_twin, by_way, by_size, by_rules, at_start, add_again};
+ghost use Rattle.pipapo_image.specs.Image.Deciding.{IsTest, IsTwinPlace, is_full_with, add_if, by_start, by_twin, by_way, by_size, by_rules, at_start, add_again};
 
 use crate::answers::ChangeError;
 use crate::image::SetImage;
@@ -80,10 +80,33 @@ impl SetImage {
         requires { parts_fit self.now.kinds element.now.parts ≡ true }
         ensures { IsDecision self.now element.now (add self.now element.now now) result }
     {
+        self.decide_if(alloc, element, now, self.is_full(), scratch)
+    }
+
+    /// Decides what an insertion of this element does, given whether the set is full. The set is
+    /// unchanged. `now` is in milliseconds. A caller asks for itself whether the set is full if its
+    /// set lacks elements of this image.
+    ///
+    /// # Errors
+    ///
+    /// As of an insertion. `Full` comes exactly if the set is full, and no element is there already
+    /// or in the way.
+    pub fn decide_if(
+        &self,
+        alloc: Global,
+        element: &NewElement,
+        now: u64,
+        full: bool,
+        scratch: &mut Scratch,
+    ) -> Result<Decision, ChangeError>
+        requires fit { parts_fit self.now.kinds element.now.parts ≡ true }
+        requires next { full ≡ false → self.now.next < 2 ^ 64 - 1 }
+        ensures { IsDecision self.now element.now (add_if full self.now element.now now) result }
+    {
         if self.is_by_ends(&element.parts) {
-            self.decide_by_ends(alloc, element, now, scratch)
+            self.decide_by_ends(alloc, element, now, full, scratch)
         } else {
-            self.decide_apart(alloc, element, now, scratch)
+            self.decide_apart(alloc, element, now, full, scratch)
         }
     }
 
@@ -102,15 +125,17 @@ impl SetImage {
         alloc: Global,
         element: &NewElement,
         now: u64,
+        full: bool,
         scratch: &mut Scratch,
     ) -> Result<Decision, ChangeError>
-        requires { parts_fit self.now.kinds element.now.parts ≡ true }
-        ensures { IsDecision self.now element.now (by_twin self.now element.now now (twin_place self.now element.now.parts now)) result }
+        requires fit { parts_fit self.now.kinds element.now.parts ≡ true }
+        requires next { full ≡ false → self.now.next < 2 ^ 64 - 1 }
+        ensures { IsDecision self.now element.now (by_twin self.now element.now now full (twin_place self.now element.now.parts now)) result }
     {
         match self.twin_place(&element.parts, now, scratch) {
             Some(i) => Ok(self.decide_again(i, element)),
             None => Ok(Decision::Adds {
-                columns: self.columns_unshared(alloc, &element.parts, now, scratch)?,
+                columns: self.columns_unshared(alloc, &element.parts, now, full, scratch)?,
             }),
         }
     }
@@ -122,15 +147,17 @@ impl SetImage {
         alloc: Global,
         element: &NewElement,
         now: u64,
+        full: bool,
         scratch: &mut Scratch,
     ) -> Result<Decision, ChangeError>
-        requires { parts_fit self.now.kinds element.now.parts ≡ true }
-        ensures { IsDecision self.now element.now (by_start self.now element.now now (place self.now (start_key element.now.parts) now)) result }
+        requires fit { parts_fit self.now.kinds element.now.parts ≡ true }
+        requires next { full ≡ false → self.now.next < 2 ^ 64 - 1 }
+        ensures { IsDecision self.now element.now (by_start self.now element.now now full (place self.now (start_key element.now.parts) now)) result }
     {
         match self.start_place(&element.parts, now, scratch) {
             Some(i) => self.decide_at(i, element),
             None => Ok(Decision::Adds {
-                columns: self.columns_apart(alloc, &element.parts, now, scratch)?,
+                columns: self.columns_apart(alloc, &element.parts, now, full, scratch)?,
             }),
         }
     }
@@ -194,18 +221,20 @@ impl SetImage {
         alloc: Global,
         parts: &Parts,
         now: u64,
+        full: bool,
         scratch: &mut Scratch,
     ) -> Result<Vec<Listed<Block>>, ChangeError>
         requires fit { parts_fit self.now.kinds parts.now ≡ true }
+        requires next { full ≡ false → self.now.next < 2 ^ 64 - 1 }
         requires start { place self.now (start_key parts.now) now ≡ None }
-        ensures { IsTest self.now parts.now (by_way self.now parts.now (place self.now (end_key parts.now) now)) result }
+        ensures { IsTest self.now parts.now (by_way self.now parts.now full (place self.now (end_key parts.now) now)) result }
     {
         if is_single(parts.as_slice()) {
-            return self.columns_within(alloc, parts);
+            return self.columns_within(alloc, parts, full);
         }
         match self.end_place(parts, now, scratch) {
             Some(i) => Err(ChangeError::Refused(Why::Overlap { id: self.id_at(i) })),
-            None => self.columns_within(alloc, parts),
+            None => self.columns_within(alloc, parts, full),
         }
     }
 
@@ -215,14 +244,16 @@ impl SetImage {
         alloc: Global,
         parts: &Parts,
         now: u64,
+        full: bool,
         scratch: &mut Scratch,
     ) -> Result<Vec<Listed<Block>>, ChangeError>
-        requires { parts_fit self.now.kinds parts.now ≡ true }
-        ensures { IsTest self.now parts.now (by_way self.now parts.now (sharing_place self.now parts.now now)) result }
+        requires fit { parts_fit self.now.kinds parts.now ≡ true }
+        requires next { full ≡ false → self.now.next < 2 ^ 64 - 1 }
+        ensures { IsTest self.now parts.now (by_way self.now parts.now full (sharing_place self.now parts.now now)) result }
     {
         match self.sharing_place(parts, now, scratch) {
             Some(i) => Err(ChangeError::Refused(Why::Overlap { id: self.id_at(i) })),
-            None => self.columns_within(alloc, parts),
+            None => self.columns_within(alloc, parts, full),
         }
     }
 
@@ -231,11 +262,13 @@ impl SetImage {
         &self,
         alloc: Global,
         parts: &Parts,
+        full: bool,
     ) -> Result<Vec<Listed<Block>>, ChangeError>
-        requires { parts_fit self.now.kinds parts.now ≡ true }
-        ensures { IsTest self.now parts.now (by_size self.now parts.now (is_full self.now)) result }
+        requires fit { parts_fit self.now.kinds parts.now ≡ true }
+        requires next { full ≡ false → self.now.next < 2 ^ 64 - 1 }
+        ensures { IsTest self.now parts.now (by_size self.now parts.now full) result }
     {
-        if self.is_full() {
+        if full {
             Err(ChangeError::Refused(Why::Full))
         } else {
             self.columns_uncrowded(alloc, parts)
@@ -247,8 +280,16 @@ impl SetImage {
         ensures full { result ≡ is_full self.now }
         ensures next { result ≡ false → self.now.next < 2 ^ 64 - 1 }
     {
+        self.is_full_with(self.elements.len())
+    }
+
+    /// Whether a set of this image's size and next id is full if it has `count` elements.
+    pub fn is_full_with(&self, count: u64) -> bool
+        ensures full { result ≡ is_full_with self.now count }
+        ensures next { result ≡ false → self.now.next < 2 ^ 64 - 1 }
+    {
         let many = match self.size {
-            Some(size) => size as u64 <= self.elements.len(),
+            Some(size) => size as u64 <= count,
             None => false,
         };
         many || self.next == u64::MAX

@@ -1,9 +1,11 @@
-ghost use Rattle.std.specs.Prelude.{◌≡◌, ◌<◌, true, false, None, length, unwrap_or, IfOk, IfSome, OnOk, OnErr};
+ghost use Rattle.std.specs.Prelude.{◌≡◌, ◌<◌, ◌+◌, true, false, None, length, unwrap_or, IfOk, IfSome, OnOk, OnErr};
 ghost use Rattle.set_model.specs.Key.{parts_fit};
 ghost use Rattle.set_model.specs.SetState.{add, removed, element_at, purged, without_at};
-ghost use Rattle.pipapo_image.specs.Image.Insert.{IsAnswer};
+ghost use Rattle.pipapo_image.specs.Image.Insert.{addition_said, IsAnswer};
+ghost use Rattle.pipapo_image.specs.Image.Decision.{CanBeDone, comes, set_left};
 ghost use Rattle.pipapo_image.specs.Image.Remove.{IsRemoval};
-ghost use Rattle.set_space.specs.LazyImage.{staying, set_of, is_at_limit, would_leave, wants_room, IsLazyDecision};
+ghost use Rattle.set_space.specs.LazyImage.{set_of, is_at_limit, would_leave, wants_room, added_by, IsLazyDecision};
+ghost use Rattle.set_space.specs.Staying.{staying};
 ghost use Rattle.set_space.specs.Answers.{IsCreation};
 
 use crate::lazy_image::LazyImage;
@@ -12,14 +14,23 @@ use set_model::{Memory, NewElement, Parts, Why, is_live};
 use shared_pages::PAGE;
 use std::alloc::Global;
 
-/// Whether the set's size or a field's number of rules refuses an element.
+/// Whether a field's number of rules refuses an element.
 fn is_at_limit(answer: &Result<Decision, ChangeError>) -> bool
     ensures { result ≡ is_at_limit answer.now }
 {
     match answer {
-        Err(ChangeError::Refused(Why::Full)) => true,
         Err(ChangeError::Refused(Why::RulesFull { .. })) => true,
         _ => false,
+    }
+}
+
+/// How many elements a decision adds.
+fn added_by(decision: &Decision) -> u64
+    ensures { result ≡ added_by decision.now }
+{
+    match decision {
+        Decision::Adds { .. } => 1,
+        Decision::Stays { .. } | Decision::Renews { .. } => 0,
     }
 }
 
@@ -39,7 +50,7 @@ impl LazyImage {
         ensures { IsAnswer (add (set_of self.old) element.now now) result (set_of self.old) (set_of self.new) }
     {
         let decision = self.decide(alloc, element, now, scratch)?;
-        let came = self.image.carry_out(alloc, decision, element)?;
+        let came = self.carry_out(alloc, decision, element)?;
         Ok(came)
     }
 
@@ -62,10 +73,34 @@ impl LazyImage {
         if let Some(id) = decision.existing() {
             return Err(ChangeError::Refused(Why::Exists { id }));
         }
-        match self.image.carry_out(alloc, decision, element)? {
+        match self.carry_out(alloc, decision, element)? {
             Added::New { id } => Ok(id),
             Added::Already { .. } | Added::Renewed { .. } => unreachable!(),
         }
+    }
+
+    /// Carries out what was decided for the set.
+    ///
+    /// # Errors
+    /// `Memory` if memory runs out. The set is as it was.
+    pub(super) fn carry_out(
+        &mut self,
+        alloc: Global,
+        decision: Decision,
+        element: &NewElement,
+    ) -> Result<Added, Memory>
+        requires fit { parts_fit self.old.image.kinds element.now.parts ≡ true }
+        requires can { CanBeDone self.old.image element.now.parts decision }
+        requires grows { length (staying self.old.passed (set_left self.old.image element.now decision)).elements ≡ self.old.count + added_by decision }
+        ensures came { IfOk result (λ came. addition_said came ≡ comes decision self.old.image.next) }
+        ensures left { IfOk result (λ _. set_of self.new ≡ staying self.old.passed (set_left self.old.image element.now decision)) }
+        ensures err { OnErr result (set_of self.new ≡ set_of self.old) }
+    {
+        let added = added_by(&decision);
+        let came = self.image.carry_out(alloc, decision, element)?;
+        let _elements = self.image.elements();
+        self.count += added;
+        Ok(came)
     }
 
     /// Removes the first live element with exactly these intervals, and returns its id.
@@ -164,7 +199,9 @@ impl LazyImage {
         requires stays { would_leave self.now.passed element.now.expiry ≡ false }
         ensures { wants_room self.now.passed result ≡ false → IsLazyDecision self.now.passed self.now.image element.now (add (set_of self.now) element.now now) result }
     {
-        self.image.decide(alloc, element, self.moment(now), scratch)
+        let moment = self.moment(now);
+        self.image
+            .decide_if(alloc, element, moment, self.is_full(), scratch)
     }
 
     /// Whether the image would take the element for one that left.
@@ -177,7 +214,7 @@ impl LazyImage {
         }
     }
 
-    /// Whether a limit refuses an element, and elements that left count towards the limit.
+    /// Whether the number of rules refuses an element, and elements that left have rules, too.
     fn wants_room(&self, answer: &Result<Decision, ChangeError>) -> bool
         ensures { result ≡ wants_room self.now.passed answer.now }
     {
@@ -189,27 +226,38 @@ impl LazyImage {
     /// # Errors
     /// `Memory` if memory runs out. The set is as it was.
     pub(super) fn remove_at(&mut self, alloc: Global, i: u64) -> Result<u64, Memory>
-        requires { i < length self.old.image.elements }
+        requires within { i < length self.old.image.elements }
+        requires falls { length (staying self.old.passed (without_at self.old.image i)).elements + 1 ≡ self.old.count }
         ensures id { IfOk result (λ id. id ≡ (element_at self.old.image i).id) }
         ensures left { OnOk result (set_of self.new ≡ staying self.old.passed (without_at self.old.image i)) }
         ensures err { OnErr result (set_of self.new ≡ set_of self.old) }
     {
         if self.waits(i) {
-            self.mark(alloc, i)
-        } else {
-            self.image.remove_at(alloc, i)
+            return self.mark(alloc, i);
         }
+        let id = self.image.remove_at(alloc, i)?;
+        self.count -= 1;
+        Ok(id)
     }
 
     /// Whether the element at place `i` of the image stays there if it is deleted, until the
-    /// numbers close up. It is removed at once if at most a page of elements moves down. It is also
-    /// removed at once from a full image, since each addition would close the numbers up.
+    /// numbers close up. It is removed at once if few rules move down.
     fn waits(&self, i: u64) -> bool
         requires { i < length self.now.image.elements }
         ensures { result ≡ true → set_of self.now ≡ purged self.now.image (unwrap_or self.now.passed 0) }
     {
-        let behind = self.image.elements().len() - i;
-        behind > PAGE as u64 && !self.image.is_full() && self.can_wait()
+        self.moved_rules(i) > PAGE as u64 && self.can_wait()
+    }
+
+    /// About how many rules move down if the element at place `i` leaves the tables. It is the share
+    /// of the later elements in the field that has the most rules.
+    fn moved_rules(&self, i: u64) -> u64
+        requires { i < length self.now.image.elements }
+    {
+        let fields = self.image.index().fields.as_slice();
+        let most = fields.iter().map(|field| field.rules).max().unwrap_or(0);
+        let elements = self.image.elements().len();
+        (most as u64).saturating_mul(elements - i) / elements
     }
 
     /// Whether each element of the set is live at the moment by which others left. Then an element
@@ -228,13 +276,15 @@ impl LazyImage {
     fn mark(&mut self, alloc: Global, i: u64) -> Result<u64, Memory>
         requires within { i < length self.old.image.elements }
         requires live { set_of self.old ≡ purged self.old.image (unwrap_or self.old.passed 0) }
+        requires falls { length (staying self.old.passed (without_at self.old.image i)).elements + 1 ≡ self.old.count }
         ensures id { IfOk result (λ id. id ≡ (element_at self.old.image i).id) }
         ensures left { OnOk result (set_of self.new ≡ staying self.old.passed (without_at self.old.image i)) }
         ensures err { OnErr result (set_of self.new ≡ set_of self.old) }
     {
+        let id = self.image.elements().at(i).id;
         self.image.renew(alloc, i, Some(0))?;
         self.passed = Some(self.passed.unwrap_or(0));
-        self.left = self.left.saturating_add(1);
-        Ok(self.image.elements().at(i).id)
+        self.count -= 1;
+        Ok(id)
     }
 }

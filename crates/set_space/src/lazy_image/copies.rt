@@ -1,10 +1,11 @@
-ghost use Rattle.std.specs.Prelude.{◌≡◌, ◌<◌, true, None, Err, length, IfOk};
+ghost use Rattle.std.specs.Prelude.{◌≡◌, ◌<◌, ◌+◌, true, None, Err, length, IfOk};
 ghost use Rattle.set_model.specs.Key.{parts_fit};
 ghost use Rattle.set_model.specs.SetState.{add, removed, element_at, without_at};
 ghost use Rattle.pipapo_image.specs.Image.Insert.{addition_said, IsAnswer};
 ghost use Rattle.pipapo_image.specs.Image.Decision.{CanBeDone, comes, set_left};
 ghost use Rattle.set_space.specs.Answers.{IsCreation};
-ghost use Rattle.set_space.specs.LazyImage.{staying, set_of};
+ghost use Rattle.set_space.specs.LazyImage.{set_of, added_by};
+ghost use Rattle.set_space.specs.Staying.{staying};
 ghost use Rattle.set_space.specs.Copies.{copied, IsTakenOut};
 
 use crate::lazy_image::LazyImage;
@@ -54,6 +55,7 @@ impl LazyImage {
     ) -> Result<(Added, Option<LazyImage>), Memory>
         requires fit { parts_fit self.now.image.kinds element.now.parts ≡ true }
         requires can { CanBeDone self.now.image element.now.parts decision }
+        requires grows { length (staying self.now.passed (set_left self.now.image element.now decision)).elements ≡ self.now.count + added_by decision }
         ensures came { IfOk result (λ r. addition_said r.0 ≡ comes decision self.now.image.next) }
         ensures left { IfOk result (λ r. copied r.1 (set_of self.now) ≡ staying self.now.passed (set_left self.now.image element.now decision)) }
     {
@@ -101,6 +103,7 @@ impl LazyImage {
     ) -> Result<(Result<u64, ChangeError>, Option<LazyImage>), Memory>
         requires fit { parts_fit self.now.image.kinds element.now.parts ≡ true }
         requires can { CanBeDone self.now.image element.now.parts decision }
+        requires grows { length (staying self.now.passed (set_left self.now.image element.now decision)).elements ≡ self.now.count + added_by decision }
         ensures { IfOk result (λ r. IsCreation (comes decision self.now.image.next, staying self.now.passed (set_left self.now.image element.now decision)) r.0 (set_of self.now) (copied r.1 (set_of self.now))) }
     {
         if let Some(id) = decision.existing() {
@@ -121,11 +124,12 @@ impl LazyImage {
     ) -> Result<(Added, LazyImage), Memory>
         requires fit { parts_fit self.now.image.kinds element.now.parts ≡ true }
         requires can { CanBeDone self.now.image element.now.parts decision }
+        requires grows { length (staying self.now.passed (set_left self.now.image element.now decision)).elements ≡ self.now.count + added_by decision }
         ensures came { IfOk result (λ r. addition_said r.0 ≡ comes decision self.now.image.next) }
         ensures left { IfOk result (λ r. set_of r.1 ≡ staying self.now.passed (set_left self.now.image element.now decision)) }
     {
         let mut changed = self.copy(alloc)?;
-        let came = changed.image.carry_out(alloc, decision, element)?;
+        let came = changed.carry_out(alloc, decision, element)?;
         Ok((came, changed))
     }
 
@@ -153,7 +157,8 @@ impl LazyImage {
 
     /// A copy of the set without the element at place `i` of the image, and the element's id.
     fn without_at(&self, alloc: Global, i: u64) -> Result<(u64, LazyImage), Memory>
-        requires { i < length self.now.image.elements }
+        requires within { i < length self.now.image.elements }
+        requires falls { length (staying self.now.passed (without_at self.now.image i)).elements + 1 ≡ self.now.count }
         ensures id { IfOk result (λ r. r.0 ≡ (element_at self.now.image i).id) }
         ensures left { IfOk result (λ r. set_of r.1 ≡ staying self.now.passed (without_at self.now.image i)) }
     {

@@ -7,4 +7,4 @@ use Rattle.pipapo_image.proofs.image.SetImage.columns_apart.Goals as goal
 pub returns-then-is_single : goal.returns-then-is_single
 returns-then-is_single c =
     let one : list_all (λ part. part.low == part.high) c.args.parts.now ≡ true = ap (list_all (λ part. part.low == part.high)) (sym c.as_slice.ensures) ∙ sym c.is_single.ensures ∙ c.if-is_single.true in
-    subst (λ why. IsTest c.args.self.now c.args.parts.now why c.columns_within.result) (sym (single-way c.args.self.now c.args.parts.now c.args.now one c.requires.start)) c.columns_within.ensures
+    subst (λ why. IsTest c.args.self.now c.args.parts.now why c.columns_within.result) (sym (single-way c.args.self.now c.args.parts.now c.args.now c.args.full one c.requires.start)) c.columns_within.ensures

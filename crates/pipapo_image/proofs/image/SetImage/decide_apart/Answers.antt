@@ -4,4 +4,4 @@ use Rattle.pipapo_image.proofs.image.SetImage.decide_apart.Goals as goal
 
 pub returns-in-Some : goal.returns-in-Some
 returns-in-Some c =
-    decision_twin c.args.self.now c.args.element.now c.args.now (Some c.in-Some.i) (Ok c.decide_again.result) (search (rules, c.twin_place.ensures.value)) c.decide_again.ensures
+    decision_twin c.args.self.now c.args.element.now c.args.now c.args.full (Some c.in-Some.i) (Ok c.decide_again.result) (search (rules, c.twin_place.ensures.value)) c.decide_again.ensures

@@ -1,8 +1,8 @@
 use Rattle.std.proofs.Common.{refl, sym, ◌∙◌, ap, ℕ, Option, Some}
 use Rattle.set_model.specs.SetState.{State, without_at}
 use Rattle.pipapo_image.specs.Image.Found.{exactly_found}
-use Rattle.set_space.specs.LazyImage.{staying}
-use Rattle.set_space.proofs.LazyLaws.{found_removed, is_there, is_missing}
+use Rattle.set_space.specs.Staying.{staying}
+use Rattle.set_space.proofs.LazyLaws.{removed_falls, found_removed, is_there, is_missing}
 use Rattle.set_space.proofs.lazy_image.LazyImage.without.Goals as goal
 
 pub returns-in-None-clause-removal : goal.returns-in-None-clause-removal
@@ -28,3 +28,10 @@ pub returns-in_err-without_at-in-Some-clause-missing : goal.returns-in_err-witho
 returns-in_err-without_at-in-Some-clause-missing c =
     let s = c.args.self.now.image in
     λ none. absurd (is_there c.args.self.now.passed s c.args.parts.now c.args.now c.in-Some.found (sym c.in-Some.is ∙ c.find_exact.ensures ∙ ap (exactly_found s c.args.parts.now) c.moment-moment.ensures) none)
+
+pub without_at-requires-clause-falls : goal.without_at-requires-clause-falls
+without_at-requires-clause-falls c =
+    let p = c.args.self.now.passed in
+    let s = c.args.self.now.image in
+    removed_falls (staying p s) (staying p (without_at s c.in-Some.found.place)) c.args.parts.now c.args.now _ c.args.self.now.count c.args.self.now.counted
+    (found_removed p s c.args.parts.now c.args.now c.in-Some.found (sym c.in-Some.is ∙ c.find_exact.ensures ∙ ap (exactly_found s c.args.parts.now) c.moment-moment.ensures))
