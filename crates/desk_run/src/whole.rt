@@ -8,7 +8,7 @@ ghost use Rattle.packet_pool.specs.Running.{run, StandsAt};
 ghost use Rattle.set_report.specs.ListText.{list_text};
 ghost use Rattle.set_report.specs.Remarks.{remarks_text};
 ghost use Rattle.set_report.specs.Writes.{AreSetsOf, NamesSet};
-ghost use Rattle.script_run.specs.Telling.{section_at};
+ghost use Rattle.script_laws.specs.Sections.{section_at};
 ghost use Rattle.desk_run.specs.DeskText.{IsDeskText, log_text};
 
 use crate::gate_bell::GateBell;
@@ -17,7 +17,7 @@ use crate::text::write_log;
 use control_desk::{Bell, Entry, Log};
 use gen_publish::{Control, start};
 use packet_pool::{Gate, run_steps};
-use script_run::{Output, has_numbers, tells_refusal};
+use script_laws::{Output, has_numbers, tells_refusal};
 use set_model::{Duplicate, Events, Memory, Schema, Script, Sections, Steps};
 use set_report::{write_list, write_remarks};
 use std::alloc::Global;

@@ -6,8 +6,8 @@ use Rattle.set_model.specs.Runnable.{EndsClosed, IsRunnableStep}
 use Rattle.set_report.specs.ListText.{list_text}
 use Rattle.set_report.specs.Remarks.{remarks_text}
 use Rattle.set_report.specs.Writes.{AreSetsOf, NamesSet}
-use Rattle.script_run.proofs.Lists.{All-section}
-use Rattle.script_run.proofs.TranscriptLaws.{closed-at}
+use Rattle.script_laws.proofs.Lists.{All-section}
+use Rattle.script_laws.proofs.RunLaws.{closed-at}
 use Rattle.control_desk.specs.declared.entry.Entry.{Entry}
 use Rattle.control_desk.specs.Woven.{said}
 use Rattle.desk_run.specs.DeskText.{log_text}
