@@ -1,4 +1,4 @@
-use Rattle.std.proofs.Common.{◌≡◌, refl, sym, ◌∙◌, ap, subst, ℕ, ◌+◌, List, [], ◌∷◌, ◌++◌, take, drop, get_or}
+use Rattle.std.proofs.Common.{◌≡◌, refl, ◌∙◌, ap, subst, ◌+◌, List, [], ◌∷◌, ◌++◌, take, drop, get_or}
 use Rattle.atomic_table.specs.Seated.{TableId}
 use Rattle.set_model.specs.declared.script.SetDecl.{SetDecl}
 use Rattle.set_model.specs.Control.{Generation}

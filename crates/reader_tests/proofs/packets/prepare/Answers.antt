@@ -1,4 +1,4 @@
-use Rattle.std.proofs.Common.{rules, ◌≡◌, length, [], ◌∷◌, List, Option, map, Some, ap, sym, ◌∙◌, subst}
+use Rattle.std.proofs.Common.{length, [], ◌∷◌, List, Option, Some, ap, sym, ◌∙◌, subst}
 use lib.ListN.{length-map}
 use Rattle.set_model.specs.Control.{first_generation}
 use Rattle.gen_publish.specs.Publish.{AllFresh, ReaderView, Steering}
