@@ -1,7 +1,6 @@
 // Disjoint sets: worked examples, and elements that look random beside the plain list, at moments that
 // rise and fall.
 use crate::drawn::intervals;
-use crate::examples::{adds, finds};
 use crate::plain::{PlainElement, PlainSet, lows};
 use crate::random::Random;
 use crate::sets::{Trial, on_new_set};
@@ -169,19 +168,6 @@ fn many_and_long_fields_apart(rt: HostRuntime) -> Result<(), Fail> {
     check(&rt, rt.alloc(), &[Kind::Ipv6, Kind::Mark], 150, 13)?;
     let kinds = [Kind::Ether, Kind::Proto, Kind::Service];
     Ok(check(&rt, rt.alloc(), &kinds, 300, 14)?)
-}
-
-#[test]
-fn an_enclosing_interval_is_refused(rt: HostRuntime) -> Result<(), Fail> {
-    Ok(on_new_set(&rt, rt.alloc(), &[Kind::Service], None, true, |trial| {
-        adds(&rt, trial, 10, 20, None, Ok(Added::New { id: 0 }));
-        adds(&rt, trial, 5, 9, None, Ok(Added::New { id: 1 }));
-        let refused = Err(ChangeError::Refused(Why::Overlap { id: 0 }));
-        adds(&rt, trial, 5, 30, None, refused);
-        finds(&rt, trial, 7, 0, Some(1));
-        finds(&rt, trial, 30, 0, None);
-        Ok(())
-    })?)
 }
 
 /// The network of an address's first byte, and of its second byte if there is one.

@@ -82,12 +82,15 @@ fn check_numbers(rt: &impl Abort, numbers: &mut Numbers, copy: &Numbers) -> Resu
     Ok(())
 }
 
+fn check_copied(rt: &impl Abort, alloc: Global, numbers: &mut Numbers) -> Result<(), Memory> {
+    add_numbers(rt, numbers)?;
+    let copy = numbers.copy(alloc)?;
+    check_numbers(rt, numbers, &copy)
+}
+
 #[test]
 fn a_copy_lives_on_beside_a_change(rt: HostRuntime) -> Result<(), Fail> {
-    let mut numbers = Pages::new(rt.alloc());
-    add_numbers(&rt, &mut numbers)?;
-    let copy = numbers.copy(rt.alloc())?;
-    Ok(check_numbers(&rt, &mut numbers, &copy)?)
+    Ok(check_copied(&rt, rt.alloc(), &mut Pages::new(rt.alloc()))?)
 }
 
 /// How often the first item of a page was copied.
@@ -98,15 +101,30 @@ fn copies(page: &Page<Traced>) -> Option<u64> {
     }
 }
 
+/// Asserts how often the first item of a copy of the page was copied.
+fn check_copy(
+    rt: &impl Abort,
+    alloc: Global,
+    page: &Page<Traced>,
+    wanted: u64,
+) -> Result<(), Memory> {
+    same_if_any(rt, copies(&page.copy(alloc)?), Some(wanted), wanted);
+    Ok(())
+}
+
+/// Writes over the one item of a page.
+fn write(rt: &impl Abort, alloc: Global, page: &mut Page<Traced>) -> Result<(), Memory> {
+    assert!(rt; page.as_slice().len() == 1);
+    page.set(alloc, 0, uncopied(8))
+}
+
 /// Asserts that a copy of a page of one item copies the item, unless the page was settled, and until the copy
 /// changes.
 fn check_page(rt: &impl Abort, alloc: Global, page: &mut Page<Traced>) -> Result<(), Memory> {
-    same_if_any(rt, copies(&page.copy(alloc)?), Some(1), 0);
+    check_copy(rt, alloc, page, 1)?;
     page.settle(alloc)?;
-    let mut copy = page.copy(alloc)?;
-    same_if_any(rt, copies(&copy), Some(0), 1);
-    assert!(rt; copy.as_slice().len() == 1);
-    copy.set(alloc, 0, uncopied(8))?;
+    check_copy(rt, alloc, page, 0)?;
+    write(rt, alloc, &mut page.copy(alloc)?)?;
     same_if_any(rt, copies(page), Some(0), 2);
     Ok(())
 }

@@ -169,12 +169,16 @@ fn assert_split(
     assert_holding(rt, alloc, table, 255, &[])
 }
 
+// Asserts that these blocks match alike in groups of four bits, and of eight again.
+fn assert_narrow(rt: &impl Abort, alloc: Global, narrow: &FieldTable) -> Result<(), Fail> {
+    assert_split(rt, alloc, narrow, 32)?;
+    assert_split(rt, alloc, &narrow.with_width(alloc, 8)?, 256)
+}
+
 // Asserts that these blocks match alike in groups of eight bits, of four, and of eight again.
 fn assert_match_alike(rt: &impl Abort, alloc: Global, wide: &FieldTable) -> Result<(), Fail> {
     assert_split(rt, alloc, wide, 256)?;
-    let narrow = wide.with_width(alloc, 4)?;
-    assert_split(rt, alloc, &narrow, 32)?;
-    assert_split(rt, alloc, &narrow.with_width(alloc, 8)?, 256)
+    assert_narrow(rt, alloc, &wide.with_width(alloc, 4)?)
 }
 
 #[test]
@@ -194,10 +198,14 @@ fn assert_shared(rt: &impl Abort, alloc: Global, table: &FieldTable) -> Result<(
     assert_sharing(rt, alloc, table, 0xC0A8_0000, 8, &[])
 }
 
+fn assert_narrow_shared(rt: &impl Abort, alloc: Global, wide: &FieldTable) -> Result<(), Fail> {
+    assert_shared(rt, alloc, &wide.with_width(alloc, 4)?)
+}
+
 // Asserts that a table of these addresses, the same in groups of four bits, and a copy share alike.
 fn assert_share_alike(rt: &impl Abort, alloc: Global, wide: &FieldTable) -> Result<(), Fail> {
     assert_shared(rt, alloc, wide)?;
-    assert_shared(rt, alloc, &wide.with_width(alloc, 4)?)?;
+    assert_narrow_shared(rt, alloc, wide)?;
     assert_shared(rt, alloc, &wide.copy(alloc)?)
 }
 
@@ -303,14 +311,23 @@ fn assert_live_on(
     assert_added(rt, alloc, copy, n)
 }
 
+// The same of a copy that is made here.
+fn assert_copy_lives_on(
+    rt: &impl Abort,
+    alloc: Global,
+    table: &mut FieldTable,
+    n: u32,
+) -> Result<(), Fail> {
+    table.settle()?;
+    let mut copy = table.copy(alloc)?;
+    assert_live_on(rt, alloc, table, &mut copy, n)
+}
+
 #[test]
 fn copies_live_on_beside_each_other(rt: HostRuntime) -> Result<(), Fail> {
     let alloc = rt.alloc();
     for n in [511, 512, 513, 1024] {
-        let mut table = hosts(&rt, alloc, n)?;
-        table.settle()?;
-        let mut copy = table.copy(alloc)?;
-        assert_live_on(&rt, alloc, &mut table, &mut copy, n)?;
+        assert_copy_lives_on(&rt, alloc, &mut hosts(&rt, alloc, n)?, n)?;
     }
     Ok(())
 }

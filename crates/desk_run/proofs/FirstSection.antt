@@ -9,8 +9,8 @@ use Rattle.set_model.specs.Runnable.{EndsClosed, opens}
 use Rattle.gen_publish.specs.Publish.{Steering}
 use Rattle.packet_pool.specs.Running.{run, StandsAt, Ran}
 use Rattle.control_desk.specs.Books.{IsClosed}
-use Rattle.script_run.specs.Telling.{section_at}
-use Rattle.script_run.proofs.TranscriptLaws.{next_stands}
+use Rattle.script_laws.specs.Sections.{section_at}
+use Rattle.script_laws.proofs.RunLaws.{next_stands}
 
 -- No change is open: the sets are those of the last generation.
 abbrev Rests : Control → Type 0

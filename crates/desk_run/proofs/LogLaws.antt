@@ -11,8 +11,8 @@ use Rattle.set_report.specs.Writes.{NamesSet, AreSetsOf}
 use Rattle.gen_publish.specs.Publish.{declared_kinds}
 use Rattle.control_desk.specs.declared.entry.Entry.{Entry}
 use Rattle.control_desk.specs.Woven.{Replays, after_entry, at_rest, entry_done, said, tellings}
-use Rattle.script_run.proofs.Lists.{snoc-at}
-use Rattle.script_run.proofs.ControlLaws.{IsNumbered, IsOf, Shows, by_sections, section_numbered, section_of, section_shows, sets-alike, start_numbered, start_of, start_sizes, work_of}
+use Rattle.script_laws.proofs.Lists.{snoc-at}
+use Rattle.script_laws.proofs.ControlLaws.{IsNumbered, IsOf, Shows, by_sections, section_numbered, section_of, section_shows, sets-alike, start_numbered, start_of, start_sizes, work_of}
 
 -- The generations of a control are numbered, and its sets are of the declared kinds and sizes.
 record IsDeclared (schema : List SetDecl) (c : Control) : Type 0 where

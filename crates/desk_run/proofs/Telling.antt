@@ -13,9 +13,9 @@ use Rattle.packet_pool.specs.Running.{run, StandsAt}
 use Rattle.control_desk.specs.declared.entry.Entry.{Entry}
 use Rattle.control_desk.specs.Woven.{IsWoven, Replays, said}
 use Rattle.control_desk.specs.Work.{IsRun}
-use Rattle.script_run.specs.Telling.{section_at}
-use Rattle.script_run.proofs.Lists.{list_any-append}
-use Rattle.script_run.proofs.TranscriptLaws.{events_declared}
+use Rattle.script_laws.specs.Sections.{section_at}
+use Rattle.script_laws.proofs.Lists.{list_any-append}
+use Rattle.script_laws.proofs.RunLaws.{events_declared}
 use Rattle.desk_run.specs.DeskText.{IsDeskText, after_first_section, log_text}
 use Rattle.desk_run.proofs.FirstSection.{first_alone}
 use Rattle.desk_run.proofs.LogLaws.{last_declared, log_declares}

@@ -6,7 +6,7 @@ ghost use Rattle.control_desk.specs.Work.{IsRun};
 
 use control_desk::{Bell, Log, open_desk, run_clerks};
 use gen_publish::Control;
-use script_run::has_numbers;
+use script_laws::has_numbers;
 use set_model::{Memory, Sections};
 use std::alloc::Global;
 use std::sync::Wait;

@@ -8,7 +8,7 @@ ghost use Rattle.packet_pool.specs.Running.{run, StandsAt};
 ghost use Rattle.set_report.specs.ListText.{list_text};
 ghost use Rattle.set_report.specs.Remarks.{remarks_text};
 ghost use Rattle.set_report.specs.Writes.{AreSetsOf, NamesSet};
-ghost use Rattle.script_run.specs.Telling.{section_at};
+ghost use Rattle.script_laws.specs.Sections.{section_at};
 ghost use Rattle.desk_run.specs.DeskText.{IsDeskText, log_text};
 
 use crate::gate_bell::GateBell;
@@ -17,7 +17,7 @@ use crate::text::write_log;
 use control_desk::{Bell, Entry, Log};
 use gen_publish::{Control, start};
 use packet_pool::{Gate, run_steps};
-use script_run::{Output, has_numbers, tells_refusal};
+use script_laws::{Output, has_numbers, tells_refusal};
 use set_model::{Duplicate, Events, Memory, Schema, Script, Sections, Steps};
 use set_report::{write_list, write_remarks};
 use std::alloc::Global;
@@ -60,27 +60,6 @@ fn run_first<G: Gate>(
     Ok((control, told))
 }
 
-/// The text of a desk: the first section's reports, the log, and the last generation as a script.
-fn write_desk(
-    alloc: Global,
-    schema: &Schema,
-    control: &Control,
-    told: &Events,
-    log: &Log,
-    last: u64,
-) -> Result<Vec<u8>, Memory>
-    requires told { All (NamesSet (length schema.now)) told.now }
-    requires log { All (λ e. All (NamesSet (length schema.now)) (said e)) log.now }
-    requires sets { AreSetsOf schema.now control.now.work.base.sets }
-    ensures { IfOk result (λ text. text.items ≡ remarks_text schema.now told.now ++ (log_text schema.now log.now ++ list_text schema.now control.now.work.base.sets last)) }
-{
-    let mut text = Vec::new(alloc);
-    write_remarks(schema, told, &mut text)?;
-    write_log(alloc, schema, log, &mut text)?;
-    write_list(schema, control.generation(), last, &mut text)?;
-    Ok(text)
-}
-
 /// Whether a change of this transaction was refused.
 fn has_refusal(entry: &Entry) -> bool
     ensures { result ≡ list_any is_refusal (said entry.now) }
@@ -100,6 +79,31 @@ fn any_refusal(told: &Events, log: &Log) -> bool
     ensures { result ≡ list_any is_refusal (told.now ++ flat_map said log.now) }
 {
     tells_refusal(told.as_slice()) || have_refusal(log.as_slice())
+}
+
+/// What a desk returns: the first section's reports, the log, and the last generation as a script, and whether a change was
+/// refused.
+fn write_desk(
+    alloc: Global,
+    schema: &Schema,
+    control: &Control,
+    told: &Events,
+    log: &Log,
+    last: u64,
+) -> Result<Output, Memory>
+    requires told { All (NamesSet (length schema.now)) told.now }
+    requires log { All (λ e. All (NamesSet (length schema.now)) (said e)) log.now }
+    requires sets { AreSetsOf schema.now control.now.work.base.sets }
+    ensures { IfOk result (λ out. (out.text.items ≡ remarks_text schema.now told.now ++ (log_text schema.now log.now ++ list_text schema.now control.now.work.base.sets last)) × (out.refused ≡ list_any is_refusal (told.now ++ flat_map said log.now))) }
+{
+    let mut text = Vec::new(alloc);
+    write_remarks(schema, told, &mut text)?;
+    write_log(alloc, schema, log, &mut text)?;
+    write_list(schema, control.generation(), last, &mut text)?;
+    Ok(Output {
+        text,
+        refused: any_refusal(told, log),
+    })
 }
 
 /// Runs the first section of a script alone, and then each of the others by a control thread of its own. All
@@ -139,9 +143,5 @@ pub fn desk<R: Threads + Wait + Sync, B: Bell, G: Gate>(
     gate.section(0, bell.last, 0);
     let (control, told) = run_first(alloc, schema, &first, keep_going, gate)?;
     let (control, log) = run_later(rt, alloc, control, &sections, keep_going, &bell)?;
-    let text = write_desk(alloc, &declared, &control, &told, &log, last)?;
-    Ok(Output {
-        text,
-        refused: any_refusal(&told, &log),
-    })
+    write_desk(alloc, &declared, &control, &told, &log, last)
 }

@@ -1,8 +1,8 @@
 //! The command `pipapo`: runs scripts of packet filter sets, and looks packets up in them.
 //!
 //! `top_call::call::call` is the program, and its contract says what a run promises
-//! (`crates/top_call/specs/Promises.antt`). No contract covers `main`. Read its twenty lines for what is
-//! trusted of it (README.md, "What is trusted"):
+//! (`crates/top_call/specs/Promises.antt`). No contract covers `main` and `obey`. Read their thirty lines for what is
+//! trusted of them (README.md, "What is trusted"):
 //!
 //! - before it opens a file, it fills each closed standard descriptor with a file on which every call fails;
 //! - it passes on all words that the system gives except the program's name;
@@ -17,28 +17,42 @@ mod descriptors;
 use crate::descriptors::fill_closed;
 use pip_base::{DirShelf, ErrNotes, OutSink};
 use run_meter::{InPlace, Meter};
+use std::alloc::Global;
 use std::env;
-use std::io::IsTerminal;
+use std::io::{IsTerminal, Stderr, Stdin};
 use std::process::ExitCode;
+use std::rt::Runtime;
+use std::sync::Wait;
+use std::thread::Threads;
 use top_call::call::{call, words_behind};
 
-fn main(rt: HostRuntime) -> ExitCode {
-    let _stand_ins = fill_closed(&rt, rt.alloc());
-    let words = words_behind(rt.alloc(), env::args(&rt));
-    let mut shelf = DirShelf::new(rt.alloc(), &rt, rt.stdin());
-    let terminal = rt.stderr().is_terminal().then_some(rt.stderr());
-    let meter = Meter::new(rt.alloc(), &rt, terminal);
-    let mut sink = InPlace::new(OutSink::new(&rt), &meter);
-    let mut notes = InPlace::new(ErrNotes::new(rt.stderr()), &meter);
-    let status = call(
-        &rt,
+/// Does what the system's words ask for, with the system's files and streams, and returns the status.
+fn obey<R: Runtime<A = Global> + Threads + Wait + Sync>(
+    rt: &R,
+    stdin: Stdin,
+    stderr: Stderr,
+    meter: &Meter<R, Stderr>,
+) -> u8 {
+    let words = words_behind(rt.alloc(), env::args(rt));
+    let mut shelf = DirShelf::new(rt.alloc(), rt, stdin);
+    let mut sink = InPlace::new(OutSink::new(rt), meter);
+    let mut notes = InPlace::new(ErrNotes::new(stderr), meter);
+    call(
+        rt,
         rt.alloc(),
         words,
         &mut shelf,
         &mut sink,
         &mut notes,
-        &meter,
-    );
+        meter,
+    )
+}
+
+fn main(rt: HostRuntime) -> ExitCode {
+    let _stand_ins = fill_closed(&rt, rt.alloc());
+    let terminal = rt.stderr().is_terminal().then_some(rt.stderr());
+    let meter = Meter::new(rt.alloc(), &rt, terminal);
+    let status = obey(&rt, rt.stdin(), rt.stderr(), &meter);
     meter.finish();
     ExitCode::from(status)
 }

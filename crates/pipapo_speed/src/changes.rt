@@ -21,12 +21,8 @@ pub(crate) fn run(
     rounds: u32,
     change: u32,
 ) -> Result<u64, Fault> {
-    let fields = kinds.len();
-    let count = elements.len() / fields.saturating_mul(4).max(1);
     let mut full = Full::new(alloc, kinds, false)?;
-    full.fill(elements, fields, count.saturating_sub(1))?;
-    let element = element_at(alloc, elements, fields, place_of(count, change), None)?;
-    Ok(full.change_copies(&element, rounds, change)?)
+    full.build_and_change(elements, kinds.len(), rounds, change)
 }
 
 /// How many elements of a workload aren't in the disjoint set at first, but are added to it.
@@ -40,14 +36,13 @@ pub(crate) fn run_disjoint(
     elements: &[u64],
     count: u32,
 ) -> Result<u64, Fault> {
-    let fields = kinds.len();
-    let all = elements.len() / fields.saturating_mul(4).max(1);
-    let built = all.saturating_sub(KEPT_BACK);
-    let last = built.saturating_add(count as usize).min(all);
     let mut full = Full::new(alloc, kinds, true)?;
-    full.fill(elements, fields, built)?;
-    full.add(elements, fields, built, last)?;
-    Ok(full.set.elements().len())
+    full.build_and_add(elements, kinds.len(), count)
+}
+
+/// How many elements of so many fields a workload has.
+fn count_of(elements: &[u64], fields: usize) -> usize {
+    elements.len() / fields.saturating_mul(4).max(1)
 }
 
 /// The place of the element to change: the last one is added, one from the middle is deleted.
@@ -72,12 +67,36 @@ impl Full {
         }
     }
 
+    /// Adds all elements but the last, and changes a copy `rounds` times. Returns how many elements the last copy then has.
+    fn build_and_change(
+        &mut self,
+        elements: &[u64],
+        fields: usize,
+        rounds: u32,
+        change: u32,
+    ) -> Result<u64, Fault> {
+        let count = count_of(elements, fields);
+        self.fill(elements, fields, count.saturating_sub(1))?;
+        let place = place_of(count, change);
+        let element = element_at(self.alloc, elements, fields, place, None)?;
+        Ok(self.change_copies(&element, rounds, change)?)
+    }
+
+    /// Adds all elements but the last thousand, and then the first `count` of these. Returns how many elements the set then has.
+    fn build_and_add(&mut self, elements: &[u64], fields: usize, count: u32) -> Result<u64, Fault> {
+        let all = count_of(elements, fields);
+        let built = all.saturating_sub(KEPT_BACK);
+        let last = built.saturating_add(count as usize).min(all);
+        self.fill(elements, fields, built)?;
+        self.add(elements, fields, built, last)?;
+        Ok(self.set.elements().len())
+    }
+
     /// Adds the first `count` elements at moment 0, and settles them, as a commit does. Every tenth expires at moment 1.
     fn fill(&mut self, elements: &[u64], fields: usize, count: usize) -> Result<(), Memory> {
         for e in 0..count {
             let expiry = if e % 10 == 0 { Some(1) } else { None };
-            let element = element_at(self.alloc, elements, fields, e, expiry)?;
-            insert(self.alloc, &mut self.set, &element, &mut self.scratch);
+            self.add_one(elements, fields, e, expiry)?;
         }
         self.set.settle()
     }
@@ -91,9 +110,21 @@ impl Full {
         to: usize,
     ) -> Result<(), Memory> {
         for e in from..to {
-            let element = element_at(self.alloc, elements, fields, e, None)?;
-            insert(self.alloc, &mut self.set, &element, &mut self.scratch);
+            self.add_one(elements, fields, e, None)?;
         }
+        Ok(())
+    }
+
+    /// Adds element `e` at moment 0, if it isn't refused.
+    fn add_one(
+        &mut self,
+        elements: &[u64],
+        fields: usize,
+        e: usize,
+        expiry: Option<u64>,
+    ) -> Result<(), Memory> {
+        let element = element_at(self.alloc, elements, fields, e, expiry)?;
+        insert(self.alloc, &mut self.set, &element, &mut self.scratch);
         Ok(())
     }
 
@@ -121,13 +152,23 @@ fn change_copy(
     change: u32,
 ) -> Result<u64, Memory> {
     let mut copy = set.copy(alloc)?;
+    make_change(alloc, &mut copy, element, scratch, change);
+    Ok(copy.elements().len())
+}
+
+fn make_change(
+    alloc: Global,
+    set: &mut SetImage,
+    element: &NewElement,
+    scratch: &mut Scratch,
+    change: u32,
+) {
     match change {
-        1 => insert(alloc, &mut copy, element, scratch),
-        2 => delete(alloc, &mut copy, &element.parts, scratch),
-        3 => purge(alloc, &mut copy),
+        1 => insert(alloc, set, element, scratch),
+        2 => delete(alloc, set, &element.parts, scratch),
+        3 => purge(alloc, set),
         _ => (),
     }
-    Ok(copy.elements().len())
 }
 
 /// Adds an element at moment 0, if it isn't refused.

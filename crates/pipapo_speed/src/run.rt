@@ -55,10 +55,7 @@ pub(crate) fn run(
     answers: &mut [u64],
 ) -> Result<u64, Fault> {
     let mut measured = Measured::new(alloc, kinds, lookups)?;
-    measured.fill(elements, kinds.len())?;
-    measured.look_up(keys, rounds, answers)?;
-    measured.number(answers);
-    Ok(table_bytes(&measured.set))
+    measured.build_and_look_up(elements, kinds.len(), keys, rounds, answers)
 }
 
 impl Measured {
@@ -75,6 +72,21 @@ impl Measured {
             }),
             Err(fault) => Err(fault),
         }
+    }
+
+    /// Adds all elements and looks up the keys. Returns the bytes of the set's tables.
+    fn build_and_look_up(
+        &mut self,
+        elements: &[u64],
+        fields: usize,
+        keys: &[u64],
+        rounds: u32,
+        answers: &mut [u64],
+    ) -> Result<u64, Fault> {
+        self.fill(elements, fields)?;
+        self.look_up(keys, rounds, answers)?;
+        self.number(answers);
+        Ok(table_bytes(&self.set))
     }
 
     /// Adds all elements, but leaves out those that are refused.

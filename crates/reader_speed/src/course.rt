@@ -1,5 +1,5 @@
 //! A control that has committed a workload's elements, its readers, and packets for them.
-ghost use Rattle.std.specs.Prelude.{◌≡◌, ◌<◌, ◌≤◌, length, map, All, IfOk, IsTrue, Some};
+ghost use Rattle.std.specs.Prelude.{◌≡◌, ◌<◌, ◌≤◌, length, map, All, IfOk, IsTrue, Some, OnOk};
 ghost use Rattle.set_model.specs.Runnable.{IsFitting, IsRunnableStep};
 ghost use Rattle.set_space.specs.Open.{CanBeBuilt};
 ghost use Rattle.packet_pool.specs.Running.{HasNumbers};
@@ -8,7 +8,7 @@ ghost use Rattle.reader_speed.specs.Ready.{AreReadersReady};
 use crate::fault::Fault;
 use crate::workload::Workload;
 use gen_publish::{Control, Reader, start};
-use packet_pool::{LookupJudge, OpenGate, run_section};
+use packet_pool::{Gate, LookupJudge, OpenGate, run_section};
 use set_model::{
     Duplicate, Family, Key, Kinds, Memory, Name, NewElement, Packet, Packets, Schema, SetDecl,
     Step, Steps, Verb, fits, parts_fit,
@@ -16,7 +16,7 @@ use set_model::{
 use std::alloc::Global;
 use std::thread::Threads;
 
-/// The measurements never need more generations than this.
+/// The measurements never need more generations or packets than this.
 const NUMBERS: u64 = 1 << 62;
 
 /// A control, a reader for each thread, and packets of the only set, ready for a section.
@@ -136,34 +136,82 @@ impl Course {
         requires { (0 < threads) × (threads ≤ 16) }
         ensures { IfOk result (λ c. AreReadersReady c.control c.readers.items c.packets) }
     {
-        let kinds = &workload.kinds;
-        if kinds.len() == 0 || 16 < kinds.len() || workload.keys.is_empty() {
+        let mut course = Course::started(alloc, &workload.kinds, threads)?;
+        course.prepare(rt, alloc, workload, count)?;
+        Ok(course)
+    }
+
+    /// A control of a set of these kinds in generation 0, with its readers and no packets.
+    fn started(alloc: Global, kinds: &Kinds, threads: u32) -> Result<Course, Fault>
+        requires { (0 < threads) × (threads ≤ 16) }
+        ensures ready { IfOk result (λ c. AreReadersReady c.control c.readers.items c.packets) }
+        ensures one { IfOk result (λ c. length c.control.schema ≡ 1) }
+    {
+        if kinds.len() == 0 || 16 < kinds.len() {
             return Err(Fault::Workload);
         }
-        let schema = schema_of(alloc, kinds)?;
-        let steps = additions(alloc, &schema, workload.elements.as_slice())?;
-        let packets = packets(alloc, &schema, workload.keys.as_slice(), count)?;
-        let (mut control, readers) = start(alloc, schema, threads)?;
-        let mut readers = at_places(alloc, readers)?;
-        if !is_numbered(&control, &steps) {
+        let (control, readers) = start(alloc, schema_of(alloc, kinds)?, threads)?;
+        Ok(Course {
+            control,
+            readers: at_places(alloc, readers)?,
+            packets: Packets::new(alloc),
+        })
+    }
+
+    /// Commits the workload's elements, and makes so many packets of its keys.
+    fn prepare<R: Threads + Sync>(
+        &mut self,
+        rt: &R,
+        alloc: Global,
+        workload: &Workload,
+        count: usize,
+    ) -> Result<(), Fault>
+        requires ready { AreReadersReady self.old.control self.old.readers.items self.old.packets }
+        requires one { length self.old.control.schema ≡ 1 }
+        ensures { OnOk result (AreReadersReady self.new.control self.new.readers.items self.new.packets) }
+    {
+        if workload.keys.is_empty() {
+            return Err(Fault::Workload);
+        }
+        let steps = additions(alloc, self.control.schema(), workload.elements.as_slice())?;
+        self.section(rt, alloc, &steps, &OpenGate)?;
+        self.packets = packets(
+            alloc,
+            self.control.schema(),
+            workload.keys.as_slice(),
+            count,
+        )?;
+        Ok(())
+    }
+
+    /// Does the steps beside all packets.
+    pub(crate) fn section<R: Threads + Sync, G: Gate>(
+        &mut self,
+        rt: &R,
+        alloc: Global,
+        steps: &Steps,
+        gate: &G,
+    ) -> Result<(), Fault>
+        requires ready { AreReadersReady self.old.control self.old.readers.items self.old.packets }
+        requires steps { All (IsRunnableStep self.old.control.schema) steps.now }
+        ensures ready { OnOk result (AreReadersReady self.new.control self.new.readers.items self.new.packets) }
+        ensures schema { OnOk result (self.new.control.schema ≡ self.old.control.schema) }
+    {
+        if !is_numbered(&self.control, steps) || self.packets.len() >= NUMBERS {
             return Err(Fault::Workload);
         }
         run_section(
             rt,
             alloc,
-            &mut control,
-            &steps,
+            &mut self.control,
+            steps,
             true,
-            &mut readers,
-            &Packets::new(alloc),
+            &mut self.readers,
+            &self.packets,
             0,
             &LookupJudge,
-            &OpenGate,
+            gate,
         )?;
-        Ok(Course {
-            control,
-            readers,
-            packets,
-        })
+        Ok(())
     }
 }

@@ -2,10 +2,11 @@
 ghost use Rattle.std.specs.Prelude.{◌≡◌, ◌<◌, ◌≤◌, All, Some};
 ghost use Rattle.set_model.specs.Runnable.{IsFitting};
 ghost use Rattle.gen_publish.specs.Publish.{ReaderView};
-ghost use Rattle.reader_speed.specs.Ready.{AreReadersReady, Serve};
+ghost use Rattle.reader_speed.specs.Ready.{Serve};
 
 use crate::course::Course;
 use crate::fault::Fault;
+use crate::line::Line;
 use crate::workload::Workload;
 use gen_publish::{Control, Reader};
 use set_model::{NewElement, Packets};
@@ -22,6 +23,17 @@ const RUNS: u32 = 9;
 /// The commits of a run are far fewer than this.
 const NUMBERS: u64 = 1 << 62;
 
+/// The best of several runs.
+#[derive(Clone, Copy)]
+struct Best {
+    /// The lookups per second while the control rests.
+    rests: u128,
+    /// The lookups per second while it commits.
+    commits: u128,
+    /// The nanoseconds of a commit.
+    commit: u128,
+}
+
 /// Prints how many lookups per second `threads` readers make, while the control rests and while it
 /// commits.
 pub(crate) fn tell<R: Runtime<A = Global> + Threads + Sync>(
@@ -32,43 +44,73 @@ pub(crate) fn tell<R: Runtime<A = Global> + Threads + Sync>(
 ) -> Result<(), Fault>
     requires { (0 < threads) × (threads ≤ 16) }
 {
+    let best = best_of_runs(rt, alloc, workload, threads)?;
+    let readers = Line {
+        who: "readers",
+        threads,
+    };
+    readers.print(rt, "lookups", best.rests, "a second")?;
+    readers.print(rt, "lookups", best.commits, "a second beside commits")?;
+    readers.print(rt, "commit", best.commit, "ns")
+}
+
+fn best_of_runs<R: Clock + Threads + Sync>(
+    rt: &R,
+    alloc: Global,
+    workload: &Workload,
+    threads: u32,
+) -> Result<Best, Fault>
+    requires { (0 < threads) × (threads ≤ 16) }
+{
     let Some(element) = workload.elements.last() else {
         return Err(Fault::Workload);
     };
-    let keys = workload.keys.len();
-    let (mut rests, mut commits, mut commit) = (0, 0, u128::MAX);
+    let mut best = Best {
+        rests: 0,
+        commits: 0,
+        commit: u128::MAX,
+    };
     for _ in 0..RUNS {
-        let Course {
-            readers,
-            packets,
-            ..
-        } = Course::new(rt, alloc, workload, threads, keys)?;
-        rests = rests.max(look_up_all(rt, readers, &packets)?);
-        let course = Course::new(rt, alloc, workload, threads, keys)?;
-        let (lookups, time) = beside(rt, alloc, course, element)?;
-        commits = commits.max(lookups);
-        commit = commit.min(time);
+        best.rests = best.rests.max(alone(rt, alloc, workload, threads)?);
+        let (lookups, time) = beside(rt, alloc, workload, threads, element)?;
+        best.commits = best.commits.max(lookups);
+        best.commit = best.commit.min(time);
     }
-    println!(rt; "readers {threads} lookups {rests} a second")?;
-    println!(rt; "readers {threads} lookups {commits} a second beside commits")?;
-    println!(rt; "readers {threads} commit {commit} ns")?;
-    Ok(())
+    Ok(best)
+}
+
+/// The lookups per second of all readers while their control rests.
+fn alone<R: Clock + Threads + Sync>(
+    rt: &R,
+    alloc: Global,
+    workload: &Workload,
+    threads: u32,
+) -> Result<u128, Fault>
+    requires { (0 < threads) × (threads ≤ 16) }
+{
+    let Course {
+        readers,
+        packets,
+        ..
+    } = Course::new(rt, alloc, workload, threads, workload.keys.len())?;
+    look_up_all(rt, readers, &packets)
 }
 
 /// The lookups per second of all readers while a control commits, and the nanoseconds of a commit.
 fn beside<R: Clock + Threads + Sync>(
     rt: &R,
     alloc: Global,
-    course: Course,
+    workload: &Workload,
+    threads: u32,
     element: &NewElement,
 ) -> Result<(u128, u128), Fault>
-    requires { AreReadersReady course.control course.readers.items course.packets }
+    requires { (0 < threads) × (threads ≤ 16) }
 {
     let Course {
         mut control,
         readers,
         packets,
-    } = course;
+    } = Course::new(rt, alloc, workload, threads, workload.keys.len())?;
     let packets = &packets;
     let (time, lookups) = join(
         rt,
@@ -77,7 +119,12 @@ fn beside<R: Clock + Threads + Sync>(
             requires { Serve readers.items packets.now }
         { look_up_all(rt, readers, packets) },
     );
-    Ok((lookups?, time?))
+    both(lookups, time)
+}
+
+/// Two results, or the first fault of them.
+fn both(one: Result<u128, Fault>, two: Result<u128, Fault>) -> Result<(u128, u128), Fault> {
+    Ok((one?, two?))
 }
 
 /// Removes an element and adds it again, with a commit after each, until the run ends. Returns the

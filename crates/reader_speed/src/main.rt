@@ -24,6 +24,7 @@ ghost use Rattle.std.specs.Prelude.{◌<◌, ◌≤◌, IfOk};
 
 mod course;
 mod fault;
+mod line;
 mod lookups;
 mod packets;
 mod workload;
@@ -46,40 +47,64 @@ enum Measure {
     Packets,
 }
 
-/// The command's words: what is measured, with how many threads, and on which workload.
-fn words<R: Runtime<A = Global>>(rt: &R) -> Result<(Measure, u32, String), Fault>
-    ensures { IfOk result (λ words. (0 < words.1) × (words.1 ≤ 16)) }
-{
-    let mut words = env::args(rt)?.skip(1);
-    let (Some(what), Some(count), Some(file), None) = (
-        words.next(),
-        words.next(),
-        words.next(),
-        words.next(),
-    ) else {
-        return Err(Fault::Usage);
-    };
-    let what = match what.as_str() {
-        "readers" => Measure::Readers,
-        "packets" => Measure::Packets,
-        _ => return Err(Fault::Usage),
-    };
-    match count.as_str().parse::<u32>() {
-        Ok(count) if 0 < count && count <= MOST => Ok((what, count, file)),
+/// What a word asks to measure.
+fn measure_of(word: &str) -> Result<Measure, Fault> {
+    match word {
+        "readers" => Ok(Measure::Readers),
+        "packets" => Ok(Measure::Packets),
         _ => Err(Fault::Usage),
     }
 }
 
-/// Measures what the words ask for, and prints it.
+/// How many threads a word asks for.
+fn count_of(word: &str) -> Result<u32, Fault>
+    ensures { IfOk result (λ count. (0 < count) × (count ≤ 16)) }
+{
+    match word.parse::<u32>() {
+        Ok(count) if 0 < count && count <= MOST => Ok(count),
+        _ => Err(Fault::Usage),
+    }
+}
+
+/// Measures what the command's words ask for, and prints it.
 fn run<R: Runtime<A = Global> + Threads + Sync>(rt: &R, alloc: Global) -> Result<(), Fault> {
-    let (what, most, file) = words(rt)?;
-    let text = fs::read_to_string(rt, file.as_str())?;
-    let workload = Workload::read(alloc, text.as_str())?;
+    let words: Vec<String> = env::args(rt)?.skip(1).collect(alloc)?;
+    obey(rt, alloc, words.as_slice())
+}
+
+fn obey<R: Runtime<A = Global> + Threads + Sync>(
+    rt: &R,
+    alloc: Global,
+    words: &[String],
+) -> Result<(), Fault> {
+    let [what, count, file] = words else {
+        return Err(Fault::Usage);
+    };
+    let (what, most) = (measure_of(what.as_str())?, count_of(count.as_str())?);
+    measure_all(rt, alloc, what, most, &load(rt, alloc, file.as_str())?)
+}
+
+/// Reads a file's workload.
+fn load<R: Runtime<A = Global>>(rt: &R, alloc: Global, file: &str) -> Result<Workload, Fault> {
+    let text = fs::read_to_string(rt, file)?;
+    Workload::read(alloc, text.as_str())
+}
+
+/// Measures a workload with 1, 2, 4 .. up to `most` threads, and prints it.
+fn measure_all<R: Runtime<A = Global> + Threads + Sync>(
+    rt: &R,
+    alloc: Global,
+    what: Measure,
+    most: u32,
+    workload: &Workload,
+) -> Result<(), Fault>
+    requires { most ≤ 16 }
+{
     let mut threads = 1u32;
     while threads <= most {
         match what {
-            Measure::Readers => lookups::tell(rt, alloc, &workload, threads)?,
-            Measure::Packets => packets::tell(rt, alloc, &workload, threads)?,
+            Measure::Readers => lookups::tell(rt, alloc, workload, threads)?,
+            Measure::Packets => packets::tell(rt, alloc, workload, threads)?,
         }
         threads *= 2;
     }

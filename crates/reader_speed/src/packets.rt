@@ -2,10 +2,11 @@
 ghost use Rattle.std.specs.Prelude.{◌<◌, ◌≤◌};
 ghost use Rattle.reader_speed.specs.Ready.{AreReadersReady};
 
-use crate::course::{Course, is_numbered};
+use crate::course::Course;
 use crate::fault::Fault;
+use crate::line::Line;
 use crate::workload::Workload;
-use packet_pool::{Gate, LookupJudge, run_section};
+use packet_pool::Gate;
 use set_model::Steps;
 use std::alloc::Global;
 use std::rt::Runtime;
@@ -34,6 +35,19 @@ impl<C: Clock> Stopwatch<'_, C> {
         match self.start.elapsed(self.clock) {
             Ok(time) => u64::try_from(time.as_nanos()).unwrap_or(0),
             Err(_) => 0,
+        }
+    }
+
+    /// The nanoseconds up to now, and those of the packets.
+    fn times(&self) -> Times {
+        let whole = self.time();
+        let (begun, ended) = (
+            self.begun.load(Ordering::SeqCst),
+            self.ended.load(Ordering::SeqCst),
+        );
+        Times {
+            whole,
+            packets: ended.saturating_sub(begun),
         }
     }
 }
@@ -74,71 +88,73 @@ pub(crate) fn tell<R: Runtime<A = Global> + Threads + Sync>(
 ) -> Result<(), Fault>
     requires { (0 < threads) × (threads ≤ 16) }
 {
+    let best = best_of_runs(rt, alloc, workload, threads)?;
+    let threads = Line {
+        who: "threads",
+        threads,
+    };
+    threads.print(rt, "packets", a_second(best.packets), "a second")?;
+    threads.print(
+        rt,
+        "packets",
+        a_second(best.whole),
+        "a second, with the threads' start and lines in order",
+    )
+}
+
+/// The least times of several runs.
+fn best_of_runs<R: Clock + Threads + Sync>(
+    rt: &R,
+    alloc: Global,
+    workload: &Workload,
+    threads: u32,
+) -> Result<Times, Fault>
+    requires { (0 < threads) × (threads ≤ 16) }
+{
     let mut best = Times {
         whole: u64::MAX,
         packets: u64::MAX,
     };
     for _ in 0..RUNS {
-        let course = Course::new(rt, alloc, workload, threads, PACKETS as usize)?;
-        let times = section_times(rt, alloc, course)?;
+        let times = section_times(rt, alloc, workload, threads)?;
         best.whole = best.whole.min(times.whole);
         best.packets = best.packets.min(times.packets);
     }
-    let (packets, whole) = (a_second(best.packets), a_second(best.whole));
-    println!(rt; "threads {threads} packets {packets} a second")?;
-    println!(rt;
-        "threads {threads} packets {whole} a second, with the threads' start and lines in order"
-    )?;
-    Ok(())
+    Ok(best)
 }
 
 /// How many packets per second it is if all take these nanoseconds.
-fn a_second(time: u64) -> u64 {
-    PACKETS * 1_000_000_000 / time.max(1)
+fn a_second(time: u64) -> u128 {
+    u128::from(PACKETS * 1_000_000_000 / time.max(1))
 }
 
-/// One section of all packets.
+/// One section of all packets, in a course of its own.
 fn section_times<R: Clock + Threads + Sync>(
     rt: &R,
     alloc: Global,
-    course: Course,
+    workload: &Workload,
+    threads: u32,
 ) -> Result<Times, Fault>
-    requires { AreReadersReady course.control course.readers.items course.packets }
+    requires { (0 < threads) × (threads ≤ 16) }
 {
-    let Course {
-        mut control,
-        mut readers,
-        packets,
-    } = course;
-    let nothing = Steps::new(alloc);
-    if !is_numbered(&control, &nothing) {
-        return Err(Fault::Workload);
-    }
+    let mut course = Course::new(rt, alloc, workload, threads, PACKETS as usize)?;
+    answer_all(rt, alloc, &mut course)
+}
+
+/// One section of a course's packets, with no step beside them.
+fn answer_all<R: Clock + Threads + Sync>(
+    rt: &R,
+    alloc: Global,
+    course: &mut Course,
+) -> Result<Times, Fault>
+    requires { AreReadersReady course.old.control course.old.readers.items course.old.packets }
+{
     let watch = Stopwatch {
         clock: rt,
         start: Instant::now(rt)?,
         begun: AtomicU64::new(0),
         ended: AtomicU64::new(0),
     };
-    run_section(
-        rt,
-        alloc,
-        &mut control,
-        &nothing,
-        true,
-        &mut readers,
-        &packets,
-        0,
-        &LookupJudge,
-        &watch,
-    )?;
-    let whole = watch.time();
-    let (begun, ended) = (
-        watch.begun.load(Ordering::SeqCst),
-        watch.ended.load(Ordering::SeqCst),
-    );
-    Ok(Times {
-        whole,
-        packets: ended.saturating_sub(begun),
-    })
+    course.section(rt, alloc, &Steps::new(alloc), &watch)?;
+    Ok(watch.times())
 }

@@ -2,6 +2,7 @@
 use crate::fault::Fault;
 use set_model::{Comment, Interval, Key, Kind, Kinds, NewElement, Parts};
 use std::alloc::Global;
+use std::str::SplitWhitespace;
 
 /// The kinds of a set's fields, its elements, and the keys to look up.
 #[derive(Drop)]
@@ -62,27 +63,33 @@ impl Workload {
                 for word in words {
                     self.kinds.push(kind_of(word)?)?;
                 }
+                Ok(())
             }
-            Some("e") => {
-                let mut parts = Parts::new(alloc);
-                for word in words {
-                    parts.push(interval(word)?)?;
-                }
-                self.elements.push(NewElement {
-                    parts,
-                    expiry: None,
-                    comment: Comment::new(alloc),
-                })?;
-            }
-            Some("k") => {
-                let mut key = Key::new(alloc);
-                for word in words {
-                    key.push(value(word)?)?;
-                }
-                self.keys.push(key)?;
-            }
-            _ => return Err(Fault::Workload),
+            Some("e") => Ok(self.elements.push(element(alloc, words)?)?),
+            Some("k") => Ok(self.keys.push(key(alloc, words)?)?),
+            _ => Err(Fault::Workload),
         }
-        Ok(())
     }
+}
+
+/// The element of these intervals.
+fn element(alloc: Global, words: SplitWhitespace) -> Result<NewElement, Fault> {
+    let mut parts = Parts::new(alloc);
+    for word in words {
+        parts.push(interval(word)?)?;
+    }
+    Ok(NewElement {
+        parts,
+        expiry: None,
+        comment: Comment::new(alloc),
+    })
+}
+
+/// The key of these values.
+fn key(alloc: Global, words: SplitWhitespace) -> Result<Key, Fault> {
+    let mut key = Key::new(alloc);
+    for word in words {
+        key.push(value(word)?)?;
+    }
+    Ok(key)
 }

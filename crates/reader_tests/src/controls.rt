@@ -1,6 +1,7 @@
 //! A control and one reader.
 ghost use Rattle.std.specs.Prelude.{◌≡◌};
 
+use crate::asserts::{same, same_if_any};
 use crate::fixture::{
     add, add_port, alone, commit, commit_ports, element, key, look, ports, started,
 };
@@ -20,9 +21,9 @@ fn assert_holds(
     port: u128,
     id: Option<u64>,
 ) {
-    assert_eq!(rt; held.generation(), generation);
+    same(rt, held.generation(), generation);
     let key = key(rt, alloc, port);
-    assert_eq!(rt; look(rt, held, &key), id);
+    same_if_any(rt, look(rt, held, &key), id);
 }
 
 fn assert_held_stays(rt: &impl Abort, alloc: Global, control: &mut Control, reader: Reader) {
@@ -59,7 +60,7 @@ fn held_at_commits(
 /// Asserts that place i of the list holds generation i.
 fn assert_in_order(rt: &impl Abort, held: &[Held]) {
     for (i, one) in held.iter().enumerate() {
-        assert_eq!(rt; one.generation(), i as u64);
+        same(rt, one.generation(), i as u64);
     }
 }
 
@@ -79,8 +80,8 @@ fn assert_commits_go_on(
     let held = held_at_commits(rt, alloc, control, readers);
     commit_often(rt, control, 30);
     assert_in_order(rt, held.as_slice());
-    assert_eq!(rt; control.number(), 45);
-    assert_eq!(rt; last.enter().generation(), 45);
+    same(rt, control.number(), 45);
+    same(rt, last.enter().generation(), 45);
 }
 
 #[test]
@@ -127,7 +128,7 @@ fn a_lookup_reads_the_tables(rt: HostRuntime) -> Result<(), Fail> {
     let (mut control, reader) = alone(alloc, None)?;
     commit_many(&rt, alloc, &mut control);
     let keys = last_thousand(&rt, alloc);
-    assert_eq!(rt; misses(&rt, &mut reader.enter(), keys.as_slice()), 0);
+    same(&rt, misses(&rt, &mut reader.enter(), keys.as_slice()), 0);
     Ok(())
 }
 
@@ -171,36 +172,36 @@ fn flush(rt: &impl Abort, alloc: Global, control: &mut Control) -> Result<u64, M
 /// Asserts what additions to a set without elements return.
 fn assert_additions(rt: &impl Abort, alloc: Global, control: &mut Control) {
     let new = add(rt, alloc, control, 80, 80, None);
-    assert_eq!(rt; new, Ok(Added::New { id: 0 }));
+    assert!(rt; new == Ok(Added::New { id: 0 }));
     let again = add(rt, alloc, control, 80, 80, None);
-    assert_eq!(rt; again, Ok(Added::Already { id: 0 }));
+    assert!(rt; again == Ok(Added::Already { id: 0 }));
     let wider = add(rt, alloc, control, 80, 81, None);
-    assert_eq!(rt; wider, Err(ChangeError::Refused(Why::Overlap { id: 0 })));
+    assert!(rt; wider == Err(ChangeError::Refused(Why::Overlap { id: 0 })));
 }
 
 /// Asserts the results in a set of at most two elements that has port 80.
 fn assert_creations(rt: &impl Abort, alloc: Global, control: &mut Control) {
     let there = create(rt, alloc, control, 80, 0);
-    assert_eq!(rt; there, Err(ChangeError::Refused(Why::Exists { id: 0 })));
-    assert_eq!(rt; create(rt, alloc, control, 81, 0), Ok(1));
+    assert!(rt; there == Err(ChangeError::Refused(Why::Exists { id: 0 })));
+    assert!(rt; create(rt, alloc, control, 81, 0) == Ok(1));
     let third = add(rt, alloc, control, 82, 82, None);
-    assert_eq!(rt; third, Err(ChangeError::Refused(Why::Full)));
+    assert!(rt; third == Err(ChangeError::Refused(Why::Full)));
 }
 
 /// Asserts the results in a set that has the ports 80 and 81.
 fn assert_removals(rt: &impl Abort, alloc: Global, control: &mut Control) {
     let missing = delete(rt, alloc, control, 82);
-    assert_eq!(rt; missing, Err(ChangeError::Refused(Why::Missing)));
-    assert_eq!(rt; delete(rt, alloc, control, 81), Ok(1));
-    assert_eq!(rt; destroy(rt, alloc, control, 81), Ok(None));
-    assert_eq!(rt; destroy(rt, alloc, control, 80), Ok(Some(0)));
+    assert!(rt; missing == Err(ChangeError::Refused(Why::Missing)));
+    assert!(rt; delete(rt, alloc, control, 81) == Ok(1));
+    assert!(rt; destroy(rt, alloc, control, 81) == Ok(None));
+    assert!(rt; destroy(rt, alloc, control, 80) == Ok(Some(0)));
 }
 
 /// Asserts that a set without elements has one to flush after an addition.
 fn assert_flush(rt: &impl Abort, alloc: Global, control: &mut Control) {
     let new = add(rt, alloc, control, 82, 82, None);
-    assert_eq!(rt; new, Ok(Added::New { id: 2 }));
-    assert_eq!(rt; flush(rt, alloc, control), Ok(1));
+    assert!(rt; new == Ok(Added::New { id: 2 }));
+    assert!(rt; flush(rt, alloc, control) == Ok(1));
 }
 
 fn assert_changes(rt: &impl Abort, alloc: Global, control: &mut Control) {
@@ -208,14 +209,6 @@ fn assert_changes(rt: &impl Abort, alloc: Global, control: &mut Control) {
     assert_creations(rt, alloc, control);
     assert_removals(rt, alloc, control);
     assert_flush(rt, alloc, control);
-}
-
-#[test]
-fn changes_and_their_refusals_are_handed_on(rt: HostRuntime) -> Result<(), Fail> {
-    let alloc = rt.alloc();
-    let (mut control, _) = alone(alloc, Some(2))?;
-    assert_changes(&rt, alloc, &mut control);
-    Ok(())
 }
 
 /// Inserts port 443, which expires at moment 30000.
@@ -226,8 +219,8 @@ fn add_expiring(rt: &impl Abort, alloc: Global, control: &mut Control) {
 /// Asserts what a commit at moment 30000 returns.
 fn assert_commit(rt: &impl Abort, control: &mut Control, generation: u64, purged: u64) {
     let receipt = commit(rt, control, 30_000);
-    assert_eq!(rt; receipt, Receipt { generation, purged });
-    assert_eq!(rt; control.generation().number, generation);
+    assert!(rt; receipt == Receipt { generation, purged });
+    same(rt, control.generation().number, generation);
 }
 
 fn assert_purges_and_aborts(rt: &impl Abort, alloc: Global, control: &mut Control) {
@@ -239,28 +232,42 @@ fn assert_purges_and_aborts(rt: &impl Abort, alloc: Global, control: &mut Contro
     assert_commit(rt, control, 2, 0);
 }
 
-#[test]
-fn a_commit_purges_and_an_abort_takes_back(rt: HostRuntime) -> Result<(), Fail> {
-    let alloc = rt.alloc();
-    let (mut control, _) = alone(alloc, None)?;
-    assert_purges_and_aborts(&rt, alloc, &mut control);
-    Ok(())
-}
-
 /// Asserts that port 443 exists until it expires, and is purged with a new one beside it.
 fn assert_created_anew(rt: &impl Abort, alloc: Global, control: &mut Control) {
     add_expiring(rt, alloc, control);
     let early = create(rt, alloc, control, 443, 29_999);
-    assert_eq!(rt; early, Err(ChangeError::Refused(Why::Exists { id: 0 })));
-    assert_eq!(rt; create(rt, alloc, control, 443, 30_000), Ok(1));
+    assert!(rt; early == Err(ChangeError::Refused(Why::Exists { id: 0 })));
+    assert!(rt; create(rt, alloc, control, 443, 30_000) == Ok(1));
     assert_commit(rt, control, 1, 1);
 }
 
+/// What is done with a control of its own.
+#[derive(Clone, Copy)]
+enum Use {
+    Changes,
+    PurgeAndAbort,
+    Renewal,
+}
+
+fn assert_use(rt: &impl Abort, alloc: Global, control: &mut Control, what: Use) {
+    match what {
+        Use::Changes => assert_changes(rt, alloc, control),
+        Use::PurgeAndAbort => assert_purges_and_aborts(rt, alloc, control),
+        Use::Renewal => assert_created_anew(rt, alloc, control),
+    }
+}
+
 #[test]
-fn what_is_expired_is_created_anew_and_purged(rt: HostRuntime) -> Result<(), Fail> {
+fn changes_commits_and_aborts_return_what_they_did(rt: HostRuntime) -> Result<(), Fail> {
     let alloc = rt.alloc();
-    let (mut control, _) = alone(alloc, None)?;
-    assert_created_anew(&rt, alloc, &mut control);
+    for (size, what) in [
+        (Some(2), Use::Changes),
+        (None, Use::PurgeAndAbort),
+        (None, Use::Renewal),
+    ] {
+        let (mut control, _) = alone(alloc, size)?;
+        assert_use(&rt, alloc, &mut control, what);
+    }
     Ok(())
 }
 
@@ -272,7 +279,7 @@ fn assert_notes(rt: &impl Abort, control: &mut Control, reader: Reader)
     let mut reader = reader;
     reader.meet(control.note());
     control.hear(reader.note());
-    assert_eq!(rt; reader.enter().generation(), 1);
+    same(rt, reader.enter().generation(), 1);
 }
 
 #[test]

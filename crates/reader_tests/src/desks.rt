@@ -1,8 +1,10 @@
 //! Several control threads at one control.
 ghost use Rattle.std.specs.Prelude.{◌≡◌, ◌<◌, ◌^◌, length, All, IfOk};
 ghost use Rattle.set_model.specs.Runnable.{IsRunnableStep};
+ghost use Rattle.set_space.specs.Open.{CanBeBuilt};
 ghost use Rattle.control_desk.specs.Woven.{IsTransaction};
 
+use crate::asserts::same;
 use crate::fixture::{addition, one_set};
 use control_desk::{Book, Clerk, DeskError, Log, open_desk};
 use gen_publish::start;
@@ -43,10 +45,7 @@ impl Desk {
         let schema = one_set(alloc, None)?;
         let first = transaction(alloc, &schema, 80)?;
         let second = transaction(alloc, &schema, 443)?;
-        let (control, _readers) = start(alloc, schema, 1)?;
-        let mut clerks = open_desk(alloc, control, 2, 2)?;
-        let one = clerks.remove(0);
-        let two = clerks.remove(0);
+        let (one, two) = two_clerks(alloc, schema)?;
         Ok(Desk {
             one,
             two,
@@ -54,6 +53,19 @@ impl Desk {
             second,
         })
     }
+}
+
+/// The two control threads of a new desk.
+fn two_clerks(alloc: Global, schema: Schema) -> Result<(Clerk, Clerk), Memory>
+    requires { All CanBeBuilt schema × (length schema ≡ 1) }
+    ensures left { IfOk result (λ r. (r.0.left ≡ 2) × (r.1.left ≡ 2)) }
+    ensures schema { IfOk result (λ r. (r.0.schema ≡ schema) × (r.1.schema ≡ schema)) }
+{
+    let (control, _readers) = start(alloc, schema, 1)?;
+    let mut clerks = open_desk(alloc, control, 2, 2)?;
+    let one = clerks.remove(0);
+    let two = clerks.remove(0);
+    Ok((one, two))
 }
 
 fn committed(generation: u64) -> Event {
@@ -70,7 +82,7 @@ fn assert_late<R: Wait + Abort>(rt: &R, desk: &mut Desk)
     requires second { IsTransaction desk.old.second × All (IsRunnableStep desk.old.two.schema) desk.old.second }
 {
     let first = desk.one.submit(rt, &desk.first, false);
-    assert_eq!(rt; first, Ok(committed(1)));
+    assert!(rt; first == Ok(committed(1)));
     assert_again(rt, &mut desk.two, &desk.second);
 }
 
@@ -79,9 +91,9 @@ fn assert_again<R: Wait + Abort>(rt: &R, clerk: &mut Clerk, steps: &Steps)
     requires steps { IsTransaction steps.now × All (IsRunnableStep clerk.old.schema) steps.now }
 {
     let late = clerk.submit(rt, steps, false);
-    assert_eq!(rt; late, Err(DeskError::Stale { newer: 1 }));
+    assert!(rt; late == Err(DeskError::Stale { newer: 1 }));
     let again = clerk.submit(rt, steps, false);
-    assert_eq!(rt; again, Ok(committed(2)));
+    assert!(rt; again == Ok(committed(2)));
 }
 
 #[test]
@@ -103,9 +115,9 @@ fn book(alloc: Global) -> Result<(Book, Steps), Memory>
 
 /// Asserts that a log has one entry with all steps.
 fn assert_logged(rt: &impl Abort, log: &Log, steps: &Steps) {
-    assert_eq!(rt; log.len(), 1);
+    same(rt, log.len(), 1);
     assert!(rt; log.len() > 0);
-    assert_eq!(rt; log.at(0).steps.len(), steps.len());
+    same(rt, log.at(0).steps.len(), steps.len());
 }
 
 fn assert_applies(rt: &impl Abort, alloc: Global, book: &mut Book, steps: &Steps)
@@ -113,7 +125,7 @@ fn assert_applies(rt: &impl Abort, alloc: Global, book: &mut Book, steps: &Steps
     requires number { book.old.control.work.base.number < 2 ^ 63 }
 {
     let end = book.apply(1, steps, false);
-    assert_eq!(rt; end, Ok(committed(1)));
+    assert!(rt; end == Ok(committed(1)));
     assert_logged(rt, &book.log.copy(alloc).expect(rt, "memory"), steps);
 }
 

@@ -1,4 +1,5 @@
 //! A set of a generation after some elements left it.
+use crate::asserts::same;
 use crate::fixture::{add, alone, commit, key};
 use gen_publish::Control;
 use pipapo_image::{Scratch, SetImage};
@@ -27,12 +28,12 @@ fn assert_found(rt: &impl Abort, alloc: Global, set: &KeptSet, port: u128, wante
     let key = key(rt, alloc, port);
     assert!(rt; fits(set.kinds(), &key));
     let mut scratch = Scratch::new(alloc).expect(rt, "memory");
-    assert_eq!(rt; set.find(&key, 0, &mut scratch), wanted);
+    assert!(rt; set.find(&key, 0, &mut scratch) == wanted);
 }
 
 /// Asserts that ports 1 and 3 have left the set.
 fn assert_two_left(rt: &impl Abort, alloc: Global, set: &KeptSet) {
-    assert_eq!(rt; set.len(), 8);
+    same(rt, set.len(), 8);
     assert!(rt; !set.is_disjoint());
     assert_found(rt, alloc, set, 0, Some(Found { place: 0, id: 0 }));
     assert_found(rt, alloc, set, 1, None);
@@ -43,9 +44,9 @@ fn assert_two_left(rt: &impl Abort, alloc: Global, set: &KeptSet) {
 /// Asserts that only the elements that stay are in the image.
 fn assert_closed_up(rt: &impl Abort, image: &SetImage) {
     let elements = image.elements();
-    assert_eq!(rt; elements.len(), 8);
+    same(rt, elements.len(), 8);
     assert!(rt; elements.len() > 1);
-    assert_eq!(rt; elements.at(1).id, 2);
+    same(rt, elements.at(1).id, 2);
 }
 
 fn assert_kept(rt: &impl Abort, alloc: Global, control: &Control) {

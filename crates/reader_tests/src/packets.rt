@@ -1,9 +1,10 @@
 //! Sections: a control's steps beside packets.
-ghost use Rattle.std.specs.Prelude.{◌≡◌, ◌<◌, ◌≤◌, length, map, All, IfOk, Some};
+ghost use Rattle.std.specs.Prelude.{◌≡◌, ◌<◌, ◌≤◌, length, map, All, IfOk, OnOk, Some};
 ghost use Rattle.set_model.specs.Runnable.{IsRunnableStep, IsFitting};
 ghost use Rattle.packet_pool.specs.Running.{HasNumbers};
 ghost use Rattle.packet_pool.specs.Work.{AllReady};
 
+use crate::asserts::same;
 use crate::fixture::{addition, one_set};
 use gen_publish::{Control, Held, Reader, start};
 use packet_pool::{Judge, LookupJudge, OpenGate, SectionResult, run_section, run_steps};
@@ -98,28 +99,41 @@ fn prepare(alloc: Global, threads: u32, count: u64) -> Result<Prepared, Memory>
     ensures numbers { IfOk result (λ d. HasNumbers d.control d.steps) }
     ensures packets { IfOk result (λ d. All (IsFitting d.control.schema) d.packets × (length d.packets ≡ count)) }
 {
-    let schema = one_set(alloc, None)?;
-    let steps = steps(alloc, &schema)?;
-    let packets = packets(alloc, &schema, count)?;
-    let (control, readers) = start(alloc, schema, threads)?;
-    Ok(Prepared {
+    let (control, readers) = start(alloc, one_set(alloc, None)?, threads)?;
+    let mut given = Prepared {
         control,
         readers: at_places(alloc, readers)?,
-        steps,
-        packets,
-    })
+        steps: Steps::new(alloc),
+        packets: Packets::new(alloc),
+    };
+    given.fill(alloc, count)?;
+    Ok(given)
+}
+
+impl Prepared {
+    /// Sets the steps, and so many packets.
+    fn fill(&mut self, alloc: Global, count: u64) -> Result<(), Memory>
+        requires { length self.old.control.schema ≡ 1 }
+        ensures kept { OnOk result ((self.new.control ≡ self.old.control) × (self.new.readers.items ≡ self.old.readers.items)) }
+        ensures steps { OnOk result (All (IsRunnableStep self.old.control.schema) self.new.steps × (length self.new.steps ≡ 2)) }
+        ensures packets { OnOk result (All (IsFitting self.old.control.schema) self.new.packets × (length self.new.packets ≡ count)) }
+    {
+        self.steps = steps(alloc, self.control.schema())?;
+        self.packets = packets(alloc, self.control.schema(), count)?;
+        Ok(())
+    }
 }
 
 /// Asserts that each line is its packet's, with its generation's number as the decision.
 fn assert_numbers(rt: &impl Abort, lines: &[Line]) {
     for (p, line) in lines.iter().enumerate() {
-        assert_eq!(rt; line.packet, 100 + p as u64);
+        same(rt, line.packet, 100 + p as u64);
         assert!(rt; line.thread < 2 && line.generation < 2);
-        assert_eq!(rt;
-            line.verdict,
-            Verdict::Element {
-                id: line.generation
-            }
+        assert!(rt;
+            line.verdict
+                == Verdict::Element {
+                    id: line.generation
+                }
         );
     }
 }
@@ -127,8 +141,8 @@ fn assert_numbers(rt: &impl Abort, lines: &[Line]) {
 /// Asserts that each line has generation 1 and element 0.
 fn assert_found(rt: &impl Abort, lines: &[Line]) {
     for line in lines {
-        assert_eq!(rt; line.generation, 1);
-        assert_eq!(rt; line.verdict, Verdict::Element { id: 0 });
+        same(rt, line.generation, 1);
+        assert!(rt; line.verdict == Verdict::Element { id: 0 });
     }
 }
 
@@ -184,8 +198,8 @@ fn behind_commit<R: Threads + Abort + Sync>(
 
 /// Asserts how many events and lines a section has.
 fn assert_counts(rt: &impl Abort, section: &SectionResult, events: u64) {
-    assert_eq!(rt; section.events.len() as u64, events);
-    assert_eq!(rt; section.lines.len() as u64, 33);
+    same(rt, section.events.len(), events);
+    same(rt, section.lines.len(), 33);
 }
 
 fn assert_sections<R: Threads + Abort + Sync>(
@@ -213,13 +227,23 @@ fn a_commit_beside_packets_and_packets_behind_it(rt: HostRuntime) -> Result<(), 
     Ok(())
 }
 
+/// Adds port 80, then an interval that encloses it, and commits.
+fn refused_steps(alloc: Global, schema: &Schema) -> Result<Steps, Memory>
+    requires { length schema.now ≡ 1 }
+    ensures steps { IfOk result (All (IsRunnableStep schema.now)) }
+    ensures three { IfOk result (λ steps. length steps ≡ 3) }
+{
+    let mut steps = Steps::new(alloc);
+    steps.push(addition(alloc, schema, 80, 80)?)?;
+    steps.push(addition(alloc, schema, 80, 90)?)?;
+    steps.push(Step::Commit { now: 0 })?;
+    Ok(steps)
+}
+
 /// The events of an addition that is refused, and of a commit.
 fn refusal(alloc: Global, keep_going: bool) -> Result<Events, Memory> {
     let schema = one_set(alloc, None)?;
-    let mut steps = Steps::new(alloc);
-    steps.push(addition(alloc, &schema, 80, 80)?)?;
-    steps.push(addition(alloc, &schema, 80, 90)?)?;
-    steps.push(Step::Commit { now: 0 })?;
+    let steps = refused_steps(alloc, &schema)?;
     let (mut control, _readers) = start(alloc, schema, 1)?;
     run_steps(alloc, &mut control, &steps, keep_going, &OpenGate)
 }
@@ -230,23 +254,23 @@ const REFUSED: Event = Event::Refused {
     why: Why::Overlap { id: 0 },
 };
 
-#[test]
-fn a_refused_addition_fails_its_transaction(rt: HostRuntime) -> Result<(), Fail> {
-    let events = refusal(rt.alloc(), false)?;
-    assert_eq!(rt;
-        events.as_slice(),
-        [REFUSED, Event::Dropped { generation: 0 }].as_slice()
-    );
+/// Asserts the events, which end with this one.
+fn assert_refusal(
+    rt: &impl Abort,
+    alloc: Global,
+    keep_going: bool,
+    last: Event,
+) -> Result<(), Memory> {
+    assert!(rt; refusal(alloc, keep_going)?.as_slice() == [REFUSED, last].as_slice());
     Ok(())
 }
 
 #[test]
-fn a_refused_addition_is_skipped(rt: HostRuntime) -> Result<(), Fail> {
-    let events = refusal(rt.alloc(), true)?;
+fn a_refused_addition_fails_its_transaction_or_is_skipped(rt: HostRuntime) -> Result<(), Fail> {
+    assert_refusal(&rt, rt.alloc(), false, Event::Dropped { generation: 0 })?;
     let committed = Event::Committed {
         generation: 1,
         purged: 0,
     };
-    assert_eq!(rt; events.as_slice(), [REFUSED, committed].as_slice());
-    Ok(())
+    Ok(assert_refusal(&rt, rt.alloc(), true, committed)?)
 }

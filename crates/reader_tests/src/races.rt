@@ -1,4 +1,5 @@
 //! Readers in threads of their own, beside a control that commits.
+use crate::asserts::same;
 use crate::fixture::{commit_ports, key, look, started};
 use gen_publish::{Control, Held};
 use set_model::{Key, Memory};
@@ -73,6 +74,6 @@ fn readers_beside_a_control_see_whole_generations(rt: HostRuntime) -> Result<(),
     let late = readers.pop().expect(&rt, "a reader").enter();
     let keys = first_ports(&rt, alloc);
     let faults = race(&rt, alloc, control, early, late, keys.as_slice());
-    assert_eq!(rt; faults, 0);
+    same(&rt, faults, 0);
     Ok(())
 }

@@ -3,6 +3,7 @@ ghost use Rattle.std.specs.Prelude.{◌≡◌, ◌^◌, ◌<◌, length, IfOk};
 ghost use Rattle.history_laws.specs.States.{AllShow};
 ghost use Rattle.gen_slots.specs.SlotMachine.{initial};
 
+use crate::asserts::same;
 use crate::numbers::{Number, first_values, next_values, shown};
 use gen_slots::{Held, Pass, SlotCore, Steps, Writer, make_at};
 use set_model::Memory;
@@ -62,7 +63,7 @@ fn assert_publishes<L: Ledger>(
     ensures kept { (writer.new.readers ≡ 2) × (writer.new.of ≡ writer.old.of) }
 {
     let found = publish(rt, alloc, writer, x, steps);
-    assert_eq!(rt; found, before);
+    same(rt, found, before);
 }
 
 /// Publishes values of the state `x`. Returns what the first reader's berth of the slot held before, or 99 if it was empty.
@@ -101,7 +102,7 @@ fn number(held: &Held<Number>) -> u64 {
 }
 
 fn assert_number(rt: &impl Abort, held: &Held<Number>, wanted: u64) {
-    assert_eq!(rt; number(held), wanted);
+    same(rt, number(held), wanted);
 }
 
 /// Asserts which number a reader enters.
@@ -241,6 +242,6 @@ fn race<L: Ledger + Send + Sync, R: Threads + Wait + Abort + Sync>(
 
 #[test]
 fn readers_beside_a_writer_never_go_back(rt: HostRuntime) -> Result<(), Fail> {
-    assert_eq!(rt; race::<Brand, _>(&rt, rt.alloc(), Blank::new(1))?, 0);
+    same(&rt, race::<Brand, _>(&rt, rt.alloc(), Blank::new(1))?, 0);
     Ok(())
 }

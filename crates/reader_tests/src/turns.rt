@@ -2,6 +2,7 @@
 ghost use Rattle.std.specs.Prelude.{◌≡◌, length, IfOk};
 ghost use Rattle.history_laws.specs.States.{AllShow};
 
+use crate::asserts::same;
 use crate::numbers::{Number, first_values, next_values, shown};
 use gen_turns::{Held, Pass, Writer, make};
 use set_model::Memory;
@@ -75,7 +76,7 @@ fn number(held: &Held<Number>) -> u64 {
 }
 
 fn assert_number(rt: &impl Abort, held: &Held<Number>, wanted: u64) {
-    assert_eq!(rt; number(held), wanted);
+    same(rt, number(held), wanted);
 }
 
 /// Asserts which number a reader enters.
@@ -176,6 +177,6 @@ fn race<R: Threads + Wait + Abort + Sync>(rt: &R, alloc: Global) -> Result<u64, 
 
 #[test]
 fn readers_beside_a_writer_never_go_back(rt: HostRuntime) -> Result<(), Fail> {
-    assert_eq!(rt; race(&rt, rt.alloc())?, 0);
+    same(&rt, race(&rt, rt.alloc())?, 0);
     Ok(())
 }

@@ -20,8 +20,8 @@ use Rattle.drill_gen.specs.Drill.{drill_script, drill_steps, drill_keys, drill_p
 use Rattle.set_report.specs.SummaryText.{summary_of, summary_text}
 use Rattle.script_run.specs.Drill.{last_verdicts, drill_text, IsDrilled}
 use Rattle.script_run.specs.Telling.{looked_up}
-use Rattle.script_run.proofs.ControlLaws.{section_numbered, start_numbered}
-use Rattle.script_run.proofs.TranscriptLaws.{start_stands}
+use Rattle.script_laws.proofs.ControlLaws.{section_numbered, start_numbered}
+use Rattle.script_laws.proofs.RunLaws.{start_stands}
 
 -- Two lists look the same if their items do, place by place.
 places-same : {A B X : Type 0} (f : A → X) (g : B → X) (xs : List A) (ys : List B) → length xs ≡ length ys → ((p : ℕ) (y : B) (x : A) → slice_get ys p ≡ Some y → slice_get xs p ≡ Some x → f x ≡ g y) → map f xs ≡ map g ys

@@ -11,7 +11,7 @@ use Rattle.set_model.specs.Legal.{AreLegal, IsLegalLine, IsFirstMatch, Placed, p
 use Rattle.gen_publish.proofs.Growing.{as_many}
 use Rattle.packet_pool.specs.Section.{IsSection, verdict_in}
 use Rattle.script_run.specs.Telling.{looked_up, IsLineOf, IsAnsweredBy}
-use Rattle.script_run.proofs.Lists.{item-at, each-item}
+use Rattle.script_laws.proofs.Lists.{item-at, each-item}
 
 -- Lines that are legal by what one judge says are legal by what that implies.
 pub legal-as : {Says Other : Generation → Packet → Verdict → Type 0} {script : Script} {keys : List (List Packet)} {threads : ℕ} {mode : Mode} {lines : List Line}
@@ -47,8 +47,3 @@ lines-judged verdict packets first threads low after lines s = each-item (IsLine
       let packet = item-at packets p (omega (arith, within, size)) in
       let answer = (s.each p packet.0 l packet.1 e).answer in
       (answer.0, packet.0, answer.2)
-
--- What holds of a result holds of what that implies.
-pub ok-as : {T E : Type 0} {P Q : T → Type 0} (r : Result T E) → ((x : T) → P x → Q x) → IfOk r P → IfOk r Q
-ok-as (Ok x) implies h = implies x h
-ok-as (Err e) implies h = tt

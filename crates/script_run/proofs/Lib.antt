@@ -1,5 +1,3 @@
-pub mod Lists
-pub mod ControlLaws
 pub mod PlacedLaws
 pub mod SectionLaws
 pub mod TranscriptLaws

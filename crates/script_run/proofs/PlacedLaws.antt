@@ -6,8 +6,8 @@ use Rattle.std.proofs.lemmas.Option.{slice_get_within}
 use Rattle.set_model.specs.declared.packet.Packet.{Packet}
 use Rattle.set_model.specs.Legal.{Placed, placed_from}
 use Rattle.set_model.specs.Text.{packets_up_to}
-use Rattle.script_run.specs.Telling.{section_at}
-use Rattle.script_run.proofs.Lists.{All-head, All-tail, append-either, take-first, drop-take-behind, numbered, of-item, length-enumerate}
+use Rattle.script_laws.specs.Sections.{section_at}
+use Rattle.script_laws.proofs.Lists.{All-head, All-tail, append-either, take-first, drop-take-behind, numbered, of-item, length-enumerate}
 
 -- the packets of a section, with their places
 abbrev pub in_section : ℕ → ℕ × Packet → Placed

@@ -10,7 +10,7 @@ use Rattle.set_report.specs.Writes.{NamesSet}
 use Rattle.gen_publish.specs.Publish.{Steering, Grown, kinds_of, declared_kinds}
 use Rattle.gen_publish.proofs.Growing.{grown_last}
 use Rattle.packet_pool.specs.Running.{Ran, control_of}
-use Rattle.script_run.proofs.ControlLaws.{section_of}
+use Rattle.script_laws.proofs.ControlLaws.{section_of}
 
 -- The events name declared sets.
 pub told_named : (keep_going : Bool) (steps : List Step) (old new : Steering) (events : List Event) → EndsWith old.committed old.work.base → Grown old.schema 0 old.committed → kinds_of old.work.sets ≡ declared_kinds old.schema

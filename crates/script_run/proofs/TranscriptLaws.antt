@@ -23,10 +23,11 @@ use Rattle.packet_pool.specs.Section.{IsSection, IsSectionLine, AnswersPacket}
 use Rattle.packet_pool.specs.Work.{AllReady}
 use Rattle.script_run.specs.declared.telling.Telling.{Telling}
 use Rattle.set_model.specs.Runnable.{EndsClosed}
-use Rattle.script_run.specs.Telling.{section_at, IsAtStart, IsAnsweredBy, TellsSection}
+use Rattle.script_laws.specs.Sections.{section_at}
+use Rattle.script_run.specs.Telling.{IsAtStart, IsAnsweredBy, TellsSection}
 use Rattle.set_model.proofs.ClosedLaws.{closed-section}
-use Rattle.script_run.proofs.ControlLaws.{history-next, history_numbered, section_later, history_of, history_sets}
-use Rattle.script_run.proofs.Lists.{list_any-append, append-either, drop-take-behind, of-item}
+use Rattle.script_laws.proofs.ControlLaws.{history-next, history_numbered, section_later, history_of, history_sets}
+use Rattle.script_laws.proofs.Lists.{list_any-append, append-either, drop-take-behind, of-item}
 use Rattle.script_run.proofs.SectionLaws.{grown_at}
 use Rattle.script_run.proofs.PlacedLaws.{in_section, count-next, of-placed, placed-here, placed-before, placed-count, count-rises}
 
@@ -283,33 +284,3 @@ module _ (verdict : Generation → Packet → Verdict) (packets_text : List Line
         ),
         h.refused ∙ ap (λ xs. list_any is_refusal (history mode script.schema xs).events) whole,
       )
-
--- a section that isn't there is closed
-pub closed-at : (sections : List (List Step)) (j : ℕ) → All EndsClosed sections → EndsClosed (section_at sections j)
-closed-at sections j h = go (slice_get sections j) refl where
-  go : (o : Option (List Step)) → slice_get sections j ≡ o → EndsClosed (unwrap_or o [])
-  go None e = refl
-  go (Some ys) e = of-item EndsClosed sections j ys h e
-
--- After some sections, the events of a control name declared sets, and its sets are the declared ones.
-module _ (mode : Mode) (schema : List SetDecl) (sections : List (List Step)) (k : Steering) (events : List Event) (st : StandsAt [] (history mode schema sections) (run k false events)) where
-  pub events_declared : All (NamesSet (length schema)) events
-  events_declared =
-      subst (λ n. All (NamesSet n) events) (length-map schema (λ (d : SetDecl). d.kinds))
-      (subst (λ (z : List Event). All (NamesSet (length (declared_kinds schema))) z) st.told (history_of mode schema sections).named)
-
-  pub sets_declared : AreSetsOf schema k.work.base.sets
-  sets_declared = subst (λ (g : Generation). AreSetsOf schema g.sets) st.last (history_sets mode schema sections)
-
-pub start_stands : (schema : List SetDecl) (k : Steering) → k.committed ≡ first_generation schema ∷ [] → k.work ≡ opened (first_generation schema) → StandsAt [] (start schema) (run k false [])
-start_stands schema k list work = record { committed = sym list; last = sym (ap (λ w. w.base) work); sets = sym (ap (λ w. w.sets) work); failed = refl; told = refl }
-
--- The next section.
-pub next_stands : (keep_going : Bool) (schema : List SetDecl) (sections : List (List Step)) (i : ℕ) (steps : List Step) (k new : Steering) (events told all : List Event) → i < length sections → steps ≡ get_or sections i steps
-    → EndsClosed steps → StandsAt [] (history (mode_of keep_going) schema (take i sections)) (run k false events) → Ran keep_going steps k new told → all ≡ events ++ told
-    → StandsAt [] (history (mode_of keep_going) schema (take (i + 1) sections)) (run new false all)
-next_stands keep_going schema sections i steps k new events told all h e closed st ran more =
-    let c : Control = history (mode_of keep_going) schema (take i sections) in
-    let next = ran.goes_on.stands events c (record { committed = st.committed; last = st.last; sets = st.sets; failed = st.failed; told = st.told ∙ sym (append-nil events) }) in
-    subst (λ (x : Control). StandsAt [] x (run new false all)) (fold-more (section (mode_of keep_going)) (start schema) sections i steps h e)
-    (record { committed = next.committed; last = next.last; sets = next.sets; failed = closed-section steps closed (mode_of keep_going) c st.failed; told = next.told ∙ sym more })

@@ -1,5 +1,5 @@
 -- What a run writes for a section: the events of its steps, and the lines of its packets.
-use Rattle.std.specs.Prelude.{◌≡◌, ℕ, ◌+◌, ◌||◌, Bool, false, List, [], ◌∷◌, ◌++◌, length, unwrap_or, slice_get}
+use Rattle.std.specs.Prelude.{◌≡◌, ℕ, ◌+◌, ◌||◌, Bool, false, List, [], ◌∷◌, ◌++◌, length, slice_get}
 use Rattle.std.specs.List.{list_any}
 use Rattle.set_model.specs.declared.packet.Packet.{Packet}
 use Rattle.set_model.specs.declared.packet.Verdict.{Verdict}
@@ -16,10 +16,6 @@ use Rattle.packet_pool.specs.Running.{Ran}
 use Rattle.packet_pool.specs.Section.{IsSection, verdict_in}
 use Rattle.packet_pool.specs.Work.{AllReady}
 use Rattle.script_run.specs.declared.telling.Telling.{Telling}
-
--- the items of section j, or none if there is no such section
-abbrev pub section_at : {T : Type 0} → List (List T) → ℕ → List T
-section_at sections j = unwrap_or (slice_get sections j) []
 
 -- the verdict of a lookup on a packet in a generation
 abbrev pub looked_up : Generation → Packet → Verdict

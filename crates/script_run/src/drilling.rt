@@ -5,12 +5,11 @@ ghost use Rattle.set_space.specs.Open.{opened};
 ghost use Rattle.packet_pool.specs.Work.{AllReady};
 ghost use Rattle.script_run.specs.Drill.{drill_text, IsDrilled};
 
-use crate::numbers::has_numbers;
-use crate::output::Output;
 use crate::telling::Telling;
 use drill_gen::generate;
 use gen_publish::{Control, Reader};
 use packet_pool::{Gate, LookupJudge, SectionResult, run_section};
+use script_laws::{Output, has_numbers};
 use set_model::{Memory, Packets, Script, Steps};
 use set_report::write_summary;
 use std::alloc::Global;

@@ -25,14 +25,12 @@
 #![tactic(auto)]
 
 mod drilling;
-mod numbers;
 mod output;
 mod teller;
 mod telling;
 mod whole;
 
 pub use drilling::drill;
-pub use numbers::has_numbers;
-pub use output::{Output, dump, judged, listing, transcript};
-pub use telling::tells_refusal;
+pub use output::{dump, judged, listing, transcript};
+pub use script_laws::{Output, has_numbers};
 pub use whole::Whole;

@@ -10,26 +10,19 @@ ghost use Rattle.rule_chain.specs.JudgedText.{judged_text};
 ghost use Rattle.set_report.specs.Remarks.{remarks_text};
 ghost use Rattle.set_report.specs.Writes.{NamesSet};
 ghost use Rattle.script_run.specs.Listings.{listing_text, tables_text};
-ghost use Rattle.script_run.specs.Telling.{section_at, IsAnsweredBy};
+ghost use Rattle.script_laws.specs.Sections.{section_at};
+ghost use Rattle.script_run.specs.Telling.{IsAnsweredBy};
 
 use crate::teller::Teller;
-use crate::telling::{Telling, tells_refusal};
+use crate::telling::Telling;
 use crate::whole::Whole;
 use packet_pool::{ChainJudge, Gate, LookupJudge};
 use rule_chain::Chains;
+use script_laws::{Output, tells_refusal};
 use set_model::{Events, Keys, Listed, Memory, Packets, Schema, Script, Sections, Steps};
 use set_report::{write_dump, write_list, write_remarks};
 use std::alloc::Global;
 use std::thread::Threads;
-
-/// What a command writes: its text, and whether the text reports a refused change.
-#[derive(Drop)]
-pub struct Output {
-    /// The text that is written.
-    pub text: Vec<u8>,
-    /// Whether it reports a refused change.
-    pub refused: bool,
-}
 
 /// The section at a place, or the empty one if there is none.
 fn section<'a, T>(sections: &'a Listed<Listed<T>>, j: u64, empty: &'a Listed<T>) -> &'a Listed<T>

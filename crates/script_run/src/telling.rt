@@ -6,11 +6,10 @@ ghost use Rattle.set_space.specs.Open.{CanBeBuilt};
 ghost use Rattle.packet_pool.specs.Work.{AllReady};
 ghost use Rattle.script_run.specs.Telling.{IsAtStart, TellsSection};
 
-use crate::numbers::has_numbers;
-use crate::output::Output;
 use crate::teller::Teller;
 use gen_publish::{Control, Reader, start};
 use packet_pool::{Gate, run_section};
+use script_laws::{Output, has_numbers, tells_refusal};
 use set_model::{Event, Memory, Packets, Schema, Steps};
 use set_report::write_events;
 use std::alloc::Global;
@@ -27,13 +26,6 @@ pub struct Telling {
     pub packets: u64,
     /// What is written so far.
     pub output: Output,
-}
-
-/// Whether an event reports that a change was refused.
-pub fn tells_refusal(events: &[Event]) -> bool
-    ensures { result ≡ list_any refuses events.now }
-{
-    events.iter().any(|event| event.is_refusal())
 }
 
 /// Whether a refusal was reported before, or is among these events.

@@ -4,9 +4,9 @@ ghost use Rattle.set_model.specs.Runnable.{IsRunnable};
 ghost use Rattle.set_report.specs.Writes.{NamesSet, AreSetsOf};
 ghost use Rattle.packet_pool.specs.Running.{run, StandsAt};
 
-use crate::numbers::has_numbers;
 use gen_publish::{Control, start};
 use packet_pool::{Gate, run_steps};
+use script_laws::has_numbers;
 use set_model::{Events, Memory, Script};
 use std::alloc::Global;
 

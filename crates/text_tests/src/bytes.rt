@@ -2,39 +2,46 @@
 use set_model::Memory;
 use std::alloc::Global;
 
+/// The words that have a name, with their bytes.
+const NAMED: [(&[u8], &[u8]); 13] = [
+    (b"zero", b"\0\0\0\0"),
+    // the header of a capture of raw IP, and of Ethernet, in microseconds, the least significant byte first
+    (
+        b"raw",
+        b"\xd4\xc3\xb2\xa1\x02\0\x04\0\0\0\0\0\0\0\0\0\0\0\x04\0\x65\0\0\0",
+    ),
+    (
+        b"ethernet",
+        b"\xd4\xc3\xb2\xa1\x02\0\x04\0\0\0\0\0\0\0\0\0\0\0\x04\0\x01\0\0\0",
+    ),
+    // a record's header: 1.5 seconds, 28 bytes kept
+    (b"record", b"\x01\0\0\0\x20\xa1\x07\0\x1c\0\0\0\x1c\0\0\0"),
+    // to 00:01:02:0a:0b:0c, from 02:00:00:00:00:01
+    (b"stations", b"\0\x01\x02\x0a\x0b\x0c\x02\0\0\0\0\x01"),
+    (b"customer", b"\x81\0\0\x64"),
+    (b"service", b"\x88\xa8\0\x65"),
+    // the first 12 bytes of an IPv4 header, of UDP; from 192.168.1.5 to 10.0.0.5
+    (b"ipv4", b"\x45\0\0\x1c\0\0\0\0\x40\x11\0\0"),
+    (b"addresses", b"\xc0\xa8\x01\x05\x0a\0\0\x05"),
+    // the first 8 bytes of an IPv6 header, of TCP; from 2001:db8::1 to 2001:db8::2
+    (b"ipv6", b"\x60\0\0\0\0\x14\x06\x40"),
+    (
+        b"addresses6",
+        b"\x20\x01\x0d\xb8\0\0\0\0\0\0\0\0\0\0\0\x01\x20\x01\x0d\xb8\0\0\0\0\0\0\0\0\0\0\0\x02",
+    ),
+    // from 1234 to 2048, and the length and the checksum of an UDP header
+    (b"ports", b"\x04\xd2\x08\0"),
+    (b"udp", b"\0\x08\0\0"),
+];
+
 /// The bytes of a word that has a name.
 fn named(word: &[u8]) -> Option<&'static [u8]> {
-    Some(match word {
-        b"zero" => b"\0\0\0\0",
-        // the header of a capture of raw IP, and of Ethernet, in microseconds, the least significant byte first
-        b"raw" => b"\xd4\xc3\xb2\xa1\x02\0\x04\0\0\0\0\0\0\0\0\0\0\0\x04\0\x65\0\0\0",
-        b"ethernet" => { b"\xd4\xc3\xb2\xa1\x02\0\x04\0\0\0\0\0\0\0\0\0\0\0\x04\0\x01\0\0\0" }
-        // a record's header: 1.5 seconds, 28 bytes kept
-        b"record" => b"\x01\0\0\0\x20\xa1\x07\0\x1c\0\0\0\x1c\0\0\0",
-        // to 00:01:02:0a:0b:0c, from 02:00:00:00:00:01
-        b"stations" => b"\0\x01\x02\x0a\x0b\x0c\x02\0\0\0\0\x01",
-        b"customer" => b"\x81\0\0\x64",
-        b"service" => b"\x88\xa8\0\x65",
-        _ => return named_in_packet(word),
-    })
-}
-
-/// The bytes of a word that names a part of an IP packet.
-fn named_in_packet(word: &[u8]) -> Option<&'static [u8]> {
-    Some(match word {
-        // the first 12 bytes of a header, of UDP; from 192.168.1.5 to 10.0.0.5
-        b"ipv4" => b"\x45\0\0\x1c\0\0\0\0\x40\x11\0\0",
-        b"addresses" => b"\xc0\xa8\x01\x05\x0a\0\0\x05",
-        // the first 8 bytes of a header, of TCP; from 2001:db8::1 to 2001:db8::2
-        b"ipv6" => b"\x60\0\0\0\0\x14\x06\x40",
-        b"addresses6" => {
-            b"\x20\x01\x0d\xb8\0\0\0\0\0\0\0\0\0\0\0\x01\x20\x01\x0d\xb8\0\0\0\0\0\0\0\0\0\0\0\x02"
+    for (name, bytes) in NAMED {
+        if name == word {
+            return Some(bytes);
         }
-        // from 1234 to 2048, and the length and the checksum of an UDP header
-        b"ports" => b"\x04\xd2\x08\0",
-        b"udp" => b"\0\x08\0\0",
-        _ => return None,
-    })
+    }
+    None
 }
 
 fn digit(byte: u8) -> u8 {

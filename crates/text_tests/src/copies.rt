@@ -52,11 +52,17 @@ fn assert_kept(rt: &impl Abort, elements: &Elements) {
     }
 }
 
+/// Asserts that the element has both intervals, and its comment.
+fn assert_changed(rt: &impl Abort, taken: &Element) {
+    assert!(rt;
+        taken.parts.as_slice() == [FIRST, SECOND].as_slice()
+            && taken.comment.as_slice() == b"a".as_slice()
+    );
+}
+
 /// Asserts that a copy changes, and that its original doesn't.
 fn assert_apart(rt: &impl Abort, alloc: Global, shared: &Elements) -> Result<(), Memory> {
-    let taken = changed(&mut shared.copy(alloc)?)?;
-    assert!(rt; taken.parts.as_slice() == [FIRST, SECOND].as_slice());
-    assert!(rt; taken.comment.as_slice() == b"a".as_slice());
+    assert_changed(rt, &changed(&mut shared.copy(alloc)?)?);
     assert_kept(rt, shared);
     Ok(())
 }

@@ -28,15 +28,21 @@ fn kind_of(letter: &[u8]) -> TextKind {
     }
 }
 
+const REASONS: [(&[u8], Reason); 5] = [
+    (b"character", Reason::Character),
+    (b"end", Reason::End),
+    (b"left out", Reason::LeftOut),
+    (b"type", Reason::TypeWord),
+    (b"set", Reason::Set),
+];
+
 fn reason_of(word: &[u8]) -> Reason {
-    match word {
-        b"character" => Reason::Character,
-        b"end" => Reason::End,
-        b"left out" => Reason::LeftOut,
-        b"type" => Reason::TypeWord,
-        b"set" => Reason::Set,
-        _ => Reason::Statement,
+    for (name, reason) in REASONS {
+        if name == word {
+            return reason;
+        }
     }
+    Reason::Statement
 }
 
 /// A bad token by its place, its length, its line, its column and the reason.

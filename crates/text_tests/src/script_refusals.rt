@@ -267,9 +267,18 @@ fn declarations(alloc: Global) -> Result<Vec<u8>, Memory> {
 
 /// Asserts that one more set after these is refused in its line, if a script can't have more.
 fn assert_most(rt: &impl Abort, alloc: Global, sets: &[u8]) -> Result<(), Memory> {
-    assert!(rt; refusal(alloc, sets)?.as_slice() == b"read".as_slice());
+    assert_refusal(rt, alloc, sets, b"read")?;
     let more = joined(alloc, sets, b"table t { set s { type mark } }")?;
-    assert!(rt; refusal(alloc, &more)?.as_slice() == b"65 set".as_slice());
+    assert_refusal(rt, alloc, &more, b"65 set")
+}
+
+fn assert_refusal(
+    rt: &impl Abort,
+    alloc: Global,
+    text: &[u8],
+    expected: &[u8],
+) -> Result<(), Memory> {
+    assert!(rt; refusal(alloc, text)?.as_slice() == expected);
     Ok(())
 }
 

@@ -2,7 +2,7 @@ use Rattle.std.proofs.Common.{rules, ◌<◌, List, length, subst, arith}
 use Rattle.packet_pool.proofs.Lists.{get_at}
 use Rattle.set_model.specs.Control.{Generation}
 use Rattle.control_desk.specs.Work.{IsRun}
-use Rattle.script_run.proofs.JudgeLaws.{ok-as}
+use Rattle.script_laws.proofs.RunLaws.{ok-as}
 use Rattle.desk_run.proofs.Opening.{all_opened, all_ready, first_base}
 use Rattle.desk_run.proofs.running.run_later.Goals as goal
 

@@ -6,8 +6,8 @@ use Rattle.set_model.specs.Runnable.{EndsClosed, IsRunnableStep}
 use Rattle.set_report.specs.ListText.{list_text}
 use Rattle.set_report.specs.Remarks.{remarks_text}
 use Rattle.set_report.specs.Writes.{AreSetsOf, NamesSet}
-use Rattle.script_run.proofs.Lists.{All-section}
-use Rattle.script_run.proofs.TranscriptLaws.{closed-at}
+use Rattle.script_laws.proofs.Lists.{All-section}
+use Rattle.script_laws.proofs.RunLaws.{closed-at, ok-as}
 use Rattle.control_desk.specs.declared.entry.Entry.{Entry}
 use Rattle.control_desk.specs.Woven.{said}
 use Rattle.desk_run.specs.DeskText.{log_text}
@@ -46,8 +46,9 @@ write_desk-requires-clause-sets g c = subst (λ (s : List SetDecl). AreSetsOf s 
     c.take_first-first.ensures.first c.take_first-first.ensures.others c.in_ok-control.ensures.stands c.in_ok-control-2.ensures)
 
 pub returns : goal.returns
-returns g c = tells c.args.script c.args.keep_going c.take_first-first.result c.take_first-first.new.sections c.in_ok-control.control c.in_ok-control-2.control c.in_ok-control.told c.in_ok-control-2.log
+returns g c = ok-as c.write_desk.result
+    (λ out wrote. tells c.args.script c.args.keep_going c.take_first-first.result c.take_first-first.new.sections c.in_ok-control.control c.in_ok-control-2.control c.in_ok-control.told c.in_ok-control-2.log
     c.take_first-first.ensures.first c.take_first-first.ensures.others c.in_ok-control.ensures.stands c.in_ok-control-2.ensures
-    c.any_refusal.result c.in_ok-text.text.items
-    (subst (λ (s : List SetDecl). c.in_ok-text.text.items ≡ remarks_text s c.in_ok-control.told ++ (log_text s c.in_ok-control-2.log ++ list_text s c.in_ok-control-2.control.work.base.sets c.args.script.last)) c.in_ok-declared.ensures c.in_ok-text.ensures)
-    c.any_refusal.ensures
+    out.refused out.text.items
+    (subst (λ (s : List SetDecl). out.text.items ≡ remarks_text s c.in_ok-control.told ++ (log_text s c.in_ok-control-2.log ++ list_text s c.in_ok-control-2.control.work.base.sets c.args.script.last)) c.in_ok-declared.ensures wrote.0)
+    wrote.1) c.write_desk.ensures

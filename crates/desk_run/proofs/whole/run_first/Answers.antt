@@ -2,7 +2,7 @@ use Rattle.std.proofs.Common.{◌∙◌, List, All, subst, sym}
 use Rattle.set_model.specs.declared.script.SetDecl.{SetDecl}
 use Rattle.set_model.specs.Control.{mode_of}
 use Rattle.set_model.specs.Runnable.{IsRunnableStep}
-use Rattle.script_run.proofs.TranscriptLaws.{start_stands}
+use Rattle.script_laws.proofs.RunLaws.{start_stands}
 use Rattle.desk_run.proofs.FirstSection.{closed_behind, stands_behind}
 use Rattle.desk_run.proofs.whole.run_first.Goals as goal
 

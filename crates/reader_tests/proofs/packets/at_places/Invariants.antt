@@ -1,4 +1,4 @@
-use Rattle.std.proofs.Common.{◌≡◌, ◌++◌, map, Some}
+use Rattle.std.proofs.Common.{◌≡◌, map, Some}
 use Rattle.reader_tests.proofs.packets.at_places.Given as goal
 
 abbrev pub invariant-loop-reader : goal.invariant-loop-reader

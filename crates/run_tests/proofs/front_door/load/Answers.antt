@@ -1,7 +1,7 @@
 use Rattle.std.proofs.Common.{rules, ◌≡◌, subst, sym, All, List}
 use Rattle.set_model.specs.declared.script.SetDecl.{SetDecl}
 use Rattle.set_model.specs.Runnable.{IsRunnable, IsRunnableStep}
-use Rattle.script_run.proofs.Lists.{of-item}
+use Rattle.script_laws.proofs.Lists.{of-item}
 use Rattle.run_tests.proofs.front_door.load.Goals as goal
 
 pub run_steps-requires-clause-steps : goal.run_steps-requires-clause-steps

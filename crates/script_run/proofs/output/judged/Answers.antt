@@ -1,4 +1,5 @@
-use Rattle.script_run.proofs.JudgeLaws.{ok-as, legal-as}
+use Rattle.script_laws.proofs.RunLaws.{ok-as}
+use Rattle.script_run.proofs.JudgeLaws.{legal-as}
 use Rattle.script_run.proofs.output.judged.Goals as goal
 
 pub returns-clause-text : goal.returns-clause-text

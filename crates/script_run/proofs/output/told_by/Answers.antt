@@ -4,8 +4,9 @@ use Rattle.set_model.specs.declared.script.SetDecl.{SetDecl}
 use Rattle.set_model.specs.declared.script.Step.{Step}
 use Rattle.set_model.specs.Runnable.{IsRunnableStep, IsFitting}
 use Rattle.set_model.specs.Text.{section_count}
-use Rattle.script_run.proofs.Lists.{All-section}
-use Rattle.script_run.proofs.TranscriptLaws.{told_none, told_next, told_all, packets-next, closed-at}
+use Rattle.script_laws.proofs.Lists.{All-section}
+use Rattle.script_laws.proofs.RunLaws.{closed-at}
+use Rattle.script_run.proofs.TranscriptLaws.{told_none, told_next, told_all, packets-next}
 use Rattle.script_run.proofs.output.told_by.Goals as goal
 
 pub do_section-requires-clause-readers : goal.do_section-requires-clause-readers

@@ -1,4 +1,5 @@
-use Rattle.script_run.proofs.JudgeLaws.{ok-as, legal-as, first-match}
+use Rattle.script_laws.proofs.RunLaws.{ok-as}
+use Rattle.script_run.proofs.JudgeLaws.{legal-as, first-match}
 use Rattle.script_run.proofs.output.transcript.Goals as goal
 
 pub returns-clause-text : goal.returns-clause-text

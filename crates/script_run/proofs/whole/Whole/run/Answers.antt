@@ -4,8 +4,8 @@ use Rattle.set_model.specs.declared.script.SetDecl.{SetDecl}
 use Rattle.set_model.specs.Control.{mode_of, start}
 use Rattle.packet_pool.specs.Running.{StandsAt, run}
 use Rattle.set_model.specs.Runnable.{EndsClosed, IsRunnableStep}
-use Rattle.script_run.proofs.Lists.{of-place}
-use Rattle.script_run.proofs.TranscriptLaws.{events_declared, sets_declared, start_stands, next_stands}
+use Rattle.script_laws.proofs.Lists.{of-place}
+use Rattle.script_laws.proofs.RunLaws.{events_declared, sets_declared, start_stands, next_stands}
 use Rattle.script_run.proofs.whole.Whole.run.Goals as goal
 
 pub sections-init : goal.sections-init

@@ -1,10 +1,9 @@
-use Rattle.std.proofs.Common.{◌≡◌, refl, sym, ◌∙◌, ap, subst, ℕ, ◌+◌, List, [], ◌∷◌, ◌++◌, All, take, drop, get_or}
+use Rattle.std.proofs.Common.{◌≡◌, refl, ◌∙◌, ap, subst, ◌+◌, List, [], ◌∷◌, ◌++◌, take, drop, get_or}
 use Rattle.atomic_table.specs.Seated.{TableId}
 use Rattle.set_model.specs.declared.script.SetDecl.{SetDecl}
 use Rattle.set_model.specs.Control.{Generation}
-use Rattle.set_model.specs.Runnable.{IsRunnableStep}
 use Rattle.control_desk.specs.Turns.{Seated, newcomer, IsOpened}
-use Rattle.reader_tests.proofs.desks.Desk.open.Goals as goal
+use Rattle.reader_tests.proofs.desks.two_clerks.Goals as goal
 
 -- The two control threads of a desk, taken from its front one after the other.
 two_taken : (of : TableId) (schema : List SetDecl) (base : List Generation) (clerks behind : List Seated) (one two : Seated) → IsOpened of schema base 2 2 clerks → one ≡ get_or clerks 0 one → behind ≡ take 0 clerks ++ drop (0 + 1) clerks → two ≡ get_or behind 0 two → (one ≡ newcomer of schema base 2 1 2) × (two ≡ newcomer of schema base 2 2 2)
@@ -19,16 +18,8 @@ returns-clause-left c =
     let are = two_taken desk.0 c.in_ok-control.control.schema c.in_ok-control.control.committed c.in_ok-clerks.clerks.items c.remove-one.new.self.items c.remove-one.result c.remove-two.result desk.1 c.remove-one.ensures.value c.remove-one.ensures.by_index.2 c.remove-two.ensures.value in
     (ap (λ (s : Seated). s.left) are.0, ap (λ (s : Seated). s.left) are.1)
 
-pub returns-clause-first : goal.returns-clause-first
-returns-clause-first c =
+pub returns-clause-schema : goal.returns-clause-schema
+returns-clause-schema c =
     let desk = c.in_ok-clerks.ensures in
     let are = two_taken desk.0 c.in_ok-control.control.schema c.in_ok-control.control.committed c.in_ok-clerks.clerks.items c.remove-one.new.self.items c.remove-one.result c.remove-two.result desk.1 c.remove-one.ensures.value c.remove-one.ensures.by_index.2 c.remove-two.ensures.value in
-    let schema = ap (λ (s : Seated). s.schema) are.0 ∙ c.in_ok-control.ensures.control.0 in
-    (c.in_ok-first.ensures.whole, subst (λ z. All (IsRunnableStep z) c.in_ok-first.first) (sym schema) c.in_ok-first.ensures.fits)
-
-pub returns-clause-second : goal.returns-clause-second
-returns-clause-second c =
-    let desk = c.in_ok-clerks.ensures in
-    let are = two_taken desk.0 c.in_ok-control.control.schema c.in_ok-control.control.committed c.in_ok-clerks.clerks.items c.remove-one.new.self.items c.remove-one.result c.remove-two.result desk.1 c.remove-one.ensures.value c.remove-one.ensures.by_index.2 c.remove-two.ensures.value in
-    let schema = ap (λ (s : Seated). s.schema) are.1 ∙ c.in_ok-control.ensures.control.0 in
-    (c.in_ok-second.ensures.whole, subst (λ z. All (IsRunnableStep z) c.in_ok-second.second) (sym schema) c.in_ok-second.ensures.fits)
+    (ap (λ (s : Seated). s.schema) are.0 ∙ c.in_ok-control.ensures.control.0, ap (λ (s : Seated). s.schema) are.1 ∙ c.in_ok-control.ensures.control.0)

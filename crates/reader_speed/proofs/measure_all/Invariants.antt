@@ -1,5 +1,5 @@
 use Rattle.std.proofs.Common.{◌+◌, ◌-◌, ◌<◌, ◌≤◌}
-use Rattle.reader_speed.proofs.run.Given as goal
+use Rattle.reader_speed.proofs.measure_all.Given as goal
 
 abbrev pub invariant-loop-threads : goal.invariant-loop-threads
 invariant-loop-threads g l = (0 < l.threads) × (l.most ≤ 16)

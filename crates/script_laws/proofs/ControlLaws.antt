@@ -16,9 +16,9 @@ use Rattle.set_model.specs.declared.element.NewElement.{NewElement}
 use Rattle.set_space.specs.Open.{Open}
 use Rattle.set_report.specs.Writes.{NamesSet, AreSetsOf}
 use Rattle.gen_publish.specs.Publish.{kinds_of, declared_kinds}
-use Rattle.script_run.specs.Telling.{section_at}
+use Rattle.script_laws.specs.Sections.{section_at}
 use Rattle.packet_pool.proofs.ChangeLaws.{IsAlike, change_alike, set_same}
-use Rattle.script_run.proofs.Lists.{All-snoc, snoc-at}
+use Rattle.script_laws.proofs.Lists.{All-snoc, snoc-at}
 
 -- A work on sets of these kinds, in its base and with the open changes.
 pub record HasKinds (kinds : List (List Kind)) (work : Open) : Type 0 where

@@ -3,7 +3,7 @@ use Rattle.std.proofs.Common.{subst, get_or, ◌≡◌, refl, sym, ◌∙◌, ap
 use Rattle.std.specs.List.{enumerate_from, list_any}
 use Rattle.std.proofs.lemmas.List.{take-map, drop-map}
 use Rattle.std.proofs.lemmas.Option.{slice_get-map, slice_get_within, get_or_from_slice_get}
-use Rattle.script_run.specs.Telling.{section_at}
+use Rattle.script_laws.specs.Sections.{section_at}
 
 module _ {X : Type 0} where
   pub All-head : (P : X → Type 0) (x : X) (xs : List X) → All P (x ∷ xs) → P x
