@@ -9,8 +9,12 @@ import struct
 # ---- the forms of headers
 
 MAGIC = {"micro": 0xA1B2C3D4, "nano": 0xA1B23C4D}
-ETHERNET, RAW = 1, 101
-TCP, UDP = 6, 17
+ETHERNET, RAW, COOKED, IPV4, IPV6, COOKED_TWO = 1, 101, 113, 228, 229, 276
+LINKS = (ETHERNET, RAW, COOKED, IPV4, IPV6, COOKED_TWO)
+RAW_TOO = (12, 14)
+TCP, UDP, DCCP, SCTP, UDP_LITE = 6, 17, 33, 132, 136
+PORTED = (TCP, UDP, DCCP, SCTP, UDP_LITE)
+HOP_BY_HOP, ROUTING, FRAGMENT, AUTHENTICATION, DESTINATION = 0, 43, 44, 51, 60
 
 
 def header(order, unit, link, version=(2, 4)):
@@ -44,6 +48,29 @@ def ethernet(source, dest, kind, payload, tags=()):
     return frame + struct.pack(">H", kind) + payload
 
 
+def cooked(kind, payload, tags=(), hardware=1):
+    """LINKTYPE_LINUX_SLL: a packet from outside, with a link-layer address of six bytes."""
+    frame = struct.pack(">HHH", 0, hardware, 6) + bytes.fromhex("0200000000010000")
+    for tag in tags:
+        frame += struct.pack(">HH", tag, 7)
+    return frame + struct.pack(">H", kind) + payload
+
+
+def cooked_two(kind, payload, hardware=1):
+    """LINKTYPE_LINUX_SLL2, on interface 2."""
+    return struct.pack(">HHIHBB", kind, 0, 2, hardware, 0, 6) + bytes.fromhex("0200000000010000") + payload
+
+
+def extension(kind, following, payload, extra=0, offset=0, more=True):
+    """An extension header of IPv6 and what follows it, with so many units after its first 8 bytes."""
+    if kind == FRAGMENT:
+        return struct.pack(">BBHI", following, 0, offset * 8 + more, 1) + payload
+    if kind == AUTHENTICATION:
+        return struct.pack(">BBH", following, 2 * extra, 0) + bytes(4 + 8 * extra) + payload
+    # options: one PadN over all
+    return struct.pack(">BBBB", following, extra, 1, 4 + 8 * extra) + bytes(4 + 8 * extra) + payload
+
+
 # ---- the reader: the facts of a frame, and the records of a file
 
 
@@ -57,36 +84,64 @@ def at(frame, place, size):
     return int.from_bytes(frame[place:place + size], "big")
 
 
-def packet_facts(packet, version):
-    if at(packet, 0, 1) >> 4 != version:
+def transport(proto, header):
+    """The protocol, and its ports if all four bytes are there."""
+    found = {"proto": proto}
+    if proto in PORTED and len(header) >= 4:
+        found["sport"], found["dport"] = at(header, 0, 2), at(header, 2, 2)
+    return found
+
+
+def ipv4_facts(packet):
+    if at(packet, 0, 1) >> 4 != 4:
         return None
-    if version == 4:
-        size = 4 * (at(packet, 0, 1) & 15)
-        if size < 20 or at(packet, 6, 2) & 0x1FFF != 0:
-            return None
-        proto, source, dest = at(packet, 9, 1), at(packet, 12, 4), at(packet, 16, 4)
-    else:
-        size, proto, source, dest = 40, at(packet, 6, 1), at(packet, 8, 16), at(packet, 24, 16)
-    if proto not in (TCP, UDP):
+    size = 4 * (at(packet, 0, 1) & 15)
+    found = {"version": 4, "source": at(packet, 12, 4), "dest": at(packet, 16, 4)}
+    if size < 20:
         return None
-    return {"version": version, "source": source, "dest": dest, "proto": proto, "sport": at(packet, size, 2),
-            "dport": at(packet, size + 2, 2)}
+    first = at(packet, 6, 2) & 0x1FFF == 0
+    return found | transport(at(packet, 9, 1), packet[size:] if first else b"")
+
+
+def chain(proto, rest):
+    """What follows the extension headers; nothing if it can't be known."""
+    while proto in (HOP_BY_HOP, ROUTING, FRAGMENT, AUTHENTICATION, DESTINATION):
+        if len(rest) < 8:
+            return {}
+        if proto == FRAGMENT and rest[2:4] >= b"\0\x08":
+            last = rest[0] not in (HOP_BY_HOP, ROUTING, FRAGMENT, AUTHENTICATION, DESTINATION)
+            return {"proto": rest[0]} if last else {}
+        size = {FRAGMENT: 8, AUTHENTICATION: 4 * rest[1] + 8}.get(proto, 8 * rest[1] + 8)
+        proto, rest = rest[0], rest[size:]
+    return transport(proto, rest)
+
+
+def ipv6_facts(packet):
+    if at(packet, 0, 1) >> 4 != 6:
+        return None
+    found = {"version": 6, "source": at(packet, 8, 16), "dest": at(packet, 24, 16)}
+    return found | chain(at(packet, 6, 1), packet[40:])
+
+
+def typed_facts(kind, rest):
+    for _ in range(2):
+        if kind in (0x8100, 0x88A8):
+            kind, rest = at(rest, 2, 2), rest[4:]
+    if kind == 0x0800:
+        return ipv4_facts(rest)
+    return ipv6_facts(rest) if kind == 0x86DD else None
 
 
 def frame_facts(link, frame):
-    if link == RAW:
-        return packet_facts(frame, 6 if at(frame, 0, 1) >> 4 == 6 else 4)
-    place = 12
-    for _ in range(2):
-        if at(frame, place, 2) in (0x8100, 0x88A8):
-            place += 4
-    version = {0x0800: 4, 0x86DD: 6}.get(at(frame, place, 2))
-    if version is None:
-        return None
-    found = packet_facts(frame[place + 2:], version)
-    if found is not None:
-        found["ether"] = (at(frame, 6, 6), at(frame, 0, 6))
-    return found
+    if link == ETHERNET:
+        found = typed_facts(at(frame, 12, 2), frame[14:])
+        return None if found is None else found | {"ether": (at(frame, 6, 6), at(frame, 0, 6))}
+    if link in (COOKED, COOKED_TWO):
+        hardware, kind, size = (2, 14, 16) if link == COOKED else (8, 0, 20)
+        at(frame, 0, size)
+        return None if at(frame, hardware, 2) in (770, 803, 824) else typed_facts(at(frame, kind, 2), frame[size:])
+    six = link == IPV6 or link != IPV4 and at(frame, 0, 1) >> 4 == 6
+    return ipv6_facts(frame) if six else ipv4_facts(frame)
 
 
 def facts(link, frame):
@@ -110,7 +165,7 @@ def read(data):
     if struct.unpack(order + "HH", data[4:8]) != (2, 4):
         raise Fault(4, "version")
     link = struct.unpack(order + "I", data[20:24])[0] & 0xFFFF
-    if link not in (ETHERNET, RAW):
+    if link not in LINKS + RAW_TOO:
         raise Fault(20, "link type")
     frames, place, first = [], 24, None
     while place < len(data):
@@ -135,15 +190,16 @@ SELECTORS = {
     "ip6_daddr": ("ipv6_addr", lambda f: f["dest"] if f["version"] == 6 else None),
     "ether_saddr": ("ether_addr", lambda f: f["ether"][0] if "ether" in f else None),
     "ether_daddr": ("ether_addr", lambda f: f["ether"][1] if "ether" in f else None),
-    "proto": ("inet_proto", lambda f: f["proto"]),
-    "sport": ("inet_service", lambda f: f["sport"]),
-    "dport": ("inet_service", lambda f: f["dport"]),
+    "proto": ("inet_proto", lambda f: f.get("proto")),
+    "sport": ("inet_service", lambda f: f.get("sport")),
+    "dport": ("inet_service", lambda f: f.get("dport")),
 }
 PLANS = [
     [["ip_saddr", "dport"]],
     [["ip6_daddr", "sport", "proto"], ["ip_daddr"]],
     [["ether_saddr", "ether_daddr"], ["ip_saddr", "ip_daddr", "proto", "sport", "dport"], ["dport"],
      ["ip6_saddr", "ip6_daddr", "sport", "dport"]],
+    [["ip_saddr", "proto"], ["ip6_daddr", "proto"], ["ip6_saddr"]],
 ]
 
 

@@ -18,8 +18,9 @@ import subprocess
 import sys
 import tempfile
 
-from captures import ETHERNET, MAGIC, PLANS, RAW, TCP, UDP, Fault, ethernet, facts, header, ipv4, ipv6, packets
-from captures import plan_text, ports, read, record, script_of, wanted_output
+from captures import AUTHENTICATION, COOKED, COOKED_TWO, DESTINATION, ETHERNET, FRAGMENT, HOP_BY_HOP, IPV4, IPV6, LINKS, MAGIC
+from captures import PLANS, PORTED, RAW, ROUTING, TCP, UDP, Fault, cooked, cooked_two, ethernet, extension, facts, header, ipv4
+from captures import ipv6, packets, plan_text, ports, read, record, script_of, wanted_output
 
 # ---- runs
 
@@ -70,11 +71,20 @@ def some_packets(rng):
         return ports(rng.choice(port), rng.choice(port), bytes(rng.randrange(0, 20)))
 
     def any_four(proto=None, **form):
-        return ipv4(rng.choice(four), rng.choice(four), rng.choice((TCP, UDP)) if proto is None else proto, any_ports(), **form)
+        return ipv4(rng.choice(four), rng.choice(four), rng.choice(PORTED) if proto is None else proto, any_ports(), **form)
 
     def any_six(following=None, **form):
-        return ipv6(rng.choice(six), rng.choice(six), rng.choice((TCP, UDP)) if following is None else following, any_ports(),
+        return ipv6(rng.choice(six), rng.choice(six), rng.choice(PORTED) if following is None else following, any_ports(),
                     **form)
+
+    def any_chain():
+        """One to three extension headers before a protocol."""
+        proto, payload = rng.choice((*PORTED, 58, 59, 50)), any_ports()
+        for _ in range(rng.randrange(1, 4)):
+            kind = rng.choice((HOP_BY_HOP, ROUTING, FRAGMENT, AUTHENTICATION, DESTINATION))
+            payload = extension(kind, proto, payload, rng.randrange(3), rng.choice((0, 0, 1, 8191)), rng.randrange(2))
+            proto = kind
+        return ipv6(rng.choice(six), rng.choice(six), proto, payload)
 
     found = []
     for _ in range(3):
@@ -82,7 +92,8 @@ def some_packets(rng):
         found += [(0x0800, any_four(options=bytes(4 * n))) for n in (1, 5, 10)]
         # a first fragment has ports, a later one none
         found += [(0x0800, any_four(more=True)), (0x0800, any_four(offset=1)), (0x0800, any_four(offset=0x1FFF, more=True))]
-        found += [(0x0800, any_four(proto=p)) for p in (1, 47, 132)] + [(0x86DD, any_six(following=p)) for p in (0, 44, 58)]
+        found += [(0x0800, any_four(proto=p)) for p in (1, 47, 51, 132)] + [(0x86DD, any_six(following=p)) for p in (0, 44, 58, 59)]
+        found += [(0x86DD, any_chain()) for _ in range(4)]
         found += [(0x0800, any_four(words=4)), (0x0800, any_four(words=15)), (0x0800, any_four(version=5))]
         # what the type doesn't say, and types of others
         found += [(0x0800, any_six()), (0x86DD, any_four()), (0x0806, any_four()), (0x88CC, b""), (0x0800, b"")]
@@ -91,11 +102,15 @@ def some_packets(rng):
 
 def some_frames(rng, link):
     for kind, packet in some_packets(rng):
-        if link == RAW:
-            yield packet
-        else:
-            tags = rng.choice([(), (), (0x8100,), (0x88A8, 0x8100), (0x8100, 0x8100, 0x8100)])
+        tags = rng.choice([(), (), (0x8100,), (0x88A8, 0x8100), (0x8100, 0x8100, 0x8100)])
+        if link == ETHERNET:
             yield ethernet(rng.randrange(1 << 48), rng.randrange(1 << 48), kind, packet, tags)
+        elif link == COOKED:
+            yield cooked(kind, packet, tags, rng.choice((1, 1, 772, 770, 803, 824)))
+        elif link == COOKED_TWO:
+            yield cooked_two(kind, packet, rng.choice((1, 1, 772, 770, 803, 824)))
+        else:
+            yield packet
 
 
 def some_capture(rng, order, unit, link):
@@ -109,7 +124,7 @@ def some_capture(rng, order, unit, link):
 def all_forms(judge, rng):
     for order in "<>":
         for unit in MAGIC:
-            for link in (ETHERNET, RAW):
+            for link in LINKS:
                 for plan in PLANS:
                     what = f"{'little' if order == '<' else 'big'} {unit} link {link} plan {plan}"
                     data = some_capture(rng, order, unit, link)
@@ -119,7 +134,7 @@ def all_forms(judge, rng):
 
 def all_cuts(judge, rng):
     """Each packet cut by its record at each byte, and a file cut at each byte."""
-    for link in (ETHERNET, RAW):
+    for link in LINKS:
         data = header("<", "micro", link)
         for frame in list(some_frames(rng, link))[:6]:
             for size in range(len(frame) + 1):
@@ -141,9 +156,11 @@ def all_faults(judge):
         ("version 2.3", header("<", "micro", RAW, (2, 3))),
         ("version 4.2", header(">", "nano", RAW, (4, 2))),
         ("the bytes of the version in the other order", good[:4] + b"\0\x02\0\x04" + good[8:]),
-        ("Linux's cooked captures", header("<", "micro", 113)),
+        ("802.11", header("<", "micro", 105)),
         ("link type 0", header(">", "micro", 0)),
-        ("another link type and a cut record", header("<", "micro", 12) + b"\0"),
+        ("another link type and a cut record", header("<", "micro", 105) + b"\0"),
+        ("raw IP by another number, and a cut record", header("<", "micro", 12) + b"\0"),
+        ("raw IP by a third number", header("<", "micro", 14)),
         ("a record longer than the file", good + struct.pack("<IIII", 0, 0, 0xFFFFFFFF, 1) + bytes(60)),
         ("no record", good),
         ("empty records alone", good + 3 * record("<", 0, 0, b"")),
@@ -248,13 +265,26 @@ def self_test():
     packet = bytes.fromhex("4500001c00000000 40110000 c0a80105 0a000005 04d20800 00080000")
     by_hand = {"version": 4, "source": 0xC0A80105, "dest": 0x0A000005, "proto": 17, "sport": 1234, "dport": 2048}
     assert facts(RAW, packet) == by_hand
-    assert all(facts(RAW, packet[:size]) is None for size in range(24))
+    portless = {"version": 4, "source": 0xC0A80105, "dest": 0x0A000005, "proto": 17}
+    assert all(facts(RAW, packet[:size]) is None for size in range(20))
+    assert all(facts(RAW, packet[:size]) == portless for size in range(20, 24))
     assert facts(RAW, packet[:24]) == by_hand
+    assert facts(COOKED, bytes.fromhex("0000 0001 0006 0200000000010000 0800") + packet) == by_hand
+    assert facts(COOKED, bytes.fromhex("0000 0338 0006 0200000000010000 0800") + packet) is None
+    assert facts(COOKED_TWO, bytes.fromhex("0800 0000 00000002 0001 00 06 0200000000010000") + packet) == by_hand
+    assert facts(IPV4, packet) == by_hand and facts(IPV6, packet) is None
+    six = bytes.fromhex("60000000 0014 00 40 20010db8000000000000000000000001 20010db8000000000000000000000002")
+    addresses = {"version": 6, "source": 0x20010DB8 << 96 | 1, "dest": 0x20010DB8 << 96 | 2}
+    # hop-by-hop options before a fragment header before UDP; a later fragment; and options that are cut
+    chained = six + bytes.fromhex("2c00010400000000 1100000100000001 04d20800")
+    assert facts(RAW, chained) == addresses | {"proto": 17, "sport": 1234, "dport": 2048}
+    assert facts(RAW, six + bytes.fromhex("2c00010400000000 1100000800000001 04d20800")) == addresses | {"proto": 17}
+    assert facts(RAW, six + bytes.fromhex("2c000104000000")) == addresses
     frame = bytes.fromhex("0200000000 01 0200000000 02 88a8 0007 8100 0008 0800") + packet
     assert facts(ETHERNET, frame) == {**by_hand, "ether": (0x020000000002, 0x020000000001)}
     three = bytes.fromhex("0200000000 01 0200000000 02 8100 0007 8100 0008 8100 0009 0800") + packet
     assert facts(ETHERNET, three) is None
-    assert facts(RAW, packet[:6] + b"\x00\x01" + packet[8:]) is None
+    assert facts(RAW, packet[:6] + b"\x00\x01" + packet[8:]) == portless
     assert facts(RAW, packet[:6] + b"\x20\x00" + packet[8:]) == by_hand
     data = bytes.fromhex("d4c3b2a1 02000400 00000000 00000000 00000400 65000000 01000000 20a10700 1c000000 1c000000") + packet
     assert read(data) == [(0, by_hand)]

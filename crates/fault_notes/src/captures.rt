@@ -52,7 +52,7 @@ impl Note {
             self.say(b": ")?;
         }
         self.say(
-            b"Ethernet (1) and raw IP (101) are read; capture on one interface, and not on 'any'",
+            b"Ethernet (1), raw IP (12, 14, 101, 228, 229) and Linux cooked capture (113, 276) are supported",
         )
     }
 

@@ -1,13 +1,14 @@
 -- Worked examples of the definitions. They compute: a wrong number here is refused.
 use Rattle.std.specs.Prelude.{◌≡◌, refl, ℕ, List, [], ◌∷◌, take, false, Some, None, Result, Ok, Err}
-use Rattle.pcap_keys.specs.declared.facts.Facts.{Facts}
+use Rattle.frame_facts.specs.declared.facts.Facts.{Facts}
 use Rattle.pcap_keys.specs.declared.facts.Frame.{Frame}
 use Rattle.pcap_keys.specs.declared.error.CaptureError.{CaptureError}
 use Rattle.pcap_keys.specs.declared.error.CaptureError.TheVariants.{Bad}
 use Rattle.pcap_keys.specs.declared.error.CaptureReason.TheVariants as reasons
 use Rattle.pcap_keys.specs.declared.selector.Selector.TheVariants.{IpSource, DestPort, EtherSource}
 use Rattle.pcap_keys.specs.declared.selector.PlanLine.{PlanLine}
-use Rattle.pcap_keys.specs.Wire.{number_at}
+use Rattle.frame_facts.specs.declared.facts.Transport.{Transport}
+use Rattle.frame_facts.specs.Wire.{number_at}
 use Rattle.pcap_keys.specs.Savefile.{number, is_whole}
 use Rattle.pcap_keys.specs.Captured.{captured}
 use Rattle.pcap_keys.specs.Planned.{packets}
@@ -22,7 +23,7 @@ capture =
     ∷ 0x04 ∷ 0xd2 ∷ 0x08 ∷ 0 ∷ 0 ∷ 8 ∷ 0 ∷ 0 ∷ []
 
 abbrev udp : Facts
-udp = record { ether = None; six = false; source = 3232235781; dest = 167772165; proto = 17; source_port = 1234; dest_port = 2048 }
+udp = record { ether = None; six = false; source = 3232235781; dest = 167772165; transport = Some (record { proto = 17; ports = Some (1234, 2048) }) }
 
 abbrev frame : Frame
 frame = record { moment = 0; facts = Some udp }

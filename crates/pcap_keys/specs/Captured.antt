@@ -2,13 +2,13 @@
 use Rattle.std.specs.Prelude.{◌≡◌, ℕ, zero, suc, ◌+◌, ◌-◌, ◌%◌, ◌^◌, Bool, true, false, not, nat_lt, nat_le, if◌then◌else◌, List, [], ◌∷◌, ◌++◌, length, drop, Option, Some, None, Result, Ok, Err}
 use Rattle.pcap_keys.specs.declared.facts.Frame.{Frame}
 use Rattle.pcap_keys.specs.declared.format.Format.{Format}
-use Rattle.pcap_keys.specs.declared.format.Link.{Link}
+use Rattle.frame_facts.specs.declared.link.Link.{Link}
 use Rattle.pcap_keys.specs.declared.error.CaptureError.{CaptureError}
 use Rattle.pcap_keys.specs.declared.error.CaptureError.TheVariants.{Bad, Memory}
 use Rattle.pcap_keys.specs.declared.error.CaptureReason.{CaptureReason}
 use Rattle.pcap_keys.specs.declared.error.CaptureReason.TheVariants as reasons
-use Rattle.pcap_keys.specs.Packets.{facts}
-use Rattle.pcap_keys.specs.Savefile.{number, format_of, link_of, is_version, record_time, kept, is_whole, frame_bytes}
+use Rattle.frame_facts.specs.Links.{link_of, facts}
+use Rattle.pcap_keys.specs.Savefile.{number, format_of, is_version, record_time, kept, is_whole, frame_bytes}
 
 abbrev pub fault : ℕ → CaptureReason → Result (List Frame) CaptureError
 fault byte reason = Err (Bad byte reason)

@@ -1,5 +1,3 @@
-pub mod Wire
-pub mod Packets
 pub mod Savefile
 pub mod Captured
 pub mod Selectors

@@ -1,28 +1,15 @@
 ghost use Rattle.std.specs.Prelude.{◌≡◌, ◌≤◌, ◌+◌, length, true, Some, IfOk, All};
-ghost use Rattle.pcap_keys.specs.Packets as packets;
 ghost use Rattle.pcap_keys.specs.Savefile as savefile;
 ghost use Rattle.pcap_keys.specs.Captured as spec;
 ghost use Rattle.pcap_keys.specs.Captured.{IsUnlessMemory, captured};
 ghost use Rattle.pcap_keys.specs.Fitting.{HasValues};
 
 use crate::error::{CaptureError, CaptureReason};
-use crate::ethernet::ethernet;
-use crate::facts::{Facts, Frame, Frames};
-use crate::format::{Format, Link, format_of, link_of};
-use crate::packet::raw_ip;
-use crate::wire::from_place;
+use crate::facts::{Frame, Frames};
+use crate::format::{Format, format_of};
+use crate::place::from_place;
+use frame_facts::{Link, facts_of, link_of};
 use std::alloc::Global;
-
-/// The facts of a frame. `None` if it isn't a packet with ports, or if a byte up to the ports is
-/// missing.
-fn facts(link: Link, frame: &[u8]) -> Option<Facts>
-    ensures { result ≡ packets.facts link frame.now }
-{
-    match link {
-        Link::Ethernet => ethernet(frame),
-        Link::RawIp => raw_ip(frame),
-    }
-}
 
 /// The time of a record in milliseconds, rounded down.
 fn time(format: Format, header: &[u8]) -> u64
@@ -58,7 +45,7 @@ fn frame_of(format: Format, link: Link, start: u64, bytes: &[u8]) -> Frame
 {
     Frame {
         moment: time(format, bytes).saturating_sub(start),
-        facts: facts(link, &bytes[16..16 + kept(format, bytes)]),
+        facts: facts_of(link, &bytes[16..16 + kept(format, bytes)]),
     }
 }
 

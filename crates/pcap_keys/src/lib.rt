@@ -26,18 +26,17 @@
 
 mod capture;
 mod error;
-mod ethernet;
 mod facts;
 mod format;
 mod keys;
-mod packet;
+mod place;
 mod plan;
 mod selector;
-mod wire;
 
 pub use capture::read_capture;
 pub use error::{CaptureError, CaptureReason};
-pub use facts::{Facts, Frame, Frames};
+pub use facts::{Frame, Frames};
+pub use frame_facts::{Facts, Transport};
 pub use keys::{keys_of, one_capture_law};
 pub use plan::{
     PlanError, bad_token, one_plan_fault_law, one_plan_law, plan_fronts_law, read_plan,

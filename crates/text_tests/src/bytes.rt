@@ -9,6 +9,8 @@ fn named(word: &[u8]) -> Option<&'static [u8]> {
         // the header of a capture of raw IP, and of Ethernet, in microseconds, the least significant byte first
         b"raw" => b"\xd4\xc3\xb2\xa1\x02\0\x04\0\0\0\0\0\0\0\0\0\0\0\x04\0\x65\0\0\0",
         b"ethernet" => { b"\xd4\xc3\xb2\xa1\x02\0\x04\0\0\0\0\0\0\0\0\0\0\0\x04\0\x01\0\0\0" }
+        // the header of a capture up to the link type
+        b"linked" => b"\xd4\xc3\xb2\xa1\x02\0\x04\0\0\0\0\0\0\0\0\0\0\0\x04\0",
         // a record's header: 1.5 seconds, 28 bytes kept
         b"record" => b"\x01\0\0\0\x20\xa1\x07\0\x1c\0\0\0\x1c\0\0\0",
         // to 00:01:02:0a:0b:0c, from 02:00:00:00:00:01

@@ -7,8 +7,8 @@ use crate::cases::{assert_told, cut, line_of, reason_word, told_place, told_refu
 use crate::packets::append_packets;
 use crate::sets::schema_of;
 use pcap_keys::{
-    CaptureError, CaptureReason, Facts, Frame, Frames, Plan, PlanError, bad_token, keys_of,
-    read_capture, read_plan,
+    CaptureError, CaptureReason, Facts, Frame, Frames, Plan, PlanError, Transport, bad_token,
+    keys_of, read_capture, read_plan,
 };
 use set_model::{Duplicate, Memory};
 use std::alloc::Global;
@@ -23,6 +23,35 @@ fn word_of(reason: CaptureReason) -> &'static [u8] {
     }
 }
 
+fn append_ports(ports: Option<(u32, u32)>, told: &mut Vec<u8>) -> Result<(), Memory> {
+    match ports {
+        None => Ok(()),
+        Some((source, dest)) => append_pieces(
+            &[
+                Piece::Word(b" "),
+                Piece::Number(u64::from(source)),
+                Piece::Word(b" "),
+                Piece::Number(u64::from(dest)),
+            ],
+            told,
+        ),
+    }
+}
+
+/// Appends the protocol and the ports of a packet, as far as they are known.
+fn append_transport(transport: Option<Transport>, told: &mut Vec<u8>) -> Result<(), Memory> {
+    match transport {
+        None => Ok(()),
+        Some(transport) => {
+            append_pieces(
+                &[Piece::Word(b" "), Piece::Number(u64::from(transport.proto))],
+                told,
+            )?;
+            append_ports(transport.ports, told)
+        }
+    }
+}
+
 /// Appends the version, the addresses, the protocol and the ports of a packet.
 fn append_packet(facts: &Facts, told: &mut Vec<u8>) -> Result<(), Memory> {
     append_pieces(
@@ -31,15 +60,10 @@ fn append_packet(facts: &Facts, told: &mut Vec<u8>) -> Result<(), Memory> {
             Piece::Sum(facts.source),
             Piece::Word(b" "),
             Piece::Sum(facts.dest),
-            Piece::Word(b" "),
-            Piece::Number(u64::from(facts.proto)),
-            Piece::Word(b" "),
-            Piece::Number(u64::from(facts.source_port)),
-            Piece::Word(b" "),
-            Piece::Number(u64::from(facts.dest_port)),
         ],
         told,
-    )
+    )?;
+    append_transport(facts.transport, told)
 }
 
 /// Appends the stations of a frame.
@@ -140,8 +164,7 @@ fn told_packets(alloc: Global, case: &[u8]) -> Result<Vec<u8>, Memory> {
     }
 }
 
-// the third begins as a pcapng file, and the fourth as a gzip file; the one with 71 is a cooked capture of
-// Linux
+// the third begins as a pcapng file, and the fourth as a gzip file; link type 105 is 802.11
 /// Captures that are refused, by the byte and the reason.
 const FAULTS: &[u8] = b"\
     |0 magic~\
@@ -152,7 +175,7 @@ const FAULTS: &[u8] = b"\
     d4c3b2a1 02000400 zero zero 00000400 650000|0 cut~\
     d4c3b2a1 02000300 zero zero 00000400 65000000|4 version~\
     a1b2c3d4 02000400 zero zero 00000400 00000065|4 version~\
-    d4c3b2a1 02000400 zero zero 00000400 71000000|20 link type~\
+    d4c3b2a1 02000400 zero zero 00000400 69000000|20 link type~\
     raw 01|24 cut~\
     raw zero zero zero zero record ipv4 addresses|40 cut~\
     raw record ipv4 addresses ports 000800|24 cut~\
@@ -168,29 +191,63 @@ const CAPTURES: &[u8] = b"\
     a1b23c4d 00020004 zero zero 00040000 00000001 0000000a 3b9ac618 zero zero 0000000c 000f4240 zero zero 00000009 zero zero zero ffffffff zero zero zero|0 none;1002 none;0 none;4294967284001 none;~\
 ";
 
-// ports that end too early, options, no place for them, a header of 16 bytes, fragments, ICMP, and version 5
+// ports that end too early, options, no place for them, a header of 16 bytes, fragments, ICMP, addresses that end too early,
+// DCCP, SCTP, UDP-Lite, ESP, AH, and version 5
 /// Frames of IPv4.
 const IPV4_FRAMES: &[u8] = b"\
     raw zero zero 18000000 zero ipv4 addresses ports|0 4 3232235781 167772165 17 1234 2048;~\
-    raw zero zero 17000000 zero ipv4 addresses 04d208|0 none;~\
+    raw zero zero 17000000 zero ipv4 addresses 04d208|0 4 3232235781 167772165 17;~\
     raw zero zero zero zero|0 none;~\
     raw zero zero 1c000000 zero 4600002000000000 40110000 addresses 01010100 ports|0 4 3232235781 167772165 17 1234 2048;~\
-    raw zero zero 18000000 zero 4600002000000000 40110000 addresses ports|0 none;~\
+    raw zero zero 18000000 zero 4600002000000000 40110000 addresses ports|0 4 3232235781 167772165 17;~\
     raw zero zero 18000000 zero 4400001c00000000 40110000 addresses ports|0 none;~\
     raw zero zero 18000000 zero 4500001c00002000 40110000 addresses ports|0 4 3232235781 167772165 17 1234 2048;~\
     raw zero zero 18000000 zero 4500001c00004000 40110000 addresses ports|0 4 3232235781 167772165 17 1234 2048;~\
-    raw zero zero 18000000 zero 4500001c00000001 40110000 addresses ports|0 none;~\
-    raw zero zero 18000000 zero 4500001c00003f00 40110000 addresses ports|0 none;~\
-    raw zero zero 18000000 zero 4500001c00000000 40010000 addresses ports|0 none;~\
+    raw zero zero 18000000 zero 4500001c00000001 40110000 addresses ports|0 4 3232235781 167772165 17;~\
+    raw zero zero 18000000 zero 4500001c00003f00 40110000 addresses ports|0 4 3232235781 167772165 17;~\
+    raw zero zero 18000000 zero 4500001c00000000 40010000 addresses ports|0 4 3232235781 167772165 1;~\
+    raw zero zero 13000000 zero ipv4 c0a801050a0000|0 none;~\
+    raw zero zero 18000000 zero 4500001c00000000 40210000 addresses ports|0 4 3232235781 167772165 33 1234 2048;~\
+    raw zero zero 18000000 zero 4500001c00000000 40840000 addresses ports|0 4 3232235781 167772165 132 1234 2048;~\
+    raw zero zero 18000000 zero 4500001c00000000 40880000 addresses ports|0 4 3232235781 167772165 136 1234 2048;~\
+    raw zero zero 18000000 zero 4500001c00000000 40320000 addresses ports|0 4 3232235781 167772165 50;~\
+    raw zero zero 18000000 zero 4500001c00000000 40330000 addresses ports|0 4 3232235781 167772165 51;~\
     raw zero zero 18000000 zero 5500001c00000000 40110000 addresses ports|0 none;~\
 ";
 
-// the last has a header of hop-by-hop options
+// after ports that end too early: hop-by-hop options; a first fragment; a later one, and one whose next header is an
+// extension header; a routing header of 16 bytes; an authentication header of 24; hop-by-hop and destination options;
+// options that end too early; no next header; and a header that ends too early
 /// Frames of IPv6.
 const IPV6_FRAMES: &[u8] = b"\
     raw zero zero 2c000000 zero ipv6 addresses6 ports|0 6 42540766411282592856903984951653826561 42540766411282592856903984951653826562 6 1234 2048;~\
-    raw zero zero 2b000000 zero ipv6 addresses6 04d208|0 none;~\
-    raw zero zero 34000000 zero 60000000001c0040 addresses6 0600000000000000 ports|0 none;~\
+    raw zero zero 2b000000 zero ipv6 addresses6 04d208|0 6 42540766411282592856903984951653826561 42540766411282592856903984951653826562 6;~\
+    raw zero zero 34000000 zero 60000000001c0040 addresses6 0600000000000000 ports|0 6 42540766411282592856903984951653826561 42540766411282592856903984951653826562 6 1234 2048;~\
+    raw zero zero 34000000 zero 60000000001c2c40 addresses6 1100000100000001 ports|0 6 42540766411282592856903984951653826561 42540766411282592856903984951653826562 17 1234 2048;~\
+    raw zero zero 34000000 zero 60000000001c2c40 addresses6 1100000800000001 ports|0 6 42540766411282592856903984951653826561 42540766411282592856903984951653826562 17;~\
+    raw zero zero 34000000 zero 60000000001c2c40 addresses6 3c00000800000001 ports|0 6 42540766411282592856903984951653826561 42540766411282592856903984951653826562;~\
+    raw zero zero 3c000000 zero 6000000000242b40 addresses6 06010000 zero zero zero ports|0 6 42540766411282592856903984951653826561 42540766411282592856903984951653826562 6 1234 2048;~\
+    raw zero zero 44000000 zero 60000000002c3340 addresses6 11040000 zero zero zero zero zero ports|0 6 42540766411282592856903984951653826561 42540766411282592856903984951653826562 17 1234 2048;~\
+    raw zero zero 3c000000 zero 6000000000240040 addresses6 3c00000000000000 8400000000000000 ports|0 6 42540766411282592856903984951653826561 42540766411282592856903984951653826562 132 1234 2048;~\
+    raw zero zero 2f000000 zero 60000000001c3c40 addresses6 06000000000000|0 6 42540766411282592856903984951653826561 42540766411282592856903984951653826562;~\
+    raw zero zero 2c000000 zero 6000000000043b40 addresses6 ports|0 6 42540766411282592856903984951653826561 42540766411282592856903984951653826562 59;~\
+    raw zero zero 27000000 zero ipv6 20010db800000000000000000000000120010db80000000000000000000000|0 none;~\
+";
+
+// cooked headers of version 1: IPv4; a tag; netlink; and one that ends too early. Then version 2, the four numbers of raw
+// IP, raw IPv6 as raw IPv4, and raw IPv6
+/// Frames of other link types.
+const LINKED_FRAMES: &[u8] = b"\
+    linked 71000000 zero zero 28000000 zero 0000000100060200000000010000 0800 ipv4 addresses ports|0 4 3232235781 167772165 17 1234 2048;~\
+    linked 71000000 zero zero 2c000000 zero 0000000100060200000000010000 customer 0800 ipv4 addresses ports|0 4 3232235781 167772165 17 1234 2048;~\
+    linked 71000000 zero zero 28000000 zero 0000033800060200000000010000 0800 ipv4 addresses ports|0 none;~\
+    linked 71000000 zero zero 0f000000 zero 0000000100060200000000010000 08|0 none;~\
+    linked 14010000 zero zero 2c000000 zero 0800 0000 00000002 0001 0006 0200000000010000 ipv4 addresses ports|0 4 3232235781 167772165 17 1234 2048;~\
+    linked 0c000000 zero zero 18000000 zero ipv4 addresses ports|0 4 3232235781 167772165 17 1234 2048;~\
+    linked 0e000000 zero zero 18000000 zero ipv4 addresses ports|0 4 3232235781 167772165 17 1234 2048;~\
+    linked e4000000 zero zero 18000000 zero ipv4 addresses ports|0 4 3232235781 167772165 17 1234 2048;~\
+    linked e4000000 zero zero 2c000000 zero ipv6 addresses6 ports|0 none;~\
+    linked e5000000 zero zero 2c000000 zero ipv6 addresses6 ports|0 6 42540766411282592856903984951653826561 42540766411282592856903984951653826562 6 1234 2048;~\
 ";
 
 // up to two tags; another version than the type's, ARP, and no type
@@ -209,6 +266,7 @@ const ETHERNET_FRAMES: &[u8] = b"\
 /// A selector that a frame lacks makes no packet.
 const PACKETS: &[u8] = b"\
     ip filter s ip_saddr . dport=raw record ipv4 addresses ports udp|0 3232235781 2048 at 0;~\
+    ip filter s ip_saddr . dport=raw zero zero 18000000 zero 4500001c00000000 40010000 addresses ports|~\
     # addresses\n\nfilter macs ether_daddr . proto . ip6_saddr\nip filter s ip_daddr . sport\n=ethernet zero zero 3a000000 3a000000 stations 86dd ipv6 addresses6 ports|1 4329179916 6 42540766411282592856903984951653826561 at 0;~\
 ";
 
@@ -246,14 +304,15 @@ const PLACES: &[u8] = b"\
 fn captures(rt: HostRuntime) {
     assert_told(&rt, rt.alloc(), FAULTS, 12, told_capture);
     assert_told(&rt, rt.alloc(), CAPTURES, 4, told_capture);
-    assert_told(&rt, rt.alloc(), IPV4_FRAMES, 12, told_capture);
-    assert_told(&rt, rt.alloc(), IPV6_FRAMES, 3, told_capture);
+    assert_told(&rt, rt.alloc(), IPV4_FRAMES, 18, told_capture);
+    assert_told(&rt, rt.alloc(), IPV6_FRAMES, 12, told_capture);
+    assert_told(&rt, rt.alloc(), LINKED_FRAMES, 10, told_capture);
     assert_told(&rt, rt.alloc(), ETHERNET_FRAMES, 8, told_capture);
 }
 
 #[test]
 fn plans(rt: HostRuntime) {
-    assert_told(&rt, rt.alloc(), PACKETS, 2, told_packets);
+    assert_told(&rt, rt.alloc(), PACKETS, 3, told_packets);
     assert_told(&rt, rt.alloc(), PLANS, 18, plan_refusal);
     assert_told(&rt, rt.alloc(), PLACES, 4, place);
 }

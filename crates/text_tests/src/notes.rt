@@ -153,8 +153,8 @@ const CAPTURES: &[u8] = b"\
     0 magic;|c: byte 0: the file is empty\n~\
     0 cut;\xd4\xc3\xb2\xa1\x02\0|c: byte 0: the file has fewer bytes than the 24 of a capture's header\n~\
     4 version;\xd4\xc3\xb2\xa1\x02\0\x03\0\0\0\0\0\0\0\0\0\0\0\x04\0\x01\0\0\0|c: byte 4: its version isn't 2.4\n~\
-    20 link type;\xd4\xc3\xb2\xa1\x02\0\x04\0\0\0\0\0\0\0\0\0\0\0\x04\0\x71\0\0\0|c: byte 20: its link type is 113: Ethernet (1) and raw IP (101) are read; capture on one interface, and not on 'any'\n~\
-    20 link type;\xa1\xb2\xc3\xd4\0\x02\0\x04\0\0\0\0\0\0\0\0\0\x04\0\0\0\0\x01\x14|c: byte 20: its link type is 276: Ethernet (1) and raw IP (101) are read; capture on one interface, and not on 'any'\n~\
+    20 link type;\xd4\xc3\xb2\xa1\x02\0\x04\0\0\0\0\0\0\0\0\0\0\0\x04\0\x69\0\0\0|c: byte 20: its link type is 105: Ethernet (1), raw IP (12, 14, 101, 228, 229) and Linux cooked capture (113, 276) are supported\n~\
+    20 link type;\xa1\xb2\xc3\xd4\0\x02\0\x04\0\0\0\0\0\0\0\0\0\x04\0\0\0\0\x01\x15|c: byte 20: its link type is 277: Ethernet (1), raw IP (12, 14, 101, 228, 229) and Linux cooked capture (113, 276) are supported\n~\
     24 cut;\xd4\xc3\xb2\xa1|c: byte 24: the record that begins here isn't there as a whole: the first 24 bytes are a capture\n~\
 ";
 
