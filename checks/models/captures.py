@@ -14,7 +14,7 @@ LINKS = (ETHERNET, RAW, COOKED, IPV4, IPV6, COOKED_TWO)
 RAW_TOO = (12, 14)
 TCP, UDP, DCCP, SCTP, UDP_LITE = 6, 17, 33, 132, 136
 PORTED = (TCP, UDP, DCCP, SCTP, UDP_LITE)
-HOP_BY_HOP, ROUTING, FRAGMENT, AUTHENTICATION, DESTINATION = 0, 43, 44, 51, 60
+EXTENSIONS = HOP_BY_HOP, ROUTING, FRAGMENT, AUTHENTICATION, DESTINATION = 0, 43, 44, 51, 60
 
 
 def header(order, unit, link, version=(2, 4)):
@@ -23,6 +23,39 @@ def header(order, unit, link, version=(2, 4)):
 
 def record(order, seconds, fraction, frame, wire=None):
     return struct.pack(order + "IIII", seconds, fraction, len(frame), len(frame) if wire is None else wire) + frame
+
+
+# ---- the blocks of pcapng
+
+SECTION, INTERFACE, SIMPLE, ENHANCED, STATISTICS = 0x0A0D0D0A, 1, 3, 6, 5
+
+
+def block(order, kind, body, size=None, copy=None):
+    body += bytes(-len(body) % 4)
+    size = len(body) + 12 if size is None else size
+    return struct.pack(order + "II", kind, size) + body + struct.pack(order + "I", size if copy is None else copy)
+
+
+def section(order, version=(1, 0), magic=0x1A2B3C4D):
+    return block(order, SECTION, struct.pack(order + "IHHq", magic, *version, -1))
+
+
+def option(order, code, value):
+    return struct.pack(order + "HH", code, len(value)) + value + bytes(-len(value) % 4)
+
+
+def interface(order, link, most=0, options=b""):
+    return block(order, INTERFACE, struct.pack(order + "HHI", link, 0, most) + options)
+
+
+def enhanced(order, number, stamp, frame, kept=None, options=b""):
+    return block(order, ENHANCED, struct.pack(order + "IIIII", number, stamp >> 32, stamp & 0xFFFFFFFF,
+                                              len(frame) if kept is None else kept, len(frame)) +
+                 frame + bytes(-len(frame) % 4) + options)
+
+
+def simple(order, size, frame):
+    return block(order, SIMPLE, struct.pack(order + "I", size) + frame)
 
 
 def ipv4(source, dest, proto, payload, options=b"", offset=0, more=False, version=4, words=None):
@@ -105,12 +138,11 @@ def ipv4_facts(packet):
 
 def chain(proto, rest):
     """What follows the extension headers; nothing if it can't be known."""
-    while proto in (HOP_BY_HOP, ROUTING, FRAGMENT, AUTHENTICATION, DESTINATION):
+    while proto in EXTENSIONS:
         if len(rest) < 8:
             return {}
         if proto == FRAGMENT and rest[2:4] >= b"\0\x08":
-            last = rest[0] not in (HOP_BY_HOP, ROUTING, FRAGMENT, AUTHENTICATION, DESTINATION)
-            return {"proto": rest[0]} if last else {}
+            return {} if rest[0] in EXTENSIONS else {"proto": rest[0]}
         size = {FRAGMENT: 8, AUTHENTICATION: 4 * rest[1] + 8}.get(proto, 8 * rest[1] + 8)
         proto, rest = rest[0], rest[size:]
     return transport(proto, rest)
@@ -155,8 +187,99 @@ class Fault(Exception):
     """A file that is no capture: the byte and the reason."""
 
 
+def clock(order, byte, options):
+    """The units of a second and the seconds of the time 0."""
+    units, offset = 1000000, 0
+    while len(options) >= 4:
+        code, size = struct.unpack(order + "HH", options[:4])
+        if code == 0:
+            break
+        value, rest = options[4:4 + size], options[4 + size + -size % 4:]
+        if len(options) < 4 + size + -size % 4 or code in (9, 14) and size != (1 if code == 9 else 8):
+            raise Fault(byte, "options")
+        if code == 9:
+            units = 10 ** value[0] if value[0] < 128 else 2 ** (value[0] - 128)
+            if units >= 1 << 64:
+                raise Fault(byte, "options")
+        elif code == 14:
+            offset = struct.unpack(order + "q", value)[0]
+        options = rest
+    return units, offset
+
+
+class Sections:
+    """A file of pcapng, block by block."""
+
+    def __init__(self, data):
+        self.data, self.order, self.interfaces = data, "<", []
+        self.first, self.moment, self.frames = None, 0, []
+
+    def number(self, place, size=4):
+        return int.from_bytes(self.data[place:place + size], "little" if self.order == "<" else "big")
+
+    def header(self, place):
+        """The type and the length of the block at a place."""
+        if len(self.data) - place < 12:
+            raise Fault(place, "cut")
+        kind = self.number(place)
+        if kind == SECTION:
+            magic = self.data[place + 8:place + 12]
+            if magic not in (bytes.fromhex("1a2b3c4d"), bytes.fromhex("4d3c2b1a")):
+                raise Fault(place + 8, "magic")
+            self.order = ">" if magic[0] == 0x1A else "<"
+        size = self.number(place + 4)
+        if size % 4 != 0 or size < {SECTION: 28, INTERFACE: 20, SIMPLE: 16, ENHANCED: 32}.get(kind, 12):
+            raise Fault(place + 4, "length")
+        if len(self.data) - place < size:
+            raise Fault(place, "cut")
+        if self.number(place + size - 4) != size:
+            raise Fault(place + 4, "length")
+        return kind, size
+
+    def describe(self, place, size):
+        link = self.number(place + 8, 2)
+        if link not in LINKS + RAW_TOO:
+            raise Fault(place + 8, "link type")
+        self.interfaces.append((link, self.number(place + 12), *clock(self.order, place, self.data[place + 16:place + size - 4])))
+
+    def packet(self, kind, place, size):
+        number, fields, at_byte = (self.number(place + 8), 28, 8) if kind == ENHANCED else (0, 12, 0)
+        if number >= len(self.interfaces):
+            raise Fault(place + at_byte, "interface")
+        link, most, units, offset = self.interfaces[number]
+        if kind == ENHANCED:
+            kept, length_at = self.number(place + 20), 20
+        else:
+            kept, length_at = self.number(place + 8), 8
+            kept = min(kept, most) if most else kept
+        if kept > size - fields - 4:
+            raise Fault(place + length_at, "length")
+        if kind == ENHANCED:
+            time = (self.number(place + 12) << 32 | self.number(place + 16)) * 1000 // units + offset * 1000
+            self.first = time if self.first is None else self.first
+            self.moment = min(max(0, time - self.first), (1 << 64) - 1)
+        self.frames.append((self.moment, facts(link, self.data[place + fields:place + fields + kept])))
+
+    def read(self):
+        place = 0
+        while place < len(self.data):
+            kind, size = self.header(place)
+            if kind == SECTION:
+                if self.number(place + 12, 2) != 1 or self.number(place + 14, 2) not in (0, 2):
+                    raise Fault(place + 12, "version")
+                self.interfaces = []
+            elif kind == INTERFACE:
+                self.describe(place, size)
+            elif kind in (ENHANCED, SIMPLE):
+                self.packet(kind, place, size)
+            place += size
+        return self.frames
+
+
 def read(data):
     """The moments and the facts of a capture's records."""
+    if data[:4] == struct.pack(">I", SECTION):
+        return Sections(data).read()
     order, unit = next(((o, u) for u in MAGIC for o in "<>" if data[:4] == struct.pack(o + "I", MAGIC[u])), (None, None))
     if order is None:
         raise Fault(0, "magic")

@@ -1,59 +1,24 @@
--- The facts of frames are values of their kinds.
-use Rattle.std.proofs.Common.{◌≡◌, inl, inr, sym, subst, ℕ, zero, suc, ◌+◌, ◌<◌, ◌≤◌, ◌%◌, ◌^◌, List, [], ◌∷◌, length, drop, slice_index, nat_lt, nat_le, ◌==◌, not, Bool, true, false, ◌⊎◌, Option, Some, None, Result, Ok, Err, arith}
-use Rattle.std.specs.Prelude.{IfOk, IfSome, if◌then◌else◌}
+-- The facts of the frames of a capture are values of their kinds.
+use Rattle.std.proofs.Common.{◌≡◌, sym, subst, ℕ, zero, suc, ◌+◌, ◌%◌, ◌^◌, List, [], ◌∷◌, length, drop, nat_lt, ◌==◌, not, Bool, true, false, Option, Some, None, Result, Ok, Err}
+use Rattle.std.specs.Prelude.{IfOk, if◌then◌else◌}
 use Rattle.std.specs.List.{All}
-use Rattle.std.proofs.lemmas.Bool.{lt-ltb}
 use Rattle.std.proofs.lemmas.List.Elements.{All-nil, All-cons, All-take, All-drop}
-use Rattle.set_model.specs.declared.kind.Kind.{Kind}
-use Rattle.set_model.specs.declared.kind.Kind.TheVariants as kinds
-use Rattle.set_model.specs.Kind.{bits_of}
-use Rattle.set_model.specs.Key.{is_value}
-use Rattle.frame_facts.specs.declared.facts.Facts.{Facts}
+use Rattle.frame_facts.specs.declared.link.Link.{Link}
+use Rattle.frame_facts.specs.Links.{link_of}
+use Rattle.frame_facts.proofs.Bits.{IsByte}
 use Rattle.pcap_keys.specs.declared.facts.Frame.{Frame}
 use Rattle.pcap_keys.specs.declared.format.Format.{Format}
-use Rattle.frame_facts.specs.declared.link.Link.{Link}
+use Rattle.pcap_keys.specs.declared.format.Order.TheVariants as orders
 use Rattle.pcap_keys.specs.declared.error.CaptureError.{CaptureError}
 use Rattle.pcap_keys.specs.declared.error.CaptureError.TheVariants.{Bad, Memory}
 use Rattle.pcap_keys.specs.declared.error.CaptureReason.TheVariants as reasons
-use Rattle.pcap_keys.specs.declared.selector.Selector.TheVariants.{IpSource, IpDest, Ip6Source, Ip6Dest, EtherSource, EtherDest, Proto, SourcePort, DestPort}
-use Rattle.frame_facts.specs.Links.{link_of, facts}
-use Rattle.frame_facts.specs.Values.{first_of, second_of, proto_of, ports_in, address_bits, HaveFieldBits}
-use Rattle.frame_facts.proofs.Bits.{IsByte, facts_fit}
 use Rattle.pcap_keys.specs.Savefile.{number, format_of, is_version, kept, is_whole, frame_bytes}
+use Rattle.pcap_keys.specs.Blocks.{section_type}
+use Rattle.pcap_keys.specs.Sections.{sections}
 use Rattle.pcap_keys.specs.Captured.{fault, frame_of, start_of, behind, where_left, where_whole, records, of_link, of_format, captured, IsUnlessMemory}
-use Rattle.pcap_keys.specs.Fitting.{AreValues, HasValues}
-
-below : (kind : Kind) (n : ℕ) → n < 2 ^ bits_of kind → is_value kind n ≡ true
-below kind n h = lt-ltb n (2 ^ bits_of kind) h
-
-of_four : (six : Bool) (n : ℕ) → n < 2 ^ address_bits six → not six ≡ true → is_value kinds.Ipv4 n ≡ true
-of_four false n h e = below kinds.Ipv4 n h
-of_four true n h e = absurd (cc e)
-
-of_six : (six : Bool) (n : ℕ) → n < 2 ^ address_bits six → six ≡ true → is_value kinds.Ipv6 n ≡ true
-of_six true n h e = below kinds.Ipv6 n h
-of_six false n h e = absurd (cc e)
-
-values : (facts : Facts) → HaveFieldBits facts → AreValues facts
-values facts k IpSource h = of_four facts.six facts.source k.source h
-values facts k IpDest h = of_four facts.six facts.dest k.dest h
-values facts k Ip6Source h = of_six facts.six facts.source k.source h
-values facts k Ip6Dest h = of_six facts.six facts.dest k.dest h
-values facts k EtherSource h = below kinds.Ether (first_of facts.ether) k.ether.first
-values facts k EtherDest h = below kinds.Ether (second_of facts.ether) k.ether.second
-values facts k Proto h = below kinds.Proto (proto_of facts.transport) k.proto
-values facts k SourcePort h = below kinds.Service (first_of (ports_in facts.transport)) k.ports.first
-values facts k DestPort h = below kinds.Service (second_of (ports_in facts.transport)) k.ports.second
-
-some_values : (o : Option Facts) → IfSome o HaveFieldBits → IfSome o AreValues
-some_values None k = tt
-some_values (Some facts) k = values facts k
-
-facts_have : (link : Link) (frame : List ℕ) → All IsByte frame → IfSome (facts link frame) AreValues
-facts_have link frame all = some_values (facts link frame) (facts_fit link frame all)
-
-abbrev AllHave : Result (List Frame) CaptureError → Type 0
-AllHave r = IfOk r (All HasValues)
+use Rattle.pcap_keys.specs.Fitting.{HasValues}
+use Rattle.pcap_keys.proofs.FactFits.{facts_have}
+use Rattle.pcap_keys.proofs.SectionFits.{AllHave, sections_have}
 
 module _ (text : List ℕ) (all : All IsByte text) where
   frame_has : (format : Format) (link : Link) (start place : ℕ) → HasValues (frame_of format link start (drop place text))
@@ -99,7 +64,11 @@ module _ (text : List ℕ) (all : All IsByte text) where
 
   captured_has : AllHave (captured text)
   unfolding captured
-  captured_has = either_has (nat_lt (length text) 4) (fault 0 reasons.Magic) (of_format text (format_of text)) tt (format_has (format_of text))
+  captured_has =
+      let classic = of_format text (format_of text) in
+      let begins = number orders.Big 4 text == section_type in
+      either_has (nat_lt (length text) 4) (fault 0 reasons.Magic) (if begins then sections text else classic) tt
+      (either_has begins (sections text) classic (sections_have text all) (format_has (format_of text)))
 
   pub frames_have : (r : Result (List Frame) CaptureError) → IsUnlessMemory r (captured text) → IfOk r (All HasValues)
   frames_have (Ok frames) e = subst AllHave (sym e) captured_has

@@ -54,6 +54,18 @@ impl Order {
             Order::Little => LittleEndian::read_u32(bytes),
         }
     }
+
+    /// The number in the first eight bytes.
+    #[tactic(auto, unfolding(crate::specs::Savefile::number))]
+    pub fn read_u64(self, bytes: &[u8]) -> u64
+        requires { 8 ≤ length bytes.now }
+        ensures { result ≡ savefile.number self 8 bytes.now }
+    {
+        match self {
+            Order::Big => BigEndian::read_u64(bytes),
+            Order::Little => LittleEndian::read_u64(bytes),
+        }
+    }
 }
 
 impl Fraction {

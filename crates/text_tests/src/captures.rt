@@ -20,6 +20,9 @@ fn word_of(reason: CaptureReason) -> &'static [u8] {
         CaptureReason::Cut => b"cut",
         CaptureReason::Version => b"version",
         CaptureReason::LinkType => b"link type",
+        CaptureReason::Length => b"length",
+        CaptureReason::Interface => b"interface",
+        CaptureReason::Options => b"options",
     }
 }
 
@@ -164,12 +167,11 @@ fn told_packets(alloc: Global, case: &[u8]) -> Result<Vec<u8>, Memory> {
     }
 }
 
-// the third begins as a pcapng file, and the fourth as a gzip file; link type 105 is 802.11
+// the third begins as a gzip file; link type 105 is 802.11
 /// Captures that are refused, by the byte and the reason.
 const FAULTS: &[u8] = b"\
     |0 magic~\
     d4c3b2|0 magic~\
-    0a0d0d0a 1c000000 4d3c2b1a 01000000 ffffffff ffffffff|0 magic~\
     1f8b0800 00000000|0 magic~\
     d4c3b2a1|0 cut~\
     d4c3b2a1 02000400 zero zero 00000400 650000|0 cut~\
@@ -263,6 +265,60 @@ const ETHERNET_FRAMES: &[u8] = b"\
     ethernet zero zero 10000000 zero stations customer|0 none;~\
 ";
 
+// no packet; times in microseconds, and their high half; simple packets without an interface's limit, and with limits of 24
+// and 20 bytes; times in milliseconds, in 1024ths and in nanoseconds; an interface whose clock starts a second early; a
+// comment, and the end of options; two sections; blocks that are skipped; and version 1.2
+/// Files of pcapng.
+const SECTIONS: &[u8] = b"\
+    section|~\
+    section interface|~\
+    section interface 06000000 3c000000 zero zero e8030000 1c000000 1c000000 ipv4 addresses ports udp 3c000000 06000000 3c000000 zero zero 80841e00 1c000000 1c000000 ipv4 addresses ports udp 3c000000|0 4 3232235781 167772165 17 1234 2048;1999 4 3232235781 167772165 17 1234 2048;~\
+    section interface 06000000 3c000000 zero zero zero 1c000000 1c000000 ipv4 addresses ports udp 3c000000 06000000 3c000000 zero 01000000 zero 1c000000 1c000000 ipv4 addresses ports udp 3c000000|0 4 3232235781 167772165 17 1234 2048;4294967 4 3232235781 167772165 17 1234 2048;~\
+    section interface 03000000 2c000000 1c000000 ipv4 addresses ports udp 2c000000 06000000 3c000000 zero zero zero 1c000000 1c000000 ipv4 addresses ports udp 3c000000 06000000 3c000000 zero zero 80841e00 1c000000 1c000000 ipv4 addresses ports udp 3c000000 03000000 2c000000 1c000000 ipv4 addresses ports udp 2c000000|0 4 3232235781 167772165 17 1234 2048;0 4 3232235781 167772165 17 1234 2048;2000 4 3232235781 167772165 17 1234 2048;2000 4 3232235781 167772165 17 1234 2048;~\
+    section 01000000 14000000 65000000 18000000 14000000 03000000 28000000 1c000000 ipv4 addresses ports 28000000|0 4 3232235781 167772165 17 1234 2048;~\
+    section 01000000 14000000 65000000 14000000 14000000 03000000 24000000 1c000000 ipv4 addresses 24000000|0 4 3232235781 167772165 17;~\
+    section 01000000 20000000 65000000 zero 09000100 03000000 00000000 20000000 06000000 3c000000 zero zero 05000000 1c000000 1c000000 ipv4 addresses ports udp 3c000000 06000000 3c000000 zero zero ed030000 1c000000 1c000000 ipv4 addresses ports udp 3c000000|0 4 3232235781 167772165 17 1234 2048;1000 4 3232235781 167772165 17 1234 2048;~\
+    section 01000000 1c000000 65000000 zero 09000100 8a000000 1c000000 06000000 3c000000 zero zero zero 1c000000 1c000000 ipv4 addresses ports udp 3c000000 06000000 3c000000 zero zero 01000000 1c000000 1c000000 ipv4 addresses ports udp 3c000000 06000000 3c000000 zero zero 00020000 1c000000 1c000000 ipv4 addresses ports udp 3c000000|0 4 3232235781 167772165 17 1234 2048;0 4 3232235781 167772165 17 1234 2048;500 4 3232235781 167772165 17 1234 2048;~\
+    section 01000000 1c000000 65000000 zero 09000100 09000000 1c000000 06000000 3c000000 zero zero zero 1c000000 1c000000 ipv4 addresses ports udp 3c000000 06000000 3c000000 zero zero 40420f00 1c000000 1c000000 ipv4 addresses ports udp 3c000000|0 4 3232235781 167772165 17 1234 2048;1 4 3232235781 167772165 17 1234 2048;~\
+    section interface 01000000 20000000 65000000 zero 0e000800 ffffffffffffffff 20000000 06000000 3c000000 zero zero zero 1c000000 1c000000 ipv4 addresses ports udp 3c000000 06000000 3c000000 01000000 zero c0c62d00 1c000000 1c000000 ipv4 addresses ports udp 3c000000 06000000 3c000000 01000000 zero zero 1c000000 1c000000 ipv4 addresses ports udp 3c000000|0 4 3232235781 167772165 17 1234 2048;2000 4 3232235781 167772165 17 1234 2048;0 4 3232235781 167772165 17 1234 2048;~\
+    section interface 01000000 20000000 65000000 zero 0e000800 ffffffffffffffff 20000000 06000000 3c000000 01000000 zero zero 1c000000 1c000000 ipv4 addresses ports udp 3c000000 06000000 3c000000 zero zero zero 1c000000 1c000000 ipv4 addresses ports udp 3c000000|0 4 3232235781 167772165 17 1234 2048;1000 4 3232235781 167772165 17 1234 2048;~\
+    section 01000000 28000000 65000000 zero 01000300 61626300 00000000 09000100 03000000 28000000 06000000 3c000000 zero zero zero 1c000000 1c000000 ipv4 addresses ports udp 3c000000 06000000 3c000000 zero zero 80841e00 1c000000 1c000000 ipv4 addresses ports udp 3c000000|0 4 3232235781 167772165 17 1234 2048;2000 4 3232235781 167772165 17 1234 2048;~\
+    section interface 06000000 3c000000 zero zero zero 1c000000 1c000000 ipv4 addresses ports udp 3c000000 bigsection 00000001 00000014 00010000 00000400 00000014 00000006 00000048 00000000 00000000 000f4240 00000026 00000026 stations 0800 ipv4 addresses ports 0000 00000048|0 4 3232235781 167772165 17 1234 2048;1000 ether 2199023255553 4329179916 4 3232235781 167772165 17 1234 2048;~\
+    section interface 05000000 18000000 zero zero zero 18000000 06000000 3c000000 zero zero zero 1c000000 1c000000 ipv4 addresses ports udp 3c000000 0a0b0c0d 0c000000 0c000000|0 4 3232235781 167772165 17 1234 2048;~\
+    0a0d0d0a 1c000000 4d3c2b1a 01000200 ffffffffffffffff 1c000000 interface|~\
+";
+
+// among them a block of 13 bytes, a packet of another section's interface, times of 10^-20 and 2^-64 seconds, and options
+// with values of other lengths
+/// Files of pcapng that are refused, by the byte and the reason.
+const SECTION_FAULTS: &[u8] = b"\
+    0a0d0d0a|0 cut~\
+    0a0d0d0a 1c000000 4d3c2b1a 01000000 ffffffff ffffffff|0 cut~\
+    0a0d0d0a 1c000000 4d3c2b1b 01000000 ffffffffffffffff 1c000000|8 magic~\
+    0a0d0d0a 1c000000 4d3c2b1a 02000000 ffffffffffffffff 1c000000|12 version~\
+    0a0d0d0a 1c000000 4d3c2b1a 01000100 ffffffffffffffff 1c000000|12 version~\
+    0a0d0d0a 18000000 4d3c2b1a 01000000 ffffffff 18000000|4 length~\
+    section 05000000 0c0000|28 cut~\
+    section 05000000 0d000000 zero zero|32 length~\
+    section 05000000 08000000 08000000|32 length~\
+    section 05000000 10000000 zero|28 cut~\
+    section 05000000 0c000000 10000000|32 length~\
+    section 01000000 14000000 69000000 zero 14000000|36 link type~\
+    section 01000000 10000000 65000000 10000000|32 length~\
+    section 06000000 3c000000 zero zero zero 1c000000 1c000000 ipv4 addresses ports udp 3c000000|36 interface~\
+    section 03000000 2c000000 1c000000 ipv4 addresses ports udp 2c000000|28 interface~\
+    section interface 06000000 3c000000 01000000 zero zero 1c000000 1c000000 ipv4 addresses ports udp 3c000000|56 interface~\
+    section interface 06000000 3c000000 zero zero zero 1c000000 1c000000 ipv4 addresses ports udp 3c000000 section 06000000 3c000000 zero zero zero 1c000000 1c000000 ipv4 addresses ports udp 3c000000|144 interface~\
+    section interface 06000000 3c000000 zero zero zero 1d000000 1d000000 ipv4 addresses ports udp 3c000000|68 length~\
+    section interface 03000000 2c000000 1d000000 ipv4 addresses ports udp 2c000000|56 length~\
+    section interface 03000000 0c000000 0c000000|52 length~\
+    section 01000000 1c000000 65000000 zero 09000200 03030000 1c000000|28 options~\
+    section 01000000 1c000000 65000000 zero 09000100 14000000 1c000000|28 options~\
+    section 01000000 1c000000 65000000 zero 09000100 c0000000 1c000000|28 options~\
+    section 01000000 20000000 65000000 zero 0e000700 ffffffffffffffff 20000000|28 options~\
+    section 01000000 1c000000 65000000 zero 01000500 61626364 1c000000|28 options~\
+";
+
 /// A selector that a frame lacks makes no packet.
 const PACKETS: &[u8] = b"\
     ip filter s ip_saddr . dport=raw record ipv4 addresses ports udp|0 3232235781 2048 at 0;~\
@@ -302,12 +358,18 @@ const PLACES: &[u8] = b"\
 
 #[test]
 fn captures(rt: HostRuntime) {
-    assert_told(&rt, rt.alloc(), FAULTS, 12, told_capture);
+    assert_told(&rt, rt.alloc(), FAULTS, 11, told_capture);
     assert_told(&rt, rt.alloc(), CAPTURES, 4, told_capture);
     assert_told(&rt, rt.alloc(), IPV4_FRAMES, 18, told_capture);
     assert_told(&rt, rt.alloc(), IPV6_FRAMES, 12, told_capture);
     assert_told(&rt, rt.alloc(), LINKED_FRAMES, 10, told_capture);
     assert_told(&rt, rt.alloc(), ETHERNET_FRAMES, 8, told_capture);
+}
+
+#[test]
+fn sections(rt: HostRuntime) {
+    assert_told(&rt, rt.alloc(), SECTIONS, 16, told_capture);
+    assert_told(&rt, rt.alloc(), SECTION_FAULTS, 25, told_capture);
 }
 
 #[test]
