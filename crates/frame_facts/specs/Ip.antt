@@ -21,7 +21,7 @@ fragment_offset packet = number_at packet 6 2 % 2 ^ 13
 abbrev pub is_ipv4 : List ℕ → Bool
 is_ipv4 packet = has_version 4 packet && nat_le 20 (ipv4_header packet) && nat_le 20 (length packet)
 
--- The protocol is byte 9. Its header follows that of IPv4 in the first fragment.
+-- The protocol is byte 9. In the first fragment its header follows.
 abbrev pub ipv4_transport : List ℕ → Transport
 ipv4_transport packet =
     if fragment_offset packet == 0 then whole (slice_index packet 9) (drop (ipv4_header packet) packet) else later (slice_index packet 9)

@@ -43,7 +43,7 @@ magic_order bytes =
     else if number orders.Little 4 (drop 8 bytes) == 0x1a2b3c4d then Some orders.Little
     else None
 
--- A section header has the order of its magic, and another block that of its section.
+-- A section header has the order of its magic. Another block has the order of its section.
 abbrev pub order_of : Order → Kind → List ℕ → Option Order
 order_of order kinds.Section bytes = magic_order bytes
 order_of order kinds.Interface bytes = Some order

@@ -19,7 +19,7 @@ pub enum CaptureReason {
     Cut,
     /// Its version isn't 2.4, or a section's isn't 1.0.
     Version,
-    /// Its link type, or that of an interface, isn't supported.
+    /// The link type of the file or of an interface isn't supported.
     LinkType,
     /// A block's length isn't a multiple of four, or too small for the block, or differs from its copy at
     /// the block's end; or the bytes that were kept of a packet aren't within its block.
