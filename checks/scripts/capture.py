@@ -455,6 +455,13 @@ def self_test():
         else:
             raise AssertionError(size)
     assert read(data[:24]) == []
+    # the blocks of the draft: a section, an interface of raw IP, packets at 0.001 s and 2 s, and a simple packet
+    blocks = bytes.fromhex("0a0d0d0a 1c000000 4d3c2b1a 01000000 ffffffffffffffff 1c000000"
+                           "01000000 14000000 6500 0000 00000400 14000000")
+    for stamp in ("00000000 e8030000", "00000000 80841e00"):
+        blocks += bytes.fromhex("06000000 3c000000 00000000" + stamp + "1c000000 1c000000") + packet + bytes.fromhex("3c000000")
+    blocks += bytes.fromhex("03000000 2c000000 1c000000") + packet + bytes.fromhex("2c000000")
+    assert read(blocks) == [(0, by_hand), (1999, by_hand), (1999, by_hand)]
     return 0
 
 
