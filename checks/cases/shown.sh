@@ -21,7 +21,7 @@ for folder in examples/*/; do
     grep -q '^    ' "$room/part" || continue
     for file in "$folder"*; do
         case $file in
-        */words | */status | *.pcap) ;;
+        */words | */status | *.pcap | *.pcapng) ;;
         *) is_shown "$file" "$room/part" || complain "examples/README.md doesn't show $file" ;;
         esac
     done

@@ -48,7 +48,7 @@ FILES = {
     "short.pcap": ETHERNET[:-1],
     "cut.pcap": ETHERNET + bytes(10),
     "version.pcap": bytes.fromhex("d4c3b2a1030004000000000000000000ffff000001000000"),
-    "link.pcap": PCAP + bytes.fromhex("71000000"),
+    "link.pcap": PCAP + bytes.fromhex("69000000"),
     "gzip.pcap": bytes.fromhex("1f8b080000000000"),
     "pcapng.pcap": bytes.fromhex("0a0d0d0a1c000000"),
     "exists.nft": PORTS + "add element ip t p { 80 }\ncreate element ip t p { 80 }\n",
@@ -106,9 +106,9 @@ def cases(shown):
         ("short.pcap", 0, "the file has fewer bytes than the 24 of a capture's header", "cut"),
         ("cut.pcap", 24, "the record that begins here isn't there as a whole: the first 24 bytes are a capture", "cut"),
         ("version.pcap", 4, "its version isn't 2.4", "version"),
-        ("link.pcap", 20, "its link type is 113: Ethernet (1) and raw IP (101) are read; capture on one interface, and not on 'any'", "link type"),
+        ("link.pcap", 20, "its link type is 105: Ethernet (1), raw IP (12, 14, 101, 228, 229) and Linux cooked capture (113, 276) are supported", "link type"),
         ("gzip.pcap", 0, "this is a file that gzip has packed: unpack it first", "magic"),
-        ("pcapng.pcap", 0, "this is a pcapng file: write it as pcap, as editcap -F pcap does", "magic"),
+        ("pcapng.pcap", 0, "the block that begins here isn't there as a whole: the first 0 bytes are a capture", "cut"),
         ("good.keys", 0, "this looks like a text: the script is named first, then the plan, and then the capture", "magic"),
     ]:
         yield [*capture, name], f"{name}: byte {byte}: {said}\n", f"pipapo: capture byte {byte}: {why}", 10

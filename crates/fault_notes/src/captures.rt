@@ -7,21 +7,27 @@ use pcap_keys::CaptureReason;
 use set_model::Memory;
 use std::alloc::Global;
 
-/// The place of the link type in a capture.
+/// The place of the link type in libpcap's classic format.
 const LINK_TYPE: usize = 20;
+
+/// How many bytes of an interface description come before its link type.
+const BEFORE_LINK_TYPE: usize = 8;
+
+/// Whether a file begins as one of pcapng.
+fn is_sections(file: &[u8]) -> bool {
+    file.starts_with(b"\x0a\x0d\x0d\x0a")
+}
 
 /// What kind of file this is, by its first bytes, if they aren't a capture's magic.
 fn by_magic(file: &[u8]) -> &'static [u8] {
     match file {
-        [0x0a, 0x0d, 0x0d, 0x0a, ..] =>
-            b"this is a pcapng file: write it as pcap, as editcap -F pcap does",
         [0x1f, 0x8b, ..] => b"this is a file that gzip has packed: unpack it first",
         [0x28, 0xb5, 0x2f, 0xfd, ..] => b"this is a file that zstd has packed: unpack it first",
         [0xfd, b'7', b'z', b'X', b'Z', ..] => b"this is a file that xz has packed: unpack it first",
         [a, b, c, d, ..] if is_of_text(&[*a, *b, *c, *d]) =>
             b"this looks like a text: the script is named first, then the plan, and then the capture",
         [] => b"the file is empty",
-        _ => b"this is no capture in pcap, libpcap's classic format",
+        _ => b"this is no capture in pcap or pcapng",
     }
 }
 
@@ -32,9 +38,9 @@ fn is_of_text(bytes: &[u8]) -> bool {
         .all(|b| matches!(*b, 32..=126 | b'\t' | b'\n' | b'\r'))
 }
 
-/// The link type of a capture. If the magic begins with its least significant byte, so do the numbers
-/// of the header.
-fn link_type(file: &[u8]) -> Option<u64> {
+/// The link type of a capture in libpcap's classic format. If the magic begins with its least
+/// significant byte, so do the numbers of the header.
+fn classic_link(file: &[u8]) -> Option<u64> {
     let is_little = matches!(file.first(), Some(0xd4 | 0x4d));
     match file.get(LINK_TYPE..LINK_TYPE + 4)? {
         [low, high, _, _] if is_little => Some(u64::from(*low) + 256 * u64::from(*high)),
@@ -43,25 +49,45 @@ fn link_type(file: &[u8]) -> Option<u64> {
     }
 }
 
+/// The link type at a byte of an interface description. The block's type is 1. If it begins with its
+/// least significant byte, so do all numbers of the block.
+fn interface_link(file: &[u8], byte: u64) -> Option<u64> {
+    let block = (byte as usize).checked_sub(BEFORE_LINK_TYPE)?;
+    match file.get(block..)? {
+        [1, _, _, _, _, _, _, _, low, high, ..] | [_, _, _, _, _, _, _, _, high, low, ..] => {
+            Some(u64::from(*low) + 256 * u64::from(*high))
+        }
+        _ => None,
+    }
+}
+
 impl Note {
-    /// Adds the capture's link type and that it isn't supported.
-    fn foreign_link(&mut self, file: &[u8]) -> Result<(), Memory> {
-        if let Some(number) = link_type(file) {
+    /// Adds the link type at this byte and that it isn't supported.
+    fn foreign_link(&mut self, file: &[u8], byte: u64) -> Result<(), Memory> {
+        let number = if is_sections(file) {
+            interface_link(file, byte)
+        } else {
+            classic_link(file)
+        };
+        if let Some(number) = number {
             self.say(b"its link type is ")?;
             self.number(number)?;
             self.say(b": ")?;
         }
         self.say(
-            b"Ethernet (1) and raw IP (101) are read; capture on one interface, and not on 'any'",
+            b"Ethernet (1), raw IP (12, 14, 101, 228, 229) and Linux cooked capture (113, 276) are supported",
         )
     }
 
     /// Adds that a file is cut at this byte.
-    fn cut_here(&mut self, byte: u64) -> Result<(), Memory> {
-        if byte == 0 {
+    fn cut_here(&mut self, file: &[u8], byte: u64) -> Result<(), Memory> {
+        if is_sections(file) {
+            self.say(b"the block that begins here isn't there as a whole: the first ")?;
+        } else if byte == 0 {
             return self.say(b"the file has fewer bytes than the 24 of a capture's header");
+        } else {
+            self.say(b"the record that begins here isn't there as a whole: the first ")?;
         }
-        self.say(b"the record that begins here isn't there as a whole: the first ")?;
         self.number(byte)?;
         self.say(b" bytes are a capture")
     }
@@ -74,10 +100,25 @@ impl Note {
         reason: CaptureReason,
     ) -> Result<(), Memory> {
         match reason {
+            CaptureReason::Magic if is_sections(file) => {
+                self.say(b"the magic of this section header isn't 0x1a2b3c4d in either byte order")
+            }
             CaptureReason::Magic => self.say(by_magic(file)),
-            CaptureReason::Cut => self.cut_here(byte),
+            CaptureReason::Cut => self.cut_here(file, byte),
+            CaptureReason::Version if is_sections(file) => {
+                self.say(b"the version of this section isn't 1.0")
+            }
             CaptureReason::Version => self.say(b"its version isn't 2.4"),
-            CaptureReason::LinkType => self.foreign_link(file),
+            CaptureReason::LinkType => self.foreign_link(file, byte),
+            CaptureReason::Length => self.say(
+                b"a length in this block isn't a multiple of four, doesn't fit the block, or differs from its copy",
+            ),
+            CaptureReason::Interface => {
+                self.say(b"the interface of this packet isn't described in its section")
+            }
+            CaptureReason::Options => self.say(
+                b"an option of this interface isn't whole, or is no if_tsresol down to 10^-19 or 2^-63, or no if_tsoffset",
+            ),
         }
     }
 }

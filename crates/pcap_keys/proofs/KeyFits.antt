@@ -10,7 +10,7 @@ use Rattle.set_model.specs.declared.script.SetDecl.{SetDecl}
 use Rattle.set_model.specs.declared.packet.Packet.{Packet}
 use Rattle.set_model.specs.Key.{values_fit, key_fits}
 use Rattle.set_model.specs.Runnable.{IsFitting}
-use Rattle.pcap_keys.specs.declared.facts.Facts.{Facts}
+use Rattle.frame_facts.specs.declared.facts.Facts.{Facts}
 use Rattle.pcap_keys.specs.declared.facts.Frame.{Frame}
 use Rattle.pcap_keys.specs.declared.selector.Selector.{Selector}
 use Rattle.pcap_keys.specs.declared.selector.PlanLine.{PlanLine}

@@ -1,4 +1,9 @@
 pub mod Records
+pub mod Options
+pub mod BlockRuns
+pub mod PacketBlocks
+pub mod FactFits
+pub mod SectionFits
 pub mod PlansLaws
 pub mod PlanFronts
 pub mod PlanFits

@@ -2,10 +2,11 @@
 use Rattle.std.proofs.Common.{◌≡◌, refl, sym, ◌∙◌, ap, subst, ℕ, zero, suc, ◌+◌, ◌<◌, ◌≤◌, ◌%◌, ◌^◌, true, false, nat_lt, List, [], ◌∷◌, ◌++◌, length, drop, Some, Result, Ok, Err, append_assoc, append-nil, arith}
 use Rattle.pcap_keys.specs.declared.facts.Frame.{Frame}
 use Rattle.pcap_keys.specs.declared.format.Format.{Format}
-use Rattle.pcap_keys.specs.declared.format.Link.{Link}
+use Rattle.frame_facts.specs.declared.link.Link.{Link}
 use Rattle.pcap_keys.specs.declared.error.CaptureError.{CaptureError}
 use Rattle.pcap_keys.specs.declared.error.CaptureReason.TheVariants as reasons
-use Rattle.pcap_keys.specs.Savefile.{number, kept, is_whole, is_version, link_of}
+use Rattle.pcap_keys.specs.Savefile.{number, kept, is_whole, is_version}
+use Rattle.frame_facts.specs.Links.{link_of}
 use Rattle.pcap_keys.specs.Captured.{fault, frame_of, start_of, behind, records, all_records, of_format, IsUnlessMemory}
 use Rattle.std.proofs.lemmas.Bool.{lt-ltb, le-ltb}
 

@@ -1,14 +1,17 @@
 -- What a file means as a capture: its frames, or its first fault.
-use Rattle.std.specs.Prelude.{◌≡◌, ℕ, zero, suc, ◌+◌, ◌-◌, ◌%◌, ◌^◌, Bool, true, false, not, nat_lt, nat_le, if◌then◌else◌, List, [], ◌∷◌, ◌++◌, length, drop, Option, Some, None, Result, Ok, Err}
+use Rattle.std.specs.Prelude.{◌≡◌, ℕ, zero, suc, ◌+◌, ◌-◌, ◌%◌, ◌^◌, Bool, true, false, not, ◌==◌, nat_lt, nat_le, if◌then◌else◌, List, [], ◌∷◌, ◌++◌, length, drop, Option, Some, None, Result, Ok, Err}
 use Rattle.pcap_keys.specs.declared.facts.Frame.{Frame}
 use Rattle.pcap_keys.specs.declared.format.Format.{Format}
-use Rattle.pcap_keys.specs.declared.format.Link.{Link}
+use Rattle.frame_facts.specs.declared.link.Link.{Link}
 use Rattle.pcap_keys.specs.declared.error.CaptureError.{CaptureError}
 use Rattle.pcap_keys.specs.declared.error.CaptureError.TheVariants.{Bad, Memory}
 use Rattle.pcap_keys.specs.declared.error.CaptureReason.{CaptureReason}
 use Rattle.pcap_keys.specs.declared.error.CaptureReason.TheVariants as reasons
-use Rattle.pcap_keys.specs.Packets.{facts}
-use Rattle.pcap_keys.specs.Savefile.{number, format_of, link_of, is_version, record_time, kept, is_whole, frame_bytes}
+use Rattle.frame_facts.specs.Links.{link_of, facts}
+use Rattle.pcap_keys.specs.declared.format.Order.TheVariants as orders
+use Rattle.pcap_keys.specs.Blocks.{section_type}
+use Rattle.pcap_keys.specs.Sections.{sections}
+use Rattle.pcap_keys.specs.Savefile.{number, format_of, is_version, record_time, kept, is_whole, frame_bytes}
 
 abbrev pub fault : ℕ → CaptureReason → Result (List Frame) CaptureError
 fault byte reason = Err (Bad byte reason)
@@ -60,9 +63,12 @@ of_format text (Some format) =
     else if not (is_version format text) then fault 4 reasons.Version
     else of_link format text (link_of (number format.order 4 (drop 20 text) % 2 ^ 16))
 
--- the frames of a capture, or the first of these faults that applies
+-- the frames of a capture, or the first of these faults that applies; a file of pcapng begins with a section header
 unfoldable pub captured : List ℕ → Result (List Frame) CaptureError
-captured text = if nat_lt (length text) 4 then fault 0 reasons.Magic else of_format text (format_of text)
+captured text =
+    if nat_lt (length text) 4 then fault 0 reasons.Magic
+    else if number orders.Big 4 text == section_type then sections text
+    else of_format text (format_of text)
 
 -- the answer is this, unless memory ran out
 abbrev pub IsUnlessMemory : Result (List Frame) CaptureError → Result (List Frame) CaptureError → Type 0

@@ -1,6 +1,7 @@
-pub mod Wire
-pub mod Packets
 pub mod Savefile
+pub mod Clocks
+pub mod Blocks
+pub mod Sections
 pub mod Captured
 pub mod Selectors
 pub mod Plans

@@ -2,7 +2,7 @@
 use Rattle.std.specs.Prelude.{ℕ, List, [], ◌∷◌, map, Option, Some, None, if◌then◌else◌}
 use Rattle.std.specs.List.{list_all, flat_map}
 use Rattle.set_model.specs.declared.packet.Packet.{Packet}
-use Rattle.pcap_keys.specs.declared.facts.Facts.{Facts}
+use Rattle.frame_facts.specs.declared.facts.Facts.{Facts}
 use Rattle.pcap_keys.specs.declared.facts.Frame.{Frame}
 use Rattle.pcap_keys.specs.declared.selector.PlanLine.{PlanLine}
 use Rattle.pcap_keys.specs.Selectors.{is_in, selected_value}

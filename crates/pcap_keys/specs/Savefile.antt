@@ -7,8 +7,6 @@ use Rattle.pcap_keys.specs.declared.format.Order.TheVariants as orders
 use Rattle.pcap_keys.specs.declared.format.Format.{Format}
 use Rattle.pcap_keys.specs.declared.format.Fraction.{Fraction}
 use Rattle.pcap_keys.specs.declared.format.Fraction.TheVariants as fractions
-use Rattle.pcap_keys.specs.declared.format.Link.{Link}
-use Rattle.pcap_keys.specs.declared.format.Link.TheVariants as links
 
 -- the number in the first n bytes
 unfoldable pub number : Order → ℕ → List ℕ → ℕ
@@ -29,10 +27,6 @@ format_in order text = option_map (λ fraction. record { order = order; fraction
 -- The byte order of the numbers is the one in which the first four bytes are a magic.
 abbrev pub format_of : List ℕ → Option Format
 format_of text = option_or (format_in orders.Big text) (format_in orders.Little text)
-
--- Link type 1 is Ethernet, and 101 raw IP.
-abbrev pub link_of : ℕ → Option Link
-link_of link_type = if link_type == 1 then Some links.Ethernet else if link_type == 101 then Some links.RawIp else None
 
 -- The header of the file has 24 bytes: the magic, the major version at 4, the minor version at 6, the
 -- link type at 20. Only the low 16 bits of the link type count.

@@ -2,7 +2,8 @@
 use Rattle.std.specs.Prelude.{ℕ, List, Bool, true, not, is_some, Option, Some, None, codes, bytes_eq, if◌then◌else◌}
 use Rattle.set_model.specs.declared.kind.Kind.{Kind}
 use Rattle.set_model.specs.declared.kind.Kind.TheVariants as kinds
-use Rattle.pcap_keys.specs.declared.facts.Facts.{Facts}
+use Rattle.frame_facts.specs.declared.facts.Facts.{Facts}
+use Rattle.frame_facts.specs.Values.{first_of, second_of, proto_of, ports_in}
 use Rattle.pcap_keys.specs.declared.selector.Selector.{Selector}
 use Rattle.pcap_keys.specs.declared.selector.Selector.TheVariants.{IpSource, IpDest, Ip6Source, Ip6Dest, EtherSource, EtherDest, Proto, SourcePort, DestPort}
 
@@ -31,7 +32,8 @@ selector_of kinds.Service t = port_selector t
 selector_of kinds.Mark t = None
 
 -- Whether facts have what a selector selects. Facts of IPv4 have its addresses, facts of IPv6 have
--- those of IPv6, and facts of an Ethernet frame have its addresses.
+-- those of IPv6, and facts of an Ethernet frame have its addresses. The protocol is known if no extension header is missing, and
+-- the ports if the protocol has them and they were kept.
 abbrev pub is_in : Facts → Selector → Bool
 is_in facts IpSource = not facts.six
 is_in facts IpDest = not facts.six
@@ -39,17 +41,9 @@ is_in facts Ip6Source = facts.six
 is_in facts Ip6Dest = facts.six
 is_in facts EtherSource = is_some facts.ether
 is_in facts EtherDest = is_some facts.ether
-is_in facts Proto = true
-is_in facts SourcePort = true
-is_in facts DestPort = true
-
-abbrev pub source_of : Option (ℕ × ℕ) → ℕ
-source_of (Some addresses) = addresses.0
-source_of None = 0
-
-abbrev pub dest_of : Option (ℕ × ℕ) → ℕ
-dest_of (Some addresses) = addresses.1
-dest_of None = 0
+is_in facts Proto = is_some facts.transport
+is_in facts SourcePort = is_some (ports_in facts.transport)
+is_in facts DestPort = is_some (ports_in facts.transport)
 
 -- what a selector selects of facts that have it
 abbrev pub selected_value : Facts → Selector → ℕ
@@ -57,8 +51,8 @@ selected_value facts IpSource = facts.source
 selected_value facts IpDest = facts.dest
 selected_value facts Ip6Source = facts.source
 selected_value facts Ip6Dest = facts.dest
-selected_value facts EtherSource = source_of facts.ether
-selected_value facts EtherDest = dest_of facts.ether
-selected_value facts Proto = facts.proto
-selected_value facts SourcePort = facts.source_port
-selected_value facts DestPort = facts.dest_port
+selected_value facts EtherSource = first_of facts.ether
+selected_value facts EtherDest = second_of facts.ether
+selected_value facts Proto = proto_of facts.transport
+selected_value facts SourcePort = first_of (ports_in facts.transport)
+selected_value facts DestPort = second_of (ports_in facts.transport)

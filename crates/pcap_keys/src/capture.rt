@@ -1,28 +1,18 @@
-ghost use Rattle.std.specs.Prelude.{◌≡◌, ◌≤◌, ◌+◌, length, true, Some, IfOk, All};
-ghost use Rattle.pcap_keys.specs.Packets as packets;
+ghost use Rattle.std.specs.Prelude.{◌≡◌, ◌==◌, ◌≤◌, ◌+◌, length, true, Some, IfOk, All};
 ghost use Rattle.pcap_keys.specs.Savefile as savefile;
+ghost use Rattle.pcap_keys.specs.Blocks.{section_type};
+ghost use Rattle.pcap_keys.specs.declared.format.Order.TheVariants as orders;
 ghost use Rattle.pcap_keys.specs.Captured as spec;
 ghost use Rattle.pcap_keys.specs.Captured.{IsUnlessMemory, captured};
 ghost use Rattle.pcap_keys.specs.Fitting.{HasValues};
 
 use crate::error::{CaptureError, CaptureReason};
-use crate::ethernet::ethernet;
-use crate::facts::{Facts, Frame, Frames};
-use crate::format::{Format, Link, format_of, link_of};
-use crate::packet::raw_ip;
-use crate::wire::from_place;
+use crate::facts::{Frame, Frames};
+use crate::format::{Format, Order, format_of};
+use crate::place::from_place;
+use crate::reading::read_sections;
+use frame_facts::{Link, facts_of, link_of};
 use std::alloc::Global;
-
-/// The facts of a frame. `None` if it isn't a packet with ports, or if a byte up to the ports is
-/// missing.
-fn facts(link: Link, frame: &[u8]) -> Option<Facts>
-    ensures { result ≡ packets.facts link frame.now }
-{
-    match link {
-        Link::Ethernet => ethernet(frame),
-        Link::RawIp => raw_ip(frame),
-    }
-}
 
 /// The time of a record in milliseconds, rounded down.
 fn time(format: Format, header: &[u8]) -> u64
@@ -58,7 +48,7 @@ fn frame_of(format: Format, link: Link, start: u64, bytes: &[u8]) -> Frame
 {
     Frame {
         moment: time(format, bytes).saturating_sub(start),
-        facts: facts(link, &bytes[16..16 + kept(format, bytes)]),
+        facts: facts_of(link, &bytes[16..16 + kept(format, bytes)]),
     }
 }
 
@@ -133,6 +123,14 @@ fn of_format(alloc: Global, format: Format, text: &[u8]) -> Result<Frames, Captu
     }
 }
 
+/// Whether the bytes begin as a file of pcapng, with the type of a section header.
+fn is_sections(text: &[u8]) -> bool
+    requires { 4 ≤ length text.now }
+    ensures { result ≡ (savefile.number orders.Big 4 text.now == section_type) }
+{
+    Order::Big.read_u32(text) == 0x0a0d_0d0a
+}
+
 #[tactic(auto, unfolding(crate::specs::Captured::captured))]
 fn whole(alloc: Global, text: &[u8]) -> Result<Frames, CaptureError>
     ensures { IsUnlessMemory result (captured text.now) }
@@ -143,6 +141,9 @@ fn whole(alloc: Global, text: &[u8]) -> Result<Frames, CaptureError>
             reason: CaptureReason::Magic,
         });
     }
+    if is_sections(text) {
+        return read_sections(alloc, text);
+    }
     match format_of(text) {
         Some(format) => of_format(alloc, format, text),
         None => Err(CaptureError::Bad {
@@ -152,18 +153,29 @@ fn whole(alloc: Global, text: &[u8]) -> Result<Frames, CaptureError>
     }
 }
 
-/// The frames of a capture in libpcap's classic format, version 2.4, record by record. It reads the
-/// bytes once, and allocates memory for the frames alone.
+/// The frames of a capture, record by record: of libpcap's classic format, version 2.4, or of pcapng. It
+/// reads the bytes once, and allocates memory for the frames and the interfaces alone.
 ///
 /// # Errors
 ///
-/// `Bad` exactly if the bytes aren't a capture, with the byte and the reason of the first fault:
+/// `Bad` exactly if the bytes aren't a capture, with the byte and the reason of the first fault. Of
+/// libpcap's format:
 ///
-/// - `Magic` at byte 0, also for files of pcapng and for compressed files;
+/// - `Magic` at byte 0, also for compressed files;
 /// - `Cut` at byte 0 if the file's header isn't whole;
 /// - `Version` at byte 4;
 /// - `LinkType` at byte 20;
 /// - `Cut` at the first byte of a record that isn't whole.
+///
+/// Of pcapng, in the first block that has a fault:
+///
+/// - `Cut` at its first byte if it isn't whole;
+/// - `Magic` at byte 8 of a section header;
+/// - `Length` at byte 4, if the length isn't one of such a block or differs from its copy;
+/// - `Version` at byte 12 of a section header;
+/// - `LinkType` at byte 8 of an interface description, and `Options` at its first byte;
+/// - `Interface` at byte 8 of an enhanced packet, or at the first byte of a simple one;
+/// - `Length` at byte 20 of an enhanced packet, or byte 8 of a simple one, if its kept bytes aren't in it.
 ///
 /// `Memory` if memory runs out.
 pub fn read_capture(alloc: Global, text: &[u8]) -> Result<Frames, CaptureError>

@@ -30,14 +30,6 @@ pub struct Format {
     pub fraction: Fraction,
 }
 
-/// What the frames of a capture begin with.
-#[derive(Clone, Copy, Debug, PartialEq, Eq)]
-pub enum Link {
-    Ethernet,
-    /// IPv4 or IPv6, with nothing before it.
-    RawIp,
-}
-
 impl Order {
     /// The number in the first two bytes.
     #[tactic(auto, unfolding(crate::specs::Savefile::number))]
@@ -60,6 +52,18 @@ impl Order {
         match self {
             Order::Big => BigEndian::read_u32(bytes),
             Order::Little => LittleEndian::read_u32(bytes),
+        }
+    }
+
+    /// The number in the first eight bytes.
+    #[tactic(auto, unfolding(crate::specs::Savefile::number))]
+    pub fn read_u64(self, bytes: &[u8]) -> u64
+        requires { 8 ≤ length bytes.now }
+        ensures { result ≡ savefile.number self 8 bytes.now }
+    {
+        match self {
+            Order::Big => BigEndian::read_u64(bytes),
+            Order::Little => LittleEndian::read_u64(bytes),
         }
     }
 }
@@ -106,16 +110,5 @@ pub fn format_of(text: &[u8]) -> Option<Format>
     match format_in(Order::Big, text) {
         Some(format) => Some(format),
         None => format_in(Order::Little, text),
-    }
-}
-
-/// The meaning of a link type, as libpcap numbers them.
-pub fn link_of(link_type: u32) -> Option<Link>
-    ensures { result ≡ savefile.link_of link_type }
-{
-    match link_type {
-        1 => Some(Link::Ethernet),
-        101 => Some(Link::RawIp),
-        _ => None,
     }
 }

@@ -9,8 +9,9 @@ ghost use Rattle.pcap_keys.specs.PlansText.{IsPlanText};
 ghost use Rattle.pcap_keys.specs.CapturedPackets.{IsCapture, AreCaptured};
 ghost use Rattle.pcap_keys.specs.Fitting.{IsPlanned, HasValues};
 
-use crate::facts::{Facts, Frame, Frames};
+use crate::facts::{Frame, Frames};
 use crate::selector::{Plan, PlanLine, Selector};
+use frame_facts::Facts;
 use set_model::{Key, Memory, Packet, Packets, Schema};
 use std::alloc::Global;
 

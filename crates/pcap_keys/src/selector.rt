@@ -1,7 +1,8 @@
 ghost use Rattle.std.specs.Prelude.{◌≡◌};
 ghost use Rattle.pcap_keys.specs.Selectors as selectors;
+ghost use Rattle.frame_facts.specs.Values as values;
 
-use crate::facts::Facts;
+use frame_facts::{Facts, Transport};
 use set_model::{Duplicate, Kind, Listed, Memory};
 use std::alloc::Global;
 
@@ -130,6 +131,43 @@ pub fn read_selector(kind: Kind, text: &[u8]) -> Option<Selector>
     }
 }
 
+/// The ports of what a packet carries, if there is a protocol that has them.
+fn ports_in(transport: Option<Transport>) -> Option<(u32, u32)>
+    ensures { result ≡ values.ports_in transport }
+{
+    match transport {
+        Some(transport) => transport.ports,
+        None => None,
+    }
+}
+
+fn proto_of(transport: Option<Transport>) -> u32
+    ensures { result ≡ values.proto_of transport }
+{
+    match transport {
+        Some(transport) => transport.proto,
+        None => 0,
+    }
+}
+
+fn source_port(transport: Option<Transport>) -> u32
+    ensures { result ≡ values.first_of (values.ports_in transport) }
+{
+    match ports_in(transport) {
+        Some(ports) => ports.0,
+        None => 0,
+    }
+}
+
+fn dest_port(transport: Option<Transport>) -> u32
+    ensures { result ≡ values.second_of (values.ports_in transport) }
+{
+    match ports_in(transport) {
+        Some(ports) => ports.1,
+        None => 0,
+    }
+}
+
 impl Selector {
     /// Whether the facts have what it selects.
     pub fn is_in(self, facts: &Facts) -> bool
@@ -139,7 +177,8 @@ impl Selector {
             Selector::IpSource | Selector::IpDest => !facts.six,
             Selector::Ip6Source | Selector::Ip6Dest => facts.six,
             Selector::EtherSource | Selector::EtherDest => facts.ether.is_some(),
-            Selector::Proto | Selector::SourcePort | Selector::DestPort => true,
+            Selector::Proto => facts.transport.is_some(),
+            Selector::SourcePort | Selector::DestPort => ports_in(facts.transport).is_some(),
         }
     }
 
@@ -158,9 +197,9 @@ impl Selector {
                 Some(addresses) => addresses.1,
                 None => 0,
             },
-            Selector::Proto => u128::from(facts.proto),
-            Selector::SourcePort => u128::from(facts.source_port),
-            Selector::DestPort => u128::from(facts.dest_port),
+            Selector::Proto => u128::from(proto_of(facts.transport)),
+            Selector::SourcePort => u128::from(source_port(facts.transport)),
+            Selector::DestPort => u128::from(dest_port(facts.transport)),
         }
     }
 }

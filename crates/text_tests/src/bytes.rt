@@ -3,7 +3,7 @@ use set_model::Memory;
 use std::alloc::Global;
 
 /// The words that have a name, with their bytes.
-const NAMED: [(&[u8], &[u8]); 13] = [
+const NAMED: [(&[u8], &[u8]); 17] = [
     (b"zero", b"\0\0\0\0"),
     // the header of a capture of raw IP, and of Ethernet, in microseconds, the least significant byte first
     (
@@ -13,6 +13,24 @@ const NAMED: [(&[u8], &[u8]); 13] = [
     (
         b"ethernet",
         b"\xd4\xc3\xb2\xa1\x02\0\x04\0\0\0\0\0\0\0\0\0\0\0\x04\0\x01\0\0\0",
+    ),
+    // the header of a capture up to the link type
+    (
+        b"linked",
+        b"\xd4\xc3\xb2\xa1\x02\0\x04\0\0\0\0\0\0\0\0\0\0\0\x04\0",
+    ),
+    // section headers of pcapng in both orders, and an interface of raw IP in the first order
+    (
+        b"section",
+        b"\x0a\x0d\x0d\x0a\x1c\0\0\0\x4d\x3c\x2b\x1a\x01\0\0\0\xff\xff\xff\xff\xff\xff\xff\xff\x1c\0\0\0",
+    ),
+    (
+        b"bigsection",
+        b"\x0a\x0d\x0d\x0a\0\0\0\x1c\x1a\x2b\x3c\x4d\0\x01\0\0\xff\xff\xff\xff\xff\xff\xff\xff\0\0\0\x1c",
+    ),
+    (
+        b"interface",
+        b"\x01\0\0\0\x14\0\0\0\x65\0\0\0\0\0\x04\0\x14\0\0\0",
     ),
     // a record's header: 1.5 seconds, 28 bytes kept
     (b"record", b"\x01\0\0\0\x20\xa1\x07\0\x1c\0\0\0\x1c\0\0\0"),

@@ -75,6 +75,9 @@ fn capture_reason_of(word: &[u8]) -> CaptureReason {
         b"magic" => CaptureReason::Magic,
         b"cut" => CaptureReason::Cut,
         b"version" => CaptureReason::Version,
+        b"length" => CaptureReason::Length,
+        b"interface" => CaptureReason::Interface,
+        b"options" => CaptureReason::Options,
         _ => CaptureReason::LinkType,
     }
 }
@@ -150,17 +153,26 @@ const RULES_AND_PLANS: &[u8] = b"\
     p 0 1 1 1 character;\xd4\xc3\xb2\xa1\x02\x00|x:1:1: this is a capture of packets (pcap), and no text\n~\
 ";
 
-// `tcpdump -i any` writes captures of type 113, in both orders of bytes
+// link types in both orders of bytes: 105 is 802.11, and the last two are in pcapng
 /// Files that are no captures that the program reads.
 const CAPTURES: &[u8] = b"\
-    0 magic;\x0a\x0d\x0d\x0a\x1c\x00|c: byte 0: this is a pcapng file: write it as pcap, as editcap -F pcap does\n~\
+    0 cut;\x0a\x0d\x0d\x0a\x1c\x00|c: byte 0: the block that begins here isn't there as a whole: the first 0 bytes are a capture\n~\
     0 magic;\x1f\x8b\x08\x00|c: byte 0: this is a file that gzip has packed: unpack it first\n~\
     0 magic;ip t s ip_saddr\n|c: byte 0: this looks like a text: the script is named first, then the plan, and then the capture\n~\
     0 magic;|c: byte 0: the file is empty\n~\
     0 cut;\xd4\xc3\xb2\xa1\x02\0|c: byte 0: the file has fewer bytes than the 24 of a capture's header\n~\
     4 version;\xd4\xc3\xb2\xa1\x02\0\x03\0\0\0\0\0\0\0\0\0\0\0\x04\0\x01\0\0\0|c: byte 4: its version isn't 2.4\n~\
-    20 link type;\xd4\xc3\xb2\xa1\x02\0\x04\0\0\0\0\0\0\0\0\0\0\0\x04\0\x71\0\0\0|c: byte 20: its link type is 113: Ethernet (1) and raw IP (101) are read; capture on one interface, and not on 'any'\n~\
-    20 link type;\xa1\xb2\xc3\xd4\0\x02\0\x04\0\0\0\0\0\0\0\0\0\x04\0\0\0\0\x01\x14|c: byte 20: its link type is 276: Ethernet (1) and raw IP (101) are read; capture on one interface, and not on 'any'\n~\
+    20 link type;\xd4\xc3\xb2\xa1\x02\0\x04\0\0\0\0\0\0\0\0\0\0\0\x04\0\x69\0\0\0|c: byte 20: its link type is 105: Ethernet (1), raw IP (12, 14, 101, 228, 229) and Linux cooked capture (113, 276) are supported\n~\
+    20 link type;\xa1\xb2\xc3\xd4\0\x02\0\x04\0\0\0\0\0\0\0\0\0\x04\0\0\0\0\x01\x15|c: byte 20: its link type is 277: Ethernet (1), raw IP (12, 14, 101, 228, 229) and Linux cooked capture (113, 276) are supported\n~\
+    0 magic;\0\0\0\0|c: byte 0: this is no capture in pcap or pcapng\n~\
+    8 magic;\x0a\x0d\x0d\x0a|c: byte 8: the magic of this section header isn't 0x1a2b3c4d in either byte order\n~\
+    12 version;\x0a\x0d\x0d\x0a|c: byte 12: the version of this section isn't 1.0\n~\
+    28 cut;\x0a\x0d\x0d\x0a|c: byte 28: the block that begins here isn't there as a whole: the first 28 bytes are a capture\n~\
+    32 length;\x0a\x0d\x0d\x0a|c: byte 32: a length in this block isn't a multiple of four, doesn't fit the block, or differs from its copy\n~\
+    56 interface;\x0a\x0d\x0d\x0a|c: byte 56: the interface of this packet isn't described in its section\n~\
+    28 options;\x0a\x0d\x0d\x0a|c: byte 28: an option of this interface isn't whole, or is no if_tsresol down to 10^-19 or 2^-63, or no if_tsoffset\n~\
+    12 link type;\x0a\x0d\x0d\x0a\x01\0\0\0\x14\0\0\0\x69\0\0\0|c: byte 12: its link type is 105: Ethernet (1), raw IP (12, 14, 101, 228, 229) and Linux cooked capture (113, 276) are supported\n~\
+    12 link type;\x0a\x0d\x0d\x0a\0\0\0\x01\0\0\0\x14\x01\x15\0\0|c: byte 12: its link type is 277: Ethernet (1), raw IP (12, 14, 101, 228, 229) and Linux cooked capture (113, 276) are supported\n~\
     24 cut;\xd4\xc3\xb2\xa1|c: byte 24: the record that begins here isn't there as a whole: the first 24 bytes are a capture\n~\
 ";
 
@@ -185,7 +197,7 @@ const REFUSALS: &[u8] = b"\
 fn notes(rt: HostRuntime) {
     assert_told(&rt, rt.alloc(), SCRIPTS_AND_KEYS, 13, told_bad);
     assert_told(&rt, rt.alloc(), RULES_AND_PLANS, 7, told_bad);
-    assert_told(&rt, rt.alloc(), CAPTURES, 9, told_capture);
+    assert_told(&rt, rt.alloc(), CAPTURES, 18, told_capture);
     assert_told(&rt, rt.alloc(), FILES, 4, told_file);
     assert_told(&rt, rt.alloc(), REFUSALS, 4, told_refusals);
 }

@@ -73,6 +73,9 @@ capture_reason_text capture_reasons.Magic = codes "magic"
 capture_reason_text capture_reasons.Cut = codes "cut"
 capture_reason_text capture_reasons.Version = codes "version"
 capture_reason_text capture_reasons.LinkType = codes "link type"
+capture_reason_text capture_reasons.Length = codes "length"
+capture_reason_text capture_reasons.Interface = codes "interface"
+capture_reason_text capture_reasons.Options = codes "options"
 
 -- what follows the number of a capture's byte: the reason
 abbrev pub capture_end : CaptureReason → List ℕ

@@ -122,6 +122,9 @@ fn capture_end(reason: CaptureReason) -> &'static [u8]
         CaptureReason::Cut => b": cut\n",
         CaptureReason::Version => b": version\n",
         CaptureReason::LinkType => b": link type\n",
+        CaptureReason::Length => b": length\n",
+        CaptureReason::Interface => b": interface\n",
+        CaptureReason::Options => b": options\n",
     }
 }
 

@@ -1,5 +1,6 @@
 use Rattle.std.proofs.Common.{◌≡◌, sym, ◌∙◌, ◌%◌, ◌^◌, Some, true, ap, ℕ, List, drop}
-use Rattle.pcap_keys.specs.Savefile.{number, is_version, link_of}
+use Rattle.pcap_keys.specs.Savefile.{number, is_version}
+use Rattle.frame_facts.specs.Links.{link_of}
 use Rattle.pcap_keys.proofs.Records.{link_read}
 use Rattle.pcap_keys.proofs.capture.of_format.Goals as goal
 

@@ -1,6 +1,7 @@
 use Rattle.std.proofs.Common.{arith}
 use Rattle.std.proofs.lemmas.List.Elements.{All-from_get_or}
-use Rattle.pcap_keys.proofs.FrameFits.{IsByte, frames_have}
+use Rattle.frame_facts.proofs.Bits.{IsByte}
+use Rattle.pcap_keys.proofs.FrameFits.{frames_have}
 use Rattle.pcap_keys.proofs.capture.read_capture.Goals as goal
 
 pub returns-clause-values : goal.returns-clause-values

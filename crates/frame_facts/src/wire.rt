@@ -1,15 +1,7 @@
 ghost use Rattle.std.specs.Prelude.{◌≡◌, ◌≤◌, ◌+◌, length, drop};
-ghost use Rattle.pcap_keys.specs.Wire.{number_at};
+ghost use Rattle.frame_facts.specs.Wire.{number_at};
 
 use byteorder::{BigEndian, ByteOrder};
-
-/// The bytes from a place on.
-pub fn from_place(bytes: &[u8], place: usize) -> &[u8]
-    requires { place ≤ length bytes.now }
-    ensures { result.now ≡ drop place bytes.now }
-{
-    &bytes[place..]
-}
 
 /// The number in the two bytes from a place on, the most significant byte first.
 #[tactic(auto, unfolding(crate::specs::Wire::number_at))]
@@ -45,4 +37,15 @@ pub fn u128_at(bytes: &[u8], place: usize) -> u128
     ensures { result ≡ number_at bytes.now place 16 }
 {
     BigEndian::read_u128(&bytes[place..])
+}
+
+/// The bytes after so many, or none if there are no more.
+pub fn after(bytes: &[u8], size: usize) -> &[u8]
+    ensures { result.now ≡ drop size bytes.now }
+{
+    if size < bytes.len() {
+        &bytes[size..]
+    } else {
+        &bytes[bytes.len()..]
+    }
 }
