@@ -1,6 +1,5 @@
 //! Finds out, by first bytes and words, what a file is instead of the one that was asked for.
 use crate::help::{SELECTORS, TextKind};
-use crate::source::first_line;
 use crate::words::{is_one_of, last_word};
 
 /// What a file is that is no text of this program, by its first bytes.
@@ -63,7 +62,7 @@ pub(crate) fn without_blanks(text: &[u8]) -> &[u8] {
 }
 
 /// The bytes before the first blank.
-pub(crate) fn first_word(line: &[u8]) -> &[u8] {
+fn first_word(line: &[u8]) -> &[u8] {
     match line.iter().position(|b| is_blank(*b)) {
         Some(i) => &line[..i],
         None => line,
