@@ -13,4 +13,6 @@ if [ "$("$program" list "$room/printed.nft")" != "$(cat "$room/listing.nft")" ];
 fi
 # what each of both takes of the other's words
 unshare -rn python3 checks/scripts/nft_words.py "$program" || bad=1
+# what nft says of each mistake on which notes.sh tries the program
+unshare -rn python3 checks/scripts/nft_mistakes.py || bad=1
 finish

@@ -106,7 +106,7 @@ expect 5 "pipapo: read fault: $name" run allow.nft "$name"
 cp many.nft "$name"
 expect 12 "pipapo: too many clerks: $name" desk "$name"
 told=$("$program" list "$name.nft" 2>&1 >/dev/null)
-[ "$told" = 'x\x0acommit generation 1 purged 0.nft: there is no file of this name' ] || { echo "a line feed in a name: told"; echo "$told"; bad=1; }
+[ "$told" = 'x\x0acommit generation 1 purged 0.nft: No such file or directory' ] || { echo "a line feed in a name: told"; echo "$told"; bad=1; }
 # interrupted while it reads, it has written nothing
 mkfifo held
 sleep 5 >held &

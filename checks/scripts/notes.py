@@ -10,6 +10,8 @@ import subprocess
 import sys
 import tempfile
 
+from mistakes import MISTAKES, note
+
 LARGE = 67_108_865
 
 PORTS = "add set ip t p { type inet_service ; flags interval ; }\n"
@@ -41,6 +43,7 @@ FILES = {
     "pcapng.nft": bytes.fromhex("0a0d0d0a1c000000"),
     "mark.nft": b"\xef\xbb\xbf" + PORTS.encode(),
     "utf16.nft": PORTS.encode("utf-16"),
+    "json.nft": '{"nftables": [{"metainfo": {"version": "1.0.6"}}]}\n',
     "large.nft": None,
     "escape\x1b.nft": "\x1b[2J\n",
     "long.nft": PORTS + "add element ip t p { " + ", ".join(str(port) for port in range(1, 200)) + ", here, " + ", ".join(str(port) for port in range(300, 400)) + " }\n",
@@ -58,6 +61,9 @@ FILES = {
     "many.nft": PORTS + "".join(f"delete element ip t p {{ {port} }}\n" for port in range(1, 26)),
 }
 
+# each mistake in a script of its own
+FILES |= {f"mistake{number}.nft": mistake[0] for number, mistake in enumerate(MISTAKES)}
+
 USAGE = re.compile("pipapo: usage: ")
 
 
@@ -72,30 +78,36 @@ def cases(shown):
     yield ["list", "overlap.nft", "--keep-going"], overlap, None, 1
     yield ["run", "overlap.nft", "empty.pcap"], overlap, None, 1
     for name, line, column, said, why in [
-        ("character.nft", 2, 22, "'$' begins nothing that is read here (character)", "character"),
-        ("end.nft", 2, 25, "the text ends too early (end)", "end"),
-        ("type.nft", 1, 23, "'port' is no type that may stand here (type)", "type"),
-        ("value.nft", 2, 26, "'65536' is no value or interval of this field (value)", "value"),
-        ("time.nft", 1, 46, "'5x' is no time (time)", "time"),
-        ("moment.nft", 2, 4, "'9' is no moment that may stand here (moment)", "moment"),
-        ("set.nft", 3, 18, "'q' is no set that may be named here (set)", "set"),
-        ("number.nft", 1, 43, "'0' is no size (number)", "number"),
-        ("statement.nft", 2, 1, "'drop' can't stand here (statement)", "statement"),
+        ("character.nft", 2, 22, "'$' is an unexpected character", "character"),
+        ("end.nft", 2, 25, "the end of the text leaves the '{' of line 2 open", "end"),
+        ("type.nft", 1, 23, "'port' isn't a supported type", "type"),
+        ("value.nft", 2, 26, "'65536' doesn't fit field 1 (inet_service): 65536 is greater than 65535, the last port", "value"),
+        ("time.nft", 1, 46, "'5x' isn't a time", "time"),
+        ("moment.nft", 2, 4, "'9' is before the last moment, 10", "moment"),
+        ("set.nft", 3, 18, "'q' isn't a set that is declared before this place", "set"),
+        ("number.nft", 1, 43, "'0' isn't a size", "number"),
+        ("statement.nft", 2, 1, "'drop' begins no statement", "statement"),
     ]:
         yield ["list", name], placed(name, line, column, said), f"pipapo: script line {line}: {why}", 3
-    yield [*run, "bad.keys"], placed("bad.keys", 2, 11, "'.' can't stand here (statement)"), "pipapo: keys line 2: statement", 4
-    yield ["judge", "good.nft", "bad.rules", "good.keys"], placed("bad.rules", 1, 22, "'q' is no set that may be named here (set)"), "pipapo: rules line 1: set", 9
-    yield ["capture", "good.nft", "bad.plan", "empty.pcap"], placed("bad.plan", 1, 8, "'ip_saddr' is no selector of this field (type)"), "pipapo: plan line 1: type", 11
+    yield [*run, "bad.keys"], placed("bad.keys", 2, 11, "'.' can't come here"), "pipapo: keys line 2: statement", 4
+    yield ["judge", "good.nft", "bad.rules", "good.keys"], placed("bad.rules", 1, 22, "'q' isn't a set of the script"), "pipapo: rules line 1: set", 9
+    yield ["capture", "good.nft", "bad.plan", "empty.pcap"], placed("bad.plan", 1, 8, "'ip_saddr' doesn't fit the type of this field"), "pipapo: plan line 1: type", 11
+    for number, mistake in enumerate(MISTAKES):
+        name = f"mistake{number}.nft"
+        yield ["list", name], note(name, mistake), re.compile(rf"pipapo: script line {mistake[1]}: .*\n"), 3
     # other files in a text's place
     for name, said in [
         ("gzip.nft", "this is a file that gzip has packed: unpack it first"),
         ("pcap.nft", "this is a capture of packets (pcap), and no text"),
         ("pcapng.nft", "this is a capture of packets (pcapng), and no text"),
         ("mark.nft", "the text begins with a byte order mark of UTF-8: leave its three bytes out"),
+        ("json.nft", "this is a listing in JSON, as nft -j prints it: list the sets without -j"),
         ("utf16.nft", "this is a text in UTF-16: write it in ASCII"),
     ]:
         yield ["list", name], re.compile(rf"{re.escape(name)}:[0-9]+:[0-9]+: {re.escape(said)}\n"), None, 3
     yield ["run", "good.keys", "good.nft"], "good.keys:1:1: this looks like a key file: the script is named first, and then the key file\n", None, 3
+    yield ["list", "good.plan"], "good.plan:1:1: this looks like a plan: the script is named first, then the plan, and then the capture\n", None, 3
+    yield [*run, "good.plan"], "good.plan:1:8: this looks like a plan, which only 'capture' takes\n", None, 4
     yield [*run, "good.nft"], re.compile("good.nft:1:[0-9]+: this looks like a script: the script is named first, and then the key file\n"), None, 4
     yield [*run, "good.rules"], re.compile("good.rules:1:[0-9]+: this looks like a rules file: .*\n"), None, 4
     yield ["judge", "good.nft", "good.keys", "good.rules"], re.compile("good.keys:1:1: this looks like a key file: .*\n"), None, 9
@@ -113,15 +125,15 @@ def cases(shown):
     ]:
         yield [*capture, name], f"{name}: byte {byte}: {said}\n", f"pipapo: capture byte {byte}: {why}", 10
     # files that aren't read
-    yield [*run, "nowhere"], "nowhere: there is no file of this name\n", "pipapo: read fault: nowhere", 5
-    yield [*run, "folder"], "folder: this is a directory and no file\n", "pipapo: read fault: folder", 5
+    yield [*run, "nowhere"], "nowhere: No such file or directory\n", "pipapo: read fault: nowhere", 5
+    yield [*run, "folder"], "folder: Is a directory\n", "pipapo: read fault: folder", 5
     yield [*run, "/proc/self/mem"], "/proc/self/mem: it can't be read\n", "pipapo: read fault: /proc/self/mem", 5
     if os.geteuid() != 0:
-        yield [*run, "closed"], "closed: the permission to read it is missing\n", "pipapo: read fault: closed", 5
+        yield [*run, "closed"], "closed: Permission denied\n", "pipapo: read fault: closed", 5
     yield ["list", "large.nft"], "large.nft: a file may have 67108864 bytes (64 MiB) at most\n", "pipapo: too large: large.nft", 8
     # what would move a terminal, and a long line
-    yield ["list", "escape\x1b.nft"], re.compile(r"escape\\x1b.nft:1:1: '\\x1b' begins nothing that is read here \(character\)\n\\x1b\[2J\n\^\^\^\^\nhelp: .*\n"), None, 3
-    yield ["list", "long.nft"], re.compile(r"long.nft:2:[0-9]+: 'here' is no value or interval of this field \(value\)\n\.\..{100}here.{40}\.\.\n {102}\^{4}\n(help: .*\n)?"), None, 3
+    yield ["list", "escape\x1b.nft"], re.compile(r"escape\\x1b.nft:1:1: '\\x1b' is an unexpected character\n\\x1b\[2J\n\^\^\^\^\nhelp: .*\n"), None, 3
+    yield ["list", "long.nft"], re.compile(r"long.nft:2:[0-9]+: 'here' doesn't fit field 1 \(inet_service\): it isn't a port\n\.\..{100}here.{40}\.\.\n {102}\^{4}\n(help: .*\n)?"), None, 3
     # refused changes
     yield ["list", "exists.nft"], "exists.nft:3:25: 80 exists already (line 2)\n" + failed.replace("overlap.nft", "exists.nft"), None, 1
     yield ["run", "missing.nft", "good.keys"], "missing.nft:2:25: 81 is no element of the set\n", None, 1

@@ -27,7 +27,7 @@ const CALLS: [Noted; 9] = [
             "a.nft",
             b"table ip t {\n\tset s {\n\t\ttype ipv4_addr\n\t\tflags interval\n\t\tauto-merge\n\t}\n}\n",
         )],
-        notes: b"a.nft:5:3: 'auto-merge' isn't read here (left out)\n\t\tauto-merge\n\t\t^^^^^^^^^^\nhelp: leave it out: intervals aren't merged, and one that overlaps is refused\n",
+        notes: b"a.nft:5:3: 'auto-merge' isn't supported\n\t\tauto-merge\n\t\t^^^^^^^^^^\nhelp: remove it: intervals aren't merged, and one that overlaps is refused\n",
         output: b"pipapo: script line 5: left out\n",
         status: 3,
     },
@@ -41,7 +41,7 @@ const CALLS: [Noted; 9] = [
     Noted {
         words: &RUN,
         files: &[("a.nft", PORTS), ("keys", b"ip t p 80\nip t p x\n")],
-        notes: b"keys:2:8: 'x' is no value or interval of this field (value)\nip t p x\n       ^\nhelp: one value of the field's type, and no interval\n",
+        notes: b"keys:2:8: 'x' isn't a value of field 1\nip t p x\n       ^\nhelp: write one value of the field's type, and no range or prefix\n",
         output: b"pipapo: keys line 2: value\n",
         status: 4,
     },
@@ -49,7 +49,7 @@ const CALLS: [Noted; 9] = [
     Noted {
         words: &["dump", "a.nft"],
         files: &[],
-        notes: b"a.nft: there is no file of this name\n",
+        notes: b"a.nft: No such file or directory\n",
         output: b"pipapo: read fault: a.nft\n",
         status: 5,
     },
@@ -64,7 +64,7 @@ const CALLS: [Noted; 9] = [
     Noted {
         words: &["list", "a.nft"],
         files: &[("a.nft", OVERLAP)],
-        notes: b"a.nft:6:4: 10.0.1.128/25 overlaps 10.0.1.0/24 (line 5)\na.nft: the last transaction failed: what is written is the generation before it\n",
+        notes: b"a.nft:6:4: 10.0.1.128/25 overlaps 10.0.1.0/24 (line 5)\na.nft: the last transaction failed, so this shows the generation before it\n",
         output: b"# line 6 refused overlap ip t s element 0\n# fail generation 0\ntable ip t {\n\tset s {\n\t\ttype ipv4_addr\n\t\tflags interval\n\t}\n}\n",
         status: 1,
     },

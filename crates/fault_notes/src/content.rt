@@ -1,6 +1,6 @@
 //! Finds out, by first bytes and words, what a file is instead of the one that was asked for.
-use crate::help::TextKind;
-use crate::source::first_line;
+use crate::help::{SELECTORS, TextKind};
+use crate::words::{is_one_of, last_word};
 
 /// What a file is that is no text of this program, by its first bytes.
 pub(crate) fn foreign(text: &[u8]) -> Option<&'static [u8]> {
@@ -19,7 +19,26 @@ pub(crate) fn foreign(text: &[u8]) -> Option<&'static [u8]> {
     if text.starts_with(b"\xff\xfe") || text.starts_with(b"\xfe\xff") {
         return Some(b"this is a text in UTF-16: write it in ASCII");
     }
+    if is_json(text) {
+        return Some(b"this is a listing in JSON, as nft -j prints it: list the sets without -j");
+    }
     None
+}
+
+/// Whether the first bytes are those of a listing by `nft -j`.
+fn is_json(text: &[u8]) -> bool {
+    match text.strip_prefix(b"{") {
+        Some(behind) => after_blanks(behind).starts_with(b"\"nftables\""),
+        None => false,
+    }
+}
+
+/// The bytes after the blanks and line feeds at the front.
+fn after_blanks(text: &[u8]) -> &[u8] {
+    match text.iter().position(|b| !is_blank(*b) && *b != b'\n') {
+        Some(i) => &text[i..],
+        None => &[],
+    }
 }
 
 /// Whether the first bytes are of a pcap file, in microseconds or nanoseconds and in either byte order.
@@ -58,7 +77,7 @@ fn begins_a_statement(word: &[u8]) -> bool {
     )
 }
 
-fn is_family(word: &[u8]) -> bool {
+pub(crate) fn is_family(word: &[u8]) -> bool {
     matches!(
         word,
         b"ip" | b"ip6" | b"inet" | b"arp" | b"bridge" | b"netdev"
@@ -73,7 +92,14 @@ fn begins_a_rules_file(word: &[u8]) -> bool {
 /// What a text of another grammar is, by the line of its bad token.
 pub(crate) fn swapped(kind: TextKind, line: &[u8]) -> Option<&'static [u8]> {
     let word = first_word(without_blanks(line));
+    let is_plan = is_family(word) && is_one_of(last_word(line), &SELECTORS);
     match kind {
+        TextKind::Script if is_plan => {
+            Some(
+                b"this looks like a plan: the script is named first, then the plan, and then the capture",
+            )
+        }
+        TextKind::Keys if is_plan => Some(b"this looks like a plan, which only 'capture' takes"),
         TextKind::Script if is_family(word) => {
             Some(b"this looks like a key file: the script is named first, and then the key file")
         }
@@ -82,7 +108,7 @@ pub(crate) fn swapped(kind: TextKind, line: &[u8]) -> Option<&'static [u8]> {
         }
         TextKind::Keys if begins_a_rules_file(word) => {
             Some(
-                b"this looks like a rules file: it is named behind the script, and then the key file",
+                b"this looks like a rules file: it is named after the script, and then the key file",
             )
         }
         TextKind::Rules if is_family(word) => {

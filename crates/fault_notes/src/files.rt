@@ -27,12 +27,12 @@ fn on_file(alloc: Global, name: &str, what: &[u8]) -> Result<Note, Memory>
     told_of(alloc, name, &said)
 }
 
-/// The system's reason for a fault, in plain words.
+/// The system's reason for a fault, in the system's words.
 fn reason_of(kind: FaultKind) -> &'static [u8] {
     match kind {
-        FaultKind::NotFound => b"there is no file of this name",
-        FaultKind::IsDirectory => b"this is a directory and no file",
-        FaultKind::NotPermitted => b"the permission to read it is missing",
+        FaultKind::NotFound => b"No such file or directory",
+        FaultKind::IsDirectory => b"Is a directory",
+        FaultKind::NotPermitted => b"Permission denied",
         FaultKind::Other => b"it can't be read",
     }
 }

@@ -1,4 +1,7 @@
-//! What could come in a bad token's place, or what to do.
+//! Explains a bad token by its reason alone, without what surrounds it.
+use crate::explained::Explained;
+use crate::words::is_one_of;
+use set_model::Memory;
 use token_forms::Reason;
 
 /// The grammar in which a text was read.
@@ -10,53 +13,58 @@ pub enum TextKind {
     Plan,
 }
 
-/// What a note says of a bad token, after its bytes.
-pub(crate) fn what_is_wrong(kind: TextKind, reason: Reason) -> &'static [u8] {
-    match reason {
-        Reason::Character => b" begins nothing that is read here (character)",
-        Reason::End => b"the text ends too early (end)",
-        Reason::LeftOut => b" isn't read here (left out)",
-        Reason::TypeWord => match kind {
-            TextKind::Plan => b" is no selector of this field (type)",
-            _ => b" is no type that may stand here (type)",
-        },
-        Reason::Value => b" is no value or interval of this field (value)",
-        Reason::Time => b" is no time (time)",
-        Reason::Moment => b" is no moment that may stand here (moment)",
-        Reason::Set => b" is no set that may be named here (set)",
-        Reason::Number => b" is no size (number)",
-        Reason::Statement => b" can't stand here (statement)",
-    }
-}
+/// The words that take a value from a packet.
+pub(crate) const SELECTORS: [&[u8]; 9] = [
+    b"ip_saddr",
+    b"ip_daddr",
+    b"ip6_saddr",
+    b"ip6_daddr",
+    b"ether_saddr",
+    b"ether_daddr",
+    b"proto",
+    b"sport",
+    b"dport",
+];
 
-/// What a word means that nft(8) reads and this program doesn't, and what to do.
+/// The words of a rules file that aren't names.
+const RULE_WORDS: [&[u8]; 8] = [
+    b"chain", b"policy", b"in", b"out", b"accept", b"drop", b"return", b"jump",
+];
+
+/// How a time is written.
+pub(crate) const TIME: &[u8] =
+    b"write seconds, as 90, or parts from days to milliseconds, as 1d2h3m4s500ms";
+
+/// How a set's size is written.
+pub(crate) const SIZE: &[u8] = b"write a number from 1 to 4294967295";
+
+/// What to do about a word that nft(8) reads and this program doesn't.
 fn for_left_out(word: &[u8]) -> &'static [u8] {
     match word {
-        b"*" => b"an interval of all values is written with its ends or as a block, as 0.0.0.0/0",
-        b"chain" | b"rule" => b"only sets are read: leave chains and rules out",
-        b"map" | b"flowtable" => b"only sets are read: leave maps and flowtables out",
+        b"*" => b"write all values as a prefix or a range, as 0.0.0.0/0",
+        b"chain" | b"rule" => b"remove chains and rules: a script has sets alone",
+        b"map" | b"flowtable" => b"remove maps and flowtables: a script has sets alone",
         b"counter" | b"quota" | b"limit" =>
-            b"elements have no counters, quotas and limits: leave it out",
+            b"remove it: elements have no counters, quotas and limits",
         b"define" | b"undefine" | b"redefine" =>
-            b"there are no variables: write the values themselves",
-        b"include" => b"one text is read: put the included one in its place",
-        b"typeof" => b"write 'type' and the types themselves, as type ipv4_addr . inet_service",
-        b"auto-merge" => b"leave it out: intervals aren't merged, and one that overlaps is refused",
+            b"write the values themselves: there are no variables",
+        b"include" => b"copy the included file to this place",
+        b"typeof" => b"write 'type' and the types themselves, as: type ipv4_addr . inet_service",
+        b"auto-merge" => b"remove it: intervals aren't merged, and one that overlaps is refused",
         b"constant" | b"dynamic" =>
-            b"leave the flag out: the flags are interval, timeout and disjoint",
-        _ =>
-            b"sets and tables aren't created twice or deleted: 'add set' declares a set, 'flush set' empties it",
+            b"remove the flag: the flags are interval, timeout and disjoint",
+        _ => b"write 'add set' to declare a set, or 'flush set' to remove its elements",
     }
 }
 
-/// What begins words and strings. `first` is the first byte of a token that is neither.
+/// What to do about a token that begins with this byte, which begins no word and no string.
 fn for_character(first: Option<&u8>) -> &'static [u8] {
     match first {
-        Some(b'"') => b"a string has up to 128 bytes, and ends with '\"' in its line",
+        Some(b'"') => b"end the string with '\"' in its line, after at most 128 bytes",
         Some(b'$' | b'@') =>
-            b"there are no variables and no named references: write the values themselves",
-        Some(b'\'') => b"strings stand between '\"'",
-        Some(128..=255) => b"only ASCII is read, but for strings and comments",
+            b"write the values themselves: there are no variables, and no references to sets",
+        Some(b'\'') => b"write strings between '\"'",
+        Some(128..=255) => b"write ASCII: other characters may be in strings and comments only",
         _ => b"words have letters, digits and '_', '.', '/', ':', '-'; a comment begins with '#'",
     }
 }
@@ -64,78 +72,75 @@ fn for_character(first: Option<&u8>) -> &'static [u8] {
 /// What is missing if a text ends too early.
 fn for_end(kind: TextKind) -> &'static [u8] {
     match kind {
-        TextKind::Rules =>
-            b"a '{' that is open wants its '}', and behind the chains stands 'policy accept' or 'policy drop'",
-        TextKind::Plan => b"a plan has one line at least, and that one selector for each field",
-        _ => b"a '{' that is open wants its '}', and a statement that was begun wants the rest",
+        TextKind::Rules => b"close each '{', and write 'policy accept' or 'policy drop' at the end",
+        TextKind::Plan => b"write at least one line, with one selector for each field of the set",
+        _ => b"complete the line: [FAMILY] TABLE SET VALUE . VALUE ..",
     }
 }
 
-/// The words for a field: the types of a script's sets, or the selectors of a plan.
-fn for_type(kind: TextKind) -> &'static [u8] {
+/// What a line or a statement is.
+fn for_statement(kind: TextKind) -> &'static [u8] {
     match kind {
+        TextKind::Rules =>
+            b"write 'chain NAME { RULES }', with rules such as 'in ip t s accept', and at the end 'policy accept' or 'policy drop'",
         TextKind::Plan =>
-            b"ip_saddr and ip_daddr are ipv4_addr, ip6_saddr and ip6_daddr ipv6_addr, ether_saddr and ether_daddr ether_addr, proto inet_proto, sport and dport inet_service",
+            b"write at most 4 lines [FAMILY] TABLE SET SELECTOR . SELECTOR .., with one selector for each field",
         _ =>
-            b"the types are ipv4_addr, ipv6_addr, ether_addr, inet_proto, inet_service and mark: up to 16 of them, of 64 bytes together",
+            b"write a line [FAMILY] TABLE SET VALUE . VALUE .., with one value for each field, or 'at' MOMENT, or 'round'",
     }
 }
 
-fn for_value(kind: TextKind) -> &'static [u8] {
+/// Explains a selector that can't be at its place.
+fn explain_selector(said: &mut Explained, word: &[u8]) -> Result<(), Memory> {
+    if is_one_of(word, &SELECTORS) {
+        return said.say(
+            b" doesn't fit the type of this field",
+            b"ipv4_addr takes ip_saddr or ip_daddr, ipv6_addr ip6_saddr or ip6_daddr, ether_addr ether_saddr or ether_daddr, inet_proto proto, inet_service sport or dport",
+        );
+    }
+    said.suggest(
+        b" isn't a selector",
+        word,
+        &SELECTORS,
+        b"the selectors are ip_saddr, ip_daddr, ip6_saddr, ip6_daddr, ether_saddr, ether_daddr, proto, sport and dport",
+    )
+}
+
+/// Explains a token that can't come at its place in another text than a script.
+fn explain_line(said: &mut Explained, kind: TextKind, word: &[u8]) -> Result<(), Memory> {
     match kind {
-        TextKind::Script =>
-            b"a value of the field's type, and with the flag interval also VALUE-VALUE and ADDRESS/BITS",
-        _ => b"one value of the field's type, and no interval",
+        TextKind::Rules => said.suggest(
+            b" can't come here",
+            word,
+            &RULE_WORDS,
+            for_statement(kind),
+        ),
+        _ => said.say(b" can't come here", for_statement(kind)),
     }
 }
 
-fn for_moment(kind: TextKind) -> &'static [u8] {
-    match kind {
-        TextKind::Script =>
-            b"a moment is a number of milliseconds, 1000000000000000 at most, and not before the last one",
-        _ => b"a moment is a number of milliseconds, 1000000000000000 at most",
-    }
-}
-
-fn for_set(kind: TextKind) -> &'static [u8] {
-    match kind {
-        TextKind::Script =>
-            b"a set is declared before it is used, once, and before the first commit, abort or round; there are 64 at most",
-        TextKind::Keys => b"a packet's set is one that the script declares",
-        TextKind::Rules => b"a test's set is one that the script declares",
-        TextKind::Plan => b"a line's set is one that the script declares",
-    }
-}
-
-/// What could come in place of a word that fits nothing.
-fn for_statement(kind: TextKind, is_first: bool) -> &'static [u8] {
-    match kind {
-        TextKind::Script if is_first =>
-            b"a statement begins with add, create, delete, destroy, flush, table, at, commit, abort or round",
-        TextKind::Script =>
-            b"a statement ends with its line or with ';', and each item of a set stands once, type first and elements last",
-        TextKind::Keys =>
-            b"a line is [FAMILY] TABLE SET VALUE . VALUE .., with one value for each field, or 'at' MOMENT, or 'round'",
-        TextKind::Rules =>
-            b"one to four 'chain NAME { RULES }', and then 'policy accept' or 'policy drop'; a rule is up to four tests 'in [FAMILY] TABLE SET' or 'out [FAMILY] TABLE SET', and then accept, drop, return, or jump and the name of a chain above it; there are 64 rules at most",
-        TextKind::Plan =>
-            b"a line is [FAMILY] TABLE SET SELECTOR . SELECTOR .., with one selector for each field; there are 4 lines at most",
-    }
-}
-
-/// What could come in a bad token's place, or what to do. `is_first` says whether the token is the
-/// first of its line.
-pub(crate) fn help(kind: TextKind, reason: Reason, token: &[u8], is_first: bool) -> &'static [u8] {
+/// Explains a bad token by its reason.
+pub(crate) fn explain_plainly(
+    said: &mut Explained,
+    kind: TextKind,
+    reason: Reason,
+    token: &[u8],
+) -> Result<(), Memory> {
     match reason {
-        Reason::Character => for_character(token.first()),
-        Reason::End => for_end(kind),
-        Reason::LeftOut => for_left_out(token),
-        Reason::TypeWord => for_type(kind),
-        Reason::Value => for_value(kind),
-        Reason::Time => b"a time is a number of seconds, or parts as 1d2h3m4s500ms",
-        Reason::Moment => for_moment(kind),
-        Reason::Set => for_set(kind),
-        Reason::Number => b"a size is a number from 1 to 4294967295",
-        Reason::Statement => for_statement(kind, is_first),
+        Reason::Character => said.say(b" is an unexpected character", for_character(token.first())),
+        Reason::End => said.say(b" comes too early", for_end(kind)),
+        Reason::LeftOut => said.say(b" isn't supported", for_left_out(token)),
+        Reason::TypeWord => explain_selector(said, token),
+        Reason::Time => said.say(b" isn't a time", TIME),
+        Reason::Moment => said.say(
+            b" isn't a moment",
+            b"write a number of milliseconds, at most 1000000000000000",
+        ),
+        Reason::Set => said.say(
+            b" isn't a set of the script",
+            b"name a set that the script declares, by [FAMILY] TABLE SET",
+        ),
+        Reason::Number => said.say(b" isn't a size", b"write a number from 1 to 4294967295"),
+        Reason::Value | Reason::Statement => explain_line(said, kind, token),
     }
 }

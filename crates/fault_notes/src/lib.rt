@@ -1,13 +1,19 @@
 //! Explains refused texts, unreadable files and refused changes to a person, on the standard error.
 //!
-//! A note on the token `1o24` of a key file, at line 1 and column 19, begins with the file's name and
-//! the token's place. Then it has the token and the reason, its line with a caret under each of its
-//! bytes, and a help line:
+//! Line 2 of the script `allow.nft` adds `443-70000` to a set of ports. The note on it begins with the
+//! file's name and the token's place. Then it says what is wrong, shows the line with a caret under each
+//! byte of the token, and says what to do:
 //!
-//!     packets.keys:1:19: '1o24' ... (value)
-//!     ip t p 10.0.0.5 . 1o24
-//!                       ^^^^
-//!     help: ...
+//!     allow.nft:2:22: '443-70000' doesn't fit field 1 (inet_service): 70000 is greater than 65535, the last port
+//!     add element ip t p { 443-70000 }
+//!                          ^^^^^^^^^
+//!     help: write a number from 0 to 65535
+//!
+//! One walk over the tokens before a script's bad token finds what surrounds it: the braces, the
+//! statement, the element so far, and the sets that are declared ([`bad_text_note`]). In the example it
+//! finds the set `ip t p`, its type `inet_service`, and that the token is for field 1. A misspelt word is
+//! compared with the words that may come there. At most a third of its letters may differ: so `intervall`
+//! gives `did you mean 'interval'?`.
 //!
 //! It is proved that a note on a file begins with its name, and with the place of the bad token or byte
 //! if there is one. Tests check the words after it, and the notes on refused changes. A byte of a text
@@ -18,18 +24,24 @@
 //! that one note is printed, or nothing. **Theory:** docs/formats.md, "The standard error".
 #![tactic(auto)]
 
+mod around;
 mod bad;
 mod captures;
 mod changes;
 mod content;
-mod declared;
+mod explained;
 mod files;
 mod help;
+mod near;
 mod note;
 mod refusals;
 mod refused;
+mod sets;
 mod source;
+mod syntax;
 mod told;
+mod values;
+mod words;
 
 pub use bad::bad_text_note;
 pub use captures::capture_note;

@@ -158,7 +158,7 @@ fn add_failed(note: &mut Note, name: &[u8], is_failed: bool) -> Result<(), Memor
         return Ok(());
     }
     note.file(name)?;
-    note.say(b"the last transaction failed: what is written is the generation before it")?;
+    note.say(b"the last transaction failed, so this shows the generation before it")?;
     note.end_line()
 }
 

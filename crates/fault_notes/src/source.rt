@@ -1,7 +1,6 @@
 //! Shows the line of a token, with the token marked in it.
 ghost use Rattle.std.specs.Prelude.{◌≤◌, ◌+◌, length};
 
-use crate::content::without_blanks;
 use crate::note::Note;
 use set_model::Memory;
 use token_forms::BadToken;
@@ -19,7 +18,7 @@ pub(crate) struct Cut<'a> {
     /// The whole line.
     pub(crate) line: &'a [u8],
     /// The bytes before the token that are shown, and whether there are more.
-    before: &'a [u8],
+    pub(crate) before: &'a [u8],
     has_more_before: bool,
     pub(crate) token: &'a [u8],
     behind: &'a [u8],
@@ -32,8 +31,13 @@ fn last_of(text: &[u8], most: usize) -> &[u8] {
 }
 
 /// The first bytes of a text, up to so many.
-fn first_of(text: &[u8], most: usize) -> &[u8] {
+pub(crate) fn first_of(text: &[u8], most: usize) -> &[u8] {
     &text[..text.len().min(most)]
+}
+
+/// As many bytes of a word as are shown.
+pub(crate) fn shortened(word: &[u8]) -> &[u8] {
+    first_of(word, OF_TOKEN)
 }
 
 /// The bytes after the last line feed.
@@ -67,13 +71,6 @@ pub(crate) fn cut_at<'a>(text: &'a [u8], bad: BadToken) -> Cut<'a> {
         token,
         behind: first_of(behind, BEHIND),
         has_more_behind: behind.len() > BEHIND,
-    }
-}
-
-impl Cut<'_> {
-    /// Whether the token is the first of its line.
-    pub(crate) fn is_first(&self) -> bool {
-        !self.has_more_before && without_blanks(self.before).is_empty()
     }
 }
 

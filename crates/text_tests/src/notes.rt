@@ -28,11 +28,12 @@ fn kind_of(letter: &[u8]) -> TextKind {
     }
 }
 
-const REASONS: [(&[u8], Reason); 5] = [
+const REASONS: [(&[u8], Reason); 6] = [
     (b"character", Reason::Character),
     (b"end", Reason::End),
     (b"left out", Reason::LeftOut),
     (b"type", Reason::TypeWord),
+    (b"value", Reason::Value),
     (b"set", Reason::Set),
 ];
 
@@ -127,13 +128,17 @@ fn told_refusals(alloc: Global, output: &[u8]) -> Result<Vec<u8>, Memory> {
 // outside ASCII
 /// Bad tokens in their lines, and texts of another kind.
 const SCRIPTS_AND_KEYS: &[u8] = b"\
-    s 24 10 3 3 left out;table ip t {\n\tset s {\n\t\tauto-merge\n\t}\n}\n|x:3:3: 'auto-merge' isn't read here (left out)\n\t\tauto-merge\n\t\t^^^^^^^^^^\nhelp: leave it out: intervals aren't merged, and one that overlaps is refused\n~\
-    s 22 4 1 23 type;add set ip t s { type ipv4 ; }\n|x:1:23: 'ipv4' is no type that may stand here (type)\nadd set ip t s { type ipv4 ; }\n                      ^^^^\nhelp: the types are ipv4_addr, ipv6_addr, ether_addr, inet_proto, inet_service and mark: up to 16 of them, of 64 bytes together\n~\
-    s 13 0 1 14 end;add table t {|x:1:14: the text ends too early (end)\nadd table t {\n             ^\nhelp: a '{' that is open wants its '}', and a statement that was begun wants the rest\n~\
-    k 3 1 1 4 statement;t s\n|x:1:4: the end of the line can't stand here (statement)\nt s\n   ^\nhelp: a line is [FAMILY] TABLE SET VALUE . VALUE .., with one value for each field, or 'at' MOMENT, or 'round'\n~\
-    k 2 1 1 3 character;t\x1b\xc3 s\n|x:1:3: '\\xc3' begins nothing that is read here (character)\nt\\x1b\\xc3 s\n     ^^^^\nhelp: only ASCII is read, but for strings and comments\n~\
-    s 53 1 2 18 set;add set ip t s { type ipv4_addr ; }\nadd element ip t q { 10.0.0.1 }\n|x:2:18: 'q' is no set that may be named here (set)\nadd element ip t q { 10.0.0.1 }\n                 ^\nhelp: a set is declared before it is used, once, and before the first commit, abort or round; there are 64 at most; those before it: s\n~\
+    s 24 10 3 3 left out;table ip t {\n\tset s {\n\t\tauto-merge\n\t}\n}\n|x:3:3: 'auto-merge' isn't supported\n\t\tauto-merge\n\t\t^^^^^^^^^^\nhelp: remove it: intervals aren't merged, and one that overlaps is refused\n~\
+    s 22 4 1 23 type;add set ip t s { type ipv4 ; }\n|x:1:23: 'ipv4' isn't a supported type\nadd set ip t s { type ipv4 ; }\n                      ^^^^\nhelp: did you mean 'ipv4_addr'?\n~\
+    s 9 0 1 10 end;table t {|x:1:10: the end of the text leaves the '{' of line 1 open\ntable t {\n         ^\nhelp: write '}' after the last set of the table\n~\
+    s 60 9 2 22 value;add set ip t p { type inet_service ; }\nadd element ip t p { 443-70000 }\n|x:2:22: '443-70000' doesn't fit field 1 (inet_service): 70000 is greater than 65535, the last port\nadd element ip t p { 443-70000 }\n                     ^^^^^^^^^\nhelp: write a number from 0 to 65535\n~\
+    k 3 1 1 4 statement;t s\n|x:1:4: the end of the line can't come here\nt s\n   ^\nhelp: write a line [FAMILY] TABLE SET VALUE . VALUE .., with one value for each field, or 'at' MOMENT, or 'round'\n~\
+    k 15 5 1 16 value;t s 10.0.0.1 . https\n|x:1:16: 'https' isn't a value of field 2, and a port is a number and not a name\nt s 10.0.0.1 . https\n               ^^^^^\nhelp: use 443\n~\
+    k 2 1 1 3 character;t\x1b\xc3 s\n|x:1:3: '\\xc3' is an unexpected character\nt\\x1b\\xc3 s\n     ^^^^\nhelp: write ASCII: other characters may be in strings and comments only\n~\
+    s 53 1 2 18 set;add set ip t s { type ipv4_addr ; }\nadd element ip t q { 10.0.0.1 }\n|x:2:18: 'q' isn't a set that is declared before this place\nadd element ip t q { 10.0.0.1 }\n                 ^\nhelp: the sets declared before are ip t s\n~\
     s 0 2 1 1 statement;ip t s 10.0.0.1\n|x:1:1: this looks like a key file: the script is named first, and then the key file\n~\
+    s 0 2 1 1 statement;ip t s ip_saddr . dport\n|x:1:1: this looks like a plan: the script is named first, then the plan, and then the capture\n~\
+    s 0 1 1 1 statement;{\"nftables\": []}\n|x:1:1: this is a listing in JSON, as nft -j prints it: list the sets without -j\n~\
     k 0 3 1 1 set;add table ip t\n|x:1:1: this looks like a script: the script is named first, and then the key file\n~\
     s 0 1 1 1 character;\x1f\x8b\x08\x00|x:1:1: this is a file that gzip has packed: unpack it first\n~\
     k 0 1 1 1 character;\xd4\xc3\xb2\xa1\x02\x00|x:1:1: this is a capture of packets (pcap), and no text\n~\
@@ -144,12 +149,12 @@ const SCRIPTS_AND_KEYS: &[u8] = b"\
 
 /// Bad tokens of rules files and plans.
 const RULES_AND_PLANS: &[u8] = b"\
-    r 18 1 1 19 set;chain a { in ip t q drop }\npolicy drop\n|x:1:19: 'q' is no set that may be named here (set)\nchain a { in ip t q drop }\n                  ^\nhelp: a test's set is one that the script declares\n~\
-    r 17 0 2 1 end;chain a { drop }\n|x:2:1: the text ends too early (end)\n\n^\nhelp: a '{' that is open wants its '}', and behind the chains stands 'policy accept' or 'policy drop'\n~\
+    r 18 1 1 19 set;chain a { in ip t q drop }\npolicy drop\n|x:1:19: 'q' isn't a set of the script\nchain a { in ip t q drop }\n                  ^\nhelp: name a set that the script declares, by [FAMILY] TABLE SET\n~\
+    r 17 0 2 1 end;chain a { drop }\n|x:2:1: the end of the text comes too early\n\n^\nhelp: close each '{', and write 'policy accept' or 'policy drop' at the end\n~\
     r 0 3 1 1 statement;add set ip t s { }\n|x:1:1: this looks like a script: the script is named first, then the rules file, and then the key file\n~\
-    k 7 4 1 8 set;policy drop\n|x:1:8: this looks like a rules file: it is named behind the script, and then the key file\n~\
-    p 7 5 1 8 type;ip t s dport\n|x:1:8: 'dport' is no selector of this field (type)\nip t s dport\n       ^^^^^\nhelp: ip_saddr and ip_daddr are ipv4_addr, ip6_saddr and ip6_daddr ipv6_addr, ether_saddr and ether_daddr ether_addr, proto inet_proto, sport and dport inet_service\n~\
-    p 16 1 1 17 statement;ip t s ip_saddr ;\n|x:1:17: ';' can't stand here (statement)\nip t s ip_saddr ;\n                ^\nhelp: a line is [FAMILY] TABLE SET SELECTOR . SELECTOR .., with one selector for each field; there are 4 lines at most\n~\
+    k 7 4 1 8 set;policy drop\n|x:1:8: this looks like a rules file: it is named after the script, and then the key file\n~\
+    p 7 5 1 8 type;ip t s dport\n|x:1:8: 'dport' doesn't fit the type of this field\nip t s dport\n       ^^^^^\nhelp: ipv4_addr takes ip_saddr or ip_daddr, ipv6_addr ip6_saddr or ip6_daddr, ether_addr ether_saddr or ether_daddr, inet_proto proto, inet_service sport or dport\n~\
+    p 16 1 1 17 statement;ip t s ip_saddr ;\n|x:1:17: ';' can't come here\nip t s ip_saddr ;\n                ^\nhelp: write at most 4 lines [FAMILY] TABLE SET SELECTOR . SELECTOR .., with one selector for each field\n~\
     p 0 1 1 1 character;\xd4\xc3\xb2\xa1\x02\x00|x:1:1: this is a capture of packets (pcap), and no text\n~\
 ";
 
@@ -178,8 +183,8 @@ const CAPTURES: &[u8] = b"\
 
 /// A name with a line feed and an escape forges no line and moves no terminal.
 const FILES: &[u8] = b"\
-    not found|a\\x0ab\\x1b[2J: there is no file of this name\n~\
-    directory|etc: this is a directory and no file\n~\
+    not found|a\\x0ab\\x1b[2J: No such file or directory\n~\
+    directory|etc: Is a directory\n~\
     too large|a.nft: a file may have 67108864 bytes (64 MiB) at most\n~\
     18|a.nft: the script has 18 sections, and desk runs 17 at most: the first, and one for each of 16 control threads; join some, by leaving lines 'round' out\n~\
 ";
@@ -189,13 +194,13 @@ const FILES: &[u8] = b"\
 const REFUSALS: &[u8] = b"\
     line 6 refused overlap ip t s element 0\nfail generation 0\n|x.nft:6:3: 10.0.1.128/25 overlaps 10.0.1.0/24 (line 5)\n~\
     commit generation 1 purged 0\npacket 0 thread 0 generation 1 none\n|~\
-    # line 6 refused full ip t s\n# fail generation 0\n|x.nft:6:3: 10.0.1.128/25 doesn't fit: the set has as many elements as it may have\nx.nft: the last transaction failed: what is written is the generation before it\n~\
+    # line 6 refused full ip t s\n# fail generation 0\n|x.nft:6:3: 10.0.1.128/25 doesn't fit: the set has as many elements as it may have\nx.nft: the last transaction failed, so this shows the generation before it\n~\
     # commit generation 1 purged 0\n# clerk 1 line 6 refused overlap ip t s element 0\n# clerk 1 fail generation 1\n# clerk 2 commit generation 2 purged 0\n|x.nft:6:3: 10.0.1.128/25 overlaps an element that is there\n~\
 ";
 
 #[test]
 fn notes(rt: HostRuntime) {
-    assert_told(&rt, rt.alloc(), SCRIPTS_AND_KEYS, 13, told_bad);
+    assert_told(&rt, rt.alloc(), SCRIPTS_AND_KEYS, 17, told_bad);
     assert_told(&rt, rt.alloc(), RULES_AND_PLANS, 7, told_bad);
     assert_told(&rt, rt.alloc(), CAPTURES, 18, told_capture);
     assert_told(&rt, rt.alloc(), FILES, 4, told_file);

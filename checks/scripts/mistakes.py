@@ -1,0 +1,171 @@
+"""Mistakes in scripts, and the whole note that each must have. The notes are written by hand.
+
+A mistake is a script, the line and the column of its bad token, what is wrong, what to do, and nft's words for it. The shown line and
+its carets follow from these. Line 1 of most scripts declares the sets of SETS. Of these p, a, v and l have intervals, and l has timeouts.
+"""
+
+SETS = (
+    "table ip t { set p { type inet_service; flags interval; }; set a { type ipv4_addr . inet_service; flags interval; }; "
+    "set n { type inet_service; }; set v { type ipv6_addr; flags interval; }; set l { type inet_proto . mark; flags interval, timeout; }; "
+    "set e { type ether_addr; }; }\n"
+)
+
+
+def add(set_name, elements):
+    return SETS + f"add element ip t {set_name} {{ {elements} }}\n"
+
+
+def declare(items):
+    return f"add table ip t\nadd set ip t s {{ {items}; }}\n"
+
+
+PORT = "write a number from 0 to 65535"
+IPV4 = "write four numbers from 0 to 255 with '.' between them, as 192.0.2.1"
+IPV6 = "write an IPv6 address, as 2001:db8::1"
+ETHER = "write six pairs of hexadecimal digits, as 02:00:5e:10:00:01"
+PROTO = "write a number from 0 to 255, or a protocol's name in lower case, as tcp"
+MARK = "write a number from 0 to 4294967295, or 0x and 1 to 8 hexadecimal digits"
+TYPES = "the types are ipv4_addr, ipv6_addr, ether_addr, inet_proto, inet_service and mark"
+PAIR = "the set's type is ipv4_addr . inet_service"
+COMMA = "',' or '}' is expected after an element"
+STATEMENTS = "a statement begins with add, create, delete, destroy, flush, table, at, commit, abort or round"
+END_STATEMENT = "end the statement before it, with ';' or a new line"
+END_ITEM = "end the item before it, with ';' or a new line"
+TABLE_NAME = "a table is named by [FAMILY] TABLE; a name begins with a letter or '_'"
+SET_NAME = "a set is named by [FAMILY] TABLE SET; a name begins with a letter or '_'"
+TIME = "write seconds, as 90, or parts from days to milliseconds, as 1d2h3m4s500ms"
+
+# script, line, column, what is wrong, what to do, and how nft 1.0.6 begins what it says of the script
+MISTAKES = [
+    # values
+    (add("p", "443-70000"), 2, 22, "'443-70000' doesn't fit field 1 (inet_service): 70000 is greater than 65535, the last port", PORT, "Service out of range"),
+    (add("p", "80, 65536"), 2, 26, "'65536' doesn't fit field 1 (inet_service): 65536 is greater than 65535, the last port", PORT, "Service out of range"),
+    (add("l", "256 . 1"), 2, 22, "'256' doesn't fit field 1 (inet_proto): 256 is greater than 255, the last protocol", PROTO, "Protocol out of range"),
+    (add("l", "6 . 4294967296"), 2, 26, "'4294967296' doesn't fit field 2 (mark): 4294967296 is greater than 4294967295, the last mark", MARK, "Value 4294967296 exceeds valid range 0-4294967295"),
+    (add("a", "10.0.0.0/33 . 80"), 2, 22, "'10.0.0.0/33' doesn't fit field 1 (ipv4_addr): /33 is longer than an IPv4 address, which has 32 bits", "write a prefix from /0 to /32", "Prefix length 33 is invalid for type of 32 bits width"),
+    (add("v", "2001:db8::/129"), 2, 22, "'2001:db8::/129' doesn't fit field 1 (ipv6_addr): /129 is longer than an IPv6 address, which has 128 bits", "write a prefix from /0 to /128", "Prefix length 129 is invalid for type of 128 bits width"),
+    (add("a", "10.0.0.0/255.0.0.0 . 80"), 2, 22, "'10.0.0.0/255.0.0.0' doesn't fit field 1 (ipv4_addr): '255.0.0.0' isn't a number of bits", "write a prefix from /0 to /32", "syntax error, unexpected string, expecting number"),
+    (add("p", "80-22"), 2, 22, "'80-22' doesn't fit field 1 (inet_service): 80 is greater than 22, and a range begins with the smaller value", "write 22-80", "Range has zero or negative size"),
+    (add("a", "10.0.0.9-10.0.0.1 . 80"), 2, 22, "'10.0.0.9-10.0.0.1' doesn't fit field 1 (ipv4_addr): 10.0.0.9 is greater than 10.0.0.1, and a range begins with the smaller value", "write 10.0.0.1-10.0.0.9", "Range has zero or negative size"),
+    (add("n", "80-443"), 2, 22, "'80-443' is a range, and the set has single values", "declare the set with 'flags interval'", "You must add 'flags interval' to your set declaration if you want to add range elements"),
+    (declare("type ipv4_addr; elements = { 10.0.0.0/8 }"), 2, 47, "'10.0.0.0/8' is a prefix, and the set has single values", "declare the set with 'flags interval'", "You must add 'flags interval' to your set declaration if you want to add prefix elements"),
+    (add("v", "10.0.0.1"), 2, 22, "'10.0.0.1' doesn't fit field 1 (ipv6_addr): it is an IPv4 address", IPV6, "Could not resolve"),
+    (add("a", "::1 . 80"), 2, 22, "'::1' doesn't fit field 1 (ipv4_addr): it is an IPv6 address", IPV4, "Could not resolve"),
+    (add("v", "10.0.0.0/8"), 2, 22, "'10.0.0.0/8' doesn't fit field 1 (ipv6_addr): it is an IPv4 address", IPV6, "Could not resolve"),
+    (add("p", "0x50"), 2, 22, "'0x50' doesn't fit field 1 (inet_service): a port is a decimal number", "use 80", "taken"),
+    (add("p", "https"), 2, 22, "'https' doesn't fit field 1 (inet_service): a port is a number and not a name", "use 443", "taken"),
+    (add("a", "10.0.0.1 . ssh"), 2, 33, "'ssh' doesn't fit field 2 (inet_service): a port is a number and not a name", "use 22", "taken"),
+    (add("a", '10.0.0.1 . "https"'), 2, 33, "'\"https\"' doesn't fit field 2 (inet_service): a port is a number and not a name", "use 443", "taken"),
+    (add("p", "web"), 2, 22, "'web' doesn't fit field 1 (inet_service): it isn't a port", PORT, "Could not resolve"),
+    (add("a", "80 . 10.0.0.1"), 2, 22, "'80' doesn't fit field 1 (ipv4_addr): it fits field 2 (inet_service)", PAIR, "Could not resolve"),
+    (add("a", "10.0.0.1"), 2, 31, "'}' ends the element after 1 field", PAIR, "invalid data type, expected concatenation of (IPv4 address, internet network service)"),
+    (add("a", "10.0.0.1, 10.0.0.2 . 80"), 2, 30, "',' ends the element after 1 field", PAIR, "invalid data type, expected concatenation of (IPv4 address, internet network service)"),
+    (add("a", "10.0.0.1 . }"), 2, 33, "'}' ends the element after 1 field", PAIR, "syntax error, unexpected '}'"),
+    (add("a", "10.0.0.1 . 80 . 90"), 2, 36, "'.' begins one more field, and the set has 2 fields", PAIR, "too many concatenation components"),
+    (add("p", "80 . tcp"), 2, 25, "'.' begins one more field, and the set has 1 field", "the set's type is inet_service", "Can't parse symbolic invalid expressions"),
+    (add("a", "10.0.0.1:80"), 2, 22, "'10.0.0.1:80' doesn't fit field 1 (ipv4_addr): it is two fields in one word", "write a '.' with blanks around it between fields, as 192.0.2.1 . 80", "set is not a map"),
+    (add("a", "10.0.0.1.80"), 2, 22, "'10.0.0.1.80' doesn't fit field 1 (ipv4_addr): it is two fields in one word", "write a '.' with blanks around it between fields, as 192.0.2.1 . 80", "syntax error, unexpected string, expecting comma or '}'"),
+    (add("p", "080"), 2, 22, "'080' doesn't fit field 1 (inet_service): a number has no leading zero", PORT, "taken"),
+    (add("a", "10.0.0.256 . 80"), 2, 22, "'10.0.0.256' doesn't fit field 1 (ipv4_addr): it isn't an IPv4 address", IPV4, "Could not resolve"),
+    (add("a", "10.0.0 . 80"), 2, 22, "'10.0.0' doesn't fit field 1 (ipv4_addr): it isn't an IPv4 address", IPV4, "syntax error, unexpected string, expecting comma or '}'"),
+    (add("l", "TCP . 1"), 2, 22, "'TCP' doesn't fit field 1 (inet_proto): it isn't a protocol", PROTO, "taken"),
+    (add("e", "02:00:5e:10:00"), 2, 22, "'02:00:5e:10:00' doesn't fit field 1 (ether_addr): it isn't an Ethernet address", ETHER, "syntax error, unexpected colon, expecting comma or '}'"),
+    (add("p", "10-"), 2, 22, "'10-' doesn't fit field 1 (inet_service): an end of the range is missing", "write both ends without blanks, as 10-20", "syntax error, unexpected '}'"),
+    (add("p", "10-web"), 2, 22, "'10-web' doesn't fit field 1 (inet_service): 'web' isn't a port", PORT, "Could not resolve"),
+    # elements
+    (add("p", "80 443"), 2, 25, "'443' can't follow an element", COMMA, "syntax error, unexpected number, expecting comma or '}'"),
+    (add("p", "80; 443"), 2, 24, "';' can't come in a list", COMMA, "syntax error, unexpected semicolon, expecting comma or '}'"),
+    (add("p", "80,,443"), 2, 25, "',' has no element before it", "write one ',' between elements", "taken"),
+    (add("p", "10 - 20"), 2, 25, "'-' can't have blanks around it", "write a range without blanks, as 10-20", "taken"),
+    (add("p", "10 -20"), 2, 25, "'-20' can't have blanks around it", "write a range without blanks, as 10-20", "taken"),
+    (add("a", "10.0.0.0 /8 . 80"), 2, 31, "'/8' can't have blanks around it", "write a prefix without blanks, as 10.0.0.0/8", "taken"),
+    (add("a", "10.0.0.1 : 80"), 2, 31, "':' can't come between fields", "write ' . ' between fields", "set is not a map"),
+    (add("p", "80 comment web"), 2, 33, "'web' isn't in quotes", 'quote the comment: comment "web"', "taken"),
+    (add("p", "80 timeout 5s"), 2, 25, "'timeout' needs a set with the flag timeout", "declare the set with 'flags timeout'", "Could not process rule: Invalid argument"),
+    (add("l", "6 . 1 timeout 5s timeout 6s"), 2, 39, "'timeout' is given twice", "leave one of the two out", "taken"),
+    (add("l", "6 . 1 timeuot 5s"), 2, 28, "'timeuot' can't follow an element", "did you mean 'timeout'?", "syntax error, unexpected string, expecting comma or '}'"),
+    (add("l", "6 . 1 timeout 1w"), 2, 36, "'1w' isn't a time", TIME, "syntax error, unexpected number, expecting string"),
+    (add("l", "6 . 1 timeout"), 2, 36, "'}' isn't a time", TIME, "syntax error, unexpected '}', expecting string"),
+    (add("p", "80 comment, 443"), 2, 32, "',' can't follow 'comment'", 'write the comment in quotes, as: comment "web"', "syntax error, unexpected comma, expecting string or quoted string or string with a trailing asterisk"),
+    (add("p", "ssh-443"), 2, 22, "'ssh-443' doesn't fit field 1 (inet_service): a port is a number and not a name", "use 22 for 'ssh'", "Could not resolve"),
+    (add("p", "$ports"), 2, 22, "'$' is an unexpected character", "write the values themselves: there are no variables, and no references to sets", "unknown identifier 'ports'"),
+    (add("p", "*"), 2, 22, "'*' isn't supported", "write all values as a prefix or a range, as 0.0.0.0/0", ""),
+    (SETS + "add element ip t p { 80,\n 443\n", 4, 1, "the end of the text leaves the '{' of line 2 open", "write '}' after the last element", "syntax error, unexpected end of file, expecting comma or '}'"),
+    # sets
+    (SETS + "add element ip t q { 80 }\n", 2, 18, "'q' isn't a set that is declared before this place", "the sets declared before are ip t p, ip t a, ip t n, ip t v, ip t l, ip t e", "No such file or directory"),
+    (SETS + "add element inet t p { 80 }\n", 2, 20, "'p' isn't a set that is declared before this place", "did you mean 'ip t p'?", "No such file or directory"),
+    ("add set ip t ports { type inet_service; }\nadd element ip t prots { 80 }\n", 2, 18, "'prots' isn't a set that is declared before this place", "did you mean 'ip t ports'?", "No such file or directory"),
+    ("add element ip t p { 80 }\n", 1, 18, "'p' isn't a set that is declared before this place", "declare the set first: add set [FAMILY] TABLE SET { type .. }", "No such file or directory"),
+    (SETS + "add set ip t p { type inet_service; }\n", 2, 14, "'p' is declared twice, first in line 1", "declare a set once; 'add element' adds elements to it", "Could not process rule: File exists"),
+    (SETS + "commit\nadd set ip t q { type inet_service; }\n", 3, 14, "'q' is declared too late", "declare all sets before the first commit, abort or round", "syntax error, unexpected newline, expecting string"),
+    ("add set ip t 1 { type mark; }\n", 1, 14, "'1' isn't the name of a set", "a name begins with a letter or '_' and has at most 127 bytes", "syntax error, unexpected number, expecting string"),
+    # items of a set
+    (declare("flags interval; type mark"), 2, 18, "'flags' can't come before the set's type", "write the type first, as: type ipv4_addr . inet_service", "taken"),
+    (declare("tpye mark"), 2, 18, "'tpye' can't come before the set's type", "did you mean 'type'?", "syntax error, unexpected string"),
+    (declare("type ipv4"), 2, 23, "'ipv4' isn't a supported type", "did you mean 'ipv4_addr'?", "unknown datatype ipv4"),
+    (declare("type ifname"), 2, 23, "'ifname' isn't a supported type", TYPES, "taken"),
+    (declare("type ipv4_addr inet_service"), 2, 33, "'inet_service' can't follow a type", "write ' . ' between types", "syntax error, unexpected string, expecting newline or semicolon or ."),
+    (declare("type ipv4_addr, inet_service"), 2, 32, "',' can't follow a type", "write ' . ' between types", "syntax error, unexpected comma, expecting newline or semicolon or ."),
+    (declare("type ipv4_addr : inet_service"), 2, 33, "':' makes a map of the set", "write one '.' between types; there are no maps", "syntax error, unexpected colon, expecting newline or semicolon or ."),
+    (declare("type mark flags interval"), 2, 28, "'flags' can't follow here", END_ITEM, "syntax error, unexpected flags, expecting newline or semicolon or ."),
+    (declare("type mark; flags intervall"), 2, 35, "'intervall' isn't a flag", "did you mean 'interval'?", "syntax error, unexpected string, expecting constant or interval or dynamic or timeout"),
+    (declare("type mark; flags interval timeout"), 2, 44, "'timeout' can't follow a flag without ','", "write ',' between flags", "syntax error, unexpected timeout, expecting newline or semicolon or comma"),
+    (declare("type mark; flags interval, interval"), 2, 45, "'interval' is given twice", "leave one of the two out", "taken"),
+    (declare("type mark; flags interval; flags timeout"), 2, 45, "'flags' is given twice", "write one item with ',' between its flags, as: flags interval, timeout", "taken"),
+    (declare("type mark; size 5; size 6"), 2, 37, "'size' is given twice", "leave one of the two out", "taken"),
+    (declare("type mark; size 0"), 2, 34, "'0' isn't a size", "write a number from 1 to 4294967295", "taken"),
+    (declare("type mark; size"), 2, 33, "';' isn't a size", "write a number from 1 to 4294967295", "syntax error, unexpected semicolon, expecting number"),
+    (declare("type mark; timeout"), 2, 36, "';' isn't a time", TIME, "syntax error, unexpected semicolon, expecting string"),
+    (declare("type mark; element = { 1 }"), 2, 29, "'element' isn't an item of a set", "did you mean 'elements'?", "syntax error, unexpected element"),
+    (declare("type mark; elements { 1 }"), 2, 38, "'{' can't follow 'elements'", "write '=' after 'elements'", "syntax error, unexpected '{', expecting '='"),
+    (declare("type mark; elements = 1"), 2, 40, "'1' can't follow '='", "write the elements in braces, as: elements = { 10.0.0.1, 10.0.0.2 }", "syntax error, unexpected number, expecting '{' or '$'"),
+    (declare("type mark; elements = { 1 }; size 5"), 2, 47, "'size' can't come after the elements", "write 'elements' last", "taken"),
+    (declare("type mark; comment web"), 2, 37, "'web' isn't in quotes", 'quote the comment: comment "web"', "taken"),
+    (declare("type mark; policy memroy"), 2, 36, "'memroy' isn't a policy", "did you mean 'memory'?", "syntax error, unexpected string, expecting memory or performance"),
+    (declare("type mark; auto-merge"), 2, 29, "'auto-merge' isn't supported", "remove it: intervals aren't merged, and one that overlaps is refused", "auto-merge only works with interval sets"),
+    (declare("typeof ip saddr"), 2, 18, "'typeof' isn't supported", "write 'type' and the types themselves, as: type ipv4_addr . inet_service", "taken"),
+    ("table ip t {\n\tset s {\n\t\ttype mark\n\t}\n", 5, 1, "the end of the text leaves the '{' of line 1 open", "write '}' after the last set of the table", "syntax error, unexpected end of file"),
+    ("table ip t {\n\tchain c {\n", 2, 2, "'chain' isn't supported", "remove chains and rules: a script has sets alone", "syntax error, unexpected end of file"),
+    ("table ip t {\n\tste s {\n", 2, 2, "'ste' can't come in a table", "did you mean 'set'?", "syntax error, unexpected string"),
+    ("table ip t {\n\tset s type mark\n", 2, 8, "'type' can't follow the set's name", "write '{' after the set's name", "syntax error, unexpected type, expecting '{'"),
+    # statements
+    ("drop everything\n", 1, 1, "'drop' begins no statement", STATEMENTS, "syntax error, unexpected drop"),
+    ("comit\n", 1, 1, "'comit' begins no statement", "did you mean 'commit'?", "syntax error, unexpected newline, expecting string"),
+    ("element ip t p { 80 }\n", 1, 1, "'element' begins no statement", "write 'add', 'create', 'delete' or 'destroy' before it", "No such file or directory"),
+    ("set s { type mark; }\n", 1, 1, "'set' begins no statement", "write 'add' before it", "syntax error, unexpected '{', expecting string"),
+    (SETS + "add element ip t p { 80 } }\n", 2, 27, "'}' closes no '{'", "remove it, or add the '{' that is missing before it", "syntax error, unexpected '}', expecting end of file or newline or semicolon"),
+    ("table ip\n", 1, 9, "the end of the line isn't the name of a table", TABLE_NAME, "syntax error, unexpected newline, expecting string"),
+    ("add", 1, 4, "the end of the text can't follow 'add'", "'add' is followed by table, set or element", "syntax error, unexpected end of file"),
+    ("add element\n", 1, 12, "the end of the line isn't the name of a table", SET_NAME, "syntax error, unexpected newline, expecting string"),
+    ("}\n", 1, 1, "'}' closes no '{'", "remove it, or add the '{' that is missing before it", "syntax error, unexpected '}'"),
+    ("add elements ip t p { 80 }\n", 1, 5, "'elements' can't follow 'add'", "did you mean 'element'?", "syntax error, unexpected elements, expecting string"),
+    ("add ip t p { 80 }\n", 1, 5, "'ip' can't follow 'add'", "'add' is followed by table, set or element", "syntax error, unexpected newline"),
+    ("delete set ip t p\n", 1, 8, "'set' isn't supported", "write 'add set' to declare a set, or 'flush set' to remove its elements", "Could not process rule: No such file or directory"),
+    ("table ip t\n", 1, 11, "the end of the line can't follow the table's name", "write '{' after it, or 'add table' before it", "taken"),
+    ("add table ip t { }\n", 1, 16, "'{' can't follow 'add table'", "write 'table' in place of 'add table'", "taken"),
+    ("add set ip t {\n", 1, 14, "'{' isn't the name of a set", SET_NAME, "syntax error, unexpected '{', expecting string"),
+    (SETS + "flush set ip t p p\n", 2, 18, "'p' can't follow here", END_STATEMENT, "syntax error, unexpected string, expecting end of file or newline or semicolon"),
+    (SETS + "add element ip t p { 80 } commit\n", 2, 27, "'commit' can't follow here", END_STATEMENT, "syntax error, unexpected string, expecting end of file or newline or semicolon"),
+    (SETS + "flush ruleset\n", 2, 7, "'ruleset' can't be flushed here", "'flush ruleset' can only be the first statement", "taken"),
+    ("at 10\nat 9\n", 2, 4, "'9' is before the last moment, 10", "write a later moment: in a script moments never fall", "syntax error, unexpected number, expecting string"),
+    ("at noon\n", 1, 4, "'noon' isn't a moment", "write a number of milliseconds, at most 1000000000000000", "syntax error, unexpected newline"),
+    ("define x = 1\n", 1, 1, "'define' isn't supported", "write the values themselves: there are no variables", "taken"),
+    ("include \"x\"\n", 1, 1, "'include' isn't supported", "copy the included file to this place", "File not found: x"),
+]
+
+
+def note(name, mistake):
+    """The whole note on a mistake, in a file of this name."""
+    script, line, column, wrong, help_line, _ = mistake
+    lines = script.split("\n")
+    shown = lines[line - 1]
+    before = shown[: column - 1]
+    # a token ends with its quote; the end of a line and of the text has one caret
+    token = wrong.split("' ")[0][1:] if wrong.startswith("'") else ""
+    behind = shown[column - 1 + len(token) :]
+    cut = ".." if len(before) > 100 else ""
+    margin = "  " if cut else ""
+    front = before[-100:]
+    tail = behind[:40] + (".." if len(behind) > 40 else "")
+    blanks = "".join("\t" if byte == "\t" else " " for byte in front)
+    return f"{name}:{line}:{column}: {wrong}\n{cut}{front}{token}{tail}\n{margin}{blanks}{'^' * max(len(token), 1)}\nhelp: {help_line}\n"

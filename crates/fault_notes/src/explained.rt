@@ -1,0 +1,93 @@
+//! What a note says of a bad token, in two parts that grow together.
+use crate::around::{Around, SetText, declared_as};
+use crate::near::nearest;
+use crate::note::Note;
+use crate::refused::SetWords;
+use set_model::Memory;
+use std::alloc::Global;
+use text_pieces::{Piece, append_pieces};
+
+/// What is wrong with a token, and what to do.
+#[derive(Drop)]
+pub(crate) struct Explained {
+    pub(crate) alloc: Global,
+    pub(crate) wrong: Note,
+    pub(crate) help: Note,
+}
+
+/// A bad token of a script, and what surrounds it.
+#[derive(Clone, Copy)]
+pub(crate) struct Fault<'a> {
+    /// The place of the token.
+    pub(crate) at: u64,
+    /// The token's bytes in its line. A line feed and the end of the text have none.
+    pub(crate) token: &'a [u8],
+    pub(crate) around: Around<'a>,
+    /// The sets that are declared before the token.
+    pub(crate) sets: &'a [SetText<'a>],
+}
+
+impl<'a> Fault<'a> {
+    /// The set whose items or elements surround the token, as it is declared.
+    pub(crate) fn set(&self) -> SetText<'a> {
+        self.around.declared(self.at, self.sets)
+    }
+
+    /// The declaration of a set before the token.
+    pub(crate) fn declared_as(&self, words: SetWords<'_>) -> Option<SetText<'a>> {
+        declared_as(self.sets, words)
+    }
+}
+
+impl Note {
+    /// Adds pieces of text, one after another.
+    pub(crate) fn pieces(&mut self, alloc: Global, pieces: &[Piece]) -> Result<(), Memory> {
+        let mut text = Vec::new(alloc);
+        append_pieces(pieces, &mut text)?;
+        self.say(&text)
+    }
+}
+
+impl Explained {
+    pub(crate) fn new(alloc: Global) -> Explained {
+        Explained {
+            alloc,
+            wrong: Note::new(alloc),
+            help: Note::new(alloc),
+        }
+    }
+
+    /// Says what is wrong, after the token, and what to do.
+    pub(crate) fn say(&mut self, wrong: &[u8], help: &[u8]) -> Result<(), Memory> {
+        self.wrong.say(wrong)?;
+        self.help.say(help)
+    }
+
+    /// Says what is wrong, after the token, and what to do, each in pieces.
+    pub(crate) fn tell(&mut self, wrong: &[Piece], help: &[Piece]) -> Result<(), Memory> {
+        self.wrong.pieces(self.alloc, wrong)?;
+        self.help.pieces(self.alloc, help)
+    }
+
+    /// Says what is wrong, and which of these words was probably meant. If none is near, says what may
+    /// come there.
+    pub(crate) fn suggest(
+        &mut self,
+        wrong: &[u8],
+        word: &[u8],
+        words: &[&[u8]],
+        help: &[u8],
+    ) -> Result<(), Memory> {
+        match nearest(self.alloc, word, words)? {
+            Some(other) => self.tell(
+                &[Piece::Word(wrong)],
+                &[
+                    Piece::Word(b"did you mean '"),
+                    Piece::Word(other),
+                    Piece::Word(b"'?"),
+                ],
+            ),
+            None => self.say(wrong, help),
+        }
+    }
+}

@@ -1,0 +1,455 @@
+//! Explains a token that can't come at its place of a script: what may come there.
+use crate::around::{Level, set_named};
+use crate::explained::{Explained, Fault};
+use crate::help::{SIZE, TIME};
+use crate::source::shortened;
+use crate::values::{explain_quoted, types_of};
+use crate::words::{count_of, is_one_of, kind_at, last_word, word_at};
+use set_model::Memory;
+use text_pieces::Piece;
+
+/// The words that begin a statement.
+const STATEMENTS: [&[u8]; 10] = [
+    b"add", b"create", b"delete", b"destroy", b"flush", b"table", b"at", b"commit", b"abort",
+    b"round",
+];
+
+/// The words that begin an item of a set.
+const ITEMS: [&[u8]; 8] = [
+    b"type",
+    b"flags",
+    b"timeout",
+    b"size",
+    b"gc-interval",
+    b"policy",
+    b"comment",
+    b"elements",
+];
+
+const FLAGS: [&[u8]; 3] = [b"interval", b"timeout", b"disjoint"];
+
+/// The words that begin an option of an element.
+const OPTIONS: [&[u8]; 3] = [b"timeout", b"expires", b"comment"];
+
+const TYPES: [&[u8]; 6] = [
+    b"ipv4_addr",
+    b"ipv6_addr",
+    b"ether_addr",
+    b"inet_proto",
+    b"inet_service",
+    b"mark",
+];
+
+const TABLE_NAME: &[u8] = b"a table is named by [FAMILY] TABLE; a name begins with a letter or '_'";
+
+const SET_NAME: &[u8] = b"a set is named by [FAMILY] TABLE SET; a name begins with a letter or '_'";
+
+const END_STATEMENT: &[u8] = b"end the statement before it, with ';' or a new line";
+
+const END_ITEM: &[u8] = b"end the item before it, with ';' or a new line";
+
+/// Explains a token before which the statement, the set or the item is whole.
+fn explain_end(said: &mut Explained, help: &[u8]) -> Result<(), Memory> {
+    said.say(b" can't follow here", help)
+}
+
+/// Explains the first token of a statement.
+fn explain_first(said: &mut Explained, fault: Fault<'_>) -> Result<(), Memory> {
+    match fault.token {
+        b"set" => said.say(b" begins no statement", b"write 'add' before it"),
+        b"element" => said.say(
+            b" begins no statement",
+            b"write 'add', 'create', 'delete' or 'destroy' before it",
+        ),
+        word => said.suggest(
+            b" begins no statement",
+            word,
+            &STATEMENTS,
+            b"a statement begins with add, create, delete, destroy, flush, table, at, commit, abort or round",
+        ),
+    }
+}
+
+/// Explains the second token of a statement.
+fn explain_second(said: &mut Explained, fault: Fault<'_>) -> Result<(), Memory> {
+    let word = fault.token;
+    match word_at(fault.around.part, 0) {
+        b"add" => said.suggest(
+            b" can't follow 'add'",
+            word,
+            &[b"table", b"set", b"element"],
+            b"'add' is followed by table, set or element",
+        ),
+        b"flush" if word == b"ruleset".as_slice() => said.say(
+            b" can't be flushed here",
+            b"'flush ruleset' can only be the first statement",
+        ),
+        b"flush" => said.suggest(
+            b" can't follow 'flush'",
+            word,
+            &[b"set"],
+            b"'flush' is followed by set and the name of a set",
+        ),
+        b"at" => said.say(
+            b" isn't a moment",
+            b"'at' is followed by a number of milliseconds",
+        ),
+        b"table" => said.say(b" isn't the name of a table", TABLE_NAME),
+        b"commit" | b"abort" | b"round" | b"}" => explain_end(said, END_STATEMENT),
+        _ => said.suggest(
+            b" can't be changed so",
+            word,
+            &[b"element"],
+            b"create, delete and destroy are followed by element",
+        ),
+    }
+}
+
+/// Explains a token after the place of a table or a set has begun.
+fn explain_place(said: &mut Explained, fault: Fault<'_>) -> Result<(), Memory> {
+    let part = fault.around.part;
+    let is_block = word_at(part, 0) == b"table".as_slice();
+    let is_table = word_at(part, 1) == b"table".as_slice();
+    let place = set_named(part, if is_block { 1 } else { 2 });
+    match word_at(part, 0) {
+        b"at" => return explain_end(said, END_STATEMENT),
+        _ if place.table.is_empty() && (is_block || is_table) => {
+            return said.say(b" isn't the name of a table", TABLE_NAME);
+        }
+        _ if place.table.is_empty() => {
+            return said.say(b" isn't the name of a table", SET_NAME);
+        }
+        _ => {}
+    }
+    if is_table && fault.token == b"{".as_slice() {
+        return said.say(
+            b" can't follow 'add table'",
+            b"write 'table' in place of 'add table'",
+        );
+    }
+    if is_table {
+        return explain_end(said, END_STATEMENT);
+    }
+    if is_block {
+        return said.say(
+            b" can't follow the table's name",
+            b"write '{' after it, or 'add table' before it",
+        );
+    }
+    if place.name.is_empty() {
+        return said.say(b" isn't the name of a set", SET_NAME);
+    }
+    match word_at(part, 0) {
+        b"flush" => explain_end(said, END_STATEMENT),
+        _ => said.say(
+            b" can't follow the set's name",
+            b"write '{' after the set's name",
+        ),
+    }
+}
+
+fn explain_in_statement(said: &mut Explained, fault: Fault<'_>) -> Result<(), Memory> {
+    if fault.token == b"}".as_slice() {
+        return said.say(
+            b" closes no '{'",
+            b"remove it, or add the '{' that is missing before it",
+        );
+    }
+    if fault.around.part.is_empty() {
+        return explain_first(said, fault);
+    }
+    if word_at(fault.around.part, 0) == b"}".as_slice() {
+        return explain_end(said, END_STATEMENT);
+    }
+    if word_at(fault.around.part, 1).is_empty() {
+        return explain_second(said, fault);
+    }
+    explain_place(said, fault)
+}
+
+/// Explains a token in the braces of a table.
+fn explain_in_table(said: &mut Explained, fault: Fault<'_>) -> Result<(), Memory> {
+    let part = fault.around.part;
+    match word_at(part, 0) {
+        b"" => said.suggest(
+            b" can't come in a table",
+            fault.token,
+            &[b"set"],
+            b"a table's braces hold sets: set NAME { .. }",
+        ),
+        b"}" => explain_end(said, END_STATEMENT),
+        _ if word_at(part, 1).is_empty() => said.say(
+            b" isn't the name of a set",
+            b"a name begins with a letter or '_'",
+        ),
+        _ => said.say(
+            b" can't follow the set's name",
+            b"write '{' after the set's name",
+        ),
+    }
+}
+
+/// Explains the first token of a set's item.
+fn explain_item(said: &mut Explained, fault: Fault<'_>) -> Result<(), Memory> {
+    let set = fault.set();
+    let word = fault.token;
+    if set.item(b"type").is_empty() {
+        return said.suggest(
+            b" can't come before the set's type",
+            word,
+            &[b"type"],
+            b"write the type first, as: type ipv4_addr . inet_service",
+        );
+    }
+    if !is_one_of(word, &ITEMS) {
+        return said.suggest(
+            b" isn't an item of a set",
+            word,
+            &ITEMS,
+            b"the items are type, flags, timeout, size, gc-interval, policy, comment and elements",
+        );
+    }
+    if word == b"flags".as_slice() {
+        return said.say(
+            b" is given twice",
+            b"write one item with ',' between its flags, as: flags interval, timeout",
+        );
+    }
+    if set.item(word).is_empty() {
+        return said.say(b" can't come after the elements", b"write 'elements' last");
+    }
+    said.say(b" is given twice", b"leave one of the two out")
+}
+
+/// Explains a token after the word of an item.
+fn explain_in_item(said: &mut Explained, fault: Fault<'_>) -> Result<(), Memory> {
+    let part = fault.around.part;
+    let word = fault.token;
+    let last = last_word(part);
+    match word_at(part, 0) {
+        b"type" if last == b"type".as_slice() || last == b".".as_slice() => said.say(
+            b" isn't a type",
+            b"a type is expected, as ipv4_addr",
+        ),
+        b"type" if word == b":".as_slice() => said.say(
+            b" makes a map of the set",
+            b"write one '.' between types; there are no maps",
+        ),
+        b"type" if word == b",".as_slice() || is_one_of(word, &TYPES) => said.say(
+            b" can't follow a type",
+            b"write ' . ' between types",
+        ),
+        b"flags" if is_one_of(last, &[b"flags", b","]) && is_one_of(word, &FLAGS) => said.say(
+            b" is given twice",
+            b"leave one of the two out",
+        ),
+        b"flags" if is_one_of(last, &[b"flags", b","]) => said.suggest(
+            b" isn't a flag",
+            word,
+            &FLAGS,
+            b"the flags are interval, timeout and disjoint",
+        ),
+        b"flags" if is_one_of(word, &FLAGS) => said.say(
+            b" can't follow a flag without ','",
+            b"write ',' between flags",
+        ),
+        b"policy" if last == b"policy".as_slice() => said.suggest(
+            b" isn't a policy",
+            word,
+            &[b"performance", b"memory"],
+            b"the policies are performance and memory",
+        ),
+        b"comment" if last == b"comment".as_slice() => explain_comment(said, word),
+        b"timeout" | b"gc-interval" if is_one_of(last, &[b"timeout", b"gc-interval"]) => {
+            said.say(b" isn't a time", TIME)
+        }
+        b"size" if last == b"size".as_slice() => said.say(b" isn't a size", SIZE),
+        b"elements" if last == b"elements".as_slice() => said.say(
+            b" can't follow 'elements'",
+            b"write '=' after 'elements'",
+        ),
+        b"elements" => said.say(
+            b" can't follow '='",
+            b"write the elements in braces, as: elements = { 10.0.0.1, 10.0.0.2 }",
+        ),
+        _ => explain_end(said, END_ITEM),
+    }
+}
+
+/// Explains a token in the place of a comment's string.
+fn explain_comment(said: &mut Explained, word: &[u8]) -> Result<(), Memory> {
+    if is_one_of(word, &[b"", b",", b";", b"}"]) {
+        return said.say(
+            b" can't follow 'comment'",
+            b"write the comment in quotes, as: comment \"web\"",
+        );
+    }
+    said.tell(
+        &[Piece::Word(b" isn't in quotes")],
+        &[
+            Piece::Word(b"quote the comment: comment \""),
+            Piece::Word(shortened(word)),
+            Piece::Word(b"\""),
+        ],
+    )
+}
+
+/// Explains a token at the place of a field's value.
+fn explain_no_value(said: &mut Explained, fault: Fault<'_>) -> Result<(), Memory> {
+    match fault.token {
+        [b'"', ..] => explain_quoted(said, fault),
+        b"," => said.say(
+            b" has no element before it",
+            b"write one ',' between elements",
+        ),
+        _ => said.say(b" isn't an element", b"an element or '}' is expected"),
+    }
+}
+
+/// Explains an element that has too few fields, or too many.
+fn explain_fields(
+    said: &mut Explained,
+    wrong: &[u8],
+    number: u64,
+    type_item: &[u8],
+) -> Result<(), Memory> {
+    said.tell(
+        &[
+            Piece::Word(wrong),
+            Piece::Number(number),
+            Piece::Word(if number == 1 { b" field" } else { b" fields" }),
+        ],
+        &[
+            Piece::Word(b"the set's type is "),
+            Piece::Word(types_of(type_item)),
+        ],
+    )
+}
+
+/// Explains an option's word that can't come here.
+fn explain_option(said: &mut Explained, fault: Fault<'_>) -> Result<(), Memory> {
+    let word = fault.token;
+    if count_of(fault.around.part, word) > 0 {
+        return said.say(b" is given twice", b"leave one of the two out");
+    }
+    said.say(
+        b" needs a set with the flag timeout",
+        b"declare the set with 'flags timeout'",
+    )
+}
+
+/// Explains a token after the values of an element.
+fn explain_behind(said: &mut Explained, fault: Fault<'_>) -> Result<(), Memory> {
+    let word = fault.token;
+    let last = last_word(fault.around.part);
+    if last == b"comment".as_slice() {
+        return explain_comment(said, word);
+    }
+    if is_one_of(last, &OPTIONS) {
+        return said.say(b" isn't a time", TIME);
+    }
+    match word {
+        [b'-', ..] => said.say(
+            b" can't have blanks around it",
+            b"write a range without blanks, as 10-20",
+        ),
+        [b'/', ..] => said.say(
+            b" can't have blanks around it",
+            b"write a prefix without blanks, as 10.0.0.0/8",
+        ),
+        b":" => said.say(b" can't come between fields", b"write ' . ' between fields"),
+        b";" => said.say(
+            b" can't come in a list",
+            b"',' or '}' is expected after an element",
+        ),
+        _ if is_one_of(word, &OPTIONS) => explain_option(said, fault),
+        _ => explain_no_comma(said, word),
+    }
+}
+
+/// Explains a token that can't follow an element.
+fn explain_no_comma(said: &mut Explained, word: &[u8]) -> Result<(), Memory> {
+    said.suggest(
+        b" can't follow an element",
+        word,
+        &OPTIONS,
+        b"',' or '}' is expected after an element",
+    )
+}
+
+/// Explains a token in a list.
+fn explain_in_list(said: &mut Explained, fault: Fault<'_>) -> Result<(), Memory> {
+    let part = fault.around.part;
+    let type_item = fault.set().item(b"type");
+    let dots = count_of(part, b".");
+    let is_behind_dot = last_word(part) == b".".as_slice();
+    let fields = if is_behind_dot {
+        dots
+    } else {
+        dots.saturating_add(1)
+    };
+    let is_end = is_one_of(fault.token, &[b",", b"}"]);
+    let ends = is_end || is_one_of(fault.token, &OPTIONS);
+    if part.is_empty() || (is_behind_dot && !is_end) {
+        return explain_no_value(said, fault);
+    }
+    if ends && kind_at(type_item, fields).is_some() {
+        return explain_fields(said, b" ends the element after ", fields, type_item);
+    }
+    match fault.token {
+        b"." => explain_fields(
+            said,
+            b" begins one more field, and the set has ",
+            fields,
+            type_item,
+        ),
+        _ => explain_behind(said, fault),
+    }
+}
+
+/// Explains a token that can't come at its place.
+pub(crate) fn explain_syntax(said: &mut Explained, fault: Fault<'_>) -> Result<(), Memory> {
+    match fault.around.level {
+        Level::Statement => explain_in_statement(said, fault),
+        Level::Table => explain_in_table(said, fault),
+        Level::Set if fault.around.part.is_empty() => explain_item(said, fault),
+        Level::Set => explain_in_item(said, fault),
+        Level::Elements => explain_in_list(said, fault),
+    }
+}
+
+/// Explains the end of a script that ends too early.
+pub(crate) fn explain_text_end(said: &mut Explained, fault: Fault<'_>) -> Result<(), Memory> {
+    let line = fault.around.open_line();
+    match fault.around.level {
+        Level::Statement => explain_in_statement(said, fault),
+        level => said.tell(
+            &[
+                Piece::Word(b" leaves the '{' of line "),
+                Piece::Number(line),
+                Piece::Word(b" open"),
+            ],
+            &[Piece::Word(match level {
+                Level::Elements => b"write '}' after the last element",
+                Level::Set => b"write '}' after the last item of the set",
+                _ => b"write '}' after the last set of the table",
+            })],
+        ),
+    }
+}
+
+/// Explains a word at the place of a type.
+pub(crate) fn explain_type(said: &mut Explained, fault: Fault<'_>) -> Result<(), Memory> {
+    if is_one_of(fault.token, &TYPES) {
+        return said.say(
+            b" makes the key too long",
+            b"a key has 16 fields and 64 bytes at most: ipv6_addr takes 16 of them, ether_addr 8, each other type 4",
+        );
+    }
+    said.suggest(
+        b" isn't a supported type",
+        fault.token,
+        &TYPES,
+        b"the types are ipv4_addr, ipv6_addr, ether_addr, inet_proto, inet_service and mark",
+    )
+}

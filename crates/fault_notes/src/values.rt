@@ -1,0 +1,508 @@
+//! Explains a word that is no value or interval of its field.
+use crate::content::without_blanks;
+use crate::explained::{Explained, Fault};
+use crate::source::{first_of, shortened};
+use crate::words::{count_of, kind_at};
+use addr_text::{read_interval, read_number, read_value};
+use set_model::{Kind, Memory};
+use text_pieces::Piece;
+
+/// A field of a set, and the word at its place.
+#[derive(Clone, Copy)]
+pub(crate) struct Field<'a> {
+    word: &'a [u8],
+    /// Its number, from 0.
+    number: u64,
+    kind: Kind,
+    /// The set's item `type`.
+    type_item: &'a [u8],
+}
+
+/// What is wrong with a word at a field's place.
+#[derive(Clone, Copy)]
+enum WrongValue<'a> {
+    /// It means several values, and the set has no flag `interval`.
+    Several,
+    /// A number is greater than the last of the kind.
+    TooGreat(&'a [u8]),
+    /// A number begins with a 0.
+    LeadingZero,
+    /// A prefix has more bits than a value.
+    LongPrefix(&'a [u8]),
+    /// A `/` isn't followed by a number.
+    NoPrefix(&'a [u8]),
+    /// A range's first value is greater than its second.
+    Reversed(&'a [u8], &'a [u8]),
+    /// One end of a range is missing.
+    NoEnd,
+    /// It is a value of another kind.
+    OtherKind(Kind),
+    /// It fits another field of the set: its number, from 0.
+    OtherField(u64, Kind),
+    /// It is several fields without blanks between them.
+    Joined,
+    /// A port in hexadecimal: its number.
+    Hexadecimal(u64),
+    /// A service's name, and its port.
+    Service(&'a [u8], u64),
+    /// The word, or this end of it, is no value of any kind.
+    NoValue(&'a [u8]),
+}
+
+/// How many bytes of a set's types are shown.
+const OF_TYPES: usize = 250;
+
+/// The last moment that a text may name, in milliseconds.
+const LAST_MOMENT: u64 = 1_000_000_000_000_000;
+
+/// The ports of common services, by the names in /etc/services.
+const SERVICES: [(&[u8], u64); 32] = [
+    (b"ftp-data", 20),
+    (b"ftp", 21),
+    (b"ssh", 22),
+    (b"telnet", 23),
+    (b"smtp", 25),
+    (b"domain", 53),
+    (b"bootps", 67),
+    (b"bootpc", 68),
+    (b"tftp", 69),
+    (b"http", 80),
+    (b"kerberos", 88),
+    (b"pop3", 110),
+    (b"sunrpc", 111),
+    (b"ntp", 123),
+    (b"imap2", 143),
+    (b"snmp", 161),
+    (b"snmp-trap", 162),
+    (b"bgp", 179),
+    (b"ldap", 389),
+    (b"https", 443),
+    (b"submissions", 465),
+    (b"isakmp", 500),
+    (b"syslog", 514),
+    (b"submission", 587),
+    (b"ldaps", 636),
+    (b"domain-s", 853),
+    (b"imaps", 993),
+    (b"pop3s", 995),
+    (b"openvpn", 1194),
+    (b"mysql", 3306),
+    (b"postgresql", 5432),
+    (b"sip", 5060),
+];
+
+/// The port of a service by its name.
+fn port_of(name: &[u8]) -> Option<u64> {
+    for (service, port) in &SERVICES {
+        if *service == name {
+            return Some(*port);
+        }
+    }
+    None
+}
+
+/// A kind in words.
+fn what(kind: Kind) -> &'static [u8] {
+    match kind {
+        Kind::Ipv4 => b"an IPv4 address",
+        Kind::Ipv6 => b"an IPv6 address",
+        Kind::Ether => b"an Ethernet address",
+        Kind::Proto => b"a protocol",
+        Kind::Service => b"a port",
+        Kind::Mark => b"a mark",
+    }
+}
+
+/// A kind's word in a script.
+fn word_of(kind: Kind) -> &'static [u8] {
+    match kind {
+        Kind::Ipv4 => b"ipv4_addr",
+        Kind::Ipv6 => b"ipv6_addr",
+        Kind::Ether => b"ether_addr",
+        Kind::Proto => b"inet_proto",
+        Kind::Service => b"inet_service",
+        Kind::Mark => b"mark",
+    }
+}
+
+/// How a value of a kind is written.
+fn form_of(kind: Kind) -> &'static [u8] {
+    match kind {
+        Kind::Ipv4 => b"write four numbers from 0 to 255 with '.' between them, as 192.0.2.1",
+        Kind::Ipv6 => b"write an IPv6 address, as 2001:db8::1",
+        Kind::Ether => b"write six pairs of hexadecimal digits, as 02:00:5e:10:00:01",
+        Kind::Proto => b"write a number from 0 to 255, or a protocol's name in lower case, as tcp",
+        Kind::Service => b"write a number from 0 to 65535",
+        Kind::Mark => b"write a number from 0 to 4294967295, or 0x and 1 to 8 hexadecimal digits",
+    }
+}
+
+/// The greatest number of a kind, in words.
+fn last_of(kind: Kind) -> &'static [u8] {
+    match kind {
+        Kind::Proto => b" is greater than 255, the last protocol",
+        Kind::Service => b" is greater than 65535, the last port",
+        _ => b" is greater than 4294967295, the last mark",
+    }
+}
+
+fn is_number(word: &[u8]) -> bool {
+    !word.is_empty() && word.iter().all(|byte| byte.is_ascii_digit())
+}
+
+/// The word before its first `-` or `/`, and the rest.
+fn first_end(word: &[u8]) -> (&[u8], &[u8]) {
+    match word.iter().position(|byte| *byte == b'-' || *byte == b'/') {
+        Some(place) => word.split_at(place),
+        None => (word, b""),
+    }
+}
+
+/// The kind of address that a word is.
+fn address_kind(word: &[u8]) -> Option<Kind> {
+    for kind in [Kind::Ipv4, Kind::Ipv6, Kind::Ether] {
+        if read_value(kind, word).is_ok() {
+            return Some(kind);
+        }
+    }
+    None
+}
+
+/// What is wrong with a word that isn't a port.
+fn wrong_port(word: &[u8]) -> WrongValue<'_> {
+    if let Some(port) = port_of(word) {
+        return WrongValue::Service(word, port);
+    }
+    match read_value(Kind::Mark, word) {
+        Ok(port) if port <= 65535 => WrongValue::Hexadecimal(port as u64),
+        _ => WrongValue::NoValue(word),
+    }
+}
+
+/// What is wrong with a word that isn't a single value of a kind.
+fn wrong_end(kind: Kind, word: &[u8]) -> WrongValue<'_> {
+    let is_address = matches!(kind, Kind::Ipv4 | Kind::Ipv6 | Kind::Ether);
+    if word.is_empty() {
+        return WrongValue::NoEnd;
+    }
+    if let Some(other) = address_kind(word) {
+        return WrongValue::OtherKind(other);
+    }
+    match word {
+        [b'0', _, ..] if is_number(word) && !is_address => WrongValue::LeadingZero,
+        _ if is_number(word) && !is_address => WrongValue::TooGreat(word),
+        _ if kind == Kind::Service => wrong_port(word),
+        _ => WrongValue::NoValue(word),
+    }
+}
+
+/// What is wrong with a word that is no interval of a kind.
+fn wrong_interval(kind: Kind, word: &[u8]) -> WrongValue<'_> {
+    let (low, rest) = first_end(word);
+    if read_value(kind, low).is_err() {
+        return match wrong_end(kind, word) {
+            WrongValue::NoValue(_) => wrong_end(kind, low),
+            wrong => wrong,
+        };
+    }
+    match rest {
+        [b'/', digits @ ..] if is_number(digits) => WrongValue::LongPrefix(digits),
+        [b'/', digits @ ..] => WrongValue::NoPrefix(digits),
+        [b'-', high @ ..] if read_value(kind, high).is_ok() => WrongValue::Reversed(low, high),
+        [b'-', high @ ..] => wrong_end(kind, high),
+        _ => WrongValue::NoValue(word),
+    }
+}
+
+/// Whether a word is a value of a kind, and after a `.` or a `:` one of the next field's.
+fn is_joined(field: Field<'_>) -> bool {
+    let Some(next) = kind_at(field.type_item, field.number.saturating_add(1)) else {
+        return false;
+    };
+    let Some(place) = field
+        .word
+        .iter()
+        .rposition(|byte| *byte == b'.' || *byte == b':')
+    else {
+        return false;
+    };
+    let (front, behind) = field.word.split_at(place);
+    match behind {
+        [_, rest @ ..] => {
+            read_interval(field.kind, front).is_ok() && read_interval(next, rest).is_ok()
+        }
+        [] => false,
+    }
+}
+
+/// The first field of a set that a word fits.
+fn fitting_field(type_item: &[u8], word: &[u8]) -> Option<(u64, Kind)> {
+    for number in 0..16u64 {
+        let Some(kind) = kind_at(type_item, number) else {
+            return None;
+        };
+        if read_interval(kind, word).is_ok() {
+            return Some((number, kind));
+        }
+    }
+    None
+}
+
+/// What is wrong with the word at a field's place.
+fn wrong_value(field: Field<'_>) -> WrongValue<'_> {
+    if read_interval(field.kind, field.word).is_ok() {
+        return WrongValue::Several;
+    }
+    if is_joined(field) {
+        return WrongValue::Joined;
+    }
+    let wrong = wrong_interval(field.kind, field.word);
+    match fitting_field(field.type_item, field.word) {
+        Some((number, kind)) if !matches!(wrong, WrongValue::TooGreat(_)) => {
+            WrongValue::OtherField(number, kind)
+        }
+        _ => wrong,
+    }
+}
+
+/// The types of a set, as they are declared, cut if they are long.
+pub(crate) fn types_of(type_item: &[u8]) -> &[u8] {
+    let types = without_blanks(type_item.strip_prefix(b"type").unwrap_or(b""));
+    first_of(types, OF_TYPES)
+}
+
+impl Explained {
+    /// Says which field a word doesn't fit.
+    fn misfit(&mut self, field: Field<'_>) -> Result<(), Memory> {
+        self.wrong.pieces(
+            self.alloc,
+            &[
+                Piece::Word(b" doesn't fit field "),
+                Piece::Number(field.number.saturating_add(1)),
+                Piece::Word(b" ("),
+                Piece::Word(word_of(field.kind)),
+                Piece::Word(b"): "),
+            ],
+        )
+    }
+
+    /// Says what is wrong with a range or a prefix.
+    fn wrong_range(&mut self, kind: Kind, wrong: WrongValue<'_>) -> Result<(), Memory> {
+        match wrong {
+            WrongValue::LongPrefix(digits) => self.tell(
+                &[
+                    Piece::Word(b"/"),
+                    Piece::Word(shortened(digits)),
+                    Piece::Word(b" is longer than "),
+                    Piece::Word(what(kind)),
+                    Piece::Word(b", which has "),
+                    Piece::Number(u64::from(kind.bits())),
+                    Piece::Word(b" bits"),
+                ],
+                &[
+                    Piece::Word(b"write a prefix from /0 to /"),
+                    Piece::Number(u64::from(kind.bits())),
+                ],
+            ),
+            WrongValue::NoPrefix(digits) => self.tell(
+                &[
+                    Piece::Word(b"'"),
+                    Piece::Word(shortened(digits)),
+                    Piece::Word(b"' isn't a number of bits"),
+                ],
+                &[
+                    Piece::Word(b"write a prefix from /0 to /"),
+                    Piece::Number(u64::from(kind.bits())),
+                ],
+            ),
+            WrongValue::Reversed(low, high) => self.tell(
+                &[
+                    Piece::Word(shortened(low)),
+                    Piece::Word(b" is greater than "),
+                    Piece::Word(shortened(high)),
+                    Piece::Word(b", and a range begins with the smaller value"),
+                ],
+                &[
+                    Piece::Word(b"write "),
+                    Piece::Word(shortened(high)),
+                    Piece::Word(b"-"),
+                    Piece::Word(shortened(low)),
+                ],
+            ),
+            _ => self.say(
+                b"an end of the range is missing",
+                b"write both ends without blanks, as 10-20",
+            ),
+        }
+    }
+
+    /// Says what is wrong with a port.
+    fn wrong_port(&mut self, wrong: &[u8], port: u64) -> Result<(), Memory> {
+        self.tell(
+            &[Piece::Word(wrong)],
+            &[Piece::Word(b"use "), Piece::Number(port)],
+        )
+    }
+
+    /// Says that a word fits another field.
+    fn other_field(&mut self, type_item: &[u8], number: u64, kind: Kind) -> Result<(), Memory> {
+        self.tell(
+            &[
+                Piece::Word(b"it fits field "),
+                Piece::Number(number.saturating_add(1)),
+                Piece::Word(b" ("),
+                Piece::Word(word_of(kind)),
+                Piece::Word(b")"),
+            ],
+            &[
+                Piece::Word(b"the set's type is "),
+                Piece::Word(types_of(type_item)),
+            ],
+        )
+    }
+
+    /// Says what is wrong with a word at a field's place, after the field.
+    fn wrong_value(&mut self, field: Field<'_>, wrong: WrongValue<'_>) -> Result<(), Memory> {
+        let kind = field.kind;
+        match wrong {
+            WrongValue::TooGreat(number) => {
+                self.wrong.say(shortened(number))?;
+                self.say(last_of(kind), form_of(kind))
+            }
+            WrongValue::LeadingZero => self.say(b"a number has no leading zero", form_of(kind)),
+            WrongValue::OtherKind(other) => {
+                self.wrong.say(b"it is ")?;
+                self.say(what(other), form_of(kind))
+            }
+            WrongValue::OtherField(number, other) => {
+                self.other_field(field.type_item, number, other)
+            }
+            WrongValue::Joined => self.say(
+                b"it is two fields in one word",
+                b"write a '.' with blanks around it between fields, as 192.0.2.1 . 80",
+            ),
+            WrongValue::Hexadecimal(port) => self.wrong_port(b"a port is a decimal number", port),
+            WrongValue::Service(name, port) if name.len() < field.word.len() => self.tell(
+                &[Piece::Word(b"a port is a number and not a name")],
+                &[
+                    Piece::Word(b"use "),
+                    Piece::Number(port),
+                    Piece::Word(b" for '"),
+                    Piece::Word(name),
+                    Piece::Word(b"'"),
+                ],
+            ),
+            WrongValue::Service(_, port) => {
+                self.wrong_port(b"a port is a number and not a name", port)
+            }
+            WrongValue::NoValue(word) if word.len() == field.word.len() => {
+                self.wrong.say(b"it isn't ")?;
+                self.say(what(kind), form_of(kind))
+            }
+            WrongValue::NoValue(word) => self.tell(
+                &[
+                    Piece::Word(b"'"),
+                    Piece::Word(shortened(word)),
+                    Piece::Word(b"' isn't "),
+                    Piece::Word(what(kind)),
+                ],
+                &[Piece::Word(form_of(kind))],
+            ),
+            _ => self.wrong_range(kind, wrong),
+        }
+    }
+}
+
+/// The field of the set for which the next value is, if its kind is known.
+pub(crate) fn field_at<'a>(fault: Fault<'a>) -> Option<Field<'a>> {
+    let type_item = fault.set().item(b"type");
+    let number = count_of(fault.around.part, b".");
+    Some(Field {
+        word: fault.token,
+        number,
+        kind: kind_at(type_item, number)?,
+        type_item,
+    })
+}
+
+/// Explains a word at the place of a value or an interval.
+pub(crate) fn explain_value(said: &mut Explained, fault: Fault<'_>) -> Result<(), Memory> {
+    let Some(field) = field_at(fault) else {
+        return said.say(
+            b" isn't a value of this field",
+            b"write a value of the field's type",
+        );
+    };
+    match wrong_value(field) {
+        WrongValue::Several => said.say(
+            if fault.token.contains(&b'-') {
+                b" is a range, and the set has single values"
+            } else {
+                b" is a prefix, and the set has single values"
+            },
+            b"declare the set with 'flags interval'",
+        ),
+        wrong => {
+            said.misfit(field)?;
+            said.wrong_value(field, wrong)
+        }
+    }
+}
+
+/// Explains a word of a key file at the place of a value. `before` is its line up to the word.
+pub(crate) fn explain_key_value(
+    said: &mut Explained,
+    before: &[u8],
+    word: &[u8],
+) -> Result<(), Memory> {
+    said.wrong.pieces(
+        said.alloc,
+        &[
+            Piece::Word(b" isn't a value of field "),
+            Piece::Number(count_of(before, b".").saturating_add(1)),
+        ],
+    )?;
+    match port_of(word) {
+        Some(port) => said.wrong_port(b", and a port is a number and not a name", port),
+        None => said.help.say(b"write one value of the field's type, and no range or prefix"),
+    }
+}
+
+/// The name in a string.
+fn unquoted(text: &[u8]) -> &[u8] {
+    match text {
+        [b'"', name @ .., b'"'] => name,
+        _ => text,
+    }
+}
+
+/// Explains a string at the place of a value.
+pub(crate) fn explain_quoted(said: &mut Explained, fault: Fault<'_>) -> Result<(), Memory> {
+    match (field_at(fault), port_of(unquoted(fault.token))) {
+        (Some(field), Some(port)) if field.kind == Kind::Service => {
+            said.misfit(field)?;
+            said.wrong_port(b"a port is a number and not a name", port)
+        }
+        _ => said.say(
+            b" is a string, and a value is expected",
+            b"write the value without quotes",
+        ),
+    }
+}
+
+/// Explains a word at the place of a moment.
+pub(crate) fn explain_moment(said: &mut Explained, fault: Fault<'_>) -> Result<(), Memory> {
+    if read_number(fault.token, LAST_MOMENT).is_none() {
+        return said.say(
+            b" isn't a moment",
+            b"write a number of milliseconds, at most 1000000000000000",
+        );
+    }
+    said.tell(
+        &[
+            Piece::Word(b" is before the last moment, "),
+            Piece::Word(shortened(fault.around.moment)),
+        ],
+        &[Piece::Word(b"write a later moment: in a script moments never fall")],
+    )
+}

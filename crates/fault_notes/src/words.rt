@@ -1,0 +1,104 @@
+//! Takes single words out of a part of a script.
+use set_model::Kind;
+use token_forms::{Token, TokenKind, Tokens};
+
+/// The bytes of a token.
+pub(crate) fn bytes_of(text: &[u8], token: Token) -> &[u8] {
+    text.get(token.from as usize..token.to as usize)
+        .unwrap_or(b"")
+}
+
+/// Whether a token ends a statement or an item: a line feed, or a `;`.
+pub(crate) fn is_separator(kind: TokenKind, bytes: &[u8]) -> bool {
+    matches!(kind, TokenKind::Break) || bytes == b";".as_slice()
+}
+
+/// The token of this number, from 0, in a text. Line feeds aren't counted. It is empty if there is none.
+pub(crate) fn word_at(text: &[u8], number: u64) -> &[u8] {
+    let mut seen = 0u64;
+    for token in Tokens::new(text) {
+        if matches!(token.kind, TokenKind::Break) {
+            continue;
+        }
+        if seen == number {
+            return bytes_of(text, token);
+        }
+        seen = seen.saturating_add(1);
+    }
+    b""
+}
+
+/// The last token of a text that is no line feed.
+pub(crate) fn last_word(text: &[u8]) -> &[u8] {
+    let mut last = Token {
+        kind: TokenKind::End,
+        line: 1,
+        from: 0,
+        to: 0,
+    };
+    for token in Tokens::new(text) {
+        if !matches!(token.kind, TokenKind::Break | TokenKind::End) {
+            last = token;
+        }
+    }
+    bytes_of(text, last)
+}
+
+/// How often a word is in a text.
+pub(crate) fn count_of(text: &[u8], word: &[u8]) -> u64 {
+    let mut count = 0u64;
+    for token in Tokens::new(text) {
+        if bytes_of(text, token) == word {
+            count = count.saturating_add(1);
+        }
+    }
+    count
+}
+
+/// Whether one of these words is the word.
+pub(crate) fn is_one_of(word: &[u8], words: &[&[u8]]) -> bool {
+    for other in words {
+        if *other == word {
+            return true;
+        }
+    }
+    false
+}
+
+/// The item of a set that begins with this word, up to its separator. It is empty if there is none.
+pub(crate) fn item_of<'a>(items: &'a [u8], word: &[u8]) -> &'a [u8] {
+    let mut is_start = true;
+    let mut found = None;
+    for token in Tokens::new(items) {
+        let bytes = bytes_of(items, token);
+        let is_end = is_separator(token.kind, bytes);
+        match found {
+            Some(from) if is_end => return items.get(from..token.from as usize).unwrap_or(b""),
+            None if is_start && bytes == word => found = Some(token.from as usize),
+            _ => {}
+        }
+        is_start = is_end;
+    }
+    match found {
+        Some(from) => items.get(from..).unwrap_or(b""),
+        None => b"",
+    }
+}
+
+/// The kind that a word names.
+fn kind_of(word: &[u8]) -> Option<Kind> {
+    match word {
+        b"ipv4_addr" => Some(Kind::Ipv4),
+        b"ipv6_addr" => Some(Kind::Ipv6),
+        b"ether_addr" => Some(Kind::Ether),
+        b"inet_proto" => Some(Kind::Proto),
+        b"inet_service" => Some(Kind::Service),
+        b"mark" => Some(Kind::Mark),
+        _ => None,
+    }
+}
+
+/// The kind of a field, from 0, in a set's `type` item.
+pub(crate) fn kind_at(type_item: &[u8], field: u64) -> Option<Kind> {
+    kind_of(word_at(type_item, field.saturating_mul(2).saturating_add(1)))
+}
