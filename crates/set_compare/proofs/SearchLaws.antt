@@ -1,7 +1,6 @@
 -- The steps of a search, and what it shows of two sets at its end.
-use Rattle.std.proofs.Common.{◌≡◌, refl, sym, ◌∙◌, ap, subst, ℕ, ◌+◌, ◌<◌, ◌≤◌, ◌⊎◌, inl, inr, Bool, true, false, ◌||◌, ◌&&◌, not, List, [], ◌∷◌, ◌++◌, length, Option, None, Some, arith}
-use Rattle.std.specs.Prelude.{All, map, filter, take, get_or, slice_get, cond, ◌==◌, ◌↔◌, IsTrue, is_none}
-use Rattle.std.specs.List.{list_any}
+use Rattle.std.proofs.Common.{◌≡◌, refl, sym, ◌∙◌, ap, subst, ℕ, ◌+◌, ◌<◌, ◌⊎◌, inl, inr, Bool, true, false, ◌||◌, ◌&&◌, not, List, [], ◌∷◌, ◌++◌, length, Option, None, Some, arith}
+use Rattle.std.specs.Prelude.{map, filter, take, slice_get, cond, ◌==◌, ◌↔◌, IsTrue, is_none}
 use Rattle.std.proofs.lemmas.Bool.{or_cases, or_left, or_right, and_parts, and_from, not-true, not_from_false}
 use Rattle.std.proofs.lemmas.Bool.Decides.{nat_tests}
 use Rattle.std.proofs.lemmas.List.{take_more}
@@ -17,9 +16,9 @@ use Rattle.set_model.specs.SetState.{State, place}
 use Rattle.pipapo_image.proofs.AddLaws.{start-fits}
 use Rattle.set_compare.specs.Missing.{finds, is_up_to, is_missing, DecideAlike, IsLeastMissing, IsNoneMissing, IsFirstMissing}
 use Rattle.set_compare.specs.declared.missing.Lack.{Lack}
-use Rattle.set_compare.specs.Search.{in_some, volume, total_volume, AllFit, is_reached, IsWitness, IsSearched, IsSubtracted, live_regions}
+use Rattle.set_compare.specs.Search.{in_some, total_volume, AllFit, is_reached, IsWitness, IsSearched, IsSubtracted, live_regions}
 use Rattle.set_compare.proofs.CutLaws.{fit-proper, fit-long, volume-some}
-use Rattle.set_compare.proofs.HoldLaws.{up-to-trans, up-to-total, start-first, finds-not, IsHolder, holder, live-held}
+use Rattle.set_compare.proofs.HoldLaws.{up-to-trans, up-to-total, start-first, finds-not, IsHolder, live-held}
 use Rattle.set_compare.proofs.RegionLaws.{some-push, total-push}
 
 or-false : (a : Bool) → (a || false) ≡ a

@@ -1,9 +1,8 @@
 -- Worked examples of the definitions. They compute, so the proof check refuses a wrong number.
-use Rattle.std.specs.Prelude.{◌≡◌, refl, ℕ, ◌+◌, List, [], ◌∷◌, ◌++◌, map, Option, Some, None, Bool, true, false}
+use Rattle.std.specs.Prelude.{◌≡◌, refl, ℕ, List, [], ◌∷◌, ◌++◌, map, Option, Some, None, true, false}
 use Rattle.set_model.specs.declared.kind.Kind.TheVariants.{Ipv4, Service}
 use Rattle.set_model.specs.declared.kind.Interval.{Interval}
 use Rattle.set_model.specs.declared.element.Element.{Element}
-use Rattle.set_model.specs.declared.packet.Found.{Found}
 use Rattle.set_model.specs.SetState.{State, empty_set}
 use Rattle.pipapo_image.specs.Image.Found.{found}
 use Rattle.set_compare.specs.Missing.{finds, is_missing, is_up_to}

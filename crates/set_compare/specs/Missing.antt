@@ -6,7 +6,6 @@ use Rattle.std.specs.Prelude.{◌≡◌, ℕ, Bool, true, false, ◌&&◌, not, 
 use Rattle.std.specs.List.{list_any}
 use Rattle.std.specs.Ordering.{is_le, nat_cmp}
 use Rattle.std.specs.Cmp.Lexicographic.{slice_cmp}
-use Rattle.set_model.specs.declared.packet.Found.{Found}
 use Rattle.set_model.specs.Key.{key_fits}
 use Rattle.set_model.specs.SetState.{State, answers}
 use Rattle.pipapo_image.specs.Image.Found.{found}

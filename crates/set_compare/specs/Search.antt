@@ -1,5 +1,5 @@
 -- The search for the least missing key, as lists of regions. A region is one interval per field.
-use Rattle.std.specs.Prelude.{◌≡◌, ℕ, ◌+◌, ◌-◌, ◌*◌, ◌<◌, ◌≤◌, Bool, true, false, ◌||◌, ◌⊎◌, List, [], ◌∷◌, ◌++◌, Option, None, Some, map, filter, All, get_or, slice_set, MatchOption}
+use Rattle.std.specs.Prelude.{◌≡◌, ℕ, ◌+◌, ◌-◌, ◌*◌, ◌<◌, ◌≤◌, Bool, true, false, ◌||◌, ◌⊎◌, List, [], ◌∷◌, Option, None, Some, map, filter, All, get_or, slice_set, MatchOption}
 use Rattle.std.specs.List.{list_any}
 use Rattle.set_model.specs.declared.kind.Kind.{Kind}
 use Rattle.set_model.specs.declared.kind.Interval.{Interval}

@@ -30,9 +30,11 @@
 #![tactic(auto)]
 
 mod difference;
+mod kinds;
 mod missing;
 mod region;
 mod search;
 
 pub use difference::{Difference, compare};
+pub use kinds::have_same_kinds;
 pub use missing::{Lack, first_missing};

@@ -1,4 +1,3 @@
-use Rattle.std.proofs.Common.{sym}
 use Rattle.set_compare.proofs.SearchLaws.{alike-law}
 use Rattle.set_compare.proofs.difference.compare.Goals as goal
 

@@ -1,6 +1,6 @@
-use Rattle.std.proofs.Common.{◌≡◌, sym, ◌∙◌, ap, subst, Option, Some, None, List, ℕ, [], true, false, not}
+use Rattle.std.proofs.Common.{sym, ◌∙◌, subst, Option, None, List, ℕ, [], not}
 use Rattle.std.proofs.lemmas.Bool.{and_parts}
-use Rattle.set_compare.specs.Missing.{finds, IsLeastMissing}
+use Rattle.set_compare.specs.Missing.{finds}
 use Rattle.set_compare.specs.Search.{IsSearched, live_regions}
 use Rattle.set_compare.proofs.HoldLaws.{found-not}
 use Rattle.set_compare.proofs.SearchLaws.{none-missing, least-missing}

@@ -1,4 +1,4 @@
-use Rattle.std.proofs.Common.{◌≡◌, sym, ◌∙◌, ap, subst, None, [], ◌∷◌, take, ◌+◌, true, false}
+use Rattle.std.proofs.Common.{◌≡◌, sym, ◌∙◌, subst, None, [], take, ◌+◌, true, false}
 use Rattle.set_model.specs.Expiry.{live}
 use Rattle.set_compare.specs.declared.search.Search.{Search}
 use Rattle.set_compare.specs.Search.{IsSearched, live_regions}

@@ -1,7 +1,7 @@
 use Rattle.std.proofs.Common.{◌≡◌, sym, ◌∙◌, ap, subst, ℕ, List, ◌∷◌, Some, None, true, false}
 use Rattle.std.proofs.lemmas.List.Elements.{All-tail}
 use Rattle.set_model.specs.declared.kind.Interval.{Interval}
-use Rattle.set_model.specs.Key.{key_fits, parts_fit, parts_hold, start_key}
+use Rattle.set_model.specs.Key.{key_fits, parts_fit, start_key}
 use Rattle.pipapo_image.proofs.AddLaws.{start-fits}
 use Rattle.set_model.specs.SetState.{place}
 use Rattle.set_compare.specs.Search.{is_reached, IsSearched}

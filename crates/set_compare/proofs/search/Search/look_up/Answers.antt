@@ -1,4 +1,4 @@
-use Rattle.std.proofs.Common.{◌≡◌, [], ◌∷◌}
+use Rattle.std.proofs.Common.{[], ◌∷◌}
 use Rattle.set_compare.specs.Search.{total_volume}
 use Rattle.set_compare.proofs.SearchLaws.{searched-step, fit-step, volume-step}
 use Rattle.set_compare.proofs.search.Search.look_up.Goals as goal
