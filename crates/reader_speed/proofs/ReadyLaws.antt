@@ -1,5 +1,5 @@
 -- Readers that have seen all generations serve packets of declared sets.
-use Rattle.std.proofs.Common.{◌≡◌, ◌<◌, ◌≤◌, length, List, All, Option, Some, ap, sym, ◌∙◌, subst}
+use Rattle.std.proofs.Common.{◌<◌, ◌≤◌, length, List, All, Option, ap, sym, ◌∙◌, subst}
 use Rattle.std.proofs.lemmas.Option.{same_Some, slice_get-get_or}
 use Rattle.set_model.specs.declared.packet.Packet.{Packet}
 use Rattle.set_model.specs.Runnable.{IsFitting}

@@ -1,8 +1,10 @@
-ghost use Rattle.std.specs.Prelude.{◌≡◌, ◌+◌, ◌<◌, ◌≤◌, ◌^◌, ◌∷◌, [], false, length, All, IfOk};
+ghost use Rattle.std.specs.Prelude.{◌≡◌, ◌+◌, ◌++◌, ◌<◌, ◌≤◌, ◌^◌, ◌∷◌, [], false, length, All, IfOk, OnOk};
 ghost use Rattle.set_model.specs.Control.{KeepGoing, first_generation, start as begins, section};
 ghost use Rattle.set_model.specs.Runnable.{IsFitting, IsRunnableStep, EndsClosed};
 ghost use Rattle.set_space.specs.Open.{opened};
+ghost use Rattle.packet_pool.specs.declared.section.SectionResult.{SectionResult};
 ghost use Rattle.packet_pool.specs.Work.{AllReady};
+ghost use Rattle.set_report.specs.SummaryText.{summary_text};
 ghost use Rattle.script_run.specs.Drill.{drill_text, IsDrilled};
 
 use crate::telling::Telling;
@@ -71,6 +73,41 @@ fn answer_behind<R: Threads + Sync, G: Gate>(
     Ok(SectionResult { events, lines })
 }
 
+/// Does the steps on a run before its first step, looks the packets up behind them, and writes the line.
+fn tell_drill<R: Threads + Sync, G: Gate>(
+    rt: &R,
+    alloc: Global,
+    telling: &mut Telling,
+    steps: &Steps,
+    packets: &Packets,
+    gate: &G,
+) -> Result<(), Memory>
+    requires begun { (telling.old.control.committed ≡ first_generation telling.old.control.schema ∷ []) × (telling.old.control.work ≡ opened (first_generation telling.old.control.schema)) }
+    requires readers { (0 < length telling.old.readers.items) × (length telling.old.readers.items ≤ 16) × AllReady telling.old.control telling.old.readers.items }
+    requires steps { All (IsRunnableStep telling.old.control.schema) steps.now }
+    requires closed { EndsClosed steps.now }
+    requires packets { All (IsFitting telling.old.control.schema) packets.now }
+    requires room { length packets.now < 2 ^ 64 }
+    ensures told { OnOk result ((told : SectionResult) × IsDrilled (section KeepGoing (begins telling.old.control.schema) steps.now) packets.now telling.new.control told × (telling.new.output.text.items ≡ telling.old.output.text.items ++ summary_text told.events told.lines telling.new.control.work.base)) }
+    ensures refused { OnOk result (telling.new.output.refused ≡ telling.old.output.refused) }
+{
+    let told = answer_behind(
+        rt,
+        alloc,
+        &mut telling.control,
+        &mut telling.readers,
+        steps,
+        packets,
+        gate,
+    )?;
+    write_summary(
+        &told.events,
+        &told.lines,
+        telling.control.generation(),
+        &mut telling.output.text,
+    )
+}
+
 /// Runs the generated workload of a seed: `count` elements, and as many packets on so many threads.
 /// Refused changes are skipped. The text is one line, which doesn't depend on the number of threads.
 ///
@@ -96,20 +133,6 @@ pub fn drill<R: Threads + Sync, G: Gate>(
         ..
     } = script;
     let mut telling = Telling::new(alloc, schema, threads)?;
-    let told = answer_behind(
-        rt,
-        alloc,
-        &mut telling.control,
-        &mut telling.readers,
-        sections.at(0),
-        keys.at(0),
-        gate,
-    )?;
-    write_summary(
-        &told.events,
-        &told.lines,
-        telling.control.generation(),
-        &mut telling.output.text,
-    )?;
+    tell_drill(rt, alloc, &mut telling, sections.at(0), keys.at(0), gate)?;
     Ok(telling.output)
 }

@@ -1,4 +1,4 @@
-ghost use Rattle.std.specs.Prelude.{◌≡◌, ◌+◌, ◌<◌, ◌≤◌, [], List, length, max, All, IfOk};
+ghost use Rattle.std.specs.Prelude.{◌≡◌, ◌++◌, ◌+◌, ◌<◌, ◌≤◌, [], List, length, max, All, IfOk};
 ghost use Rattle.std.specs.List.{list_any};
 ghost use Rattle.set_model.specs.Control.{mode_of, has_refusal, is_refusal};
 ghost use Rattle.set_model.specs.Legal.{AreLegal, Legal};
@@ -8,7 +8,9 @@ ghost use Rattle.set_model.specs.declared.report.Line.{Line as PacketLine};
 ghost use Rattle.rule_chain.specs.Judged.{IsJudged};
 ghost use Rattle.rule_chain.specs.JudgedText.{judged_text};
 ghost use Rattle.set_report.specs.Remarks.{remarks_text};
-ghost use Rattle.set_report.specs.Writes.{NamesSet};
+ghost use Rattle.set_report.specs.DumpText.{dump_text};
+ghost use Rattle.set_report.specs.ListText.{list_text};
+ghost use Rattle.set_report.specs.Writes.{AreSetsOf, NamesSet};
 ghost use Rattle.script_run.specs.Listings.{listing_text, tables_text};
 ghost use Rattle.script_laws.specs.Sections.{section_at};
 ghost use Rattle.script_run.specs.Telling.{IsAnsweredBy};
@@ -157,6 +159,37 @@ fn remarks(alloc: Global, schema: &Schema, events: &Events) -> Result<Output, Me
     })
 }
 
+/// The last generation of a run as a script, at a moment, after the events.
+fn list_of(alloc: Global, whole: &Whole, last: u64) -> Result<Output, Memory>
+    requires named { All (NamesSet (length whole.now.control.schema)) whole.now.events }
+    requires sets { AreSetsOf whole.now.control.schema whole.now.control.work.base.sets }
+    ensures text { IfOk result (λ out. out.text.items ≡ remarks_text whole.now.control.schema whole.now.events ++ list_text whole.now.control.schema whole.now.control.work.base.sets last) }
+    ensures refused { IfOk result (λ out. out.refused ≡ list_any is_refusal whole.now.events) }
+{
+    let control = &whole.control;
+    let mut output = remarks(alloc, control.schema(), &whole.events)?;
+    write_list(
+        control.schema(),
+        control.generation(),
+        last,
+        &mut output.text,
+    )?;
+    Ok(output)
+}
+
+/// The tables of the last generation of a run, after the events.
+fn dump_of(alloc: Global, whole: &Whole) -> Result<Output, Memory>
+    requires named { All (NamesSet (length whole.now.control.schema)) whole.now.events }
+    requires sets { AreSetsOf whole.now.control.schema whole.now.control.work.base.sets }
+    ensures text { IfOk result (λ out. out.text.items ≡ remarks_text whole.now.control.schema whole.now.events ++ dump_text whole.now.control.schema whole.now.control.work.base.sets) }
+    ensures refused { IfOk result (λ out. out.refused ≡ list_any is_refusal whole.now.events) }
+{
+    let control = &whole.control;
+    let mut output = remarks(alloc, control.schema(), &whole.events)?;
+    write_dump(control.schema(), control.generation(), &mut output.text)?;
+    Ok(output)
+}
+
 /// Runs a script, and lists its last generation as a script.
 ///
 /// # Errors
@@ -174,15 +207,7 @@ pub fn listing<G: Gate>(
 {
     let last = script.last;
     let whole = Whole::run(alloc, script, keep_going, gate)?;
-    let control = &whole.control;
-    let mut output = remarks(alloc, control.schema(), &whole.events)?;
-    write_list(
-        control.schema(),
-        control.generation(),
-        last,
-        &mut output.text,
-    )?;
-    Ok(output)
+    list_of(alloc, &whole, last)
 }
 
 /// Runs a script, and shows the tables of its last generation.
@@ -201,8 +226,5 @@ pub fn dump<G: Gate>(
     ensures refused { IfOk result (λ out. out.refused ≡ has_refusal (mode_of keep_going) script) }
 {
     let whole = Whole::run(alloc, script, keep_going, gate)?;
-    let control = &whole.control;
-    let mut output = remarks(alloc, control.schema(), &whole.events)?;
-    write_dump(control.schema(), control.generation(), &mut output.text)?;
-    Ok(output)
+    dump_of(alloc, &whole)
 }

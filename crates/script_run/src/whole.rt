@@ -1,13 +1,14 @@
-ghost use Rattle.std.specs.Prelude.{◌≡◌, ◌++◌, [], false, length, All, IfOk, OnOk};
-ghost use Rattle.set_model.specs.Control.{mode_of, history};
-ghost use Rattle.set_model.specs.Runnable.{IsRunnable};
+ghost use Rattle.std.specs.Prelude.{◌≡◌, ◌++◌, ◌≤◌, ◌^◌, [], false, List, length, All, IfOk, OnOk};
+ghost use Rattle.set_model.specs.declared.report.Event.{Event};
+ghost use Rattle.set_model.specs.Control.{mode_of, history, start as begins};
+ghost use Rattle.set_model.specs.Runnable.{EndsClosed, HasFields, IsRunnable, IsRunnableStep};
 ghost use Rattle.set_report.specs.Writes.{NamesSet, AreSetsOf};
-ghost use Rattle.packet_pool.specs.Running.{run, StandsAt};
+ghost use Rattle.packet_pool.specs.Running.{run, Ran, StandsAt};
 
 use gen_publish::{Control, start};
 use packet_pool::{Gate, run_steps};
 use script_laws::has_numbers;
-use set_model::{Events, Memory, Script};
+use set_model::{Events, Memory, Schema, Script, Sections, Steps};
 use std::alloc::Global;
 
 /// A script that was run to its end, and all its events.
@@ -48,19 +49,64 @@ impl Whole {
             sections,
             ..
         } = script;
-        let (mut control, _readers) = start(alloc, schema, 1)?;
-        let mut events = Events::new(alloc);
+        let mut whole = Whole::new(alloc, schema)?;
+        whole.do_sections(alloc, &sections, keep_going, gate)?;
+        Ok(whole)
+    }
+
+    /// A run before its first section.
+    fn new(alloc: Global, schema: Schema) -> Result<Whole, Memory>
+        requires sets { All HasFields schema }
+        requires few_sets { length schema ≤ 2 ^ 32 }
+        ensures stands { IfOk result (λ whole. StandsAt [] (begins schema) (run whole.control false whole.events)) }
+        ensures schema { IfOk result (λ whole. whole.control.schema ≡ schema) }
+    {
+        let (control, _readers) = start(alloc, schema, 1)?;
+        Ok(Whole {
+            control,
+            events: Events::new(alloc),
+        })
+    }
+
+    /// Does sections, one after another.
+    fn do_sections<G: Gate>(
+        &mut self,
+        alloc: Global,
+        sections: &Sections,
+        keep_going: bool,
+        gate: &G,
+    ) -> Result<(), Memory>
+        requires stands { StandsAt [] (begins self.old.control.schema) (run self.old.control false self.old.events) }
+        requires steps { All (All (IsRunnableStep self.old.control.schema)) sections.now }
+        requires closed { All EndsClosed sections.now }
+        ensures stands { OnOk result (StandsAt [] (history (mode_of keep_going) self.old.control.schema sections.now) (run self.new.control false self.new.events)) }
+        ensures schema { OnOk result (self.new.control.schema ≡ self.old.control.schema) }
+    {
         let last = sections.len().saturating_sub(1);
         let mut number = 0;
         'sections: for steps in sections.as_slice() {
             gate.section(number, last, 0);
             number = number.saturating_add(1);
-            if !has_numbers(&control, steps.len()) {
-                return Err(Memory);
-            }
-            let told = run_steps(alloc, &mut control, steps, keep_going, gate)?;
-            add_all(&mut events, &told)?;
+            self.do_section(alloc, steps, keep_going, gate)?;
         }
-        Ok(Whole { control, events })
+        Ok(())
+    }
+
+    /// Does one section.
+    fn do_section<G: Gate>(
+        &mut self,
+        alloc: Global,
+        steps: &Steps,
+        keep_going: bool,
+        gate: &G,
+    ) -> Result<(), Memory>
+        requires { All (IsRunnableStep self.old.control.schema) steps.now }
+        ensures { OnOk result ((told : List Event) × Ran keep_going steps.now self.old.control self.new.control told × (self.new.events ≡ self.old.events ++ told)) }
+    {
+        if !has_numbers(&self.control, steps.len()) {
+            return Err(Memory);
+        }
+        let told = run_steps(alloc, &mut self.control, steps, keep_going, gate)?;
+        add_all(&mut self.events, &told)
     }
 }

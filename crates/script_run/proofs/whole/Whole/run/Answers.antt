@@ -1,35 +1,18 @@
-use Rattle.std.proofs.Common.{◌∙◌, [], List, All, subst, sym, take, false}
-use Rattle.set_model.specs.declared.report.Event.{Event}
+use Rattle.std.proofs.Common.{[], List, subst, false}
 use Rattle.set_model.specs.declared.script.SetDecl.{SetDecl}
-use Rattle.set_model.specs.Control.{mode_of, start}
+use Rattle.set_model.specs.Control.{history, mode_of}
 use Rattle.packet_pool.specs.Running.{StandsAt, run}
-use Rattle.set_model.specs.Runnable.{EndsClosed, IsRunnableStep}
-use Rattle.script_laws.proofs.Lists.{of-place}
-use Rattle.script_laws.proofs.RunLaws.{events_declared, sets_declared, start_stands, next_stands}
+use Rattle.script_laws.proofs.RunLaws.{events_declared, sets_declared}
 use Rattle.script_run.proofs.whole.Whole.run.Goals as goal
 
-pub sections-init : goal.sections-init
-sections-init g c = let e = c.in_ok-control.ensures.control in record {
-  stands = subst (λ (z : List Event). StandsAt [] (start c.args.script.schema) (run c.in_ok-control.control false z)) (sym c.new-events.ensures) (start_stands c.args.script.schema c.in_ok-control.control e.2 e.3);
-  schema_is = e.0;
-}
-
-pub run_steps-requires-clause-steps : goal.run_steps-requires-clause-steps
-run_steps-requires-clause-steps g c κs within =
-    subst (λ (s : List SetDecl). All (IsRunnableStep s) c.steps-item.result) (sym c.sections.invariant.schema_is)
-    (of-place (All (IsRunnableStep c.args.script.schema)) c.as_slice-steps-items.result.now c.args.script.sections c.sections.steps-index c.steps-item.result c.as_slice-steps-items.ensures c.sections-test.true c.steps-item.is c.requires.script.steps)
-
-pub sections-preserved : goal.sections-preserved
-sections-preserved g c = record {
-  stands = next_stands c.args.keep_going c.args.script.schema c.as_slice-steps-items.result.now c.sections.steps-index c.steps-item.result c.sections.control c.run_steps.new.control c.sections.events c.in_ok-told.told c.add_all.new.events
-      c.sections-test.true c.steps-item.is
-      (of-place EndsClosed c.as_slice-steps-items.result.now c.args.script.sections c.sections.steps-index c.steps-item.result c.as_slice-steps-items.ensures c.sections-test.true c.steps-item.is c.requires.script.closed)
-      c.sections.invariant.stands c.in_ok-told.ensures.ok c.in_ok-add_all.ensures;
-  schema_is = c.in_ok-told.ensures.ok.goes_on.schema_is ∙ c.sections.invariant.schema_is;
-}
-
 pub returns-clause-named : goal.returns-clause-named
-returns-clause-named g c = events_declared (mode_of c.args.keep_going) c.args.script.schema (take c.sections.steps-index c.as_slice-steps-items.result.now) c.sections.control c.sections.events c.sections.invariant.stands
+returns-clause-named g c =
+    let new = c.do_sections.new.self in
+    events_declared (mode_of c.args.keep_going) c.args.script.schema c.args.script.sections new.control new.events
+    (subst (λ (z : List SetDecl). StandsAt [] (history (mode_of c.args.keep_going) z c.args.script.sections) (run new.control false new.events)) c.in_ok-whole.ensures.schema c.in_ok-do_sections.ensures.stands)
 
 pub returns-clause-sets : goal.returns-clause-sets
-returns-clause-sets g c = sets_declared (mode_of c.args.keep_going) c.args.script.schema (take c.sections.steps-index c.as_slice-steps-items.result.now) c.sections.control c.sections.events c.sections.invariant.stands
+returns-clause-sets g c =
+    let new = c.do_sections.new.self in
+    sets_declared (mode_of c.args.keep_going) c.args.script.schema c.args.script.sections new.control new.events
+    (subst (λ (z : List SetDecl). StandsAt [] (history (mode_of c.args.keep_going) z c.args.script.sections) (run new.control false new.events)) c.in_ok-whole.ensures.schema c.in_ok-do_sections.ensures.stands)
