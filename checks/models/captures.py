@@ -189,7 +189,7 @@ class Fault(Exception):
 
 def clock(order, byte, options):
     """The units of a second and the seconds of the time 0."""
-    units, offset = 1000000, 0
+    units = offset = None
     while len(options) >= 4:
         code, size = struct.unpack(order + "HH", options[:4])
         if code == 0:
@@ -198,13 +198,14 @@ def clock(order, byte, options):
         if len(options) < 4 + size + -size % 4 or code in (9, 14) and size != (1 if code == 9 else 8):
             raise Fault(byte, "options")
         if code == 9:
-            units = 10 ** value[0] if value[0] < 128 else 2 ** (value[0] - 128)
-            if units >= 1 << 64:
+            found = 10 ** value[0] if value[0] < 128 else 2 ** (value[0] - 128)
+            if found >= 1 << 64:
                 raise Fault(byte, "options")
-        elif code == 14:
+            units = found if units is None else units
+        elif code == 14 and offset is None:
             offset = struct.unpack(order + "q", value)[0]
         options = rest
-    return units, offset
+    return units or 1000000, offset or 0
 
 
 class Sections:

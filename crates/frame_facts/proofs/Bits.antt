@@ -1,5 +1,5 @@
 -- Facts have the bits of their fields: a number of n bytes is below 256 to the power of n.
-use Rattle.std.proofs.Common.{◌≡◌, inl, inr, sym, subst, ℕ, zero, suc, ◌+◌, ◌*◌, ◌<◌, ◌≤◌, ◌^◌, List, length, drop, slice_index, nat_lt, nat_le, ◌==◌, ◌&&◌, not, Bool, true, false, ◌⊎◌, Option, Some, None, arith}
+use Rattle.std.proofs.Common.{inl, inr, ℕ, zero, suc, ◌<◌, ◌≤◌, ◌^◌, List, length, drop, slice_index, nat_lt, nat_le, ◌==◌, ◌&&◌, not, Bool, true, false, ◌⊎◌, Option, Some, None, arith}
 use Rattle.std.specs.Prelude.{IfSome, if◌then◌else◌}
 use Rattle.std.specs.List.{All}
 use Rattle.std.proofs.lemmas.Bool.{cases_lt}
@@ -11,8 +11,8 @@ use Rattle.frame_facts.specs.declared.facts.Transport.{Transport}
 use Rattle.frame_facts.specs.declared.link.Link.{Link}
 use Rattle.frame_facts.specs.declared.link.Link.TheVariants as links
 use Rattle.frame_facts.specs.Wire.{number_at}
-use Rattle.frame_facts.specs.Transports.{has_ports, ports_of, whole, later, is_extension, is_later_fragment, extension_size, later_fragment, after_headers}
-use Rattle.frame_facts.specs.Ip.{is_ipv4, is_ipv6, ipv4_header, fragment_offset, ipv4_transport, ipv6_transport, ipv4_facts, ipv6_facts, ipv4, ipv6, has_version}
+use Rattle.frame_facts.specs.Transports.{has_ports, whole, later, is_extension, is_later_fragment, extension_size, later_fragment, after_headers}
+use Rattle.frame_facts.specs.Ip.{is_ipv4, is_ipv6, ipv4_header, fragment_offset, ipv4_facts, ipv6_facts, ipv4, ipv6, has_version}
 use Rattle.frame_facts.specs.Links.{by_type, is_tag, one_tag, two_tags, ether_addresses, has_ether_type, facts}
 use Rattle.frame_facts.specs.Values.{proto_of, ports_in, HaveBits, HaveFieldBits}
 

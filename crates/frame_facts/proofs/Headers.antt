@@ -1,5 +1,5 @@
 -- The walk over the extension headers of IPv6, header by header.
-use Rattle.std.proofs.Common.{◌≡◌, refl, sym, ◌∙◌, ap, subst, ℕ, zero, suc, ◌-◌, ◌<◌, ◌≤◌, List, length, drop, slice_index, nat_lt, not, true, false, Option, Some, None, arith, length-drop}
+use Rattle.std.proofs.Common.{◌≡◌, refl, sym, ◌∙◌, ℕ, zero, suc, ◌<◌, ◌≤◌, List, length, drop, slice_index, true, false, Option, Some, None, arith, length-drop}
 use Rattle.std.proofs.lemmas.Bool.{lt-ltb, le-ltb}
 use Rattle.frame_facts.specs.declared.facts.Transport.{Transport}
 use Rattle.frame_facts.specs.Transports.{whole, is_extension, is_later_fragment, extension_size, later_fragment, after_headers}

@@ -1,5 +1,5 @@
 -- The walk over the options of an interface, option by option.
-use Rattle.std.proofs.Common.{◌≡◌, refl, sym, ◌∙◌, ap, subst, ℕ, zero, suc, ◌+◌, ◌-◌, ◌<◌, ◌≤◌, List, length, take, drop, nat_lt, not, true, false, Option, Some, None, arith, length-drop}
+use Rattle.std.proofs.Common.{◌≡◌, refl, sym, ◌∙◌, ap, ℕ, zero, suc, ◌<◌, ◌≤◌, List, length, take, drop, true, false, Option, Some, None, arith, length-drop}
 use Rattle.std.proofs.lemmas.Bool.{lt-ltb, le-ltb}
 use Rattle.pcap_keys.specs.declared.format.Order.{Order}
 use Rattle.pcap_keys.specs.declared.clock.Clock.{Clock}

@@ -1,5 +1,5 @@
 -- A packet whose kept bytes are within its block is read.
-use Rattle.std.proofs.Common.{◌≡◌, refl, sym, ◌∙◌, ap, subst, ℕ, ◌-◌, ◌≤◌, List, length, take, drop, nat_lt, Option, Some, Result, Ok}
+use Rattle.std.proofs.Common.{◌≡◌, refl, sym, ◌∙◌, ap, subst, ℕ, ◌-◌, ◌≤◌, List, length, take, drop, Option, Some, Result, Ok}
 use Rattle.std.proofs.lemmas.Bool.{le-ltb}
 use Rattle.frame_facts.specs.declared.facts.Facts.{Facts}
 use Rattle.frame_facts.specs.Links.{facts}

@@ -8,7 +8,6 @@ use Rattle.pcap_keys.specs.declared.error.CaptureReason.{CaptureReason}
 use Rattle.pcap_keys.specs.declared.error.CaptureReason.TheVariants as reasons
 use Rattle.pcap_keys.specs.declared.selector.Selector.TheVariants.{IpSource, DestPort, EtherSource}
 use Rattle.pcap_keys.specs.declared.selector.PlanLine.{PlanLine}
-use Rattle.frame_facts.specs.declared.facts.Transport.{Transport}
 use Rattle.frame_facts.specs.Wire.{number_at}
 use Rattle.pcap_keys.specs.Savefile.{number, is_whole}
 use Rattle.pcap_keys.specs.Clocks.{with_option}

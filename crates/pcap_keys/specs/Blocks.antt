@@ -1,5 +1,5 @@
 -- The blocks of pcapng: their headers, and what interfaces say (draft-ietf-opsawg-pcapng, "General Block Structure").
-use Rattle.std.specs.Prelude.{ℕ, ◌+◌, ◌-◌, ◌%◌, Bool, not, ◌&&◌, ◌||◌, ◌==◌, nat_lt, nat_le, if◌then◌else◌, List, length, take, drop, Option, Some, None, Result, Ok, Err}
+use Rattle.std.specs.Prelude.{ℕ, ◌+◌, ◌-◌, ◌%◌, Bool, not, ◌&&◌, ◌==◌, nat_lt, nat_le, if◌then◌else◌, List, length, take, drop, Option, Some, None, Result, Ok, Err}
 use Rattle.frame_facts.specs.declared.link.Link.{Link}
 use Rattle.frame_facts.specs.Links.{link_of}
 use Rattle.pcap_keys.specs.declared.format.Order.{Order}
@@ -11,7 +11,6 @@ use Rattle.pcap_keys.specs.declared.block.Header.{Header}
 use Rattle.pcap_keys.specs.declared.interface.Interface.{Interface}
 use Rattle.pcap_keys.specs.declared.error.CaptureError.{CaptureError}
 use Rattle.pcap_keys.specs.declared.error.CaptureError.TheVariants.{Bad}
-use Rattle.pcap_keys.specs.declared.error.CaptureReason.{CaptureReason}
 use Rattle.pcap_keys.specs.declared.error.CaptureReason.TheVariants as reasons
 use Rattle.pcap_keys.specs.Savefile.{number}
 use Rattle.pcap_keys.specs.Clocks.{usual, options}

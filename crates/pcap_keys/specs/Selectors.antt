@@ -1,5 +1,5 @@
 -- The selectors of a plan: the words that name them, their kinds, and what they select.
-use Rattle.std.specs.Prelude.{ℕ, List, Bool, true, not, is_some, Option, Some, None, codes, bytes_eq, if◌then◌else◌}
+use Rattle.std.specs.Prelude.{ℕ, List, Bool, not, is_some, Option, Some, None, codes, bytes_eq, if◌then◌else◌}
 use Rattle.set_model.specs.declared.kind.Kind.{Kind}
 use Rattle.set_model.specs.declared.kind.Kind.TheVariants as kinds
 use Rattle.frame_facts.specs.declared.facts.Facts.{Facts}

@@ -8,19 +8,30 @@ use crate::place::from_place;
 /// How the times of an interface count.
 #[derive(Clone, Copy, Debug, PartialEq, Eq)]
 pub struct Clock {
-    /// How many units a second has.
-    pub units: u64,
-    /// The seconds of the time 0, counted from 2^63 seconds before 1970.
-    pub offset: u64,
+    /// How many units a second has, if an option says so; else 1,000,000.
+    pub units: Option<u64>,
+    /// The seconds of the time 0, counted from 2^63 seconds before 1970, if an option says so; else the
+    /// time 0 begins 1970.
+    pub offset: Option<u64>,
 }
 
-/// Microseconds from 1970 on.
+/// The clock of an interface without options.
 fn usual() -> Clock
     ensures { result ≡ clocks.usual }
 {
     Clock {
-        units: 1_000_000,
-        offset: 1 << 63,
+        units: None,
+        offset: None,
+    }
+}
+
+/// What an earlier option said, or else this.
+fn first_said(before: Option<u64>, value: u64) -> u64
+    ensures { result ≡ clocks.first_said before value }
+{
+    match before {
+        Some(before) => before,
+        None => value,
     }
 }
 
@@ -57,7 +68,7 @@ fn with_option(order: Order, code: u16, value: &[u8], clock: Clock) -> Option<Cl
             if value.len() == 8 {
                 Some(Clock {
                     units: clock.units,
-                    offset: offset_of(order, value),
+                    offset: Some(first_said(clock.offset, offset_of(order, value))),
                 })
             } else {
                 None
@@ -72,7 +83,7 @@ fn with_units(clock: Clock, units: Option<u64>) -> Option<Clock>
 {
     match units {
         Some(units) => Some(Clock {
-            units,
+            units: Some(first_said(clock.units, units)),
             offset: clock.offset,
         }),
         None => None,
@@ -136,9 +147,10 @@ pub fn clock_of(order: Order, options: &[u8]) -> Option<Clock>
 pub fn time(clock: Clock, stamp: u64) -> u128
     ensures { result ≡ clocks.time clock stamp }
 {
-    let after = match (u128::from(stamp) * 1_000).checked_div(u128::from(clock.units)) {
+    let units = u128::from(first_said(clock.units, 1_000_000));
+    let after = match (u128::from(stamp) * 1_000).checked_div(units) {
         Some(after) => after,
         None => 0,
     };
-    after + u128::from(clock.offset) * 1_000
+    after + u128::from(first_said(clock.offset, 1 << 63)) * 1_000
 }

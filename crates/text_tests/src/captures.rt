@@ -266,7 +266,8 @@ const ETHERNET_FRAMES: &[u8] = b"\
 ";
 
 // no packet; times in microseconds, and their high half; simple packets without an interface's limit, and with limits of 24
-// and 20 bytes; times in milliseconds, in 1024ths and in nanoseconds; an interface whose clock starts a second early; a
+// and 20 bytes; times in milliseconds, also by the
+// first of two options, in 1024ths and in nanoseconds; an interface whose clock starts a second early; a
 // comment, and the end of options; two sections; blocks that are skipped; and version 1.2
 /// Files of pcapng.
 const SECTIONS: &[u8] = b"\
@@ -278,6 +279,7 @@ const SECTIONS: &[u8] = b"\
     section 01000000 14000000 65000000 18000000 14000000 03000000 28000000 1c000000 ipv4 addresses ports 28000000|0 4 3232235781 167772165 17 1234 2048;~\
     section 01000000 14000000 65000000 14000000 14000000 03000000 24000000 1c000000 ipv4 addresses 24000000|0 4 3232235781 167772165 17;~\
     section 01000000 20000000 65000000 zero 09000100 03000000 00000000 20000000 06000000 3c000000 zero zero 05000000 1c000000 1c000000 ipv4 addresses ports udp 3c000000 06000000 3c000000 zero zero ed030000 1c000000 1c000000 ipv4 addresses ports udp 3c000000|0 4 3232235781 167772165 17 1234 2048;1000 4 3232235781 167772165 17 1234 2048;~\
+    section 01000000 24000000 65000000 zero 09000100 03000000 09000100 06000000 24000000 06000000 3c000000 zero zero zero 1c000000 1c000000 ipv4 addresses ports udp 3c000000 06000000 3c000000 zero zero e8030000 1c000000 1c000000 ipv4 addresses ports udp 3c000000|0 4 3232235781 167772165 17 1234 2048;1000 4 3232235781 167772165 17 1234 2048;~\
     section 01000000 1c000000 65000000 zero 09000100 8a000000 1c000000 06000000 3c000000 zero zero zero 1c000000 1c000000 ipv4 addresses ports udp 3c000000 06000000 3c000000 zero zero 01000000 1c000000 1c000000 ipv4 addresses ports udp 3c000000 06000000 3c000000 zero zero 00020000 1c000000 1c000000 ipv4 addresses ports udp 3c000000|0 4 3232235781 167772165 17 1234 2048;0 4 3232235781 167772165 17 1234 2048;500 4 3232235781 167772165 17 1234 2048;~\
     section 01000000 1c000000 65000000 zero 09000100 09000000 1c000000 06000000 3c000000 zero zero zero 1c000000 1c000000 ipv4 addresses ports udp 3c000000 06000000 3c000000 zero zero 40420f00 1c000000 1c000000 ipv4 addresses ports udp 3c000000|0 4 3232235781 167772165 17 1234 2048;1 4 3232235781 167772165 17 1234 2048;~\
     section interface 01000000 20000000 65000000 zero 0e000800 ffffffffffffffff 20000000 06000000 3c000000 zero zero zero 1c000000 1c000000 ipv4 addresses ports udp 3c000000 06000000 3c000000 01000000 zero c0c62d00 1c000000 1c000000 ipv4 addresses ports udp 3c000000 06000000 3c000000 01000000 zero zero 1c000000 1c000000 ipv4 addresses ports udp 3c000000|0 4 3232235781 167772165 17 1234 2048;2000 4 3232235781 167772165 17 1234 2048;0 4 3232235781 167772165 17 1234 2048;~\
@@ -368,7 +370,7 @@ fn captures(rt: HostRuntime) {
 
 #[test]
 fn sections(rt: HostRuntime) {
-    assert_told(&rt, rt.alloc(), SECTIONS, 16, told_capture);
+    assert_told(&rt, rt.alloc(), SECTIONS, 17, told_capture);
     assert_told(&rt, rt.alloc(), SECTION_FAULTS, 25, told_capture);
 }
 

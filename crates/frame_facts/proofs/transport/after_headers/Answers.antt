@@ -1,5 +1,5 @@
-use Rattle.std.proofs.Common.{◌≡◌, sym, ◌∙◌, ap, subst, ◌≤◌, ◌+◌, ℕ, suc, List, length, Some, true, false, drop, slice_index}
-use Rattle.frame_facts.specs.Transports.{is_extension, is_later_fragment, extension_size, later_fragment, after_headers}
+use Rattle.std.proofs.Common.{◌≡◌, sym, ◌∙◌, ap, subst, ◌≤◌, ℕ, suc, List, length, Some, true, false, drop, slice_index}
+use Rattle.frame_facts.specs.Transports.{is_extension, is_later_fragment, extension_size, after_headers}
 use Rattle.frame_facts.proofs.Headers.{Left, left_start, left_done, left_cut, left_later, left_next}
 use Rattle.frame_facts.proofs.transport.after_headers.Goals as goal
 

@@ -1,4 +1,4 @@
-use Rattle.std.proofs.Common.{◌≡◌, sym, ◌∙◌, ap, subst, ◌<◌, ◌≤◌, ℕ, List, length, Option, Some, None, true, false, drop}
+use Rattle.std.proofs.Common.{◌≡◌, sym, ◌∙◌, ap, subst, ◌<◌, ◌≤◌, ℕ, List, length, true, false, drop}
 use Rattle.pcap_keys.specs.declared.clock.Clock.{Clock}
 use Rattle.pcap_keys.specs.Clocks.{usual, has_option, option_size, options}
 use Rattle.pcap_keys.proofs.Options.{Left, left_start, left_end, left_cut, left_bad, left_next}

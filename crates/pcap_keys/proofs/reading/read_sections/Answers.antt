@@ -1,4 +1,4 @@
-use Rattle.std.proofs.Common.{◌≡◌, sym, ◌∙◌, ap, subst, ℕ, List, Ok, Err, true, false, drop}
+use Rattle.std.proofs.Common.{◌≡◌, sym, subst, ℕ, List, Ok, Err, drop}
 use Rattle.pcap_keys.specs.declared.reading.Reading.{Reading}
 use Rattle.pcap_keys.specs.Sections.{sections, block, BecomesBy}
 use Rattle.pcap_keys.proofs.BlockRuns.{Left, left_start, left_end, left_next, bad_read}

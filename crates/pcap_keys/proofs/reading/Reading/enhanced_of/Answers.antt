@@ -3,7 +3,7 @@ use Rattle.frame_facts.specs.Links.{facts}
 use Rattle.pcap_keys.specs.declared.interface.Interface.{Interface}
 use Rattle.pcap_keys.specs.Savefile.{number}
 use Rattle.pcap_keys.specs.Clocks.{time}
-use Rattle.pcap_keys.specs.Sections.{kept_of, stamp_of, enhanced_of, Becomes}
+use Rattle.pcap_keys.specs.Sections.{stamp_of, enhanced_of, Becomes}
 use Rattle.pcap_keys.proofs.PacketBlocks.{enhanced_read}
 use Rattle.pcap_keys.proofs.reading.Reading.enhanced_of.Goals as goal
 

@@ -2,8 +2,7 @@ use Rattle.std.proofs.Common.{◌≡◌, sym, ◌∙◌, ap, subst, ℕ, List, t
 use Rattle.frame_facts.specs.Links.{facts}
 use Rattle.pcap_keys.specs.declared.interface.Interface.{Interface}
 use Rattle.pcap_keys.specs.Savefile.{number}
-use Rattle.pcap_keys.specs.Clocks.{time}
-use Rattle.pcap_keys.specs.Sections.{kept_of, stamp_of, simple_of, Becomes}
+use Rattle.pcap_keys.specs.Sections.{kept_of, simple_of, Becomes}
 use Rattle.pcap_keys.proofs.PacketBlocks.{simple_read}
 use Rattle.pcap_keys.proofs.reading.Reading.simple_of.Goals as goal
 
