@@ -12,6 +12,8 @@ mod asserts;
 #[cfg(test)]
 mod changes;
 #[cfg(test)]
+mod compares;
+#[cfg(test)]
 mod disjoint;
 #[cfg(test)]
 mod drawn;

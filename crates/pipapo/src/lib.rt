@@ -51,7 +51,7 @@
 //!
 //! A thread that needs no generations has a `Set`: `insert`, `delete`, `purge` and `find`. A lookup works in the rows of
 //! a `Scratch`, which is made once. A `Transaction` is what a `Control` has open: the sets of a `Generation`, and the
-//! changes to them.
+//! changes to them. `compare` finds the least keys on which two sets decide differently.
 //!
 //! # Texts
 //!
@@ -129,6 +129,7 @@ pub use key_file::{KeyError, Reason, read_keys};
 pub use packet_pool::{Gate, OpenGate, run_steps};
 pub use pipapo_image::{Added, ChangeError, Scratch, SetImage as Set};
 pub use script_run::{Output, dump, has_numbers, listing, transcript};
+pub use set_compare::{Difference, Lack, compare, first_missing, have_same_kinds};
 pub use set_model::{
     Comment, Duplicate, Event, Events, Family, Found, Interval, Key, Keys, Kind, Kinds, Memory,
     Name, NewElement, Packet, Packets, Parts, Schema, Script, Sections, SetDecl, Step, Steps, Verb,
