@@ -7,16 +7,14 @@ use Rattle.set_model.specs.SetState.{State}
 use Rattle.pipapo_image.specs.Image.Found.{found}
 use Rattle.set_model.specs.declared.kind.Kind.{Kind}
 use Rattle.packed_values.specs.Packed.{values_in}
-use Rattle.std.specs.Prelude.{slice_get, Option, Some, IfOk}
-use Rattle.std.specs.declared.result.Result.{Result}
-use Rattle.std.specs.declared.result.Result.TheVariants.{Ok, Err}
+use Rattle.std.specs.Prelude.{slice_get, Option, Some}
 use Rattle.history_laws.specs.Histories.{StartsWith, EndsWith}
 use Rattle.set_model.specs.Control.{Generation}
 use Rattle.set_model.specs.declared.packet.Found.{Found}
 use Rattle.gen_publish.specs.Publish.{IsLookup}
 use Rattle.c_handles.proofs.Found.{one_state}
 use Rattle.c_handles.specs.Codes.{id_of}
-use Rattle.c_handles.specs.Calls.{ids_in, kinds_in, AreFound, HasFoundAll}
+use Rattle.c_handles.specs.Calls.{ids_in, AreFound, HasFoundAll}
 
 less : (n : ℕ) (i : ℕ) → i < n → n - i ≡ suc (n - (i + 1))
 less n i h = omega arith

@@ -1,5 +1,5 @@
 -- What the library refuses, as a fault with its cause.
-use Rattle.std.proofs.Common.{◌≡◌, ◌<◌, ◌+◌, ℕ, List, [], ◌∷◌, length, refl, ap, sym, subst, ◌∙◌, true, Option, Some, None, Ok, Err, option_map, slice_get}
+use Rattle.std.proofs.Common.{◌≡◌, ◌<◌, ◌+◌, ℕ, List, [], ◌∷◌, length, refl, ap, sym, subst, ◌∙◌, true, Option, Some, None, Err, option_map, slice_get}
 use Rattle.std.specs.List.{All}
 use Rattle.std.proofs.lemmas.Option.{slice_get-map}
 use Rattle.std.proofs.lemmas.List.Elements.{All-nil, All-cons}

@@ -1,5 +1,5 @@
 -- Why a call through a handle is refused. If memory runs out, a call may be refused with no other cause.
-use Rattle.std.specs.Prelude.{◌≡◌, ◌≢◌, ◌≤◌, ◌<◌, ◌*◌, ◌^◌, ℕ, true, false, List, [], length, Option, Some, None, slice_get}
+use Rattle.std.specs.Prelude.{◌≡◌, ◌≢◌, ◌≤◌, ◌<◌, ◌*◌, ◌^◌, ℕ, false, List, length, Option, Some, None, slice_get}
 use Rattle.set_model.specs.SetState.{State, add, removed}
 use Rattle.set_model.specs.Control.{as_added, as_created, as_deleted}
 use Rattle.set_model.specs.declared.kind.Kind.{Kind}

@@ -1,5 +1,4 @@
 use Rattle.std.proofs.Common.{rules, ◌≡◌, Some, slice_get}
-use Rattle.set_model.specs.declared.kind.Kind.{Kind}
 use Rattle.c_handles.proofs.Kept.{sets_there}
 use Rattle.c_handles.proofs.Refused.{element_so, fits_set}
 use Rattle.c_handles.proofs.changes.parts_of.Goals as goal

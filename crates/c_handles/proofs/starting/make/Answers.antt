@@ -1,4 +1,4 @@
-use Rattle.std.proofs.Common.{rules, ◌≡◌}
+use Rattle.std.proofs.Common.{rules}
 use Rattle.c_handles.proofs.Refused.{all_of}
 use Rattle.c_handles.proofs.starting.make.Goals as goal
 
