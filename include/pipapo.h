@@ -29,8 +29,9 @@
  *
  * MOMENTS are milliseconds since any start that the program chooses. An element that expires at moment m is live before m.
  *
- * RETURN VALUES. Each call returns PIPAPO_OK (0), or the reason why it did nothing. A refused call changes nothing that a
- * handle holds. A lookup that is refused while its reader holds no generation may make the reader enter and leave one.
+ * RETURN VALUES. Each call returns PIPAPO_OK (0), or the reason why it did nothing. If several reasons apply, it is the first
+ * one that the call's comment names. A refused call changes nothing that a handle holds, and writes nothing but the answer of
+ * a change.
  *
  * THREADS. The control and each reader may be in a thread of their own. No call waits for another thread. One handle is for
  * one call at a time. A handle may go to another thread through a lock, the start or end of a thread, or a sequentially
@@ -231,7 +232,8 @@ uint32_t pipapo_lookup(pipapo_reader *reader, uint32_t set, const void *key, siz
 /* Looks `count` keys up, all in one generation: the held one, or else the last published one. The keys follow one another,
  * and `length` is their bytes together. `answers` gets the id of each key's element, or PIPAPO_NONE; `generation` the
  * generation's number.
- * Errors: as pipapo_lookup; `answers` may then be written in part. Allocates nothing. */
+ * Errors: as pipapo_lookup (LENGTH if `length` isn't that of `count` keys); `answers` and `generation` are then as they were.
+ * Allocates nothing. */
 PIPAPO_NONNULL PIPAPO_CHECK_RESULT
 uint32_t pipapo_lookup_many(pipapo_reader *reader, uint32_t set, const void *keys, size_t length, uint64_t now,
                             uint64_t *answers, size_t count, uint64_t *generation);

@@ -4,7 +4,7 @@
 . "$(dirname "$0")/../preamble.sh"
 needs gcc g++ ar rt
 archive=$top/crates/pipapo_c/out/libpipapo_c.a
-[ -f "$archive" ] || skip "the library isn't built; c/build proves and builds it, one crate after another"
+[ -f "$archive" ] || skip "the library isn't built; make -C c builds it, and first proves its crates, which takes half an hour or more"
 tests=$top/tests/c
 made=$room/library
 c/build "$made" /usr >"$room/log" 2>&1 || {
@@ -64,8 +64,9 @@ fi
 if has python3; then
     python3 "$tests/layout.py" "$top" >"$room/layout.c" && gcc $strict -std=c11 -c -o "$room/layout.o" "$room/layout.c" ||
         complain "the header doesn't declare what is exported"
-    PIPAPO_LIBRARY=$made/libpipapo.so.0 PYTHONPATH=$top/python python3 "$top/tests/python/test_pipapo.py" ||
-        complain "the Python module fails"
+    [ -x "$program" ] || skip_part "random calls aren't compared with the program, which isn't built"
+    PIPAPO_PROGRAM=$program PIPAPO_LIBRARY=$made/libpipapo.so.0 PYTHONPATH=$top/python \
+        python3 "$top/tests/python/test_pipapo.py" || complain "the Python module fails"
 else
     skip_part "python3 isn't installed"
 fi

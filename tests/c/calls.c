@@ -270,6 +270,15 @@ static void turns(void) {
         CHECK(pipapo_lookup_many(&readers[0], 2, keys, sizeof keys, 0, ids, 4, &generation) == PIPAPO_SET);
         generation = 77;
         CHECK(pipapo_lookup_many(&readers[0], 0, keys, 0, 0, ids, 0, &generation) == PIPAPO_OK && generation == 1);
+
+        /* no key: the set and the length are looked at all the same; a refusal writes nothing and holds nothing */
+        generation = 77;
+        ids[0] = ids[3] = 78;
+        CHECK(pipapo_lookup_many(&readers[0], 0, keys, 1, 0, ids, 0, &generation) == PIPAPO_LENGTH);
+        CHECK(pipapo_lookup_many(&readers[0], 2, keys, 0, 0, ids, 0, &generation) == PIPAPO_SET);
+        CHECK(pipapo_lookup_many(&readers[0], 0, keys, sizeof keys - 1, 0, ids, 4, &generation) == PIPAPO_LENGTH);
+        CHECK(generation == 77 && ids[0] == 78 && ids[3] == 78);
+        CHECK(pipapo_generation(&readers[0], &generation) == (held ? PIPAPO_OK : PIPAPO_TURN));
     }
 
     /* the control ends first, readers go on, and one that holds a generation ends, too */

@@ -1,8 +1,16 @@
-"""The Python module over the shared library. Run by pytest, or alone: python3 test_pipapo.py"""
+"""The Python module over the shared library. Run by pytest, or alone: python3 test_pipapo.py
+
+PIPAPO_PROGRAM names the built program. Without it the test that runs the program is skipped.
+"""
 
 import doctest
+import os
 import random
+import re
+import subprocess
+import tempfile
 import threading
+import unittest
 
 import pipapo
 from pipapo import Control, Error, Kind, Outcome, PipapoError, Receipt, Set
@@ -116,6 +124,112 @@ def test_random_calls_agree_with_a_list():
                 assert control.readers[0].lookup_many(0, keys) == (wanted, control.number)
 
 
+def written(low, high):
+    """The words of an interval of one field, as nft(8) has them."""
+    return f"{low}" if low == high else f"{low}-{high}"
+
+
+def address(number):
+    return f"192.0.2.{number}"
+
+
+class Written:
+    """Calls, and the script of the same statements. Each statement has a line of its own."""
+
+    def __init__(self, control):
+        self.control, self.now, self.events = control, 0, []
+        self.lines = ["add set ip t s { type ipv4_addr . inet_service; flags interval, timeout; size 24; }"]
+
+    def line(self, text):
+        self.lines.append(text)
+
+    def change(self, verb, low, high, life):
+        """Adds, creates, deletes or destroys an element; `life` is in seconds, or None."""
+        words = f"{written(address(low[0]), address(high[0]))} . {written(low[1], high[1])}"
+        self.line(f"{verb} element ip t s {{ {words}{f' timeout {life}s' if life else ''} }}")
+        low, high = [address(low[0]), low[1]], [address(high[0]), high[1]]
+        try:
+            if verb in ("add", "create"):
+                call = self.control.insert if verb == "add" else self.control.create
+                call(0, low, high, expiry=self.now + 1000 * life if life else None, now=self.now)
+            else:
+                (self.control.delete if verb == "delete" else self.control.destroy)(0, low, high, now=self.now)
+        except PipapoError as error:
+            way = error.id if error.error in (Error.OVERLAP, Error.EXISTS) else None
+            self.events.append(("refused", len(self.lines), error.error.name.lower(), way))
+
+    def flush(self):
+        self.line("flush set ip t s")
+        self.control.flush(0)
+
+    def wait(self, milliseconds):
+        self.now += milliseconds
+        self.line(f"at {self.now}")
+
+    def commit(self):
+        self.line("commit")
+        receipt = self.control.commit(self.now)
+        self.events.append(("commit", receipt.generation, receipt.purged))
+
+    def abort(self):
+        self.line("abort")
+        self.control.abort()
+        self.events.append(("abort", self.control.number))
+
+
+def event_of(line):
+    """What a line of a transcript says."""
+    if found := re.fullmatch(r"line (\d+) refused (\w+) ip t s(?: element (\d+))?", line):
+        return ("refused", int(found[1]), found[2], int(found[3]) if found[3] else None)
+    if found := re.fullmatch(r"commit generation (\d+) purged (\d+)", line):
+        return ("commit", int(found[1]), int(found[2]))
+    if found := re.fullmatch(r"abort generation (\d+)", line):
+        return ("abort", int(found[1]))
+    found = re.fullmatch(r"packet (\d+) thread 0 generation (\d+) (?:element (\d+)|none)", line)
+    return ("packet", int(found[1]), int(found[2]), int(found[3]) if found[3] else None)
+
+
+def test_random_calls_agree_with_the_programs_transcript():
+    program = os.environ.get("PIPAPO_PROGRAM")
+    if not program or not os.path.exists(program):
+        raise unittest.SkipTest("PIPAPO_PROGRAM names no built program")
+    for seed in range(20):
+        random.seed(seed)
+        with Control([Set([Kind.IPV4, Kind.SERVICE], size=24)]) as control:
+            run = Written(control)
+            for _ in range(150):
+                low = [random.randrange(12), random.randrange(1, 8)]
+                high = [low[0] + random.randrange(4), low[1] + random.randrange(3)]
+                kind = random.randrange(20)
+                if kind == 0:
+                    run.flush()
+                elif kind == 1:
+                    run.abort()
+                elif kind < 4:
+                    run.commit()
+                elif kind < 6:
+                    run.wait(random.randrange(3000))
+                else:
+                    verb = random.choice(["add", "add", "add", "create", "delete", "destroy"])
+                    run.change(verb, low, high, random.choice([None, None, 1, 5]) if verb in ("add", "create") else None)
+            run.commit()
+            run.line("round")
+            packets = [(random.randrange(16), random.randrange(1, 11), random.randrange(8000)) for _ in range(200)]
+            keys = ["round"]
+            for number, (host, port, moment) in enumerate(packets):
+                keys += [f"at {moment}", f"ip t s {address(host)} . {port}"]
+                found = control.readers[0].lookup(0, [address(host), port], moment)
+                run.events.append(("packet", number, control.number, found))
+        with tempfile.TemporaryDirectory() as room:
+            names = [os.path.join(room, "script"), os.path.join(room, "keys")]
+            for name, lines in zip(names, (run.lines, keys)):
+                with open(name, "w", encoding="ascii") as out:
+                    out.write("\n".join(lines) + "\n")
+            made = subprocess.run([program, "run", *names, "--keep-going"], capture_output=True, text=True, check=False)
+        assert made.returncode in (0, 1), made.stderr
+        assert [event_of(line) for line in made.stdout.splitlines()] == run.events, seed
+
+
 def test_readers_in_threads():
     with Control([Set([Kind.SERVICE])], readers=4) as control:
         ended, wrong = threading.Event(), []
@@ -144,5 +258,9 @@ def test_readers_in_threads():
 if __name__ == "__main__":
     for name, test in list(globals().items()):
         if name.startswith("test_"):
-            test()
+            try:
+                test()
+            except unittest.SkipTest as reason:
+                print(f"{name}: skipped: {reason}")
+                continue
             print(f"{name}: passed")

@@ -1,21 +1,20 @@
 -- One key more of many.
-use Rattle.std.proofs.Common.{refl, ◌≡◌, ℕ, suc, zero, ◌+◌, ◌-◌, ◌<◌, ◌≤◌, List, [], ◌∷◌, ◌++◌, length, take, drop, ap, sym, ◌∙◌, subst, arith}
+use Rattle.std.proofs.Common.{refl, ◌≡◌, ℕ, suc, zero, ◌+◌, ◌-◌, ◌*◌, ◌/◌, ◌<◌, ◌≤◌, List, [], ◌∷◌, ◌++◌, length, take, drop, ap, sym, ◌∙◌, subst, arith}
 use Rattle.std.proofs.lemmas.List.{take_more_set, take_all, length-set, append_assoc, append-nil}
 use Rattle.std.proofs.Math.ListN.{set}
+use Rattle.std.proofs.Math.Nat.{suc-mul, mul-div_cancel_left}
 use Rattle.set_model.specs.SetState.{State}
 use Rattle.pipapo_image.specs.Image.Found.{found}
 use Rattle.set_model.specs.declared.kind.Kind.{Kind}
 use Rattle.packed_values.specs.Packed.{values_in}
-use Rattle.std.specs.Prelude.{slice_get, Option, Some, IfOk}
-use Rattle.std.specs.declared.result.Result.{Result}
-use Rattle.std.specs.declared.result.Result.TheVariants.{Ok, Err}
+use Rattle.std.specs.Prelude.{slice_get, Option, Some}
 use Rattle.history_laws.specs.Histories.{StartsWith, EndsWith}
 use Rattle.set_model.specs.Control.{Generation}
 use Rattle.set_model.specs.declared.packet.Found.{Found}
 use Rattle.gen_publish.specs.Publish.{IsLookup}
 use Rattle.c_handles.proofs.Found.{one_state}
 use Rattle.c_handles.specs.Codes.{id_of}
-use Rattle.c_handles.specs.Calls.{ids_in, kinds_in, AreFound, HasFoundAll}
+use Rattle.c_handles.specs.Calls.{ids_in, AreFound, HasFoundAll}
 
 less : (n : ℕ) (i : ℕ) → i < n → n - i ≡ suc (n - (i + 1))
 less n i h = omega arith
@@ -42,15 +41,38 @@ no_more s kinds size now ids i rest all h e =
     let end : take i ids ++ ids_in s kinds size now (length ids - i) rest ≡ take i ids ++ [] = ap (λ (n : ℕ). take i ids ++ ids_in s kinds size now n rest) (none_left (length ids) i h) in
     sym (append-nil (take i ids) ∙ take_all i ids h) ∙ (sym end ∙ e)
 
-pub all_found : {E : Type 0} (r : Result ℕ E) (old : List Generation) (held : List Generation) (new : List Generation) (kinds there : List (List Kind)) (set : ℕ) (bytes : List ℕ) (now : ℕ) (ids : List ℕ)
-    → there ≡ kinds → IfOk r (λ n. (g : Generation) → EndsWith held g → AreFound g (kinds_in there set) set bytes now ids n) → StartsWith held old → held ≡ new → IfOk r (HasFoundAll old new kinds set bytes now ids)
-all_found (Ok n) old held new kinds there set bytes now ids same h s e = record {
-  seen = subst (λ (l : List Generation). StartsWith l old) e s;
-  answers = λ g last. subst (λ (ks : List (List Kind)). AreFound g (kinds_in ks set) set bytes now ids n) same (h g (subst (λ (l : List Generation). EndsWith l g) (sym e) last));
-}
-all_found (Err x) old held new kinds there set bytes now ids same h s e = tt
-
 -- no key, no id
 pub none_asked : (s : State) (kinds : List Kind) (size now : ℕ) (ids bytes : List ℕ) → length ids ≡ 0 → ids ≡ ids_in s kinds size now (length ids) bytes
 none_asked s kinds size now [] bytes h = refl
 none_asked s kinds size now (id ∷ ids) bytes h = absurd (omega (arith, h))
+
+-- the bytes of the keys that are left
+pub enough : (n i size len : ℕ) → i < n → len ≡ (n - i) * size → size ≤ len
+enough n i size len h e =
+    let more : (n - i) * size ≡ suc (n - (i + 1)) * size = ap (λ (k : ℕ). k * size) (less n i h) in
+    omega (arith, e, more, suc-mul (n - (i + 1)) size)
+
+pub one_less : (n i size len : ℕ) → i < n → len ≡ (n - i) * size → len - size ≡ (n - (i + 1)) * size
+one_less n i size len h e =
+    let more : (n - i) * size ≡ suc (n - (i + 1)) * size = ap (λ (k : ℕ). k * size) (less n i h) in
+    omega (arith, e, more, suc-mul (n - (i + 1)) size)
+
+pub key_size : (length count size : ℕ) → 0 < count → length ≡ count * size → length / count ≡ size
+key_size length count size some e = ap (λ (n : ℕ). n / count) e ∙ mul-div_cancel_left size some
+
+sub_zero : (n : ℕ) → n - 0 ≡ n
+sub_zero n = omega arith
+
+-- before the first key
+pub all_left : (length count size kinds : ℕ) → length ≡ count * kinds → size ≡ kinds → length ≡ (count - 0) * size
+all_left length count size kinds e same = e ∙ (ap (λ (k : ℕ). count * k) (sym same) ∙ ap (λ (n : ℕ). n * size) (sym (sub_zero count)))
+
+pub none_yet : (s : State) (kinds : List Kind) (size now : ℕ) (ids bytes : List ℕ) → take 0 ids ++ ids_in s kinds size now (length ids - 0) bytes ≡ ids_in s kinds size now (length ids) bytes
+none_yet s kinds size now ids bytes = ap (λ (n : ℕ). ids_in s kinds size now n bytes) (sub_zero (length ids))
+
+pub found_all : (old : List Generation) (held : List Generation) (new : List Generation) (kinds : List Kind) (set : ℕ) (bytes : List ℕ) (now : ℕ) (ids : List ℕ) (n : ℕ)
+    → ((g : Generation) → EndsWith held g → AreFound g kinds set bytes now ids n) → StartsWith held old → held ≡ new → HasFoundAll old new kinds set bytes now ids n
+found_all old held new kinds set bytes now ids n h s e = record {
+  seen = subst (λ (l : List Generation). StartsWith l old) e s;
+  answers = λ g last. h g (subst (λ (l : List Generation). EndsWith l g) (sym e) last);
+}

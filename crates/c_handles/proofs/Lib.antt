@@ -4,3 +4,4 @@ pub mod Found
 pub mod WrittenOver
 pub mod Batch
 pub mod Kept
+pub mod Refused

@@ -1,5 +1,5 @@
 -- What calls through handles do.
-use Rattle.std.specs.Prelude.{◌≡◌, ℕ, zero, suc, ◌-◌, ◌/◌, ◌∷◌, length, take, drop, ◌^◌, List, [], Option, Some, None, Ok, nat_eq, if◌then◌else◌, slice_get}
+use Rattle.std.specs.Prelude.{◌≡◌, ℕ, zero, suc, ◌-◌, ◌*◌, ◌<◌, ◌∷◌, length, take, drop, ◌^◌, true, List, [], Option, Some, None, Ok, nat_eq, if◌then◌else◌, slice_get}
 use Rattle.history_laws.specs.Histories.{StartsWith, EndsWith}
 use Rattle.set_model.specs.Control.{Generation}
 use Rattle.set_model.specs.SetState.{State, add, removed}
@@ -13,15 +13,15 @@ use Rattle.pipapo_image.specs.Image.Remove.{IsRemoval}
 use Rattle.pipapo_image.specs.declared.answers.Added.{Added}
 use Rattle.set_space.specs.Answers.{IsCreation, IsDestruction, IsFlush}
 use Rattle.set_space.specs.Open.{IsChange, opened}
-use Rattle.gen_publish.specs.Publish.{IsCommit, IsLookup}
+use Rattle.gen_publish.specs.Publish.{Steering, IsCommit, IsLookup}
 use Rattle.gen_publish.specs.declared.receipt.Receipt.{Receipt}
-use Rattle.packed_values.specs.Packed.{values_in, parts_in}
+use Rattle.packed_values.specs.Packed.{values_in, parts_in, packed_length, IsBounds, all_rise}
 use Rattle.c_handles.specs.Codes.{id_of, added_as, created_as, removed_as, destroyed_as}
 use Rattle.c_handles.specs.declared.answer.Answer.{Answer}
 use Rattle.c_handles.specs.declared.object.Object.{Object}
 use Rattle.c_handles.specs.declared.object.Object.TheVariants.{Control, Reader}
-use Rattle.c_handles.specs.declared.seat.Place.{Place}
-use Rattle.c_handles.specs.declared.seat.Place.TheVariants.{Out, In, Nowhere}
+use Rattle.c_handles.specs.declared.place.Place.{Place}
+use Rattle.c_handles.specs.declared.place.Place.TheVariants.{Out, In, Nowhere}
 
 -- the generations that a reader at a place has seen
 abbrev pub seen_at : Place → List Generation
@@ -42,7 +42,7 @@ seen_by (Some x) = seen_of x
 -- the kinds of the sets that a reader looks up in
 abbrev pub kinds_of : Object → List (List Kind)
 kinds_of (Control c) = []
-kinds_of (Reader s) = s.kinds.items
+kinds_of (Reader s) = s.kinds
 
 abbrev pub kinds_by : Option Object → List (List Kind)
 kinds_by None = []
@@ -56,6 +56,14 @@ kinds_or_none (Some kinds) = kinds
 abbrev pub kinds_in : List (List Kind) → ℕ → List Kind
 kinds_in all set = kinds_or_none (slice_get all set)
 
+-- So many bytes are a key of the set at a place.
+abbrev pub TakesKey : List (List Kind) → ℕ → ℕ → Type 0
+TakesKey all set bytes = (set < length all) × (bytes ≡ packed_length (kinds_in all set))
+
+-- So many bytes are so many keys of the set at a place.
+abbrev pub TakesKeys : List (List Kind) → ℕ → ℕ → ℕ → Type 0
+TakesKeys all set count bytes = (set < length all) × (bytes ≡ count * packed_length (kinds_in all set))
+
 -- the kinds of a declared set; none if it isn't declared
 abbrev pub kinds_of_set : Option SetDecl → List Kind
 kinds_of_set None = []
@@ -64,31 +72,42 @@ kinds_of_set (Some d) = d.kinds
 abbrev pub kinds_at : List SetDecl → ℕ → List Kind
 kinds_at schema set = kinds_of_set (slice_get schema set)
 
+-- Two keys of a declared set are the bounds of an element if no interval falls.
+pub record IsElement (c : Steering) (set : ℕ) (bounds : List ℕ) : Type 0 where
+  pub declared : set < length c.schema
+  pub two_keys : IsBounds (kinds_at c.schema set) bounds
+  pub rise : all_rise (parts_in (kinds_at c.schema set) bounds) ≡ true
+
+-- The handle's reader moved from one place to another, and looks up in the same sets.
+abbrev pub HasMoved : (Place → Place → Type 0) → Option Object → Option Object → Type 0
+HasMoved step (Some (Reader s)) (Some (Reader t)) = step s.place t.place × (t.kinds ≡ s.kinds)
+HasMoved step old new = ⊥
+
 -- A lookup: the reader has seen what it had seen. In the last generation that it has seen, the answer is that of the
 -- definition, for the values that the bytes stand for.
-pub record HasLookedUp (old : List Generation) (new : List Generation) (kinds : List (List Kind)) (set : ℕ) (key : List ℕ) (now : ℕ) (answer : Option Found) : Type 0 where
+pub record HasLookedUp (old : List Generation) (new : List Generation) (kinds : List Kind) (set : ℕ) (key : List ℕ) (now : ℕ) (answer : Option Found) : Type 0 where
   pub seen : StartsWith new old
-  pub answers : (g : Generation) → EndsWith new g → IsLookup g set (values_in (kinds_in kinds set) key) now answer
+  pub answers : (g : Generation) → EndsWith new g → IsLookup g set (values_in kinds key) now answer
 
 -- The same as C sees it.
-pub record HasFound (old : List Generation) (new : List Generation) (kinds : List (List Kind)) (set : ℕ) (key : List ℕ) (now : ℕ) (id : ℕ) : Type 0 where
+pub record HasFound (old : List Generation) (new : List Generation) (kinds : List Kind) (set : ℕ) (key : List ℕ) (now : ℕ) (id : ℕ) : Type 0 where
   pub seen : StartsWith new old
-  pub is : (g : Generation) → EndsWith new g → (s : State) → slice_get g.sets set ≡ Some s → id ≡ id_of (found s (values_in (kinds_in kinds set) key) now)
+  pub is : (g : Generation) → EndsWith new g → (s : State) → slice_get g.sets set ≡ Some s → id ≡ id_of (found s (values_in kinds key) now)
 
--- the ids of so many keys of some bytes each, one after the other
+-- the ids of so many keys, each of so many bytes, one after the other
 abbrev pub ids_in : State → List Kind → ℕ → ℕ → ℕ → List ℕ → List ℕ
 ids_in s kinds size now zero bytes = []
 ids_in s kinds size now (suc n) bytes = id_of (found s (values_in kinds (take size bytes)) now) ∷ ids_in s kinds size now n (drop size bytes)
 
--- In a generation the ids of many keys are those of the definition, and this is its number. Each key has as many bytes.
+-- In a generation the ids of many keys are those of the definition, and this is its number.
 pub record AreFound (g : Generation) (kinds : List Kind) (set : ℕ) (bytes : List ℕ) (now : ℕ) (ids : List ℕ) (number : ℕ) : Type 0 where
   pub numbered : number ≡ g.number
-  pub are : (s : State) → slice_get g.sets set ≡ Some s → ids ≡ ids_in s kinds (length bytes / length ids) now (length ids) bytes
+  pub are : (s : State) → slice_get g.sets set ≡ Some s → ids ≡ ids_in s kinds (packed_length kinds) now (length ids) bytes
 
 -- A lookup of many keys: the reader has seen what it had seen, and the ids are of the last generation that it has seen.
-pub record HasFoundAll (old : List Generation) (new : List Generation) (kinds : List (List Kind)) (set : ℕ) (bytes : List ℕ) (now : ℕ) (ids : List ℕ) (number : ℕ) : Type 0 where
+pub record HasFoundAll (old : List Generation) (new : List Generation) (kinds : List Kind) (set : ℕ) (bytes : List ℕ) (now : ℕ) (ids : List ℕ) (number : ℕ) : Type 0 where
   pub seen : StartsWith new old
-  pub answers : (g : Generation) → EndsWith new g → AreFound g (kinds_in kinds set) set bytes now ids number
+  pub answers : (g : Generation) → EndsWith new g → AreFound g kinds set bytes now ids number
 
 -- The number is that of the last generation that a reader has seen.
 abbrev pub HasGeneration : List Generation → ℕ → Type 0
@@ -110,7 +129,7 @@ element_in schema set bounds expiry comment = record { parts = parts_in (kinds_a
 -- A control inserted.
 abbrev pub Inserts : Object → ℕ → List ℕ → ℕ → List ℕ → ℕ → Object → Added → Type 0
 Inserts (Control old) set bounds expiry comment now (Control new) added =
-    IsChange (λ s t. IsAnswer (add s (element_in old.schema set bounds expiry comment) now) (Ok added) s t) old.work set new.work × (new ≡ record old { work = new.work })
+    IsChange (λ s t. IsAnswer (add s (element_in old.schema set bounds expiry comment) now) (Ok added) s t) old.work set new.work × (new ≡ record old { work = new.work }) × IsElement old set bounds
 Inserts (Control old) set bounds expiry comment now (Reader s) added = ⊥
 Inserts (Reader s) set bounds expiry comment now new added = ⊥
 
@@ -122,7 +141,7 @@ HasInserted None set bounds expiry comment now new answer = ⊥
 -- A control created an element.
 abbrev pub Creates : Object → ℕ → List ℕ → ℕ → List ℕ → ℕ → Object → ℕ → Type 0
 Creates (Control old) set bounds expiry comment now (Control new) id =
-    IsChange (λ s t. IsCreation (add s (element_in old.schema set bounds expiry comment) now) (Ok id) s t) old.work set new.work × (new ≡ record old { work = new.work })
+    IsChange (λ s t. IsCreation (add s (element_in old.schema set bounds expiry comment) now) (Ok id) s t) old.work set new.work × (new ≡ record old { work = new.work }) × IsElement old set bounds
 Creates (Control old) set bounds expiry comment now (Reader s) id = ⊥
 Creates (Reader s) set bounds expiry comment now new id = ⊥
 
@@ -134,7 +153,7 @@ HasCreated None set bounds expiry comment now new answer = ⊥
 -- A control deleted an element.
 abbrev pub Deletes : Object → ℕ → List ℕ → ℕ → Object → ℕ → Type 0
 Deletes (Control old) set bounds now (Control new) id =
-    IsChange (λ s t. IsRemoval (removed s (parts_in (kinds_at old.schema set) bounds) now) (Ok id) s t) old.work set new.work × (new ≡ record old { work = new.work })
+    IsChange (λ s t. IsRemoval (removed s (parts_in (kinds_at old.schema set) bounds) now) (Ok id) s t) old.work set new.work × (new ≡ record old { work = new.work }) × IsElement old set bounds
 Deletes (Control old) set bounds now (Reader s) id = ⊥
 Deletes (Reader s) set bounds now new id = ⊥
 
@@ -146,7 +165,7 @@ HasDeleted None set bounds now new answer = ⊥
 -- A control deleted an element, or there was none.
 abbrev pub Destroys : Object → ℕ → List ℕ → ℕ → Object → Option ℕ → Type 0
 Destroys (Control old) set bounds now (Control new) id =
-    IsChange (λ s t. IsDestruction (removed s (parts_in (kinds_at old.schema set) bounds) now) (Ok id) s t) old.work set new.work × (new ≡ record old { work = new.work })
+    IsChange (λ s t. IsDestruction (removed s (parts_in (kinds_at old.schema set) bounds) now) (Ok id) s t) old.work set new.work × (new ≡ record old { work = new.work }) × IsElement old set bounds
 Destroys (Control old) set bounds now (Reader s) id = ⊥
 Destroys (Reader s) set bounds now new id = ⊥
 

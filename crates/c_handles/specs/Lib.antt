@@ -1,4 +1,6 @@
 pub mod Codes
 pub mod Holding
+pub mod Seats
 pub mod Calls
+pub mod Causes
 pub mod Starting

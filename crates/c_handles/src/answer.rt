@@ -1,9 +1,10 @@
 //! What a change answers, as C has it.
 ghost use Rattle.std.specs.Prelude.{◌≡◌};
-ghost use Rattle.c_handles.specs.Codes.{added_as, created_as, removed_as, destroyed_as};
+ghost use Rattle.c_handles.specs.Codes.{added_as, created_as, removed_as, destroyed_as, refused_as};
 
 use crate::fault::Fault;
 use pipapo_image::Added;
+use set_model::Why;
 
 /// What a change did: the element's id, or the id of the element in the way; the field that is full; and whether the
 /// element is new (1), was there already (2), was renewed (3), was removed (4), or wasn't there (5).
@@ -71,10 +72,19 @@ impl Answer {
         }
     }
 
-    pub(crate) fn refused(fault: Fault) -> Answer {
+    /// The id of the element in the way, and the field that is full; else zeros.
+    pub(crate) fn refused(fault: Fault) -> Answer
+        ensures { result ≡ refused_as fault }
+    {
+        let (id, field) = match fault {
+            Fault::Refused(Why::Overlap { id }) => (id, 0),
+            Fault::Refused(Why::Exists { id }) => (id, 0),
+            Fault::Refused(Why::RulesFull { field }) => (0, field),
+            _ => (0, 0),
+        };
         Answer {
-            id: fault.id(),
-            field: fault.field(),
+            id,
+            field,
             outcome: 0,
         }
     }

@@ -1,6 +1,7 @@
 //! The calls on a control's handle.
 ghost use Rattle.std.specs.Prelude.{◌≡◌, ◌<◌};
 ghost use Rattle.c_handles.specs.Calls.{HasInserted, HasCreated, HasDeleted, HasDestroyed, HasFlushed, HasCommitted, HasAborted, HasNumber};
+ghost use Rattle.c_handles.specs.Causes.{IsRefusal, IsRefusedChange, RefusesInsertion, RefusesCreation, RefusesDeletion, RefusesDestruction, RefusesFlush, RefusesCommit, RefusesReaders};
 
 use crate::answer::Answer;
 use crate::changes;
@@ -20,7 +21,8 @@ pub fn insert(
     answer: &mut Answer,
 ) -> u32
     ensures done { result ≡ 0 → HasInserted control.old.held set bounds.now expiry comment.now now control.new.held answer.new }
-    ensures refused { 0 < result → control.new.held ≡ control.old.held }
+    ensures unchanged { 0 < result → control.new.held ≡ control.old.held }
+    ensures refused { 0 < result → IsRefusedChange (RefusesInsertion set bounds.now expiry comment.now now) control.old.held result answer.new }
 {
     let Some(mut boxed) = control.take(alloc) else {
         *answer = Answer::refused(Fault::Empty);
@@ -52,7 +54,8 @@ pub fn create(
     answer: &mut Answer,
 ) -> u32
     ensures done { result ≡ 0 → HasCreated control.old.held set bounds.now expiry comment.now now control.new.held answer.new }
-    ensures refused { 0 < result → control.new.held ≡ control.old.held }
+    ensures unchanged { 0 < result → control.new.held ≡ control.old.held }
+    ensures refused { 0 < result → IsRefusedChange (RefusesCreation set bounds.now expiry comment.now now) control.old.held result answer.new }
 {
     let Some(mut boxed) = control.take(alloc) else {
         *answer = Answer::refused(Fault::Empty);
@@ -82,7 +85,8 @@ pub fn delete(
     answer: &mut Answer,
 ) -> u32
     ensures done { result ≡ 0 → HasDeleted control.old.held set bounds.now now control.new.held answer.new }
-    ensures refused { 0 < result → control.new.held ≡ control.old.held }
+    ensures unchanged { 0 < result → control.new.held ≡ control.old.held }
+    ensures refused { 0 < result → IsRefusedChange (RefusesDeletion set bounds.now now) control.old.held result answer.new }
 {
     let Some(mut boxed) = control.take(alloc) else {
         *answer = Answer::refused(Fault::Empty);
@@ -112,7 +116,8 @@ pub fn destroy(
     answer: &mut Answer,
 ) -> u32
     ensures done { result ≡ 0 → HasDestroyed control.old.held set bounds.now now control.new.held answer.new }
-    ensures refused { 0 < result → control.new.held ≡ control.old.held }
+    ensures unchanged { 0 < result → control.new.held ≡ control.old.held }
+    ensures refused { 0 < result → IsRefusedChange (RefusesDestruction set bounds.now) control.old.held result answer.new }
 {
     let Some(mut boxed) = control.take(alloc) else {
         *answer = Answer::refused(Fault::Empty);
@@ -135,7 +140,8 @@ pub fn destroy(
 /// Takes all elements out of an open set. `count` gets how many there were.
 pub fn flush(alloc: Global, control: &mut Handle, set: u32, count: &mut u64) -> u32
     ensures done { result ≡ 0 → HasFlushed control.old.held set control.new.held count.new }
-    ensures refused { 0 < result → control.new.held ≡ control.old.held }
+    ensures unchanged { 0 < result → control.new.held ≡ control.old.held }
+    ensures refused { 0 < result → IsRefusal (RefusesFlush set) control.old.held result }
 {
     let Some(mut boxed) = control.take(alloc) else {
         return Fault::Empty.code();
@@ -161,7 +167,8 @@ pub fn commit(
     purged: &mut u64,
 ) -> u32
     ensures done { result ≡ 0 → HasCommitted control.old.held now control.new.held (record { generation = generation.new; purged = purged.new }) }
-    ensures refused { 0 < result → control.new.held ≡ control.old.held }
+    ensures unchanged { 0 < result → control.new.held ≡ control.old.held }
+    ensures refused { 0 < result → IsRefusal RefusesCommit control.old.held result }
 {
     let Some(mut boxed) = control.take(alloc) else {
         return Fault::Empty.code();
@@ -181,7 +188,8 @@ pub fn commit(
 /// Takes all open changes back.
 pub fn abort(alloc: Global, control: &mut Handle) -> u32
     ensures done { result ≡ 0 → HasAborted control.old.held control.new.held }
-    ensures refused { 0 < result → control.new.held ≡ control.old.held }
+    ensures unchanged { 0 < result → control.new.held ≡ control.old.held }
+    ensures refused { 0 < result → IsRefusal RefusesReaders control.old.held result }
 {
     let Some(mut boxed) = control.take(alloc) else {
         return Fault::Empty.code();
@@ -198,6 +206,7 @@ pub fn abort(alloc: Global, control: &mut Handle) -> u32
 pub fn number(alloc: Global, control: &mut Handle, generation: &mut u64) -> u32
     ensures same { control.new.held ≡ control.old.held }
     ensures done { result ≡ 0 → HasNumber control.old.held generation.new }
+    ensures refused { 0 < result → IsRefusal RefusesReaders control.old.held result }
 {
     let Some(boxed) = control.take(alloc) else {
         return Fault::Empty.code();

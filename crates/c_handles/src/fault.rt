@@ -1,5 +1,6 @@
 //! Why a call was refused.
-ghost use Rattle.std.specs.Prelude.{◌<◌};
+ghost use Rattle.std.specs.Prelude.{◌≡◌, ◌<◌};
+ghost use Rattle.c_handles.specs.Codes.{fault_of as the_fault_of};
 
 use pipapo_image::ChangeError;
 use set_model::{Memory, Why};
@@ -40,9 +41,12 @@ pub enum Fault {
 }
 
 impl Fault {
+    ghost use Rattle.c_handles.specs.Codes.{code_of};
+
     /// Its number in `pipapo.h`.
     pub fn code(self) -> u32
-        ensures { 0 < result }
+        ensures code { result ≡ code_of self }
+        ensures some { 0 < result }
     {
         match self {
             Fault::Memory => 1,
@@ -66,23 +70,6 @@ impl Fault {
             },
         }
     }
-
-    /// The id of the element in the way; 0 if there is none.
-    pub(crate) fn id(self) -> u64 {
-        match self {
-            Fault::Refused(Why::Overlap { id }) => id,
-            Fault::Refused(Why::Exists { id }) => id,
-            _ => 0,
-        }
-    }
-
-    /// The field that is full; 0 if none is.
-    pub(crate) fn field(self) -> u32 {
-        match self {
-            Fault::Refused(Why::RulesFull { field }) => field,
-            _ => 0,
-        }
-    }
 }
 
 impl From<Memory> for Fault {
@@ -103,11 +90,12 @@ impl<T: Drop> From<AllocFailed<T>> for Fault {
     }
 }
 
-impl From<ChangeError> for Fault {
-    fn from(error: ChangeError) -> Fault {
-        match error {
-            ChangeError::Refused(why) => Fault::Refused(why),
-            ChangeError::Memory => Fault::Memory,
-        }
+/// The fault of a change that the library refuses.
+pub(crate) fn fault_of(error: ChangeError) -> Fault
+    ensures { result ≡ the_fault_of error }
+{
+    match error {
+        ChangeError::Refused(why) => Fault::Refused(why),
+        ChangeError::Memory => Fault::Memory,
     }
 }

@@ -5,8 +5,12 @@
 //! the handle, works on what it holds, and puts it back. So a call refuses an empty handle, and a handle of the other
 //! kind. A handle may go to another thread (`Send` is proved). One call at a time may use it.
 //!
-//! **Definitions:** `specs/Holding.antt` has what a handle owns, `specs/Calls.antt` what a lookup, a change and a commit
-//! through a handle do, `specs/Codes.antt` the numbers that C gets.
+//! Each refusal has one cause, and the first that applies: a lookup of 5 bytes in a set of an address and a port (6 bytes) is
+//! refused as `Length`, and in a set that isn't there as `Set`. A refused call changes nothing.
+//!
+//! **Definitions:** `specs/Holding.antt` has what a handle owns, `specs/Seats.antt` where a reader is, `specs/Calls.antt` what
+//! a lookup, a change and a commit through a handle do, `specs/Causes.antt` why one is refused, `specs/Codes.antt` the numbers
+//! that C gets.
 #![tactic(auto)]
 
 mod answer;
@@ -14,8 +18,10 @@ mod changes;
 mod control_calls;
 mod fault;
 mod handle;
+mod key_room;
 mod loose;
 mod object;
+mod place;
 mod reader_calls;
 mod seat;
 mod shapes;

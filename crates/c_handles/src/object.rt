@@ -1,6 +1,8 @@
 //! What a handle holds.
-ghost use Rattle.std.specs.Prelude.{◌≡◌, IfOk, OnErr};
-ghost use Rattle.c_handles.specs.Calls.{HasEntered, HasFoundAll, HasLookedUp, HasGeneration, seen_of, kinds_of};
+ghost use Rattle.std.specs.Prelude.{◌≡◌, ◌<◌, ◌*◌, length, Some, IfOk, IfErr, OnOk, OnErr};
+ghost use Rattle.c_handles.specs.Seats.{Stays, WentIn, WentOut};
+ghost use Rattle.c_handles.specs.Calls.{HasEntered, HasFoundAll, HasLookedUp, HasGeneration, HasMoved, TakesKey, TakesKeys, seen_of, kinds_in, kinds_of};
+ghost use Rattle.c_handles.specs.Causes.{RefusesEntry, RefusesHolder, RefusesLookup, RefusesLookups};
 ghost use Rattle.c_handles.specs.Codes.{id_of};
 
 use crate::fault::Fault;
@@ -29,6 +31,8 @@ impl Object {
     /// Holds the published generation, and gives its number.
     pub(crate) fn enter(&mut self) -> Result<u64, Fault>
         ensures ok { IfOk result (HasEntered (seen_of self.old) (seen_of self.new)) }
+        ensures moved { OnOk result (HasMoved WentIn (Some self.old) (Some self.new)) }
+        ensures refused { IfErr result (RefusesEntry self.old) }
         ensures err { OnErr result (self.new ≡ self.old) }
     {
         match self {
@@ -40,6 +44,8 @@ impl Object {
     /// Holds nothing any more.
     pub(crate) fn leave(&mut self) -> Result<(), Fault>
         ensures seen { seen_of self.new ≡ seen_of self.old }
+        ensures moved { OnOk result (HasMoved WentOut (Some self.old) (Some self.new)) }
+        ensures refused { IfErr result (RefusesHolder self.old) }
         ensures err { OnErr result (self.new ≡ self.old) }
     {
         match self {
@@ -50,7 +56,8 @@ impl Object {
 
     /// The number of the held generation.
     pub(crate) fn generation(&self) -> Result<u64, Fault>
-        ensures { IfOk result (HasGeneration (seen_of self.now)) }
+        ensures ok { IfOk result (HasGeneration (seen_of self.now)) }
+        ensures refused { IfErr result (RefusesHolder self.now) }
     {
         match self {
             Object::Control(_) => Err(Fault::Handle),
@@ -60,7 +67,11 @@ impl Object {
 
     /// Looks a key up.
     pub(crate) fn lookup(&mut self, set: u32, key: &[u8], now: u64) -> Result<Option<Found>, Fault>
-        ensures ok { IfOk result (HasLookedUp (seen_of self.old) (seen_of self.new) (kinds_of self.old) set key.now now) }
+        ensures ok { IfOk result (HasLookedUp (seen_of self.old) (seen_of self.new) (kinds_in (kinds_of self.old) set) set key.now now) }
+        ensures taken { OnOk result (TakesKey (kinds_of self.old) set (length key.now)) }
+        ensures moved { OnOk result (HasMoved Stays (Some self.old) (Some self.new)) }
+        ensures refused { IfErr result (RefusesLookup set (length key.now) self.old) }
+        ensures err { OnErr result (self.new ≡ self.old) }
         ensures kinds { kinds_of self.new ≡ kinds_of self.old }
     {
         match self {
@@ -77,7 +88,11 @@ impl Object {
         now: u64,
         ids: &mut [u64],
     ) -> Result<u64, Fault>
-        ensures ok { IfOk result (HasFoundAll (seen_of self.old) (seen_of self.new) (kinds_of self.old) set keys.now now ids.new) }
+        ensures ok { IfOk result (HasFoundAll (seen_of self.old) (seen_of self.new) (kinds_in (kinds_of self.old) set) set keys.now now ids.new) }
+        ensures taken { OnOk result (TakesKeys (kinds_of self.old) set (length ids.old) (length keys.now)) }
+        ensures moved { OnOk result (HasMoved Stays (Some self.old) (Some self.new)) }
+        ensures refused { IfErr result (RefusesLookups set (length ids.old) (length keys.now) self.old) }
+        ensures err { OnErr result ((self.new ≡ self.old) × (ids.new ≡ ids.old)) }
         ensures kinds { kinds_of self.new ≡ kinds_of self.old }
     {
         match self {

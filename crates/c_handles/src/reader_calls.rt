@@ -1,6 +1,8 @@
 //! The calls on a reader's handle.
-ghost use Rattle.std.specs.Prelude.{◌≡◌, ◌<◌};
-ghost use Rattle.c_handles.specs.Calls.{HasEntered, HasFound, HasFoundAll, HasGeneration, seen_by, kinds_by};
+ghost use Rattle.std.specs.Prelude.{◌≡◌, ◌<◌, ◌*◌, length};
+ghost use Rattle.c_handles.specs.Seats.{Stays, WentIn, WentOut};
+ghost use Rattle.c_handles.specs.Calls.{HasEntered, HasFound, HasFoundAll, HasGeneration, HasMoved, TakesKey, TakesKeys, seen_by, kinds_in, kinds_by};
+ghost use Rattle.c_handles.specs.Causes.{IsRefusal, RefusesEntry, RefusesHolder, RefusesLookup, RefusesLookups};
 
 use crate::fault::{DONE, Fault};
 use crate::handle::Handle;
@@ -10,7 +12,9 @@ use std::alloc::Global;
 /// Holds the published generation until `leave`. `generation` gets its number.
 pub fn enter(alloc: Global, reader: &mut Handle, generation: &mut u64) -> u32
     ensures done { result ≡ 0 → HasEntered (seen_by reader.old.held) (seen_by reader.new.held) generation.new }
-    ensures refused { 0 < result → reader.new.held ≡ reader.old.held }
+    ensures moved { result ≡ 0 → HasMoved WentIn reader.old.held reader.new.held }
+    ensures unchanged { 0 < result → reader.new.held ≡ reader.old.held }
+    ensures refused { 0 < result → IsRefusal RefusesEntry reader.old.held result }
 {
     let Some(mut boxed) = reader.take(alloc) else {
         return Fault::Empty.code();
@@ -29,7 +33,9 @@ pub fn enter(alloc: Global, reader: &mut Handle, generation: &mut u64) -> u32
 /// Holds nothing any more.
 pub fn leave(alloc: Global, reader: &mut Handle) -> u32
     ensures seen { seen_by reader.new.held ≡ seen_by reader.old.held }
-    ensures refused { 0 < result → reader.new.held ≡ reader.old.held }
+    ensures moved { result ≡ 0 → HasMoved WentOut reader.old.held reader.new.held }
+    ensures unchanged { 0 < result → reader.new.held ≡ reader.old.held }
+    ensures refused { 0 < result → IsRefusal RefusesHolder reader.old.held result }
 {
     let Some(mut boxed) = reader.take(alloc) else {
         return Fault::Empty.code();
@@ -46,6 +52,7 @@ pub fn leave(alloc: Global, reader: &mut Handle) -> u32
 pub fn generation(alloc: Global, reader: &mut Handle, generation: &mut u64) -> u32
     ensures same { reader.new.held ≡ reader.old.held }
     ensures done { result ≡ 0 → HasGeneration (seen_by reader.old.held) generation.new }
+    ensures refused { 0 < result → IsRefusal RefusesHolder reader.old.held result }
 {
     let Some(boxed) = reader.take(alloc) else {
         return Fault::Empty.code();
@@ -70,8 +77,11 @@ pub fn lookup(
     now: u64,
     id: &mut u64,
 ) -> u32
-    ensures done { result ≡ 0 → HasFound (seen_by reader.old.held) (seen_by reader.new.held) (kinds_by reader.old.held) set key.now now id.new }
-    ensures kinds { kinds_by reader.new.held ≡ kinds_by reader.old.held }
+    ensures done { result ≡ 0 → HasFound (seen_by reader.old.held) (seen_by reader.new.held) (kinds_in (kinds_by reader.old.held) set) set key.now now id.new }
+    ensures taken { result ≡ 0 → TakesKey (kinds_by reader.old.held) set (length key.now) }
+    ensures moved { result ≡ 0 → HasMoved Stays reader.old.held reader.new.held }
+    ensures unchanged { 0 < result → (reader.new.held ≡ reader.old.held) × (id.new ≡ id.old) }
+    ensures refused { 0 < result → IsRefusal (RefusesLookup set (length key.now)) reader.old.held result }
 {
     let Some(mut boxed) = reader.take(alloc) else {
         return Fault::Empty.code();
@@ -98,8 +108,11 @@ pub fn lookup_many(
     ids: &mut [u64],
     generation: &mut u64,
 ) -> u32
-    ensures done { result ≡ 0 → HasFoundAll (seen_by reader.old.held) (seen_by reader.new.held) (kinds_by reader.old.held) set keys.now now ids.new generation.new }
-    ensures kinds { kinds_by reader.new.held ≡ kinds_by reader.old.held }
+    ensures done { result ≡ 0 → HasFoundAll (seen_by reader.old.held) (seen_by reader.new.held) (kinds_in (kinds_by reader.old.held) set) set keys.now now ids.new generation.new }
+    ensures taken { result ≡ 0 → TakesKeys (kinds_by reader.old.held) set (length ids.old) (length keys.now) }
+    ensures moved { result ≡ 0 → HasMoved Stays reader.old.held reader.new.held }
+    ensures unchanged { 0 < result → (reader.new.held ≡ reader.old.held) × (ids.new ≡ ids.old) × (generation.new ≡ generation.old) }
+    ensures refused { 0 < result → IsRefusal (RefusesLookups set (length ids.old) (length keys.now)) reader.old.held result }
 {
     let Some(mut boxed) = reader.take(alloc) else {
         return Fault::Empty.code();

@@ -1,136 +1,148 @@
 //! A reader, and the keys that it looks up with.
-ghost use Rattle.std.specs.Prelude.{◌≡◌, IfOk, OnErr};
+ghost use Rattle.std.specs.Prelude.{◌≡◌, ◌<◌, ◌*◌, length, slice_get, Some, IfOk, IfErr, OnOk, OnErr};
 ghost use Rattle.history_laws.specs.Histories.{EndsWith};
 ghost use Rattle.set_model.specs.Control.{Generation};
-ghost use Rattle.gen_publish.specs.Publish.{IsLookup, declared_kinds};
-ghost use Rattle.packed_values.specs.Packed.{values_in};
-ghost use Rattle.c_handles.specs.Calls.{AreFound, HasEntered, HasFoundAll, HasLookedUp, HasGeneration, seen_at, kinds_in};
+ghost use Rattle.gen_publish.specs.Publish.{declared_kinds};
+ghost use Rattle.packed_values.specs.Packed.{packed_length};
+ghost use Rattle.c_handles.specs.Seats.{IsDeclaredAt, IsSeated, Stays, WentIn, WentOut};
+ghost use Rattle.c_handles.specs.Calls.{AreFound, HasEntered, HasFoundAll, HasLookedUp, HasGeneration, TakesKey, TakesKeys, seen_at, kinds_in};
+ghost use Rattle.c_handles.specs.Causes.{IsNotIn, IsNotOut, RefusesKeys};
 
 use crate::fault::Fault;
+use crate::key_room::KeyRoom;
 use crate::object::id_or_none;
+use crate::place::Place;
 use gen_publish::{Held, Reader};
-use packed_values::read_key;
-use set_model::{Duplicate, Found, Key, Kinds, Memory, Schema};
-use std::alloc::Global;
+use set_model::Found;
+use std::marker::Model;
 use std::mem::replace;
 
-/// A reader that holds nothing, or one that holds a generation.
-#[derive(Drop)]
-pub enum Place {
-    Out(Reader),
-    In(Held),
-    Nowhere,
-}
-
-/// A reader; of each declared set its kinds, and a key that a lookup writes its values into.
+/// A reader, and room for a key of each declared set.
 #[derive(Drop)]
 pub struct Seat {
     place: Place,
-    kinds: Vec<Kinds>,
-    keys: Vec<Key>,
+    rooms: Vec<KeyRoom>,
 }
 
-/// The kinds of each set.
-pub(crate) fn all_kinds(alloc: Global, schema: &Schema) -> Result<Vec<Kinds>, Memory>
-    ensures { IfOk result (λ kinds. kinds.items ≡ declared_kinds schema.now) }
-{
-    let mut all = Vec::new(alloc);
-    'sets: for set in schema.as_slice() {
-        all.push(set.kinds.copy(alloc)?)?;
-    }
-    Ok(all)
-}
+impl Model for Seat {
+    ghost use Rattle.c_handles.specs.Seats.{SeatView, IsSeated};
 
-/// A key for each set, of as many values as it has fields.
-pub(crate) fn blank_keys(alloc: Global, schema: &Schema) -> Result<Vec<Key>, Memory> {
-    let mut keys = Vec::new(alloc);
-    for set in schema.as_slice() {
-        let mut key = Key::new(alloc);
-        for _ in 0..set.kinds.len() {
-            key.push(0)?;
-        }
-        keys.push(key)?;
-    }
-    Ok(keys)
-}
+    ghost Value = { SeatView };
 
-/// Looks a key up in the held generation.
-fn find(
-    held: &mut Held,
-    kinds: &[Kinds],
-    keys: &mut [Key],
-    set: u32,
-    bytes: &[u8],
-    now: u64,
-) -> Result<Option<Found>, Fault>
-    ensures same { held.new ≡ held.old }
-    ensures answer { IfOk result (λ answer. (g : Generation) → EndsWith held.old.seen g → IsLookup g set (values_in (kinds_in kinds.now set) bytes.now) now answer) }
-{
-    let place = set as usize;
-    if keys.len() <= place || kinds.len() <= place {
-        return Err(Fault::Set);
-    }
-    let kinds = &kinds[place];
-    let key = &mut keys[place];
-    if key.len() != kinds.len() {
-        return Err(Fault::Length);
-    }
-    if !read_key(key.as_mut_slice(), kinds.as_slice(), bytes) {
-        return Err(Fault::Length);
-    }
-    if !held.fits(set, key) {
-        return Err(Fault::Length);
-    }
-    Ok(held.lookup(set, key, now))
+    ghost view = { λ s. record { place = s.place; kinds = s.rooms.items } };
+
+    ghost invariant = { λ s. IsSeated s.place s.rooms.items };
 }
 
 /// Looks as many keys up in the held generation as there are places for ids, and gives the generation's number.
 fn find_all(
     held: &mut Held,
-    kinds: &[Kinds],
-    keys: &mut [Key],
+    room: &mut KeyRoom,
     set: u32,
     bytes: &[u8],
     now: u64,
     ids: &mut [u64],
-) -> Result<u64, Fault>
-    ensures same { held.new ≡ held.old }
-    ensures ids { IfOk result (λ number. (g : Generation) → EndsWith held.old.seen g → AreFound g (kinds_in kinds.now set) set bytes.now now ids.new number) }
+) -> u64
+    requires bytes { length bytes.now ≡ length ids.old * packed_length room.old }
+    requires declared { slice_get (declared_kinds held.old.schema) set ≡ Some room.old }
+    ensures same { (room.new ≡ room.old) × (held.new ≡ held.old) }
+    ensures ids { (g : Generation) → EndsWith held.old.seen g → AreFound g room.old set bytes.now now ids.new result }
 {
     if ids.is_empty() {
-        return Ok(held.generation());
+        return held.generation();
     }
     let size = bytes.len() / ids.len();
     let mut rest = bytes;
     'keys: for i in 0..ids.len() {
-        if rest.len() < size {
-            return Err(Fault::Length);
-        }
         let (first, others) = rest.split_at(size);
         rest = others;
-        ids[i] = id_or_none(find(held, kinds, keys, set, first, now)?);
+        ids[i] = id_or_none(room.find(held, set, first, now));
     }
-    if rest.is_empty() {
-        Ok(held.generation())
-    } else {
-        Err(Fault::Length)
+    held.generation()
+}
+
+/// Looks a key up in the held generation, or in the published one.
+fn look_up(
+    place: &mut Place,
+    room: &mut KeyRoom,
+    set: u32,
+    key: &[u8],
+    now: u64,
+) -> Result<Option<Found>, Fault>
+    requires bytes { length key.now ≡ packed_length room.old }
+    requires declared { IsDeclaredAt place.old set room.old }
+    ensures room { room.new ≡ room.old }
+    ensures ok { IfOk result (HasLookedUp (seen_at place.old) (seen_at place.new) room.old set key.now now) }
+    ensures stays { Stays place.old place.new }
+    ensures refused { IfErr result (λ fault. (fault ≡ Fault.Turn) × (place.old ≡ Place.Nowhere)) }
+    ensures err { OnErr result (place.new ≡ place.old) }
+{
+    match replace(place, Place::Nowhere) {
+        Place::Out(reader) => {
+            let mut held = reader.enter();
+            let found = room.find(&mut held, set, key, now);
+            *place = Place::Out(held.leave());
+            Ok(found)
+        }
+        Place::In(mut held) => {
+            let found = room.find(&mut held, set, key, now);
+            *place = Place::In(held);
+            Ok(found)
+        }
+        Place::Nowhere => Err(Fault::Turn),
+    }
+}
+
+/// Looks keys up in the held generation, or all in the published one.
+fn look_all_up(
+    place: &mut Place,
+    room: &mut KeyRoom,
+    set: u32,
+    keys: &[u8],
+    now: u64,
+    ids: &mut [u64],
+) -> Result<u64, Fault>
+    requires bytes { length keys.now ≡ length ids.old * packed_length room.old }
+    requires declared { IsDeclaredAt place.old set room.old }
+    ensures room { room.new ≡ room.old }
+    ensures ok { IfOk result (HasFoundAll (seen_at place.old) (seen_at place.new) room.old set keys.now now ids.new) }
+    ensures stays { Stays place.old place.new }
+    ensures refused { IfErr result (λ fault. (fault ≡ Fault.Turn) × (place.old ≡ Place.Nowhere)) }
+    ensures err { OnErr result ((place.new ≡ place.old) × (ids.new ≡ ids.old)) }
+{
+    match replace(place, Place::Nowhere) {
+        Place::Out(reader) => {
+            let mut held = reader.enter();
+            let number = find_all(&mut held, room, set, keys, now, ids);
+            *place = Place::Out(held.leave());
+            Ok(number)
+        }
+        Place::In(mut held) => {
+            let number = find_all(&mut held, room, set, keys, now, ids);
+            *place = Place::In(held);
+            Ok(number)
+        }
+        Place::Nowhere => Err(Fault::Turn),
     }
 }
 
 impl Seat {
-    pub(crate) fn new(reader: Reader, kinds: Vec<Kinds>, keys: Vec<Key>) -> Seat
-        ensures { (result.place ≡ Place.Out reader) × (result.kinds ≡ kinds) }
+    pub(crate) fn new(reader: Reader, rooms: Vec<KeyRoom>) -> Seat
+        requires { rooms.items ≡ declared_kinds reader.schema }
+        ensures { (result.place ≡ Place.Out reader) × (result.kinds ≡ rooms.items) }
     {
         Seat {
             place: Place::Out(reader),
-            kinds,
-            keys,
+            rooms,
         }
     }
 
     /// Holds the published generation, and gives its number.
     pub(crate) fn enter(&mut self) -> Result<u64, Fault>
         ensures ok { IfOk result (HasEntered (seen_at self.old.place) (seen_at self.new.place)) }
+        ensures moved { OnOk result (WentIn self.old.place self.new.place) }
+        ensures kinds { self.new.kinds ≡ self.old.kinds }
+        ensures refused { IfErr result (λ fault. (fault ≡ Fault.Turn) × IsNotOut self.old.place) }
         ensures err { OnErr result (self.new ≡ self.old) }
     {
         match replace(&mut self.place, Place::Nowhere) {
@@ -140,16 +152,20 @@ impl Seat {
                 self.place = Place::In(held);
                 Ok(number)
             }
-            other => {
-                self.place = other;
+            Place::In(held) => {
+                self.place = Place::In(held);
                 Err(Fault::Turn)
             }
+            Place::Nowhere => Err(Fault::Turn),
         }
     }
 
     /// Holds nothing any more.
     pub(crate) fn leave(&mut self) -> Result<(), Fault>
         ensures seen { seen_at self.new.place ≡ seen_at self.old.place }
+        ensures moved { OnOk result (WentOut self.old.place self.new.place) }
+        ensures kinds { self.new.kinds ≡ self.old.kinds }
+        ensures refused { IfErr result (λ fault. (fault ≡ Fault.Turn) × IsNotIn self.old.place) }
         ensures err { OnErr result (self.new ≡ self.old) }
     {
         match replace(&mut self.place, Place::Nowhere) {
@@ -157,56 +173,43 @@ impl Seat {
                 self.place = Place::Out(held.leave());
                 Ok(())
             }
-            other => {
-                self.place = other;
+            Place::Out(reader) => {
+                self.place = Place::Out(reader);
                 Err(Fault::Turn)
             }
+            Place::Nowhere => Err(Fault::Turn),
         }
     }
 
     /// The number of the held generation.
     pub(crate) fn generation(&self) -> Result<u64, Fault>
-        ensures { IfOk result (HasGeneration (seen_at self.now.place)) }
+        ensures ok { IfOk result (HasGeneration (seen_at self.now.place)) }
+        ensures refused { IfErr result (λ fault. (fault ≡ Fault.Turn) × IsNotIn self.now.place) }
     {
         match &self.place {
             Place::In(held) => Ok(held.generation()),
-            Place::Out(_) | Place::Nowhere => Err(Fault::Turn),
+            Place::Out(_) => Err(Fault::Turn),
+            Place::Nowhere => Err(Fault::Turn),
         }
     }
 
     /// Looks a key up in the held generation, or in the published one.
     pub(crate) fn lookup(&mut self, set: u32, key: &[u8], now: u64) -> Result<Option<Found>, Fault>
-        ensures ok { IfOk result (HasLookedUp (seen_at self.old.place) (seen_at self.new.place) self.old.kinds.items set key.now now) }
+        ensures ok { IfOk result (HasLookedUp (seen_at self.old.place) (seen_at self.new.place) (kinds_in self.old.kinds set) set key.now now) }
+        ensures taken { OnOk result (TakesKey self.old.kinds set (length key.now)) }
+        ensures stays { Stays self.old.place self.new.place }
         ensures kinds { self.new.kinds ≡ self.old.kinds }
+        ensures refused { IfErr result (RefusesKeys (λ kinds. packed_length kinds) set (length key.now) self.old) }
+        ensures err { OnErr result (self.new ≡ self.old) }
     {
-        match replace(&mut self.place, Place::Nowhere) {
-            Place::Out(reader) => {
-                let mut held = reader.enter();
-                let answer = find(
-                    &mut held,
-                    self.kinds.as_slice(),
-                    self.keys.as_mut_slice(),
-                    set,
-                    key,
-                    now,
-                );
-                self.place = Place::Out(held.leave());
-                answer
-            }
-            Place::In(mut held) => {
-                let answer = find(
-                    &mut held,
-                    self.kinds.as_slice(),
-                    self.keys.as_mut_slice(),
-                    set,
-                    key,
-                    now,
-                );
-                self.place = Place::In(held);
-                answer
-            }
-            Place::Nowhere => Err(Fault::Turn),
+        let place = set as usize;
+        if self.rooms.len() <= place {
+            return Err(Fault::Set);
         }
+        if !self.rooms[place].takes(key.len()) {
+            return Err(Fault::Length);
+        }
+        look_up(&mut self.place, &mut self.rooms[place], set, key, now)
     }
 
     /// Looks keys up in the held generation, or all in the published one.
@@ -217,38 +220,20 @@ impl Seat {
         now: u64,
         ids: &mut [u64],
     ) -> Result<u64, Fault>
-        ensures ok { IfOk result (HasFoundAll (seen_at self.old.place) (seen_at self.new.place) self.old.kinds.items set keys.now now ids.new) }
+        ensures ok { IfOk result (HasFoundAll (seen_at self.old.place) (seen_at self.new.place) (kinds_in self.old.kinds set) set keys.now now ids.new) }
+        ensures taken { OnOk result (TakesKeys self.old.kinds set (length ids.old) (length keys.now)) }
+        ensures stays { Stays self.old.place self.new.place }
         ensures kinds { self.new.kinds ≡ self.old.kinds }
+        ensures refused { IfErr result (RefusesKeys (λ kinds. length ids.old * packed_length kinds) set (length keys.now) self.old) }
+        ensures err { OnErr result ((self.new ≡ self.old) × (ids.new ≡ ids.old)) }
     {
-        match replace(&mut self.place, Place::Nowhere) {
-            Place::Out(reader) => {
-                let mut held = reader.enter();
-                let answer = find_all(
-                    &mut held,
-                    self.kinds.as_slice(),
-                    self.keys.as_mut_slice(),
-                    set,
-                    keys,
-                    now,
-                    ids,
-                );
-                self.place = Place::Out(held.leave());
-                answer
-            }
-            Place::In(mut held) => {
-                let answer = find_all(
-                    &mut held,
-                    self.kinds.as_slice(),
-                    self.keys.as_mut_slice(),
-                    set,
-                    keys,
-                    now,
-                    ids,
-                );
-                self.place = Place::In(held);
-                answer
-            }
-            Place::Nowhere => Err(Fault::Turn),
+        let place = set as usize;
+        if self.rooms.len() <= place {
+            return Err(Fault::Set);
         }
+        if !self.rooms[place].takes_all(ids.len(), keys.len()) {
+            return Err(Fault::Length);
+        }
+        look_all_up(&mut self.place, &mut self.rooms[place], set, keys, now, ids)
     }
 }

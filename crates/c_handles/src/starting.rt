@@ -1,11 +1,12 @@
 //! How the handles get what they hold, and how that ends.
-ghost use Rattle.std.specs.Prelude.{◌≡◌, ◌<◌, length, Some, None, IfOk};
-ghost use Rattle.c_handles.specs.Starting.{IsNewControl, HasStarted};
+ghost use Rattle.std.specs.Prelude.{◌≡◌, ◌<◌, length, map, All, Some, None, IfOk};
+ghost use Rattle.c_handles.specs.Starting.{IsNewControl, HasStarted, IsOf, seated};
 
 use crate::fault::{DONE, Fault};
 use crate::handle::Handle;
+use crate::key_room::key_rooms;
 use crate::object::Object;
-use crate::seat::{Seat, all_kinds, blank_keys};
+use crate::seat::Seat;
 use crate::shapes::{SetShape, schema_of};
 use gen_publish::{Control, Reader, start as start_all};
 use set_model::Schema;
@@ -18,17 +19,23 @@ pub struct Boxes {
     pub readers: Vec<Box<Object>>,
 }
 
+/// The box of a reader.
+fn seat_one(alloc: Global, schema: &Schema, reader: Reader) -> Result<Box<Object>, Fault>
+    requires { IsOf schema.now reader }
+    ensures { IfOk result (λ boxed. boxed.value ≡ seated reader) }
+{
+    let rooms = key_rooms(alloc, schema)?;
+    Ok(Box::new(alloc, Object::Reader(Seat::new(reader, rooms)))?)
+}
+
 /// A box for each reader.
-fn seat_all(
-    alloc: Global,
-    schema: &Schema,
-    readers: Vec<Reader>,
-) -> Result<Vec<Box<Object>>, Fault> {
+fn seat_all(alloc: Global, schema: &Schema, readers: Vec<Reader>) -> Result<Vec<Box<Object>>, Fault>
+    requires { All (IsOf schema.now) readers.items }
+    ensures { IfOk result (λ boxes. map (λ b. b.value) boxes.items ≡ map seated readers.items) }
+{
     let mut boxes = Vec::new(alloc);
-    for reader in readers {
-        let kinds = all_kinds(alloc, schema)?;
-        let keys = blank_keys(alloc, schema)?;
-        boxes.push(Box::new(alloc, Object::Reader(Seat::new(reader, kinds, keys)))?)?;
+    'readers: for reader in readers {
+        boxes.push(seat_one(alloc, schema, reader)?)?;
     }
     Ok(boxes)
 }
@@ -39,7 +46,9 @@ fn seat_all(
 ///
 /// `Memory` if there is none left.
 pub fn boxed(alloc: Global, control: Control, readers: Vec<Reader>) -> Result<Boxes, Fault>
-    ensures { IfOk result (λ boxes. boxes.control.value ≡ Object.Control control) }
+    requires { All (IsOf control.schema) readers.items }
+    ensures control { IfOk result (λ boxes. boxes.control.value ≡ Object.Control control) }
+    ensures readers { IfOk result (λ boxes. map (λ b. b.value) boxes.readers.items ≡ map seated readers.items) }
 {
     let readers = seat_all(alloc, control.schema(), readers)?;
     let control = Box::new(alloc, Object::Control(control))?;

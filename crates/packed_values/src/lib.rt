@@ -7,4 +7,4 @@ mod kind_width;
 mod unpack;
 
 pub use kind_width::width;
-pub use unpack::{read_key, read_parts};
+pub use unpack::{PartsError, has_length, have_length, read_key, read_parts};

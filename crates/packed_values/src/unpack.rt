@@ -1,6 +1,7 @@
-ghost use Rattle.std.specs.Prelude.{◌≡◌, ◌≤◌, ◌+◌, ◌*◌, length, IsTrue, IfOk, IfSome};
+ghost use Rattle.std.specs.Prelude.{◌≡◌, ◌≤◌, ◌*◌, ◌↔◌, length, true, IsTrue, IfOk, IfErr};
+ghost use Rattle.set_model.specs.Key.{key_fits, parts_fit};
 ghost use Rattle.addr_text.specs.Numbers.{big_endian};
-ghost use Rattle.packed_values.specs.Packed.{values_in, intervals_in, parts_in, packed_length};
+ghost use Rattle.packed_values.specs.Packed.{values_in, intervals_in, parts_in, packed_length, IsBounds, all_rise, Refuses};
 
 use crate::kind_width::width;
 use set_model::{Interval, Kind, Memory, Parts};
@@ -18,24 +19,44 @@ fn number(bytes: &[u8]) -> u128
     value
 }
 
-/// Writes the values that the bytes stand for into a key of as many fields. Says whether there are as many bytes as the
-/// fields have.
-pub fn read_key(key: &mut [u128], kinds: &[Kind], bytes: &[u8]) -> bool
-    requires { length key.old ≡ length kinds.now }
-    ensures values { IsTrue result → key.new ≡ values_in kinds.now bytes.now }
-    ensures length { IsTrue result → length bytes.now ≡ packed_length kinds.now }
+/// Whether a key of these kinds has so many bytes.
+pub fn has_length(kinds: &[Kind], length: usize) -> bool
+    ensures { IsTrue result ↔ (length ≡ packed_length kinds.now) }
+{
+    let mut left = length;
+    'fields: for kind in kinds {
+        let size = width(*kind);
+        if left < size {
+            return false;
+        }
+        left -= size;
+    }
+    left == 0
+}
+
+/// Whether so many keys of these kinds have so many bytes together.
+pub fn have_length(kinds: &[Kind], count: usize, length: usize) -> bool
+    ensures { IsTrue result ↔ (length ≡ count * packed_length kinds.now) }
+{
+    if count == 0 {
+        return length == 0;
+    }
+    length % count == 0 && has_length(kinds, length / count)
+}
+
+/// Writes the values that the bytes stand for into a key of as many fields.
+pub fn read_key(key: &mut [u128], kinds: &[Kind], bytes: &[u8])
+    requires fields { length key.old ≡ length kinds.now }
+    requires bytes { length bytes.now ≡ packed_length kinds.now }
+    ensures values { key.new ≡ values_in kinds.now bytes.now }
+    ensures fits { key_fits kinds.now key.new ≡ true }
 {
     let mut rest = bytes;
     'fields: for i in 0..kinds.len() {
-        let size = width(kinds[i]);
-        if rest.len() < size {
-            return false;
-        }
-        let (front, others) = rest.split_at(size);
+        let (front, others) = rest.split_at(width(kinds[i]));
         rest = others;
         key[i] = number(front);
     }
-    rest.is_empty()
 }
 
 /// The intervals whose low values are one row of bytes, and whose high values are another.
@@ -44,17 +65,17 @@ fn read_intervals(
     kinds: &[Kind],
     lows: &[u8],
     highs: &[u8],
-) -> Result<Option<Vec<Interval>>, Memory>
-    ensures { IfOk result (λ found. IfSome found (λ intervals. (intervals.items ≡ intervals_in kinds.now lows.now highs.now) × (length lows.now ≡ packed_length kinds.now) × (length highs.now ≡ packed_length kinds.now))) }
+) -> Result<Vec<Interval>, Memory>
+    requires lows { length lows.now ≡ packed_length kinds.now }
+    requires highs { length highs.now ≡ packed_length kinds.now }
+    ensures intervals { IfOk result (λ intervals. intervals.items ≡ intervals_in kinds.now lows.now highs.now) }
+    ensures fit { IfOk result (λ intervals. parts_fit kinds.now intervals.items ≡ all_rise intervals.items) }
 {
     let mut intervals = Vec::new(alloc);
     let mut rest_of_lows = lows;
     let mut rest_of_highs = highs;
     'fields: for i in 0..kinds.len() {
         let size = width(kinds[i]);
-        if rest_of_lows.len() < size || rest_of_highs.len() < size {
-            return Ok(None);
-        }
         let (low, other_lows) = rest_of_lows.split_at(size);
         let (high, other_highs) = rest_of_highs.split_at(size);
         rest_of_lows = other_lows;
@@ -64,25 +85,48 @@ fn read_intervals(
             high: number(high),
         })?;
     }
-    if rest_of_lows.is_empty() && rest_of_highs.is_empty() {
-        Ok(Some(intervals))
-    } else {
-        Ok(None)
-    }
+    Ok(intervals)
+}
+
+/// Whether no interval falls.
+fn rise(parts: &[Interval]) -> bool
+    ensures { result ≡ all_rise parts.now }
+{
+    parts.iter().all(|part| part.low <= part.high)
+}
+
+/// Why bytes are no intervals.
+#[derive(Clone, Copy)]
+pub enum PartsError {
+    /// There aren't as many bytes as two keys have.
+    Length,
+    /// The low value of an interval is above its high value.
+    Falls,
+    /// There is no memory left.
+    Memory,
 }
 
 /// The intervals of an element: the first half of the bytes are the low values of all fields, the other half the high ones.
-/// `None` if there aren't as many bytes as the fields have.
 ///
 /// # Errors
 ///
-/// `Memory` if there is none left.
-pub fn read_parts(alloc: Global, kinds: &[Kind], bounds: &[u8]) -> Result<Option<Parts>, Memory>
-    ensures { IfOk result (λ found. IfSome found (λ parts. (parts ≡ parts_in kinds.now bounds.now) × (length bounds.now ≡ 2 * packed_length kinds.now))) }
+/// `Length` if there aren't as many bytes as two keys have, and then `Falls` if an interval falls. `Memory` if there is none
+/// left.
+pub fn read_parts(alloc: Global, kinds: &[Kind], bounds: &[u8]) -> Result<Parts, PartsError>
+    ensures parts { IfOk result (λ parts. parts ≡ parts_in kinds.now bounds.now) }
+    ensures bounds { IfOk result (λ parts. IsBounds kinds.now bounds.now) }
+    ensures fit { IfOk result (λ parts. (all_rise parts ≡ true) × (parts_fit kinds.now parts ≡ true)) }
+    ensures refused { IfErr result (Refuses kinds.now bounds.now) }
 {
     let (lows, highs) = bounds.split_at(bounds.len() / 2);
-    match read_intervals(alloc, kinds, lows, highs)? {
-        Some(intervals) => Ok(Some(Parts::from_vec(alloc, intervals))),
-        None => Ok(None),
+    if !has_length(kinds, lows.len()) || !has_length(kinds, highs.len()) {
+        return Err(PartsError::Length);
     }
+    let Ok(intervals) = read_intervals(alloc, kinds, lows, highs) else {
+        return Err(PartsError::Memory);
+    };
+    if !rise(intervals.as_slice()) {
+        return Err(PartsError::Falls);
+    }
+    Ok(Parts::from_vec(alloc, intervals))
 }

@@ -6,9 +6,11 @@
 //! **Definitions:** those of `c_handles`.
 #![tactic(auto)]
 
-ghost use Rattle.std.specs.Prelude.{◌≡◌, ◌<◌, length, None};
+ghost use Rattle.std.specs.Prelude.{◌≡◌, ◌<◌, ◌*◌, length, None};
 ghost use Rattle.c_handles.specs.Starting.{HasStarted};
-ghost use Rattle.c_handles.specs.Calls.{HasInserted, HasCreated, HasDeleted, HasDestroyed, HasFlushed, HasCommitted, HasAborted, HasNumber, HasEntered, HasFound, HasFoundAll, HasGeneration, seen_by, kinds_by};
+ghost use Rattle.c_handles.specs.Seats.{Stays, WentIn, WentOut};
+ghost use Rattle.c_handles.specs.Causes.{IsRefusal, IsRefusedChange, RefusesInsertion, RefusesCreation, RefusesDeletion, RefusesDestruction, RefusesFlush, RefusesCommit, RefusesReaders, RefusesEntry, RefusesHolder, RefusesLookup, RefusesLookups};
+ghost use Rattle.c_handles.specs.Calls.{HasInserted, HasCreated, HasDeleted, HasDestroyed, HasFlushed, HasCommitted, HasAborted, HasNumber, HasEntered, HasFound, HasFoundAll, HasGeneration, HasMoved, TakesKey, TakesKeys, seen_by, kinds_in, kinds_by};
 
 use c_handles::{Answer, Handle, SetShape};
 use std::alloc::Global;
@@ -45,7 +47,8 @@ pub extern "C" fn pipapo_insert(
     answer: &mut Answer,
 ) -> u32
     ensures done { result ≡ 0 → HasInserted control.old.held set bounds.now expiry comment.now now control.new.held answer.new }
-    ensures refused { 0 < result → control.new.held ≡ control.old.held }
+    ensures unchanged { 0 < result → control.new.held ≡ control.old.held }
+    ensures refused { 0 < result → IsRefusedChange (RefusesInsertion set bounds.now expiry comment.now now) control.old.held result answer.new }
 {
     c_handles::insert(alloc, control, set, bounds, expiry, comment, now, answer)
 }
@@ -62,7 +65,8 @@ pub extern "C" fn pipapo_create(
     answer: &mut Answer,
 ) -> u32
     ensures done { result ≡ 0 → HasCreated control.old.held set bounds.now expiry comment.now now control.new.held answer.new }
-    ensures refused { 0 < result → control.new.held ≡ control.old.held }
+    ensures unchanged { 0 < result → control.new.held ≡ control.old.held }
+    ensures refused { 0 < result → IsRefusedChange (RefusesCreation set bounds.now expiry comment.now now) control.old.held result answer.new }
 {
     c_handles::create(alloc, control, set, bounds, expiry, comment, now, answer)
 }
@@ -77,7 +81,8 @@ pub extern "C" fn pipapo_delete(
     answer: &mut Answer,
 ) -> u32
     ensures done { result ≡ 0 → HasDeleted control.old.held set bounds.now now control.new.held answer.new }
-    ensures refused { 0 < result → control.new.held ≡ control.old.held }
+    ensures unchanged { 0 < result → control.new.held ≡ control.old.held }
+    ensures refused { 0 < result → IsRefusedChange (RefusesDeletion set bounds.now now) control.old.held result answer.new }
 {
     c_handles::delete(alloc, control, set, bounds, now, answer)
 }
@@ -92,7 +97,8 @@ pub extern "C" fn pipapo_destroy(
     answer: &mut Answer,
 ) -> u32
     ensures done { result ≡ 0 → HasDestroyed control.old.held set bounds.now now control.new.held answer.new }
-    ensures refused { 0 < result → control.new.held ≡ control.old.held }
+    ensures unchanged { 0 < result → control.new.held ≡ control.old.held }
+    ensures refused { 0 < result → IsRefusedChange (RefusesDestruction set bounds.now) control.old.held result answer.new }
 {
     c_handles::destroy(alloc, control, set, bounds, now, answer)
 }
@@ -105,7 +111,8 @@ pub extern "C" fn pipapo_flush(
     count: &mut u64,
 ) -> u32
     ensures done { result ≡ 0 → HasFlushed control.old.held set control.new.held count.new }
-    ensures refused { 0 < result → control.new.held ≡ control.old.held }
+    ensures unchanged { 0 < result → control.new.held ≡ control.old.held }
+    ensures refused { 0 < result → IsRefusal (RefusesFlush set) control.old.held result }
 {
     c_handles::flush(alloc, control, set, count)
 }
@@ -119,7 +126,8 @@ pub extern "C" fn pipapo_commit(
     purged: &mut u64,
 ) -> u32
     ensures done { result ≡ 0 → HasCommitted control.old.held now control.new.held (record { generation = generation.new; purged = purged.new }) }
-    ensures refused { 0 < result → control.new.held ≡ control.old.held }
+    ensures unchanged { 0 < result → control.new.held ≡ control.old.held }
+    ensures refused { 0 < result → IsRefusal RefusesCommit control.old.held result }
 {
     c_handles::commit(alloc, control, now, generation, purged)
 }
@@ -127,7 +135,8 @@ pub extern "C" fn pipapo_commit(
 #[unsafe(no_mangle)]
 pub extern "C" fn pipapo_abort(alloc: Global, control: &mut Handle) -> u32
     ensures done { result ≡ 0 → HasAborted control.old.held control.new.held }
-    ensures refused { 0 < result → control.new.held ≡ control.old.held }
+    ensures unchanged { 0 < result → control.new.held ≡ control.old.held }
+    ensures refused { 0 < result → IsRefusal RefusesReaders control.old.held result }
 {
     c_handles::abort(alloc, control)
 }
@@ -136,6 +145,7 @@ pub extern "C" fn pipapo_abort(alloc: Global, control: &mut Handle) -> u32
 pub extern "C" fn pipapo_number(alloc: Global, control: &mut Handle, generation: &mut u64) -> u32
     ensures same { control.new.held ≡ control.old.held }
     ensures done { result ≡ 0 → HasNumber control.old.held generation.new }
+    ensures refused { 0 < result → IsRefusal RefusesReaders control.old.held result }
 {
     c_handles::number(alloc, control, generation)
 }
@@ -143,7 +153,9 @@ pub extern "C" fn pipapo_number(alloc: Global, control: &mut Handle, generation:
 #[unsafe(no_mangle)]
 pub extern "C" fn pipapo_enter(alloc: Global, reader: &mut Handle, generation: &mut u64) -> u32
     ensures done { result ≡ 0 → HasEntered (seen_by reader.old.held) (seen_by reader.new.held) generation.new }
-    ensures refused { 0 < result → reader.new.held ≡ reader.old.held }
+    ensures moved { result ≡ 0 → HasMoved WentIn reader.old.held reader.new.held }
+    ensures unchanged { 0 < result → reader.new.held ≡ reader.old.held }
+    ensures refused { 0 < result → IsRefusal RefusesEntry reader.old.held result }
 {
     c_handles::enter(alloc, reader, generation)
 }
@@ -151,7 +163,9 @@ pub extern "C" fn pipapo_enter(alloc: Global, reader: &mut Handle, generation: &
 #[unsafe(no_mangle)]
 pub extern "C" fn pipapo_leave(alloc: Global, reader: &mut Handle) -> u32
     ensures seen { seen_by reader.new.held ≡ seen_by reader.old.held }
-    ensures refused { 0 < result → reader.new.held ≡ reader.old.held }
+    ensures moved { result ≡ 0 → HasMoved WentOut reader.old.held reader.new.held }
+    ensures unchanged { 0 < result → reader.new.held ≡ reader.old.held }
+    ensures refused { 0 < result → IsRefusal RefusesHolder reader.old.held result }
 {
     c_handles::leave(alloc, reader)
 }
@@ -160,6 +174,7 @@ pub extern "C" fn pipapo_leave(alloc: Global, reader: &mut Handle) -> u32
 pub extern "C" fn pipapo_generation(alloc: Global, reader: &mut Handle, generation: &mut u64) -> u32
     ensures same { reader.new.held ≡ reader.old.held }
     ensures done { result ≡ 0 → HasGeneration (seen_by reader.old.held) generation.new }
+    ensures refused { 0 < result → IsRefusal RefusesHolder reader.old.held result }
 {
     c_handles::generation(alloc, reader, generation)
 }
@@ -173,8 +188,11 @@ pub extern "C" fn pipapo_lookup(
     now: u64,
     id: &mut u64,
 ) -> u32
-    ensures done { result ≡ 0 → HasFound (seen_by reader.old.held) (seen_by reader.new.held) (kinds_by reader.old.held) set key.now now id.new }
-    ensures kinds { kinds_by reader.new.held ≡ kinds_by reader.old.held }
+    ensures done { result ≡ 0 → HasFound (seen_by reader.old.held) (seen_by reader.new.held) (kinds_in (kinds_by reader.old.held) set) set key.now now id.new }
+    ensures taken { result ≡ 0 → TakesKey (kinds_by reader.old.held) set (length key.now) }
+    ensures moved { result ≡ 0 → HasMoved Stays reader.old.held reader.new.held }
+    ensures unchanged { 0 < result → (reader.new.held ≡ reader.old.held) × (id.new ≡ id.old) }
+    ensures refused { 0 < result → IsRefusal (RefusesLookup set (length key.now)) reader.old.held result }
 {
     c_handles::lookup(alloc, reader, set, key, now, id)
 }
@@ -189,8 +207,11 @@ pub extern "C" fn pipapo_lookup_many(
     ids: &mut [u64],
     generation: &mut u64,
 ) -> u32
-    ensures done { result ≡ 0 → HasFoundAll (seen_by reader.old.held) (seen_by reader.new.held) (kinds_by reader.old.held) set keys.now now ids.new generation.new }
-    ensures kinds { kinds_by reader.new.held ≡ kinds_by reader.old.held }
+    ensures done { result ≡ 0 → HasFoundAll (seen_by reader.old.held) (seen_by reader.new.held) (kinds_in (kinds_by reader.old.held) set) set keys.now now ids.new generation.new }
+    ensures taken { result ≡ 0 → TakesKeys (kinds_by reader.old.held) set (length ids.old) (length keys.now) }
+    ensures moved { result ≡ 0 → HasMoved Stays reader.old.held reader.new.held }
+    ensures unchanged { 0 < result → (reader.new.held ≡ reader.old.held) × (ids.new ≡ ids.old) × (generation.new ≡ generation.old) }
+    ensures refused { 0 < result → IsRefusal (RefusesLookups set (length ids.old) (length keys.now)) reader.old.held result }
 {
     c_handles::lookup_many(alloc, reader, set, keys, now, ids, generation)
 }

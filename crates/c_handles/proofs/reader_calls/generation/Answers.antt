@@ -7,4 +7,4 @@ use Rattle.c_handles.proofs.reader_calls.generation.Goals as goal
 pub returns-in-Ok-clause-done : goal.returns-in-Ok-clause-done
 returns-in-Ok-clause-done c = λ _ g e.
     let same : c.in-Some.boxed.value ≡ c.deref.result.now = search rules in
-    c.in-Ok.ensures g (subst (λ (x : Object). EndsWith (seen_of x) g) same (subst (λ (h : Option Object). EndsWith (seen_by h) g) c.in-Some.ensures.old e))
+    c.in-Ok.ensures.ok g (subst (λ (x : Object). EndsWith (seen_of x) g) same (subst (λ (h : Option Object). EndsWith (seen_by h) g) c.in-Some.ensures.old e))

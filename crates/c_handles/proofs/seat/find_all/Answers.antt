@@ -1,26 +1,51 @@
-use Rattle.std.proofs.Common.{rules, ◌≡◌, ℕ, List, ◌+◌, ◌-◌, ◌++◌, ◌/◌, length, take, ap, sym, ◌∙◌, subst}
-use Rattle.std.proofs.lemmas.List.{length-set}
+use Rattle.std.proofs.Common.{rules, ◌≡◌, ℕ, List, ◌+◌, ◌-◌, ◌*◌, ◌++◌, ◌/◌, length, take, ap, sym, ◌∙◌, subst}
+use Rattle.std.proofs.lemmas.List.{length-set, length-drop, length-take-le}
 use Rattle.std.specs.Prelude.{slice_set}
 use Rattle.history_laws.specs.Histories.{EndsWith}
+use Rattle.set_model.specs.declared.kind.Kind.{Kind}
 use Rattle.pipapo_image.specs.Image.Found.{found}
 use Rattle.gen_publish.specs.Publish.{ReaderView}
-use Rattle.packed_values.specs.Packed.{values_in}
+use Rattle.packed_values.specs.Packed.{values_in, packed_length}
 use Rattle.c_handles.specs.Codes.{id_of}
-use Rattle.c_handles.specs.Calls.{ids_in, kinds_in}
-use Rattle.c_handles.proofs.Batch.{one_more, found_at, no_more, none_asked}
+use Rattle.c_handles.specs.Calls.{ids_in}
+use Rattle.c_handles.proofs.Batch.{one_more, found_at, no_more, none_asked, enough, one_less, key_size, all_left, none_yet}
 use Rattle.c_handles.proofs.seat.find_all.Goals as goal
+
+pub split_at-requires : goal.split_at-requires
+split_at-requires c = enough (length c.keys.ids) c.keys.i (length c.args.bytes.now / length c.args.ids.now) (length c.keys.rest.now) (search rules) c.keys.invariant.left
+
+pub find-requires-clause-bytes : goal.find-requires-clause-bytes
+find-requires-clause-bytes c =
+    let size = length c.args.bytes.now / length c.args.ids.now in
+    let room = enough (length c.keys.ids) c.keys.i size (length c.keys.rest.now) (search rules) c.keys.invariant.left in
+    ap length c.split_at.ensures.front ∙ (length-take-le size c.keys.rest.now room ∙ (c.keys.invariant.size ∙ ap (λ (ks : List Kind). packed_length ks) (sym c.keys.invariant.room)))
+
+pub keys-init : goal.keys-init
+keys-init c =
+    let size = key_size (length c.args.bytes.now) (length c.args.ids.now) (packed_length c.args.room.now) (search rules) c.requires.bytes in
+    record {
+      room = search rules;
+      held = search rules;
+      count = search rules;
+      size = size;
+      left = all_left (length c.args.bytes.now) (length c.args.ids.now) (length c.args.bytes.now / length c.args.ids.now) (packed_length c.args.room.now) c.requires.bytes size;
+      ids = λ g e s at. none_yet s c.args.room.now (length c.args.bytes.now / length c.args.ids.now) c.args.now c.args.ids.now c.args.bytes.now;
+    }
 
 pub keys-preserved : goal.keys-preserved
 keys-preserved c =
-    let kinds = kinds_in c.args.kinds.now c.args.set in let size = length c.args.bytes.now / length c.args.ids.now in let now = c.args.now in let i = c.keys.i in let x = c.id_or_none.result in let count = length-set c.keys.ids i x in
+    let kinds = c.args.room.now in let size = length c.args.bytes.now / length c.args.ids.now in let now = c.args.now in let i = c.keys.i in let x = c.id_or_none.result in let count = length-set c.keys.ids i x in
     record {
-      same = c.find.ensures.same ∙ c.keys.invariant.same;
+      room = c.find.ensures.same.0 ∙ c.keys.invariant.room;
+      held = c.find.ensures.same.1 ∙ c.keys.invariant.held;
       count = count ∙ c.keys.invariant.count;
+      size = c.keys.invariant.size;
+      left = ap length c.split_at.ensures.back ∙ (length-drop size c.keys.rest.now ∙ (one_less (length c.keys.ids) i size (length c.keys.rest.now) (search rules) c.keys.invariant.left ∙ ap (λ (n : ℕ). (n - (i + 1)) * size) (sym count)));
       ids = λ g e s at.
-          let here : EndsWith c.keys.held.seen g = subst (λ (h : ReaderView). EndsWith h.seen g) (sym c.keys.invariant.same) e in
-          let l = c.in_ok-find.ensures.answer g here in
+          let here : EndsWith c.keys.held.seen g = subst (λ (h : ReaderView). EndsWith h.seen g) (sym c.keys.invariant.held) e in
+          let l = c.find.ensures.answer g here in
           let is : x ≡ id_of (found s (values_in kinds (take size c.keys.rest.now)) now) =
-          c.id_or_none.ensures ∙ (ap id_of (found_at g s c.args.set _ now _ l at) ∙ ap (λ (vs : List ℕ). id_of (found s (values_in kinds vs) now)) c.split_at.ensures.front) in
+          c.id_or_none.ensures ∙ (ap id_of (found_at g s c.args.set _ now _ l at) ∙ (ap (λ (ks : List Kind). id_of (found s (values_in ks c.split_at.result.0.now) now)) c.keys.invariant.room ∙ ap (λ (vs : List ℕ). id_of (found s (values_in kinds vs) now)) c.split_at.ensures.front)) in
           let next = one_more s kinds size now c.keys.ids i c.keys.rest.now x (ids_in s kinds size now (length c.keys.ids) c.args.bytes.now) (search rules) is (c.keys.invariant.ids g e s at) in
           subst (λ (rest : List ℕ). take (i + 1) (slice_set c.keys.ids i x) ++ ids_in s kinds size now (length (slice_set c.keys.ids i x) - (i + 1)) rest ≡ ids_in s kinds size now (length (slice_set c.keys.ids i x)) c.args.bytes.now)
           (sym c.split_at.ensures.back) (next ∙ ap (λ (n : ℕ). ids_in s kinds size now n c.args.bytes.now) (sym count));
@@ -29,14 +54,14 @@ keys-preserved c =
 pub returns-then-is_empty-clause-ids : goal.returns-then-is_empty-clause-ids
 returns-then-is_empty-clause-ids c = λ g e. record {
   numbered = c.generation.ensures.last g e;
-  are = λ s at. none_asked s (kinds_in c.args.kinds.now c.args.set) _ c.args.now c.args.ids.now c.args.bytes.now (search rules);
+  are = λ s at. none_asked s c.args.room.now _ c.args.now c.args.ids.now c.args.bytes.now (search rules);
 }
 
-pub returns-then-is_empty-2-clause-ids : goal.returns-then-is_empty-2-clause-ids
-returns-then-is_empty-2-clause-ids c = λ g e. record {
-  numbered = c.generation-then-is_empty-2.ensures.last g (subst (λ (h : ReaderView). EndsWith h.seen g) (sym c.keys.invariant.same) e);
+pub returns-clause-ids : goal.returns-clause-ids
+returns-clause-ids c = λ g e. record {
+  numbered = c.generation-2.ensures.last g (subst (λ (h : ReaderView). EndsWith h.seen g) (sym c.keys.invariant.held) e);
   are = λ s at.
-      let kinds = kinds_in c.args.kinds.now c.args.set in let size = length c.args.bytes.now / length c.args.ids.now in
+      let kinds = c.args.room.now in let size = length c.args.bytes.now / length c.args.ids.now in
       no_more s kinds size c.args.now c.keys.ids c.keys.i c.keys.rest.now (ids_in s kinds size c.args.now (length c.keys.ids) c.args.bytes.now) (search rules) (c.keys.invariant.ids g e s at)
-      ∙ ap (λ (n : ℕ). ids_in s kinds (length c.args.bytes.now / n) c.args.now (length c.keys.ids) c.args.bytes.now) (sym c.keys.invariant.count);
+      ∙ ap (λ (n : ℕ). ids_in s kinds n c.args.now (length c.keys.ids) c.args.bytes.now) c.keys.invariant.size;
 }

@@ -1,0 +1,95 @@
+//! The keys that lookups write their values into.
+ghost use Rattle.std.specs.Prelude.{◌≡◌, ◌↔◌, ◌*◌, length, slice_get, Some, IsTrue, IfOk};
+ghost use Rattle.history_laws.specs.Histories.{EndsWith};
+ghost use Rattle.set_model.specs.Control.{Generation};
+ghost use Rattle.gen_publish.specs.Publish.{IsLookup, declared_kinds};
+ghost use Rattle.packed_values.specs.Packed.{values_in, packed_length};
+
+use gen_publish::Held;
+use packed_values::{has_length, have_length, read_key};
+use set_model::{Duplicate, Found, Key, Kinds, Memory, Schema};
+use std::alloc::Global;
+use std::marker::Model;
+
+/// The kinds of a set's fields, and a key of as many values. What its values are doesn't matter: each lookup writes all.
+#[derive(Drop)]
+pub struct KeyRoom {
+    kinds: Kinds,
+    key: Key,
+}
+
+impl Model for KeyRoom {
+    ghost use Rattle.std.specs.Prelude.{◌≡◌, List, length};
+    ghost use Rattle.set_model.specs.declared.kind.Kind.{Kind};
+
+    ghost Value = { List Kind };
+
+    ghost view = { λ r. r.kinds };
+
+    ghost invariant = { λ r. length r.key ≡ length r.kinds };
+}
+
+/// A key of so many values, all 0.
+fn blank_key(alloc: Global, fields: u64) -> Result<Key, Memory>
+    ensures { IfOk result (λ key. length key ≡ fields) }
+{
+    let mut key = Key::new(alloc);
+    'fields: while key.len() < fields {
+        key.push(0)?;
+    }
+    Ok(key)
+}
+
+impl KeyRoom {
+    fn of(alloc: Global, kinds: &Kinds) -> Result<KeyRoom, Memory>
+        ensures { IfOk result (λ room. room ≡ kinds.now) }
+    {
+        let key = blank_key(alloc, kinds.len())?;
+        Ok(KeyRoom {
+            kinds: kinds.copy(alloc)?,
+            key,
+        })
+    }
+
+    /// Whether a key has so many bytes.
+    pub(crate) fn takes(&self, bytes: usize) -> bool
+        ensures { IsTrue result ↔ (bytes ≡ packed_length self.now) }
+    {
+        has_length(self.kinds.as_slice(), bytes)
+    }
+
+    /// Whether so many keys have so many bytes together.
+    pub(crate) fn takes_all(&self, count: usize, bytes: usize) -> bool
+        ensures { IsTrue result ↔ (bytes ≡ count * packed_length self.now) }
+    {
+        have_length(self.kinds.as_slice(), count, bytes)
+    }
+
+    /// Looks a key up in the held generation.
+    pub(crate) fn find(
+        &mut self,
+        held: &mut Held,
+        set: u32,
+        bytes: &[u8],
+        now: u64,
+    ) -> Option<Found>
+        requires bytes { length bytes.now ≡ packed_length self.old }
+        requires declared { slice_get (declared_kinds held.old.schema) set ≡ Some self.old }
+        ensures same { (self.new ≡ self.old) × (held.new ≡ held.old) }
+        ensures answer { (g : Generation) → EndsWith held.old.seen g → IsLookup g set (values_in self.old bytes.now) now result }
+    {
+        read_key(self.key.as_mut_slice(), self.kinds.as_slice(), bytes);
+        held.lookup(set, &self.key, now)
+    }
+}
+
+/// Room for a key of each declared set.
+pub(crate) fn key_rooms(alloc: Global, schema: &Schema) -> Result<Vec<KeyRoom>, Memory>
+    ensures { IfOk result (λ rooms. rooms.items ≡ declared_kinds schema.now) }
+{
+    let mut rooms = Vec::new(alloc);
+    'sets: for set in schema.as_slice() {
+        rooms.push(KeyRoom::of(alloc, &set.kinds)?)?;
+    }
+    Ok(rooms)
+}
