@@ -29,8 +29,10 @@ def listed():
 
 
 def form(command):
-    """A command as a usage line has it."""
-    return " ".join([command.word, command.names, *(f"[{option}]" for option in command.options)])
+    """A command as a usage line has it: the options come before names that end with `..`, and else after the names."""
+    options = [f"[{option}]" for option in command.options]
+    parts = [*options, command.names] if command.names.endswith("..") else [command.names, *options]
+    return " ".join([command.word, *parts])
 
 
 def flags(command):

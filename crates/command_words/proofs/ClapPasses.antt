@@ -5,7 +5,8 @@ use Rattle.clap.specs.Simple.{Shape, built, filled, with_index}
 use Rattle.clap.specs.Takes.{settle_passes, step_passes, turn_passes, walk_passes, built_takes, takes}
 use Rattle.clap.proofs.OnLiterals.{clap_on_literals}
 use Rattle.command_words.specs.WordForms.{ArePlain}
-use Rattle.command_words.specs.Words.{is_file_name, threads_word, keep_going_word, AreArguments, no_words, name_and, threads_and, mark_and, AreWords}
+use Rattle.command_words.specs.GetWords.{is_file_name, keep_going_word}
+use Rattle.command_words.specs.Words.{threads_word, AreArguments, no_words, name_and, threads_and, mark_and, AreWords}
 use Rattle.command_words.proofs.ClapValues.{program, rules, simple, first, second, third, between, waiting-for, taken, counted, marked, is_of, any-found, held_rows, Finds, Plain, name-step, first-taken, second-taken, third-taken, threads-step, count-step, mark-step, first-held, second-held, third-held, threads-held, mark-held, nothing-found, walk-holds}
 
 abbrev shape : Shape

@@ -13,7 +13,8 @@ use Rattle.clap.proofs.WalkLemmas.{first_value-rows, one_text-rows}
 use Rattle.clap.specs.Matches.{found_of}
 use Rattle.clap.specs.declared.parser.matches.ArgMatches.{ArgMatches}
 use Rattle.command_words.specs.WordForms.{ArePlain, HasFoundValues}
-use Rattle.command_words.specs.Words.{is_file_name, threads_word, keep_going_word, AreArguments, no_words, name_and, threads_and, mark_and, AreWords}
+use Rattle.command_words.specs.GetWords.{is_file_name, keep_going_word}
+use Rattle.command_words.specs.Words.{threads_word, AreArguments, no_words, name_and, threads_and, mark_and, AreWords}
 
 abbrev pub first : Rule
 first = new_rule (codes "first")

@@ -1,6 +1,6 @@
 -- The shape of a command's words, and that the words are one command at most.
 use Rattle.std.proofs.Common.{◌≡◌, refl, sym, ◌∙◌, ap, subst, ℕ, suc, ◌+◌, ◌<◌, ◌≤◌, ◌^◌, Bool, true, false, not, cond, ◌&&◌, List, [], ◌∷◌, length, fold, map, drop, codes, decimal, Option, Some, None, Result, Ok, is_some, arith, true≢false, ne_eqb, get_or, le-leb, leb-true, eqb-true, eq-eqb}
-use Rattle.std.specs.Prelude.{nat_le, bytes_eq, ◌==◌, IfSome}
+use Rattle.std.specs.Prelude.{nat_le, nat_lt, bytes_eq, ◌==◌, IfSome}
 use Rattle.std.specs.Bool.{then_some}
 use Rattle.std.specs.List.{count_by}
 use Rattle.std.specs.Str.Parse.{digits_value, ParsesUnsigned}
@@ -10,10 +10,12 @@ use Rattle.std.proofs.lemmas.List.Sums.{sum_by-cons}
 use Rattle.std.proofs.lemmas.Slice.Eq.{bytes_eq-Decides}
 use Rattle.std.proofs.lemmas.Str.Parse.{digit_at}
 use Rattle.command_words.specs.declared.shape.Verb.{Verb}
-use Rattle.command_words.specs.declared.shape.Verb.TheVariants.{Run, List as Lists, Dump, Drill, Judge, Capture, Desk}
+use Rattle.command_words.specs.declared.shape.Verb.TheVariants.{Run, List as Lists, Dump, Drill, Judge, Capture, Desk, Get}
 use Rattle.command_words.specs.declared.shape.Shape.{Shape}
-use Rattle.command_words.specs.Words.{stdin_name, is_stdin, verb_word, IsNumber, AreThreads, AreWords, ArePacketWords, Command, run, list, dump, drill, judge, capture, desk, IsCommand, AreArguments, no_words, name_and, threads_and, mark_and, is_file_name, threads_word, keep_going_word, last_seed, most_drill_elements}
-use Rattle.command_words.specs.WordForms.{verb_of, name_count, is_whole_shape, empty_shape, stdin_once, fits, HasVerb, number_within, takes_name, takes_threads, takes_mark, with_threads, with_argument, with_word, shape_after}
+use Rattle.command_words.specs.GetWords.{Asked, asked, is_file_name, keep_going_word}
+use Rattle.command_words.specs.Words.{stdin_name, is_stdin, verb_word, IsNumber, AreThreads, AreWords, ArePacketWords, Command, run, list, dump, drill, judge, capture, desk, get, IsCommand, AreArguments, no_words, name_and, threads_and, mark_and, threads_word, last_seed, most_drill_elements}
+use Rattle.command_words.specs.Numbers.{number_within}
+use Rattle.command_words.specs.WordForms.{verb_of, name_count, is_whole_shape, empty_shape, stdin_once, fits, accepts, HasVerb, takes_name, takes_threads, takes_mark, with_threads, with_argument, with_word, shape_after}
 
 both : (a b : Bool) → (a && b) ≡ true → (a ≡ true) × (b ≡ true)
 both true b e = (refl, e)
@@ -128,6 +130,10 @@ number-name low high word small e = go (number_within low high word) refl e wher
   go None is f = absurd (true≢false (sym f))
   go (Some n) is f = let h = number-sound low high word n is in ap is_file_name h.0 ∙ digit-first n (omega (arith, h.2, small))
 
+no-name : (b : Bool) → (b && false) ≡ true → ⊥
+no-name true e = true≢false (sym e)
+no-name false e = true≢false (sym e)
+
 name-of-command : (verb : Verb) (place : ℕ) (word : List ℕ) → takes_name verb place word ≡ true → is_file_name word ≡ true
 name-of-command Run place word e = (both _ _ e).1
 name-of-command Lists place word e = (both _ _ e).1
@@ -135,6 +141,7 @@ name-of-command Dump place word e = (both _ _ e).1
 name-of-command Judge place word e = (both _ _ e).1
 name-of-command Capture place word e = (both _ _ e).1
 name-of-command Desk place word e = (both _ _ e).1
+name-of-command Get place word e = absurd (no-name (nat_lt place 1) e)
 name-of-command Drill place word e = go (place == 0) (both _ _ e).1 where
   go : (b : Bool) → is_some (cond b (number_within 0 last_seed word) (number_within 1 most_drill_elements word)) ≡ true → is_file_name word ≡ true
   go true f = number-name 0 last_seed word (omega arith) f
@@ -344,17 +351,47 @@ module _ (rest : List (List ℕ)) (threads : Option (List ℕ)) (keep_going : Bo
       (drill s.0 c.0 n.0, (threads, seed, count, subst (λ (b : Bool). AreWords (codes "drill" ∷ rest) (codes "drill") (seed ∷ count ∷ []) threads b) (no-mark Drill keep_going refl gs) (said (codes "drill") (seed ∷ count ∷ []) a), s.1, c.1, n.1), refl)
   by-verb Judge (script ∷ rules ∷ keys ∷ []) a ns ts gs count once = let k = packet-words Judge (script ∷ rules ∷ keys ∷ []) a ts once in (judge script rules keys k.0 keep_going, k.1, refl)
   by-verb Capture (script ∷ plan ∷ packets ∷ []) a ns ts gs count once = let k = packet-words Capture (script ∷ plan ∷ packets ∷ []) a ts once in (capture script plan packets k.0 keep_going, k.1, refl)
+  by-verb Get (word ∷ names) a ns ts gs count once = absurd (no-name (nat_lt 0 1) ns.0)
   by-verb verb names a ns ts gs count once = absurd (omega (arith, count))
 
 -- Words of a command's shape are a command.
-pub command-of-shape : (verb : Verb) (rest : List (List ℕ)) → fits verb rest ≡ true → HasVerb (verb_word verb ∷ rest) verb
-command-of-shape verb rest h = go (fold (shape_after verb) (Some empty_shape) rest) refl (both _ _ h).0 where
+shape-command : (verb : Verb) (rest : List (List ℕ)) → fits verb rest ≡ true → HasVerb (verb_word verb ∷ rest) verb
+shape-command verb rest h = go (fold (shape_after verb) (Some empty_shape) rest) refl (both _ _ h).0 where
   go : (o : Option Shape) → fold (shape_after verb) (Some empty_shape) rest ≡ o → is_whole_shape verb o ≡ true → HasVerb (verb_word verb ∷ rest) verb
   go None e w = absurd (true≢false (sym w))
   go (Some s) e w =
       let k = both _ _ w in
       let r = read verb s (is-false s.waiting k.0) 0 false false rest e in
       by-verb rest r.threads r.keep_going verb r.names r.arguments r.names_fit r.threads_fit r.mark_fits (let c = r.count in let d = eqb-true s.names (name_count verb) k.1 in omega (arith, c, d)) (both _ _ h).1
+
+-- Each command but `get` accepts the words that fit it.
+pub accepts-shape : (verb : Verb) → (verb ≡ Get → ⊥) → (rest : List (List ℕ)) → accepts verb rest ≡ fits verb rest
+accepts-shape Run other rest = refl
+accepts-shape Lists other rest = refl
+accepts-shape Dump other rest = refl
+accepts-shape Drill other rest = refl
+accepts-shape Judge other rest = refl
+accepts-shape Capture other rest = refl
+accepts-shape Desk other rest = refl
+accepts-shape Get other rest = absurd (other refl)
+
+-- Words that ask something are a `get`.
+get-command : (rest : List (List ℕ)) → is_some (asked rest) ≡ true → HasVerb (codes "get" ∷ rest) Get
+get-command rest e = go (asked rest) refl e where
+  go : (o : Option Asked) → asked rest ≡ o → is_some o ≡ true → HasVerb (codes "get" ∷ rest) Get
+  go None is f = absurd (true≢false (sym f))
+  go (Some a) is f = (get a.script a.key a.moment a.keep_going, record { rest = rest; words_are = refl; asks_are = is }, refl)
+
+-- Words that a command accepts after its word are a command.
+pub command-of-shape : (verb : Verb) (rest : List (List ℕ)) → accepts verb rest ≡ true → HasVerb (verb_word verb ∷ rest) verb
+command-of-shape Run rest h = shape-command Run rest h
+command-of-shape Lists rest h = shape-command Lists rest h
+command-of-shape Dump rest h = shape-command Dump rest h
+command-of-shape Drill rest h = shape-command Drill rest h
+command-of-shape Judge rest h = shape-command Judge rest h
+command-of-shape Capture rest h = shape-command Capture rest h
+command-of-shape Desk rest h = shape-command Desk rest h
+command-of-shape Get rest h = get-command rest h
 
 -- a number that a word writes
 writes : (low high : ℕ) (word : List ℕ) (n : ℕ) → high < 2 ^ 64 → IsNumber low high word n → is_some (number_within low high word) ≡ true
@@ -399,8 +436,8 @@ lone-shape : (word : List ℕ) (ws : List (List ℕ)) (script : List ℕ) (keep_
     → AreWords (word ∷ ws) (verb_word verb) (script ∷ []) None keep_going → (word ≡ verb_word verb) × (fits verb ws ≡ true)
 lone-shape word ws script keep_going verb mark fit count h = shaped word ws (script ∷ []) None keep_going verb h (fit (names-of h)) tt (λ _. (mark, refl)) count tt (one-once script)
 
--- A command's words have its shape.
-pub shape-of-command : (word : List ℕ) (ws : List (List ℕ)) (c : Command) → IsCommand (word ∷ ws) c → (word ≡ verb_word (verb_of c)) × (fits (verb_of c) ws ≡ true)
+-- A command accepts its words.
+pub shape-of-command : (word : List ℕ) (ws : List (List ℕ)) (c : Command) → IsCommand (word ∷ ws) c → (word ≡ verb_word (verb_of c)) × (accepts (verb_of c) ws ≡ true)
 shape-of-command word ws (run script keys n keep_going) h = packet-shape word ws (script ∷ keys ∷ []) n keep_going Run refl refl (λ all. all) refl h
 shape-of-command word ws (list script keep_going) h = lone-shape word ws script keep_going Lists refl (λ all. all) refl h
 shape-of-command word ws (dump script keep_going) h = lone-shape word ws script keep_going Dump refl (λ all. all) refl h
@@ -408,6 +445,10 @@ shape-of-command word ws (drill seed count n) h = shaped word ws _ h.0 false Dri
 shape-of-command word ws (judge script rules keys n keep_going) h = packet-shape word ws (script ∷ rules ∷ keys ∷ []) n keep_going Judge refl refl (λ all. all) refl h
 shape-of-command word ws (capture script plan packets n keep_going) h = packet-shape word ws (script ∷ plan ∷ packets ∷ []) n keep_going Capture refl refl (λ all. all) refl h
 shape-of-command word ws (desk script keep_going) h = lone-shape word ws script keep_going Desk refl (λ all. all) refl h
+shape-of-command word ws (get script key moment keep_going) h =
+    let first : word ≡ codes "get" = cc h.words_are in
+    let behind : ws ≡ h.rest = cc h.words_are in
+    (first, ap (λ r. is_some (asked r)) behind ∙ ap is_some h.asks_are)
 
 -- what the first of a command's arguments is
 pub data Leads (word : List ℕ) (ws names : List (List ℕ)) (threads : Option (List ℕ)) (keep_going : Bool) : Type 0 where
@@ -464,7 +505,7 @@ same-threads (Some v) (Some w) m n e h k = same-number 1 16 v w m n (omega arith
 -- the verb of a word
 verb_named : List ℕ → Verb
 verb_named word = cond (bytes_eq word (codes "run")) Run (cond (bytes_eq word (codes "list")) Lists (cond (bytes_eq word (codes "dump")) Dump (cond (bytes_eq word (codes "drill")) Drill
-    (cond (bytes_eq word (codes "judge")) Judge (cond (bytes_eq word (codes "capture")) Capture Desk)))))
+    (cond (bytes_eq word (codes "judge")) Judge (cond (bytes_eq word (codes "capture")) Capture (cond (bytes_eq word (codes "desk")) Desk Get))))))
 
 named-verb : (verb : Verb) → verb_named (verb_word verb) ≡ verb
 unfolding verb_named
@@ -475,6 +516,7 @@ named-verb Drill = refl
 named-verb Judge = refl
 named-verb Capture = refl
 named-verb Desk = refl
+named-verb Get = refl
 
 pub first-word : (words : List (List ℕ)) (c : Command) → IsCommand words c → (rest : List (List ℕ)) × (words ≡ verb_word (verb_of c) ∷ rest)
 first-word words (run script keys n g) h = (h.1.rest, h.1.words_are)
@@ -484,6 +526,7 @@ first-word words (drill seed count n) h = (h.3.rest, h.3.words_are)
 first-word words (judge script rules keys n g) h = (h.1.rest, h.1.words_are)
 first-word words (capture script plan packets n g) h = (h.1.rest, h.1.words_are)
 first-word words (desk script g) h = (h.rest, h.words_are)
+first-word words (get script key moment g) h = (h.rest, h.words_are)
 
 same-packet-words : (words : List (List ℕ)) (first other : List ℕ) (names ms : List (List ℕ)) (n m : ℕ) (keep_going g : Bool) → ArePacketWords words first names n keep_going → ArePacketWords words other ms m g → (names ≡ ms) × (n ≡ m) × (keep_going ≡ g)
 same-packet-words words first other names ms n m keep_going g h j =
@@ -517,6 +560,18 @@ one-command words c d h j = one c d verb h j where
   one (list s g) (list s' g') e h j = let r = same-words words _ _ _ _ _ _ _ _ h j in let script : s ≡ s' = cc r.1 in cc (script, r.3)
   one (dump s g) (dump s' g') e h j = let r = same-words words _ _ _ _ _ _ _ _ h j in let script : s ≡ s' = cc r.1 in cc (script, r.3)
   one (desk s g) (desk s' g') e h j = let r = same-words words _ _ _ _ _ _ _ _ h j in let script : s ≡ s' = cc r.1 in cc (script, r.3)
+  one (get s k m g) (get s' k' m' g') e h j =
+      let words_are : codes "get" ∷ h.rest ≡ codes "get" ∷ j.rest = sym h.words_are ∙ j.words_are in
+      let behind : h.rest ≡ j.rest = cc words_are in
+      let mine : Asked = record { script = s; key = k; moment = m; keep_going = g } in
+      let theirs : Asked = record { script = s'; key = k'; moment = m'; keep_going = g' } in
+      let some : Some mine ≡ Some theirs = sym h.asks_are ∙ ap asked behind ∙ j.asks_are in
+      let same : mine ≡ theirs = cc some in
+      let script : s ≡ s' = ap (λ (x : Asked). x.script) same in
+      let key : k ≡ k' = ap (λ (x : Asked). x.key) same in
+      let moment : m ≡ m' = ap (λ (x : Asked). x.moment) same in
+      let goes : g ≡ g' = ap (λ (x : Asked). x.keep_going) same in
+      cc (script, key, moment, goes)
   one (drill s k n) (drill s' k' n') e h j =
       let r = same-words words _ _ _ _ _ _ _ _ h.3 j.3 in
       let first : h.1 ≡ j.1 = cc r.1 in

@@ -3,3 +3,4 @@ mod ClapValues
 mod ClapPasses
 mod WordValues
 pub mod PageWords
+mod AskedLaws

@@ -2,17 +2,18 @@
 use Rattle.std.proofs.Common.{◌≡◌, refl, sym, ◌∙◌, ap, subst, ℕ, Bool, false, cond, List, [], ◌∷◌, codes, Option, Some, None, true≢false, inl, inr}
 use Rattle.std.specs.Prelude.{bytes_eq, option_map, if◌then◌else◌}
 use Rattle.command_words.specs.declared.shape.Verb.{Verb}
-use Rattle.command_words.specs.declared.shape.Verb.TheVariants.{Run, List as Lists, Dump, Drill, Judge, Capture, Desk}
+use Rattle.command_words.specs.declared.shape.Verb.TheVariants.{Run, List as Lists, Dump, Drill, Judge, Capture, Desk, Get}
 use Rattle.command_words.specs.declared.page.Page.{Page}
 use Rattle.command_words.specs.declared.page.Page.TheVariants.{Program, Command as On, Version}
-use Rattle.command_words.specs.Words.{AreWords, AreArguments, AsksFor, Command, run, list, dump, drill, judge, capture, desk, IsCommand, verb_word, is_file_name, threads_word, keep_going_word}
+use Rattle.command_words.specs.GetWords.{Asked, asked, is_file_name, keep_going_word}
+use Rattle.command_words.specs.Words.{AreWords, AreGetWords, AreArguments, AsksFor, Command, run, list, dump, drill, judge, capture, desk, get, IsCommand, verb_word, threads_word}
 use Rattle.command_words.specs.WordForms.{verb_of}
 use Rattle.command_words.proofs.CommandWords.{leads, Leads, by_name, by_threads, by_mark}
 
 -- the verb that a word names
 named : List ℕ → Option Verb
 named word = cond (bytes_eq word (codes "run")) (Some Run) (cond (bytes_eq word (codes "list")) (Some Lists) (cond (bytes_eq word (codes "dump")) (Some Dump) (cond (bytes_eq word (codes "drill")) (Some Drill)
-    (cond (bytes_eq word (codes "judge")) (Some Judge) (cond (bytes_eq word (codes "capture")) (Some Capture) (cond (bytes_eq word (codes "desk")) (Some Desk) None))))))
+    (cond (bytes_eq word (codes "judge")) (Some Judge) (cond (bytes_eq word (codes "capture")) (Some Capture) (cond (bytes_eq word (codes "desk")) (Some Desk) (cond (bytes_eq word (codes "get")) (Some Get) None)))))))
 
 named-verb : (verb : Verb) → named (verb_word verb) ≡ Some verb
 unfolding named
@@ -23,6 +24,7 @@ named-verb Drill = refl
 named-verb Judge = refl
 named-verb Capture = refl
 named-verb Desk = refl
+named-verb Get = refl
 
 no-verb : (verb : Verb) (word : List ℕ) → named word ≡ None → verb_word verb ≡ word → ⊥
 no-verb verb word none same = let there = sym (named-verb verb) ∙ ap named same ∙ none in cc there
@@ -35,6 +37,7 @@ no-help Drill = refl
 no-help Judge = refl
 no-help Capture = refl
 no-help Desk = refl
+no-help Get = refl
 
 -- the page that words ask for, if they do
 page_named : List (List ℕ) → Option Page
@@ -68,15 +71,6 @@ record Behind (words : List (List ℕ)) (verb : Verb) : Type 0 where
 behind : (words names : List (List ℕ)) (verb : Verb) (threads : Option (List ℕ)) (keep_going : Bool) → AreWords words (verb_word verb) names threads keep_going → Behind words verb
 behind words names verb threads keep_going a = record { rest = a.rest; names = names; threads = threads; keep_going = keep_going; words_are = a.words_are; arguments = a.arguments }
 
-of-command : (words : List (List ℕ)) (c : Command) → IsCommand words c → Behind words (verb_of c)
-of-command words (run script keys n g) h = behind words (script ∷ keys ∷ []) Run h.0 g h.1
-of-command words (list script g) h = behind words (script ∷ []) Lists None g h
-of-command words (dump script g) h = behind words (script ∷ []) Dump None g h
-of-command words (drill seed count n) h = behind words (h.1 ∷ h.2 ∷ []) Drill h.0 false h.3
-of-command words (judge script rules keys n g) h = behind words (script ∷ rules ∷ keys ∷ []) Judge h.0 g h.1
-of-command words (capture script plan packets n g) h = behind words (script ∷ plan ∷ packets ∷ []) Capture h.0 g h.1
-of-command words (desk script g) h = behind words (script ∷ []) Desk None g h
-
 -- Another word with a dash is no argument.
 no-argument : (word : List ℕ) (ws names : List (List ℕ)) (threads : Option (List ℕ)) (keep_going : Bool) → is_file_name word ≡ false → bytes_eq word threads_word ≡ false → bytes_eq word keep_going_word ≡ false
     → AreArguments (word ∷ ws) names threads keep_going → ⊥
@@ -106,6 +100,34 @@ module _ (words : List (List ℕ)) (c : Command) (b : Behind words (verb_of c)) 
   no-page (On verb) (inr (inr e)) = other-second (verb_word verb) (codes "-h") refl refl refl e
   no-page Version e = other-first (codes "--version") [] refl e
 
+module _ (words : List (List ℕ)) (asks : Asked) (h : AreGetWords words asks) where
+  get-first : (word : List ℕ) (ws : List (List ℕ)) → named word ≡ None → words ≡ word ∷ ws → ⊥
+  get-first word ws none e = let both : codes "get" ∷ h.rest ≡ word ∷ ws = sym h.words_are ∙ e in no-verb Get word none (cc both)
+
+  get-second : (first word : List ℕ) → asked (word ∷ []) ≡ None → words ≡ first ∷ word ∷ [] → ⊥
+  get-second first word none e =
+      let both : codes "get" ∷ h.rest ≡ first ∷ word ∷ [] = sym h.words_are ∙ e in
+      let rest : h.rest ≡ word ∷ [] = cc both in
+      let some : Some asks ≡ None = sym h.asks_are ∙ ap asked rest ∙ none in
+      cc some
+
+  no-page-of-get : (page : Page) → AsksFor words page → ⊥
+  unfolding named asked
+  no-page-of-get Program (inl e) = get-first (codes "help") [] refl e
+  no-page-of-get Program (inr (inl e)) = get-first (codes "--help") [] refl e
+  no-page-of-get Program (inr (inr e)) = get-first (codes "-h") [] refl e
+  no-page-of-get (On verb) (inl e) = get-first (codes "help") (verb_word verb ∷ []) refl e
+  no-page-of-get (On verb) (inr (inl e)) = get-second (verb_word verb) (codes "--help") refl e
+  no-page-of-get (On verb) (inr (inr e)) = get-second (verb_word verb) (codes "-h") refl e
+  no-page-of-get Version e = get-first (codes "--version") [] refl e
+
 -- Words that ask for a page are no command.
 pub page-no-command : (words : List (List ℕ)) (page : Page) (c : Command) → AsksFor words page → IsCommand words c → ⊥
-page-no-command words page c asks h = no-page words c (of-command words c h) page asks
+page-no-command words page (run script keys n g) asks h = no-page words (run script keys n g) (behind words (script ∷ keys ∷ []) Run h.0 g h.1) page asks
+page-no-command words page (list script g) asks h = no-page words (list script g) (behind words (script ∷ []) Lists None g h) page asks
+page-no-command words page (dump script g) asks h = no-page words (dump script g) (behind words (script ∷ []) Dump None g h) page asks
+page-no-command words page (drill seed count n) asks h = no-page words (drill seed count n) (behind words (h.1 ∷ h.2 ∷ []) Drill h.0 false h.3) page asks
+page-no-command words page (judge script rules keys n g) asks h = no-page words (judge script rules keys n g) (behind words (script ∷ rules ∷ keys ∷ []) Judge h.0 g h.1) page asks
+page-no-command words page (capture script plan packets n g) asks h = no-page words (capture script plan packets n g) (behind words (script ∷ plan ∷ packets ∷ []) Capture h.0 g h.1) page asks
+page-no-command words page (desk script g) asks h = no-page words (desk script g) (behind words (script ∷ []) Desk None g h) page asks
+page-no-command words page (get script key moment g) asks h = no-page-of-get words (record { script = script; key = key; moment = moment; keep_going = g }) h page asks

@@ -4,9 +4,10 @@ use Rattle.std.specs.Prelude.{IfSome, IsSome}
 use Rattle.std.specs.Borrow.{Bor}
 use Rattle.command_words.specs.declared.words.Arguments.{Arguments}
 use Rattle.command_words.specs.declared.shape.Verb.{Verb}
-use Rattle.command_words.specs.declared.shape.Verb.TheVariants.{Run, List as Lists, Dump, Drill, Judge, Capture, Desk}
-use Rattle.command_words.specs.Words.{NameStdinOnce, Command, run, list, dump, drill, judge, capture, desk, IsCommand, AreWords, ArePacketWords, AreThreads, IsNumber, is_file_name, last_seed, most_drill_elements}
-use Rattle.command_words.specs.WordForms.{HasVerb, HasArguments, ArePlain, verb_of}
+use Rattle.command_words.specs.declared.shape.Verb.TheVariants.{Run, List as Lists, Dump, Drill, Judge, Capture, Desk, Get}
+use Rattle.command_words.specs.GetWords.{is_file_name}
+use Rattle.command_words.specs.Words.{NameStdinOnce, Command, run, list, dump, drill, judge, capture, desk, get, IsCommand, AreWords, ArePacketWords, AreThreads, IsNumber, last_seed, most_drill_elements}
+use Rattle.command_words.specs.WordForms.{HasVerb, HasShape, HasArguments, ArePlain, verb_of}
 use Rattle.command_words.proofs.CommandWords.{number-is-name}
 
 plain-threads : (threads : Option (List ℕ)) (n : ℕ) → AreThreads threads n → IfSome threads (λ w. is_file_name w ≡ true)
@@ -33,18 +34,19 @@ module _ (words : List (List ℕ)) where
     plain = record { few = few; no_dash = plain-threads threads n threads_are };
   }
 
-  arguments-of-command : (c : Command) → IsCommand words c → HavePlainArguments words
-  arguments-of-command (run script keys n goes) h = some-arguments (codes "run") (script ∷ keys ∷ []) h.0 goes n (omega arith) h.2 h.1
-  arguments-of-command (judge script rules keys n goes) h = some-arguments (codes "judge") (script ∷ rules ∷ keys ∷ []) h.0 goes n (omega arith) h.2 h.1
-  arguments-of-command (capture script plan file n goes) h = some-arguments (codes "capture") (script ∷ plan ∷ file ∷ []) h.0 goes n (omega arith) h.2 h.1
-  arguments-of-command (list script goes) h = some-arguments (codes "list") (script ∷ []) None goes 1 (omega arith) refl h
-  arguments-of-command (dump script goes) h = some-arguments (codes "dump") (script ∷ []) None goes 1 (omega arith) refl h
-  arguments-of-command (desk script goes) h = some-arguments (codes "desk") (script ∷ []) None goes 1 (omega arith) refl h
-  arguments-of-command (drill seed elements n) h = some-arguments (codes "drill") (h.1 ∷ h.2 ∷ []) h.0 false n (omega arith) h.6 h.3
+  arguments-of-command : (c : Command) → HasShape (verb_of c) → IsCommand words c → HavePlainArguments words
+  arguments-of-command (run script keys n goes) shape h = some-arguments (codes "run") (script ∷ keys ∷ []) h.0 goes n (omega arith) h.2 h.1
+  arguments-of-command (judge script rules keys n goes) shape h = some-arguments (codes "judge") (script ∷ rules ∷ keys ∷ []) h.0 goes n (omega arith) h.2 h.1
+  arguments-of-command (capture script plan file n goes) shape h = some-arguments (codes "capture") (script ∷ plan ∷ file ∷ []) h.0 goes n (omega arith) h.2 h.1
+  arguments-of-command (list script goes) shape h = some-arguments (codes "list") (script ∷ []) None goes 1 (omega arith) refl h
+  arguments-of-command (dump script goes) shape h = some-arguments (codes "dump") (script ∷ []) None goes 1 (omega arith) refl h
+  arguments-of-command (desk script goes) shape h = some-arguments (codes "desk") (script ∷ []) None goes 1 (omega arith) refl h
+  arguments-of-command (drill seed elements n) shape h = some-arguments (codes "drill") (h.1 ∷ h.2 ∷ []) h.0 false n (omega arith) h.6 h.3
+  arguments-of-command (get script key moment goes) shape h = absurd (shape refl)
 
-  -- The words of a command are such.
-  pub plain-arguments : (verb : Verb) → HasVerb words verb → HavePlainArguments words
-  plain-arguments verb h = arguments-of-command h.0 h.1
+  -- The words of a command with a shape are such.
+  pub plain-arguments : (verb : Verb) → HasShape verb → HasVerb words verb → HavePlainArguments words
+  plain-arguments verb shape h = arguments-of-command h.0 (λ e. shape (sym h.2 ∙ e)) h.1
 
 -- a text that was found, if there is one
 abbrev Found : Type 0
@@ -96,6 +98,7 @@ Of words a Drill = IsDrillOf words a
 Of words a Judge = IsTripleOf words a (codes "judge")
 Of words a Capture = IsTripleOf words a (codes "capture")
 Of words a Desk = IsAloneOf words a (codes "desk")
+Of words a Get = ⊥
 
 module _ (words : List (List ℕ)) (a : Arguments) (given : (word : List ℕ) (names : List (List ℕ)) (threads : Option (List ℕ)) (keep_going : Bool) → AreWords words word names threads keep_going → ArePlain names threads → HasArguments a names threads keep_going) where
   with-mark : (word : List ℕ) (names : List (List ℕ)) (threads : Option (List ℕ)) (goes : Bool) → a.keep_going ≡ goes → AreWords words word names threads goes → AreWords words word names threads a.keep_going
@@ -121,14 +124,14 @@ module _ (words : List (List ℕ)) (a : Arguments) (given : (word : List ℕ) (n
         once = h.3;
       }
 
-  of-command : (c : Command) → IsCommand words c → Of words a (verb_of c)
-  of-command (run script keys n goes) h = (script, keys, packets (codes "run") (script ∷ keys ∷ []) n goes (omega arith) h)
-  of-command (judge script rules keys n goes) h = (script, rules, keys, packets (codes "judge") (script ∷ rules ∷ keys ∷ []) n goes (omega arith) h)
-  of-command (capture script plan file n goes) h = (script, plan, file, packets (codes "capture") (script ∷ plan ∷ file ∷ []) n goes (omega arith) h)
-  of-command (list script goes) h = alone (codes "list") script goes h
-  of-command (dump script goes) h = alone (codes "dump") script goes h
-  of-command (desk script goes) h = alone (codes "desk") script goes h
-  of-command (drill seed elements n) h =
+  of-command : (c : Command) → HasShape (verb_of c) → IsCommand words c → Of words a (verb_of c)
+  of-command (run script keys n goes) shape h = (script, keys, packets (codes "run") (script ∷ keys ∷ []) n goes (omega arith) h)
+  of-command (judge script rules keys n goes) shape h = (script, rules, keys, packets (codes "judge") (script ∷ rules ∷ keys ∷ []) n goes (omega arith) h)
+  of-command (capture script plan file n goes) shape h = (script, plan, file, packets (codes "capture") (script ∷ plan ∷ file ∷ []) n goes (omega arith) h)
+  of-command (list script goes) shape h = alone (codes "list") script goes h
+  of-command (dump script goes) shape h = alone (codes "dump") script goes h
+  of-command (desk script goes) shape h = alone (codes "desk") script goes h
+  of-command (drill seed elements n) shape h =
       let k = given (codes "drill") (h.1 ∷ h.2 ∷ []) h.0 false h.3 (record { few = omega arith; no_dash = plain-threads h.0 n h.6 }) in record {
         seed_word = h.1;
         count_word = h.2;
@@ -142,10 +145,11 @@ module _ (words : List (List ℕ)) (a : Arguments) (given : (word : List ℕ) (n
         threads_are = subst (λ (o : Option (List ℕ)). AreThreads o n) (sym k.threads_are) h.6;
         said = with-threads (codes "drill") (h.1 ∷ h.2 ∷ []) h.0 false k.threads_are h.3;
       }
+  of-command (get script key moment goes) shape h = absurd (shape refl)
 
-  -- The arguments of words that are a command.
-  pub of-verb : (verb v : Verb) → verb ≡ v → HasVerb words verb → Of words a v
-  of-verb verb v e h = subst (λ (v : Verb). Of words a v) (h.2 ∙ e) (of-command h.0 h.1)
+  -- The arguments of words that are a command with a shape.
+  pub of-verb : (verb v : Verb) → verb ≡ v → HasShape verb → HasVerb words verb → Of words a v
+  of-verb verb v e shape h = subst (λ (v : Verb). Of words a v) (h.2 ∙ e) (of-command h.0 (λ f. shape (sym h.2 ∙ f)) h.1)
 
 -- A word that was found.
 there : (o : Found) (word : List ℕ) → text_of o ≡ Some word → IsSome o
@@ -165,6 +169,7 @@ module _ (words : List (List ℕ)) (a : Arguments) where
   has-first Judge of = there a.first of.0 of.3.first
   has-first Capture of = there a.first of.0 of.3.first
   has-first Desk of = there a.first of.script of.first
+  has-first Get of = absurd of
 
   pub pair-second : (word : List ℕ) → IsPairOf words a word → IsSome a.second
   pair-second word of = there a.second of.1 of.2.second

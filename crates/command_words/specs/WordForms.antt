@@ -1,5 +1,6 @@
 -- How the words of a command are read: word by word by their shape, and then by the ids of their values.
-use Rattle.std.specs.Prelude.{◌≡◌, ℕ, ◌+◌, Bool, true, false, ◌==◌, ◌&&◌, not, List, fold, nat_le, nat_lt, if◌then◌else◌, codes, bytes_eq, decimal, is_some, Option, Some, None, slice_get, length, ◌≤◌, IfSome, IsTrue, option_map}
+use Rattle.std.specs.Prelude.{◌≡◌, ◌≢◌, ℕ, ◌+◌, Bool, true, false, ◌==◌, ◌&&◌, not, List, fold, nat_le, nat_lt, if◌then◌else◌, codes, bytes_eq, decimal, is_some, Option, Some, None, slice_get, length, ◌≤◌, IfSome, IsTrue, option_map, map}
+use Rattle.std.specs.String.{string_bytes}
 use Rattle.std.specs.Bool.{then_some}
 use Rattle.std.specs.List.{count_by}
 use Rattle.std.specs.Str.Parse.{digits_value}
@@ -15,10 +16,12 @@ use Rattle.command_words.specs.declared.words.Command.{Command as Asked}
 use Rattle.command_words.specs.declared.words.Command.TheVariants as asked
 use Rattle.command_words.specs.declared.page.Page.{Page}
 use Rattle.command_words.specs.declared.page.Page.TheVariants as pages
-use Rattle.command_words.specs.declared.help.TheConstants.{PROGRAM, RUN, LIST, DUMP, DRILL, JUDGE, CAPTURE, DESK, VERSION}
-use Rattle.command_words.specs.Words.{Command, run, list, dump, drill, judge, capture, desk, IsCommand, is_file_name, is_stdin, threads_word, keep_going_word, last_seed, most_drill_elements}
+use Rattle.command_words.specs.declared.help.TheConstants.{PROGRAM, RUN, LIST, DUMP, DRILL, JUDGE, CAPTURE, DESK, GET, VERSION}
+use Rattle.command_words.specs.Numbers.{number_within}
+use Rattle.command_words.specs.GetWords.{asked, is_file_name, keep_going_word}
+use Rattle.command_words.specs.Words.{Command, run, list, dump, drill, judge, capture, desk, get, IsCommand, is_stdin, threads_word, last_seed, most_drill_elements}
 
--- how many names a command has
+-- How many names a command has. The words of `get` have a reading of their own, and no shape.
 abbrev pub name_count : Verb → ℕ
 name_count verbs.Run = 2
 name_count verbs.List = 1
@@ -27,6 +30,7 @@ name_count verbs.Drill = 2
 name_count verbs.Judge = 3
 name_count verbs.Capture = 3
 name_count verbs.Desk = 1
+name_count verbs.Get = 1
 
 -- A command may have packet threads.
 abbrev pub takes_threads : Verb → Bool
@@ -37,6 +41,7 @@ takes_threads verbs.Drill = true
 takes_threads verbs.Judge = true
 takes_threads verbs.Capture = true
 takes_threads verbs.Desk = false
+takes_threads verbs.Get = false
 
 -- A command may keep going after a refused change.
 abbrev pub takes_mark : Verb → Bool
@@ -47,12 +52,7 @@ takes_mark verbs.Drill = false
 takes_mark verbs.Judge = true
 takes_mark verbs.Capture = true
 takes_mark verbs.Desk = true
-
--- the number that a word is, if it is within bounds
-unfoldable pub number_within : ℕ → ℕ → List ℕ → Option ℕ
-number_within low high word =
-    let n = digits_value 10 word in
-    then_some (bytes_eq word (decimal n) && (nat_le low n && nat_le n high)) n
+takes_mark verbs.Get = false
 
 -- the number at a place of a drill: first the seed, and then the number of elements
 abbrev pub drill_number : ℕ → List ℕ → Option ℕ
@@ -67,6 +67,7 @@ is_name_of verbs.Drill place word = is_some (drill_number place word)
 is_name_of verbs.Judge place word = is_file_name word
 is_name_of verbs.Capture place word = is_file_name word
 is_name_of verbs.Desk place word = is_file_name word
+is_name_of verbs.Get place word = false
 
 abbrev pub takes_name : Verb → ℕ → List ℕ → Bool
 takes_name verb place word = nat_lt place (name_count verb) && is_name_of verb place word
@@ -108,6 +109,17 @@ stdin_once rest = nat_le (count_by is_stdin rest) 1
 abbrev pub fits : Verb → List (List ℕ) → Bool
 fits verb rest = has_shape verb rest && stdin_once rest
 
+-- The words may follow the word of this command.
+abbrev pub accepts : Verb → List (List ℕ) → Bool
+accepts verbs.Run rest = fits verbs.Run rest
+accepts verbs.List rest = fits verbs.List rest
+accepts verbs.Dump rest = fits verbs.Dump rest
+accepts verbs.Drill rest = fits verbs.Drill rest
+accepts verbs.Judge rest = fits verbs.Judge rest
+accepts verbs.Capture rest = fits verbs.Capture rest
+accepts verbs.Desk rest = fits verbs.Desk rest
+accepts verbs.Get rest = is_some (asked rest)
+
 abbrev pub verb_of : Command → Verb
 verb_of (run script keys threads keep_going) = verbs.Run
 verb_of (list script keep_going) = verbs.List
@@ -116,6 +128,11 @@ verb_of (drill seed count threads) = verbs.Drill
 verb_of (judge script rules keys threads keep_going) = verbs.Judge
 verb_of (capture script plan packets threads keep_going) = verbs.Capture
 verb_of (desk script keep_going) = verbs.Desk
+verb_of (get script key moment keep_going) = verbs.Get
+
+-- A command whose words have a shape.
+abbrev pub HasShape : Verb → Type 0
+HasShape verb = verb ≢ verbs.Get
 
 -- The words are a command that does this.
 abbrev pub HasVerb : List (List ℕ) → Verb → Type 0
@@ -131,6 +148,7 @@ page_text (pages.Command verbs.Drill) = DRILL.now
 page_text (pages.Command verbs.Judge) = JUDGE.now
 page_text (pages.Command verbs.Capture) = CAPTURE.now
 page_text (pages.Command verbs.Desk) = DESK.now
+page_text (pages.Command verbs.Get) = GET.now
 page_text pages.Version = VERSION.now
 
 -- the command that the code's command is
@@ -141,6 +159,7 @@ plain_task script tasks.Dump keep_going = dump script keep_going
 plain_task script (tasks.Judge rules keys threads) keep_going = judge script rules.now keys.now threads keep_going
 plain_task script (tasks.Capture plan packets threads) keep_going = capture script plan.now packets.now threads keep_going
 plain_task script tasks.Desk keep_going = desk script keep_going
+plain_task script (tasks.Get key moment) keep_going = get script (map string_bytes key.now) moment keep_going
 
 abbrev pub plain : Asked → Command
 plain (asked.Script script task keep_going) = plain_task script.now task keep_going

@@ -1,10 +1,11 @@
 -- The words of a command, and of help.
-use Rattle.std.specs.Prelude.{◌≡◌, ◌≤◌, ◌⊎◌, ℕ, Bool, true, false, ◌==◌, not, List, [], ◌∷◌, codes, bytes_eq, decimal, Option, Some, None, slice_get, IsTrue}
+use Rattle.std.specs.Prelude.{◌≡◌, ◌≤◌, ◌⊎◌, ℕ, Bool, true, false, List, [], ◌∷◌, codes, bytes_eq, decimal, Option, Some, None, slice_get, IsTrue}
 use Rattle.std.specs.List.{count_by}
 use Rattle.command_words.specs.declared.shape.Verb.{Verb}
 use Rattle.command_words.specs.declared.shape.Verb.TheVariants as verbs
 use Rattle.command_words.specs.declared.page.Page.{Page}
 use Rattle.command_words.specs.declared.page.Page.TheVariants as pages
+use Rattle.command_words.specs.GetWords.{Asked, asked, is_file_name, keep_going_word}
 
 -- the name of the standard input
 abbrev pub stdin_name : List ℕ
@@ -12,12 +13,6 @@ stdin_name = codes "-"
 
 abbrev pub is_stdin : List ℕ → Bool
 is_stdin word = bytes_eq word stdin_name
-
--- A name isn't empty and doesn't begin with a dash. The exception is `-` itself, the standard input.
-abbrev pub is_file_name : List ℕ → Bool
-is_file_name [] = false
-is_file_name (b ∷ []) = true
-is_file_name (b ∷ c ∷ bytes) = not (b == 45)
 
 -- the word of a command
 abbrev pub verb_word : Verb → List ℕ
@@ -28,12 +23,10 @@ verb_word verbs.Drill = codes "drill"
 verb_word verbs.Judge = codes "judge"
 verb_word verbs.Capture = codes "capture"
 verb_word verbs.Desk = codes "desk"
+verb_word verbs.Get = codes "get"
 
 abbrev pub threads_word : List ℕ
 threads_word = codes "--threads"
-
-abbrev pub keep_going_word : List ℕ
-keep_going_word = codes "--keep-going"
 
 -- The words that may follow a command's word, in any order: names; at most once `--threads` and the
 -- word after it, whatever that is; at most once `--keep-going`.
@@ -76,6 +69,7 @@ pub data Command : Type 0 where
   judge : (script rules keys : List ℕ) (threads : ℕ) (keep_going : Bool) → Command
   capture : (script plan packets : List ℕ) (threads : ℕ) (keep_going : Bool) → Command
   desk : (script : List ℕ) (keep_going : Bool) → Command
+  get : (script : List ℕ) (key : List (List ℕ)) (moment : Option ℕ) (keep_going : Bool) → Command
 
 -- At most one of the names is the standard input.
 abbrev pub NameStdinOnce : List (List ℕ) → Type 0
@@ -85,6 +79,12 @@ NameStdinOnce names = count_by is_stdin names ≤ 1
 -- look packets up.
 abbrev pub ArePacketWords : List (List ℕ) → List ℕ → List (List ℕ) → ℕ → Bool → Type 0
 ArePacketWords words first names n keep_going = (threads : Option (List ℕ)) × AreWords words first names threads keep_going × AreThreads threads n × NameStdinOnce names
+
+-- The words are `get` and what it asks.
+pub record AreGetWords (words : List (List ℕ)) (asks : Asked) : Type 0 where
+  pub rest : List (List ℕ)
+  pub words_are : words ≡ codes "get" ∷ rest
+  pub asks_are : asked rest ≡ Some asks
 
 -- The words are this command.
 abbrev pub IsCommand : List (List ℕ) → Command → Type 0
@@ -96,6 +96,7 @@ IsCommand words (drill seed count n) = (threads : Option (List ℕ)) × (seed_wo
 IsCommand words (judge script rules keys n keep_going) = ArePacketWords words (codes "judge") (script ∷ rules ∷ keys ∷ []) n keep_going
 IsCommand words (capture script plan packets n keep_going) = ArePacketWords words (codes "capture") (script ∷ plan ∷ packets ∷ []) n keep_going
 IsCommand words (desk script keep_going) = AreWords words (codes "desk") (script ∷ []) None keep_going
+IsCommand words (get script key moment keep_going) = AreGetWords words (record { script = script; key = key; moment = moment; keep_going = keep_going })
 
 -- The words ask for a text about the program: help on it or on one of its commands, or its version.
 abbrev pub AsksFor : List (List ℕ) → Page → Type 0
@@ -110,7 +111,7 @@ pub record IsNoCommand (words : List (List ℕ)) : Type 0 where
 
 -- The words are a command of one of these sorts: a run of a script beside a key file, a listing of a
 -- script, or a dump of its tables; a drill; a run whose packets a rules file judges, or whose packets a
--- plan takes from a capture; or a script by several control threads.
+-- plan takes from a capture; or a script by several control threads; or a question for a key.
 abbrev pub IsRunCommand : List (List ℕ) → List ℕ → List ℕ → ℕ → Bool → Type 0
 IsRunCommand words script keys threads keep_going = IsCommand words (run script keys threads keep_going)
 
@@ -132,6 +133,9 @@ IsCaptureCommand words script plan packets threads keep_going = IsCommand words 
 abbrev pub IsDeskCommand : List (List ℕ) → List ℕ → Bool → Type 0
 IsDeskCommand words script keep_going = IsCommand words (desk script keep_going)
 
+abbrev pub IsGetCommand : List (List ℕ) → List ℕ → List (List ℕ) → Option ℕ → Bool → Type 0
+IsGetCommand words script key moment keep_going = IsCommand words (get script key moment keep_going)
+
 -- the names of the files that a command reads, in their order
 abbrev pub file_names : Command → List (List ℕ)
 file_names (run script keys threads keep_going) = script ∷ keys ∷ []
@@ -141,6 +145,7 @@ file_names (drill seed count threads) = []
 file_names (judge script rules keys threads keep_going) = script ∷ rules ∷ keys ∷ []
 file_names (capture script plan packets threads keep_going) = script ∷ plan ∷ packets ∷ []
 file_names (desk script keep_going) = script ∷ []
+file_names (get script key moment keep_going) = script ∷ []
 
 -- The first file of a command is its script.
 abbrev pub IsScriptOf : Command → List ℕ → Type 0

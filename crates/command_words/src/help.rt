@@ -14,6 +14,7 @@ usage: pipapo run SCRIPT KEYS [--threads N] [--keep-going]
        pipapo judge SCRIPT RULES KEYS [--threads N] [--keep-going]
        pipapo capture SCRIPT PLAN PCAP [--threads N] [--keep-going]
        pipapo desk SCRIPT [--keep-going]
+       pipapo get [--at MOMENT] [--keep-going] SCRIPT KEY ..
        pipapo help [COMMAND], pipapo [COMMAND] --help, pipapo [COMMAND] -h
        pipapo --version
 
@@ -25,6 +26,7 @@ commands:
   judge    as run, but each packet is judged by the chains of RULES
   capture  as run, but the packets are those that PLAN takes from the capture PCAP
   desk     runs the sections of SCRIPT by several control threads, and lists the result
+  get      runs SCRIPT, and prints the element that holds a key, with the line that added it
 
 SCRIPT is in the language of nft(8), and KEYS has a packet's key in each line. RULES has
 chains of rules over the sets, PLAN says which fields of a frame are the keys of a set, and
@@ -33,10 +35,11 @@ PCAP is a capture file of libpcap. One of them may be -, the standard input.
 options, in any order among the names:
   --threads N    packet threads beside the control: 1 to 16, and else 1
   --keep-going   a refused change is skipped, and doesn't fail its transaction
+  --at MOMENT    the moment of a get, in milliseconds; the options of get come before SCRIPT
 
 statuses:
   0   the whole output was written, and no change was refused
-  1   the whole output was written, and a change was refused
+  1   the whole output was written, and a change was refused, or a get found no element
   2   the words are no command
   3   the script isn't in its grammar
   4   the key file isn't in its grammar
@@ -48,6 +51,7 @@ statuses:
   10  the capture isn't in its form
   11  the plan isn't in its grammar
   12  the script has too many sections for a desk
+  13  the words of a get are no key
 ";
 
 /// The page of `run`.
@@ -157,4 +161,23 @@ options, before or behind the name:
 statuses: 0 done, 1 done with a refused change, 3 SCRIPT isn't in its grammar, 12 it has more
 than 17 sections, 5 it can't be read, 6 the standard output failed, 7 want of memory, 8 SCRIPT
 is too large
+";
+
+/// The page of `get`.
+pub const GET: &str = "\
+usage: pipapo get [--at MOMENT] [--keep-going] SCRIPT KEY ..
+
+Runs SCRIPT, and looks a key up in the last generation of its set. The words after SCRIPT are
+one line of a key file: [FAMILY] TABLE SET VALUE . VALUE .. They may be one word in quotes. Prints
+the earliest live element that holds the key, as list writes it, and the line that added it; or
+none. Refused changes come first, as comments. SCRIPT may be -, the standard input.
+
+options, before SCRIPT:
+  --at MOMENT    the moment of the lookup in milliseconds, at most 1000000000000000; without it
+                 the script's last moment
+  --keep-going   a refused change is skipped, and doesn't fail its transaction
+
+statuses: 0 an element holds the key and no change was refused, 1 no element does or a change
+was refused, 3 SCRIPT isn't in its grammar, 13 the words are no key, 5 SCRIPT can't be read, 6 the
+standard output failed, 7 want of memory, 8 SCRIPT is too large
 ";

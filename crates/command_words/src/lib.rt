@@ -7,17 +7,21 @@
 //!     run allow.nft                             no command: a name is missing
 //!     run - -                                   no command: the standard input is named twice
 //!     drill 1 20001                             no command: more than 20,000 elements
+//!     get --at 500 allow.nft ip t p 10.0.0.5    a question for the key `ip t p 10.0.0.5` at moment 500
+//!     get allow.nft ip t p 10.0.0.5 --at 500    no command: an option comes after the script
 //!     help run                                  the page of help on `run`
 //!
-//! The first word is the command. Names and options follow in any order. [`command_of`] returns the
+//! The first word is the command. Names and options follow in any order. The options of `get` come
+//! before the script, since all words after it are the key. [`command_of`] returns the
 //! command that the words are, or says that they are none. [`page_of`] returns the page of help that
 //! they ask for, and [`Page::text`] its text. To refuse words takes no memory.
 //!
 //! **Definitions:** `specs/Words.antt` says which words are a command and which ask for help.
-//! `WordForms.antt` says how their shape is tested. **Theory:** docs/formats.md, "Words, statuses and
+//! `GetWords.antt` has those of `get`. `WordForms.antt` says how the shape of the others is tested. **Theory:** docs/formats.md, "Words, statuses and
 //! fault lines". **Proofs:** docs/proofs.md, "Words (`command_words`)".
 #![tactic(auto)]
 
+mod asked;
 mod help;
 mod page;
 mod shape;

@@ -1,13 +1,16 @@
 ghost use Rattle.std.specs.Prelude.{◌≡◌, ◌∷◌, map, None, Some, IfSome};
 ghost use Rattle.std.specs.String.{string_bytes};
-ghost use Rattle.command_words.specs.Words.{IsCommand, verb_word, is_file_name as name_test};
-ghost use Rattle.command_words.specs.WordForms.{HasVerb, fits, has_shape as shape_test, number_within, drill_number as number_at, takes_threads as threads_test, takes_mark as mark_test, takes_name as name_fits, name_count as count_of_names, with_word as next_shape, with_threads as counted_shape, with_argument as argument_shape, empty_shape as begun_shape, stdin_once as names_once};
+ghost use Rattle.command_words.specs.GetWords.{is_file_name as name_test};
+ghost use Rattle.command_words.specs.Words.{IsCommand, verb_word};
+ghost use Rattle.command_words.specs.Numbers.{number_within};
+ghost use Rattle.command_words.specs.WordForms.{HasVerb, accepts, has_shape as shape_test, drill_number as number_at, takes_threads as threads_test, takes_mark as mark_test, takes_name as name_fits, name_count as count_of_names, with_word as next_shape, with_threads as counted_shape, with_argument as argument_shape, empty_shape as begun_shape, stdin_once as names_once};
 
+use crate::asked::asked_by;
 use itoa::Buffer;
 
 const THREADS: &str = "--threads";
 
-const KEEP_GOING: &str = "--keep-going";
+pub(crate) const KEEP_GOING: &str = "--keep-going";
 
 /// The name of the standard input.
 const STDIN: &str = "-";
@@ -35,6 +38,8 @@ pub enum Verb {
     Capture,
     /// It runs a script by several control threads.
     Desk,
+    /// It looks a key up in the last generation of a script.
+    Get,
 }
 
 /// The shape of the words after a command's word, so far.
@@ -49,7 +54,7 @@ struct Shape {
 
 /// Whether a word is a name: it isn't empty and doesn't begin with a dash. The exception is `-` itself,
 /// the standard input.
-fn is_name(word: &str) -> bool
+pub(crate) fn is_name(word: &str) -> bool
     ensures { result ≡ name_test word.now }
 {
     match word.as_bytes() {
@@ -100,6 +105,7 @@ impl Verb {
             "judge" => Some(Verb::Judge),
             "capture" => Some(Verb::Capture),
             "desk" => Some(Verb::Desk),
+            "get" => Some(Verb::Get),
             _ => None,
         }
     }
@@ -109,7 +115,7 @@ impl Verb {
         ensures { result ≡ count_of_names self }
     {
         match self {
-            Verb::List | Verb::Dump | Verb::Desk => 1,
+            Verb::List | Verb::Dump | Verb::Desk | Verb::Get => 1,
             Verb::Run | Verb::Drill => 2,
             Verb::Judge | Verb::Capture => 3,
         }
@@ -120,7 +126,7 @@ impl Verb {
     {
         match self {
             Verb::Run | Verb::Drill | Verb::Judge | Verb::Capture => true,
-            Verb::List | Verb::Dump | Verb::Desk => false,
+            Verb::List | Verb::Dump | Verb::Desk | Verb::Get => false,
         }
     }
 
@@ -128,7 +134,7 @@ impl Verb {
         ensures { result ≡ mark_test self }
     {
         match self {
-            Verb::Drill => false,
+            Verb::Drill | Verb::Get => false,
             _ => true,
         }
     }
@@ -140,6 +146,7 @@ impl Verb {
         place < self.name_count()
             && match self {
                 Verb::Drill => drill_number(place, word).is_some(),
+                Verb::Get => false,
                 _ => is_name(word),
             }
     }
@@ -232,9 +239,12 @@ fn names_stdin_once(words: &[String]) -> bool
 
 /// Whether these words may follow the command's word.
 fn fit_behind(verb: Verb, words: &[String]) -> bool
-    ensures { result ≡ fits verb (map string_bytes words.now) }
+    ensures { result ≡ accepts verb (map string_bytes words.now) }
 {
-    has_shape(verb, words) && names_stdin_once(words)
+    match verb {
+        Verb::Get => asked_by(words).is_some(),
+        _ => has_shape(verb, words) && names_stdin_once(words),
+    }
 }
 
 /// What the command of a first word and the words after it does, or `None` if they are no command.

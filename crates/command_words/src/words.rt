@@ -4,9 +4,11 @@ ghost use Rattle.clap.specs.Matches.{found_of};
 ghost use Rattle.clap.specs.Values.{kind_of};
 ghost use Rattle.clap.specs.declared.error.kind.ErrorKind.TheVariants as kinds;
 ghost use Rattle.command_words.specs.Words.{IsCommand, IsNumber, AreThreads, AreWords};
-ghost use Rattle.command_words.specs.WordForms.{HasVerb, HasFoundValues, HasArguments, ArePlain, plain};
+ghost use Rattle.command_words.specs.WordForms.{HasVerb, HasShape, HasFoundValues, HasArguments, ArePlain, plain};
 ghost use Rattle.command_words.specs.declared.words.WordsError.TheVariants as errors;
+ghost use Rattle.command_words.specs.declared.shape.Verb.TheVariants as verbs;
 
+use crate::asked::asked_by;
 use crate::shape::{MOST_ELEMENTS, MOST_THREADS, Verb, number_of, verb_of};
 use clap::error::ErrorKind;
 use clap::{Arg, ArgAction, ArgMatches, Error};
@@ -41,6 +43,13 @@ pub enum Task<'a> {
     },
     /// A run by several control threads: one for each section after the first.
     Desk,
+    /// The answer to a key in the last generation.
+    Get {
+        /// The words of the key: one line of a key file.
+        key: &'a [String],
+        /// The moment in milliseconds. Without one it is the script's last.
+        moment: Option<u64>,
+    },
 }
 
 /// A command.
@@ -136,7 +145,7 @@ struct Arguments<'a> {
 
 /// The words after the command's word, or the error that memory ran out.
 fn arguments_of<'a>(alloc: Global, words: &'a [String]) -> Result<Arguments<'a>, AllocError>
-    requires { (verb : _) × HasVerb (map string_bytes words.now) verb }
+    requires { (verb : _) × HasShape verb × HasVerb (map string_bytes words.now) verb }
     ensures { IfOk result (λ a. (word : List ℕ) (names : List (List ℕ)) (threads : Option (List ℕ)) (keep_going : Bool) → AreWords (map string_bytes words.now) word names threads keep_going → ArePlain names threads → HasArguments a names threads keep_going) }
 {
     match values_of(alloc, words) {
@@ -158,7 +167,8 @@ fn command_with<'a>(
     verb: Verb,
     words: &'a [String],
 ) -> Result<Command<'a>, AllocError>
-    requires { HasVerb (map string_bytes words.now) verb }
+    requires shape { HasShape verb }
+    requires words { HasVerb (map string_bytes words.now) verb }
     ensures { IfOk result (λ c. IsCommand (map string_bytes words.now) (plain c)) }
 {
     let Arguments {
@@ -211,11 +221,33 @@ fn command_with<'a>(
             task: Task::Desk,
             keep_going,
         }),
+        Verb::Get => unreachable!(),
         Verb::Drill => Ok(Command::Drill {
             seed: written_number(first, 0, u64::MAX),
             count: written_number(second.unwrap(), 1, MOST_ELEMENTS) as u32,
             threads: thread_count(threads),
         }),
+    }
+}
+
+/// The command of the words of a `get`.
+fn get_command(words: &[String]) -> Command<'_>
+    requires { HasVerb (map string_bytes words.now) verbs.Get }
+    ensures { IsCommand (map string_bytes words.now) (plain result) }
+{
+    match words.split_first() {
+        Some((_, rest)) => match asked_by(rest) {
+            Some(asked) => Command::Script {
+                script: asked.script,
+                task: Task::Get {
+                    key: asked.key,
+                    moment: asked.moment,
+                },
+                keep_going: asked.keep_going,
+            },
+            None => unreachable!(),
+        },
+        None => unreachable!(),
     }
 }
 
@@ -230,6 +262,7 @@ pub fn command_of<'a>(alloc: Global, words: &'a [String]) -> Result<Command<'a>,
     ensures memory { result ≡ Err errors.Memory → (verb : _) × HasVerb (map string_bytes words.now) verb }
 {
     match verb_of(words) {
+        Some(Verb::Get) => Ok(get_command(words)),
         Some(verb) => Ok(command_with(alloc, verb, words)?),
         None => Err(WordsError::NoCommand),
     }

@@ -174,5 +174,6 @@ script-first name (tasks.Run k n) goes = (record { name = k.now; form = keys } �
 script-first name tasks.List goes = ([], refl)
 script-first name tasks.Dump goes = ([], refl)
 script-first name tasks.Desk goes = ([], refl)
+script-first name (tasks.Get k m) goes = ([], refl)
 script-first name (tasks.Judge r k n) goes = (record { name = r.now; form = rules } ∷ record { name = k.now; form = keys } ∷ [], refl)
 script-first name (tasks.Capture p f n) goes = (record { name = p.now; form = plan } ∷ record { name = f.now; form = capture } ∷ [], refl)

@@ -7,7 +7,7 @@ use Rattle.set_script.proofs.ScriptWhole.{script_single}
 use Rattle.key_file.specs.KeysText.{IsKeysText}
 use Rattle.rule_chain.specs.RulesText.{IsRulesText}
 use Rattle.pcap_keys.specs.PlansText.{IsPlanText}
-use Rattle.command_words.specs.Words.{Command, run, list, dump, drill, judge, capture as capture_command, desk}
+use Rattle.command_words.specs.Words.{Command, run, list, dump, drill, judge, capture as capture_command, desk, get}
 use Rattle.input_files.specs.declared.fault.Flaw.{Flaw}
 use Rattle.input_files.specs.declared.fault.Flaw.TheVariants as flaws
 use Rattle.input_files.specs.Inputs.{Input, FileForm, script, keys, rules, plan, capture, inputs, form_of, IsOf, IsFlawed, ReadsAs}
@@ -116,6 +116,7 @@ first-is-script c a i later e = go c a e where
   go (list s g) a e = head-is _ _ a refl e
   go (dump s g) a e = head-is _ _ a refl e
   go (desk s g) a e = head-is _ _ a refl e
+  go (get s k m g) a e = head-is _ _ a refl e
   go (judge s r k n g) a e = head-is _ _ a refl e
   go (capture_command s p f n g) a e = head-is _ _ a refl e
   go (drill s k n) [] e = absurd (cc e)

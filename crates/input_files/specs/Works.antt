@@ -1,5 +1,6 @@
 -- What a command works on, by the texts of its files.
-use Rattle.std.specs.Prelude.{◌≡◌, ◌≤◌, ◌<◌, ℕ, List, Option, All}
+use Rattle.std.specs.Prelude.{◌≡◌, ◌≤◌, ◌<◌, ℕ, List, Option, All, map}
+use Rattle.std.specs.String.{string_bytes}
 use Rattle.set_model.specs.Runnable.{IsRunnable, IsFitting}
 use Rattle.set_script.specs.ScriptText.{IsScriptText}
 use Rattle.key_file.specs.KeysText.{IsKeysText}
@@ -7,7 +8,7 @@ use Rattle.rule_chain.specs.RulesText.{IsRulesText}
 use Rattle.pcap_keys.specs.CapturedPackets.{IsCapture}
 use Rattle.pcap_keys.specs.Fitting.{HasValues, IsPlanned}
 use Rattle.pcap_keys.specs.PlansText.{IsPlanText}
-use Rattle.command_words.specs.Words.{Command, run, list, dump, drill, judge, capture, desk}
+use Rattle.command_words.specs.Words.{Command, run, list, dump, drill, judge, capture, desk, get}
 use Rattle.input_files.specs.declared.work.Work.{Work}
 use Rattle.input_files.specs.declared.work.Work.TheVariants as works
 use Rattle.input_files.specs.Inputs.{ReadsAs}
@@ -25,6 +26,7 @@ IsWork told c (works.Judge script chains keys threads keep_going) =
 IsWork told c (works.Capture script plan frames threads keep_going) =
     (s : List ℕ) × (p : List ℕ) × (f : List ℕ) × (c ≡ capture s p f threads keep_going) × ReadsAs told s (λ text. IsScriptText text script)
     × ReadsAs told p (λ text. IsPlanText script.schema text plan) × ReadsAs told f (λ text. IsCapture text frames)
+IsWork told c (works.Get script key moment keep_going) = (s : List ℕ) × (c ≡ get s (map string_bytes key.now) moment keep_going) × ReadsAs told s (λ text. IsScriptText text script)
 IsWork told c (works.Desk script keep_going) = (s : List ℕ) × (c ≡ desk s keep_going) × ReadsAs told s (λ text. IsScriptText text script)
 
 -- There is at least one packet thread, and there are at most sixteen.
@@ -40,3 +42,4 @@ IsDoable (works.Drill seed count threads) = FewThreads threads
 IsDoable (works.Judge script chains keys threads keep_going) = IsRunnable script × (chains.schema ≡ script.schema) × All (All (IsFitting script.schema)) keys × FewThreads threads
 IsDoable (works.Capture script plan frames threads keep_going) = IsRunnable script × All (IsPlanned script.schema) plan × All HasValues frames × FewThreads threads
 IsDoable (works.Desk script keep_going) = IsRunnable script
+IsDoable (works.Get script key moment keep_going) = IsRunnable script

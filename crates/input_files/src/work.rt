@@ -16,7 +16,7 @@ use std::alloc::Global;
 
 /// What a command works on: what its files mean, and the options of its words.
 #[derive(Drop)]
-pub enum Work {
+pub enum Work<'a> {
     /// A run of a script beside packets, which so many packet threads look up.
     Run {
         script: Script,
@@ -65,6 +65,15 @@ pub enum Work {
         script: Script,
         keep_going: bool,
     },
+    /// The answer to a key in the last generation.
+    Get {
+        script: Script,
+        /// The words of the key.
+        key: &'a [String],
+        /// The moment in milliseconds. Without one it is the script's last.
+        moment: Option<u64>,
+        keep_going: bool,
+    },
 }
 
 /// Reads the files of a command, in the order of its words. It opens a file only after the one before
@@ -79,7 +88,7 @@ pub fn work_of<'a, F: Shelf, N: Notes>(
     notes: &mut N,
     script_text: &mut Vec<u8>,
     command: Command<'a>,
-) -> Result<Work, FileFault<'a>>
+) -> Result<Work<'a>, FileFault<'a>>
     requires nothing { F.asked shelf.old ≡ [] }
     requires threads { (words : List (List ℕ)) × IsCommand words (plain command) }
     ensures work { IfOk result (IsWork (F.told shelf.old) (plain command.entry)) }
@@ -117,6 +126,12 @@ pub fn work_of<'a, F: Shelf, N: Notes>(
                 Task::List => Ok(Work::List { script, keep_going }),
                 Task::Dump => Ok(Work::Dump { script, keep_going }),
                 Task::Desk => Ok(Work::Desk { script, keep_going }),
+                Task::Get { key, moment } => Ok(Work::Get {
+                    script,
+                    key,
+                    moment,
+                    keep_going,
+                }),
                 Task::Judge {
                     rules,
                     keys,

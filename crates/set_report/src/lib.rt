@@ -39,6 +39,6 @@ mod summary;
 pub use dump::write_dump;
 pub use events::write_events;
 pub use lines::{packet_line_law, write_lines};
-pub use list::write_list;
+pub use list::{write_element, write_list};
 pub use remarks::write_remarks;
 pub use summary::write_summary;

@@ -77,7 +77,13 @@ fn write_comment(comment: &[u8], out: &mut Vec<u8>) -> Result<(), Memory>
     }
 }
 
-fn write_element(
+/// Appends an element of a set as a listing has it at `now`, in milliseconds: its intervals, the rest of
+/// its life if it expires, and its comment.
+///
+/// # Errors
+///
+/// `Memory` if memory runs out. The old bytes are still there, before what was appended.
+pub fn write_element(
     set: &SetDecl,
     now: u64,
     element: &Element,

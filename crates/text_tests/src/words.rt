@@ -43,6 +43,34 @@ fn told_task<'a>(
     )
 }
 
+/// A `get`: the script, how many words the key has, its last word, and the moment.
+fn told_key(
+    alloc: Global,
+    script: &str,
+    key: &[String],
+    moment: Option<u64>,
+    keep_going: bool,
+) -> Result<Vec<u8>, Memory> {
+    let last = match key.last() {
+        Some(word) => word.as_bytes(),
+        None => b"",
+    };
+    line_of(
+        alloc,
+        &[
+            Piece::Word(b"get "),
+            Piece::Word(script.as_bytes()),
+            Piece::Word(b" "),
+            Piece::Number(key.len() as u64),
+            Piece::Word(b" "),
+            Piece::Word(last),
+            Piece::Word(b" "),
+            Piece::Number(moment.unwrap_or(0)),
+            Piece::Word(if keep_going { b" true" } else { b" false" }),
+        ],
+    )
+}
+
 /// A command on a script. A missing name is shown as empty, and a missing number of threads as 0.
 fn told_script(
     alloc: Global,
@@ -57,6 +85,7 @@ fn told_script(
         Task::List => told_task(alloc, b"list ", &[script, "", ""], 0, keep_going),
         Task::Dump => told_task(alloc, b"dump ", &[script, "", ""], 0, keep_going),
         Task::Desk => told_task(alloc, b"desk ", &[script, "", ""], 0, keep_going),
+        Task::Get { key, moment } => told_key(alloc, script, key, moment, keep_going),
         Task::Judge {
             rules,
             keys,
@@ -186,6 +215,11 @@ const NO_COMMANDS: &[u8] = b"\
     run --help a|no command~\
     --version run|no command~\
     run --version|no command~\
+    get|no command~\
+    get a|no command~\
+    get a t s 1 --at 5|no command~\
+    get --at a t s 1|no command~\
+    get --at 1000000000000001 a t s 1|no command~\
     -|no command~\
 ";
 
@@ -211,6 +245,9 @@ const COMMANDS: &[u8] = b"\
     desk a|desk a   0 false~\
     desk --keep-going desk|desk desk   0 true~\
     desk - --keep-going|desk -   0 true~\
+    get a t s 1|get a 3 1 0 false~\
+    get --at 1000000000000000 --keep-going - t s 1 . 2|get - 5 2 1000000000000000 true~\
+    get --keep-going --at 5 get get|get get 1 get 5 true~\
 ";
 
 /// Words that ask for a page.
@@ -240,11 +277,14 @@ const PAGES: &[u8] = b"\
     help desk|usage: pipapo desk SCRIPT [--keep-going]~\
     desk --help|usage: pipapo desk SCRIPT [--keep-going]~\
     desk -h|usage: pipapo desk SCRIPT [--keep-going]~\
+    help get|usage: pipapo get [--at MOMENT] [--keep-going] SCRIPT KEY ..~\
+    get --help|usage: pipapo get [--at MOMENT] [--keep-going] SCRIPT KEY ..~\
+    get -h|usage: pipapo get [--at MOMENT] [--keep-going] SCRIPT KEY ..~\
 ";
 
 #[test]
 fn words_of_a_command(rt: HostRuntime) {
-    assert_told(&rt, rt.alloc(), NO_COMMANDS, 61, asked);
-    assert_told(&rt, rt.alloc(), COMMANDS, 20, asked);
-    assert_told(&rt, rt.alloc(), PAGES, 25, asked);
+    assert_told(&rt, rt.alloc(), NO_COMMANDS, 66, asked);
+    assert_told(&rt, rt.alloc(), COMMANDS, 23, asked);
+    assert_told(&rt, rt.alloc(), PAGES, 28, asked);
 }

@@ -20,9 +20,12 @@ use Rattle.key_file.specs.KeysText.{IsKeysText}
 use Rattle.key_file.proofs.KeysLaws.{keys_single}
 use Rattle.pcap_keys.specs.CapturedPackets.{AreCaptured}
 use Rattle.pcap_keys.proofs.OneCapture.{one_capture}
+use Rattle.token_forms.specs.declared.token.Reason.{Reason}
+use Rattle.key_answer.specs.Answer.{GivesAnswer, get_text, has_no_answer}
+use Rattle.key_answer.specs.Question.{IsKey, IsBadKey, key_text, at_moment}
 use Rattle.script_run.specs.Listings.{listing_text, tables_text}
 use Rattle.desk_run.specs.DeskText.{IsDeskText}
-use Rattle.command_words.specs.Words.{Command, IsCommand, run, list, dump, drill, judge, capture, desk}
+use Rattle.command_words.specs.Words.{Command, IsCommand, run, list, dump, drill, judge, capture, desk, get}
 use Rattle.command_words.proofs.CommandWords.{one-command}
 use Rattle.command_words.proofs.PageWords.{page-no-command}
 use Rattle.input_files.specs.declared.fault.FileFault.{FileFault}
@@ -33,13 +36,13 @@ use Rattle.input_files.specs.Reads.{Shelved, StopsAt}
 use Rattle.input_files.specs.Given.{Has, AreGiven}
 use Rattle.input_files.proofs.Turns.{given-one, given-front, given-refuses}
 use Rattle.top_call.specs.declared.fault.Fault.{Fault}
-use Rattle.top_call.specs.declared.fault.Fault.TheVariants.{Usage, File, TooManyClerks, Memory}
-use Rattle.top_call.specs.Transcript.{IsTranscript, IsJudgement, AreRulesOf, IsCaptured, IsTextOf, IsWovenOf, most_sections}
+use Rattle.top_call.specs.declared.fault.Fault.TheVariants.{Usage, File, TooManyClerks, BadKey, Memory}
+use Rattle.top_call.specs.Transcript.{IsTranscript, IsJudgement, AreRulesOf, IsCaptured, IsTextOf, IsWovenOf, most_sections, IsAnswerOf}
 use Rattle.top_call.specs.Calls.{Call, IsQuiet}
-use Rattle.top_call.specs.Causes.{IsCause, no_command, of_file, too_many, no_memory}
+use Rattle.top_call.specs.Causes.{IsCause, no_command, of_file, too_many, bad_key, no_memory}
 use Rattle.top_call.specs.Lines.{done_status, form_status, file_status, file_line, status_of, fault_line}
-use Rattle.top_call.specs.Answers.{Ends, EndsDuly, written, cut, memory, IsDue, output, page, refusal, TellsReadFault, TellsFlaw, TellsTooMany}
-use Rattle.top_call.specs.Exactly.{HasScript, HasKeys, HasRules, HasCaptured, Completes, DeliversText, DeliversRun, DeliversJudgement, DeliversDesk, RanOut}
+use Rattle.top_call.specs.Answers.{Ends, EndsDuly, written, cut, memory, IsDue, output, page, refusal, TellsReadFault, TellsFlaw, TellsTooMany, TellsBadKey}
+use Rattle.top_call.specs.Exactly.{HasScript, HasKeys, HasRules, HasCaptured, Completes, DeliversText, DeliversRun, DeliversJudgement, DeliversDesk, DeliversAnswer, RanOut}
 use Rattle.top_call.proofs.Endings.{done-small, does, Wrote, HasWritten, drilled, page-told}
 
 -- The numbers that are a form's status.
@@ -91,6 +94,7 @@ module _ (c : Call) where
   cause-fault Usage (no_command none nothing same) e line = absurd (omega (arith, e))
   cause-fault (File f) (of_file d g is_d s) e line = file-fault d f s e line
   cause-fault (TooManyClerks name) (too_many n h) e line = absurd (omega (arith, e))
+  cause-fault (BadKey l r) (bad_key m q h) e line = absurd (omega (arith, e))
   cause-fault Memory (no_memory d is_d asked same) e line = absurd (omega (arith, e))
 
   due-fault : (status : ℕ) (text : List ℕ) → IsDue c.words c.shelf status text → status ≡ 5 → Appends c.taken_before c.taken_now text → TellsReadFault c
@@ -120,6 +124,7 @@ module _ (c : Call) where
     cause-flaw Usage (no_command none nothing same) e line = absurd (form-apart form 2 e refl)
     cause-flaw (File f) (of_file d g is_d s) e line = file-flaw d f is_d s e line
     cause-flaw (TooManyClerks name) (too_many n h) e line = absurd (form-apart form 12 e refl)
+    cause-flaw (BadKey l r) (bad_key m q h) e line = absurd (form-apart form 13 e refl)
     cause-flaw Memory (no_memory d is_d asked same) e line = absurd (form-apart form 7 e refl)
 
     due-flaw : (status : ℕ) (text : List ℕ) → IsDue c.words c.shelf status text → status ≡ form_status form → Appends c.taken_before c.taken_now text → TellsFlaw form c
@@ -151,6 +156,7 @@ module _ (c : Call) where
   cause-many Usage (no_command none nothing same) e line = absurd (omega (arith, e))
   cause-many (File f) (of_file d g is_d s) e line = absurd (file-no-twelve f e)
   cause-many (TooManyClerks name) (too_many n h) e line = record { name = name.now; has_many = h; written = line }
+  cause-many (BadKey l r) (bad_key m q h) e line = absurd (omega (arith, e))
   cause-many Memory (no_memory d is_d asked same) e line = absurd (omega (arith, e))
 
   due-many : (status : ℕ) (text : List ℕ) → IsDue c.words c.shelf status text → status ≡ 12 → Appends c.taken_before c.taken_now text → TellsTooMany c
@@ -165,6 +171,39 @@ module _ (c : Call) where
 
   pub tells-too-many : EndsDuly c → c.status ≡ 12 → TellsTooMany c
   tells-too-many ends e = ends-many c.status ends e
+
+  -- With status 13 the line of words that are no key was written.
+  file-no-thirteen : (f : FileFault) → file_status f ≡ 13 → ⊥
+  file-no-thirteen (files.Bad flaw) e = form-no-thirteen (form_of flaw) e where
+    form-no-thirteen : (form : FileForm) → form_status form ≡ 13 → ⊥
+    form-no-thirteen forms.script e = omega (arith, e)
+    form-no-thirteen forms.keys e = omega (arith, e)
+    form-no-thirteen forms.rules e = omega (arith, e)
+    form-no-thirteen forms.plan e = omega (arith, e)
+    form-no-thirteen forms.capture e = omega (arith, e)
+  file-no-thirteen (files.ReadFault name) e = omega (arith, e)
+  file-no-thirteen (files.TooLarge name) e = omega (arith, e)
+  file-no-thirteen files.Memory e = omega (arith, e)
+
+  cause-key : (fault : Fault) → IsCause c.words c.shelf fault → status_of fault ≡ 13 → Appends c.taken_before c.taken_now (fault_line fault) → TellsBadKey c
+  cause-key Usage (no_command none nothing same) e line = absurd (omega (arith, e))
+  cause-key (File f) (of_file d g is_d s) e line = absurd (file-no-thirteen f e)
+  cause-key (TooManyClerks name) (too_many n h) e line = absurd (omega (arith, e))
+  cause-key (BadKey l r) (bad_key m q h) e line = record { line = l; reason = r; has_none = h; written = line }
+  cause-key Memory (no_memory d is_d asked same) e line = absurd (omega (arith, e))
+
+  due-key : (status : ℕ) (text : List ℕ) → IsDue c.words c.shelf status text → status ≡ 13 → Appends c.taken_before c.taken_now text → TellsBadKey c
+  due-key status text (output refused t has) e line = absurd (let small = done-small refused in omega (arith, e, small))
+  due-key status text (page p asks nothing same) e line = absurd (omega (arith, e))
+  due-key status text (refusal fault cause) e line = cause-key fault cause e line
+
+  ends-key : (result : ℕ) → Ends (IsDue c.words c.shelf) c.taken_before c.taken_now c.faults_before c.faults_now result → result ≡ 13 → TellsBadKey c
+  ends-key result (written status text due appends quiet) e = due-key status text due e appends
+  ends-key result (cut status text due front rose) e = absurd (omega (arith, e))
+  ends-key result (memory due keeps quiet) e = absurd (omega (arith, e))
+
+  pub tells-bad-key : EndsDuly c → c.status ≡ 13 → TellsBadKey c
+  tells-bad-key ends e = ends-key c.status ends e
 
   pub tells-flaw : EndsDuly c → (form : FileForm) → c.status ≡ form_status form → TellsFlaw form c
   tells-flaw ends form e = ends-flaw form c.status ends e
@@ -181,6 +220,7 @@ module _ (words : List (List ℕ)) (shelf : Shelved) where
   cause-moved Usage (no_command none nothing same) moved = absurd (moved same)
   cause-moved (File f) (of_file d g is_d s) moved = file-moved s.sets (names_of s.earlier) s.input f s.cause moved
   cause-moved (TooManyClerks name) (too_many n h) moved = absurd (moved h.has_read.quiet)
+  cause-moved (BadKey l r) (bad_key m q h) moved = absurd (moved h.has_read.quiet)
   cause-moved Memory (no_memory d is_d asked same) moved = absurd (moved same)
 
   due-moved : (status : ℕ) (text : List ℕ) → IsDue words shelf status text → shelf.faults_now ≢ shelf.faults_before → status ≡ 5
@@ -207,6 +247,25 @@ kept-by-nothing (Some xs) (Some ys) h = h ∙ append-nil xs
 abbrev HasFew : (List ℕ → Option (List ℕ)) → Command → Type 0
 HasFew told c = (name : List ℕ) (keep_going : Bool) (s : Script) → c ≡ desk name keep_going → ReadsAs told name (λ text. IsScriptText text s) → most_sections < length s.sections → ⊥
 
+-- the script's name and the words of the key of a `get`
+abbrev script_name : Command → List ℕ
+script_name (get script key moment g) = script
+script_name other = []
+
+abbrev key_words : Command → List (List ℕ)
+key_words (get script key moment g) = key
+key_words other = []
+
+-- A key isn't refused.
+good-key : (sets : List SetDecl) (words : List (List ℕ)) (p : Packet) (line : ℕ) (reason : Reason) → IsKey sets words p → IsBadKey sets words line reason → ⊥
+unfolding IsKeysText
+good-key sets words p line reason is_key (inl fault) = fault.outside ((p ∷ []) ∷ []) is_key
+good-key sets words p line reason is_key (inr none) = none.0.other p (keys_single sets (key_text words) none.0.packets ((p ∷ []) ∷ []) none.0.is_text is_key)
+
+-- A command isn't a `get` whose words are no key.
+abbrev HasKey : (List ℕ → Option (List ℕ)) → Command → Type 0
+HasKey told c = (name : List ℕ) (key : List (List ℕ)) (moment : Option ℕ) (keep_going : Bool) (s : Script) (line : ℕ) (reason : Reason) → c ≡ get name key moment keep_going → ReadsAs told name (λ text. IsScriptText text s) → IsBadKey s.schema key line reason → ⊥
+
 -- The shelf shows a command's files, they are of their forms, and nothing failed outside. Then the command's output
 -- was written, or memory ran out.
 module _ (words : List (List ℕ)) (shelf : Shelved) (quiet : Rose shelf.faults_before shelf.faults_now → ⊥) (c : Command) (is_c : IsCommand words c) (sets : List SetDecl) (given : AreGiven shelf.told sets (inputs c)) where
@@ -226,13 +285,14 @@ module _ (words : List (List ℕ)) (shelf : Shelved) (quiet : Rose shelf.faults_
     big = s.cause.3 has.text has.is_told
   file-given files.Memory s = refl
 
-  module _ (few : HasFew shelf.told c) where
+  module _ (few : HasFew shelf.told c) (keyed : HasKey shelf.told c) where
     cause-given : (fault : Fault) → IsCause words shelf fault → (status_of fault ≡ 7) × (fault_line fault ≡ [])
     cause-given Usage (no_command none nothing same) = absurd (none.no_work c is_c)
     cause-given (File f) (of_file d g is_d s) =
         let e = file-given f (subst (λ (x : Command). StopsAt shelf x f) (one-command words d c is_d is_c) s) in
         (ap file_status e, ap file_line e)
     cause-given (TooManyClerks name) (too_many n h) = absurd (few name.now h.keep_going h.script (one-command words c (desk name.now h.keep_going) is_c h.is_desk) h.reads h.many)
+    cause-given (BadKey l r) (bad_key m q h) = absurd (keyed h.name h.key h.moment h.keep_going h.script m q (one-command words c (get h.name h.key h.moment h.keep_going) is_c h.is_get) h.reads h.bad)
     cause-given Memory (no_memory d is_d asked same) = (refl, refl)
 
     module _ (taken_before taken_now : Option (List ℕ)) where
@@ -278,8 +338,8 @@ given-capture told p f s packets h = record { text = h.capture.text; is_told = h
 
 module _ (c : Call) (ends : EndsDuly c) (quiet : IsQuiet c) where
   -- a command whose files are given
-  pub ended : (d : Command) (sets : List SetDecl) → IsCommand c.words d → AreGiven c.shelf.told sets (inputs d) → HasFew c.shelf.told d → HasWritten c ⊎ RanOut c
-  ended d sets is_d given few = given-done c.words c.shelf quiet.shelf d is_d sets given few c.taken_before c.taken_now c.faults_before c.faults_now c.status ends quiet.sink
+  pub ended : (d : Command) (sets : List SetDecl) → IsCommand c.words d → AreGiven c.shelf.told sets (inputs d) → HasFew c.shelf.told d → HasKey c.shelf.told d → HasWritten c ⊎ RanOut c
+  ended d sets is_d given few keyed = given-done c.words c.shelf quiet.shelf d is_d sets given few keyed c.taken_before c.taken_now c.faults_before c.faults_now c.status ends quiet.sink
 
   -- the transcript of the script and the key file in these texts
   same-files : (n : ℕ) (mode : Mode) (script keys_name : List ℕ) (s : Script) (packets : List (List Packet)) (hs : HasScript c.shelf.told script s) (hk : HasKeys c.shelf.told keys_name s packets) (w : HasWritten c)
@@ -339,6 +399,28 @@ module _ (c : Call) (ends : EndsDuly c) (quiet : IsQuiet c) where
       let size = ap (λ (x : Script). length x.sections) (script_single hs.text t s is_t hs.holds) in
       omega (arith, size, few, many)
 
+  -- the answer to the key in the script that was read
+  same-answer : (script : List ℕ) (key : List (List ℕ)) (moment : Option ℕ) (g : Bool) (s : Script) (p : Packet) (hs : HasScript c.shelf.told script s) → IsKey s.schema key p → (w : HasWritten c) → IsAnswerOf hs.text key moment (mode_of g) w.refused w.text
+      → DeliversAnswer (mode_of g) s (at_moment moment s p) c
+  same-answer script key moment g s p hs is_key w t =
+      let one : t.script ≡ s = script_single hs.text t.script s t.script_is hs.holds in
+      let gives : GivesAnswer (mode_of g) s key moment w.refused w.text = subst (λ (x : Script). GivesAnswer (mode_of g) x key moment w.refused w.text) one t.gives in
+      let packets : (gives.packet ∷ []) ∷ [] ≡ (p ∷ []) ∷ [] = keys_single s.schema (key_text key) ((gives.packet ∷ []) ∷ []) ((p ∷ []) ∷ []) gives.is_key is_key in
+      let packet : gives.packet ≡ p = cc packets in
+      record {
+        written = subst (λ (o : List ℕ). Appends c.taken_before c.taken_now o) (gives.text_is ∙ ap (λ (x : Packet). get_text (mode_of g) s (at_moment moment s x)) packet) w.appends;
+        status = w.status ∙ ap done_status (gives.refused_is ∙ ap (λ (x : Packet). has_no_answer (mode_of g) s (at_moment moment s x)) packet);
+      }
+
+  -- words that are a key aren't none
+  has-key : (script : List ℕ) (key : List (List ℕ)) (moment : Option ℕ) (g : Bool) (s : Script) (p : Packet) (hs : HasScript c.shelf.told script s) → IsKey s.schema key p → HasKey c.shelf.told (get script key moment g)
+  has-key script key moment g s p hs is_key name other m k t line reason e reads bad =
+      let here : script ≡ name = ap script_name e in
+      let words : key ≡ other = ap key_words e in
+      let is_t : IsScriptText hs.text t = (reads hs.text (subst (λ (n : List ℕ). c.shelf.told n ≡ Some hs.text) here hs.is_told)).1 in
+      let one : t ≡ s = script_single hs.text t s is_t hs.holds in
+      good-key s.schema key p line reason is_key (subst (λ (ws : List (List ℕ)). IsBadKey s.schema ws line reason) (sym words) (subst (λ (x : Script). IsBadKey x.schema other line reason) one bad))
+
   or-ran-out : (P : Type 0) → (HasWritten c → P) → HasWritten c ⊎ RanOut c → P ⊎ RanOut c
   or-ran-out P f (inl w) = inl (f w)
   or-ran-out P f (inr r) = inr r
@@ -349,27 +431,31 @@ module _ (c : Call) (ends : EndsDuly c) (quiet : IsQuiet c) where
     run = λ script keys n g s packets is_run hs hk.
         or-ran-out (DeliversRun n (mode_of g) s packets c)
         (λ w. same-files n (mode_of g) script keys s packets hs hk w (does c.words c.shelf (run script keys n g) w.refused w.text is_run w.has hs.text hk.text hs.is_told hk.is_told))
-        (ended (run script keys n g) s.schema is_run (given-script c.shelf.told script s hs, (given-keys c.shelf.told keys s packets hk, tt)) (λ name k t e. absurd (cc e)));
+        (ended (run script keys n g) s.schema is_run (given-script c.shelf.told script s hs, (given-keys c.shelf.told keys s packets hk, tt)) (λ name k t e. absurd (cc e)) (λ name key m k t l r e. absurd (cc e)));
     judge = λ script rules keys n g s r packets is_judge hs hr hk.
         or-ran-out (DeliversJudgement n (mode_of g) s r packets c)
         (λ w. same-judgement n (mode_of g) script rules keys s r packets hs hr hk w (does c.words c.shelf (judge script rules keys n g) w.refused w.text is_judge w.has hs.text hr.text hk.text hs.is_told hr.is_told hk.is_told))
-        (ended (judge script rules keys n g) s.schema is_judge (given-script c.shelf.told script s hs, (given-rules c.shelf.told rules s r hr, (given-keys c.shelf.told keys s packets hk, tt))) (λ name k t e. absurd (cc e)));
+        (ended (judge script rules keys n g) s.schema is_judge (given-script c.shelf.told script s hs, (given-rules c.shelf.told rules s r hr, (given-keys c.shelf.told keys s packets hk, tt))) (λ name k t e. absurd (cc e)) (λ name key m k t l r e. absurd (cc e)));
     capture = λ script plan packets n g s taken is_capture hs hc.
         or-ran-out (DeliversRun n (mode_of g) s (taken ∷ []) c)
         (λ w. same-capture n (mode_of g) script plan packets s taken hs hc w (does c.words c.shelf (capture script plan packets n g) w.refused w.text is_capture w.has hs.text hc.plan.text hc.capture.text hs.is_told hc.plan.is_told hc.capture.is_told))
-        (ended (capture script plan packets n g) s.schema is_capture (given-script c.shelf.told script s hs, (given-plan c.shelf.told plan packets s taken hc, (given-capture c.shelf.told plan packets s taken hc, tt))) (λ name k t e. absurd (cc e)));
+        (ended (capture script plan packets n g) s.schema is_capture (given-script c.shelf.told script s hs, (given-plan c.shelf.told plan packets s taken hc, (given-capture c.shelf.told plan packets s taken hc, tt))) (λ name k t e. absurd (cc e)) (λ name key m k t l r e. absurd (cc e)));
     list = λ script g s is_list hs.
         or-ran-out (DeliversText (mode_of g) s (listing_text (mode_of g) s) c)
         (λ w. same-script listing_text (mode_of g) script s hs w (does c.words c.shelf (list script g) w.refused w.text is_list w.has hs.text hs.is_told))
-        (ended (list script g) s.schema is_list (given-script c.shelf.told script s hs, tt) (λ name k t e. absurd (cc e)));
+        (ended (list script g) s.schema is_list (given-script c.shelf.told script s hs, tt) (λ name k t e. absurd (cc e)) (λ name key m k t l r e. absurd (cc e)));
     dump = λ script g s is_dump hs.
         or-ran-out (DeliversText (mode_of g) s (tables_text (mode_of g) s) c)
         (λ w. same-script tables_text (mode_of g) script s hs w (does c.words c.shelf (dump script g) w.refused w.text is_dump w.has hs.text hs.is_told))
-        (ended (dump script g) s.schema is_dump (given-script c.shelf.told script s hs, tt) (λ name k t e. absurd (cc e)));
+        (ended (dump script g) s.schema is_dump (given-script c.shelf.told script s hs, tt) (λ name k t e. absurd (cc e)) (λ name key m k t l r e. absurd (cc e)));
     desk = λ script g s is_desk hs few.
         or-ran-out (DeliversDesk s g c)
         (λ w. same-desk script g s hs w (does c.words c.shelf (desk script g) w.refused w.text is_desk w.has hs.text hs.is_told))
-        (ended (desk script g) s.schema is_desk (given-script c.shelf.told script s hs, tt) (few-sections script g s hs few));
-    drill = λ seed count threads is_drill. or-ran-out _ (drilled c seed count threads is_drill) (ended (drill seed count threads) [] is_drill tt (λ name k t e. absurd (cc e)));
+        (ended (desk script g) s.schema is_desk (given-script c.shelf.told script s hs, tt) (few-sections script g s hs few) (λ name key m k t l r e. absurd (cc e)));
+    get = λ script key moment g s p is_get hs is_key.
+        or-ran-out (DeliversAnswer (mode_of g) s (at_moment moment s p) c)
+        (λ w. same-answer script key moment g s p hs is_key w (does c.words c.shelf (get script key moment g) w.refused w.text is_get w.has hs.text hs.is_told))
+        (ended (get script key moment g) s.schema is_get (given-script c.shelf.told script s hs, tt) (λ name k t e. absurd (cc e)) (has-key script key moment g s p hs is_key));
+    drill = λ seed count threads is_drill. or-ran-out _ (drilled c seed count threads is_drill) (ended (drill seed count threads) [] is_drill tt (λ name k t e. absurd (cc e)) (λ name key m k t l r e. absurd (cc e)));
     page = page-told c ends quiet.sink;
   }

@@ -6,7 +6,7 @@ use Rattle.set_model.specs.Control.{mode_of}
 use Rattle.script_run.specs.Drill.{drill_text}
 use Rattle.command_words.specs.declared.page.Page.{Page}
 use Rattle.command_words.specs.WordForms.{page_text}
-use Rattle.command_words.specs.Words.{Command, run, list, dump, drill, judge, capture, desk, IsCommand, AsksFor, IsDrillCommand}
+use Rattle.command_words.specs.Words.{Command, run, list, dump, drill, judge, capture, desk, get, IsCommand, AsksFor, IsDrillCommand}
 use Rattle.command_words.proofs.CommandWords.{one-command}
 use Rattle.command_words.proofs.PageWords.{page-no-command, one-page}
 use Rattle.input_files.specs.declared.fault.FileFault.{FileFault}
@@ -15,12 +15,12 @@ use Rattle.input_files.specs.Inputs as forms
 use Rattle.input_files.specs.Inputs.{FileForm, form_of}
 use Rattle.input_files.specs.Reads.{Shelved}
 use Rattle.top_call.specs.declared.fault.Fault.{Fault}
-use Rattle.top_call.specs.declared.fault.Fault.TheVariants.{Usage, File, TooManyClerks, Memory}
-use Rattle.top_call.specs.Transcript.{IsOutput, IsTranscript, IsJudgement, IsCaptured, IsListing, IsTables, IsWovenOf}
+use Rattle.top_call.specs.declared.fault.Fault.TheVariants.{Usage, File, TooManyClerks, BadKey, Memory}
+use Rattle.top_call.specs.Transcript.{IsOutput, IsTranscript, IsJudgement, IsCaptured, IsListing, IsTables, IsWovenOf, IsAnswerOf}
 use Rattle.top_call.specs.Calls.{Call}
-use Rattle.top_call.specs.Causes.{IsCause, no_command, of_file, too_many, no_memory}
+use Rattle.top_call.specs.Causes.{IsCause, no_command, of_file, too_many, bad_key, no_memory}
 use Rattle.top_call.specs.Lines.{done_status, form_status, file_status, status_of, fault_line}
-use Rattle.top_call.specs.Answers.{Ends, EndsDuly, written, cut, memory, IsDue, output, page, refusal, IsExactly, HasOutput, IsComplete, Writes, Transcribes, Judges, Captures, Lists, Dumps, Weaves, Drills, Delivers, TellsPage}
+use Rattle.top_call.specs.Answers.{Ends, EndsDuly, written, cut, memory, IsDue, output, page, refusal, IsExactly, HasOutput, IsComplete, Writes, Transcribes, Judges, Captures, Lists, Dumps, Weaves, AnswersKeys, Drills, Delivers, TellsPage}
 
 -- an output's status is 0 or 1, and a fault's status is greater
 pub done-small : (refused : Bool) → done_status refused ≤ 1
@@ -48,6 +48,7 @@ fault-above : (f : Fault) → 2 ≤ status_of f
 fault-above Usage = omega arith
 fault-above (File f) = file-above f
 fault-above (TooManyClerks name) = omega arith
+fault-above (BadKey line reason) = omega arith
 fault-above Memory = omega arith
 
 pub fault-not-done : (fault : Fault) (line : List ℕ) (taken_before taken_now : Option (List ℕ)) (b n result : ℕ) → Ends (IsExactly (status_of fault) line) taken_before taken_now b n result → IsComplete result → ⊥
@@ -84,6 +85,7 @@ module _ (words : List (List ℕ)) (shelf : Shelved) (p : Page) (asks : AsksFor 
   no-cause fault (no_command none nothing same) = none.no_page p asks
   no-cause fault (of_file c f is_c stops) = page-no-command words p c asks is_c
   no-cause fault (too_many name h) = page-no-command words p (desk name.now h.keep_going) asks h.is_desk
+  no-cause fault (bad_key line reason h) = page-no-command words p (get h.name h.key h.moment h.keep_going) asks h.is_get
   no-cause fault (no_memory c is_c asked same) = page-no-command words p c asks is_c
 
   due-page : (status : ℕ) (text : List ℕ) → IsDue words shelf status text → (status ≡ 0) × (text ≡ page_text p)
@@ -142,6 +144,12 @@ module _ (c : Call) where
       let w = of-command ends e (desk script keep_going) is_desk in
       writes (IsWovenOf script_text keep_going) w (does c.words c.shelf (desk script keep_going) w.refused w.text is_desk w.has script_text at)
 
+  pub answers-keys : EndsDuly c → IsComplete c.status → AnswersKeys c
+  answers-keys ends e script script_text key moment keep_going is_get at =
+      let d = get script key moment keep_going in
+      let w = of-command ends e d is_get in
+      writes (IsAnswerOf script_text key moment (mode_of keep_going)) w (does c.words c.shelf d w.refused w.text is_get w.has script_text at)
+
   pub drilled : (seed count threads : ℕ) → IsDrillCommand c.words seed count threads → HasWritten → Delivers (drill_text seed count) c
   drilled seed count threads is_drill w =
       let d = does c.words c.shelf (drill seed count threads) w.refused w.text is_drill w.has in
@@ -181,6 +189,7 @@ module _ (c : Call) where
         status-not-six (File (files.TooLarge name)) e = omega (arith, e)
         status-not-six (File files.Memory) e = omega (arith, e)
         status-not-six (TooManyClerks name) e = omega (arith, e)
+        status-not-six (BadKey line reason) e = omega (arith, e)
         status-not-six Memory e = omega (arith, e)
 
 -- what is due of a page

@@ -7,7 +7,7 @@ use Rattle.set_model.specs.declared.script.Script.{Script}
 use Rattle.set_model.specs.declared.script.SetDecl.{SetDecl}
 use Rattle.set_model.specs.declared.packet.Packet.{Packet}
 use Rattle.set_model.specs.Control.{Mode, mode_of, has_refusal}
-use Rattle.command_words.specs.Words.{Command, IsCommand, IsNoCommand, desk}
+use Rattle.command_words.specs.Words.{Command, IsCommand, IsNoCommand, desk, get}
 use Rattle.command_words.proofs.CommandWords.{one-command}
 use Rattle.command_words.proofs.PageWords.{page-no-command}
 use Rattle.input_files.specs.declared.fault.Flaw.{Flaw}
@@ -19,19 +19,21 @@ use Rattle.input_files.specs.Given.{AreGiven}
 use Rattle.input_files.proofs.Turns.{Turns, before, behind, same, two-turns, of-one, of-front, given-one, given-front, given-as-read, given-refuses}
 use Rattle.rule_chain.specs.Chains.{Rules}
 use Rattle.set_script.proofs.ScriptWhole.{script_single}
+use Rattle.key_answer.specs.Answer.{has_no_answer}
+use Rattle.key_answer.specs.Question.{IsKey, at_moment}
 use Rattle.top_call.specs.Transcript.{IsOutput, most_sections}
 use Rattle.pip_base.specs.Whole.{size_limit}
 use Rattle.top_call.specs.declared.fault.Fault.{Fault}
-use Rattle.top_call.specs.declared.fault.Fault.TheVariants.{Usage, File, TooManyClerks, Memory}
+use Rattle.top_call.specs.declared.fault.Fault.TheVariants.{Usage, File, TooManyClerks, BadKey, Memory}
 use Rattle.top_call.specs.Calls.{Call, IsQuiet}
-use Rattle.top_call.specs.Causes.{IsCause, no_command, of_file, too_many, no_memory}
+use Rattle.top_call.specs.Causes.{IsCause, no_command, of_file, too_many, bad_key, no_memory}
 use Rattle.top_call.specs.Lines.{done_status, form_status, file_status, status_of}
 use Rattle.top_call.specs.Answers.{Ends, EndsDuly, written, cut, memory, IsDue, output, page, refusal, Delivers}
-use Rattle.top_call.specs.Exactly.{HasTurn, IsExact, IsStatus, Completes, DeliversText, DeliversRun, DeliversJudgement, DeliversDesk, HasScript, RanOut}
+use Rattle.top_call.specs.Exactly.{HasTurn, IsExact, IsStatus, Completes, DeliversText, DeliversRun, DeliversJudgement, DeliversDesk, DeliversAnswer, HasScript, RanOut}
 use Rattle.top_call.specs.Promises.{Promises, Goes}
 use Rattle.top_call.proofs.Noting.{no-note}
-use Rattle.top_call.proofs.Endings.{does, page-told, transcribes, judges, captures, lists, dumps, weaves, drills, tells-page}
-use Rattle.top_call.proofs.Completed.{completes, file-given, given-script, tells-read-fault, tells-flaw, tells-too-many, shelf-moved, sink-moved}
+use Rattle.top_call.proofs.Endings.{does, page-told, transcribes, judges, captures, lists, dumps, weaves, answers-keys, drills, tells-page}
+use Rattle.top_call.proofs.Completed.{completes, file-given, given-script, tells-read-fault, tells-flaw, tells-too-many, tells-bad-key, shelf-moved, sink-moved}
 
 -- A file came to its turn, and the shelf shows its text.
 module _ (shelf : Shelved) (quiet : Rose shelf.faults_before shelf.faults_now → ⊥) (c : Command) (earlier later : List Input) (i : Input) (sets : List SetDecl) (text : List ℕ)
@@ -105,6 +107,7 @@ module _ (words : List (List ℕ)) (shelf : Shelved) (c : Command) (is_c : IsCom
   cause-status Usage (no_command none nothing quiet) = absurd (none.no_work c is_c)
   cause-status (File f) (of_file d g is_d s) = of_stop f (subst (λ (x : Command). StopsAt shelf x f) (one-command words d c is_d is_c) s)
   cause-status (TooManyClerks name) (too_many n h) = absurd (no_read (subst (λ (x : Command). HasRead shelf x) (one-command words (desk name.now h.keep_going) c h.is_desk is_c) h.has_read))
+  cause-status (BadKey l r) (bad_key m q h) = absurd (no_read (subst (λ (x : Command). HasRead shelf x) (one-command words (get h.name h.key h.moment h.keep_going) c h.is_get is_c) h.has_read))
   cause-status Memory (no_memory d is_d asked quiet) = inr refl
 
   due-status : (result : ℕ) (text : List ℕ) → IsDue words shelf result text → (result ≡ status) ⊎ (result ≡ 7)
@@ -124,6 +127,7 @@ module _ (words : List (List ℕ)) (shelf : Shelved) (quiet : Rose shelf.faults_
   cause-many (File f) (of_file d g is_d stops) =
       inr (ap file_status (file-given words shelf quiet (desk script keep_going) is_desk s.schema (given-script shelf.told script s hs, tt) f (subst (λ (x : Command). StopsAt shelf x f) (one-command words d (desk script keep_going) is_d is_desk) stops)))
   cause-many (TooManyClerks name) (too_many n h) = inl refl
+  cause-many (BadKey l r) (bad_key m q h) = absurd (let same = one-command words (get h.name h.key h.moment h.keep_going) (desk script keep_going) h.is_get is_desk in cc same)
   cause-many Memory (no_memory d is_d asked still) = inr refl
 
   not-woven : (refused : Bool) (text : List ℕ) → IsOutput (desk script keep_going) shelf.told refused text → ⊥
@@ -143,12 +147,40 @@ module _ (words : List (List ℕ)) (shelf : Shelved) (quiet : Rose shelf.faults_
   ends-many taken_before taken_now b n result (cut r text due front rose) sink = absurd (sink rose)
   ends-many taken_before taken_now b n result (memory due keeps still) sink = inr refl
 
+-- If the words are a `get` whose words are no key, their line is written.
+module _ (words : List (List ℕ)) (shelf : Shelved) (quiet : Rose shelf.faults_before shelf.faults_now → ⊥) (script : List ℕ) (key : List (List ℕ)) (moment : Option ℕ) (keep_going : Bool) (s : Script) (is_get : IsCommand words (get script key moment keep_going)) (hs : HasScript shelf.told script s)
+    (no_key : (p : Packet) → IsKey s.schema key p → ⊥) where
+  cause-key : (fault : Fault) → IsCause words shelf fault → (status_of fault ≡ 13) ⊎ (status_of fault ≡ 7)
+  cause-key Usage (no_command none nothing still) = absurd (none.no_work (get script key moment keep_going) is_get)
+  cause-key (File f) (of_file d g is_d stops) =
+      inr (ap file_status (file-given words shelf quiet (get script key moment keep_going) is_get s.schema (given-script shelf.told script s hs, tt) f (subst (λ (x : Command). StopsAt shelf x f) (one-command words d (get script key moment keep_going) is_d is_get) stops)))
+  cause-key (TooManyClerks name) (too_many n h) = absurd (let same = one-command words (desk name.now h.keep_going) (get script key moment keep_going) h.is_desk is_get in cc same)
+  cause-key (BadKey l r) (bad_key m q h) = inl refl
+  cause-key Memory (no_memory d is_d asked still) = inr refl
+
+  not-answered : (refused : Bool) (text : List ℕ) → IsOutput (get script key moment keep_going) shelf.told refused text → ⊥
+  not-answered refused text is_output =
+      let w = is_output hs.text hs.is_told in
+      let one : w.script ≡ s = script_single hs.text w.script s w.script_is hs.holds in
+      no_key w.gives.packet (subst (λ (x : Script). IsKey x.schema key w.gives.packet) one w.gives.is_key)
+
+  due-key : (result : ℕ) (text : List ℕ) → IsDue words shelf result text → (result ≡ 13) ⊎ (result ≡ 7)
+  due-key result text (output refused t has) = absurd (not-answered refused t (does words shelf (get script key moment keep_going) refused t is_get has))
+  due-key result text (page p asks nothing still) = absurd (page-no-command words p (get script key moment keep_going) asks is_get)
+  due-key result text (refusal fault cause) = cause-key fault cause
+
+  ends-key : (taken_before taken_now : Option (List ℕ)) (b n result : ℕ) → Ends (IsDue words shelf) taken_before taken_now b n result → (Rose b n → ⊥) → (result ≡ 13) ⊎ (result ≡ 7)
+  ends-key taken_before taken_now b n result (written r text due appends still) sink = due-key r text due
+  ends-key taken_before taken_now b n result (cut r text due front rose) sink = absurd (sink rose)
+  ends-key taken_before taken_now b n result (memory due keeps still) sink = inr refl
+
 -- If the words are no command, the usage line is written.
 module _ (words : List (List ℕ)) (shelf : Shelved) (none : IsNoCommand words) where
   cause-usage : (fault : Fault) → IsCause words shelf fault → status_of fault ≡ 2
   cause-usage Usage (no_command other nothing quiet) = refl
   cause-usage (File f) (of_file d g is_d s) = absurd (none.no_work d is_d)
   cause-usage (TooManyClerks name) (too_many n h) = absurd (none.no_work (desk name.now h.keep_going) h.is_desk)
+  cause-usage (BadKey l r) (bad_key m q h) = absurd (none.no_work (get h.name h.key h.moment h.keep_going) h.is_get)
   cause-usage Memory (no_memory d is_d asked quiet) = absurd (none.no_work d is_d)
 
   due-usage : (result : ℕ) (text : List ℕ) → IsDue words shelf result text → result ≡ 2
@@ -181,6 +213,10 @@ module _ (c : Call) (ends : EndsDuly c) (quiet : IsQuiet c) where
   of-desk s g (inl d) = (d.refused, inl d.status)
   of-desk s g (inr r) = (false, inr r.0)
 
+  of-answer : (mode : Mode) (s : Script) (p : Packet) → DeliversAnswer mode s p c ⊎ RanOut c → IsStatus (done_status (has_no_answer mode s p)) c
+  of-answer mode s p (inl d) = inl d.status
+  of-answer mode s p (inr r) = inr r.0
+
   of-drill : (text : List ℕ) → Delivers text c ⊎ RanOut c → IsStatus 0 c
   of-drill text (inl d) = inl d.status
   of-drill text (inr r) = inr r.0
@@ -204,6 +240,8 @@ module _ (c : Call) (ends : EndsDuly c) (quiet : IsQuiet c) where
     done_dump = λ script g s is_dump hs. of-text (mode_of g) s _ (done.dump script g s is_dump hs);
     too_many = λ script g s is_desk hs many. ends-many c.words c.shelf quiet.shelf script g s is_desk hs many c.taken_before c.taken_now c.faults_before c.faults_now c.status ends quiet.sink;
     done_desk = λ script g s is_desk hs few. of-desk s g (done.desk script g s is_desk hs few);
+    bad_key = λ script key moment g s is_get hs no_key. ends-key c.words c.shelf quiet.shelf script key moment g s is_get hs no_key c.taken_before c.taken_now c.faults_before c.faults_now c.status ends quiet.sink;
+    done_get = λ script key moment g s p is_get hs is_key. of-answer (mode_of g) s (at_moment moment s p) (done.get script key moment g s p is_get hs is_key);
     done_drill = λ seed count n is_drill. of-drill _ (done.drill seed count n is_drill);
     done_page = λ p asks. (page-told c ends quiet.sink p asks).status;
   }
@@ -220,12 +258,14 @@ promises c g = record {
   list = λ e. lists c g.ends e;
   dump = λ e. dumps c g.ends e;
   desk = λ e. weaves c g.ends e;
+  get = λ e. answers-keys c g.ends e;
   drill = λ e. drills c g.ends e;
   page = λ e. tells-page c g.ends e;
   names = g.names;
   all_read = g.all_read;
   bad = λ form e. tells-flaw c g.ends form e;
   too_many = λ e. tells-too-many c g.ends e;
+  bad_key = λ e. tells-bad-key c g.ends e;
   read_fault = λ e. tells-read-fault c g.ends e;
   shelf_count = λ moved. shelf-moved c.words c.shelf c.taken_before c.taken_now c.faults_before c.faults_now c.status g.ends moved;
   sink_count = λ moved. sink-moved c.words c.shelf c.taken_before c.taken_now c.faults_before c.faults_now c.status g.ends moved;

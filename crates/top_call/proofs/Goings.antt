@@ -1,9 +1,11 @@
 -- A call ends with the result of its command: an output, a fault or a page.
 use Rattle.std.specs.Borrow.{Bor}
-use Rattle.std.proofs.Common.{◌≡◌, subst, ℕ, Bool, true, List, [], Option, inr, inl}
+use Rattle.std.proofs.Common.{◌≡◌, subst, ℕ, Bool, true, List, [], map, Option, inr, inl}
+use Rattle.std.specs.String.{string_bytes}
+use Rattle.token_forms.specs.declared.token.Reason.{Reason}
 use Rattle.command_words.specs.declared.page.Page.{Page}
 use Rattle.command_words.specs.WordForms.{page_text}
-use Rattle.command_words.specs.Words.{Command, IsCommand, IsNoCommand, AsksFor, desk}
+use Rattle.command_words.specs.Words.{Command, IsCommand, IsNoCommand, AsksFor, desk, get}
 use Rattle.command_words.proofs.PageWords.{page-no-command}
 use Rattle.fault_notes.specs.Shown.{Begins, name_text}
 use Rattle.fault_notes.specs.Told.{MayTell, nothing as no_note}
@@ -17,9 +19,9 @@ use Rattle.input_files.specs.Works.{IsWork}
 use Rattle.set_script.specs.ScriptText.{IsScriptText}
 use Rattle.top_call.specs.declared.fault.Fault.{Fault}
 use Rattle.top_call.specs.declared.fault.Fault.TheVariants as faults
-use Rattle.top_call.specs.Transcript.{IsOutput, IsOverfull}
+use Rattle.top_call.specs.Transcript.{IsOutput, IsOverfull, HasBadWords}
 use Rattle.top_call.specs.Calls.{Call}
-use Rattle.top_call.specs.Causes.{IsCause, HasManySections, no_command, of_file, too_many, no_memory}
+use Rattle.top_call.specs.Causes.{IsCause, HasManySections, HasNoKey, no_command, of_file, too_many, bad_key, no_memory}
 use Rattle.top_call.specs.Lines.{done_status, status_of, fault_line}
 use Rattle.top_call.specs.Names.{AsksInOrder}
 use Rattle.top_call.specs.Answers.{Ends, IsDue, IsExactly, HasOutput}
@@ -42,6 +44,27 @@ many-sections words shelf c work name is_c has_read is_work over =
       reads = subst (λ (n : List ℕ). ReadsAs shelf.told n (λ text. IsScriptText text over.script)) same of_desk.2;
       many = over.many;
     }
+
+-- The words of a `get` are no key of the script that was read.
+pub no-key : (words : List (List ℕ)) (shelf : Shelved) (c : Command) (work : Work) (line : ℕ) (reason : Reason) → IsCommand words c → HasRead shelf c → IsWork shelf.told c work → HasBadWords work line reason → HasNoKey words shelf line reason
+no-key words shelf c (works.Get s key moment g) line reason is_c has_read is_work bad = record {
+  name = is_work.0;
+  key = map string_bytes key.now;
+  moment = moment;
+  keep_going = g;
+  script = s;
+  is_get = subst (λ (d : Command). IsCommand words d) is_work.1 is_c;
+  has_read = subst (λ (d : Command). HasRead shelf d) is_work.1 has_read;
+  reads = is_work.2;
+  bad = bad;
+}
+no-key words shelf c (works.Run s packets threads g) line reason is_c has_read is_work bad = absurd bad
+no-key words shelf c (works.List s g) line reason is_c has_read is_work bad = absurd bad
+no-key words shelf c (works.Dump s g) line reason is_c has_read is_work bad = absurd bad
+no-key words shelf c (works.Drill seed count threads) line reason is_c has_read is_work bad = absurd bad
+no-key words shelf c (works.Judge s chains packets threads g) line reason is_c has_read is_work bad = absurd bad
+no-key words shelf c (works.Capture s plan frames threads g) line reason is_c has_read is_work bad = absurd bad
+no-key words shelf c (works.Desk s g) line reason is_c has_read is_work bad = absurd bad
 
 module _ (c : Call) where
   abbrev EndsWith : ℕ → List ℕ → Type 0
@@ -84,6 +107,11 @@ module _ (c : Call) where
   goes-too-many name h mid silent tells ends =
       goes-fault (faults.TooManyClerks name) (too_many name h) (asks-files c.words c.shelf (desk name.now h.keep_going) h.is_desk h.has_read) ends
       (sections-noted c name.now h (ended-of (status_of (faults.TooManyClerks name)) (fault_line (faults.TooManyClerks name)) c.taken_before c.taken_now c.faults_before c.faults_now c.status ends) mid silent tells)
+
+  -- the words of a `get` are no key
+  pub goes-bad-key : (line : ℕ) (reason : Reason) → HasNoKey c.words c.shelf line reason → Silent → EndsWith (status_of (faults.BadKey line reason)) (fault_line (faults.BadKey line reason)) → Goes c
+  goes-bad-key line reason h silent ends =
+      goes-fault (faults.BadKey line reason) (bad_key line reason h) (asks-files c.words c.shelf (get h.name h.key h.moment h.keep_going) h.is_get h.has_read) ends (no_note silent)
 
   -- memory ran out for the words, or for the output
   pub goes-early : (d : Command) → IsCommand c.words d → c.shelf.asked ≡ [] → c.shelf.faults_now ≡ c.shelf.faults_before → Silent → EndsWith (status_of faults.Memory) (fault_line faults.Memory) → Goes c

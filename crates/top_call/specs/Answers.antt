@@ -4,19 +4,20 @@ use Rattle.std.specs.Io.KnownBytes.{Appends, Keeps}
 use Rattle.pip_base.specs.Causes.{Rose}
 use Rattle.pip_base.specs.Whole.{AppendsFront}
 use Rattle.set_model.specs.Control.{mode_of}
+use Rattle.token_forms.specs.declared.token.Reason.{Reason}
 use Rattle.script_run.specs.Drill.{drill_text}
 use Rattle.command_words.specs.declared.page.Page.{Page}
 use Rattle.command_words.specs.WordForms.{page_text}
-use Rattle.command_words.specs.Words.{Command, IsCommand, AsksFor, IsRunCommand, IsListCommand, IsDumpCommand, IsDrillCommand, IsJudgeCommand, IsCaptureCommand, IsDeskCommand}
+use Rattle.command_words.specs.Words.{Command, IsCommand, AsksFor, IsRunCommand, IsListCommand, IsDumpCommand, IsDrillCommand, IsJudgeCommand, IsCaptureCommand, IsDeskCommand, IsGetCommand}
 use Rattle.input_files.specs.declared.fault.Flaw.{Flaw}
 use Rattle.input_files.specs.declared.fault.FileFault.TheVariants.{Bad}
 use Rattle.input_files.specs.Inputs.{FileForm, form_of}
 use Rattle.input_files.specs.Reads.{Shelved, HasRead, StopsAt}
 use Rattle.top_call.specs.declared.fault.Fault.{Fault}
-use Rattle.top_call.specs.Transcript.{IsOutput, IsTranscript, IsJudgement, IsCaptured, IsListing, IsTables, IsWovenOf}
+use Rattle.top_call.specs.Transcript.{IsOutput, IsTranscript, IsJudgement, IsCaptured, IsListing, IsTables, IsWovenOf, IsAnswerOf}
 use Rattle.top_call.specs.Calls.{Call}
-use Rattle.top_call.specs.Causes.{IsCause, HasManySections}
-use Rattle.top_call.specs.Lines.{done_status, status_of, fault_line, flaw_line, read_fault_line, too_many_line}
+use Rattle.top_call.specs.Causes.{IsCause, HasManySections, HasNoKey}
+use Rattle.top_call.specs.Lines.{done_status, status_of, fault_line, flaw_line, read_fault_line, too_many_line, bad_key_line}
 
 -- The command of these words has this output: all its files were asked for and read, no fault was counted, and this
 -- is what the command does.
@@ -94,6 +95,11 @@ Dumps c = (script script_text : List ℕ) (keep_going : Bool) → IsDumpCommand 
 abbrev pub Weaves : Call → Type 0
 Weaves c = (script script_text : List ℕ) (keep_going : Bool) → IsDeskCommand c.words script keep_going → c.shelf.told script ≡ Some script_text → Writes (IsWovenOf script_text keep_going) c
 
+-- The same of a `get`. The sink took the refused changes, and then the earliest live element of the last generation that
+-- holds the key, with the line that added it, or `none` if there is no such element.
+abbrev pub AnswersKeys : Call → Type 0
+AnswersKeys c = (script script_text : List ℕ) (key : List (List ℕ)) (moment : Option ℕ) (keep_going : Bool) → IsGetCommand c.words script key moment keep_going → c.shelf.told script ≡ Some script_text → Writes (IsAnswerOf script_text key moment (mode_of keep_going)) c
+
 -- A text was written whole, and the status is 0.
 pub record Delivers (text : List ℕ) (c : Call) : Type 0 where
   pub written : Appends c.taken_before c.taken_now text
@@ -129,3 +135,10 @@ pub record TellsTooMany (c : Call) : Type 0 where
   pub name : List ℕ
   pub has_many : HasManySections c.words c.shelf name
   pub written : Appends c.taken_before c.taken_now (too_many_line name)
+
+-- The line of words that are no key was written.
+pub record TellsBadKey (c : Call) : Type 0 where
+  pub line : ℕ
+  pub reason : Reason
+  pub has_none : HasNoKey c.words c.shelf line reason
+  pub written : Appends c.taken_before c.taken_now (bad_key_line line reason)

@@ -22,9 +22,11 @@ use Rattle.pcap_keys.specs.PlansText.{IsPlanText}
 use Rattle.script_run.specs.Listings.{listing_text, tables_text}
 use Rattle.script_run.specs.Drill.{drill_text}
 use Rattle.desk_run.specs.DeskText.{IsDeskText}
+use Rattle.key_answer.specs.Answer.{get_text, has_no_answer}
+use Rattle.key_answer.specs.Question.{IsKey, at_moment}
 use Rattle.pip_base.specs.Whole.{size_limit}
 use Rattle.command_words.specs.declared.page.Page.{Page}
-use Rattle.command_words.specs.Words.{Command, IsCommand, AsksFor, IsNoCommand, IsRunCommand, IsListCommand, IsDumpCommand, IsDrillCommand, IsJudgeCommand, IsCaptureCommand, IsDeskCommand}
+use Rattle.command_words.specs.Words.{Command, IsCommand, AsksFor, IsNoCommand, IsRunCommand, IsListCommand, IsDumpCommand, IsDrillCommand, IsJudgeCommand, IsCaptureCommand, IsDeskCommand, IsGetCommand}
 use Rattle.input_files.specs.Inputs.{Input, inputs, IsOf}
 use Rattle.input_files.specs.Given.{Has, AreGiven}
 use Rattle.top_call.specs.Transcript.{AreRulesOf, most_sections}
@@ -85,6 +87,10 @@ pub record IsExact (c : Call) : Type 0 where
   pub done_dump : (script : List ℕ) (keep_going : Bool) (s : Script) → IsDumpCommand c.words script keep_going → HasScript c.shelf.told script s → IsStatus (done_status (has_refusal (mode_of keep_going) s)) c
   pub too_many : (script : List ℕ) (keep_going : Bool) (s : Script) → IsDeskCommand c.words script keep_going → HasScript c.shelf.told script s → most_sections < length s.sections → IsStatus 12 c
   pub done_desk : (script : List ℕ) (keep_going : Bool) (s : Script) → IsDeskCommand c.words script keep_going → HasScript c.shelf.told script s → length s.sections ≤ most_sections → (refused : Bool) × IsStatus (done_status refused) c
+  pub bad_key : (script : List ℕ) (key : List (List ℕ)) (moment : Option ℕ) (keep_going : Bool) (s : Script) → IsGetCommand c.words script key moment keep_going → HasScript c.shelf.told script s
+      → ((p : Packet) → IsKey s.schema key p → ⊥) → IsStatus 13 c
+  pub done_get : (script : List ℕ) (key : List (List ℕ)) (moment : Option ℕ) (keep_going : Bool) (s : Script) (p : Packet) → IsGetCommand c.words script key moment keep_going → HasScript c.shelf.told script s → IsKey s.schema key p
+      → IsStatus (done_status (has_no_answer (mode_of keep_going) s (at_moment moment s p))) c
   pub done_drill : (seed count threads : ℕ) → IsDrillCommand c.words seed count threads → IsStatus 0 c
   pub done_page : (p : Page) → AsksFor c.words p → c.status ≡ 0
 
@@ -118,6 +124,11 @@ pub record DeliversDesk (s : Script) (keep_going : Bool) (c : Call) : Type 0 whe
   pub written : Appends c.taken_before c.taken_now text
   pub status : c.status ≡ done_status refused
 
+-- The answer to a key was written. The status is 1 if a change is refused or no element answers, and 0 otherwise.
+pub record DeliversAnswer (mode : Mode) (s : Script) (p : Packet) (c : Call) : Type 0 where
+  pub written : Appends c.taken_before c.taken_now (get_text mode s p)
+  pub status : c.status ≡ done_status (has_no_answer mode s p)
+
 -- The words are a command, and its files are within their size and of their forms. Then the output of exactly these
 -- files was written; or memory ran out, and nothing was written. A drill has no files. A page is written in any case.
 pub record Completes (c : Call) : Type 0 where
@@ -130,5 +141,7 @@ pub record Completes (c : Call) : Type 0 where
   pub list : (script : List ℕ) (keep_going : Bool) (s : Script) → IsListCommand c.words script keep_going → HasScript c.shelf.told script s → DeliversText (mode_of keep_going) s (listing_text (mode_of keep_going) s) c ⊎ RanOut c
   pub dump : (script : List ℕ) (keep_going : Bool) (s : Script) → IsDumpCommand c.words script keep_going → HasScript c.shelf.told script s → DeliversText (mode_of keep_going) s (tables_text (mode_of keep_going) s) c ⊎ RanOut c
   pub desk : (script : List ℕ) (keep_going : Bool) (s : Script) → IsDeskCommand c.words script keep_going → HasScript c.shelf.told script s → length s.sections ≤ most_sections → DeliversDesk s keep_going c ⊎ RanOut c
+  pub get : (script : List ℕ) (key : List (List ℕ)) (moment : Option ℕ) (keep_going : Bool) (s : Script) (p : Packet) → IsGetCommand c.words script key moment keep_going → HasScript c.shelf.told script s → IsKey s.schema key p
+      → DeliversAnswer (mode_of keep_going) s (at_moment moment s p) c ⊎ RanOut c
   pub drill : (seed count threads : ℕ) → IsDrillCommand c.words seed count threads → Delivers (drill_text seed count) c ⊎ RanOut c
   pub page : TellsPage c

@@ -10,9 +10,9 @@ use Rattle.input_files.specs.declared.fault.FileFault.{FileFault}
 use Rattle.input_files.specs.declared.fault.FileFault.TheVariants as files
 use Rattle.input_files.specs.Inputs.{FileForm, script, keys, rules, plan, capture, form_of}
 use Rattle.top_call.specs.declared.fault.Fault.{Fault}
-use Rattle.top_call.specs.declared.fault.Fault.TheVariants.{Usage, File, TooManyClerks, Memory}
+use Rattle.top_call.specs.declared.fault.Fault.TheVariants.{Usage, File, TooManyClerks, BadKey, Memory}
 
--- the status of an output: 1 if it reports a refusal, and 0 otherwise
+-- the status of an output: 1 if it reports a refusal, or that no element answers, and 0 otherwise
 abbrev pub done_status : Bool → ℕ
 done_status true = 1
 done_status false = 0
@@ -37,10 +37,11 @@ abbrev pub status_of : Fault → ℕ
 status_of Usage = 2
 status_of (File fault) = file_status fault
 status_of (TooManyClerks name) = 12
+status_of (BadKey line reason) = 13
 status_of Memory = 7
 
 abbrev pub usage_line : List ℕ
-usage_line = codes "pipapo: usage: run SCRIPT KEYS [--threads N] [--keep-going] | list SCRIPT [--keep-going] | dump SCRIPT [--keep-going] | drill SEED COUNT [--threads N] | judge SCRIPT RULES KEYS [--threads N] [--keep-going] | capture SCRIPT PLAN PCAP [--threads N] [--keep-going] | desk SCRIPT [--keep-going]\n"
+usage_line = codes "pipapo: usage: run SCRIPT KEYS [--threads N] [--keep-going] | list SCRIPT [--keep-going] | dump SCRIPT [--keep-going] | drill SEED COUNT [--threads N] | judge SCRIPT RULES KEYS [--threads N] [--keep-going] | capture SCRIPT PLAN PCAP [--threads N] [--keep-going] | desk SCRIPT [--keep-going] | get [--at MOMENT] [--keep-going] SCRIPT KEY ..\n"
 
 -- a line that ends with a name
 abbrev pub named_line : List ℕ → List ℕ → List ℕ
@@ -99,6 +100,10 @@ too_large_line = named_line (codes "pipapo: too large: ")
 abbrev pub too_many_line : List ℕ → List ℕ
 too_many_line = named_line (codes "pipapo: too many clerks: ")
 
+-- the line of words that are no key
+abbrev pub bad_key_line : ℕ → Reason → List ℕ
+bad_key_line line reason = placed_line (codes "pipapo: key line ") line reason
+
 -- the line of a file that can't be had; there is none if memory ran out
 abbrev pub file_line : FileFault → List ℕ
 file_line (files.Bad flaw) = flaw_line flaw
@@ -111,4 +116,5 @@ abbrev pub fault_line : Fault → List ℕ
 fault_line Usage = usage_line
 fault_line (File fault) = file_line fault
 fault_line (TooManyClerks name) = too_many_line name.now
+fault_line (BadKey line reason) = bad_key_line line reason
 fault_line Memory = []

@@ -5,7 +5,7 @@ use Rattle.input_files.specs.Inputs.{FileForm}
 use Rattle.top_call.specs.Calls.{Call, IsQuiet}
 use Rattle.top_call.specs.Lines.{form_status}
 use Rattle.top_call.specs.Names.{AsksInOrder, AsksForAll}
-use Rattle.top_call.specs.Answers.{EndsDuly, IsComplete, Transcribes, Judges, Captures, Lists, Dumps, Weaves, Drills, TellsPage, TellsReadFault, TellsFlaw, TellsTooMany}
+use Rattle.top_call.specs.Answers.{EndsDuly, IsComplete, Transcribes, Judges, Captures, Lists, Dumps, Weaves, AnswersKeys, Drills, TellsPage, TellsReadFault, TellsFlaw, TellsTooMany, TellsBadKey}
 use Rattle.top_call.specs.Exactly.{IsExact, Completes}
 use Rattle.top_call.specs.Noted.{IsNoted}
 
@@ -35,6 +35,10 @@ pub record Promises (c : Call) : Type 0 where
   -- Of a desk the sink took the text of a log. The log is woven of the script's sections, and replays to the listed
   -- generation. The status is 1 exactly if that text reports a refusal.
   pub desk : IsComplete c.status → Weaves c
+  -- Of a `get` the sink took the refused changes, and then the earliest live element of the last generation that holds
+  -- the key, with the line of the addition that made it; or `none` exactly if there is no such element. The status is 0
+  -- exactly if there is one and no change is refused.
+  pub get : IsComplete c.status → AnswersKeys c
   -- Of a drill the sink took its one line, and of words that ask for a page the page. The status is 0.
   pub drill : IsComplete c.status → Drills c
   pub page : IsComplete c.status → TellsPage c
@@ -47,6 +51,8 @@ pub record Promises (c : Call) : Type 0 where
   pub bad : (form : FileForm) → c.status ≡ form_status form → TellsFlaw form c
   -- With status 12 the sink took the line of a desk's script that was read and has too many sections.
   pub too_many : c.status ≡ 12 → TellsTooMany c
+  -- With status 13 the sink took the line of the words of a `get` that are no key of its script's sets.
+  pub bad_key : c.status ≡ 13 → TellsBadKey c
   -- With status 5 the shelf's count rose, at the file that the line names: the last one asked for.
   pub read_fault : c.status ≡ 5 → TellsReadFault c
   -- The shelf's count rose only with 5 or 6, and the sink's only with 6.

@@ -1,6 +1,10 @@
 -- What a command writes: the transcript of a run, the listing of a script, the tables of a script, a drill's summary.
 use Rattle.std.specs.Borrow.{Bor}
-use Rattle.std.specs.Prelude.{◌≡◌, ◌≤◌, ◌<◌, ℕ, Bool, false, List, [], ◌∷◌, Option, Some, length}
+use Rattle.std.specs.Prelude.{◌≡◌, ◌≤◌, ◌<◌, ℕ, Bool, false, List, [], ◌∷◌, Option, Some, length, map}
+use Rattle.std.specs.String.{string_bytes}
+use Rattle.token_forms.specs.declared.token.Reason.{Reason}
+use Rattle.key_answer.specs.Answer.{GivesAnswer}
+use Rattle.key_answer.specs.Question.{IsBadKey}
 use Rattle.set_model.specs.declared.script.Script.{Script}
 use Rattle.set_model.specs.declared.packet.Packet.{Packet}
 use Rattle.set_model.specs.declared.report.Line.{Line}
@@ -18,7 +22,7 @@ use Rattle.pcap_keys.specs.CapturedPackets.{AreCaptured}
 use Rattle.script_run.specs.Listings.{listing_text, tables_text}
 use Rattle.script_run.specs.Drill.{drill_text}
 use Rattle.desk_run.specs.DeskText.{IsDeskText}
-use Rattle.command_words.specs.Words.{Command, run, list, dump, drill, judge, capture, desk}
+use Rattle.command_words.specs.Words.{Command, run, list, dump, drill, judge, capture, desk, get}
 use Rattle.input_files.specs.declared.work.Work.{Work}
 use Rattle.input_files.specs.declared.work.Work.TheVariants as works
 
@@ -91,6 +95,12 @@ pub record IsWovenOf (script_text : List ℕ) (keep_going : Bool) (refused : Boo
   pub few : length script.sections ≤ most_sections
   pub is_desk : IsDeskText script keep_going refused output
 
+-- The output answers these words of a key in the script that was read.
+pub record IsAnswerOf (script_text : List ℕ) (key : List (List ℕ)) (moment : Option ℕ) (mode : Mode) (refused : Bool) (output : List ℕ) : Type 0 where
+  pub script : Script
+  pub script_is : IsScriptText script_text script
+  pub gives : GivesAnswer mode script key moment refused output
+
 -- What a command writes, by the bytes under its files' names, and whether its text reports a refusal.
 abbrev pub IsOutput : Command → (List ℕ → Option (List ℕ)) → Bool → List ℕ → Type 0
 IsOutput (run script keys threads keep_going) told refused output = (script_text keys_text : List ℕ) → told script ≡ Some script_text → told keys ≡ Some keys_text → IsTranscript script_text keys_text threads (mode_of keep_going) refused output
@@ -104,6 +114,7 @@ IsOutput (capture script plan packets threads keep_going) told refused output =
     (script_text plan_text capture_text : List ℕ) → told script ≡ Some script_text → told plan ≡ Some plan_text → told packets ≡ Some capture_text
     → IsCaptured script_text plan_text capture_text threads (mode_of keep_going) refused output
 IsOutput (desk script keep_going) told refused output = (script_text : List ℕ) → told script ≡ Some script_text → IsWovenOf script_text keep_going refused output
+IsOutput (get script key moment keep_going) told refused output = (script_text : List ℕ) → told script ≡ Some script_text → IsAnswerOf script_text key moment (mode_of keep_going) refused output
 
 -- The lines are legal ones of a script and its packets, and the text is the text of their transcript.
 pub record HasTranscript (s : Script) (packets : List (List Packet)) (threads : ℕ) (mode : Mode) (text : List ℕ) : Type 0 where
@@ -127,6 +138,7 @@ HasFewClerks (works.Drill seed count threads) = Unit {0}
 HasFewClerks (works.Judge s chains packets threads keep_going) = Unit {0}
 HasFewClerks (works.Capture s plan frames threads keep_going) = Unit {0}
 HasFewClerks (works.Desk s keep_going) = length s.sections ≤ most_sections
+HasFewClerks (works.Get s key moment keep_going) = Unit {0}
 
 -- A command's work is a desk with more sections than there may be, of the script of this name.
 pub record IsOverfull (c : Command) (work : Work) (name : Bor (List ℕ)) : Type 0 where
@@ -146,3 +158,15 @@ GivesText (works.Capture s plan frames threads keep_going) refused text =
     HasTranscript s (planned_packets plan frames ∷ []) threads (mode_of keep_going) text × (refused ≡ has_refusal (mode_of keep_going) s)
 GivesText (works.Judge s chains packets threads keep_going) refused text = HasJudgement s chains packets threads (mode_of keep_going) text × (refused ≡ has_refusal (mode_of keep_going) s)
 GivesText (works.Desk s keep_going) refused text = IsDeskText s keep_going refused text × (length s.sections ≤ most_sections)
+GivesText (works.Get s key moment keep_going) refused text = GivesAnswer (mode_of keep_going) s (map string_bytes key.now) moment refused text
+
+-- A command's work is a `get` whose words are no key.
+abbrev pub HasBadWords : Work → ℕ → Reason → Type 0
+HasBadWords (works.Run s packets threads keep_going) line reason = ⊥
+HasBadWords (works.List s keep_going) line reason = ⊥
+HasBadWords (works.Dump s keep_going) line reason = ⊥
+HasBadWords (works.Drill seed count threads) line reason = ⊥
+HasBadWords (works.Judge s chains packets threads keep_going) line reason = ⊥
+HasBadWords (works.Capture s plan frames threads keep_going) line reason = ⊥
+HasBadWords (works.Desk s keep_going) line reason = ⊥
+HasBadWords (works.Get s key moment keep_going) line reason = IsBadKey s.schema (map string_bytes key.now) line reason

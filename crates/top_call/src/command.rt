@@ -13,6 +13,7 @@ use crate::output::output_of;
 use crate::refusals::{tell_refusals, tell_too_many};
 use command_words::{Command, WordsError, command_of, page_of};
 use input_files::{Work, work_of};
+use key_answer::AnswerError;
 use packet_pool::Gate;
 use pip_base::{Notes, Shelf, Sink};
 use std::alloc::Global;
@@ -30,7 +31,7 @@ fn done_status(refused: bool) -> u8
 const MOST_SECTIONS: u64 = 17;
 
 /// The name of the script of a desk that has more sections than there may be, and how many it has.
-fn overfull<'a>(command: Command<'a>, work: &Work) -> Option<(&'a str, u64)>
+fn overfull<'a>(command: Command<'a>, work: &Work<'_>) -> Option<(&'a str, u64)>
     requires { (told : List ℕ → Option (List ℕ)) × IsWork told (plain command) work.now }
     ensures some { IfSome result (λ r. IsOverfull (plain command.entry) work.now r.0) }
     ensures none { result ≡ None → HasFewClerks work.now }
@@ -72,7 +73,10 @@ fn do_command<'a, R: Threads + Wait + Sync, F: Shelf, K: Sink, N: Notes, G: Gate
                     tell_refusals(alloc, notes, command, script_text.as_slice(), &output);
                     status
                 }
-                Err(_) => tell(sink, Fault::Memory),
+                Err(AnswerError::BadKey { line, reason }) => {
+                    tell(sink, Fault::BadKey { line, reason })
+                }
+                Err(AnswerError::Memory) => tell(sink, Fault::Memory),
             },
         },
         Err(fault) => tell(sink, Fault::File(fault)),
@@ -134,6 +138,8 @@ fn carry_out<R: Threads + Wait + Sync, F: Shelf, K: Sink, N: Notes, G: Gate>(
 /// - `desk SCRIPT [--keep-going]` runs the first section of a script, and then each of the others by a
 ///   control thread of its own. It writes the reports of all transactions in their order, and the last
 ///   generation.
+/// - `get [--at MOMENT] [--keep-going] SCRIPT KEY ..` runs a script, and writes the element of
+///   the last generation that holds the key, with the line that added it, or `none`. Its options come in either order.
 ///
 /// `help`, `--help` or `-h` alone asks for help, and so do `help` before the word of a command and `--help` or
 /// `-h` after it. `--version` alone asks for the version. Then the page is written, the status is 0, and no
@@ -146,7 +152,7 @@ fn carry_out<R: Threads + Wait + Sync, F: Shelf, K: Sink, N: Notes, G: Gate>(
 /// its progress. The status is:
 ///
 /// - 0: the whole output was written, and reports no refusal;
-/// - 1: the whole output was written, and reports that a change was refused;
+/// - 1: the whole output was written, and reports that a change was refused, or that no element holds the key of a `get`;
 /// - 2: the words are no command, and the usage line was written;
 /// - 3, 4, 9, 11: the script, the key file, the rules file, the plan isn't in its grammar;
 /// - 5: a file couldn't be opened or read;
@@ -154,7 +160,8 @@ fn carry_out<R: Threads + Wait + Sync, F: Shelf, K: Sink, N: Notes, G: Gate>(
 /// - 7: memory ran out, and nothing was written;
 /// - 8: a file has more than 67,108,864 bytes;
 /// - 10: the capture is outside its form;
-/// - 12: the script of a desk has more than 17 sections.
+/// - 12: the script of a desk has more than 17 sections;
+/// - 13: the words of a `get` are no key.
 pub fn pipapo<R: Threads + Wait + Sync, F: Shelf, K: Sink, N: Notes, G: Gate>(
     rt: &R,
     alloc: Global,

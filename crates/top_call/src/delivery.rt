@@ -16,7 +16,7 @@ use pip_base::{Sink, WriteFault, write_whole};
 use token_forms::Reason;
 
 const USAGE: &[u8] =
-    b"pipapo: usage: run SCRIPT KEYS [--threads N] [--keep-going] | list SCRIPT [--keep-going] | dump SCRIPT [--keep-going] | drill SEED COUNT [--threads N] | judge SCRIPT RULES KEYS [--threads N] [--keep-going] | capture SCRIPT PLAN PCAP [--threads N] [--keep-going] | desk SCRIPT [--keep-going]\n";
+    b"pipapo: usage: run SCRIPT KEYS [--threads N] [--keep-going] | list SCRIPT [--keep-going] | dump SCRIPT [--keep-going] | drill SEED COUNT [--threads N] | judge SCRIPT RULES KEYS [--threads N] [--keep-going] | capture SCRIPT PLAN PCAP [--threads N] [--keep-going] | desk SCRIPT [--keep-going] | get [--at MOMENT] [--keep-going] SCRIPT KEY ..\n";
 
 /// Writes a text, and returns its status, or 6 if the sink fails.
 pub fn deliver<K: Sink>(sink: &mut K, status: u8, text: &[u8]) -> u8
@@ -186,6 +186,9 @@ pub fn tell<K: Sink>(sink: &mut K, fault: Fault<'_>) -> u8
         Fault::Usage => deliver(sink, 2, USAGE),
         Fault::File(fault) => tell_file(sink, fault),
         Fault::TooManyClerks(name) => deliver_named(sink, 12, b"pipapo: too many clerks: ", name),
+        Fault::BadKey { line, reason } => {
+            deliver_placed(sink, 13, b"pipapo: key line ", line, reason)
+        }
         Fault::Memory => 7,
     }
 }

@@ -1,4 +1,5 @@
 use input_files::FileFault;
+use token_forms::Reason;
 
 /// Why a command ends without its output.
 #[derive(Clone, Copy)]
@@ -9,6 +10,8 @@ pub enum Fault<'a> {
     File(FileFault<'a>),
     /// The script of this name has more sections than a desk has control threads for.
     TooManyClerks(&'a str),
+    /// The words of a `get` are no key: the line of the first token that doesn't fit, and the reason.
+    BadKey { line: u64, reason: Reason },
     /// Memory ran out, for the words or for the output.
     Memory,
 }

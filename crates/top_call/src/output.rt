@@ -1,15 +1,18 @@
 //! A command's output, from what was read of its files.
-ghost use Rattle.std.specs.Prelude.{◌≡◌, [], ◌∷◌, All, List, IfOk};
+ghost use Rattle.std.specs.Prelude.{◌≡◌, [], ◌∷◌, All, List, ℕ, Err, IfOk};
+ghost use Rattle.token_forms.specs.declared.token.Reason.{Reason};
+ghost use Rattle.key_answer.specs.declared.question.AnswerError.TheVariants.{BadKey};
 ghost use Rattle.set_model.specs.declared.script.SetDecl.{SetDecl as Declared};
 ghost use Rattle.set_model.specs.Runnable.{IsFitting};
 ghost use Rattle.pcap_keys.specs.Fitting.{HasValues, IsPlanned};
 ghost use Rattle.pcap_keys.specs.Planned as planned;
 ghost use Rattle.input_files.specs.Works.{IsDoable};
-ghost use Rattle.top_call.specs.Transcript.{GivesText, HasFewClerks};
+ghost use Rattle.top_call.specs.Transcript.{GivesText, HasBadWords, HasFewClerks};
 
 use control_desk::QuietBell;
 use desk_run::desk;
 use input_files::Work;
+use key_answer::{AnswerError, get};
 use packet_pool::Gate;
 use pcap_keys::{Frames, Plan, keys_of};
 use script_run::{Output, drill, dump, judged, listing, transcript};
@@ -33,16 +36,17 @@ fn captured(alloc: Global, plan: &Plan, frames: &Frames) -> Result<Keys, Memory>
 ///
 /// # Errors
 ///
-/// `Memory` if memory runs out.
+/// `BadKey` if the words of a `get` are no key. `Memory` if memory runs out.
 pub fn output_of<R: Threads + Wait + Sync, G: Gate>(
     rt: &R,
     alloc: Global,
-    work: Work,
+    work: Work<'_>,
     gate: &G,
-) -> Result<Output, Memory>
+) -> Result<Output, AnswerError>
     requires doable { IsDoable work }
     requires clerks { HasFewClerks work }
-    ensures { IfOk result (λ out. GivesText work out.refused out.text.items) }
+    ensures text { IfOk result (λ out. GivesText work.entry out.refused out.text.items) }
+    ensures bad { (line : ℕ) (reason : Reason) → result ≡ Err (BadKey line reason) → HasBadWords work.entry line reason }
 {
     match work {
         Work::Run {
@@ -50,14 +54,14 @@ pub fn output_of<R: Threads + Wait + Sync, G: Gate>(
             keys,
             threads,
             keep_going,
-        } => transcript(rt, alloc, script, &keys, keep_going, threads, gate),
-        Work::List { script, keep_going } => listing(alloc, script, keep_going, gate),
-        Work::Dump { script, keep_going } => dump(alloc, script, keep_going, gate),
+        } => Ok(transcript(rt, alloc, script, &keys, keep_going, threads, gate)?),
+        Work::List { script, keep_going } => Ok(listing(alloc, script, keep_going, gate)?),
+        Work::Dump { script, keep_going } => Ok(dump(alloc, script, keep_going, gate)?),
         Work::Drill {
             seed,
             count,
             threads,
-        } => drill(rt, alloc, seed, count, threads, gate),
+        } => Ok(drill(rt, alloc, seed, count, threads, gate)?),
         Work::Capture {
             script,
             plan,
@@ -66,7 +70,7 @@ pub fn output_of<R: Threads + Wait + Sync, G: Gate>(
             keep_going,
         } => {
             let keys = captured(alloc, &plan, &frames)?;
-            transcript(rt, alloc, script, &keys, keep_going, threads, gate)
+            Ok(transcript(rt, alloc, script, &keys, keep_going, threads, gate)?)
         }
         Work::Judge {
             script,
@@ -74,9 +78,15 @@ pub fn output_of<R: Threads + Wait + Sync, G: Gate>(
             keys,
             threads,
             keep_going,
-        } => judged(rt, alloc, script, chains, &keys, keep_going, threads, gate),
+        } => Ok(judged(rt, alloc, script, chains, &keys, keep_going, threads, gate)?),
         Work::Desk { script, keep_going } => {
-            desk(rt, alloc, script, keep_going, &QuietBell, gate)
-        },
+            Ok(desk(rt, alloc, script, keep_going, &QuietBell, gate)?)
+        }
+        Work::Get {
+            script,
+            key,
+            moment,
+            keep_going,
+        } => get(alloc, script, key, moment, keep_going, gate),
     }
 }

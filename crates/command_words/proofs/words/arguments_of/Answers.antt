@@ -18,7 +18,7 @@ returns-in-Ok c word names threads goes said plain =
 
 pub unreachable-requires : goal.unreachable-requires
 unreachable-requires c =
-    let arguments = plain-arguments (map string_bytes c.args.words.now) c.requires.0 c.requires.1 in
+    let arguments = plain-arguments (map string_bytes c.args.words.now) c.requires.0 c.requires.1 c.requires.2 in
     let kind_is : c.kind.result ≡ OutOfMemory = c.kind.ensures ∙ c.in-Err.ensures.memory arguments.word arguments.names arguments.threads arguments.keep_going arguments.said arguments.plain in
     let same : c.eq.result ≡ true = rw kind_is at c.eq.ensures in
     true≢false (sym same ∙ c.if-eq.false)

@@ -5,80 +5,80 @@ use Rattle.command_words.proofs.WordValues.{of-verb, has-first, pair-second, tri
 use Rattle.command_words.proofs.words.command_with.Goals as goal
 
 pub unwrap-first-requires : goal.unwrap-first-requires
-unwrap-first-requires c = has-first (map string_bytes c.args.words.now) c.in_ok-first.field-0 c.args.verb (of-verb (map string_bytes c.args.words.now) c.in_ok-first.field-0 c.in_ok-first.ensures c.args.verb c.args.verb refl c.requires)
+unwrap-first-requires c = has-first (map string_bytes c.args.words.now) c.in_ok-first.field-0 c.args.verb (of-verb (map string_bytes c.args.words.now) c.in_ok-first.field-0 c.in_ok-first.ensures c.args.verb c.args.verb refl c.requires.shape c.requires.words)
 
 pub unwrap-requires : goal.unwrap-requires
-unwrap-requires c = pair-second (map string_bytes c.args.words.now) c.in_ok-first.field-0 (codes "run") (of-verb (map string_bytes c.args.words.now) c.in_ok-first.field-0 c.in_ok-first.ensures c.args.verb verbs.Run c.in-Run.is c.requires)
+unwrap-requires c = pair-second (map string_bytes c.args.words.now) c.in_ok-first.field-0 (codes "run") (of-verb (map string_bytes c.args.words.now) c.in_ok-first.field-0 c.in_ok-first.ensures c.args.verb verbs.Run c.in-Run.is c.requires.shape c.requires.words)
 
 pub thread_count-requires : goal.thread_count-requires
-thread_count-requires c = let of = of-verb (map string_bytes c.args.words.now) c.in_ok-first.field-0 c.in_ok-first.ensures c.args.verb verbs.Run c.in-Run.is c.requires in (of.2.count, of.2.threads_are)
+thread_count-requires c = let of = of-verb (map string_bytes c.args.words.now) c.in_ok-first.field-0 c.in_ok-first.ensures c.args.verb verbs.Run c.in-Run.is c.requires.shape c.requires.words in (of.2.count, of.2.threads_are)
 
 pub returns-in-Run : goal.returns-in-Run
 returns-in-Run c =
     is-pair (map string_bytes c.args.words.now) c.in_ok-first.field-0 c.unwrap-first.result c.unwrap-first.ensures c.unwrap.result c.unwrap.ensures (codes "run") c.thread_count.result c.thread_count.ensures
-    (of-verb (map string_bytes c.args.words.now) c.in_ok-first.field-0 c.in_ok-first.ensures c.args.verb verbs.Run c.in-Run.is c.requires)
+    (of-verb (map string_bytes c.args.words.now) c.in_ok-first.field-0 c.in_ok-first.ensures c.args.verb verbs.Run c.in-Run.is c.requires.shape c.requires.words)
 
 pub unwrap-requires-in-Judge : goal.unwrap-requires-in-Judge
-unwrap-requires-in-Judge c = triple-second (map string_bytes c.args.words.now) c.in_ok-first.field-0 (codes "judge") (of-verb (map string_bytes c.args.words.now) c.in_ok-first.field-0 c.in_ok-first.ensures c.args.verb verbs.Judge c.in-Judge.is c.requires)
+unwrap-requires-in-Judge c = triple-second (map string_bytes c.args.words.now) c.in_ok-first.field-0 (codes "judge") (of-verb (map string_bytes c.args.words.now) c.in_ok-first.field-0 c.in_ok-first.ensures c.args.verb verbs.Judge c.in-Judge.is c.requires.shape c.requires.words)
 
 pub unwrap-requires-in-Judge-2 : goal.unwrap-requires-in-Judge-2
-unwrap-requires-in-Judge-2 c = triple-third (map string_bytes c.args.words.now) c.in_ok-first.field-0 (codes "judge") (of-verb (map string_bytes c.args.words.now) c.in_ok-first.field-0 c.in_ok-first.ensures c.args.verb verbs.Judge c.in-Judge.is c.requires)
+unwrap-requires-in-Judge-2 c = triple-third (map string_bytes c.args.words.now) c.in_ok-first.field-0 (codes "judge") (of-verb (map string_bytes c.args.words.now) c.in_ok-first.field-0 c.in_ok-first.ensures c.args.verb verbs.Judge c.in-Judge.is c.requires.shape c.requires.words)
 
 pub thread_count-requires-in-Judge : goal.thread_count-requires-in-Judge
-thread_count-requires-in-Judge c = let of = of-verb (map string_bytes c.args.words.now) c.in_ok-first.field-0 c.in_ok-first.ensures c.args.verb verbs.Judge c.in-Judge.is c.requires in (of.3.count, of.3.threads_are)
+thread_count-requires-in-Judge c = let of = of-verb (map string_bytes c.args.words.now) c.in_ok-first.field-0 c.in_ok-first.ensures c.args.verb verbs.Judge c.in-Judge.is c.requires.shape c.requires.words in (of.3.count, of.3.threads_are)
 
 pub returns-in-Judge : goal.returns-in-Judge
 returns-in-Judge c =
     is-triple (map string_bytes c.args.words.now) c.in_ok-first.field-0 c.unwrap-first.result c.unwrap-first.ensures c.unwrap-in-Judge.result c.unwrap-in-Judge.ensures (codes "judge") c.thread_count-in-Judge.result c.unwrap-in-Judge-2.result c.unwrap-in-Judge-2.ensures c.thread_count-in-Judge.ensures
-    (of-verb (map string_bytes c.args.words.now) c.in_ok-first.field-0 c.in_ok-first.ensures c.args.verb verbs.Judge c.in-Judge.is c.requires)
+    (of-verb (map string_bytes c.args.words.now) c.in_ok-first.field-0 c.in_ok-first.ensures c.args.verb verbs.Judge c.in-Judge.is c.requires.shape c.requires.words)
 
 pub unwrap-requires-in-Capture : goal.unwrap-requires-in-Capture
-unwrap-requires-in-Capture c = triple-second (map string_bytes c.args.words.now) c.in_ok-first.field-0 (codes "capture") (of-verb (map string_bytes c.args.words.now) c.in_ok-first.field-0 c.in_ok-first.ensures c.args.verb verbs.Capture c.in-Capture.is c.requires)
+unwrap-requires-in-Capture c = triple-second (map string_bytes c.args.words.now) c.in_ok-first.field-0 (codes "capture") (of-verb (map string_bytes c.args.words.now) c.in_ok-first.field-0 c.in_ok-first.ensures c.args.verb verbs.Capture c.in-Capture.is c.requires.shape c.requires.words)
 
 pub unwrap-requires-in-Capture-2 : goal.unwrap-requires-in-Capture-2
-unwrap-requires-in-Capture-2 c = triple-third (map string_bytes c.args.words.now) c.in_ok-first.field-0 (codes "capture") (of-verb (map string_bytes c.args.words.now) c.in_ok-first.field-0 c.in_ok-first.ensures c.args.verb verbs.Capture c.in-Capture.is c.requires)
+unwrap-requires-in-Capture-2 c = triple-third (map string_bytes c.args.words.now) c.in_ok-first.field-0 (codes "capture") (of-verb (map string_bytes c.args.words.now) c.in_ok-first.field-0 c.in_ok-first.ensures c.args.verb verbs.Capture c.in-Capture.is c.requires.shape c.requires.words)
 
 pub thread_count-requires-in-Capture : goal.thread_count-requires-in-Capture
-thread_count-requires-in-Capture c = let of = of-verb (map string_bytes c.args.words.now) c.in_ok-first.field-0 c.in_ok-first.ensures c.args.verb verbs.Capture c.in-Capture.is c.requires in (of.3.count, of.3.threads_are)
+thread_count-requires-in-Capture c = let of = of-verb (map string_bytes c.args.words.now) c.in_ok-first.field-0 c.in_ok-first.ensures c.args.verb verbs.Capture c.in-Capture.is c.requires.shape c.requires.words in (of.3.count, of.3.threads_are)
 
 pub returns-in-Capture : goal.returns-in-Capture
 returns-in-Capture c =
     is-triple (map string_bytes c.args.words.now) c.in_ok-first.field-0 c.unwrap-first.result c.unwrap-first.ensures c.unwrap-in-Capture.result c.unwrap-in-Capture.ensures (codes "capture") c.thread_count-in-Capture.result c.unwrap-in-Capture-2.result c.unwrap-in-Capture-2.ensures c.thread_count-in-Capture.ensures
-    (of-verb (map string_bytes c.args.words.now) c.in_ok-first.field-0 c.in_ok-first.ensures c.args.verb verbs.Capture c.in-Capture.is c.requires)
+    (of-verb (map string_bytes c.args.words.now) c.in_ok-first.field-0 c.in_ok-first.ensures c.args.verb verbs.Capture c.in-Capture.is c.requires.shape c.requires.words)
 
 pub unwrap-requires-in-Drill : goal.unwrap-requires-in-Drill
-unwrap-requires-in-Drill c = drill-second (map string_bytes c.args.words.now) c.in_ok-first.field-0 (of-verb (map string_bytes c.args.words.now) c.in_ok-first.field-0 c.in_ok-first.ensures c.args.verb verbs.Drill c.in-Drill.is c.requires)
+unwrap-requires-in-Drill c = drill-second (map string_bytes c.args.words.now) c.in_ok-first.field-0 (of-verb (map string_bytes c.args.words.now) c.in_ok-first.field-0 c.in_ok-first.ensures c.args.verb verbs.Drill c.in-Drill.is c.requires.shape c.requires.words)
 
 pub thread_count-requires-in-Drill : goal.thread_count-requires-in-Drill
-thread_count-requires-in-Drill c = let of = of-verb (map string_bytes c.args.words.now) c.in_ok-first.field-0 c.in_ok-first.ensures c.args.verb verbs.Drill c.in-Drill.is c.requires in (of.count, of.threads_are)
+thread_count-requires-in-Drill c = let of = of-verb (map string_bytes c.args.words.now) c.in_ok-first.field-0 c.in_ok-first.ensures c.args.verb verbs.Drill c.in-Drill.is c.requires.shape c.requires.words in (of.count, of.threads_are)
 
 pub written_number-requires : goal.written_number-requires
 written_number-requires c =
     is-seed (map string_bytes c.args.words.now) c.in_ok-first.field-0 c.unwrap-first.result c.unwrap-first.ensures
-    (of-verb (map string_bytes c.args.words.now) c.in_ok-first.field-0 c.in_ok-first.ensures c.args.verb verbs.Drill c.in-Drill.is c.requires)
+    (of-verb (map string_bytes c.args.words.now) c.in_ok-first.field-0 c.in_ok-first.ensures c.args.verb verbs.Drill c.in-Drill.is c.requires.shape c.requires.words)
 
 pub written_number-requires-in-Drill : goal.written_number-requires-in-Drill
 written_number-requires-in-Drill c =
     is-count (map string_bytes c.args.words.now) c.in_ok-first.field-0 c.unwrap-first.result c.unwrap-first.ensures c.unwrap-in-Drill.result c.unwrap-in-Drill.ensures
-    (of-verb (map string_bytes c.args.words.now) c.in_ok-first.field-0 c.in_ok-first.ensures c.args.verb verbs.Drill c.in-Drill.is c.requires)
+    (of-verb (map string_bytes c.args.words.now) c.in_ok-first.field-0 c.in_ok-first.ensures c.args.verb verbs.Drill c.in-Drill.is c.requires.shape c.requires.words)
 
 pub returns-in-Drill : goal.returns-in-Drill
 returns-in-Drill c =
     is-drill (map string_bytes c.args.words.now) c.in_ok-first.field-0 c.unwrap-first.result c.unwrap-first.ensures c.unwrap-in-Drill.result c.unwrap-in-Drill.ensures c.written_number.result c.written_number-in-Drill.result c.thread_count-in-Drill.result
     c.written_number.ensures c.written_number-in-Drill.ensures c.thread_count-in-Drill.ensures
-    (of-verb (map string_bytes c.args.words.now) c.in_ok-first.field-0 c.in_ok-first.ensures c.args.verb verbs.Drill c.in-Drill.is c.requires)
+    (of-verb (map string_bytes c.args.words.now) c.in_ok-first.field-0 c.in_ok-first.ensures c.args.verb verbs.Drill c.in-Drill.is c.requires.shape c.requires.words)
 
 pub returns-in-List : goal.returns-in-List
 returns-in-List c =
     is-alone (map string_bytes c.args.words.now) c.in_ok-first.field-0 c.unwrap-first.result c.unwrap-first.ensures (codes "list")
-    (of-verb (map string_bytes c.args.words.now) c.in_ok-first.field-0 c.in_ok-first.ensures c.args.verb verbs.List c.in-List.is c.requires)
+    (of-verb (map string_bytes c.args.words.now) c.in_ok-first.field-0 c.in_ok-first.ensures c.args.verb verbs.List c.in-List.is c.requires.shape c.requires.words)
 
 pub returns-in-Dump : goal.returns-in-Dump
 returns-in-Dump c =
     is-alone (map string_bytes c.args.words.now) c.in_ok-first.field-0 c.unwrap-first.result c.unwrap-first.ensures (codes "dump")
-    (of-verb (map string_bytes c.args.words.now) c.in_ok-first.field-0 c.in_ok-first.ensures c.args.verb verbs.Dump c.in-Dump.is c.requires)
+    (of-verb (map string_bytes c.args.words.now) c.in_ok-first.field-0 c.in_ok-first.ensures c.args.verb verbs.Dump c.in-Dump.is c.requires.shape c.requires.words)
 
 pub returns-in-Desk : goal.returns-in-Desk
 returns-in-Desk c =
     is-alone (map string_bytes c.args.words.now) c.in_ok-first.field-0 c.unwrap-first.result c.unwrap-first.ensures (codes "desk")
-    (of-verb (map string_bytes c.args.words.now) c.in_ok-first.field-0 c.in_ok-first.ensures c.args.verb verbs.Desk c.in-Desk.is c.requires)
+    (of-verb (map string_bytes c.args.words.now) c.in_ok-first.field-0 c.in_ok-first.ensures c.args.verb verbs.Desk c.in-Desk.is c.requires.shape c.requires.words)

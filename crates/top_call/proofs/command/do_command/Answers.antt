@@ -1,13 +1,13 @@
 use Rattle.command_words.specs.WordForms.{plain}
 use Rattle.top_call.proofs.Outputs.{is-output}
-use Rattle.top_call.proofs.Goings.{goes-output, goes-file, goes-too-many, goes-late, many-sections}
+use Rattle.top_call.proofs.Goings.{goes-output, goes-file, goes-too-many, goes-bad-key, goes-late, many-sections, no-key}
 use Rattle.top_call.proofs.command.do_command.Goals as goal
 
 pub returns-in-Ok-output_of : goal.returns-in-Ok-output_of
 returns-in-Ok-output_of g c words is_command =
     let out = c.in-Ok-output_of.output in
     goes-output _ (plain c.args.command) is_command c.in-Ok.ensures.all out.refused out.text.items
-    (is-output (g.F.Shelf.told c.args.shelf.now) (plain c.args.command) c.in-Ok.work out.refused out.text.items c.in-Ok.ensures.work c.in-Ok-output_of.ensures)
+    (is-output (g.F.Shelf.told c.args.shelf.now) (plain c.args.command) c.in-Ok.work out.refused out.text.items c.in-Ok.ensures.work c.in-Ok-output_of.ensures.text)
     (rw (c.done_status.ensures, c.as_slice.ensures.value) at c.deliver-status.ensures) _ c.in-Ok.ensures.silent (search c.tell_refusals.ensures)
 
 pub returns-in-Some : goal.returns-in-Some

@@ -9,3 +9,6 @@ returns-in-TooManyClerks g c = rw c.in-TooManyClerks.is (search c.deliver_named.
 
 pub returns-in-Memory : goal.returns-in-Memory
 returns-in-Memory g c = rw c.in-Memory.is (ends-memory (g.K.Sink.taken c.args.sink.now) (g.K.Sink.faults c.args.sink.now))
+
+pub returns-in-BadKey : goal.returns-in-BadKey
+returns-in-BadKey g c = rw c.in-BadKey.is (search c.deliver_placed.ensures)

@@ -1,0 +1,3 @@
+mod Worked
+mod TraceLaws
+mod AnswerLaws

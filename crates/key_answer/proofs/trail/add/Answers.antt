@@ -1,0 +1,15 @@
+use Rattle.std.proofs.Common.{refl, subst, Err}
+use Rattle.std.proofs.lemmas.Result.{on_ok_weaker}
+use Rattle.set_model.specs.Control.{mode_of}
+use Rattle.set_space.specs.Open.{IsChange}
+use Rattle.key_answer.specs.Tracing.{adding, HasMade}
+use Rattle.key_answer.proofs.TraceLaws.{refused-traces}
+use Rattle.key_answer.proofs.trail.add.Goals as goal
+
+pub returns-in-Err-Refused : goal.returns-in-Err-Refused
+returns-in-Err-Refused c =
+    let a = c.args.addition in
+    let change = subst (λ e. IsChange (HasMade (adding a.creates) a.element.now a.now (Err e)) c.args.control.now.work c.args.set c.try_add.new.control.work) c.in-Err-Refused.field-0-is c.in-Err-Refused.ensures.change in
+    on_ok_weaker c.refuse.result
+    (λ does. refused-traces (mode_of c.args.keep_going) a.line c.args.set (adding a.creates) a.element.now a.now c.args.control.now c.try_add.new.control c.args.events.now c.try_add.ensures.others c.args.failed.now c.refuse.new.failed c.in-Err-Refused.why c.refuse.new.events c.args.lines.now.items c.args.lines.now.items c.requires.quiet change does refl)
+    c.refuse.ensures

@@ -1,0 +1,4 @@
+pub mod Origin
+pub mod Question
+pub mod Answer
+pub mod Tracing

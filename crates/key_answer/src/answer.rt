@@ -1,0 +1,271 @@
+//! The answer to a key, and its text.
+ghost use Rattle.std.specs.List.{list_any};
+ghost use Rattle.std.specs.Prelude.{◌≡◌, ◌||◌, ◌<◌, not, ◌++◌, [], false, true, All, filter, length, map, is_some, slice_get, Some, Err, IfOk, IfSome, OnOk, ℕ, option_map};
+ghost use Rattle.std.specs.String.{string_bytes};
+ghost use Rattle.set_model.specs.Key.{key_fits, parts_fit};
+ghost use Rattle.set_model.specs.SetState.{first};
+ghost use Rattle.set_model.specs.Control.{mode_of, history, is_refusal as refuses};
+ghost use Rattle.set_model.specs.Runnable.{IsRunnable, IsFitting};
+ghost use Rattle.set_report.specs.Writes.{AreSetsOf, NamesSet};
+ghost use Rattle.packet_pool.specs.Running.{run, StandsAt};
+ghost use Rattle.token_forms.specs.declared.token.Reason.{Reason};
+ghost use Rattle.key_answer.specs.Answer.{answer_in, answer_text, origin_text, line_text, GivesAnswer};
+ghost use Rattle.key_answer.specs.Origin.{traced};
+ghost use Rattle.key_answer.specs.Question.{IsBadKey};
+ghost use Rattle.set_report.specs.Remarks.{remarks_text};
+ghost use Rattle.key_answer.specs.declared.question.AnswerError.TheVariants.{BadKey};
+
+use crate::question::{AnswerError, packet_of};
+use crate::trail::trace_steps;
+use gen_publish::{Control, start};
+use packet_pool::Gate;
+use pipapo_image::{Scratch, SetImage};
+use script_laws::{Output, has_numbers, tells_refusal};
+use set_model::{Element, Event, Events, Memory, Packet, Schema, Script, SetDecl};
+use set_report::{write_element, write_remarks};
+use set_space::Generation;
+use std::alloc::Global;
+use text_pieces::Piece::{Number, Word};
+use text_pieces::append_pieces;
+
+/// Appends the line that added an element, if it is known.
+fn write_line(line: Option<&u64>, out: &mut Vec<u8>) -> Result<(), Memory>
+    ensures { OnOk result (out.new.items ≡ out.old.items ++ line_text (option_map (λ n. n.now) line.entry)) }
+{
+    match line {
+        None => Ok(()),
+        Some(line) => append_pieces(&[Word(b" (line "), Number(*line), Word(b")")], out),
+    }
+}
+
+/// Appends an element by its id, as a listing has it, and the line that added it.
+fn write_origin(
+    set: &SetDecl,
+    now: u64,
+    lines: &[u64],
+    element: &Element,
+    out: &mut Vec<u8>,
+) -> Result<(), Memory>
+    requires { parts_fit set.now.kinds element.now.parts ≡ true }
+    ensures { OnOk result (out.new.items ≡ out.old.items ++ origin_text set.now now lines.now element.now) }
+{
+    append_pieces(&[Word(b"element "), Number(element.id), Word(b": ")], out)?;
+    write_element(set, now, element, out)?;
+    write_line(lines.get(element.id as usize), out)
+}
+
+/// The element of a set that answers a packet.
+fn element_for<'a>(
+    image: &'a SetImage,
+    packet: &Packet,
+    scratch: &mut Scratch,
+) -> Option<&'a Element>
+    requires { key_fits image.now.kinds packet.now.key ≡ true }
+    ensures first { option_map (λ e. e.now) result ≡ first image.now packet.entry.now.key packet.entry.now.now }
+    ensures fits { IfSome result (λ e. parts_fit image.now.kinds e.now.parts ≡ true) }
+{
+    match image.find(&packet.key, packet.now, scratch) {
+        None => None,
+        Some(found) => Some(image.elements().at(found.place)),
+    }
+}
+
+/// Appends the answer to a packet, an element of a set or none, and returns whether there is one.
+fn write_answer(
+    declared: &SetDecl,
+    now: u64,
+    lines: &[u64],
+    answer: Option<&Element>,
+    out: &mut Vec<u8>,
+) -> Result<bool, Memory>
+    requires { IfSome answer (λ e. parts_fit declared.now.kinds e.now.parts ≡ true) }
+    ensures text { OnOk result (out.new.items ≡ out.old.items ++ answer_text (Some declared.now) now lines.now (option_map (λ e. e.now) answer.entry)) }
+    ensures found { IfOk result (λ found. found ≡ is_some (option_map (λ e. e.now) answer.entry)) }
+{
+    match answer {
+        None => {
+            append_pieces(&[Word(b"none\n")], out)?;
+            Ok(false)
+        }
+        Some(element) => {
+            write_origin(declared, now, lines, element, out)?;
+            append_pieces(&[Word(b"\n")], out)?;
+            Ok(true)
+        }
+    }
+}
+
+/// The refusals among events.
+fn refusals(alloc: Global, events: &Events) -> Result<Events, Memory>
+    ensures { IfOk result (λ some. some ≡ filter refuses events.now) }
+{
+    let mut some = Events::new(alloc);
+    'events: for event in events.as_slice() {
+        if event.is_refusal() {
+            some.push(*event)?;
+        }
+    }
+    Ok(some)
+}
+
+/// A script that was run to its end, with the lines of the additions to one set.
+#[derive(Drop)]
+struct Trace {
+    /// The control after the last step.
+    control: Control,
+    /// The events of all steps, in their order.
+    events: Events,
+    /// For each id of the set, the line of the addition that made the element.
+    lines: Vec<u64>,
+}
+
+/// Adds events after others.
+fn add_all(events: &mut Events, more: &Events) -> Result<(), Memory>
+    ensures { OnOk result (events.new ≡ events.old ++ more.now) }
+{
+    for event in more.as_slice() {
+        events.push(*event)?;
+    }
+    Ok(())
+}
+
+/// Runs a script to its end, and notes the lines of the additions to a set.
+fn trace_script<G: Gate>(
+    alloc: Global,
+    script: Script,
+    set: u32,
+    keep_going: bool,
+    gate: &G,
+) -> Result<Trace, Memory>
+    requires script { IsRunnable script }
+    ensures ends { IfOk result (λ t. StandsAt [] (history (mode_of keep_going) script.schema script.sections) (run t.control false t.events)) }
+    ensures lines { IfOk result (λ t. t.lines.items ≡ (traced (mode_of keep_going) set script.schema script.sections).lines) }
+    ensures schema { IfOk result (λ t. t.control.schema ≡ script.schema) }
+    ensures named { IfOk result (λ t. All (NamesSet (length script.schema)) t.events) }
+    ensures sets { IfOk result (λ t. AreSetsOf script.schema t.control.work.base.sets) }
+{
+    let Script {
+        schema,
+        sections,
+        ..
+    } = script;
+    let (mut control, _readers) = start(alloc, schema, 1)?;
+    let mut events = Events::new(alloc);
+    let mut lines = Vec::new(alloc);
+    let last = sections.len().saturating_sub(1);
+    let mut number = 0;
+    'sections: for steps in sections.as_slice() {
+        gate.section(number, last, 0);
+        number = number.saturating_add(1);
+        if !has_numbers(&control, steps.len()) {
+            return Err(Memory);
+        }
+        let told = trace_steps(
+            alloc,
+            &mut control,
+            steps,
+            keep_going,
+            set,
+            &mut lines,
+            gate,
+        )?;
+        add_all(&mut events, &told)?;
+    }
+    Ok(Trace {
+        control,
+        events,
+        lines,
+    })
+}
+
+/// An image of a set of a generation.
+fn image_of(alloc: Global, generation: &Generation, set: u32) -> Result<SetImage, Memory>
+    requires { set < length generation.now.sets }
+    ensures { IfOk result (λ image. slice_get generation.now.sets set ≡ Some image) }
+{
+    generation.sets.at(u64::from(set)).closed_up(alloc)
+}
+
+/// Appends the answer to a packet in the last generation of a run, and returns whether an element answers it.
+fn write_found(
+    alloc: Global,
+    trace: &Trace,
+    packet: &Packet,
+    out: &mut Vec<u8>,
+) -> Result<bool, Memory>
+    requires sets { AreSetsOf trace.now.control.schema trace.now.control.work.base.sets }
+    requires fits { IsFitting trace.now.control.schema packet.now }
+    ensures text { OnOk result (out.new.items ≡ out.old.items ++ answer_text (slice_get trace.now.control.schema packet.entry.now.set) packet.entry.now.now trace.now.lines.items (answer_in trace.now.control.work.base packet.entry.now)) }
+    ensures found { IfOk result (λ found. found ≡ is_some (answer_in trace.now.control.work.base packet.entry.now)) }
+{
+    let image = image_of(alloc, trace.control.generation(), packet.set)?;
+    let mut scratch = Scratch::new(alloc)?;
+    let answer = element_for(&image, packet, &mut scratch);
+    write_answer(
+        trace.control.schema().at(u64::from(packet.set)),
+        packet.now,
+        trace.lines.as_slice(),
+        answer,
+        out,
+    )
+}
+
+/// Appends the refused changes of a run as comments, and then the answer to a packet. Returns whether
+/// an element answers it.
+fn write_all(
+    alloc: Global,
+    trace: &Trace,
+    packet: &Packet,
+    out: &mut Vec<u8>,
+) -> Result<bool, Memory>
+    requires named { All (NamesSet (length trace.now.control.schema)) trace.now.events }
+    requires sets { AreSetsOf trace.now.control.schema trace.now.control.work.base.sets }
+    requires fits { IsFitting trace.now.control.schema packet.now }
+    ensures text { OnOk result (out.new.items ≡ out.old.items ++ (remarks_text trace.now.control.schema (filter refuses trace.now.events) ++ answer_text (slice_get trace.now.control.schema packet.entry.now.set) packet.entry.now.now trace.now.lines.items (answer_in trace.now.control.work.base packet.entry.now))) }
+    ensures found { IfOk result (λ found. found ≡ is_some (answer_in trace.now.control.work.base packet.entry.now)) }
+{
+    let refused = refusals(alloc, &trace.events)?;
+    write_remarks(trace.control.schema(), &refused, out)?;
+    write_found(alloc, trace, packet, out)
+}
+
+/// Whether a change was refused, or no element was found.
+fn fails(events: &[Event], found: bool) -> bool
+    ensures { result ≡ (list_any refuses events.now || not found) }
+{
+    tells_refusal(events) || !found
+}
+
+/// Answers the key of words, which are one line of a key file, in the last generation of a script. The
+/// moment is in milliseconds; without one it is the script's last. The text is the element and the line
+/// that added it, or `none`, after the refused changes. `refused` is true if a change was refused or no
+/// element answers.
+///
+/// # Errors
+///
+/// `BadKey` if the words are no key. `Memory` if memory runs out.
+pub fn get<G: Gate>(
+    alloc: Global,
+    script: Script,
+    words: &[String],
+    moment: Option<u64>,
+    keep_going: bool,
+    gate: &G,
+) -> Result<Output, AnswerError>
+    requires script { IsRunnable script }
+    ensures answer { IfOk result (λ out. GivesAnswer (mode_of keep_going) script (map string_bytes words.now) moment out.refused out.text.items) }
+    ensures bad { (line : ℕ) (reason : Reason) → result ≡ Err (BadKey line reason) → IsBadKey script.schema (map string_bytes words.now) line reason }
+{
+    let asked = packet_of(alloc, &script.schema, words)?;
+    let packet = Packet {
+        now: moment.unwrap_or(script.last),
+        ..asked
+    };
+    let trace = trace_script(alloc, script, packet.set, keep_going, gate)?;
+    let mut text = Vec::new(alloc);
+    let found = write_all(alloc, &trace, &packet, &mut text)?;
+    Ok(Output {
+        text,
+        refused: fails(trace.events.as_slice(), found),
+    })
+}

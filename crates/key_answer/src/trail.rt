@@ -1,0 +1,231 @@
+//! A run of a script that notes which line added each element of one set.
+ghost use Rattle.std.specs.Prelude.{◌≡◌, ◌<◌, ◌^◌, ◌∷◌, [], List, true, false, length, All, IfSome, IfOk, OnOk, None};
+ghost use Rattle.set_model.specs.declared.script.Step.TheVariants.{Change};
+ghost use Rattle.set_model.specs.Control.{Control as Steered, mode_of, refused};
+ghost use Rattle.set_model.specs.Runnable.{IsRunnableStep};
+ghost use Rattle.set_space.specs.Open.{FitsSet, IsChange};
+ghost use Rattle.key_answer.specs.Origin.{lines_after, with_line, traced_section};
+ghost use Rattle.packet_pool.specs.Running.{run, GoesOn, Ran, HasNumbers, StandsAt};
+ghost use Rattle.gen_publish.specs.Publish.{Steering};
+ghost use Rattle.set_model.specs.declared.report.Event.{Event as Told};
+ghost use Rattle.key_answer.specs.Tracing.{adding, HasMade, Traces};
+
+use gen_publish::Control;
+use packet_pool::{Gate, do_step};
+use pipapo_image::{Added, ChangeError};
+use set_model::{Event, Events, Memory, NewElement, Step, Steps, Verb, Why};
+use std::alloc::Global;
+
+/// An addition to the set that is traced.
+#[derive(Clone, Copy)]
+struct Addition<'a> {
+    line: u64,
+    /// Whether it is refused if the element exists.
+    creates: bool,
+    element: &'a NewElement,
+    now: u64,
+}
+
+/// The addition to a set that a step is, if it is one.
+fn addition_to<'a>(step: &'a Step, set: u32) -> Option<Addition<'a>>
+    ensures some { IfSome result (λ a. step.now ≡ Change a.line set (adding a.creates) a.element.now a.now) }
+    ensures none { result ≡ None → (c : Steered) (lines : List _) → lines_after set c lines step.now ≡ lines }
+{
+    match step {
+        Step::Change {
+            line,
+            set: other,
+            verb,
+            element,
+            now,
+        } => {
+            if *other != set {
+                return None;
+            }
+            let creates = match verb {
+                Verb::Add => false,
+                Verb::Create => true,
+                Verb::Delete | Verb::Destroy => return None,
+            };
+            Some(Addition {
+                line: *line,
+                creates,
+                element,
+                now: *now,
+            })
+        }
+        _ => None,
+    }
+}
+
+/// The id of the element that an insertion made.
+fn insert(
+    control: &mut Control,
+    set: u32,
+    element: &NewElement,
+    now: u64,
+) -> Result<Option<u64>, ChangeError>
+    requires set { set < length control.old.work.sets }
+    requires fits { FitsSet control.old.work set element.now.parts }
+    ensures others { control.new ≡ record control.old { work = control.new.work } }
+    ensures change { IsChange (HasMade (adding false) element.now now result) control.old.work set control.new.work }
+{
+    match control.insert(set, element, now) {
+        Ok(Added::New { id }) => Ok(Some(id)),
+        Ok(_) => Ok(None),
+        Err(error) => Err(error),
+    }
+}
+
+/// The id of the element that a creation made.
+fn create(
+    control: &mut Control,
+    set: u32,
+    element: &NewElement,
+    now: u64,
+) -> Result<Option<u64>, ChangeError>
+    requires set { set < length control.old.work.sets }
+    requires fits { FitsSet control.old.work set element.now.parts }
+    ensures others { control.new ≡ record control.old { work = control.new.work } }
+    ensures change { IsChange (HasMade (adding true) element.now now result) control.old.work set control.new.work }
+{
+    match control.create(set, element, now) {
+        Ok(id) => Ok(Some(id)),
+        Err(error) => Err(error),
+    }
+}
+
+/// Inserts or creates an element, and returns its id if it is new.
+fn try_add(
+    control: &mut Control,
+    set: u32,
+    addition: Addition<'_>,
+) -> Result<Option<u64>, ChangeError>
+    requires set { set < length control.old.work.sets }
+    requires fits { FitsSet control.old.work set addition.element.now.parts }
+    ensures others { control.new ≡ record control.old { work = control.new.work } }
+    ensures change { IsChange (HasMade (adding addition.entry.creates) addition.entry.element.now addition.entry.now result) control.old.work set control.new.work }
+{
+    if addition.creates {
+        create(control, set, addition.element, addition.now)
+    } else {
+        insert(control, set, addition.element, addition.now)
+    }
+}
+
+/// Notes the line of the addition that made an element. Lines of this id and later ones are of a
+/// transaction that was taken back.
+fn note_line(lines: &mut Vec<u64>, line: u64, made: Option<u64>) -> Result<(), Memory>
+    ensures { OnOk result (lines.new.items ≡ with_line lines.old.items line made) }
+{
+    if let Some(id) = made {
+        lines.truncate(id as usize);
+        lines.push(line)?;
+    }
+    Ok(())
+}
+
+/// Reports a refusal. The refusal fails the transaction unless the run keeps going.
+fn refuse(
+    failed: &mut bool,
+    keep_going: bool,
+    line: u64,
+    set: u32,
+    why: Why,
+    events: &mut Events,
+) -> Result<(), Memory>
+    requires { failed.old ≡ false }
+    ensures { OnOk result ((k : Steering) → GoesOn (λ c. refused (mode_of keep_going) c line set why) (run k failed.old events.old) (run k failed.new events.new)) }
+{
+    events.push(Event::Refused { line, set, why })?;
+    *failed = !keep_going;
+    Ok(())
+}
+
+/// Does an addition to the traced set, in a transaction that hasn't failed.
+fn add(
+    control: &mut Control,
+    failed: &mut bool,
+    keep_going: bool,
+    set: u32,
+    addition: Addition<'_>,
+    lines: &mut Vec<u64>,
+    events: &mut Events,
+) -> Result<(), Memory>
+    requires quiet { failed.old ≡ false }
+    requires set { set < length control.old.work.sets }
+    requires fits { FitsSet control.old.work set addition.element.now.parts }
+    ensures { OnOk result (Traces (mode_of keep_going) set (Change addition.entry.line set (adding addition.entry.creates) addition.entry.element.now addition.entry.now ∷ []) (run control.old failed.old events.old) (run control.new failed.new events.new) lines.old.items lines.new.items) }
+{
+    match try_add(control, set, addition) {
+        Ok(made) => note_line(lines, addition.line, made),
+        Err(ChangeError::Refused(why)) => {
+            refuse(failed, keep_going, addition.line, set, why, events)
+        }
+        Err(ChangeError::Memory) => Err(Memory),
+    }
+}
+
+/// Does a step, and notes its line if it makes an element of the traced set.
+fn trace_step<G: Gate>(
+    control: &mut Control,
+    failed: &mut bool,
+    keep_going: bool,
+    step: &Step,
+    set: u32,
+    lines: &mut Vec<u64>,
+    events: &mut Events,
+    gate: &G,
+) -> Result<(), Memory>
+    requires runnable { IsRunnableStep control.old.schema step.now }
+    requires number { control.old.work.base.number < 2 ^ 63 }
+    ensures { OnOk result (Traces (mode_of keep_going) set (step.now ∷ []) (run control.old failed.old events.old) (run control.new failed.new events.new) lines.old.items lines.new.items) }
+{
+    if *failed {
+        return do_step(control, failed, keep_going, step, events, gate);
+    }
+    match addition_to(step, set) {
+        None => do_step(control, failed, keep_going, step, events, gate),
+        Some(addition) => {
+            control.known();
+            add(control, failed, keep_going, set, addition, lines, events)
+        }
+    }
+}
+
+/// Does the steps of a section, and notes the lines that make elements of the traced set. Returns the events.
+///
+/// # Errors
+///
+/// `Memory` if memory runs out.
+pub fn trace_steps<G: Gate>(
+    alloc: Global,
+    control: &mut Control,
+    steps: &Steps,
+    keep_going: bool,
+    set: u32,
+    lines: &mut Vec<u64>,
+    gate: &G,
+) -> Result<Events, Memory>
+    requires steps { All (IsRunnableStep control.old.schema) steps.now }
+    requires numbers { HasNumbers control.old steps.now }
+    ensures ran { IfOk result (λ events. Ran keep_going steps.now control.old control.new events) }
+    ensures lines { IfOk result (λ events. (before : List Told) (c : Steered) → StandsAt before c (run control.old false []) → lines.new.items ≡ (traced_section (mode_of keep_going) set (record { control = c; lines = lines.old.items }) steps.now).lines) }
+{
+    let mut events = Events::new(alloc);
+    let mut failed = false;
+    'steps: for step in steps.as_slice() {
+        gate.step();
+        trace_step(
+            control,
+            &mut failed,
+            keep_going,
+            step,
+            set,
+            lines,
+            &mut events,
+            gate,
+        )?;
+    }
+    Ok(events)
+}
