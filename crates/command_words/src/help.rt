@@ -28,9 +28,9 @@ commands:
   desk     runs the sections of SCRIPT by several control threads, and lists the result
   get      runs SCRIPT, and prints the element that holds a key, with the line that added it
 
-SCRIPT is in the language of nft(8), and KEYS has a packet's key in each line. RULES has
-chains of rules over the sets, PLAN says which fields of a frame are the keys of a set, and
-PCAP is a capture file of libpcap. One of them may be -, the standard input.
+SCRIPT is in a subset of the language of nft(8), and KEYS has a packet's key in each line.
+RULES has chains of rules over the sets, PLAN says which fields of a frame are the keys of a
+set, and PCAP is a capture in pcap or pcapng. One of them may be -, the standard input.
 
 options, in any order among the names:
   --threads N    packet threads beside the control: 1 to 16, and else 1
@@ -133,8 +133,9 @@ pub const CAPTURE: &str = "\
 usage: pipapo capture SCRIPT PLAN PCAP [--threads N] [--keep-going]
 
 Runs SCRIPT beside packets of the capture PCAP, and writes the transcript. PCAP is a file of
-libpcap 2.4 with Ethernet frames or raw IP; each line of PLAN names a set and the fields of a
-frame that are its key. One of the three names may be -, the standard input.
+pcap or pcapng, with frames of Ethernet, raw IP or Linux's cooked capture; each line of PLAN
+names a set and the fields of a frame that are its key. One of the three names may be -, the
+standard input.
 
 options, in any order among the names:
   --threads N    packet threads beside the control: 1 to 16, and else 1
