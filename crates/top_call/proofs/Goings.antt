@@ -1,6 +1,6 @@
 -- A call ends with the result of its command: an output, a fault or a page.
 use Rattle.std.specs.Borrow.{Bor}
-use Rattle.std.proofs.Common.{◌≡◌, subst, ℕ, Bool, true, List, [], map, Option, inr, inl}
+use Rattle.std.proofs.Common.{◌≡◌, refl, subst, ℕ, Bool, true, List, [], map, Option, inr, inl}
 use Rattle.std.specs.String.{string_bytes}
 use Rattle.token_forms.specs.declared.token.Reason.{Reason}
 use Rattle.command_words.specs.declared.page.Page.{Page}
@@ -17,12 +17,14 @@ use Rattle.input_files.specs.declared.work.Work.TheVariants as works
 use Rattle.input_files.specs.Inputs.{ReadsAs}
 use Rattle.input_files.specs.Works.{IsWork}
 use Rattle.set_script.specs.ScriptText.{IsScriptText}
+use Rattle.key_answer.specs.declared.question.AnswerError.{AnswerError}
+use Rattle.key_answer.specs.declared.question.AnswerError.TheVariants as answers
 use Rattle.top_call.specs.declared.fault.Fault.{Fault}
 use Rattle.top_call.specs.declared.fault.Fault.TheVariants as faults
 use Rattle.top_call.specs.Transcript.{IsOutput, IsOverfull, HasBadWords}
 use Rattle.top_call.specs.Calls.{Call}
 use Rattle.top_call.specs.Causes.{IsCause, HasManySections, HasNoKey, no_command, of_file, too_many, bad_key, no_memory}
-use Rattle.top_call.specs.Lines.{done_status, status_of, fault_line}
+use Rattle.top_call.specs.Lines.{answer_fault, done_status, status_of, fault_line}
 use Rattle.top_call.specs.Names.{AsksInOrder}
 use Rattle.top_call.specs.Answers.{Ends, IsDue, IsExactly, HasOutput}
 use Rattle.top_call.specs.Noted.{IsNoted}
@@ -119,6 +121,13 @@ module _ (c : Call) where
 
   pub goes-late : (d : Command) → IsCommand c.words d → HasRead c.shelf d → Silent → EndsWith (status_of faults.Memory) (fault_line faults.Memory) → Goes c
   goes-late d is_d r silent ends = goes-fault faults.Memory (no_memory d is_d (inr r) r.quiet) (asks-files c.words c.shelf d is_d r) ends (no_note silent)
+
+  -- there is no output
+  pub goes-unanswered : (d : Command) → IsCommand c.words d → HasRead c.shelf d → (error : AnswerError) → ((line : ℕ) (reason : Reason) → error ≡ answers.BadKey line reason → HasNoKey c.words c.shelf line reason)
+      → (fault : Fault) → fault ≡ answer_fault error → Silent → EndsWith (status_of fault) (fault_line fault) → Goes c
+  goes-unanswered d is_d r (answers.BadKey line reason) bad fault is silent ends =
+      goes-bad-key line reason (bad line reason refl) silent (subst (λ (f : Fault). EndsWith (status_of f) (fault_line f)) is ends)
+  goes-unanswered d is_d r answers.Memory bad fault is silent ends = goes-late d is_d r silent (subst (λ (f : Fault). EndsWith (status_of f) (fault_line f)) is ends)
 
   pub goes-page : (p : Page) → AsksFor c.words p → c.shelf.asked ≡ [] → c.shelf.faults_now ≡ c.shelf.faults_before → Silent → EndsWith 0 (page_text p) → Goes c
   goes-page p asks nothing quiet silent ends = record {

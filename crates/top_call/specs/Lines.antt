@@ -9,6 +9,8 @@ use Rattle.input_files.specs.declared.fault.Flaw.TheVariants as flaws
 use Rattle.input_files.specs.declared.fault.FileFault.{FileFault}
 use Rattle.input_files.specs.declared.fault.FileFault.TheVariants as files
 use Rattle.input_files.specs.Inputs.{FileForm, script, keys, rules, plan, capture, form_of}
+use Rattle.key_answer.specs.declared.question.AnswerError.{AnswerError}
+use Rattle.key_answer.specs.declared.question.AnswerError.TheVariants as answers
 use Rattle.top_call.specs.declared.fault.Fault.{Fault}
 use Rattle.top_call.specs.declared.fault.Fault.TheVariants.{Usage, File, TooManyClerks, BadKey, Memory}
 
@@ -33,6 +35,11 @@ file_status (files.TooLarge name) = 8
 file_status files.Memory = 7
 
 -- the status of a fault
+-- the fault of a command without an output
+abbrev pub answer_fault : AnswerError → Fault
+answer_fault (answers.BadKey line reason) = BadKey line reason
+answer_fault answers.Memory = Memory
+
 abbrev pub status_of : Fault → ℕ
 status_of Usage = 2
 status_of (File fault) = file_status fault

@@ -2,7 +2,7 @@ ghost use Rattle.std.specs.Prelude.{◌≡◌, [], List, ℕ, map, Option, None,
 ghost use Rattle.std.specs.String.{string_bytes};
 ghost use Rattle.command_words.specs.Words.{IsCommand, AsksFor};
 ghost use Rattle.command_words.specs.WordForms.{plain};
-ghost use Rattle.top_call.specs.Lines.{done_status as status_of_done};
+ghost use Rattle.top_call.specs.Lines.{answer_fault as fault_of_answer, done_status as status_of_done};
 ghost use Rattle.input_files.specs.Works.{IsWork};
 ghost use Rattle.top_call.specs.Promises.{Goes, Promises};
 ghost use Rattle.top_call.specs.Transcript.{HasFewClerks, IsOverfull};
@@ -25,6 +25,16 @@ fn done_status(refused: bool) -> u8
     ensures { result ≡ status_of_done refused }
 {
     if refused { 1 } else { 0 }
+}
+
+/// What is reported in place of an output.
+fn answer_fault<'a>(error: AnswerError) -> Fault<'a>
+    ensures { result ≡ fault_of_answer error }
+{
+    match error {
+        AnswerError::BadKey { line, reason } => Fault::BadKey { line, reason },
+        AnswerError::Memory => Fault::Memory,
+    }
 }
 
 /// The most sections of a desk's script: the first, and one for each control thread.
@@ -73,10 +83,7 @@ fn do_command<'a, R: Threads + Wait + Sync, F: Shelf, K: Sink, N: Notes, G: Gate
                     tell_refusals(alloc, notes, command, script_text.as_slice(), &output);
                     status
                 }
-                Err(AnswerError::BadKey { line, reason }) => {
-                    tell(sink, Fault::BadKey { line, reason })
-                }
-                Err(AnswerError::Memory) => tell(sink, Fault::Memory),
+                Err(error) => tell(sink, answer_fault(error)),
             },
         },
         Err(fault) => tell(sink, Fault::File(fault)),

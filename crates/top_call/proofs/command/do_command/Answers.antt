@@ -1,6 +1,7 @@
+use Rattle.std.proofs.Common.{ap, Err}
 use Rattle.command_words.specs.WordForms.{plain}
 use Rattle.top_call.proofs.Outputs.{is-output}
-use Rattle.top_call.proofs.Goings.{goes-output, goes-file, goes-too-many, goes-bad-key, goes-late, many-sections, no-key}
+use Rattle.top_call.proofs.Goings.{goes-output, goes-file, goes-too-many, goes-unanswered, many-sections, no-key}
 use Rattle.top_call.proofs.command.do_command.Goals as goal
 
 pub returns-in-Ok-output_of : goal.returns-in-Ok-output_of
@@ -16,7 +17,10 @@ returns-in-Some g c words is_command =
     goes-too-many _ c.in-Some.name (many-sections words _ (plain c.args.command) c.in-Ok.work c.in-Some.name is_command c.in-Ok.ensures.all c.in-Ok.ensures.work over) _ c.in-Ok.ensures.silent c.tell_too_many.ensures c.tell.ensures
 
 pub returns-in-Ok : goal.returns-in-Ok
-returns-in-Ok g c words is_command = goes-late _ (plain c.args.command) is_command c.in-Ok.ensures.all c.in-Ok.ensures.silent c.tell-in-Err-output_of.ensures
+returns-in-Ok g c words is_command =
+    goes-unanswered _ (plain c.args.command) is_command c.in-Ok.ensures.all c.in-Err-output_of.error
+    (λ line reason e. no-key words _ (plain c.args.command) c.in-Ok.work line reason is_command c.in-Ok.ensures.all c.in-Ok.ensures.work (c.in-Err-output_of.ensures.bad line reason (ap Err e)))
+    c.answer_fault.result c.answer_fault.ensures c.in-Ok.ensures.silent c.tell-in-Err-output_of.ensures
 
 pub returns : goal.returns
 returns g c words is_command = goes-file _ (plain c.args.command) c.in-Err.fault is_command c.in-Err.ensures.stops c.tell-in-Err.ensures
