@@ -44,10 +44,10 @@ fn told_task<'a>(
 }
 
 /// A `get`: the script, how many words the key has, its last word, and the moment.
-fn told_key(
+fn told_key<'a>(
     alloc: Global,
-    script: &str,
-    key: &[String],
+    script: &'a str,
+    key: &'a [String],
     moment: Option<u64>,
     keep_going: bool,
 ) -> Result<Vec<u8>, Memory> {
