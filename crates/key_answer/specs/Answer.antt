@@ -21,7 +21,7 @@ first_in key now (Some s) = first s key now
 abbrev pub answer_in : Generation → Packet → Option Element
 answer_in g p = first_in p.key p.now (slice_get g.sets p.set)
 
--- The line that added an element. Each element of a generation has one.
+-- The line that added an element, or nothing if no line is noted for it.
 abbrev pub line_text : Option ℕ → List ℕ
 line_text None = []
 line_text (Some line) = numbered (codes " (line") line ++ codes ")"
