@@ -1,5 +1,5 @@
 -- The bytes that tokens are made of.
-use Rattle.std.specs.Prelude.{ℕ, Bool, ◌&&◌, ◌||◌, not, ◌==◌, nat_le}
+use Rattle.std.specs.Prelude.{ℕ, Bool, ◌&&◌, ◌||◌, not, ◌==◌, nat_le, cond}
 
 -- space, tab, carriage return
 abbrev pub is_blank : ℕ → Bool
@@ -21,3 +21,7 @@ is_string_byte b = not (b == 34) && nat_le 32 b
 
 abbrev pub is_line_feed : ℕ → Bool
 is_line_feed b = b == 10
+
+-- the letter of a byte's class: w in words, b for blanks, m for marks, and a full stop for all others
+abbrev pub byte_class : ℕ → ℕ
+byte_class b = cond (is_word_byte b) 119 (cond (is_blank b) 98 (cond (is_mark_byte b) 109 46))

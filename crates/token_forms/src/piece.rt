@@ -1,6 +1,6 @@
 ghost use Rattle.std.specs.Prelude.{◌≡◌, ◌+◌, ◌<◌, ◌≤◌, ◌^◌, length, not};
 ghost use Rattle.std.specs.List.{prefix_len};
-ghost use Rattle.token_forms.specs.Bytes.{is_blank, is_mark_byte, is_word_byte, is_string_byte, is_line_feed};
+ghost use Rattle.token_forms.specs.Bytes.{byte_class, is_word_byte, is_string_byte, is_line_feed};
 ghost use Rattle.token_forms.specs.Tokens.{string_piece, joined_lines, piece, first_piece};
 
 use crate::token::TokenKind;
@@ -14,29 +14,28 @@ pub struct Piece {
     pub size: usize,
 }
 
-fn is_a_blank(b: u8) -> bool
-    ensures { result ≡ is_blank b }
+// The class of each byte: `w` if it is part of a word, `b` if it is a blank, `m` if it is a mark, and else `.`.
+static CLASSES: [u8; 256] = *b"\
+    .........b...b..................\
+    b.........m.mwwwwwwwwwwwwwwm.m..\
+    .wwwwwwwwwwwwwwwwwwwwwwwwww....w\
+    .wwwwwwwwwwwwwwwwwwwwwwwwwwm.m..\
+    ................................\
+    ................................\
+    ................................\
+    ................................";
+
+fn class_of(b: u8) -> u8
+    ensures { result ≡ byte_class b }
 {
-    b == b' ' || b == b'\t' || b == b'\r'
+    CLASSES[b as usize]
 }
 
-fn is_a_mark(b: u8) -> bool
-    ensures { result ≡ is_mark_byte b }
-{
-    b == b'{' || b == b'}' || b == b',' || b == b';' || b == b'=' || b == b'*'
-}
-
+#[tactic(auto, using(crate::proofs::ClassLaws::word_class))]
 fn is_in_a_word(b: u8) -> bool
     ensures { result ≡ is_word_byte b }
 {
-    (b'A' <= b && b <= b'Z')
-        || (b'a' <= b && b <= b'z')
-        || (b'0' <= b && b <= b'9')
-        || b == b'_'
-        || b == b'.'
-        || b == b'/'
-        || b == b':'
-        || b == b'-'
+    class_of(b) == b'w'
 }
 
 fn is_in_a_string(b: u8) -> bool
@@ -102,27 +101,32 @@ fn joined_at(bytes: &[u8]) -> Piece
     }
 }
 
+/// A piece that begins with a byte of no class.
+fn piece_of_other(b: u8, bytes: &[u8]) -> Piece
+    requires fits { length bytes.now < 2 ^ 63 }
+    requires other { byte_class b ≡ 46 }
+    ensures piece { result ≡ piece b bytes.now }
+    ensures within { (0 < result.size) × (result.size ≤ length bytes.now + 1) }
+{
+    match b {
+        b'\n' => token(TokenKind::Break, 1),
+        b'#' => gap(1 + comment_len(bytes)),
+        b'"' => string_at(bytes),
+        b'\\' => joined_at(bytes),
+        _ => token(TokenKind::Faulty, 1),
+    }
+}
+
 fn piece_behind(b: u8, bytes: &[u8]) -> Piece
     requires { length bytes.now < 2 ^ 63 }
     ensures piece { result ≡ piece b bytes.now }
     ensures within { (0 < result.size) × (result.size ≤ length bytes.now + 1) }
 {
-    if is_a_blank(b) {
-        gap(1)
-    } else if b == b'\\' {
-        joined_at(bytes)
-    } else if b == b'#' {
-        gap(1 + comment_len(bytes))
-    } else if b == b'\n' {
-        token(TokenKind::Break, 1)
-    } else if is_a_mark(b) {
-        token(TokenKind::Mark, 1)
-    } else if b == b'"' {
-        string_at(bytes)
-    } else if is_in_a_word(b) {
-        token(TokenKind::Word, 1 + word_len(bytes))
-    } else {
-        token(TokenKind::Faulty, 1)
+    match class_of(b) {
+        b'w' => token(TokenKind::Word, 1 + word_len(bytes)),
+        b'b' => gap(1),
+        b'm' => token(TokenKind::Mark, 1),
+        _ => piece_of_other(b, bytes),
     }
 }
 
