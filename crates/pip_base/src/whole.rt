@@ -11,7 +11,8 @@ use std::alloc::Global;
 /// The most bytes that an input file may have.
 pub const FILE_LIMIT: usize = 67_108_864;
 
-const PIECE: usize = 16_384;
+/// How many bytes of a file are read at once, at most.
+const PIECE: usize = 65_536;
 
 /// Why a file wasn't read whole.
 #[derive(Clone, Copy, Debug, PartialEq, Eq)]
@@ -86,10 +87,36 @@ fn read_picked<F: Shelf>(alloc: Global, shelf: &mut F, file: u32) -> Result<Vec<
     ensures fault { result ≡ Err ReadError.Fault → Rose (F.faults shelf.old) (F.faults shelf.new) }
     ensures no_fault { result ≢ Err ReadError.Fault → F.faults shelf.new ≡ F.faults shelf.old }
 {
+    match vec![in alloc; 0u8; PIECE] {
+        Ok(mut piece) => read_through(alloc, shelf, file, piece.as_mut_slice()),
+        Err(_) => Err(ReadError::Memory),
+    }
+}
+
+/// Reads a file through a room for its next bytes.
+fn read_through<F: Shelf>(
+    alloc: Global,
+    shelf: &mut F,
+    file: u32,
+    piece: &mut [u8],
+) -> Result<Vec<u8>, ReadError>
+    requires picked { F.is_picked shelf.old file }
+    requires room { 0 < length piece.old }
+    ensures bytes { IfOk result (λ all. (bytes : List ℕ) → F.left shelf.old file ≡ Some bytes → all.items ≡ bytes) }
+    ensures limit { IfOk result (λ all. length all.items ≤ size_limit) }
+    ensures to_end { OnOk result (IsAtEnd (F.left shelf.new file)) }
+    ensures too_large { result ≡ Err ReadError.TooLarge → (bytes : List ℕ) → F.left shelf.old file ≡ Some bytes → size_limit < length bytes }
+    ensures asked { F.asked shelf.new ≡ F.asked shelf.old }
+    ensures told { (name : List ℕ) → F.told shelf.new name ≡ F.told shelf.old name }
+    ensures picked { (m : ℕ) → F.is_picked shelf.old m → F.is_picked shelf.new m }
+    ensures others { (m : ℕ) → m ≢ file → F.left shelf.new m ≡ F.left shelf.old m }
+    ensures later { F.faults shelf.old ≤ F.faults shelf.new }
+    ensures fault { result ≡ Err ReadError.Fault → Rose (F.faults shelf.old) (F.faults shelf.new) }
+    ensures no_fault { result ≢ Err ReadError.Fault → F.faults shelf.new ≡ F.faults shelf.old }
+{
     let mut all = Vec::new(alloc);
-    let mut piece = [0u8; PIECE];
     'reads: while all.len() <= FILE_LIMIT {
-        match shelf.read(file, &mut piece) {
+        match shelf.read(file, piece) {
             Ok(0) => return Ok(all),
             Ok(n) => match all.extend_from_slice(&piece[..n]) {
                 Ok(()) => {}

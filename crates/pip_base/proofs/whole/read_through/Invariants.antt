@@ -1,6 +1,6 @@
-use Rattle.std.proofs.Common.{◌≡◌, ◌-◌, List, ℕ, length}
+use Rattle.std.proofs.Common.{◌≡◌, ◌-◌, ◌<◌, List, ℕ, length}
 use Rattle.std.specs.Io.KnownBytes.{Consumes}
-use Rattle.pip_base.proofs.whole.read_picked.Given as goal
+use Rattle.pip_base.proofs.whole.read_through.Given as goal
 
 -- what has been read was at the front of the file, and no fault has come
 abbrev pub invariant-reads : goal.invariant-reads
@@ -11,6 +11,7 @@ invariant-reads g l = record {
   others : (m : ℕ) → (m ≡ l.file → ⊥) → g.F.Shelf.left l.shelf m ≡ g.F.Shelf.left l.initial.shelf m;
   asked : g.F.Shelf.asked l.shelf ≡ g.F.Shelf.asked l.initial.shelf;
   faults : g.F.Shelf.faults l.shelf ≡ g.F.Shelf.faults l.initial.shelf;
+  room : 0 < length l.piece;
 }
 
 abbrev pub decreases-reads : goal.decreases-reads
