@@ -3,9 +3,11 @@
 The program's usage line and help, the manual page, the three completions, and the tables of README.md and docs/formats.md have
 to name the same commands with the same names, options and statuses.
 """
+import os
 import re
 import subprocess
 import sys
+import tempfile
 from collections import namedtuple
 
 Command = namedtuple("Command", "word names options statuses")
@@ -104,8 +106,12 @@ def program_faults(program, commands):
     of_help = re.findall(r"^(?:usage:|      ) pipapo (.*)$", help_text, re.M)
     if of_help[:len(forms)] != forms:
         yield "help has other forms"
-    if re.findall(r"^  ([a-z]+) +\S", help_text.partition("\ncommands:\n")[2].partition("\n\n")[0], re.M) != [c.word for c in commands]:
+    described = re.findall(r"^    ([a-z]+) +\S", help_text.partition("\ncommands:\n")[2].partition("\n\n")[0], re.M)
+    if sorted(described) != sorted(command.word for command in commands):
         yield "help describes other commands"
+    said = subprocess.run([program], capture_output=True, text=True).stderr
+    if sorted(re.split(", | and ", said.partition("the commands are ")[2].strip())) != sorted([*described, "help"]):
+        yield f"the note on a missing command is {said}"
     of_statuses = re.findall(r"^  (\d+) ", help_text.partition("\nstatuses:\n")[2], re.M)
     if sorted(map(int, of_statuses)) != joined_statuses(commands):
         yield "help has other statuses"
@@ -118,6 +124,19 @@ def program_faults(program, commands):
         described = sorted(re.findall(r"^  (--[a-z-]+)", page, re.M))
         if described != flags(command):
             yield f"help {command.word} describes the options {described}"
+
+
+def example_faults(program):
+    """The example of `help run`, pasted into a shell, prints what the page says."""
+    lines = written(program, "help", "run").partition("\nAn example")[2].partition("\n\n")[2]
+    pasted, _, rest = lines.partition("\n\n")
+    shown = rest.partition("\n\n")[2].partition("\n\n")[0]
+    with tempfile.TemporaryDirectory() as room:
+        os.symlink(os.path.abspath(program), os.path.join(room, "pipapo"))
+        found = {**os.environ, "PATH": room + os.pathsep + os.environ["PATH"]}
+        done = subprocess.run(["sh"], input=pasted, capture_output=True, text=True, cwd=room, env=found)
+    if [line.strip() for line in shown.splitlines()] != done.stdout.splitlines() or not done.stdout:
+        yield f"the example of help run prints {done.stdout}{done.stderr}"
 
 
 def page_faults(commands):
@@ -195,7 +214,7 @@ def completion_faults(commands):
 
 def main():
     commands = listed()
-    faults = [*program_faults(sys.argv[1], commands), *page_faults(commands), *document_faults(commands),
+    faults = [*program_faults(sys.argv[1], commands), *example_faults(sys.argv[1]), *page_faults(commands), *document_faults(commands),
               *completion_faults(commands)]
     for fault in faults:
         print(f"commands: unlike docs/commands.tsv: {fault}")

@@ -10,7 +10,7 @@ complete -c pipapo -n "not __fish_seen_subcommand_from $commands" -a capture -d 
 complete -c pipapo -n "not __fish_seen_subcommand_from $commands" -a desk -d 'sections by several control threads'
 complete -c pipapo -n "not __fish_seen_subcommand_from $commands" -a get -d 'the element that holds a key, and its line'
 complete -c pipapo -n "not __fish_seen_subcommand_from $commands" -a help -d 'help on the program or a command'
-complete -c pipapo -n "not __fish_seen_subcommand_from $commands" -l version -d 'the version'
+complete -c pipapo -n "not __fish_seen_subcommand_from $commands" -s V -l version -d 'the version'
 complete -c pipapo -n "__fish_seen_subcommand_from help" -f -a 'run list dump drill judge capture desk get'
 complete -c pipapo -s h -l help -d 'help on the program or the command'
 complete -c pipapo -n "__fish_seen_subcommand_from run drill judge capture" -l threads -x -a '(seq 1 16)' -d 'packet threads'

@@ -1,13 +1,13 @@
 -- That `clap` takes the words of a command: each word passes, since no argument is used twice.
-use Rattle.std.proofs.Common.{◌≡◌, refl, sym, ◌∙◌, ap, ℕ, ◌+◌, ◌≤◌, ◌==◌, Bool, true, false, not, ◌||◌, ◌&&◌, List, [], ◌∷◌, fold, find, length, codes, Option, Some, None, is_some, true≢false, arith}
+use Rattle.std.proofs.Common.{◌≡◌, refl, sym, ◌∙◌, ap, ℕ, ◌+◌, ◌≤◌, ◌==◌, Bool, true, false, not, ◌||◌, ◌&&◌, List, [], ◌∷◌, ◌++◌, fold, find, length, codes, Option, Some, None, is_some, true≢false, arith}
 use Rattle.clap.specs.Walk.{Row, Text, Held, Walk, value, walked, nothing_held, is_pending, has_row}
 use Rattle.clap.specs.Simple.{Shape, built, filled, with_index}
 use Rattle.clap.specs.Takes.{settle_passes, step_passes, turn_passes, walk_passes, built_takes, takes}
 use Rattle.clap.proofs.OnLiterals.{clap_on_literals}
 use Rattle.command_words.specs.WordForms.{ArePlain}
 use Rattle.command_words.specs.GetWords.{is_file_name, keep_going_word}
-use Rattle.command_words.specs.Words.{threads_word, AreArguments, no_words, name_and, threads_and, mark_and, AreWords}
-use Rattle.command_words.proofs.ClapValues.{program, rules, simple, first, second, third, between, waiting-for, taken, counted, marked, is_of, any-found, held_rows, Finds, Plain, name-step, first-taken, second-taken, third-taken, threads-step, count-step, mark-step, first-held, second-held, third-held, threads-held, mark-held, nothing-found, walk-holds}
+use Rattle.command_words.specs.Words.{threads_word, threads_front, AreArguments, no_words, name_and, threads_and, threads_with, mark_and, AreWords}
+use Rattle.command_words.proofs.ClapValues.{program, rules, simple, first, second, third, between, waiting-for, taken, counted, joined, marked, is_of, any-found, held_rows, Finds, Plain, name-step, first-taken, second-taken, third-taken, threads-step, count-step, joined-step, mark-step, first-held, second-held, third-held, threads-held, joined-held, mark-held, nothing-found, walk-holds}
 
 abbrev shape : Shape
 shape = (built program).top
@@ -63,6 +63,11 @@ count-passes (b ∷ c ∷ bs) h position e = go (b == 45) refl e where
   go : (t : Bool) → (b == 45) ≡ t → not t ≡ true → turn_passes shape [] (waiting-for h position) (b ∷ c ∷ bs) ≡ true
   go true eq f = absurd (true≢false (sym f))
   go false eq f = rw (eq, eq) refl
+
+-- `--threads=` with its value is used at once, for which `--threads` may have no row yet.
+joined-passes : (w : Text) (h : Held) (position : ℕ) → Settles h → has_row (codes "threads") (held_rows h) ≡ false → turn_passes shape [] (between h position) (threads_front ++ w) ≡ true
+unfolding clap_on_literals
+joined-passes w h position s none = rw (s, none) refl
 
 -- `--keep-going` is used at once, for which it may have no row yet.
 mark-passes : (h : Held) (position : ℕ) → Settles h → has_row (codes "keep-going") (held_rows h) ≡ false → turn_passes shape [] (between h position) keep_going_word ≡ true
@@ -120,6 +125,11 @@ through ws names threads goes (threads_and {count = count} {rest = rest} a) befo
     (onward (waiting-for h (1 + length before)) (between (counted h count) (1 + length before)) count rest (count-step count h (1 + length before) plain) (count-passes count h (1 + length before) plain)
     (through rest names None goes a before (Some count) g (counted h count) few tt (λ e. absurd (true≢false (sym e))) mark (threads-held h before count g f) next))
 through ws names threads goes (threads_and a) before (Some w) g h few plain once mark f s = absurd (cc (once refl))
+through ws names threads goes (threads_with {count = count} {rest = rest} a) before None g h few plain once mark f s =
+    let passes = joined-passes count h (1 + length before) s (no-row (codes "threads") (held_rows h) f.threads_are) in
+    onward (between h (1 + length before)) (between (joined h count) (1 + length before)) (threads_front ++ count) rest (joined-step count h (1 + length before)) passes
+    (through rest names None goes a before (Some count) g (joined h count) few tt (λ e. absurd (true≢false (sym e))) mark (joined-held h before count g f) refl)
+through ws names threads goes (threads_with a) before (Some w) g h few plain once mark f s = absurd (cc (once refl))
 through ws names threads goes (mark_and {rest = rest} a) before t false h few plain once mark f s =
     let passes = mark-passes h (1 + length before) s (no-row (codes "keep-going") (held_rows h) f.mark_is) in
     onward (between h (1 + length before)) (between (marked h) (1 + length before)) keep_going_word rest (mark-step h (1 + length before)) passes

@@ -14,7 +14,7 @@ use Rattle.clap.specs.Matches.{found_of}
 use Rattle.clap.specs.declared.parser.matches.ArgMatches.{ArgMatches}
 use Rattle.command_words.specs.WordForms.{ArePlain, HasFoundValues}
 use Rattle.command_words.specs.GetWords.{is_file_name, keep_going_word}
-use Rattle.command_words.specs.Words.{threads_word, AreArguments, no_words, name_and, threads_and, mark_and, AreWords}
+use Rattle.command_words.specs.Words.{threads_word, threads_front, AreArguments, no_words, name_and, threads_and, threads_with, mark_and, AreWords}
 
 abbrev pub first : Rule
 first = new_rule (codes "first")
@@ -81,6 +81,14 @@ count-step (b ∷ c ∷ bs) h position e = go (b == 45) refl e where
   go : (t : Bool) → (b == 45) ≡ t → not t ≡ true → walked rules [] (waiting-for h position) (b ∷ c ∷ bs) ≡ between (counted h (b ∷ c ∷ bs)) position
   go true eq f = absurd (true≢false (sym f))
   go false eq f = rw (eq, eq) refl
+
+-- `--threads=` and its value are one word.
+abbrev pub joined : Held → Text → Held
+joined h w = reacted rules (with_index 4 (filled threads_rule)) (w ∷ []) h
+
+pub joined-step : (w : Text) (h : Held) (position : ℕ) → walked rules [] (between h position) (threads_front ++ w) ≡ between (joined h w) position
+unfolding clap_on_literals
+joined-step w h position = refl
 
 abbrev pub marked : Held → Held
 marked h = reacted rules (with_index 4 (filled keep_going_rule)) [] h
@@ -235,6 +243,9 @@ module _ (h : Held) (t : Option Text) (g : Bool) where
 pub threads-held : (h : Held) (names : List Text) (w : Text) (g : Bool) → Finds (held_rows h) names None g → Finds (held_rows (counted h w)) names (Some w) g
 threads-held h names w g f = finds-of _ _ names (Some w) g (first-use (codes "threads") (reading_by (filled threads_rule)) CommandLine (w ∷ []) (held_rows h) f.threads_are) (finds-threads (held_rows h) names w g f)
 
+pub joined-held : (h : Held) (names : List Text) (w : Text) (g : Bool) → Finds (held_rows h) names None g → Finds (held_rows (joined h w)) names (Some w) g
+joined-held h names w g f = finds-of _ _ names (Some w) g (first-use (codes "threads") (reading_by (filled threads_rule)) CommandLine (w ∷ []) (held_rows h) f.threads_are) (finds-threads (held_rows h) names w g f)
+
 pub mark-held : (h : Held) (names : List Text) (t : Option Text) → Finds (held_rows h) names t false → Finds (held_rows (marked h)) names t true
 mark-held h names t f = finds-of _ _ names t true (first-use (codes "keep-going") (reading_by (filled keep_going_rule)) CommandLine (codes "true" ∷ []) (held_rows h) f.mark_is) (finds-mark (held_rows h) names t f)
 
@@ -288,6 +299,10 @@ through ws names threads goes (threads_and {count = count} {rest = rest} a) befo
     onward rest (before ++ names) (Some count) (g || goes) _ (between (counted h count) (1 + length before)) (ap (λ (at : Walk). walked rules [] at count) (threads-step h (1 + length before)) ∙ count-step count h (1 + length before) plain)
     (through rest names None goes a before (Some count) g (counted h count) few tt (λ e. absurd (true≢false (sym e))) mark (threads-held h before count g f))
 through ws names threads goes (threads_and a) before (Some w) g h few plain once mark f = absurd (cc (once refl))
+through ws names threads goes (threads_with {count = count} {rest = rest} a) before None g h few plain once mark f =
+    onward rest (before ++ names) (Some count) (g || goes) _ (between (joined h count) (1 + length before)) (joined-step count h (1 + length before))
+    (through rest names None goes a before (Some count) g (joined h count) few tt (λ e. absurd (true≢false (sym e))) mark (joined-held h before count g f))
+through ws names threads goes (threads_with a) before (Some w) g h few plain once mark f = absurd (cc (once refl))
 through ws names threads goes (mark_and {rest = rest} a) before t false h few plain once mark f =
     onward rest (before ++ names) (either t threads) true _ (between (marked h) (1 + length before)) (mark-step h (1 + length before))
     (through rest names threads false a before t true (marked h) few plain once (λ e. absurd (true≢false (sym e))) (mark-held h before t f))

@@ -1,5 +1,5 @@
 -- The shape of a command's words, and that the words are one command at most.
-use Rattle.std.proofs.Common.{◌≡◌, refl, sym, ◌∙◌, ap, subst, ℕ, suc, ◌+◌, ◌<◌, ◌≤◌, ◌^◌, Bool, true, false, not, cond, ◌&&◌, List, [], ◌∷◌, length, fold, map, drop, codes, decimal, Option, Some, None, Result, Ok, is_some, arith, true≢false, ne_eqb, get_or, le-leb, leb-true, eqb-true, eq-eqb}
+use Rattle.std.proofs.Common.{◌≡◌, refl, sym, ◌∙◌, ap, subst, ℕ, suc, ◌+◌, ◌<◌, ◌≤◌, ◌^◌, Bool, true, false, not, cond, ◌&&◌, List, [], ◌∷◌, ◌++◌, length, fold, map, drop, codes, decimal, Option, Some, None, Result, Ok, is_some, arith, true≢false, ne_eqb, get_or, le-leb, leb-true, eqb-true, eq-eqb}
 use Rattle.std.specs.Prelude.{nat_le, nat_lt, bytes_eq, ◌==◌, IfSome}
 use Rattle.std.specs.Bool.{then_some}
 use Rattle.std.specs.List.{count_by}
@@ -13,9 +13,11 @@ use Rattle.command_words.specs.declared.shape.Verb.{Verb}
 use Rattle.command_words.specs.declared.shape.Verb.TheVariants.{Run, List as Lists, Dump, Drill, Judge, Capture, Desk, Get}
 use Rattle.command_words.specs.declared.shape.Shape.{Shape}
 use Rattle.command_words.specs.GetWords.{Asked, asked, is_file_name, keep_going_word}
-use Rattle.command_words.specs.Words.{stdin_name, is_stdin, verb_word, IsNumber, AreThreads, AreWords, ArePacketWords, Command, run, list, dump, drill, judge, capture, desk, get, IsCommand, AreArguments, no_words, name_and, threads_and, mark_and, threads_word, last_seed, most_drill_elements}
+use Rattle.command_words.specs.Words.{stdin_name, is_stdin, verb_word, IsNumber, AreThreads, AreWords, ArePacketWords, Command, run, list, dump, drill, judge, capture, desk, get, IsCommand, AreArguments, no_words, name_and, threads_and, threads_with, mark_and, threads_word, threads_front, last_seed, most_drill_elements}
+use Rattle.command_words.specs.Fronts.{after_front}
 use Rattle.command_words.specs.Numbers.{number_within}
-use Rattle.command_words.specs.WordForms.{verb_of, name_count, is_whole_shape, empty_shape, stdin_once, fits, accepts, HasVerb, takes_name, takes_threads, takes_mark, with_threads, with_argument, with_word, shape_after}
+use Rattle.command_words.specs.WordForms.{verb_of, name_count, is_whole_shape, empty_shape, stdin_once, fits, accepts, HasVerb, takes_name, takes_threads, takes_mark, with_threads, with_joined, with_argument, with_word, shape_after}
+use Rattle.command_words.proofs.FrontLaws.{front-behind, front-found}
 
 both : (a b : Bool) → (a && b) ≡ true → (a ≡ true) × (b ≡ true)
 both true b e = (refl, e)
@@ -62,6 +64,17 @@ name-no-option option word dash e = go (bytes_eq word option) refl where
   go true same = absurd (true≢false (sym e ∙ ap is_file_name (same-bytes word option same) ∙ dash))
   go false same = refl
 
+name-not-joined : (word : List ℕ) → is_file_name word ≡ true → after_front threads_front word ≡ None
+name-not-joined [] e = refl
+name-not-joined (b ∷ []) e = go (45 == b) where
+  go : (t : Bool) → cond t (after_front (codes "-threads=") []) None ≡ None
+  go true = refl
+  go false = refl
+name-not-joined (b ∷ c ∷ word) e = go (45 == b) refl e where
+  go : (t : Bool) → (45 == b) ≡ t → is_file_name (b ∷ c ∷ word) ≡ true → cond t (after_front (codes "-threads=") (c ∷ word)) None ≡ None
+  go true is f = let dash : 45 ≡ b = eqb-true 45 b is in absurd (true≢false (sym f ∙ ap (λ n. is_file_name (n ∷ c ∷ word)) (sym dash)))
+  go false is f = refl
+
 -- the names from a place on are those of a command
 abbrev NamesFit : Verb → ℕ → List (List ℕ) → Type 0
 NamesFit verb place [] = Unit {0}
@@ -99,10 +112,13 @@ goes-through verb rest names threads keep_going no_words n t g ns ts gs = (shape
 goes-through verb rest names threads keep_going (name_and {word = word} {rest = ws} {names = ms} e more) n t g ns ts gs =
     let r = goes-through verb ws ms threads keep_going more (n + 1) t g ns.1 ts gs in
     let long = r.3 in
-    (r.0, rw (name-no-option threads_word word refl e, name-no-option keep_going_word word refl e, ns.0) r.1, r.2, omega (arith, long))
+    (r.0, rw (name-no-option threads_word word refl e, name-no-option keep_going_word word refl e, name-not-joined word e, ns.0) r.1, r.2, omega (arith, long))
 goes-through verb rest names threads keep_going (threads_and {count = count} {rest = ws} more) n t g ns ts gs =
     let r = goes-through verb ws names None keep_going more n true g ns tt gs in
     (r.0, rw (and-true _ _ ts.0 (not-false t ts.1), ts.2) r.1, r.2, r.3)
+goes-through verb rest names threads keep_going (threads_with {count = count} {rest = ws} more) n t g ns ts gs =
+    let r = goes-through verb ws names None keep_going more n true g ns tt gs in
+    (r.0, rw (and-true _ _ (and-true _ _ ts.0 (not-false t ts.1)) ts.2) r.1, r.2, r.3)
 goes-through verb rest names threads keep_going (mark_and {rest = ws} more) n t g ns ts gs =
     let h = gs refl in
     let r = goes-through verb ws names threads false more n t true ns ts (λ e. absurd (true≢false (sym e))) in
@@ -165,25 +181,46 @@ module _ (verb : Verb) (s : Shape) (ended : s.waiting ≡ false) where
   stopped : {X : Type 0} (words : List (List ℕ)) → fold (shape_after verb) None words ≡ Some s → X
   stopped words e = absurd (cc (none-stays verb words, e))
 
+  no-threads-again : (o : Option (List ℕ)) → ThreadsFit verb true o → o ≡ None
+  no-threads-again None h = refl
+  no-threads-again (Some w) h = absurd (true≢false h.1)
+
   -- after `--threads`
   read-threads : (n : ℕ) (g : Bool) (count : List ℕ) (rest : List (List ℕ)) (t : Bool) → (takes_threads verb ≡ true) × (t ≡ false)
       → fold (shape_after verb) (with_threads (shape n true g true) count) rest ≡ Some s → (Through n true g false rest → Read verb n true g rest s) → Read verb n t g (threads_word ∷ count ∷ rest) s
   read-threads n g count rest t allowed e onward = go (is_some (number_within 1 16 count)) refl e where
-    unstood : (o : Option (List ℕ)) → ThreadsFit verb true o → o ≡ None
-    unstood None h = refl
-    unstood (Some w) h = absurd (true≢false h.1)
-
     go : (b : Bool) → is_some (number_within 1 16 count) ≡ b → fold (shape_after verb) (then_some b (shape n true g false)) rest ≡ Some s → Read verb n t g (threads_word ∷ count ∷ rest) s
     go false is e = stopped rest e
     go true is e =
         let r = onward e in
-        let none : r.threads ≡ None = unstood r.threads r.threads_fit in record {
+        let none : r.threads ≡ None = no-threads-again r.threads r.threads_fit in record {
           names = r.names;
           threads = Some count;
           keep_going = r.keep_going;
           arguments = threads_and (subst (λ (o : Option (List ℕ)). AreArguments rest r.names o r.keep_going) none r.arguments);
           names_fit = r.names_fit;
           threads_fit = (allowed.0, allowed.1, is);
+          mark_fits = r.mark_fits;
+          count = r.count;
+        }
+
+  -- a word that begins with `--threads=`
+  read-joined : (n : ℕ) (t g : Bool) (count : List ℕ) (rest : List (List ℕ)) → fold (shape_after verb) (then_some ((takes_threads verb && not t) && is_some (number_within 1 16 count)) (shape n true g false)) rest ≡ Some s
+      → (Through n true g false rest → Read verb n true g rest s) → Read verb n t g ((threads_front ++ count) ∷ rest) s
+  read-joined n t g count rest e onward = go ((takes_threads verb && not t) && is_some (number_within 1 16 count)) refl e where
+    go : (b : Bool) → ((takes_threads verb && not t) && is_some (number_within 1 16 count)) ≡ b → fold (shape_after verb) (then_some b (shape n true g false)) rest ≡ Some s → Read verb n t g ((threads_front ++ count) ∷ rest) s
+    go false is e = stopped rest e
+    go true is e =
+        let r = onward e in
+        let k = both _ _ is in
+        let allowed = both _ _ k.0 in
+        let none : r.threads ≡ None = no-threads-again r.threads r.threads_fit in record {
+          names = r.names;
+          threads = Some count;
+          keep_going = r.keep_going;
+          arguments = threads_with (subst (λ (o : Option (List ℕ)). AreArguments rest r.names o r.keep_going) none r.arguments);
+          names_fit = r.names_fit;
+          threads_fit = (allowed.0, is-false t allowed.1, k.1);
           mark_fits = r.mark_fits;
           count = r.count;
         }
@@ -229,17 +266,18 @@ module _ (verb : Verb) (s : Shape) (ended : s.waiting ≡ false) where
           count = omega (arith, long);
         }
 
-  -- the three forms of a word
+  -- the four forms of a word
   by-word : (n : ℕ) (t g : Bool) (word : List ℕ) (rest : List (List ℕ)) → fold (shape_after verb) (with_argument verb (shape n t g false) word) rest ≡ Some s
       → (fold (shape_after verb) (then_some (takes_threads verb && not t) (shape n true g true)) rest ≡ Some s → Read verb n t g (threads_word ∷ rest) s)
-      → (Through n t true false rest → Read verb n t true rest s) → (Through (n + 1) t g false rest → Read verb (n + 1) t g rest s) → Read verb n t g (word ∷ rest) s
-  by-word n t g word rest e counted marked named = go (bytes_eq word threads_word) (bytes_eq word keep_going_word) refl refl e where
-    go : (a b : Bool) → bytes_eq word threads_word ≡ a → bytes_eq word keep_going_word ≡ b
-        → fold (shape_after verb) (cond a (then_some (takes_threads verb && not t) (shape n true g true)) (cond b (then_some (takes_mark verb && not g) (shape n t true false)) (then_some (takes_name verb n word) (shape (n + 1) t g false)))) rest ≡ Some s
+      → (Through n t true false rest → Read verb n t true rest s) → (Through n true g false rest → Read verb n true g rest s) → (Through (n + 1) t g false rest → Read verb (n + 1) t g rest s) → Read verb n t g (word ∷ rest) s
+  by-word n t g word rest e counted marked joined named = go (bytes_eq word threads_word) (bytes_eq word keep_going_word) (after_front threads_front word) refl refl refl e where
+    go : (a b : Bool) (o : Option (List ℕ)) → bytes_eq word threads_word ≡ a → bytes_eq word keep_going_word ≡ b → after_front threads_front word ≡ o
+        → fold (shape_after verb) (cond a (then_some (takes_threads verb && not t) (shape n true g true)) (cond b (then_some (takes_mark verb && not g) (shape n t true false)) (with_joined verb (shape n t g false) word o))) rest ≡ Some s
         → Read verb n t g (word ∷ rest) s
-    go true b is other e = subst (λ (w : List ℕ). Read verb n t g (w ∷ rest) s) (sym (same-bytes word threads_word is)) (counted e)
-    go false true is other e = subst (λ (w : List ℕ). Read verb n t g (w ∷ rest) s) (sym (same-bytes word keep_going_word other)) (read-mark n t g rest e marked)
-    go false false is other e = read-name n t g word rest e named
+    go true b o is other front e = subst (λ (w : List ℕ). Read verb n t g (w ∷ rest) s) (sym (same-bytes word threads_word is)) (counted e)
+    go false true o is other front e = subst (λ (w : List ℕ). Read verb n t g (w ∷ rest) s) (sym (same-bytes word keep_going_word other)) (read-mark n t g rest e marked)
+    go false false (Some count) is other front e = subst (λ (w : List ℕ). Read verb n t g (w ∷ rest) s) (sym (front-found threads_front word count front)) (read-joined n t g count rest e joined)
+    go false false None is other front e = read-name n t g word rest e named
 
   -- a shape that waits isn't whole
   no-end : (n : ℕ) (t g : Bool) → fold (shape_after verb) (then_some (takes_threads verb && not t) (shape n true g true)) [] ≡ Some s → Read verb n t g (threads_word ∷ []) s
@@ -256,8 +294,8 @@ module _ (verb : Verb) (s : Shape) (ended : s.waiting ≡ false) where
   read n t g [] e =
       let same : shape n t g false ≡ s = cc e in
       record { names = []; threads = None; keep_going = false; arguments = no_words; names_fit = tt; threads_fit = tt; mark_fits = λ f. absurd (true≢false (sym f)); count = ap (λ (z : Shape). z.names) (sym same) ∙ omega arith }
-  read n t g (word ∷ []) e = by-word n t g word [] e (no-end n t g) (λ f. read n t true [] f) (λ f. read (n + 1) t g [] f)
-  read n t g (word ∷ next ∷ rest) e = by-word n t g word (next ∷ rest) e (λ f. counted-on n t g next rest f (λ h. read n true g rest h)) (λ f. read n t true (next ∷ rest) f) (λ f. read (n + 1) t g (next ∷ rest) f)
+  read n t g (word ∷ []) e = by-word n t g word [] e (no-end n t g) (λ f. read n t true [] f) (λ f. read n true g [] f) (λ f. read (n + 1) t g [] f)
+  read n t g (word ∷ next ∷ rest) e = by-word n t g word (next ∷ rest) e (λ f. counted-on n t g next rest f (λ h. read n true g rest h)) (λ f. read n t true (next ∷ rest) f) (λ f. read n true g (next ∷ rest) f) (λ f. read (n + 1) t g (next ∷ rest) f)
 
 -- how many packet threads the word after `--threads` says
 count-of : (threads : Option (List ℕ)) (verb : Verb) (stood : Bool) → ThreadsFit verb stood threads → (n : ℕ) × AreThreads threads n
@@ -303,6 +341,7 @@ stdin-of-arguments : (rest names : List (List ℕ)) (threads : Option (List ℕ)
 stdin-of-arguments rest names threads keep_going no_words plain = refl
 stdin-of-arguments rest names threads keep_going (name_and {word = word} {rest = ws} {names = ms} e more) plain = one-more word ws ∙ ap (λ n. cond (is_stdin word) 1 0 + n) (stdin-of-arguments ws ms threads keep_going more plain) ∙ sym (one-more word ms)
 stdin-of-arguments rest names threads keep_going (threads_and {count = count} {rest = ws} more) plain = no-more threads_word (count ∷ ws) refl ∙ no-more count ws plain ∙ stdin-of-arguments ws names None keep_going more tt
+stdin-of-arguments rest names threads keep_going (threads_with {count = count} {rest = ws} more) plain = no-more (threads_front ++ count) ws refl ∙ stdin-of-arguments ws names None keep_going more tt
 stdin-of-arguments rest names threads keep_going (mark_and {rest = ws} more) plain = no-more keep_going_word ws refl ∙ stdin-of-arguments ws names threads false more plain
 
 one-once : (a : List ℕ) → stdin_once (a ∷ []) ≡ true
@@ -421,6 +460,7 @@ pub all-names : (rest names : List (List ℕ)) (threads : Option (List ℕ)) (ke
 all-names rest names threads keep_going no_words = tt
 all-names rest names threads keep_going (name_and {rest = ws} {names = ms} e more) = (e, all-names ws ms threads keep_going more)
 all-names rest names threads keep_going (threads_and {rest = ws} more) = all-names ws names None keep_going more
+all-names rest names threads keep_going (threads_with {rest = ws} more) = all-names ws names None keep_going more
 all-names rest names threads keep_going (mark_and {rest = ws} more) = all-names ws names threads false more
 
 names-of : {words names : List (List ℕ)} {first : List ℕ} {threads : Option (List ℕ)} {keep_going : Bool} → AreWords words first names threads keep_going → AllNames names
@@ -454,11 +494,13 @@ shape-of-command word ws (get script key moment keep_going) h =
 pub data Leads (word : List ℕ) (ws names : List (List ℕ)) (threads : Option (List ℕ)) (keep_going : Bool) : Type 0 where
   by_name : (more : List (List ℕ)) → is_file_name word ≡ true → names ≡ word ∷ more → AreArguments ws more threads keep_going → Leads word ws names threads keep_going
   by_threads : (count : List ℕ) (rest : List (List ℕ)) → word ≡ threads_word → ws ≡ count ∷ rest → threads ≡ Some count → AreArguments rest names None keep_going → Leads word ws names threads keep_going
+  by_joined : (count : List ℕ) → word ≡ threads_front ++ count → threads ≡ Some count → AreArguments ws names None keep_going → Leads word ws names threads keep_going
   by_mark : word ≡ keep_going_word → keep_going ≡ true → AreArguments ws names threads false → Leads word ws names threads keep_going
 
 pub leads : (word : List ℕ) (ws names : List (List ℕ)) (threads : Option (List ℕ)) (keep_going : Bool) → AreArguments (word ∷ ws) names threads keep_going → Leads word ws names threads keep_going
 leads word ws names threads keep_going (name_and {names = more} e a) = by_name more e refl a
 leads word ws names threads keep_going (threads_and {count = count} {rest = rest} a) = by_threads count rest refl refl refl a
+leads word ws names threads keep_going (threads_with {count = count} a) = by_joined count refl refl a
 leads word ws names threads keep_going (mark_and a) = by_mark refl refl a
 
 abbrev Same : List (List ℕ) → List (List ℕ) → Option (List ℕ) → Option (List ℕ) → Bool → Bool → Type 0
@@ -471,6 +513,7 @@ same-arguments ws names ms threads t keep_going g (name_and {word = word} {rest 
   go : Leads word rest ms t g → ((others : List (List ℕ)) → AreArguments rest others t g → Same more others threads t keep_going g) → Same (word ∷ more) ms threads t keep_going g
   go (by_name others f is c) onward = let r = onward others c in (ap (λ z. word ∷ z) r.0 ∙ sym is, r.1, r.2)
   go (by_threads count behind is f h c) onward = absurd (true≢false (sym e ∙ ap is_file_name is))
+  go (by_joined count is f c) onward = absurd (true≢false (sym e ∙ ap is_file_name is))
   go (by_mark is f c) onward = absurd (true≢false (sym e ∙ ap is_file_name is))
 same-arguments ws names ms threads t keep_going g (threads_and {count = count} {rest = rest} a) b = go (leads threads_word (count ∷ rest) ms t g b) (λ c. same-arguments rest names ms None None keep_going g a c) where
   go : Leads threads_word (count ∷ rest) ms t g → (AreArguments rest ms None g → Same names ms None None keep_going g) → Same names ms (Some count) t keep_going g
@@ -479,11 +522,21 @@ same-arguments ws names ms threads t keep_going g (threads_and {count = count} {
       let tail : behind ≡ rest = cc f in
       let head : count ≡ other = cc f in
       let r = onward (subst (λ (w : List (List ℕ)). AreArguments w ms None g) tail c) in (r.0, ap Some head ∙ sym h, r.2)
+  go (by_joined other is f c) onward = absurd (true≢false (ap (bytes_eq threads_word) is))
   go (by_mark is f c) onward = absurd (true≢false (ap (bytes_eq threads_word) is))
+same-arguments ws names ms threads t keep_going g (threads_with {count = count} {rest = rest} a) b = go (leads (threads_front ++ count) rest ms t g b) (λ c. same-arguments rest names ms None None keep_going g a c) where
+  go : Leads (threads_front ++ count) rest ms t g → (AreArguments rest ms None g → Same names ms None None keep_going g) → Same names ms (Some count) t keep_going g
+  go (by_name others f is c) onward = absurd (true≢false (sym f))
+  go (by_threads other behind is f h c) onward = absurd (true≢false (sym (ap (λ w. bytes_eq w threads_word) is)))
+  go (by_joined other is h c) onward =
+      let same : Some count ≡ Some other = ap (after_front threads_front) is in
+      let r = onward c in (r.0, same ∙ sym h, r.2)
+  go (by_mark is f c) onward = absurd (true≢false (sym (ap (λ w. bytes_eq w keep_going_word) is)))
 same-arguments ws names ms threads t keep_going g (mark_and {rest = rest} a) b = go (leads keep_going_word rest ms t g b) (λ c. same-arguments rest names ms threads t false false a c) where
   go : Leads keep_going_word rest ms t g → (AreArguments rest ms t false → Same names ms threads t false false) → Same names ms threads t true g
   go (by_name others f is c) onward = absurd (true≢false (sym f))
   go (by_threads other behind is f h c) onward = absurd (true≢false (ap (bytes_eq keep_going_word) is))
+  go (by_joined other is f c) onward = absurd (true≢false (ap (bytes_eq keep_going_word) is))
   go (by_mark is f c) onward = let r = onward c in (r.0, r.1, sym f)
 
 same-words : (words : List (List ℕ)) (first other : List ℕ) (names ms : List (List ℕ)) (threads t : Option (List ℕ)) (keep_going g : Bool) → AreWords words first names threads keep_going → AreWords words other ms t g → (first ≡ other) × (names ≡ ms) × (threads ≡ t) × (keep_going ≡ g)

@@ -1,14 +1,15 @@
 -- Which words ask for a page, and that they are no command.
-use Rattle.std.proofs.Common.{◌≡◌, refl, sym, ◌∙◌, ap, subst, ℕ, Bool, false, cond, List, [], ◌∷◌, codes, Option, Some, None, true≢false, inl, inr}
+use Rattle.std.proofs.Common.{◌≡◌, refl, sym, ◌∙◌, ap, subst, ℕ, Bool, false, cond, ◌||◌, List, [], ◌∷◌, ◌++◌, codes, Option, Some, None, true≢false, inl, inr}
 use Rattle.std.specs.Prelude.{bytes_eq, option_map, if◌then◌else◌}
 use Rattle.command_words.specs.declared.shape.Verb.{Verb}
 use Rattle.command_words.specs.declared.shape.Verb.TheVariants.{Run, List as Lists, Dump, Drill, Judge, Capture, Desk, Get}
 use Rattle.command_words.specs.declared.page.Page.{Page}
 use Rattle.command_words.specs.declared.page.Page.TheVariants.{Program, Command as On, Version}
 use Rattle.command_words.specs.GetWords.{Asked, asked, is_file_name, keep_going_word}
-use Rattle.command_words.specs.Words.{AreWords, AreGetWords, AreArguments, AsksFor, Command, run, list, dump, drill, judge, capture, desk, get, IsCommand, verb_word, threads_word}
+use Rattle.command_words.specs.Fronts.{after_front}
+use Rattle.command_words.specs.Words.{AreWords, AreGetWords, AreArguments, AsksFor, Command, run, list, dump, drill, judge, capture, desk, get, IsCommand, verb_word, threads_word, threads_front}
 use Rattle.command_words.specs.WordForms.{verb_of}
-use Rattle.command_words.proofs.CommandWords.{leads, Leads, by_name, by_threads, by_mark}
+use Rattle.command_words.proofs.CommandWords.{leads, Leads, by_name, by_threads, by_joined, by_mark}
 
 -- the verb that a word names
 named : List ℕ → Option Verb
@@ -42,7 +43,7 @@ no-help Get = refl
 -- the page that words ask for, if they do
 page_named : List (List ℕ) → Option Page
 page_named [] = None
-page_named (word ∷ []) = if bytes_eq word (codes "--version") then Some Version else Some Program
+page_named (word ∷ []) = if bytes_eq word (codes "--version") || bytes_eq word (codes "-V") then Some Version else Some Program
 page_named (first ∷ second ∷ rest) = option_map On (if bytes_eq first (codes "help") then named second else named first)
 
 asked-page : (words : List (List ℕ)) (page : Page) → AsksFor words page → page_named words ≡ Some page
@@ -53,7 +54,8 @@ asked-page words Program (inr (inr e)) = rw e refl
 asked-page words (On verb) (inl e) = rw (e, named-verb verb) refl
 asked-page words (On verb) (inr (inl e)) = rw (e, no-help verb, named-verb verb) refl
 asked-page words (On verb) (inr (inr e)) = rw (e, no-help verb, named-verb verb) refl
-asked-page words Version e = rw e refl
+asked-page words Version (inl e) = rw e refl
+asked-page words Version (inr e) = rw e refl
 
 -- The words of a page ask for no other.
 pub one-page : (words : List (List ℕ)) (p q : Page) → AsksFor words p → AsksFor words q → p ≡ q
@@ -72,23 +74,24 @@ behind : (words names : List (List ℕ)) (verb : Verb) (threads : Option (List �
 behind words names verb threads keep_going a = record { rest = a.rest; names = names; threads = threads; keep_going = keep_going; words_are = a.words_are; arguments = a.arguments }
 
 -- Another word with a dash is no argument.
-no-argument : (word : List ℕ) (ws names : List (List ℕ)) (threads : Option (List ℕ)) (keep_going : Bool) → is_file_name word ≡ false → bytes_eq word threads_word ≡ false → bytes_eq word keep_going_word ≡ false
+no-argument : (word : List ℕ) (ws names : List (List ℕ)) (threads : Option (List ℕ)) (keep_going : Bool) → is_file_name word ≡ false → bytes_eq word threads_word ≡ false → after_front threads_front word ≡ None → bytes_eq word keep_going_word ≡ false
     → AreArguments (word ∷ ws) names threads keep_going → ⊥
-no-argument word ws names threads keep_going dash other another a = go (leads word ws names threads keep_going a) where
+no-argument word ws names threads keep_going dash other alone another a = go (leads word ws names threads keep_going a) where
   go : Leads word ws names threads keep_going → ⊥
   go (by_name more e is b) = true≢false (sym e ∙ dash)
   go (by_threads count rest is f h b) = true≢false (sym (ap (λ w. bytes_eq w threads_word) is) ∙ other)
+  go (by_joined count is f b) = let some : Some count ≡ None = sym (ap (after_front threads_front) is) ∙ alone in cc some
   go (by_mark is f b) = true≢false (sym (ap (λ w. bytes_eq w keep_going_word) is) ∙ another)
 
 module _ (words : List (List ℕ)) (c : Command) (b : Behind words (verb_of c)) where
   other-first : (word : List ℕ) (ws : List (List ℕ)) → named word ≡ None → words ≡ word ∷ ws → ⊥
   other-first word ws none e = let both : verb_word (verb_of c) ∷ b.rest ≡ word ∷ ws = sym b.words_are ∙ e in no-verb (verb_of c) word none (cc both)
 
-  other-second : (first word : List ℕ) → is_file_name word ≡ false → bytes_eq word threads_word ≡ false → bytes_eq word keep_going_word ≡ false → words ≡ first ∷ word ∷ [] → ⊥
-  other-second first word dash other another e =
+  other-second : (first word : List ℕ) → is_file_name word ≡ false → bytes_eq word threads_word ≡ false → after_front threads_front word ≡ None → bytes_eq word keep_going_word ≡ false → words ≡ first ∷ word ∷ [] → ⊥
+  other-second first word dash other alone another e =
       let both : verb_word (verb_of c) ∷ b.rest ≡ first ∷ word ∷ [] = sym b.words_are ∙ e in
       let rest : b.rest ≡ word ∷ [] = cc both in
-      no-argument word [] b.names b.threads b.keep_going dash other another (subst (λ (ws : List (List ℕ)). AreArguments ws b.names b.threads b.keep_going) rest b.arguments)
+      no-argument word [] b.names b.threads b.keep_going dash other alone another (subst (λ (ws : List (List ℕ)). AreArguments ws b.names b.threads b.keep_going) rest b.arguments)
 
   no-page : (page : Page) → AsksFor words page → ⊥
   unfolding named
@@ -96,9 +99,10 @@ module _ (words : List (List ℕ)) (c : Command) (b : Behind words (verb_of c)) 
   no-page Program (inr (inl e)) = other-first (codes "--help") [] refl e
   no-page Program (inr (inr e)) = other-first (codes "-h") [] refl e
   no-page (On verb) (inl e) = other-first (codes "help") (verb_word verb ∷ []) refl e
-  no-page (On verb) (inr (inl e)) = other-second (verb_word verb) (codes "--help") refl refl refl e
-  no-page (On verb) (inr (inr e)) = other-second (verb_word verb) (codes "-h") refl refl refl e
-  no-page Version e = other-first (codes "--version") [] refl e
+  no-page (On verb) (inr (inl e)) = other-second (verb_word verb) (codes "--help") refl refl refl refl e
+  no-page (On verb) (inr (inr e)) = other-second (verb_word verb) (codes "-h") refl refl refl refl e
+  no-page Version (inl e) = other-first (codes "--version") [] refl e
+  no-page Version (inr e) = other-first (codes "-V") [] refl e
 
 module _ (words : List (List ℕ)) (asks : Asked) (h : AreGetWords words asks) where
   get-first : (word : List ℕ) (ws : List (List ℕ)) → named word ≡ None → words ≡ word ∷ ws → ⊥
@@ -119,7 +123,8 @@ module _ (words : List (List ℕ)) (asks : Asked) (h : AreGetWords words asks) w
   no-page-of-get (On verb) (inl e) = get-first (codes "help") (verb_word verb ∷ []) refl e
   no-page-of-get (On verb) (inr (inl e)) = get-second (verb_word verb) (codes "--help") refl e
   no-page-of-get (On verb) (inr (inr e)) = get-second (verb_word verb) (codes "-h") refl e
-  no-page-of-get Version e = get-first (codes "--version") [] refl e
+  no-page-of-get Version (inl e) = get-first (codes "--version") [] refl e
+  no-page-of-get Version (inr e) = get-first (codes "-V") [] refl e
 
 -- Words that ask for a page are no command.
 pub page-no-command : (words : List (List ℕ)) (page : Page) (c : Command) → AsksFor words page → IsCommand words c → ⊥

@@ -2,6 +2,7 @@
 use Rattle.std.specs.Prelude.{ℕ, Bool, true, false, ◌&&◌, not, ◌==◌, if◌then◌else◌, List, [], ◌∷◌, codes, bytes_eq, Option, Some, None, option_map}
 use Rattle.std.specs.Bool.{then_some}
 use Rattle.std.specs.List.{list_all}
+use Rattle.command_words.specs.Fronts.{after_front}
 use Rattle.command_words.specs.Numbers.{number_within}
 
 -- A name isn't empty and doesn't begin with a dash. The exception is `-` itself, the standard input.
@@ -15,6 +16,10 @@ keep_going_word = codes "--keep-going"
 
 abbrev pub at_word : List ℕ
 at_word = codes "--at"
+
+-- what the moment follows in one word
+abbrev pub at_front : List ℕ
+at_front = codes "--at="
 
 -- the latest moment, in milliseconds
 abbrev pub last_moment : ℕ
@@ -33,15 +38,24 @@ abbrev pub after_mark : List (List ℕ) → Bool × List (List ℕ)
 after_mark [] = (false, [])
 after_mark (word ∷ rest) = if bytes_eq word keep_going_word then (true, rest) else (false, word ∷ rest)
 
--- the number at the front of words, and the words after it
+-- the moment that a word is, and the words after it
+abbrev pub moment_before : List ℕ → List (List ℕ) → Option (Option ℕ × List (List ℕ))
+moment_before word rest = option_map (λ n. (Some n, rest)) (number_within 0 last_moment word)
+
+-- the moment at the front of words, and the words after it
 abbrev pub after_number : List (List ℕ) → Option (Option ℕ × List (List ℕ))
 after_number [] = None
-after_number (word ∷ rest) = option_map (λ n. (Some n, rest)) (number_within 0 last_moment word)
+after_number (word ∷ rest) = moment_before word rest
 
--- The moment if `--at` comes first, and the words after it. If a word that is no moment follows `--at`, there is none.
+-- The moment that follows `--at=` in the first of the words, and the words after it. If there is none, the words stay.
+abbrev pub after_joined : Option (List ℕ) → List (List ℕ) → List (List ℕ) → Option (Option ℕ × List (List ℕ))
+after_joined None words rest = Some (None, words)
+after_joined (Some number) words rest = moment_before number rest
+
+-- The moment if `--at` or `--at=` comes first, and the words after it. If what follows is no moment, there is none.
 abbrev pub after_at : List (List ℕ) → Option (Option ℕ × List (List ℕ))
 after_at [] = Some (None, [])
-after_at (word ∷ rest) = if bytes_eq word at_word then after_number rest else Some (None, word ∷ rest)
+after_at (word ∷ rest) = if bytes_eq word at_word then after_number rest else after_joined (after_front at_front word) (word ∷ rest) rest
 
 -- The script and the key: a name, and one or more words of which none begins with a dash.
 abbrev pub question : Bool → Option ℕ → List ℕ → List (List ℕ) → Option Asked

@@ -1,4 +1,5 @@
 pub mod Numbers
+pub mod Fronts
 pub mod GetWords
 pub mod GetAsked
 pub mod Words

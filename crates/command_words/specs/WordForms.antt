@@ -17,9 +17,10 @@ use Rattle.command_words.specs.declared.words.Command.TheVariants as asked
 use Rattle.command_words.specs.declared.page.Page.{Page}
 use Rattle.command_words.specs.declared.page.Page.TheVariants as pages
 use Rattle.command_words.specs.declared.help.TheConstants.{PROGRAM, RUN, LIST, DUMP, DRILL, JUDGE, CAPTURE, DESK, GET, VERSION}
+use Rattle.command_words.specs.Fronts.{after_front}
 use Rattle.command_words.specs.Numbers.{number_within}
 use Rattle.command_words.specs.GetWords.{asked, is_file_name, keep_going_word}
-use Rattle.command_words.specs.Words.{Command, run, list, dump, drill, judge, capture, desk, get, IsCommand, is_stdin, threads_word, last_seed, most_drill_elements}
+use Rattle.command_words.specs.Words.{Command, run, list, dump, drill, judge, capture, desk, get, IsCommand, is_stdin, threads_word, threads_front, last_seed, most_drill_elements}
 
 -- How many names a command has. The words of `get` have a reading of their own, and no shape.
 abbrev pub name_count : Verb → ℕ
@@ -76,12 +77,17 @@ takes_name verb place word = nat_lt place (name_count verb) && is_name_of verb p
 abbrev pub with_threads : Shape → List ℕ → Option Shape
 with_threads s word = then_some (is_some (number_within 1 16 word)) (record s { waiting = false })
 
+-- the shape with a word that begins with `--threads=`, whose number this is, or with a name
+abbrev pub with_joined : Verb → Shape → List ℕ → Option (List ℕ) → Option Shape
+with_joined verb s word None = then_some (takes_name verb s.names word) (record s { names = s.names + 1 })
+with_joined verb s word (Some count) = then_some ((takes_threads verb && not s.threads) && is_some (number_within 1 16 count)) (record s { threads = true })
+
 -- the shape with a word that is no such number
 abbrev pub with_argument : Verb → Shape → List ℕ → Option Shape
 with_argument verb s word =
     if bytes_eq word threads_word then then_some (takes_threads verb && not s.threads) (record s { threads = true; waiting = true })
     else (if bytes_eq word keep_going_word then then_some (takes_mark verb && not s.keep_going) (record s { keep_going = true })
-    else then_some (takes_name verb s.names word) (record s { names = s.names + 1 }))
+    else with_joined verb s word (after_front threads_front word))
 
 abbrev pub with_word : Verb → Shape → List ℕ → Option Shape
 with_word verb s word = if s.waiting then with_threads s word else with_argument verb s word

@@ -1,5 +1,5 @@
 -- The words of a command, and of help.
-use Rattle.std.specs.Prelude.{◌≡◌, ◌≤◌, ◌⊎◌, ℕ, Bool, true, false, List, [], ◌∷◌, codes, bytes_eq, decimal, Option, Some, None, slice_get, IsTrue}
+use Rattle.std.specs.Prelude.{◌≡◌, ◌≤◌, ◌⊎◌, ℕ, Bool, true, false, List, [], ◌∷◌, ◌++◌, codes, bytes_eq, decimal, Option, Some, None, slice_get, IsTrue}
 use Rattle.std.specs.List.{count_by}
 use Rattle.command_words.specs.declared.shape.Verb.{Verb}
 use Rattle.command_words.specs.declared.shape.Verb.TheVariants as verbs
@@ -28,13 +28,18 @@ verb_word verbs.Get = codes "get"
 abbrev pub threads_word : List ℕ
 threads_word = codes "--threads"
 
+-- what the count of threads follows in one word
+abbrev pub threads_front : List ℕ
+threads_front = codes "--threads="
+
 -- The words that may follow a command's word, in any order: names; at most once `--threads` and the
--- word after it, whatever that is; at most once `--keep-going`.
+-- word after it, whatever that is, or both in one word with `=` between them; at most once `--keep-going`.
 pub data AreArguments : List (List ℕ) → List (List ℕ) → Option (List ℕ) → Bool → Type 0 where
   no_words : AreArguments [] [] None false
   name_and : {word : List ℕ} {rest names : List (List ℕ)} {threads : Option (List ℕ)} {keep_going : Bool} → IsTrue (is_file_name word) → AreArguments rest names threads keep_going
       → AreArguments (word ∷ rest) (word ∷ names) threads keep_going
   threads_and : {count : List ℕ} {rest names : List (List ℕ)} {keep_going : Bool} → AreArguments rest names None keep_going → AreArguments (threads_word ∷ count ∷ rest) names (Some count) keep_going
+  threads_with : {count : List ℕ} {rest names : List (List ℕ)} {keep_going : Bool} → AreArguments rest names None keep_going → AreArguments ((threads_front ++ count) ∷ rest) names (Some count) keep_going
   mark_and : {rest names : List (List ℕ)} {threads : Option (List ℕ)} → AreArguments rest names threads false → AreArguments (keep_going_word ∷ rest) names threads true
 
 -- The words are this one and these arguments.
@@ -102,7 +107,7 @@ IsCommand words (get script key moment keep_going) = AreGetWords words (record {
 abbrev pub AsksFor : List (List ℕ) → Page → Type 0
 AsksFor words pages.Program = (words ≡ codes "help" ∷ []) ⊎ (words ≡ codes "--help" ∷ []) ⊎ (words ≡ codes "-h" ∷ [])
 AsksFor words (pages.Command verb) = (words ≡ codes "help" ∷ verb_word verb ∷ []) ⊎ (words ≡ verb_word verb ∷ codes "--help" ∷ []) ⊎ (words ≡ verb_word verb ∷ codes "-h" ∷ [])
-AsksFor words pages.Version = words ≡ codes "--version" ∷ []
+AsksFor words pages.Version = (words ≡ codes "--version" ∷ []) ⊎ (words ≡ codes "-V" ∷ [])
 
 -- The words are no command, and ask for no such text.
 pub record IsNoCommand (words : List (List ℕ)) : Type 0 where

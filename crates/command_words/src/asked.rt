@@ -5,9 +5,12 @@ ghost use Rattle.std.specs.String.{string_bytes};
 ghost use Rattle.command_words.specs.GetWords as forms;
 ghost use Rattle.command_words.specs.GetAsked.{plain_asked};
 
-use crate::shape::{KEEP_GOING, is_name, number_of};
+use crate::shape::{KEEP_GOING, behind, is_name, number_of};
 
 const AT: &str = "--at";
+
+/// What the moment follows in one word.
+const AT_FRONT: &str = "--at=";
 
 /// The latest moment, in milliseconds.
 pub const LAST_MOMENT: u64 = 1_000_000_000_000_000;
@@ -35,19 +38,39 @@ fn after_mark(words: &[String]) -> (bool, &[String])
     }
 }
 
+/// The moment that a word is, and the words after it.
+fn moment_before<'a>(word: &str, rest: &'a [String]) -> Option<(Option<u64>, &'a [String])>
+    ensures { option_map (λ f. (f.0, map string_bytes f.1.now)) result ≡ forms.moment_before word.now (map string_bytes rest.now) }
+{
+    match number_of(word, 0, LAST_MOMENT) {
+        Some(moment) => Some((Some(moment), rest)),
+        None => None,
+    }
+}
+
+/// The moment that follows `--at=` in the first word, if there is one, and the words after it.
+fn after_joined<'a>(
+    number: Option<&str>,
+    words: &'a [String],
+    rest: &'a [String],
+) -> Option<(Option<u64>, &'a [String])>
+    ensures { option_map (λ f. (f.0, map string_bytes f.1.now)) result ≡ forms.after_joined (option_map (λ s. s.now) number.entry) (map string_bytes words.now) (map string_bytes rest.now) }
+{
+    match number {
+        Some(number) => moment_before(number, rest),
+        None => Some((None, words)),
+    }
+}
+
 /// The moment if one comes first, and the words after it; `None` if `--at` has no moment.
 fn after_at(words: &[String]) -> Option<(Option<u64>, &[String])>
     ensures { option_map (λ f. (f.0, map string_bytes f.1.now)) result ≡ forms.after_at (map string_bytes words.now) }
 {
     match words {
-        [at, number, rest @ ..] if at.as_str() == AT => {
-            match number_of(number.as_str(), 0, LAST_MOMENT) {
-                Some(moment) => Some((Some(moment), rest)),
-                None => None,
-            }
-        }
+        [at, number, rest @ ..] if at.as_str() == AT => moment_before(number.as_str(), rest),
         [at] if at.as_str() == AT => None,
-        _ => Some((None, words)),
+        [first, rest @ ..] => after_joined(behind(first.as_str(), AT_FRONT), words, rest),
+        [] => Some((None, words)),
     }
 }
 

@@ -16,17 +16,20 @@ usage: pipapo run SCRIPT KEYS [--threads N] [--keep-going]
        pipapo desk SCRIPT [--keep-going]
        pipapo get [--at MOMENT] [--keep-going] SCRIPT KEY ..
        pipapo help [COMMAND], pipapo [COMMAND] --help, pipapo [COMMAND] -h
-       pipapo --version
+       pipapo --version, pipapo -V
 
 commands:
-  run      runs SCRIPT beside the packets of KEYS, and writes the transcript
-  list     runs SCRIPT, and lists its last generation as a script
-  dump     runs SCRIPT, and writes the tables of its last generation
-  drill    runs a workload drawn from SEED, and writes one line on it
-  judge    as run, but each packet is judged by the chains of RULES
-  capture  as run, but the packets are those that PLAN takes from the capture PCAP
-  desk     runs the sections of SCRIPT by several control threads, and lists the result
-  get      runs SCRIPT, and prints the element that holds a key, with the line that added it
+  to ask what holds a key:
+    get      runs SCRIPT, and prints the element that holds a key, with the line that added it
+  to run a script:
+    run      runs SCRIPT beside the packets of KEYS, and writes the transcript
+    judge    as run, but each packet is judged by the chains of RULES
+    capture  as run, but the packets are those that PLAN takes from the capture PCAP
+    desk     runs the sections of SCRIPT by several control threads, and lists the result
+    drill    runs a workload drawn from SEED, and writes one line on it
+  to convert a script:
+    list     runs SCRIPT, and lists its last generation as a script
+    dump     runs SCRIPT, and writes the tables of its last generation
 
 SCRIPT is in a subset of the language of nft(8), and KEYS has a packet's key in each line.
 RULES has chains of rules over the sets, PLAN says which fields of a frame are the keys of a
@@ -36,6 +39,7 @@ options, in any order among the names:
   --threads N    packet threads beside the control: 1 to 16, and else 1
   --keep-going   a refused change is skipped, and doesn't fail its transaction
   --at MOMENT    the moment of a get, in milliseconds; the options of get come before SCRIPT
+A value may also follow its option in one word, as --threads=4.
 
 statuses:
   0   the whole output was written, and no change was refused
@@ -62,6 +66,22 @@ Runs SCRIPT beside the packets of the key file KEYS, and writes the transcript: 
 of every transaction, each refused change with its line, and a verdict for each packet. One
 of both names may be -, the standard input.
 
+An example, to be pasted into a shell:
+
+  echo 'add set ip t web { type ipv4_addr . inet_service; flags interval; }
+  add element ip t web { 192.0.2.0/24 . 80-443 }' > web.nft
+  echo 'ip t web 192.0.2.7 . 443
+  ip t web 192.0.2.7 . 22' > web.keys
+  pipapo run web.nft web.keys
+
+It prints the commit, and a line for each packet. The first packet gets element 0:
+
+  commit generation 1 purged 0
+  packet 0 thread 0 generation 1 element 0
+  packet 1 thread 0 generation 1 none
+
+purged is the number of elements that the commit left out because they had expired.
+
 options, in any order among the names:
   --threads N    packet threads beside the control: 1 to 16, and else 1
   --keep-going   a refused change is skipped, and doesn't fail its transaction
@@ -77,7 +97,7 @@ usage: pipapo list SCRIPT [--keep-going]
 Runs SCRIPT, and writes what became of its transactions as comments, and then the sets of the
 last generation as a script. SCRIPT may be -, the standard input.
 
-options, before or behind the name:
+options, before or after the name:
   --keep-going   a refused change is skipped, and doesn't fail its transaction
 
 statuses: 0 done, 1 done with a refused change, 3 SCRIPT isn't in its grammar, 5 it can't be
@@ -91,7 +111,7 @@ usage: pipapo dump SCRIPT [--keep-going]
 Runs SCRIPT, and writes what became of its transactions as comments, and then the tables of
 the last generation: rows of bits, mappings and ends. SCRIPT may be -, the standard input.
 
-options, before or behind the name:
+options, before or after the name:
   --keep-going   a refused change is skipped, and doesn't fail its transaction
 
 statuses: 0 done, 1 done with a refused change, 3 SCRIPT isn't in its grammar, 5 it can't be
@@ -154,9 +174,10 @@ Runs the first section of SCRIPT alone, and then each of the others, 16 at most,
 thread of its own: all submit their transactions to one control, and one that was prepared
 against an older generation is submitted again. Writes what became of the transactions, in the
 order in which they were done, as comments, and then the sets of the last generation as a
-script. SCRIPT may be -, the standard input.
+script. In a comment the word clerk is a control thread, with its number: clerk 2 runs the third
+section. SCRIPT may be -, the standard input.
 
-options, before or behind the name:
+options, before or after the name:
   --keep-going   a refused change is skipped, and doesn't fail its transaction
 
 statuses: 0 done, 1 done with a refused change, 3 SCRIPT isn't in its grammar, 12 it has more

@@ -9,7 +9,9 @@
 //!     drill 1 20001                             no command: more than 20,000 elements
 //!     get --at 500 allow.nft ip t p 10.0.0.5    a question for the key `ip t p 10.0.0.5` at moment 500
 //!     get allow.nft ip t p 10.0.0.5 --at 500    no command: an option comes after the script
+//!     run --threads=4 allow.nft packets.keys    the same as with `--threads 4`
 //!     help run                                  the page of help on `run`
+//!     -V                                        the page of the version
 //!
 //! The first word is the command. Names and options follow in any order. The options of `get` come
 //! before the script, since all words after it are the key. [`command_of`] returns the
@@ -27,6 +29,7 @@ mod page;
 mod shape;
 mod words;
 
+pub use asked::LAST_MOMENT;
 pub use page::{Page, page_of};
-pub use shape::Verb;
+pub use shape::{MOST_ELEMENTS, MOST_THREADS, Verb, number_of};
 pub use words::{Command, Task, WordsError, command_of};

@@ -44,7 +44,7 @@ fn page_alone(word: &str) -> Option<Page>
 {
     match word {
         "help" | "--help" | "-h" => Some(Page::Program),
-        "--version" => Some(Page::Version),
+        "--version" | "-V" => Some(Page::Version),
         _ => None,
     }
 }

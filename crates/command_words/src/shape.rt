@@ -1,14 +1,18 @@
-ghost use Rattle.std.specs.Prelude.{◌≡◌, ◌∷◌, map, None, Some, IfSome};
+ghost use Rattle.std.specs.Prelude.{◌≡◌, ◌∷◌, map, None, Some, IfSome, option_map};
 ghost use Rattle.std.specs.String.{string_bytes};
 ghost use Rattle.command_words.specs.GetWords.{is_file_name as name_test};
 ghost use Rattle.command_words.specs.Words.{IsCommand, verb_word};
+ghost use Rattle.command_words.specs.Fronts.{after_front};
 ghost use Rattle.command_words.specs.Numbers.{number_within};
-ghost use Rattle.command_words.specs.WordForms.{HasVerb, accepts, has_shape as shape_test, drill_number as number_at, takes_threads as threads_test, takes_mark as mark_test, takes_name as name_fits, name_count as count_of_names, with_word as next_shape, with_threads as counted_shape, with_argument as argument_shape, empty_shape as begun_shape, stdin_once as names_once};
+ghost use Rattle.command_words.specs.WordForms.{HasVerb, accepts, has_shape as shape_test, drill_number as number_at, takes_threads as threads_test, takes_mark as mark_test, takes_name as name_fits, name_count as count_of_names, with_word as next_shape, with_threads as counted_shape, with_joined as joined_shape, with_argument as argument_shape, empty_shape as begun_shape, stdin_once as names_once};
 
 use crate::asked::asked_by;
 use itoa::Buffer;
 
 const THREADS: &str = "--threads";
+
+/// What the count of packet threads follows in one word.
+const THREADS_FRONT: &str = "--threads=";
 
 pub(crate) const KEEP_GOING: &str = "--keep-going";
 
@@ -78,6 +82,13 @@ pub fn number_of(word: &str, low: u64, high: u64) -> Option<u64>
     } else {
         None
     }
+}
+
+/// What comes after a front, if the word begins with it.
+pub(crate) fn behind<'a>(word: &'a str, front: &str) -> Option<&'a str>
+    ensures { option_map (λ s. s.now) result ≡ after_front front.now word.now }
+{
+    word.strip_prefix(front)
 }
 
 /// The number at a place of a drill: first the seed, and then the number of elements.
@@ -177,6 +188,26 @@ impl Shape {
             .then_some(counted)
     }
 
+    /// The shape after a word that begins with `--threads=`, whose number this is, or after a name.
+    fn with_joined(self, verb: Verb, word: &str, count: Option<&str>) -> Option<Shape>
+        ensures { result ≡ joined_shape verb self word.now (option_map (λ s. s.now) count.entry) }
+    {
+        let with_threads = Shape {
+            threads: true,
+            ..self
+        };
+        match count {
+            Some(count) => (verb.takes_threads()
+                && !self.threads
+                && number_of(count, 1, MOST_THREADS).is_some()).then_some(with_threads),
+            None if verb.takes_name(self.names, word) => Some(Shape {
+                names: self.names + 1,
+                ..self
+            }),
+            None => None,
+        }
+    }
+
     /// The shape after a word that is a name or an option.
     fn with_argument(self, verb: Verb, word: &str) -> Option<Shape>
         ensures { result ≡ argument_shape verb self word.now }
@@ -194,13 +225,8 @@ impl Shape {
                 ..self
             };
             (verb.takes_mark() && !self.keep_going).then_some(with_mark)
-        } else if verb.takes_name(self.names, word) {
-            Some(Shape {
-                names: self.names + 1,
-                ..self
-            })
         } else {
-            None
+            self.with_joined(verb, word, behind(word, THREADS_FRONT))
         }
     }
 

@@ -7,12 +7,14 @@ use set_model::Memory;
 use std::alloc::Global;
 use text_pieces::{Piece, append_pieces};
 
-/// What is wrong with a token, and what to do.
+/// What is wrong with a token or a word, and what to do.
 #[derive(Drop)]
-pub(crate) struct Explained {
+pub struct Explained {
     pub(crate) alloc: Global,
-    pub(crate) wrong: Note,
-    pub(crate) help: Note,
+    /// What is wrong, in one line without its end.
+    pub wrong: Note,
+    /// What to do, in one line without its end.
+    pub help: Note,
 }
 
 /// A bad token of a script, and what surrounds it.
@@ -49,7 +51,8 @@ impl Note {
 }
 
 impl Explained {
-    pub(crate) fn new(alloc: Global) -> Explained {
+    /// Nothing is said yet. It takes no memory.
+    pub fn new(alloc: Global) -> Explained {
         Explained {
             alloc,
             wrong: Note::new(alloc),
@@ -58,20 +61,32 @@ impl Explained {
     }
 
     /// Says what is wrong, after the token, and what to do.
-    pub(crate) fn say(&mut self, wrong: &[u8], help: &[u8]) -> Result<(), Memory> {
+    ///
+    /// # Errors
+    ///
+    /// `Memory` if memory runs out.
+    pub fn say(&mut self, wrong: &[u8], help: &[u8]) -> Result<(), Memory> {
         self.wrong.say(wrong)?;
         self.help.say(help)
     }
 
     /// Says what is wrong, after the token, and what to do, each in pieces.
-    pub(crate) fn tell(&mut self, wrong: &[Piece], help: &[Piece]) -> Result<(), Memory> {
+    ///
+    /// # Errors
+    ///
+    /// `Memory` if memory runs out.
+    pub fn tell(&mut self, wrong: &[Piece], help: &[Piece]) -> Result<(), Memory> {
         self.wrong.pieces(self.alloc, wrong)?;
         self.help.pieces(self.alloc, help)
     }
 
     /// Says what is wrong, and which of these words was probably meant. If none is near, says what may
     /// come there.
-    pub(crate) fn suggest(
+    ///
+    /// # Errors
+    ///
+    /// `Memory` if memory runs out.
+    pub fn suggest(
         &mut self,
         wrong: &[u8],
         word: &[u8],

@@ -2,6 +2,7 @@
 ghost use Rattle.std.specs.Prelude.{IfOk};
 ghost use Rattle.fault_notes.specs.Shown.{Begins, name_text};
 
+use crate::explained::Explained;
 use crate::note::Note;
 use pip_base::FaultKind;
 use set_model::Memory;
@@ -25,6 +26,23 @@ fn on_file(alloc: Global, name: &str, what: &[u8]) -> Result<Note, Memory>
     said.say(what)?;
     said.end_line()?;
     told_of(alloc, name, &said)
+}
+
+/// A note of two lines under a name: what is wrong, and what to do.
+///
+/// # Errors
+///
+/// `Memory` if memory runs out.
+pub fn explained_note(alloc: Global, name: &str, said: &Explained) -> Result<Note, Memory>
+    ensures name { IfOk result (λ note. Begins (name_text name.now) note.bytes.items) }
+{
+    let mut lines = Note::new(alloc);
+    lines.join(&said.wrong)?;
+    lines.end_line()?;
+    lines.say(b"help: ")?;
+    lines.join(&said.help)?;
+    lines.end_line()?;
+    told_of(alloc, name, &lines)
 }
 
 /// The system's reason for a fault, in the system's words.

@@ -45,7 +45,8 @@ mod words;
 
 pub use bad::bad_text_note;
 pub use captures::capture_note;
-pub use files::{read_fault_note, too_large_note, too_many_clerks_note};
+pub use explained::Explained;
+pub use files::{explained_note, read_fault_note, too_large_note, too_many_clerks_note};
 pub use help::TextKind;
 pub use note::Note;
 pub use pcap_keys::CaptureReason;

@@ -66,7 +66,11 @@ impl Note {
     }
 
     /// Adds a text, with each byte as it is shown.
-    pub(crate) fn say(&mut self, text: &[u8]) -> Result<(), Memory>
+    ///
+    /// # Errors
+    ///
+    /// `Memory` if memory runs out.
+    pub fn say(&mut self, text: &[u8]) -> Result<(), Memory>
         ensures { OnOk result (self.new.bytes.items ≡ self.old.bytes.items ++ shown text.now) }
     {
         for byte in text {

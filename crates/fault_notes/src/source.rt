@@ -109,7 +109,11 @@ impl Note {
     }
 
     /// Adds a token between quotes, cut if it is long.
-    pub(crate) fn quoted(&mut self, token: &[u8]) -> Result<(), Memory> {
+    ///
+    /// # Errors
+    ///
+    /// `Memory` if memory runs out.
+    pub fn quoted(&mut self, token: &[u8]) -> Result<(), Memory> {
         self.say(b"'")?;
         self.say(first_of(token, OF_TOKEN))?;
         self.say(if token.len() > OF_TOKEN { b"..'" } else { b"'" })

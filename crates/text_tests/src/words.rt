@@ -171,7 +171,12 @@ const NO_COMMANDS: &[u8] = b"\
     run a b --threads|no command~\
     run a b --threads --keep-going|no command~\
     run a b --threads 1 --threads 1|no command~\
-    run a b --threads=1|no command~\
+    run a b --threads=17|no command~\
+    run a b --threads=|no command~\
+    run a b --threads=01|no command~\
+    run a b --threads=1 --threads 1|no command~\
+    run a b --threads 1 --threads=1|no command~\
+    run --threads=1|no command~\
     run a --threads b|no command~\
     run a b --keep-going --keep-going|no command~\
     run a b --keep-going=1|no command~\
@@ -180,6 +185,7 @@ const NO_COMMANDS: &[u8] = b"\
     list|no command~\
     list a b|no command~\
     list a --threads 1|no command~\
+    list a --threads=1|no command~\
     dump --|no command~\
     dump a --keep|no command~\
     dump a --threads 1|no command~\
@@ -214,12 +220,19 @@ const NO_COMMANDS: &[u8] = b"\
     run a --help|no command~\
     run --help a|no command~\
     --version run|no command~\
+    -V run|no command~\
+    -V --version|no command~\
     run --version|no command~\
     get|no command~\
     get a|no command~\
     get a t s 1 --at 5|no command~\
     get --at a t s 1|no command~\
     get --at 1000000000000001 a t s 1|no command~\
+    get --at=1000000000000001 a t s 1|no command~\
+    get --at= a t s 1|no command~\
+    get --at=1 --at 1 a t s 1|no command~\
+    get a t s 1 --at=1|no command~\
+    --at=1 get a t s 1|no command~\
     -|no command~\
 ";
 
@@ -229,6 +242,8 @@ const COMMANDS: &[u8] = b"\
     run --threads 16 16 b|run 16 b  16 false~\
     run a --threads 9 --keep-going b|run a b  9 true~\
     run --keep-going a b --threads 1|run a b  1 true~\
+    run a b --threads=1|run a b  1 false~\
+    run --threads=16 a --keep-going b|run a b  16 true~\
     run - b|run - b  1 false~\
     run a - --keep-going|run a -  1 true~\
     list --keep-going c|list c   0 true~\
@@ -238,6 +253,7 @@ const COMMANDS: &[u8] = b"\
     dump --keep-going -|dump -   0 true~\
     drill 18446744073709551615 20000|drill 18446744073709551615 20000 1~\
     drill 0 --threads 4 1|drill 0 1 4~\
+    drill 0 1 --threads=4|drill 0 1 4~\
     judge a b c|judge a b c 1 false~\
     judge a --threads 3 - --keep-going c|judge a - c 3 true~\
     capture a b -|capture a b - 1 false~\
@@ -248,6 +264,8 @@ const COMMANDS: &[u8] = b"\
     get a t s 1|get a 3 1 0 false~\
     get --at 1000000000000000 --keep-going - t s 1 . 2|get - 5 2 1000000000000000 true~\
     get --keep-going --at 5 get get|get get 1 get 5 true~\
+    get --at=5 --keep-going get get|get get 1 get 5 true~\
+    get --keep-going --at=0 a t s 1|get a 3 1 0 true~\
 ";
 
 /// Words that ask for a page.
@@ -256,6 +274,7 @@ const PAGES: &[u8] = b"\
     --help|pipapo runs nftables set scripts and looks packets up in the sets.~\
     -h|pipapo runs nftables set scripts and looks packets up in the sets.~\
     --version|pipapo 0.2.0~\
+    -V|pipapo 0.2.0~\
     help run|usage: pipapo run SCRIPT KEYS [--threads N] [--keep-going]~\
     run --help|usage: pipapo run SCRIPT KEYS [--threads N] [--keep-going]~\
     run -h|usage: pipapo run SCRIPT KEYS [--threads N] [--keep-going]~\
@@ -284,7 +303,7 @@ const PAGES: &[u8] = b"\
 
 #[test]
 fn words_of_a_command(rt: HostRuntime) {
-    assert_told(&rt, rt.alloc(), NO_COMMANDS, 66, asked);
-    assert_told(&rt, rt.alloc(), COMMANDS, 23, asked);
-    assert_told(&rt, rt.alloc(), PAGES, 28, asked);
+    assert_told(&rt, rt.alloc(), NO_COMMANDS, 79, asked);
+    assert_told(&rt, rt.alloc(), COMMANDS, 28, asked);
+    assert_told(&rt, rt.alloc(), PAGES, 29, asked);
 }

@@ -31,7 +31,7 @@ use Rattle.top_call.specs.Lines.{done_status, form_status, file_status, status_o
 use Rattle.top_call.specs.Answers.{Ends, EndsDuly, written, cut, memory, IsDue, output, page, refusal, Delivers}
 use Rattle.top_call.specs.Exactly.{HasTurn, IsExact, IsStatus, Completes, DeliversText, DeliversRun, DeliversJudgement, DeliversDesk, DeliversAnswer, HasScript, RanOut}
 use Rattle.top_call.specs.Promises.{Promises, Goes}
-use Rattle.top_call.proofs.Noting.{no-note}
+use Rattle.top_call.proofs.Noting.{no-note, page-quiet}
 use Rattle.top_call.proofs.Endings.{does, page-told, transcribes, judges, captures, lists, dumps, weaves, answers-keys, drills, tells-page}
 use Rattle.top_call.proofs.Completed.{completes, file-given, given-script, tells-read-fault, tells-flaw, tells-too-many, tells-bad-key, shelf-moved, sink-moved}
 
@@ -271,4 +271,5 @@ promises c g = record {
   sink_count = λ moved. sink-moved c.words c.shelf c.taken_before c.taken_now c.faults_before c.faults_now c.status g.ends moved;
   noted = g.noted;
   no_note = λ e. no-note c g.noted e;
+  page_without_note = λ p asks. page-quiet c p asks g.noted;
 }

@@ -27,12 +27,12 @@ use Rattle.top_call.specs.Causes.{IsCause, HasManySections, HasNoKey, no_command
 use Rattle.top_call.specs.Lines.{answer_fault, done_status, status_of, fault_line}
 use Rattle.top_call.specs.Names.{AsksInOrder}
 use Rattle.top_call.specs.Answers.{Ends, IsDue, IsExactly, HasOutput}
-use Rattle.top_call.specs.Noted.{IsNoted}
+use Rattle.top_call.specs.Noted.{words_front, IsNoted}
 use Rattle.top_call.specs.Promises.{Goes}
 use Rattle.top_call.proofs.Asking.{asks-nothing, asks-files, asks-until, asks-all}
 use Rattle.top_call.proofs.Deliveries.{ends-map}
 use Rattle.top_call.proofs.Endings.{due-of-output, due-refusal, due-of-page, fault-not-done}
-use Rattle.top_call.proofs.Noting.{ended-of, file-noted, sections-noted, changes-noted}
+use Rattle.top_call.proofs.Noting.{ended-of, words-noted, file-noted, sections-noted, changes-noted}
 
 -- A desk's script that was read has too many sections.
 pub many-sections : (words : List (List ℕ)) (shelf : Shelved) (c : Command) (work : Work) (name : Bor (List ℕ)) → IsCommand words c → HasRead shelf c → IsWork shelf.told c work → IsOverfull c work name → HasManySections words shelf name.now
@@ -95,8 +95,10 @@ module _ (c : Call) where
   }
 
   -- the words are no command
-  pub goes-usage : IsNoCommand c.words → c.shelf.asked ≡ [] → c.shelf.faults_now ≡ c.shelf.faults_before → Silent → EndsWith (status_of faults.Usage) (fault_line faults.Usage) → Goes c
-  goes-usage none nothing quiet silent ends = goes-fault faults.Usage (no_command none nothing quiet) (asks-nothing c.words c.shelf nothing) ends (no_note silent)
+  pub goes-usage : IsNoCommand c.words → c.shelf.asked ≡ [] → c.shelf.faults_now ≡ c.shelf.faults_before → MayTell (Begins words_front) c.noted_before c.noted_now → EndsWith (status_of faults.Usage) (fault_line faults.Usage) → Goes c
+  goes-usage none nothing quiet tells ends =
+      goes-fault faults.Usage (no_command none nothing quiet) (asks-nothing c.words c.shelf nothing) ends
+      (words-noted c none (ended-of (status_of faults.Usage) (fault_line faults.Usage) c.taken_before c.taken_now c.faults_before c.faults_now c.status ends) tells)
 
   -- a file can't be had
   pub goes-file : (d : Command) (fault : FileFault) → IsCommand c.words d → StopsTelling c.shelf d c.noted_before c.noted_now fault → EndsWith (status_of (faults.File fault)) (fault_line (faults.File fault)) → Goes c

@@ -1,6 +1,8 @@
 -- The note for a person beside a call's output.
 use Rattle.std.proofs.Common.{◌≡◌, ◌≤◌, refl, subst, ℕ, Bool, true, List, Option, inl, inr, arith}
-use Rattle.command_words.specs.Words.{Command, IsCommand}
+use Rattle.command_words.specs.declared.page.Page.{Page}
+use Rattle.command_words.specs.Words.{Command, IsCommand, IsNoCommand, AsksFor, desk}
+use Rattle.command_words.proofs.PageWords.{page-no-command}
 use Rattle.fault_notes.specs.Shown.{Begins, name_text}
 use Rattle.fault_notes.specs.Told.{MayTell, nothing, note}
 use Rattle.fault_notes.proofs.ToldLaws.{tells-as}
@@ -11,7 +13,7 @@ use Rattle.top_call.specs.Calls.{Call}
 use Rattle.top_call.specs.Causes.{HasManySections}
 use Rattle.top_call.specs.Lines.{done_status, file_status}
 use Rattle.top_call.specs.Answers.{Ends, written, cut, memory, IsExactly, HasOutput}
-use Rattle.top_call.specs.Noted.{Ended, IsDueNote, on_file, on_sections, on_changes, IsNoted}
+use Rattle.top_call.specs.Noted.{Ended, IsDueNote, words_front, on_words, on_file, on_sections, on_changes, IsNoted}
 use Rattle.top_call.proofs.Endings.{file-above}
 
 -- A call whose status and text are due ends with that status, or its sink failed.
@@ -25,15 +27,32 @@ ended-above due status above (inl is) e = omega (arith, above, is, e)
 ended-above due status above (inr is) e = omega (arith, is, e)
 
 due-above : (words : List (List ℕ)) (shelf : Shelved) (status : ℕ) (text : List ℕ) → IsDueNote words shelf status text → status ≡ 0 → ⊥
+due-above words shelf status text (on_words t none is ended) e = ended-above 2 status (omega arith) ended e
 due-above words shelf status text (on_file d fault stops t is_d is ended) e = ended-above (file_status fault) status (let above = file-above fault in omega (arith, above)) ended e
 due-above words shelf status text (on_sections name t has is ended) e = ended-above 12 status (omega arith) ended e
 due-above words shelf status text (on_changes output t has ended) e = ended-above 1 status (omega arith) ended e
+
+-- No note is due to words that ask for a page.
+page-due : (words : List (List ℕ)) (shelf : Shelved) (status : ℕ) (text : List ℕ) (p : Page) → AsksFor words p → IsDueNote words shelf status text → ⊥
+page-due words shelf status text p asks (on_words t none is ended) = none.no_page p asks
+page-due words shelf status text p asks (on_file d fault stops t is_d is ended) = page-no-command words p d asks is_d
+page-due words shelf status text p asks (on_sections name t has is ended) = page-no-command words p (desk name has.keep_going) asks has.is_desk
+page-due words shelf status text p asks (on_changes output t has ended) = page-no-command words p has.command asks has.is_command
 
 module _ (c : Call) where
   -- With status 0 no note was written.
   pub no-note : IsNoted c → c.status ≡ 0 → c.noted_now ≡ c.noted_before
   no-note (nothing same) e = same
   no-note (note text quiet due told) e = absurd (due-above c.words c.shelf c.status text due e)
+
+  -- With a page no note was written.
+  pub page-quiet : (p : Page) → AsksFor c.words p → IsNoted c → c.noted_now ≡ c.noted_before
+  page-quiet p asks (nothing same) = same
+  page-quiet p asks (note text quiet due told) = absurd (page-due c.words c.shelf c.status text p asks due)
+
+  -- The note on words that are no command is due.
+  pub words-noted : IsNoCommand c.words → Ended 2 c.status → MayTell (Begins words_front) c.noted_before c.noted_now → IsNoted c
+  words-noted none ended tells = tells-as (Begins words_front) (IsDueNote c.words c.shelf c.status) c.noted_before c.noted_now (λ text is. on_words text none is ended) tells
 
   -- The note on a file that can't be had is due.
   pub file-noted : (d : Command) (fault : FileFault) → IsCommand c.words d → StopsTelling c.shelf d c.noted_before c.noted_now fault → Ended (file_status fault) c.status → IsNoted c

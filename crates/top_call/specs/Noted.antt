@@ -1,6 +1,6 @@
 -- The note for a person beside a call's output.
-use Rattle.std.specs.Prelude.{◌≡◌, ◌⊎◌, ℕ, true, List}
-use Rattle.command_words.specs.Words.{Command, IsCommand}
+use Rattle.std.specs.Prelude.{◌≡◌, ◌⊎◌, ℕ, true, List, codes}
+use Rattle.command_words.specs.Words.{Command, IsCommand, IsNoCommand}
 use Rattle.fault_notes.specs.Shown.{Begins, name_text}
 use Rattle.fault_notes.specs.Told.{MayTell}
 use Rattle.input_files.specs.declared.fault.FileFault.{FileFault}
@@ -15,10 +15,15 @@ use Rattle.top_call.specs.Answers.{HasOutput}
 abbrev pub Ended : ℕ → ℕ → Type 0
 Ended due status = (status ≡ due) ⊎ (status ≡ 6)
 
--- The notes that are due. One begins with the name of a file that can't be had, in its turn, and the place of what is
+-- What a note on the words begins with: the program's name, a colon and a space.
+abbrev pub words_front : List ℕ
+words_front = name_text (codes "pipapo")
+
+-- The notes that are due. One is on words that are no command and ask for no page. One begins with the name of a file that can't be had, in its turn, and the place of what is
 -- wrong with its text. One begins with the name of a desk's script that has too many sections. One is on the refused
 -- changes that an output reports.
 pub data IsDueNote (words : List (List ℕ)) (shelf : Shelved) (status : ℕ) : List ℕ → Type 0 where
+  on_words : (text : List ℕ) → IsNoCommand words → Begins words_front text → Ended 2 status → IsDueNote words shelf status text
   on_file : (c : Command) (fault : FileFault) (stops : StopsAt shelf c fault) (text : List ℕ) → IsCommand words c → IsNoteOn shelf.told stops.sets stops.input.name fault text → Ended (file_status fault) status → IsDueNote words shelf status text
   on_sections : (name text : List ℕ) → HasManySections words shelf name → Begins (name_text name) text → Ended 12 status → IsDueNote words shelf status text
   on_changes : (output text : List ℕ) → HasOutput words shelf true output → Ended 1 status → IsDueNote words shelf status text

@@ -1,6 +1,8 @@
 -- What a call of the program promises. Read two clauses first: by `ends` every status has its cause, and by `exact`
 -- each cause has its status.
 use Rattle.std.specs.Prelude.{◌≡◌, ◌≢◌, ◌⊎◌}
+use Rattle.command_words.specs.declared.page.Page.{Page}
+use Rattle.command_words.specs.Words.{AsksFor}
 use Rattle.input_files.specs.Inputs.{FileForm}
 use Rattle.top_call.specs.Calls.{Call, IsQuiet}
 use Rattle.top_call.specs.Lines.{form_status}
@@ -58,7 +60,8 @@ pub record Promises (c : Call) : Type 0 where
   -- The shelf's count rose only with 5 or 6, and the sink's only with 6.
   pub shelf_count : c.shelf.faults_now ≢ c.shelf.faults_before → (c.status ≡ 5) ⊎ (c.status ≡ 6)
   pub sink_count : c.faults_now ≢ c.faults_before → c.status ≡ 6
-  -- No note is written; or one on why and in which place a file can't be had, or on the refused changes. With status
-  -- 0 there is none.
+  -- No note is written; or one on words that are no command, on why and in which place a file can't be had, or on the
+  -- refused changes. With status 0 there is none, and neither if the words ask for a page.
   pub noted : IsNoted c
   pub no_note : c.status ≡ 0 → c.noted_now ≡ c.noted_before
+  pub page_without_note : (p : Page) → AsksFor c.words p → c.noted_now ≡ c.noted_before

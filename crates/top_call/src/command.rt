@@ -11,6 +11,7 @@ use crate::delivery::{deliver, deliver_page, tell};
 use crate::fault::Fault;
 use crate::output::output_of;
 use crate::refusals::{tell_refusals, tell_too_many};
+use crate::words_told::tell_words;
 use command_words::{Command, WordsError, command_of, page_of};
 use input_files::{Work, work_of};
 use key_answer::AnswerError;
@@ -106,7 +107,10 @@ fn carry_out_command<R: Threads + Wait + Sync, F: Shelf, K: Sink, N: Notes, G: G
 {
     match command_of(alloc, words) {
         Ok(command) => do_command(rt, alloc, command, shelf, sink, notes, gate),
-        Err(WordsError::NoCommand) => tell(sink, Fault::Usage),
+        Err(WordsError::NoCommand) => {
+            tell_words(alloc, notes, words);
+            tell(sink, Fault::Usage)
+        }
         Err(WordsError::Memory) => tell(sink, Fault::Memory),
     }
 }
@@ -148,14 +152,16 @@ fn carry_out<R: Threads + Wait + Sync, F: Shelf, K: Sink, N: Notes, G: Gate>(
 /// - `get [--at MOMENT] [--keep-going] SCRIPT KEY ..` runs a script, and writes the element of
 ///   the last generation that holds the key, with the line that added it, or `none`. Its options come in either order.
 ///
+/// `--threads=N` means `--threads N`, and `--at=MOMENT` means `--at MOMENT`.
+///
 /// `help`, `--help` or `-h` alone asks for help, and so do `help` before the word of a command and `--help` or
-/// `-h` after it. `--version` alone asks for the version. Then the page is written, the status is 0, and no
-/// file is asked for.
+/// `-h` after it. `--version` or `-V` alone asks for the version. Then the page is written, the status is 0, and
+/// no file is asked for.
 ///
 /// With `--keep-going` a refused change is skipped, and doesn't fail its transaction. If the words, a file or
-/// its reading is at fault, one line is written in place of the output. If a file is at fault or a change was
-/// refused, `notes` gets a note for a person, unless memory runs out for it. Neither status nor output
-/// depends on that. The `gate` learns of each section, step, lookup and commit, which the program shows as
+/// its reading is at fault, one line is written in place of the output. If the words or a file are at fault or
+/// a change was refused, `notes` gets a note for a person, unless memory runs out for it. Neither status nor
+/// output depends on that. The `gate` learns of each section, step, lookup and commit, which the program shows as
 /// its progress. The status is:
 ///
 /// - 0: the whole output was written, and reports no refusal;

@@ -7,7 +7,7 @@ pub returns-in-Ok : goal.returns-in-Ok
 returns-in-Ok g c = c.do_command.ensures (map string_bytes c.args.words.now) c.in-Ok.ensures.found
 
 pub returns-in-Err-NoCommand : goal.returns-in-Err-NoCommand
-returns-in-Err-NoCommand g c = goes-usage _ (record { no_work = c.command_of.ensures.none (search c.in-Err-NoCommand.is); no_page = c.requires.no_page }) c.requires.nothing refl refl c.tell.ensures
+returns-in-Err-NoCommand g c = goes-usage _ (record { no_work = c.command_of.ensures.none (search c.in-Err-NoCommand.is); no_page = c.requires.no_page }) c.requires.nothing refl c.tell_words.ensures c.tell.ensures
 
 pub returns-in-Err-Memory : goal.returns-in-Err-Memory
 returns-in-Err-Memory g c =

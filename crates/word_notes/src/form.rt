@@ -1,0 +1,45 @@
+//! What a command takes, as the first line of its page of help says.
+use command_words::{Page, Verb};
+
+/// How many names a command has at most.
+pub(crate) const MOST_NAMES: usize = 4;
+
+/// A command's form, as `pipapo list SCRIPT [--keep-going]`.
+pub(crate) fn form_of(verb: Verb) -> &'static [u8] {
+    let page = Page::Command(verb).text().as_bytes();
+    let line = match page.iter().position(|byte| *byte == b'\n') {
+        Some(end) => &page[..end],
+        None => page,
+    };
+    line.strip_prefix(b"usage: ").unwrap_or(line)
+}
+
+/// Whether a word of a form stands for a name, as `SCRIPT`.
+fn is_name(word: &[u8]) -> bool {
+    word.iter().all(|byte| byte.is_ascii_uppercase())
+}
+
+/// The name at a place of a command's words, from 0.
+pub(crate) fn name_at(verb: Verb, place: usize) -> Option<&'static [u8]> {
+    let mut seen = 0usize;
+    for word in form_of(verb).split(|byte| *byte == b' ') {
+        if is_name(word) {
+            if seen == place {
+                return Some(word);
+            }
+            seen = seen.saturating_add(1);
+        }
+    }
+    None
+}
+
+/// Whether a command takes an option.
+pub(crate) fn takes(verb: Verb, option: &[u8]) -> bool {
+    for word in form_of(verb).split(|byte| *byte == b' ') {
+        let word = word.strip_prefix(b"[").unwrap_or(word);
+        if word.strip_suffix(b"]").unwrap_or(word) == option {
+            return true;
+        }
+    }
+    false
+}
