@@ -130,7 +130,7 @@ enum pipapo_error {
     PIPAPO_MEMORY = 1,      /* out of memory */
     PIPAPO_NOTHING = 2,     /* the handle holds nothing: it is empty or freed */
     PIPAPO_HANDLE = 3,      /* a reader where a control is wanted, or the other way round */
-    PIPAPO_SCHEMA = 4,      /* a set has no fields, or more than 16, or a number that is no kind or no family */
+    PIPAPO_SCHEMA = 4,      /* a set has no fields, or more than 16, or a number that is no kind or no family; or too many sets */
     PIPAPO_READERS = 5,     /* not 1 to 16 readers */
     PIPAPO_SET = 6,         /* there is no set of this number */
     PIPAPO_LENGTH = 7,      /* not as many bytes as the set's fields have */
@@ -147,9 +147,9 @@ enum pipapo_error {
 #define PIPAPO_NONE UINT64_MAX  /* no element was found */
 #define PIPAPO_NEVER UINT64_MAX /* the element doesn't expire */
 
-/* Makes a control and `reader_count` readers, 1 to 16, over these sets, which get the numbers 0, 1, .. and are empty. The
- * generation is 0. What the handles held before is freed.
- * Errors: READERS, SCHEMA, MEMORY. The handles are then as they were.
+/* Makes a control and `reader_count` readers, 1 to 16, over these sets, at most 2 to the power 32. They get the numbers 0, 1, ..
+ * and are empty. The generation is 0. What the handles held before is freed.
+ * Errors: READERS, SCHEMA, MEMORY. The handles are then as they were, and nothing stays allocated.
  * Cost: 768 KiB for the control and for each reader. */
 PIPAPO_NONNULL PIPAPO_CHECK_RESULT
 uint32_t pipapo_start(const pipapo_set *sets, size_t set_count, pipapo_control *control, pipapo_reader *readers,

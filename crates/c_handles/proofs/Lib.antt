@@ -5,3 +5,5 @@ pub mod WrittenOver
 pub mod Batch
 pub mod Kept
 pub mod Refused
+pub mod Started
+pub mod Tested

@@ -34,4 +34,4 @@ pub use handle::{Handle, Opaque};
 pub use object::Object;
 pub use reader_calls::{enter, generation, leave, lookup, lookup_many};
 pub use shapes::SetShape;
-pub use starting::{Boxes, boxed, free, hand_out, start};
+pub use starting::{free, start};

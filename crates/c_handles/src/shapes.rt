@@ -1,8 +1,9 @@
 //! The declared sets as C has them.
-ghost use Rattle.std.specs.Prelude.{◌≡◌, ◌≤◌, ◌<◌, length, All, IfOk};
+ghost use Rattle.std.specs.Prelude.{◌≡◌, ◌<◌, ◌≤◌, true, not, nat_eq, nat_lt, length, map, All, IfOk};
+ghost use Rattle.std.specs.List.{list_all, prefix_len};
 ghost use Rattle.set_space.specs.Open.{CanBeBuilt};
+ghost use Rattle.c_handles.specs.Shapes.{kind_numbered, family_numbered, describes_set as the_set_test, describe_sets as the_test, name_in, most_of as the_most_of, described};
 
-use crate::fault::Fault;
 use set_model::{Family, Kind, Kinds, Memory, Name, Schema, SetDecl};
 use std::alloc::Global;
 
@@ -21,86 +22,124 @@ pub struct SetShape {
     pub name: [u8; 64],
 }
 
-fn kind_of(number: u32) -> Option<Kind> {
+fn are_kinds(numbers: &[u32]) -> bool
+    ensures { result ≡ list_all (λ number. nat_lt number 6) numbers.now }
+{
+    numbers.iter().all(|number| *number < 6)
+}
+
+/// Whether a struct describes a set: it has 1 to 16 fields, each of a kind, and a family.
+fn describes_set(shape: &SetShape) -> bool
+    ensures { result ≡ the_set_test shape.now }
+{
+    if shape.fields == 0 || 16 < shape.fields || 6 <= shape.family {
+        return false;
+    }
+    are_kinds(&shape.kinds[..shape.fields as usize])
+}
+
+fn each_describes(shapes: &[SetShape]) -> bool
+    ensures { result ≡ list_all the_set_test shapes.now }
+{
+    shapes.iter().all(|shape| describes_set(shape))
+}
+
+/// Whether each struct describes a set, and each set has a number.
+pub(crate) fn describe_sets(shapes: &[SetShape]) -> bool
+    ensures { result ≡ the_test shapes.now }
+{
+    if (1 << 32) < shapes.len() as u64 {
+        return false;
+    }
+    each_describes(shapes)
+}
+
+fn kind_of(number: u32) -> Kind
+    requires { number < 6 }
+    ensures { result ≡ kind_numbered number }
+{
     match number {
-        0 => Some(Kind::Ipv4),
-        1 => Some(Kind::Ipv6),
-        2 => Some(Kind::Ether),
-        3 => Some(Kind::Proto),
-        4 => Some(Kind::Service),
-        5 => Some(Kind::Mark),
-        _ => None,
+        0 => Kind::Ipv4,
+        1 => Kind::Ipv6,
+        2 => Kind::Ether,
+        3 => Kind::Proto,
+        4 => Kind::Service,
+        5 => Kind::Mark,
+        _ => unreachable!(),
     }
 }
 
-fn family_of(number: u32) -> Option<Family> {
+fn family_of(number: u32) -> Family
+    requires { number < 6 }
+    ensures { result ≡ family_numbered number }
+{
     match number {
-        0 => Some(Family::Ip),
-        1 => Some(Family::Ip6),
-        2 => Some(Family::Inet),
-        3 => Some(Family::Arp),
-        4 => Some(Family::Bridge),
-        5 => Some(Family::Netdev),
-        _ => None,
+        0 => Family::Ip,
+        1 => Family::Ip6,
+        2 => Family::Inet,
+        3 => Family::Arp,
+        4 => Family::Bridge,
+        5 => Family::Netdev,
+        _ => unreachable!(),
     }
 }
 
-fn kinds_of(alloc: Global, shape: &SetShape) -> Result<Kinds, Fault>
-    requires { shape.now.fields ≤ 16 }
-    ensures { IfOk result (λ kinds. length kinds ≡ shape.now.fields) }
+fn kinds_of(alloc: Global, numbers: &[u32]) -> Result<Kinds, Memory>
+    requires { list_all (λ number. nat_lt number 6) numbers.now ≡ true }
+    ensures { IfOk result (λ kinds. kinds ≡ map kind_numbered numbers.now) }
 {
     let mut kinds = Kinds::new(alloc);
-    'fields: for i in 0..shape.fields {
-        match kind_of(shape.kinds[i as usize]) {
-            Some(kind) => kinds.push(kind)?,
-            None => return Err(Fault::Schema),
-        }
+    'fields: for number in numbers {
+        kinds.push(kind_of(*number))?;
     }
     Ok(kinds)
 }
 
-/// The bytes before the first zero.
-fn name_of(alloc: Global, bytes: &[u8]) -> Result<Name, Memory> {
-    let mut name = Name::new(alloc);
-    for byte in bytes {
-        if *byte == 0 {
-            return Ok(name);
-        }
-        name.push(*byte)?;
-    }
-    Ok(name)
+/// How many bytes come before the first zero.
+fn name_length(bytes: &[u8]) -> usize
+    ensures run { result ≡ prefix_len (λ byte. not (nat_eq byte 0)) bytes.now }
+    ensures within { result ≤ length bytes.now }
+{
+    bytes.iter().take_while(|byte| **byte != 0).count()
 }
 
-fn declared(alloc: Global, shape: &SetShape) -> Result<SetDecl, Fault>
-    ensures { IfOk result CanBeBuilt }
+/// The bytes before the first zero.
+fn name_of(alloc: Global, bytes: &[u8]) -> Result<Name, Memory>
+    ensures { IfOk result (λ name. name ≡ name_in bytes.now) }
 {
-    if shape.fields == 0 || 16 < shape.fields {
-        return Err(Fault::Schema);
-    }
-    let Some(family) = family_of(shape.family) else {
-        return Err(Fault::Schema);
-    };
+    let name = Vec::from_slice(alloc, &bytes[..name_length(bytes)])?;
+    Ok(Name::from_vec(name))
+}
+
+fn most_of(size: u32) -> Option<u32>
+    ensures { result ≡ the_most_of size }
+{
+    if size == 0 { None } else { Some(size) }
+}
+
+fn declared(alloc: Global, shape: &SetShape) -> Result<SetDecl, Memory>
+    requires { the_set_test shape.now ≡ true }
+    ensures built { IfOk result CanBeBuilt }
+    ensures set { IfOk result (λ set. set ≡ described shape.now) }
+{
     Ok(SetDecl {
-        family,
+        family: family_of(shape.family),
         table: name_of(alloc, &shape.table)?,
         name: name_of(alloc, &shape.name)?,
-        kinds: kinds_of(alloc, shape)?,
+        kinds: kinds_of(alloc, &shape.kinds[..shape.fields as usize])?,
         interval: true,
         timed: true,
         disjoint: shape.disjoint != 0,
         timeout: None,
-        size: if shape.size == 0 {
-            None
-        } else {
-            Some(shape.size)
-        },
+        size: most_of(shape.size),
     })
 }
 
 /// The declared sets.
-pub(crate) fn schema_of(alloc: Global, shapes: &[SetShape]) -> Result<Schema, Fault>
+pub(crate) fn schema_of(alloc: Global, shapes: &[SetShape]) -> Result<Schema, Memory>
+    requires { list_all the_set_test shapes.now ≡ true }
     ensures built { IfOk result (All CanBeBuilt) }
-    ensures count { IfOk result (λ schema. length schema ≡ length shapes.now) }
+    ensures sets { IfOk result (λ schema. schema ≡ map described shapes.now) }
 {
     let mut schema = Schema::new(alloc);
     'sets: for shape in shapes {

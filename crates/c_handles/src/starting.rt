@@ -1,26 +1,27 @@
 //! How the handles get what they hold, and how that ends.
-ghost use Rattle.std.specs.Prelude.{◌≡◌, ◌<◌, length, map, All, Some, None, IfOk};
-ghost use Rattle.c_handles.specs.Starting.{IsNewControl, HasStarted, IsOf, seated};
+ghost use Rattle.std.specs.Prelude.{◌≡◌, ◌<◌, length, map, All, Some, None, IfOk, IfErr};
+ghost use Rattle.c_handles.specs.Starting.{HasStarted, IsOf, seated};
+ghost use Rattle.c_handles.specs.StartCauses.{RefusesStart, IsRefusedStart};
 
 use crate::fault::{DONE, Fault};
 use crate::handle::Handle;
 use crate::key_room::key_rooms;
 use crate::object::Object;
 use crate::seat::Seat;
-use crate::shapes::{SetShape, schema_of};
+use crate::shapes::{SetShape, describe_sets, schema_of};
 use gen_publish::{Control, Reader, start as start_all};
-use set_model::Schema;
+use set_model::{Memory, Schema};
 use std::alloc::Global;
 
 /// What the handles of a start get: the control's box, and one for each reader.
 #[derive(Drop)]
-pub struct Boxes {
-    pub control: Box<Object>,
-    pub readers: Vec<Box<Object>>,
+pub(crate) struct Boxes {
+    pub(crate) control: Box<Object>,
+    pub(crate) readers: Vec<Box<Object>>,
 }
 
 /// The box of a reader.
-fn seat_one(alloc: Global, schema: &Schema, reader: Reader) -> Result<Box<Object>, Fault>
+fn seat_one(alloc: Global, schema: &Schema, reader: Reader) -> Result<Box<Object>, Memory>
     requires { IsOf schema.now reader }
     ensures { IfOk result (λ boxed. boxed.value ≡ seated reader) }
 {
@@ -29,7 +30,11 @@ fn seat_one(alloc: Global, schema: &Schema, reader: Reader) -> Result<Box<Object
 }
 
 /// A box for each reader.
-fn seat_all(alloc: Global, schema: &Schema, readers: Vec<Reader>) -> Result<Vec<Box<Object>>, Fault>
+fn seat_all(
+    alloc: Global,
+    schema: &Schema,
+    readers: Vec<Reader>,
+) -> Result<Vec<Box<Object>>, Memory>
     requires { All (IsOf schema.now) readers.items }
     ensures { IfOk result (λ boxes. map (λ b. b.value) boxes.items ≡ map seated readers.items) }
 {
@@ -45,7 +50,7 @@ fn seat_all(alloc: Global, schema: &Schema, readers: Vec<Reader>) -> Result<Vec<
 /// # Errors
 ///
 /// `Memory` if there is none left.
-pub fn boxed(alloc: Global, control: Control, readers: Vec<Reader>) -> Result<Boxes, Fault>
+pub(crate) fn boxed(alloc: Global, control: Control, readers: Vec<Reader>) -> Result<Boxes, Memory>
     requires { All (IsOf control.schema) readers.items }
     ensures control { IfOk result (λ boxes. boxes.control.value ≡ Object.Control control) }
     ensures readers { IfOk result (λ boxes. map (λ b. b.value) boxes.readers.items ≡ map seated readers.items) }
@@ -55,41 +60,57 @@ pub fn boxed(alloc: Global, control: Control, readers: Vec<Reader>) -> Result<Bo
     Ok(Boxes { control, readers })
 }
 
-/// Puts the boxes into the handles. What these held ends.
-pub fn hand_out(boxes: Boxes, control: &mut Handle, readers: &mut [Handle])
-    ensures { control.new.held ≡ Some boxes.control.value }
+/// Puts the boxes into the handles, of which there is one for each reader. What these held ends.
+pub(crate) fn hand_out(boxes: Boxes, control: &mut Handle, readers: &mut [Handle])
+    requires { length boxes.readers.items ≡ length readers.old }
+    ensures control { control.new.held ≡ Some boxes.control.value }
+    ensures readers { map (λ h. h.held) readers.new ≡ map (λ b. Some b.value) boxes.readers.items }
 {
     let Boxes {
         control: whole,
-        readers: mut seats,
+        readers: seats,
     } = boxes;
     control.put(whole);
-    for handle in readers.iter_mut() {
-        if !seats.is_empty() {
-            handle.put(seats.remove(0));
-        }
+    seat_in(seats, readers);
+}
+
+/// Puts a box into each handle.
+fn seat_in(seats: Vec<Box<Object>>, readers: &mut [Handle])
+    requires { length seats.items ≡ length readers.old }
+    ensures { map (λ h. h.held) readers.new ≡ map (λ b. Some b.value) seats.items }
+{
+    let mut seats = seats;
+    'readers: for handle in readers.iter_mut() {
+        handle.put(seats.remove(0));
     }
 }
 
+/// A control over these sets, and so many readers.
 fn make(alloc: Global, sets: &[SetShape], readers: usize) -> Result<Boxes, Fault>
-    ensures { IfOk result (λ boxes. IsNewControl (length sets.now) boxes.control.value) }
+    ensures made { IfOk result (λ boxes. HasStarted sets.now (Some boxes.control.value) (map (λ b. Some b.value) boxes.readers.items)) }
+    ensures count { IfOk result (λ boxes. length boxes.readers.items ≡ readers) }
+    ensures refused { IfErr result (RefusesStart sets.now readers) }
 {
     if readers == 0 || 16 < readers {
         return Err(Fault::Readers);
     }
-    if (1 << 32) < sets.len() as u64 {
+    if !describe_sets(sets) {
         return Err(Fault::Schema);
     }
     let schema = schema_of(alloc, sets)?;
     let (control, seated) = start_all(alloc, schema, readers as u32)?;
-    boxed(alloc, control, seated)
+    Ok(boxed(alloc, control, seated)?)
 }
 
 /// Makes a control at generation 0, in which these sets are empty, and a reader for each of the other handles. What the
 /// handles held ends.
+///
+/// The numbers of its refusals: those of `Readers` if there aren't 1 to 16 handles for readers, and of `Schema` if a struct
+/// describes no set. The first that applies counts, and then `Memory`.
 pub fn start(alloc: Global, sets: &[SetShape], control: &mut Handle, readers: &mut [Handle]) -> u32
-    ensures done { result ≡ 0 → HasStarted (length sets.now) control.new.held }
-    ensures refused { 0 < result → (control.new ≡ control.old) × (readers.new ≡ readers.old) }
+    ensures done { result ≡ 0 → HasStarted sets.now control.new.held (map (λ h. h.held) readers.new) }
+    ensures unchanged { 0 < result → (control.new ≡ control.old) × (readers.new ≡ readers.old) }
+    ensures refused { 0 < result → IsRefusedStart sets.now (length readers.old) result }
 {
     match make(alloc, sets, readers.len()) {
         Ok(boxes) => {

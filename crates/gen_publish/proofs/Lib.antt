@@ -1,3 +1,4 @@
 pub mod Berths
 pub mod Growing
 pub mod KindLaws
+pub mod Entering

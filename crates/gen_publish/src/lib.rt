@@ -40,13 +40,15 @@
 //! older than the last commit before that note. By `hear` the control learns that a reader has seen a front of the
 //! control's own list.
 //!
-//! **Definitions:** `specs/Publish.antt` has what contracts see of a control, a reader and a note. `set_space` says what
-//! a change does (`specs/Open.antt`, `Answers.antt`), and `set_model` what a set is. **Theory:** docs/architecture.md,
-//! "Readers beside a writer". **Proofs:** docs/proofs.md, "Control and readers (`gen_publish`)".
+//! **Definitions:** `specs/Publish.antt` has what contracts see of a control, a reader and a note. `specs/Entering.antt`
+//! says which generation an enter gets. `set_space` says what a change does (`specs/Open.antt`, `Answers.antt`), and
+//! `set_model` what a set is. **Theory:** docs/architecture.md, "Readers beside a writer". **Proofs:** docs/proofs.md,
+//! "Control and readers (`gen_publish`)".
 #![tactic(auto)]
 
 mod berth;
 mod control;
+mod laws;
 mod note;
 mod reader;
 mod receipt;
@@ -54,6 +56,7 @@ mod starting;
 
 pub use control::Control;
 pub use gen_slots::Steps;
+pub use laws::enter_law;
 pub use note::Note;
 pub use reader::{Held, Reader};
 pub use receipt::Receipt;

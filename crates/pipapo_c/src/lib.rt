@@ -6,8 +6,9 @@
 //! **Definitions:** those of `c_handles`.
 #![tactic(auto)]
 
-ghost use Rattle.std.specs.Prelude.{◌≡◌, ◌<◌, ◌*◌, length, None};
+ghost use Rattle.std.specs.Prelude.{◌≡◌, ◌<◌, ◌*◌, length, map, None};
 ghost use Rattle.c_handles.specs.Starting.{HasStarted};
+ghost use Rattle.c_handles.specs.StartCauses.{IsRefusedStart};
 ghost use Rattle.c_handles.specs.Seats.{Stays, WentIn, WentOut};
 ghost use Rattle.c_handles.specs.Causes.{IsRefusal, IsRefusedChange, RefusesInsertion, RefusesCreation, RefusesDeletion, RefusesDestruction, RefusesFlush, RefusesCommit, RefusesReaders, RefusesEntry, RefusesHolder, RefusesLookup, RefusesLookups};
 ghost use Rattle.c_handles.specs.Calls.{HasInserted, HasCreated, HasDeleted, HasDestroyed, HasFlushed, HasCommitted, HasAborted, HasNumber, HasEntered, HasFound, HasFoundAll, HasGeneration, HasMoved, TakesKey, TakesKeys, seen_by, kinds_in, kinds_by};
@@ -22,8 +23,9 @@ pub extern "C" fn pipapo_start(
     control: &mut Handle,
     readers: &mut [Handle],
 ) -> u32
-    ensures done { result ≡ 0 → HasStarted (length sets.now) control.new.held }
-    ensures refused { 0 < result → (control.new ≡ control.old) × (readers.new ≡ readers.old) }
+    ensures done { result ≡ 0 → HasStarted sets.now control.new.held (map (λ h. h.held) readers.new) }
+    ensures unchanged { 0 < result → (control.new ≡ control.old) × (readers.new ≡ readers.old) }
+    ensures refused { 0 < result → IsRefusedStart sets.now (length readers.old) result }
 {
     c_handles::start(alloc, sets, control, readers)
 }

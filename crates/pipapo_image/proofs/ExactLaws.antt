@@ -40,7 +40,7 @@ same-hold (k ∷ kinds) (x ∷ xs) (p ∷ ps) n fit same =
     (same-hold kinds xs ps (omega arith) a.1 s.1)
 
 -- an element of exactly these intervals holds the key with which they start
-exact-holds : (kinds : List Kind) (parts : List Interval) (now : ℕ) (e : Element) → parts_fit kinds parts ≡ true → is_exactly parts now e ≡ true → answers (start_key parts) now e ≡ true
+pub exact-holds : (kinds : List Kind) (parts : List Interval) (now : ℕ) (e : Element) → parts_fit kinds parts ≡ true → is_exactly parts now e ≡ true → answers (start_key parts) now e ≡ true
 exact-holds kinds parts now e fit is =
     let a = and_parts (length kinds == length parts) (intervals_fit kinds parts) fit in
     let b = and_parts (live e now) (same_parts e.parts parts) is in

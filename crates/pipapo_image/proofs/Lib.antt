@@ -21,3 +21,4 @@ pub mod Shrinking
 pub mod Purging
 pub mod Leaving
 pub mod ExactLaws
+pub mod AcceptedLaws

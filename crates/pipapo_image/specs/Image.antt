@@ -1,4 +1,5 @@
 -- What holds of a set's parts at every moment between calls.
+pub mod Accepted
 pub mod Apart
 pub mod Append
 pub mod Deciding

@@ -32,9 +32,10 @@
 //!
 //! **Definitions:** `specs/Index.antt` and `Image.antt` say what an index and a set keep.
 //! `Image/Insert.antt`, `Image/Remove.antt` and `Image/Found.antt` say what calls return.
-//! `Image/Apart.antt` says what holds of disjoint sets. **Theory:** docs/architecture.md, "The
-//! classifier, by one example". **Proofs:** docs/proofs.md, "A set's tables and image
-//! (`set_tables`, `mapping_table`, `pipapo_image`)".
+//! `Image/Apart.antt` says what holds of disjoint sets, and `Image/Accepted.antt` that no accepted
+//! element is hidden. **Theory:** docs/architecture.md, "The classifier, by one example".
+//! **Proofs:** docs/proofs.md, "A set's tables and image (`set_tables`, `mapping_table`,
+//! `pipapo_image`)".
 #![tactic(auto)]
 
 mod answers;
@@ -47,4 +48,4 @@ pub use image::SetImage;
 pub use image::decision::Decision;
 pub use index::scratch::Scratch;
 pub use index::{Fields, Index, Maps};
-pub use laws::apart_law;
+pub use laws::{accepted_law, apart_law};

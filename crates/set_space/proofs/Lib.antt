@@ -4,3 +4,4 @@ pub mod GapLaws
 pub mod LazyLaws
 pub mod Refusals
 pub mod SetsLaws
+pub mod TableLaws

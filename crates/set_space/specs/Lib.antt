@@ -5,3 +5,5 @@ pub mod OpenSets
 pub mod Answers
 pub mod Copies
 pub mod Staying
+pub mod Tables
+pub mod Unchanged

@@ -4,10 +4,11 @@ ghost use Rattle.set_model.specs.SetState.{State, empty_set};
 ghost use Rattle.pipapo_image.specs.Image.Found.{found};
 ghost use Rattle.set_space.specs.LazyImage.{set_of};
 ghost use Rattle.set_space.specs.KeptSet.{gap_marks, gaps_before};
+ghost use Rattle.set_space.specs.Tables.{HasTables};
 
 use crate::lazy_image::LazyImage;
 use bit_rows::RankedBits;
-use pipapo_image::{Scratch, SetImage};
+use pipapo_image::{Index, Scratch, SetImage};
 use set_model::{Found, Key, Kinds, Memory};
 use std::alloc::Global;
 use std::marker::Model;
@@ -130,6 +131,14 @@ impl KeptSet {
                 id: found.id,
             }),
         }
+    }
+
+    /// The tables that lookups read. They may also have rules of elements that left the set, which
+    /// no lookup finds.
+    pub fn index(&self) -> &Index
+        ensures { HasTables self.now result.now }
+    {
+        self.lazy.image.index()
     }
 
     /// An image of the set's elements alone, which listings and dumps use.

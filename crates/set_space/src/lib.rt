@@ -36,13 +36,15 @@
 //!
 //! **Definitions:** `specs/Open.antt` and `Answers.antt` say what a change returns and leaves, and
 //! `OpenSets.antt` what one set of the open transaction is. `LazyImage.antt`, `KeptSet.antt` and
-//! `Copies.antt` say which set an image represents. **Theory:** docs/architecture.md, "The way of a
-//! change". **Proofs:** docs/proofs.md, "A work on sets (`set_space`), text piece by piece
+//! `Copies.antt` say which set an image represents, `Tables.antt` which tables a set of a generation
+//! has, and `Unchanged.antt` what a commit leaves as it is. **Theory:** docs/architecture.md, "The
+//! way of a change". **Proofs:** docs/proofs.md, "A work on sets (`set_space`), text piece by piece
 //! (`set_report`)".
 #![tactic(auto)]
 
 mod generation;
 mod kept_set;
+mod laws;
 mod lazy_image;
 mod open_set;
 mod sets;
@@ -50,5 +52,6 @@ mod work;
 
 pub use generation::Generation;
 pub use kept_set::KeptSet;
+pub use laws::unchanged_law;
 pub use sets::Sets;
 pub use work::Work;

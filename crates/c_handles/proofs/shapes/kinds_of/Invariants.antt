@@ -1,6 +1,7 @@
-use Rattle.std.proofs.Common.{◌≡◌, length}
+use Rattle.std.proofs.Common.{◌≡◌, map, take}
+use Rattle.c_handles.specs.Shapes.{kind_numbered}
 use Rattle.c_handles.proofs.shapes.kinds_of.Given as goal
 
--- one kind a field so far
+-- the kinds so far
 abbrev pub invariant-fields : goal.invariant-fields
-invariant-fields l = length l.kinds ≡ l.i
+invariant-fields l = l.kinds ≡ map kind_numbered (take l.number-index l.numbers)
