@@ -15,12 +15,15 @@ def programs(folder):
     """Each program by its name, as the words of a bench and of verdicts."""
     found = {}
     kernel, acl, speed = f"{folder}/kernel_bench", f"{folder}/acl_bench", f"{BENCH}/speed"
+    library = f"{folder}/library_bench"
     if os.path.exists(kernel):
         for engine in ("scalar", "avx2"):
             found[f"kernel {engine}"] = ([kernel, "bench", engine], [kernel, "verdict", engine])
     if os.path.exists(acl):
         found["DPDK ACL"] = ([acl, "bench"], [acl, "verdict"])
     found[HERE] = ([speed, "bench"], [speed, "verdict"])
+    for way, name in (("held", "libpipapo"), ("many", "libpipapo, 64 a call")):
+        found[name] = ([library, "bench", way], [library, "verdict", way])
     return found
 
 

@@ -25,6 +25,7 @@ mod place;
 mod reader_calls;
 mod seat;
 mod shapes;
+mod sizes;
 mod starting;
 
 pub use answer::Answer;
