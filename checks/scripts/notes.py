@@ -10,7 +10,7 @@ import subprocess
 import sys
 import tempfile
 
-from mistakes import MISTAKES, note
+from mistakes import MISTAKES, WORD_MISTAKES, note, word_note
 
 LARGE = 67_108_865
 
@@ -146,7 +146,10 @@ def cases(shown):
     yield [*run, "good.keys"], "", None, 0
     yield ["drill", "7", "2000"], "", None, 0
     yield ["help"], "", None, 0
-    yield ["run"], "", USAGE, 2
+    # words that are no command
+    for mistake in WORD_MISTAKES:
+        yield mistake[0].split(), word_note(mistake), USAGE, 2
+    yield ["run", "", "good.keys"], "pipapo: a word is empty\nhelp: write the name of a file, or '-' for the standard input\n", USAGE, 2
 
 
 def placed(name, line, column, said):
