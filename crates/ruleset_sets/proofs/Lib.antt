@@ -1,0 +1,4 @@
+pub mod BlankLaws
+pub mod CutLaws
+pub mod Worked
+pub mod KeptLaws
