@@ -12,12 +12,17 @@ import sys
 from pathlib import Path
 
 # the C names of the structs that cross
-STRUCTS = {"SetShape": ["pipapo_set"], "Answer": ["pipapo_answer"], "Handle": ["pipapo_control", "pipapo_reader"]}
+STRUCTS = {
+    "SetShape": ["pipapo_set"],
+    "Answer": ["pipapo_answer"],
+    "ScriptFault": ["pipapo_script_fault"],
+    "Handle": ["pipapo_control", "pipapo_reader"],
+}
 # what a handle points to, of which C sees nothing
 HIDDEN = {"Opaque"}
 NUMBERS = {"u8": ("uint8_t", 1), "u32": ("uint32_t", 4), "u64": ("uint64_t", 8)}
 # calls that c/texts.c adds to the exports
-IN_C = {"pipapo_strerror", "pipapo_version"}
+IN_C = {"pipapo_strerror", "pipapo_strreason", "pipapo_version"}
 
 
 def handle_type(name: str) -> str:
@@ -94,7 +99,7 @@ def layout(body: str, c_type: str, proved_size: int) -> list[str]:
 
 
 # the enumerators whose names differ in the Rattle sources
-RENAMED = {"EMPTY": "NOTHING", "NONE": "ABSENT"}
+RENAMED = {"EMPTY": "NOTHING", "NONE": "ABSENT", "REASON_TYPE_WORD": "REASON_TYPE"}
 
 
 def enumerator(name: str) -> str:
@@ -103,7 +108,7 @@ def enumerator(name: str) -> str:
     return "PIPAPO_" + RENAMED.get(upper, upper)
 
 
-def numbers(codes: str, shapes: str) -> dict[str, int]:
+def numbers(codes: str, sources: str) -> dict[str, int]:
     """The number of each enumerator in the Rattle sources."""
     found = {"PIPAPO_OK": 0}
     for name, number in re.findall(r"^code_of (?:\(Refused \(?)?(\w+).*? = (\d+)$", codes, re.M):
@@ -111,8 +116,10 @@ def numbers(codes: str, shapes: str) -> dict[str, int]:
     outcome = r"^(?:added_as \((\w+) id\)|destroyed_as (None)|(removed)_as id|(refused)_as other) = .*outcome = (\d+) \}$"
     for *names, number in re.findall(outcome, codes, re.M):
         found[enumerator("".join(names))] = int(number)
-    for number, of, name in re.findall(r"(\d+) => (?:Some\()?(Kind|Family)::(\w+)", shapes):
+    for number, of, name in re.findall(r"(\d+) => (?:Some\()?(Kind|Family)::(\w+)", sources):
         found[enumerator(("Family" if of == "Family" else "") + name)] = int(number)
+    for name, number in re.findall(r"Reason::(\w+) => (\d+)", sources):
+        found[enumerator("Reason" + name)] = int(number)
     return found
 
 
@@ -133,7 +140,7 @@ def main() -> None:
     compare("structs", set(re.findall(r"^(?:typedef struct \{.*)?\} (pipapo_\w+);", header, re.M)), set(sum(STRUCTS.values(), [])))
     sizes = {name: int(size) for name, size in re.findall(r"prove!\(size_of::<(\w+)>\(\) == (\d+)\)", sources)}
     compare("proved sizes", set(sizes), set(crossing))
-    numbered = numbers((handles / "specs/Codes.antt").read_text(), (handles / "src/shapes.rt").read_text())
+    numbered = numbers((handles / "specs/Codes.antt").read_text(), sources)
     enumerators = set(re.findall(r"^    (PIPAPO_\w+) = ", header, re.M))
     compare("enumerators", enumerators, enumerators & set(numbered))
     print('#include "pipapo.h"')
