@@ -68,11 +68,12 @@ fn is_blanked(text: &[u8], rest: &[u8], word: &[u8]) -> bool {
 }
 
 /// Whether an earlier error may have caused this one: the token names a set that a statement before it,
-/// which was refused, names, too. Or it is a `}` that closes nothing.
+/// which was refused, names, too. Or it is a `}` that closes nothing, or the `set` of a table that isn't
+/// open.
 pub(crate) fn is_caused(text: &[u8], rest: &[u8], bad: BadToken, token: &[u8]) -> bool {
     match bad.reason {
         Reason::Set => is_blanked(text, rest, token),
-        Reason::Statement => token == b"}".as_slice(),
+        Reason::Statement => token == b"}".as_slice() || token == b"set".as_slice(),
         _ => false,
     }
 }

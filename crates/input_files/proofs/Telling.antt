@@ -52,9 +52,13 @@ one-further name most less rest left note more all bad count part is_bad begins 
     let others = subst (λ (t : List ℕ). AreFurther name less t more) part.2 further in
     subst (λ (n : ℕ). AreFurther name n rest all) (sym count) (subst (λ (t : List ℕ). AreFurther name (suc less) rest t) (sym whole) (one_more less part.0 part.1 rest note more mine others))
 
--- A note on the first bad token alone, and with further ones.
-pub first-alone : (name text note : List ℕ) (bad : BadToken) → Begins (place_text name bad.line bad.column) note → IsScriptNote name text bad note
-first-alone name text note bad begins = record { first = note; more = []; begins = begins; further = no_more 9 text; whole = sym (append-nil note) }
+-- No further note.
+pub none_further : (name : List ℕ) (most : ℕ) (rest notes : List ℕ) → notes ≡ [] → AreFurther name most rest notes
+none_further name most rest notes none = subst (λ (t : List ℕ). AreFurther name most rest t) (sym none) (no_more most rest)
+
+-- A note on the first bad token alone.
+pub first_alone : (name text note : List ℕ) (bad : BadToken) → Begins (place_text name bad.line bad.column) note → IsScriptNote name text bad note
+first_alone name text note bad begins = record { first = note; more = []; begins = begins; further = no_more 9 text; whole = sym (append-nil note) }
 
 -- A note on a capture begins with its byte, whatever is known of its bytes.
 pub capture-note : (told : List ℕ → Option (List ℕ)) (name : List ℕ) (sets : List SetDecl) (byte : ℕ) (reason : CaptureReason) (before mid now : Option (List ℕ)) → mid ≡ before → MayTell (Begins (byte_text name byte)) mid now

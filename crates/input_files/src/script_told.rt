@@ -15,8 +15,12 @@ use token_forms::BadToken;
 /// How many errors a note shows after the first one.
 pub const MOST_FURTHER: u64 = 9;
 
+/// The most bytes of a script that is read again for further errors.
+const MOST_READ_AGAIN: usize = 1_048_576;
+
 /// The notes on the bad tokens after this one, at most so many. Each is the bad token of the script without
 /// the statements of those before it. In `rest` these are blanked out, except for this one's.
+#[tactic(auto, using(crate::proofs::Telling::none_further))]
 fn further(
     alloc: Global,
     name: &str,
@@ -31,23 +35,29 @@ fn further(
         return Ok(Note::new(alloc));
     }
     let left = without_statement(alloc, rest, bad.at)?;
-    match bad_token(alloc, left.as_slice()) {
-        Ok(Some(next)) if next.at > bad.at => {
-            let mut notes = further_note(alloc, name, text, left.as_slice(), next)?;
-            let more = further(alloc, name, text, left.as_slice(), next, most - 1)?;
+    let bytes = left.as_slice();
+    let found = bad_token(alloc, bytes)?;
+    match found {
+        Some(next) if next.at > bad.at => {
+            let mut notes = further_note(alloc, name, text, bytes, next)?;
+            let more = further(alloc, name, text, bytes, next, most - 1)?;
             notes.join(&more)?;
             Ok(notes)
         }
-        Ok(_) => Ok(Note::new(alloc)),
-        Err(_) => Err(Memory),
+        _ => Ok(Note::new(alloc)),
     }
 }
 
-/// The note on a script that isn't in its grammar, on its bad token and on further ones.
+/// The note on a script that isn't in its grammar, on its bad token and on further ones. A long script isn't
+/// read again.
+#[tactic(auto, using(crate::proofs::Telling::first_alone))]
 fn script_note(alloc: Global, name: &str, text: &[u8], bad: BadToken) -> Result<Note, Memory>
     ensures { IfOk result (λ note. IsScriptNote name.now text.now bad note.bytes.items) }
 {
     let mut note = bad_text_note(alloc, TextKind::Script, name, text, bad)?;
+    if text.len() > MOST_READ_AGAIN {
+        return Ok(note);
+    }
     if is_other_kind(alloc, text, bad)? {
         return Ok(note);
     }
