@@ -154,6 +154,50 @@ MISTAKES = [
 ]
 
 
+DECLARE = "declare the set first: add set [FAMILY] TABLE SET { type .. }"
+TOO_GREAT = "doesn't fit field 1 (inet_service): 70000 is greater than 65535, the last port"
+
+# scripts with several mistakes. Each has its line, its column, what is wrong, what to do, and whether an earlier one may be the cause
+SEVERAL = [
+    (
+        SETS + "add element ip t p { 80-22 }\nadd element ip t a { 10.0.0.1 }\nadd element ip t p { 443 }\nadd element ip t p { web }\n",
+        [
+            (2, 22, "'80-22' doesn't fit field 1 (inet_service): 80 is greater than 22, and a range begins with the smaller value", "write 22-80", False),
+            (3, 31, "'}' ends the element after 1 field", PAIR, False),
+            (5, 22, "'web' doesn't fit field 1 (inet_service): it isn't a port", PORT, False),
+        ],
+    ),
+    (
+        "add set ip t q { type port; }\nadd element ip t q { 80 }\ncommit\n",
+        [(1, 23, "'port' isn't a supported type", TYPES, False), (2, 18, "'q' isn't a set that is declared before this place", DECLARE, True)],
+    ),
+    (
+        SETS + "add element ip t p { 70000 }; add element ip t p { 70000 }\n",
+        [(2, 22, "'70000' " + TOO_GREAT, PORT, False), (2, 52, "'70000' " + TOO_GREAT, PORT, False)],
+    ),
+    (
+        "table ip t {\n\tset s {\n\t\ttype port\n\t}\n}\nadd element ip t s { 1 }\nbogus\nadd element ip t r { 1 }\n",
+        [
+            (3, 8, "'port' isn't a supported type", TYPES, False),
+            (6, 18, "'s' isn't a set that is declared before this place", DECLARE, True),
+            (7, 1, "'bogus' begins no statement", STATEMENTS, False),
+            (8, 18, "'r' isn't a set that is declared before this place", DECLARE, False),
+        ],
+    ),
+    (
+        "table ip t\nset s { type mark; }\n}\n",
+        [
+            (1, 11, "the end of the line can't follow the table's name", "write '{' after it, or 'add table' before it", False),
+            (2, 1, "'set' begins no statement", "write 'add' before it", True),
+            (3, 1, "'}' closes no '{'", "remove it, or add the '{' that is missing before it", True),
+        ],
+    ),
+    # ten at most
+    (SETS + "add element ip t p { 70000 }\n" * 12, [(line, 22, "'70000' " + TOO_GREAT, PORT, False) for line in range(2, 12)]),
+    # the rest of a script with an open brace is no statement of its own
+    (SETS + "add element ip t p { 70000\nadd element ip t p { 70000 }\n", [(2, 22, "'70000' " + TOO_GREAT, PORT, False)]),
+]
+
 RUN = "usage: pipapo run SCRIPT KEYS [--threads N] [--keep-going]"
 LIST = "usage: pipapo list SCRIPT [--keep-going]"
 JUDGE = "usage: pipapo judge SCRIPT RULES KEYS [--threads N] [--keep-going]"
@@ -207,6 +251,12 @@ WORD_MISTAKES = [
     ("list a --threads 4", "'--threads' isn't an option of this command", LIST),
     ("get --threads 4 a t", "'--threads' isn't an option of this command", GET),
 ]
+
+
+def several_notes(name, script, mistakes):
+    """The whole text on a script with several mistakes."""
+    cause = {False: "", True: "an earlier error may have caused this one\n"}
+    return "".join(note(name, (script, *mistake[:4], None)) + cause[mistake[4]] for mistake in mistakes)
 
 
 def word_note(mistake):

@@ -10,7 +10,7 @@ import subprocess
 import sys
 import tempfile
 
-from mistakes import MISTAKES, WORD_MISTAKES, note, word_note
+from mistakes import MISTAKES, SEVERAL, WORD_MISTAKES, note, several_notes, word_note
 
 LARGE = 67_108_865
 
@@ -63,6 +63,7 @@ FILES = {
 
 # each mistake in a script of its own
 FILES |= {f"mistake{number}.nft": mistake[0] for number, mistake in enumerate(MISTAKES)}
+FILES |= {f"several{number}.nft": script for number, (script, _) in enumerate(SEVERAL)}
 
 USAGE = re.compile("pipapo: usage: ")
 
@@ -89,12 +90,15 @@ def cases(shown):
         ("statement.nft", 2, 1, "'drop' begins no statement", "statement"),
     ]:
         yield ["list", name], placed(name, line, column, said), f"pipapo: script line {line}: {why}", 3
-    yield [*run, "bad.keys"], placed("bad.keys", 2, 11, "'.' can't come here"), "pipapo: keys line 2: statement", 4
+    yield [*run, "bad.keys"], placed("bad.keys", 2, 11, "'.' begins one more field, and the set has 1 field"), "pipapo: keys line 2: statement", 4
     yield ["judge", "good.nft", "bad.rules", "good.keys"], placed("bad.rules", 1, 22, "'q' isn't a set of the script"), "pipapo: rules line 1: set", 9
     yield ["capture", "good.nft", "bad.plan", "empty.pcap"], placed("bad.plan", 1, 8, "'ip_saddr' doesn't fit the type of this field"), "pipapo: plan line 1: type", 11
     for number, mistake in enumerate(MISTAKES):
         name = f"mistake{number}.nft"
         yield ["list", name], note(name, mistake), re.compile(rf"pipapo: script line {mistake[1]}: .*\n"), 3
+    for number, (script, mistakes) in enumerate(SEVERAL):
+        name = f"several{number}.nft"
+        yield ["list", name], several_notes(name, script, mistakes), re.compile(rf"pipapo: script line {mistakes[0][0]}: .*\n"), 3
     # other files in a text's place
     for name, said in [
         ("gzip.nft", "this is a file that gzip has packed: unpack it first"),

@@ -30,7 +30,7 @@ fn hex(digit: u8) -> u8
 
 impl Note {
     /// An empty note. It takes no memory.
-    pub(crate) fn new(alloc: Global) -> Note
+    pub fn new(alloc: Global) -> Note
         ensures { result.bytes.items ≡ [] }
     {
         Note {
@@ -134,7 +134,11 @@ impl Note {
     }
 
     /// Adds another note.
-    pub(crate) fn join(&mut self, other: &Note) -> Result<(), Memory>
+    ///
+    /// # Errors
+    ///
+    /// `Memory` if memory runs out.
+    pub fn join(&mut self, other: &Note) -> Result<(), Memory>
         ensures { OnOk result (self.new.bytes.items ≡ self.old.bytes.items ++ other.now.bytes.items) }
     {
         self.append(other.as_slice())
