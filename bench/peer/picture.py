@@ -43,7 +43,8 @@ class Scale:
         return round(self.start + (math.log10(value) - self.low) / (self.high - self.low) * (self.end - self.start), 1)
 
     def ticks(self):
-        steps = (1, 3) if self.high - self.low < 3.5 else (1,)
+        decades = self.high - self.low
+        steps = (1, 2, 5) if decades < 1.5 else (1, 3) if decades < 3.5 else (1,)
         for power in range(math.floor(self.low), math.ceil(self.high)):
             for step in steps:
                 value = step * 10.0**power

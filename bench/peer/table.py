@@ -103,6 +103,9 @@ def milliseconds(value):
     return "-" if value is None else f"{value:.3g}"
 
 
+COLUMNS = ((millions, "lookups_per_s"), (millions, "inserts_per_s"), (milliseconds, "commit_ms"))
+
+
 def table(folder, rows):
     """Prints the rows as they come, and returns them."""
     who = list(programs(folder))
@@ -119,9 +122,6 @@ def table(folder, rows):
     return kept
 
 
-COLUMNS = ((millions, "lookups_per_s"), (millions, "inserts_per_s"), (milliseconds, "commit_ms"))
-
-
 def words_of(line):
     parser = argparse.ArgumentParser(prog="bench/peers", usage="bench/peers [verify] [--sizes] [--svg FILE] [WORKLOAD|ELEMENTS ..]")
     parser.add_argument("--sizes", action="store_true")
@@ -132,8 +132,10 @@ def words_of(line):
         parser.error(f"there is no folder for {words.svg}")
     words.is_check = words.names[:1] == ["verify"]
     words.names = words.names[words.is_check:]
+    if words.is_check and (words.sizes or words.svg):
+        parser.error("verify takes names of workloads alone")
     if words.sizes:
-        if words.is_check or not all(name.isdecimal() and 10 <= int(name) <= SIZES[-1] for name in words.names):
+        if not all(name.isdecimal() and 10 <= int(name) <= SIZES[-1] for name in words.names):
             parser.error(f"--sizes takes numbers of elements, from 10 to {SIZES[-1]}")
         words.names = [int(name) for name in words.names] or SIZES
     elif not set(words.names) <= set(OF_PEERS):
