@@ -127,7 +127,7 @@ def words_of(line):
     parser.add_argument("--sizes", action="store_true")
     parser.add_argument("--svg", metavar="FILE")
     parser.add_argument("names", nargs="*")
-    words = parser.parse_args(line)
+    words = parser.parse_intermixed_args(line)
     if words.svg and not os.path.isdir(os.path.dirname(os.path.abspath(words.svg))):
         parser.error(f"there is no folder for {words.svg}")
     words.is_check = words.names[:1] == ["verify"]
