@@ -1,6 +1,7 @@
 -- What is kept of a ruleset's text, and what is noted of the rest.
 use Rattle.std.specs.Prelude.{◌≡◌, ◌<◌, ℕ, ◌+◌, List, [], ◌∷◌, ◌++◌, length, slice_index, Bool, true, false, ◌&&◌, ◌||◌, not, nat_le, nat_lt, Option, Some, None, if◌then◌else◌}
 use Rattle.std.specs.List.{list_any, find, filter, flat_map}
+use Rattle.token_forms.specs.Bytes.{is_line_feed as is_feed_byte}
 use Rattle.ruleset_sets.specs.declared.role.Role.{Role}
 use Rattle.ruleset_sets.specs.declared.role_token.RoleToken.{RoleToken}
 use Rattle.ruleset_sets.specs.declared.sieve.SkipReason.{SkipReason}
@@ -96,3 +97,7 @@ kept_byte taken k b = blank_if (list_any (is_within k) taken) b
 pub record IsKept (text : List ℕ) (taken : List RoleToken) (kept : List ℕ) : Type 0 where
   pub same_length : length kept ≡ length text
   pub each : (k : ℕ) → k < length text → slice_index kept k ≡ kept_byte taken k (slice_index text k)
+
+-- Both texts have their line feeds at the same places. So a place is in the same line and column of both.
+abbrev pub HaveSameLines : List ℕ → List ℕ → Type 0
+HaveSameLines text kept = (k : ℕ) → k < length text → is_feed_byte (slice_index kept k) ≡ is_feed_byte (slice_index text k)

@@ -26,7 +26,8 @@
 //!     line 12    chain input      skipped
 //!
 //! What is kept is a text of the same length. Every byte of a token that isn't kept is a blank in it, and
-//! every other byte is the ruleset's own. So each of its tokens has its line and its column in the ruleset.
+//! every other byte is the ruleset's own. Line feeds stay, so every place has its line and its column in the
+//! ruleset ([`same_lines_law`]).
 //! It is a script if the ruleset's braces are balanced and its sets are in the grammar. [`read_ruleset`]
 //! returns that script, with the notes. [`bad_token`] finds the place of a refusal.
 //!
@@ -49,5 +50,5 @@ pub use reading::{Ruleset, bad_token, leaves_sets_out, read_ruleset};
 pub use role::Role;
 pub use role_token::RoleToken;
 pub use sieve::SkipReason;
-pub use sieved::{Sieved, sieve_ruleset};
+pub use sieved::{Sieved, same_lines_law, sieve_ruleset};
 pub use skipped::{Skipped, Skips};

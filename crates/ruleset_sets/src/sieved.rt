@@ -1,6 +1,6 @@
 ghost use Rattle.std.specs.Prelude.{◌≡◌, ◌++◌, ◌<◌, ℕ, IfOk, OnOk, length, slice_index};
 ghost use Rattle.ruleset_sets.specs.Items.{cuts};
-ghost use Rattle.ruleset_sets.specs.Kept.{IsKept, all_taken, notes, taken_from, notes_by, taken_in, notes_in, kept_byte};
+ghost use Rattle.ruleset_sets.specs.Kept.{IsKept, HaveSameLines, all_taken, notes, taken_from, notes_by, taken_in, notes_in, kept_byte};
 
 use crate::blanks::{blank_all, taken_out};
 use crate::item::{Item, Level, item_before};
@@ -12,8 +12,8 @@ use std::alloc::Global;
 /// What is kept of a ruleset, and what isn't.
 #[derive(Drop)]
 pub struct Sieved {
-    /// The ruleset's text, with blanks in place of what isn't kept. It is a script, or is refused as
-    /// one, and each of its tokens has its line and its place in the ruleset.
+    /// The ruleset's text, with blanks in place of what isn't kept. Every place has the line and the
+    /// column that it has in the ruleset.
     pub text: Vec<u8>,
     /// What isn't kept.
     pub skips: Skips,
@@ -59,7 +59,9 @@ fn sieve_all(
 
 /// Keeps the sets of a ruleset, and the statements on sets.
 ///
-/// `Memory` is returned if memory runs out.
+/// # Errors
+///
+/// `Memory` if memory runs out.
 pub fn sieve_ruleset(alloc: Global, whole: &[u8]) -> Result<Sieved, Memory>
     ensures text { IfOk result (λ s. IsKept whole.now (all_taken whole.now) s.text.items) }
     ensures skips { IfOk result (λ s. s.skips ≡ notes whole.now) }
@@ -70,3 +72,9 @@ pub fn sieve_ruleset(alloc: Global, whole: &[u8]) -> Result<Sieved, Memory>
     sieve_all(alloc, text.as_mut_slice(), &mut skips, tokens.as_slice())?;
     Ok(Sieved { text, skips })
 }
+
+/// What is kept of a ruleset has its line feeds at the ruleset's places. So each place of it has the
+/// line and the column that it has in the ruleset.
+pub fn same_lines_law(_whole: &[u8], _kept: &[u8])
+    ensures { IsKept _whole.now (all_taken _whole.now) _kept.now → HaveSameLines _whole.now _kept.now }
+{}
