@@ -50,5 +50,6 @@ pub use help::TextKind;
 pub use note::Note;
 pub use pcap_keys::CaptureReason;
 pub use refusals::refusals_note;
+pub use refused::{RefusedChange, RefusedChanges};
 pub use token_forms::BadToken;
 pub use told::tell_note;
