@@ -35,7 +35,7 @@ ended-above due status above (inr is) e = omega (arith, is, e)
 due-above : (words : List (List ℕ)) (shelf : Shelved) (status : ℕ) (text : List ℕ) → IsDueNote words shelf status text → status ≡ 0 → ⊥
 due-above words shelf status text (on_file d fault stops t is_d is ended) e = ended-above (file_status fault) status (let above = file-above fault in omega (arith, above)) ended e
 due-above words shelf status text (on_sections name t has is ended) e = ended-above 12 status (omega arith) ended e
-due-above words shelf status text (on_changes c name output t refusals has is_c names are is ended) e = ended-above 1 status (omega arith) ended e
+due-above words shelf status text (on_changes c name output t refusals failed has is_c names are is ended) e = ended-above 1 status (omega arith) ended e
 
 -- What was told, or not told as memory ran out.
 pub told-may : {T E : Type 0} (r : Result T E) (IsNote : List ℕ → Type 0) (before now : Option (List ℕ)) → OnOk r (HasTold IsNote before now) → OnErr r (now ≡ before) → MayTell IsNote before now
@@ -43,13 +43,13 @@ told-may (Ok x) IsNote before now h silent = note h.0 h.1 h.2 h.3
 told-may (Err e) IsNote before now h silent = nothing silent
 
 -- The same of the refused changes.
-pub changes-may : (d : Command) (out : Output) (before now : Option (List ℕ)) (r : Result Bool Memory) → TellsChanges d out before now r → MayTell (IsNoteDue d out.refused out.refusals.items) before now
+pub changes-may : (d : Command) (out : Output) (before now : Option (List ℕ)) (r : Result Bool Memory) → TellsChanges d out before now r → MayTell (IsNoteDue d out.refused out.refusals.items out.failed) before now
 changes-may d out before now (Ok true) h = note h.0 h.1 h.2 h.3
 changes-may d out before now (Ok false) h = nothing h.1
 changes-may d out before now (Err e) h = nothing h
 
 -- If the output reports a refusal, the answer is about the command whose script has this name.
-pub changes-told : (d : Command) (name : List ℕ) (out : Output) (before now : Option (List ℕ)) (r : Result Bool Memory) → NamesScript d name → out.refused ≡ true → TellsOf (IsNoteOnChanges name out.refusals.items) out before now r → TellsChanges d out before now r
+pub changes-told : (d : Command) (name : List ℕ) (out : Output) (before now : Option (List ℕ)) (r : Result Bool Memory) → NamesScript d name → out.refused ≡ true → TellsOf (IsNoteOnChanges name out.refusals.items out.failed) out before now r → TellsChanges d out before now r
 changes-told d name out before now (Ok true) names is h = (h.0, h.1, (name, names, is, h.2), h.3)
 changes-told d name out before now (Ok false) names is h = (none h.0, h.1) where
   none : (out.refusals.items ≡ []) ⊎ (out.script ≡ None) → HasNothingToTell d out
@@ -85,9 +85,9 @@ module _ (c : Call) where
       (tells-as (Begins (name_text name)) (IsDueNote c.words c.shelf c.status) mid c.noted_now (λ text is. on_sections name text has is ended) tells)
 
   -- The note on refused changes is due.
-  pub changes-noted : (d : Command) (refused : Bool) (output : List ℕ) (refusals : List Refusal) → HasOutput c.words c.shelf refused output → IsCommand c.words d → AreRefused d c.shelf.told refused output refusals
-      → Ended (done_status refused) c.status → (mid : Option (List ℕ)) → mid ≡ c.noted_before → MayTell (IsNoteDue d refused refusals) mid c.noted_now → IsNoted c
-  changes-noted d refused output refusals has is_d are ended mid silent tells =
+  pub changes-noted : (d : Command) (refused : Bool) (output : List ℕ) (refusals : List Refusal) (failed : Bool) → HasOutput c.words c.shelf refused output → IsCommand c.words d → AreRefused d c.shelf.told refused output refusals failed
+      → Ended (done_status refused) c.status → (mid : Option (List ℕ)) → mid ≡ c.noted_before → MayTell (IsNoteDue d refused refusals failed) mid c.noted_now → IsNoted c
+  changes-noted d refused output refusals failed has is_d are ended mid silent tells =
       subst (λ (b : Option (List ℕ)). MayTell (IsDueNote c.words c.shelf c.status) b c.noted_now) silent
-      (tells-as (IsNoteDue d refused refusals) (IsDueNote c.words c.shelf c.status) mid c.noted_now
-      (λ text is. on_changes d is.0 output text refusals (subst (λ (r : Bool). HasOutput c.words c.shelf r output) is.2 has) is_d is.1 (subst (λ (r : Bool). AreRefused d c.shelf.told r output refusals) is.2 are) is.3 (subst (λ (r : Bool). Ended (done_status r) c.status) is.2 ended)) tells)
+      (tells-as (IsNoteDue d refused refusals failed) (IsDueNote c.words c.shelf c.status) mid c.noted_now
+      (λ text is. on_changes d is.0 output text refusals failed (subst (λ (r : Bool). HasOutput c.words c.shelf r output) is.2 has) is_d is.1 (subst (λ (r : Bool). AreRefused d c.shelf.told r output refusals failed) is.2 are) is.3 (subst (λ (r : Bool). Ended (done_status r) c.status) is.2 ended)) tells)

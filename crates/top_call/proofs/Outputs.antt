@@ -49,12 +49,12 @@ is-output told c (works.Get s key moment g) refused text w h = subst (λ (x : Co
 is-output told c (works.Drill seed count n) refused text w h = subst (λ (x : Command). IsOutput x told refused text) (sym w) (h.1, h.0)
 
 -- The refused changes that a work's output has as data are the command's.
-pub are-refused : (told : List ℕ → Option (List ℕ)) (c : Command) (w : Work) (out : Output) → IsWork told c w → GivesRefusals w out → AreRefused c told out.refused out.text.items out.refusals.items
-are-refused told c (works.Run s packets n g) out w h = subst (λ (x : Command). AreRefused x told out.refused out.text.items out.refusals.items) (sym w.2) (λ text at. (s, (w.3 text at).1, h.refusals_are))
-are-refused told c (works.List s g) out w h = subst (λ (x : Command). AreRefused x told out.refused out.text.items out.refusals.items) (sym w.1) (λ text at. (s, (w.2 text at).1, h.refusals_are))
-are-refused told c (works.Dump s g) out w h = subst (λ (x : Command). AreRefused x told out.refused out.text.items out.refusals.items) (sym w.1) (λ text at. (s, (w.2 text at).1, h.refusals_are))
-are-refused told c (works.Capture s plan frames n g) out w h = subst (λ (x : Command). AreRefused x told out.refused out.text.items out.refusals.items) (sym w.3) (λ text at. (s, (w.4 text at).1, h.refusals_are))
-are-refused told c (works.Judge s chains packets n g) out w h = subst (λ (x : Command). AreRefused x told out.refused out.text.items out.refusals.items) (sym w.3) (λ text at. (s, (w.4 text at).1, h.refusals_are))
-are-refused told c (works.Desk s g) out w h = subst (λ (x : Command). AreRefused x told out.refused out.text.items out.refusals.items) (sym w.1) (λ text at. (s, (w.2 text at).1, h.desk, h.refusals_are))
-are-refused told c (works.Get s key moment g) out w h = subst (λ (x : Command). AreRefused x told out.refused out.text.items out.refusals.items) (sym w.1) (λ text at. (s, (w.2 text at).1, h.refusals_are))
-are-refused told c (works.Drill seed count n) out w h = subst (λ (x : Command). AreRefused x told out.refused out.text.items out.refusals.items) (sym w) tt
+pub are-refused : (told : List ℕ → Option (List ℕ)) (c : Command) (w : Work) (out : Output) → IsWork told c w → GivesRefusals w out → AreRefused c told out.refused out.text.items out.refusals.items out.failed
+are-refused told c (works.Run s packets n g) out w h = subst (λ (x : Command). AreRefused x told out.refused out.text.items out.refusals.items out.failed) (sym w.2) (λ text at. (s, (w.3 text at).1, h.0.refusals_are, h.1))
+are-refused told c (works.List s g) out w h = subst (λ (x : Command). AreRefused x told out.refused out.text.items out.refusals.items out.failed) (sym w.1) (λ text at. (s, (w.2 text at).1, h.0.refusals_are, h.1))
+are-refused told c (works.Dump s g) out w h = subst (λ (x : Command). AreRefused x told out.refused out.text.items out.refusals.items out.failed) (sym w.1) (λ text at. (s, (w.2 text at).1, h.0.refusals_are, h.1))
+are-refused told c (works.Capture s plan frames n g) out w h = subst (λ (x : Command). AreRefused x told out.refused out.text.items out.refusals.items out.failed) (sym w.3) (λ text at. (s, (w.4 text at).1, h.0.refusals_are, h.1))
+are-refused told c (works.Judge s chains packets n g) out w h = subst (λ (x : Command). AreRefused x told out.refused out.text.items out.refusals.items out.failed) (sym w.3) (λ text at. (s, (w.4 text at).1, h.0.refusals_are, h.1))
+are-refused told c (works.Desk s g) out w h = subst (λ (x : Command). AreRefused x told out.refused out.text.items out.refusals.items out.failed) (sym w.1) (λ text at. (s, (w.2 text at).1, h.desk, h.refusals_are, h.failed_is))
+are-refused told c (works.Get s key moment g) out w h = subst (λ (x : Command). AreRefused x told out.refused out.text.items out.refusals.items out.failed) (sym w.1) (λ text at. (s, (w.2 text at).1, h.0.refusals_are, h.1))
+are-refused told c (works.Drill seed count n) out w h = subst (λ (x : Command). AreRefused x told out.refused out.text.items out.refusals.items out.failed) (sym w) tt

@@ -1,5 +1,5 @@
 -- The note for a person beside a call's output.
-use Rattle.std.specs.Prelude.{◌≡◌, ◌⊎◌, ℕ, true, List}
+use Rattle.std.specs.Prelude.{◌≡◌, ◌⊎◌, ℕ, Bool, true, List}
 use Rattle.command_words.specs.Words.{Command, IsCommand}
 use Rattle.fault_notes.specs.Shown.{Begins, name_text}
 use Rattle.fault_notes.specs.Told.{MayTell}
@@ -23,7 +23,7 @@ Ended due status = (status ≡ due) ⊎ (status ≡ 6)
 pub data IsDueNote (words : List (List ℕ)) (shelf : Shelved) (status : ℕ) : List ℕ → Type 0 where
   on_file : (c : Command) (fault : FileFault) (stops : StopsAt shelf c fault) (text : List ℕ) → IsCommand words c → IsNoteOn shelf.told stops.sets stops.input.name fault text → Ended (file_status fault) status → IsDueNote words shelf status text
   on_sections : (name text : List ℕ) → HasManySections words shelf name → Begins (name_text name) text → Ended 12 status → IsDueNote words shelf status text
-  on_changes : (c : Command) (name output text : List ℕ) (refusals : List Refusal) → HasOutput words shelf true output → IsCommand words c → NamesScript c name → AreRefused c shelf.told true output refusals → IsNoteOnChanges name refusals text → Ended 1 status → IsDueNote words shelf status text
+  on_changes : (c : Command) (name output text : List ℕ) (refusals : List Refusal) (failed : Bool) → HasOutput words shelf true output → IsCommand words c → NamesScript c name → AreRefused c shelf.told true output refusals failed → IsNoteOnChanges name refusals failed text → Ended 1 status → IsDueNote words shelf status text
 
 -- A call writes no note, or one note that is due.
 abbrev pub IsNoted : Call → Type 0

@@ -45,7 +45,7 @@ fn changes_note(
     script: &Script,
     output: &Output,
 ) -> Result<Note, Memory>
-    ensures { IfOk result (λ note. IsNoteOnChanges name.now output.now.refusals.items note.bytes.items) }
+    ensures { IfOk result (λ note. IsNoteOnChanges name.now output.now.refusals.items output.now.failed note.bytes.items) }
 {
     let refusals = output.refusals.as_slice();
     let first = first_changes(alloc, refusals)?;
@@ -65,7 +65,7 @@ fn tell_changes<N: Notes>(
     script_text: &[u8],
     output: &Output,
 ) -> Result<bool, Memory>
-    ensures { TellsOf (IsNoteOnChanges name.now output.now.refusals.items) output.now (N.told notes.old) (N.told notes.new) result }
+    ensures { TellsOf (IsNoteOnChanges name.now output.now.refusals.items output.now.failed) output.now (N.told notes.old) (N.told notes.new) result }
 {
     let Some(script) = &output.script else {
         return Ok(false);

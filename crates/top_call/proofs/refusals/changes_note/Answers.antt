@@ -13,5 +13,5 @@ returns c =
     let first : c.as_slice.result.now ≡ map change_of (take most_told refusals) = c.as_slice.ensures.value ∙ c.in_ok-first.ensures ∙ ap (λ (rs : List Refusal). map change_of (take most_told rs)) given in
     let count : length c.as_slice-refusals.result.now ≡ length refusals = ap length given in
     ok-as c.refusals_note.result
-    (λ note is. (c.args.output.now.failed, subst (λ (z : List RefusedChange × ℕ). IsRefusalsNote c.args.name.now z.0 z.1 c.args.output.now.failed note.bytes.items) (λ i. (first i, count i)) is))
+    (λ note is. subst (λ (z : List RefusedChange × ℕ). IsRefusalsNote c.args.name.now z.0 z.1 c.args.output.now.failed note.bytes.items) (λ i. (first i, count i)) is)
     c.refusals_note.ensures
