@@ -59,6 +59,8 @@ FILES = {
     "desk.nft": PORTS + "add element ip t p { 80 }\nround\ncreate element ip t p { 80 }\n",
     "missing.nft": PORTS + "delete element ip t p { 81 }\n",
     "many.nft": PORTS + "".join(f"delete element ip t p {{ {port} }}\n" for port in range(1, 26)),
+    "twenty.nft": PORTS + "".join(f"delete element ip t p {{ {port} }}\n" for port in range(1, 21)),
+    "one_more.nft": PORTS + "".join(f"delete element ip t p {{ {port} }}\n" for port in range(1, 22)),
 }
 
 # each mistake in a script of its own
@@ -143,9 +145,13 @@ def cases(shown):
     yield ["run", "missing.nft", "good.keys"], "missing.nft:2:25: 81 is no element of the set\n", None, 1
     many = "".join(f"many.nft:{line}:25: {line - 1} is no element of the set\n" for line in range(2, 22))
     yield ["run", "many.nft", "good.keys", "--keep-going"], many + "many.nft: 5 more changes are refused\n", None, 1
+    yield ["list", "twenty.nft", "--keep-going"], many.replace("many.nft", "twenty.nft"), None, 1
+    yield ["list", "one_more.nft", "--keep-going"], many.replace("many.nft", "one_more.nft") + "one_more.nft: 1 more change is refused\n", None, 1
+    yield ["get", "twenty.nft", "80", "--keep-going"], many.replace("many.nft", "twenty.nft"), None, 1
+    yield ["get", "good.nft", "81"], "", None, 1
     # several control threads
     yield ["desk", "clerks.nft"], "clerks.nft: the script has 18 sections, and desk runs 17 at most: the first, and one for each of 16 control threads; join some, by leaving lines 'round' out\n", "pipapo: too many clerks: clerks.nft", 12
-    yield ["desk", "desk.nft"], "desk.nft:4:25: 80 exists already\n" + failed.replace("overlap.nft", "desk.nft"), None, 1
+    yield ["desk", "desk.nft"], "desk.nft:4:25: 80 exists already (line 2)\n" + failed.replace("overlap.nft", "desk.nft"), None, 1
     # where nothing is told
     yield [*run, "good.keys"], "", None, 0
     yield ["drill", "7", "2000"], "", None, 0

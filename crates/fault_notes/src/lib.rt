@@ -57,5 +57,6 @@ pub use note::Note;
 pub use pcap_keys::CaptureReason;
 pub use refusals::refusals_note;
 pub use rest::without_statement;
+pub use refused::{RefusedChange, RefusedChanges};
 pub use token_forms::BadToken;
 pub use told::tell_note;

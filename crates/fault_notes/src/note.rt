@@ -129,7 +129,9 @@ impl Note {
     }
 
     /// Ends a line.
-    pub(crate) fn end_line(&mut self) -> Result<(), Memory> {
+    pub(crate) fn end_line(&mut self) -> Result<(), Memory>
+        ensures { OnOk result (self.new.bytes.items ≡ self.old.bytes.items ++ 10 ∷ []) }
+    {
         self.append(b"\n")
     }
 
