@@ -1,12 +1,13 @@
 /* Lookups a second through the library for C, and by the set alone. The driver of bench/c_library. */
 #define _GNU_SOURCE
+#include <dlfcn.h>
 #include <inttypes.h>
 
 #define PROGRAM "bench/c_library"
-#include "workload.h"
+#include "called.h"
 #include "pipapo.h"
 
-enum { ROUNDS = 25 };
+enum { ROUNDS = 25, PASSES = 8 };
 
 static const size_t widths[6] = {4, 16, 6, 1, 2, 4};
 static struct workload work;
@@ -81,19 +82,55 @@ static double one_round(size_t way, uint64_t *hits) {
     return time * 1e9 / (double)work.key_count;
 }
 
+/* The set alone, as bench/speed.c calls it: it is built anew in each call, so the time of a call without lookups is taken off. */
+static struct {
+    uint64_t (*run)(const uint32_t *, size_t, const uint64_t *, size_t, const uint64_t *, size_t, uint32_t, uint32_t, uint64_t *,
+                    size_t);
+    uint64_t *elements, *keys, *answers;
+} alone;
+
+static void open_alone(const char *name) {
+    void *library = dlopen(name, RTLD_NOW | RTLD_LOCAL);
+    if (!library) fail(dlerror());
+    *(void **)&alone.run = dlsym(library, "pipapo_run");
+    alone.elements = words_of(work.elements, work.element_count * work.fields * 2);
+    alone.keys = words_of(work.keys, work.key_count * work.fields);
+    alone.answers = calloc(work.key_count, sizeof *alone.answers);
+    if (!alone.run || !alone.answers) fail("the set alone can't be run");
+}
+
+static double run_alone(uint32_t passes) {
+    double start = cpu_seconds();
+    if (!alone.run(work.kinds, work.fields, alone.elements, work.element_count * work.fields * 4, alone.keys,
+                   work.key_count * work.fields * 2, passes, 0, alone.answers, work.key_count))
+        fail("out of memory");
+    return cpu_seconds() - start;
+}
+
 int main(int argc, char **argv) {
     static const size_t ways[] = {0, 1, 8, 64, 4096};
     static const char *const names[] = {"a call a key", "held", "8 keys a call", "64 keys a call", "4096 keys a call"};
     double best[5] = {1e9, 1e9, 1e9, 1e9, 1e9};
     uint64_t hits[5];
-    if (argc != 2) fail("usage: c_library FILE");
+    double building = 1e9, looking = 1e9;
+    uint64_t hits_alone = 0;
+    if (argc != 3) fail("usage: c_library FILE LIBRARY");
+    keep_memory();
     read_workload(&work, argv[1]);
     build();
-    for (int round = 0; round < ROUNDS; ++round)
+    open_alone(argv[2]);
+    for (int round = 0; round < ROUNDS; ++round) {
+        double without = run_alone(0), with = run_alone(PASSES);
+        if (without < building) building = without;
+        if (with < looking) looking = with;
         for (size_t i = 0; i < 5; ++i) {
             double time = one_round(ways[i], &hits[i]);
             if (time < best[i]) best[i] = time;
         }
+    }
+    for (size_t k = 0; k < work.key_count; ++k) hits_alone += alone.answers[k] != 0;
+    printf("%-17s %6.1f ns a lookup, %" PRIu64 " of %zu found\n", "the set alone",
+           (looking - building) * 1e9 / PASSES / (double)work.key_count, hits_alone, work.key_count);
     for (size_t i = 0; i < 5; ++i) printf("%-17s %6.1f ns a lookup, %" PRIu64 " of %zu found\n", names[i], best[i], hits[i], work.key_count);
     pipapo_free(&reader);
     pipapo_free(&control);

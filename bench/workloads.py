@@ -1,5 +1,5 @@
 #!/usr/bin/env python3
-"""Writes a workload for bench/speed: NAME ELEMENTS [hit|miss|mixed], or the NAME of one of bench/peers.
+"""Writes a workload for bench/speed: NAME ELEMENTS [hit|miss|mixed], or one of bench/peers: NAME, or network_port ELEMENTS.
 
 address-port   ranges of IPv4 addresses and of ports
 long-port      ranges of IPv6 addresses and of ports
@@ -13,7 +13,10 @@ ip_16k         16,384 addresses
 net_port_mix net_port_mix_100k
                networks of many sizes, an eighth of them ranges; ports single, in small ranges, or open; in no order
 
-Half of the keys of the second kind match; of the others one in four is random, and the rest mix two elements.
+network_port   networks of many sizes; ports single, 256 of one high byte, or all; in no order, and each field of an element is
+               one rule, so that up to 1,048,576 elements fit
+
+Half of the keys of the last two kinds match; of the others one in four is random, and the rest mix two elements.
 """
 import random
 import sys
@@ -66,15 +69,19 @@ def in_pairs(kinds, count):
     return elements
 
 
-def mixed_network(rng, base, room):
-    if rng.random() < 1 / 8:
-        low = base + rng.randrange(room // 2)
-        return low, rng.randrange(low, base + room)
+def network(rng, base, room):
     bits = rng.choice([0, 0, 0, 2, 3, 4, 5, 6, 8, 8, 8, 12])
     while (2 << bits) > room:
         bits -= 1
     low = (base + (1 << bits) - 1) >> bits << bits
     return low, low + (1 << bits) - 1
+
+
+def mixed_network(rng, base, room):
+    if rng.random() < 1 / 8:
+        low = base + rng.randrange(room // 2)
+        return low, rng.randrange(low, base + room)
+    return network(rng, base, room)
 
 
 def mixed_ports(rng):
@@ -91,9 +98,21 @@ def mixed_ports(rng):
     return 1024, 65535
 
 
-def mixed(rng, count):
+def ports_of_one_rule(rng):
+    share = rng.random()
+    if share < 0.75:
+        port = rng.choice([22, 25, 53, 80, 123, 443, 993, 3306, 5432, 8080, rng.randrange(1, 65536)])
+        return port, port
+    if share < 0.9:
+        low = rng.randrange(256) << 8
+        return low, low + 255
+    return 0, 65535
+
+
+def in_no_order(rng, count, pick_network, pick_ports):
+    """Elements of one network and some ports each, whose networks don't overlap."""
     room = (223 << 24) // count
-    elements = [[mixed_network(rng, (1 << 24) + n * room, room), mixed_ports(rng)] for n in range(count)]
+    elements = [[pick_network(rng, (1 << 24) + n * room, room), pick_ports(rng)] for n in range(count)]
     rng.shuffle(elements)
     return elements
 
@@ -116,6 +135,7 @@ OF_PEERS = {
     "net_port_100k": ([NET, PORT], 100000),
     "net_port_mix_100k": ([NET, PORT], 100000),
 }
+OF_SIZES = "network_port"
 
 
 def holds(element, key):
@@ -142,17 +162,28 @@ def of_peers(name):
     if name == "ip_16k":
         elements = addresses(rng, count)
     elif "mix" in name:
-        elements = mixed(rng, count)
+        elements = in_no_order(rng, count, mixed_network, mixed_ports)
     else:
         elements = in_pairs(kinds, count)
+    return kinds, elements, half_matching(rng, kinds, elements)
+
+
+def of_size(count):
+    """The workload network_port, of so many elements."""
+    rng = random.Random(f"pipapo network_port {count}")
+    elements = in_no_order(rng, count, network, ports_of_one_rule)
+    return [NET, PORT], elements, half_matching(rng, [NET, PORT], elements)
+
+
+def half_matching(rng, kinds, elements):
     keys = []
-    for n in range(65536 if count == 100000 else 16384):
+    for n in range(65536 if len(elements) >= 100000 else 16384):
         if n % 2:
             keys.append([rng.randint(low, high) for low, high in rng.choice(elements)])
         else:
             keys.append(missing_key(rng, kinds, elements))
     rng.shuffle(keys)
-    return kinds, elements, keys
+    return keys
 
 
 def drawn(name, count, share):
@@ -179,6 +210,8 @@ def drawn(name, count, share):
 def main():
     if len(sys.argv) == 2 and sys.argv[1] in OF_PEERS:
         kinds, elements, keys = of_peers(sys.argv[1])
+    elif len(sys.argv) == 3 and sys.argv[1] == OF_SIZES:
+        kinds, elements, keys = of_size(int(sys.argv[2]))
     elif len(sys.argv) in (3, 4):
         share = {"hit": 1.0, "miss": 0.0, "mixed": 0.5}[sys.argv[3] if len(sys.argv) > 3 else "mixed"]
         kinds, elements, keys = drawn(sys.argv[1], int(sys.argv[2]), share)

@@ -14,12 +14,30 @@ const char *pipapo_strerror(uint32_t error) {
     case PIPAPO_INTERVAL: return "an interval's low value is above its high value";
     case PIPAPO_TURN: return "the reader holds a generation already, or holds none";
     case PIPAPO_NUMBERS: return "there are no numbers for further generations";
+    case PIPAPO_SCRIPT: return "the text isn't a script";
+    case PIPAPO_CHANGE: return "a change of the script is refused";
     case PIPAPO_OVERLAP: return "a live element is in the way";
     case PIPAPO_EXISTS: return "a live element has the same intervals";
     case PIPAPO_FULL: return "the set is full";
     case PIPAPO_RULES_FULL: return "a field has too many rules";
     case PIPAPO_MISSING: return "no live element has these intervals";
     default: return "unknown error";
+    }
+}
+
+const char *pipapo_strreason(uint32_t reason) {
+    switch (reason) {
+    case PIPAPO_REASON_CHARACTER: return "this begins no token";
+    case PIPAPO_REASON_END: return "the text ends too early";
+    case PIPAPO_REASON_LEFT_OUT: return "this part of nft's language is left out";
+    case PIPAPO_REASON_TYPE: return "a field's type is wanted here";
+    case PIPAPO_REASON_VALUE: return "a value or an interval is wanted here";
+    case PIPAPO_REASON_TIME: return "a time is wanted here";
+    case PIPAPO_REASON_MOMENT: return "a moment is wanted here";
+    case PIPAPO_REASON_SET: return "the name of a declared set is wanted here";
+    case PIPAPO_REASON_NUMBER: return "a size is wanted here";
+    case PIPAPO_REASON_STATEMENT: return "another word or mark is wanted here";
+    default: return "unknown reason";
     }
 }
 

@@ -37,7 +37,7 @@
  * one call at a time. A handle may go to another thread through a lock, the start or end of a thread, or a sequentially
  * consistent atomic. Different handles need no order.
  *
- * MEMORY. Only pipapo_start, the changes and pipapo_commit allocate, by malloc and realloc. The control and each reader take
+ * MEMORY. Only the two starts, the changes and pipapo_commit allocate, by malloc and realloc. The control and each reader take
  * 768 KiB for the rows of a lookup, and the control takes the sets. A generation's memory is freed by the control.
  *
  * THE CALLER MUST SEE TO THIS, since no call can test it. Otherwise the behaviour is undefined:
@@ -109,6 +109,32 @@ typedef struct {
     uint8_t name[64];   /* the set's name, alike */
 } pipapo_set;
 
+/* Where a script starts nothing, and why (pipapo_start_script). Lines and columns count from 1, and a column counts bytes. What
+ * doesn't apply is 0. */
+typedef struct {
+    uint64_t line;   /* of the bad token, or of the first refused change */
+    uint64_t column; /* PIPAPO_SCRIPT: where the bad token begins in its line */
+    uint64_t id;     /* PIPAPO_CHANGE: as in a pipapo_answer */
+    uint32_t reason; /* PIPAPO_SCRIPT: an enum pipapo_reason */
+    uint32_t cause;  /* PIPAPO_CHANGE: the enum pipapo_error of the change, PIPAPO_OVERLAP to PIPAPO_MISSING */
+    uint32_t set;    /* PIPAPO_CHANGE: the number of the change's set */
+    uint32_t field;  /* PIPAPO_CHANGE: as in a pipapo_answer */
+} pipapo_script_fault;
+
+/* Why a token doesn't fit at its place: the first of these that applies. */
+enum pipapo_reason {
+    PIPAPO_REASON_CHARACTER = 1, /* a byte that begins no token, or a string that isn't closed */
+    PIPAPO_REASON_END = 2,       /* the text ends too early */
+    PIPAPO_REASON_LEFT_OUT = 3,  /* it belongs to a part of nft's language that is left out */
+    PIPAPO_REASON_TYPE = 4,      /* a field's type is wanted */
+    PIPAPO_REASON_VALUE = 5,     /* a value or an interval is wanted */
+    PIPAPO_REASON_TIME = 6,      /* a time is wanted */
+    PIPAPO_REASON_MOMENT = 7,    /* a moment is wanted */
+    PIPAPO_REASON_SET = 8,       /* the name of a declared set is wanted */
+    PIPAPO_REASON_NUMBER = 9,    /* a size is wanted */
+    PIPAPO_REASON_STATEMENT = 10 /* none of these: another word or mark is wanted */
+};
+
 /* What a change answers. */
 typedef struct {
     uint64_t id;      /* the element's id; after PIPAPO_OVERLAP and PIPAPO_EXISTS that of the element in the way; else 0 */
@@ -137,6 +163,8 @@ enum pipapo_error {
     PIPAPO_INTERVAL = 8,    /* the low value of an interval is above its high value */
     PIPAPO_TURN = 9,        /* the reader holds a generation already, or holds none */
     PIPAPO_NUMBERS = 10,    /* there are no numbers for further generations */
+    PIPAPO_SCRIPT = 11,     /* pipapo_start_script: the text isn't a script */
+    PIPAPO_CHANGE = 12,     /* pipapo_start_script: a change of the script is refused */
     PIPAPO_OVERLAP = 16,    /* a live element is in the way */
     PIPAPO_EXISTS = 17,     /* pipapo_create: a live element has the same intervals */
     PIPAPO_FULL = 18,       /* the set has as many elements as it may have */
@@ -154,6 +182,19 @@ enum pipapo_error {
 PIPAPO_NONNULL PIPAPO_CHECK_RESULT
 uint32_t pipapo_start(const pipapo_set *sets, size_t set_count, pipapo_control *control, pipapo_reader *readers,
                       size_t reader_count);
+
+/* Makes a control and `reader_count` readers, 1 to 16, by a script of nft(8), as docs/formats.md has it: `length` bytes at
+ * `text`. Its declared sets get the numbers 0, 1, .. The control does all its sections, one after another, and commits what
+ * they commit: the end of a section commits what is open. So a script that declares sets and adds elements leaves generation 1,
+ * and one that only declares sets leaves generation 0. No change is open. No reader enters a generation before the last one
+ * that was committed. The script's moments are those of its own statements `at`, from 0 on.
+ * Errors: READERS; SCRIPT, with the bad token's line, column and reason in `fault`; CHANGE, with the first refused change in
+ * `fault`; MEMORY. The handles are then as they were, and nothing stays allocated. Nothing is started if one change of many
+ * is refused. `fault` is written only if the call is refused; it is all zeros after READERS and MEMORY.
+ * Cost: 768 KiB for the control and for each reader, and the script's changes and commits. */
+PIPAPO_NONNULL PIPAPO_CHECK_RESULT
+uint32_t pipapo_start_script(const char *text, size_t length, pipapo_control *control, pipapo_reader *readers,
+                             size_t reader_count, pipapo_script_fault *fault);
 
 /* Frees what a pipapo_control or a pipapo_reader holds, and leaves the handle empty. An empty handle stays empty. The order
  * in which handles are freed doesn't matter: readers may outlive their control. A reader that is freed while it holds a
@@ -240,6 +281,9 @@ uint32_t pipapo_lookup_many(pipapo_reader *reader, uint32_t set, const void *key
 
 /* One line that explains an enum pipapo_error, without a newline. Never null; the text is static. */
 const char *pipapo_strerror(uint32_t error);
+
+/* The same for an enum pipapo_reason. */
+const char *pipapo_strreason(uint32_t reason);
 
 /* PIPAPO_VERSION of the library that runs. */
 uint32_t pipapo_version(void);

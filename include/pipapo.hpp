@@ -5,6 +5,7 @@
 
 #include <cstddef>
 #include <cstdint>
+#include <string_view>
 #include <utility>
 
 #include "pipapo.h"
@@ -76,12 +77,15 @@ public:
     template <std::size_t Sets, std::size_t Readers>
     [[nodiscard]] std::uint32_t start(const pipapo_set (&sets)[Sets], Reader (&readers)[Readers]) noexcept {
         pipapo_reader made[Readers] = {};
-        std::uint32_t error = pipapo_start(sets, Sets, get(), made, Readers);
-        for (std::size_t i = 0; i < Readers && error == PIPAPO_OK; ++i) {
-            readers[i].reset();
-            *readers[i].get() = made[i];
-        }
-        return error;
+        return hand_out(pipapo_start(sets, Sets, get(), made, Readers), made, readers);
+    }
+
+    /// The same by a script's text.
+    template <std::size_t Readers>
+    [[nodiscard]] std::uint32_t start_script(std::string_view text, Reader (&readers)[Readers],
+                                             pipapo_script_fault &fault) noexcept {
+        pipapo_reader made[Readers] = {};
+        return hand_out(pipapo_start_script(text.data(), text.size(), get(), made, Readers, &fault), made, readers);
     }
 
     /// `low` and `high` are two keys.
@@ -128,6 +132,18 @@ public:
     [[nodiscard]] std::uint32_t abort() noexcept { return pipapo_abort(get()); }
 
     [[nodiscard]] std::uint32_t number(std::uint64_t &generation) noexcept { return pipapo_number(get(), &generation); }
+
+private:
+    /// Puts the readers of a start into their handles, and passes its answer on.
+    template <std::size_t Readers>
+    static std::uint32_t hand_out(std::uint32_t error, const pipapo_reader (&made)[Readers],
+                                  Reader (&readers)[Readers]) noexcept {
+        for (std::size_t i = 0; i < Readers && error == PIPAPO_OK; ++i) {
+            readers[i].reset();
+            *readers[i].get() = made[i];
+        }
+        return error;
+    }
 };
 
 } // namespace pipapo

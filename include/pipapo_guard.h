@@ -57,6 +57,15 @@ static inline uint32_t pipapo_checked_start(const pipapo_set *sets, size_t set_c
     return error;
 }
 
+static inline uint32_t pipapo_checked_start_script(const char *text, size_t length, pipapo_control *control,
+                                                   pipapo_reader *readers, size_t reader_count, pipapo_script_fault *fault) {
+    const void *old[17];
+    size_t count = pipapo_guard_old("pipapo_start_script", control, readers, reader_count, old);
+    uint32_t error = pipapo_start_script(text, length, control, readers, reader_count, fault);
+    pipapo_guard_readers(control, readers, count, old, error);
+    return error;
+}
+
 static inline void pipapo_checked_free(void *handle) {
     void *at = ((pipapo_control *)handle)->at;
     pipapo_guard_begin("pipapo_free", at);
@@ -125,6 +134,7 @@ static inline uint32_t pipapo_checked_lookup_many(pipapo_reader *reader, uint32_
 }
 
 #define pipapo_start pipapo_checked_start
+#define pipapo_start_script pipapo_checked_start_script
 #define pipapo_free pipapo_checked_free
 #define pipapo_insert pipapo_checked_insert
 #define pipapo_create pipapo_checked_create

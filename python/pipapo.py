@@ -27,7 +27,10 @@ from dataclasses import dataclass
 from types import TracebackType
 from typing import Union
 
-__all__ = ["Answer", "Control", "Error", "Kind", "Outcome", "PipapoError", "Reader", "Receipt", "Set", "Transaction", "Value"]
+__all__ = [
+    "Answer", "Control", "Error", "Kind", "Outcome", "PipapoError", "Reader", "Reason", "Receipt", "ScriptError", "Set",
+    "Transaction", "Value",
+]
 
 Value = Union[int, str, bytes]
 
@@ -95,11 +98,28 @@ class Error(enum.IntEnum):
     INTERVAL = 8
     TURN = 9
     NUMBERS = 10
+    SCRIPT = 11
+    CHANGE = 12
     OVERLAP = 16
     EXISTS = 17
     FULL = 18
     RULES_FULL = 19
     MISSING = 20
+
+
+class Reason(enum.IntEnum):
+    """Why a token of a script doesn't fit at its place."""
+
+    CHARACTER = 1
+    END = 2
+    LEFT_OUT = 3
+    TYPE = 4
+    VALUE = 5
+    TIME = 6
+    MOMENT = 7
+    SET = 8
+    NUMBER = 9
+    STATEMENT = 10
 
 
 @dataclass(frozen=True)
@@ -126,6 +146,25 @@ class PipapoError(Exception):
         self.error = error
         self.id = id
         self.field = field
+
+
+class ScriptError(PipapoError):
+    """A script started nothing. Lines and columns count from 1, and columns count bytes.
+
+    If the text isn't a script (Error.SCRIPT), `line`, `column` and `reason` are those of its bad token. If a change is refused
+    (Error.CHANGE), `line` and `set` are those of the first one, `cause` says why, and `id` and `field` are as in any refusal.
+    """
+
+    def __init__(self, error: Error, fault: _ScriptFault) -> None:
+        super().__init__(error, fault.id, fault.field)
+        self.line, self.column, self.set = fault.line, fault.column, fault.set
+        self.reason = Reason(fault.reason) if fault.reason else None
+        self.cause = Error(fault.cause) if fault.cause else None
+
+    def __str__(self) -> str:
+        if self.reason is not None:
+            return f"{self.line}:{self.column}: {_library.pipapo_strreason(self.reason).decode()}"
+        return f"{self.line}: {_library.pipapo_strerror(self.cause or self.error).decode()}"
 
 
 @dataclass(frozen=True)
@@ -158,6 +197,12 @@ class _Answer(ctypes.Structure):
     _fields_ = [("id", ctypes.c_uint64), ("field", ctypes.c_uint32), ("outcome", ctypes.c_uint32)]
 
 
+class _ScriptFault(ctypes.Structure):
+    _fields_ = [(name, ctypes.c_uint64) for name in ("line", "column", "id")] + [
+        (name, ctypes.c_uint32) for name in ("reason", "cause", "set", "field")
+    ]
+
+
 def _load() -> ctypes.CDLL:
     library = ctypes.CDLL(os.environ.get("PIPAPO_LIBRARY", "libpipapo.so.0"))
     handle, number, size = ctypes.POINTER(_Handle), ctypes.c_uint64, ctypes.c_size_t
@@ -165,6 +210,7 @@ def _load() -> ctypes.CDLL:
     answer = ctypes.POINTER(_Answer)
     calls = {
         "start": [ctypes.POINTER(_Set), size, handle, handle, size],
+        "start_script": [text, size, handle, handle, size, ctypes.POINTER(_ScriptFault)],
         "insert": [handle, index, text, size, number, text, size, number, answer],
         "create": [handle, index, text, size, number, text, size, number, answer],
         "delete": [handle, index, text, size, number, answer],
@@ -184,6 +230,7 @@ def _load() -> ctypes.CDLL:
         call.argtypes, call.restype = parameters, ctypes.c_uint32
     library.pipapo_free.argtypes, library.pipapo_free.restype = [handle], None
     library.pipapo_strerror.argtypes, library.pipapo_strerror.restype = [ctypes.c_uint32], ctypes.c_char_p
+    library.pipapo_strreason.argtypes, library.pipapo_strreason.restype = [ctypes.c_uint32], ctypes.c_char_p
     library.pipapo_version.argtypes, library.pipapo_version.restype = [], ctypes.c_uint32
     return library
 
@@ -205,8 +252,8 @@ def _must(error: int, answer: _Answer | None = None) -> None:
 class _Shape:
     """The kinds of all sets."""
 
-    def __init__(self, sets: Sequence[Set]) -> None:
-        self._kinds = [tuple(one.kinds) for one in sets]
+    def __init__(self, kinds: Iterable[Sequence[Kind]]) -> None:
+        self._kinds = [tuple(one) for one in kinds]
 
     def pack(self, set: int, values: Iterable[Value]) -> bytes:
         values = list(values)
@@ -316,10 +363,34 @@ class Control:
                 raise PipapoError(Error.SCHEMA)
             shape.kinds[: len(one.kinds)] = [int(kind) for kind in one.kinds]
             shape.fields, shape.size, shape.disjoint = len(one.kinds), one.size, one.disjoint
-        self._shape, self._handle = _Shape(sets), _Handle()
-        # each reader's handle keeps the array alive
+        self._shape, self._handle = _Shape(one.kinds for one in sets), _Handle()
         handles = (_Handle * max(1, readers))()
         _must(_library.pipapo_start(shapes, len(sets), self._handle, handles, readers))
+        self._seat(handles)
+
+    @classmethod
+    def from_script(cls, text: str | bytes, kinds: Sequence[Sequence[Kind]], readers: int = 1) -> Control:
+        """A control of the sets that a script of nft(8) declares. It has done all sections of the script. `kinds` are those of
+        the sets' fields, in the order of the script; values are packed by them.
+
+        >>> rules = "add set ip t ports { type inet_service ; flags interval ; }\\nadd element ip t ports { 80-443 }\\n"
+        >>> with Control.from_script(rules, [[Kind.SERVICE]]) as control:
+        ...     control.number, control.readers[0].lookup(0, [443])
+        (1, 0)
+
+        Raises ScriptError if the text isn't a script, or if one of its changes is refused."""
+        control, script, fault = cls.__new__(cls), text.encode() if isinstance(text, str) else text, _ScriptFault()
+        control._shape, control._handle = _Shape(kinds), _Handle()
+        handles = (_Handle * max(1, readers))()
+        error = _library.pipapo_start_script(script, len(script), control._handle, handles, readers, fault)
+        if error in (Error.SCRIPT, Error.CHANGE):
+            raise ScriptError(Error(error), fault)
+        _must(error)
+        control._seat(handles)
+        return control
+
+    def _seat(self, handles: ctypes.Array[_Handle]) -> None:
+        # each reader's handle keeps the array alive
         self.readers = [Reader(self._shape, handle) for handle in handles]
 
     def _bounds(self, set: int, low: Iterable[Value], high: Iterable[Value] | None) -> bytes:

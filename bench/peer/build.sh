@@ -1,10 +1,14 @@
 #!/bin/sh -e
 # Builds the peers of bench/peers into the folder named: kernel_bench from the kernel's own files, as Debian's package
-# linux-source-6.1 has them, and acl_bench where DPDK's is installed. What is missing is named. Nothing of the kernel's is
-# kept in the repository.
+# linux-source-6.1 has them, acl_bench where DPDK's is installed, and library_bench over libpipapo. What is missing is named.
+# Nothing of the kernel's is kept in the repository.
 here=$(cd "$(dirname "$0")" && pwd)
+top=$(cd "$here/../.." && pwd)
 to=$1
 cc=${CC:-cc}
+mkdir -p "$to/library"
+"$top/c/build" "$to/library" >&2
+$cc -std=gnu11 -O2 -I"$top/include" -I"$here" "$here/library_bench.c" "$to/library/libpipapo.a" -o "$to/library_bench"
 mkdir -p "$to/kernel" "$to/headers"
 package=$(ls /usr/src/linux-source-6.1.tar.xz 2>/dev/null) || {
     echo "bench/peers: the kernel is skipped, since the package linux-source-6.1 isn't installed" >&2

@@ -2,11 +2,10 @@
 # handles, the Python module, the example; under sanitizers and valgrind; and that the header declares what is exported.
 # The archive isn't instrumented, so the sanitizers see the C code and its calls of malloc and free alone.
 . "$(dirname "$0")/../preamble.sh"
-needs gcc g++ ar rt
-archive=$top/crates/pipapo_c/out/libpipapo_c.a
-[ -f "$archive" ] || skip "the library isn't built; make -C c builds it, and first proves its crates, which takes half an hour or more"
+needs gcc g++ ar nm rt python3
 tests=$top/tests/c
 made=$room/library
+# (the first time it proves the exports, which takes some minutes if the crates below are proved)
 c/build "$made" /usr >"$room/log" 2>&1 || {
     complain "the library isn't built"
     tail -20 "$room/log"
@@ -61,13 +60,9 @@ if "$room/classify" examples/capture/allow.nft examples/capture/six.pcap 2>"$roo
     complain "the example takes rules that aren't in its form"
 fi
 
-if has python3; then
-    python3 "$tests/layout.py" "$top" >"$room/layout.c" && gcc $strict -std=c11 -c -o "$room/layout.o" "$room/layout.c" ||
-        complain "the header doesn't declare what is exported"
-    [ -x "$program" ] || skip_part "random calls aren't compared with the program, which isn't built"
-    PIPAPO_PROGRAM=$program PIPAPO_LIBRARY=$made/libpipapo.so.0 PYTHONPATH=$top/python \
-        python3 "$top/tests/python/test_pipapo.py" || complain "the Python module fails"
-else
-    skip_part "python3 isn't installed"
-fi
+python3 "$tests/layout.py" "$top" >"$room/layout.c" && gcc $strict -std=c11 -c -o "$room/layout.o" "$room/layout.c" ||
+    complain "the header doesn't declare what is exported"
+[ -x "$program" ] || skip_part "random calls aren't compared with the program, which isn't built"
+PIPAPO_PROGRAM=$program PIPAPO_LIBRARY=$made/libpipapo.so.0 PYTHONPATH=$top/python \
+    python3 "$top/tests/python/test_pipapo.py" || complain "the Python module fails"
 finish

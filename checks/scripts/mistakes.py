@@ -1,4 +1,4 @@
-"""Mistakes in scripts, and the whole note that each must have. The notes are written by hand.
+"""Mistakes in scripts and in words, and the whole note that each must have. The notes are written by hand.
 
 A mistake is a script, the line and the column of its bad token, what is wrong, what to do, and nft's words for it. The shown line and
 its carets follow from these. Line 1 of most scripts declares the sets of SETS. Of these p, a, v and l have intervals, and l has timeouts.
@@ -152,6 +152,117 @@ MISTAKES = [
     ("define x = 1\n", 1, 1, "'define' isn't supported", "write the values themselves: there are no variables", "taken"),
     ("include \"x\"\n", 1, 1, "'include' isn't supported", "copy the included file to this place", "File not found: x"),
 ]
+
+
+DECLARE = "declare the set first: add set [FAMILY] TABLE SET { type .. }"
+TOO_GREAT = "doesn't fit field 1 (inet_service): 70000 is greater than 65535, the last port"
+
+# scripts with several mistakes. Each has its line, its column, what is wrong, what to do, and whether an earlier one may be the cause
+SEVERAL = [
+    (
+        SETS + "add element ip t p { 80-22 }\nadd element ip t a { 10.0.0.1 }\nadd element ip t p { 443 }\nadd element ip t p { web }\n",
+        [
+            (2, 22, "'80-22' doesn't fit field 1 (inet_service): 80 is greater than 22, and a range begins with the smaller value", "write 22-80", False),
+            (3, 31, "'}' ends the element after 1 field", PAIR, False),
+            (5, 22, "'web' doesn't fit field 1 (inet_service): it isn't a port", PORT, False),
+        ],
+    ),
+    (
+        "add set ip t q { type port; }\nadd element ip t q { 80 }\ncommit\n",
+        [(1, 23, "'port' isn't a supported type", TYPES, False), (2, 18, "'q' isn't a set that is declared before this place", DECLARE, True)],
+    ),
+    (
+        SETS + "add element ip t p { 70000 }; add element ip t p { 70000 }\n",
+        [(2, 22, "'70000' " + TOO_GREAT, PORT, False), (2, 52, "'70000' " + TOO_GREAT, PORT, False)],
+    ),
+    (
+        "table ip t {\n\tset s {\n\t\ttype port\n\t}\n}\nadd element ip t s { 1 }\nbogus\nadd element ip t r { 1 }\n",
+        [
+            (3, 8, "'port' isn't a supported type", TYPES, False),
+            (6, 18, "'s' isn't a set that is declared before this place", DECLARE, True),
+            (7, 1, "'bogus' begins no statement", STATEMENTS, False),
+            (8, 18, "'r' isn't a set that is declared before this place", DECLARE, False),
+        ],
+    ),
+    (
+        "table ip t\nset s { type mark; }\n}\n",
+        [
+            (1, 11, "the end of the line can't follow the table's name", "write '{' after it, or 'add table' before it", False),
+            (2, 1, "'set' begins no statement", "write 'add' before it", True),
+            (3, 1, "'}' closes no '{'", "remove it, or add the '{' that is missing before it", True),
+        ],
+    ),
+    # ten at most
+    (SETS + "add element ip t p { 70000 }\n" * 12, [(line, 22, "'70000' " + TOO_GREAT, PORT, False) for line in range(2, 12)]),
+    # the rest of a script with an open brace is no statement of its own
+    (SETS + "add element ip t p { 70000\nadd element ip t p { 70000 }\n", [(2, 22, "'70000' " + TOO_GREAT, PORT, False)]),
+]
+
+RUN = "usage: pipapo run SCRIPT KEYS [--threads N] [--keep-going]"
+LIST = "usage: pipapo list SCRIPT [--keep-going]"
+JUDGE = "usage: pipapo judge SCRIPT RULES KEYS [--threads N] [--keep-going]"
+CAPTURE = "usage: pipapo capture SCRIPT PLAN PCAP [--threads N] [--keep-going]"
+DRILL = "usage: pipapo drill SEED COUNT [--threads N]"
+GET = "usage: pipapo get [--at MOMENT] [--keep-going] SCRIPT KEY .."
+COMMANDS = "the commands are get, run, judge, capture, desk, drill, list, dump and help"
+ALONE = "write it alone, or --help alone after a command"
+THREADS = "write a number from 1 to 16"
+MOMENTS = "write a number from 0 to 1000000000000000"
+TWICE = "leave one of the two out"
+
+# words that are no command, what is wrong, and what to do
+WORD_MISTAKES = [
+    ("", "a command is missing", COMMANDS),
+    ("lits a.nft", "'lits' isn't a command", "did you mean 'list'?"),
+    ("a.nft b.keys", "'a.nft' isn't a command", COMMANDS),
+    ("help rnu", "'rnu' isn't a command", "did you mean 'run'?"),
+    ("help run list", "'list' is a word too many", "write one command after 'help'"),
+    ("--version run", "'--version' can't come with these words", ALONE),
+    ("run a b --help", "'--help' can't come with these words", ALONE),
+    ("--threads 4 run a b", "'--threads' comes before the command", "write the command first, as: pipapo run SCRIPT KEYS --threads 4"),
+    ("--hlep", "'--hlep' isn't a command", "did you mean '--help'?"),
+    ("run", "SCRIPT and KEYS are missing", RUN),
+    ("run a", "KEYS is missing", RUN),
+    ("judge", "SCRIPT, RULES and KEYS are missing", JUDGE),
+    ("capture a b", "PCAP is missing", CAPTURE),
+    ("drill 7", "COUNT is missing", DRILL),
+    ("list --keep-going", "SCRIPT is missing", LIST),
+    ("get", "SCRIPT and KEY are missing", GET),
+    ("get --at 5 a", "KEY is missing", GET),
+    ("run a b c", "'c' is a word too many", RUN),
+    ("run a b --threads 17", "'17' isn't a number of packet threads", THREADS),
+    ("run a b --threads=0", "'0' isn't a number of packet threads", THREADS),
+    ("run a b --threads 04", "'04' isn't a number of packet threads", THREADS),
+    ("run a --threads b", "'b' isn't a number of packet threads", THREADS),
+    ("run a b --threads", "the number after '--threads' is missing", THREADS),
+    ("drill 7 20001", "'20001' isn't a COUNT of elements", "write a number from 1 to 20000"),
+    ("drill x 5", "'x' isn't a SEED", "write a number from 0 to 18446744073709551615"),
+    ("get --at soon a t", "'soon' isn't a moment in milliseconds", MOMENTS),
+    ("get --at", "the moment after '--at' is missing", MOMENTS),
+    ("get a t p 1 --at 5", "'--at' comes after the script", "write the options of get before the script: all words after it are the key"),
+    ("run - -", "'-' is given twice", "only one file can be the standard input"),
+    ("judge - a -", "'-' is given twice", "only one file can be the standard input"),
+    ("run a b --keep-going --keep-going", "'--keep-going' is given twice", TWICE),
+    ("run a b --threads 2 --threads=3", "'--threads' is given twice", TWICE),
+    ("run a b --keep-going=yes", "'--keep-going' takes no value", "leave out the '=' and what follows it"),
+    ("run a b --thread 4", "'--thread' isn't an option", "did you mean '--threads'?"),
+    ("list a --keepgoing", "'--keepgoing' isn't an option", "did you mean '--keep-going'?"),
+    ("run a b -t 4", "'-t' isn't an option", RUN),
+    ("list a --threads 4", "'--threads' isn't an option of this command", LIST),
+    ("get --threads 4 a t", "'--threads' isn't an option of this command", GET),
+]
+
+
+def several_notes(name, script, mistakes):
+    """The whole text on a script with several mistakes."""
+    cause = {False: "", True: "an earlier error may have caused this one\n"}
+    return "".join(note(name, (script, *mistake[:4], None)) + cause[mistake[4]] for mistake in mistakes)
+
+
+def word_note(mistake):
+    """The whole note on words that are no command."""
+    _, wrong, help_line = mistake
+    return f"pipapo: {wrong}\nhelp: {help_line}\n"
 
 
 def note(name, mistake):

@@ -10,7 +10,7 @@ import subprocess
 import sys
 import tempfile
 
-from mistakes import MISTAKES, note
+from mistakes import MISTAKES, SEVERAL, WORD_MISTAKES, note, several_notes, word_note
 
 LARGE = 67_108_865
 
@@ -59,10 +59,13 @@ FILES = {
     "desk.nft": PORTS + "add element ip t p { 80 }\nround\ncreate element ip t p { 80 }\n",
     "missing.nft": PORTS + "delete element ip t p { 81 }\n",
     "many.nft": PORTS + "".join(f"delete element ip t p {{ {port} }}\n" for port in range(1, 26)),
+    "twenty.nft": PORTS + "".join(f"delete element ip t p {{ {port} }}\n" for port in range(1, 21)),
+    "one_more.nft": PORTS + "".join(f"delete element ip t p {{ {port} }}\n" for port in range(1, 22)),
 }
 
 # each mistake in a script of its own
 FILES |= {f"mistake{number}.nft": mistake[0] for number, mistake in enumerate(MISTAKES)}
+FILES |= {f"several{number}.nft": script for number, (script, _) in enumerate(SEVERAL)}
 
 USAGE = re.compile("pipapo: usage: ")
 
@@ -89,12 +92,15 @@ def cases(shown):
         ("statement.nft", 2, 1, "'drop' begins no statement", "statement"),
     ]:
         yield ["list", name], placed(name, line, column, said), f"pipapo: script line {line}: {why}", 3
-    yield [*run, "bad.keys"], placed("bad.keys", 2, 11, "'.' can't come here"), "pipapo: keys line 2: statement", 4
+    yield [*run, "bad.keys"], placed("bad.keys", 2, 11, "'.' begins one more field, and the set has 1 field"), "pipapo: keys line 2: statement", 4
     yield ["judge", "good.nft", "bad.rules", "good.keys"], placed("bad.rules", 1, 22, "'q' isn't a set of the script"), "pipapo: rules line 1: set", 9
     yield ["capture", "good.nft", "bad.plan", "empty.pcap"], placed("bad.plan", 1, 8, "'ip_saddr' doesn't fit the type of this field"), "pipapo: plan line 1: type", 11
     for number, mistake in enumerate(MISTAKES):
         name = f"mistake{number}.nft"
         yield ["list", name], note(name, mistake), re.compile(rf"pipapo: script line {mistake[1]}: .*\n"), 3
+    for number, (script, mistakes) in enumerate(SEVERAL):
+        name = f"several{number}.nft"
+        yield ["list", name], several_notes(name, script, mistakes), re.compile(rf"pipapo: script line {mistakes[0][0]}: .*\n"), 3
     # other files in a text's place
     for name, said in [
         ("gzip.nft", "this is a file that gzip has packed: unpack it first"),
@@ -139,14 +145,21 @@ def cases(shown):
     yield ["run", "missing.nft", "good.keys"], "missing.nft:2:25: 81 is no element of the set\n", None, 1
     many = "".join(f"many.nft:{line}:25: {line - 1} is no element of the set\n" for line in range(2, 22))
     yield ["run", "many.nft", "good.keys", "--keep-going"], many + "many.nft: 5 more changes are refused\n", None, 1
+    yield ["list", "twenty.nft", "--keep-going"], many.replace("many.nft", "twenty.nft"), None, 1
+    yield ["list", "one_more.nft", "--keep-going"], many.replace("many.nft", "one_more.nft") + "one_more.nft: 1 more change is refused\n", None, 1
+    yield ["get", "twenty.nft", "80", "--keep-going"], many.replace("many.nft", "twenty.nft"), None, 1
+    yield ["get", "good.nft", "81"], "", None, 1
     # several control threads
     yield ["desk", "clerks.nft"], "clerks.nft: the script has 18 sections, and desk runs 17 at most: the first, and one for each of 16 control threads; join some, by leaving lines 'round' out\n", "pipapo: too many clerks: clerks.nft", 12
-    yield ["desk", "desk.nft"], "desk.nft:4:25: 80 exists already\n" + failed.replace("overlap.nft", "desk.nft"), None, 1
+    yield ["desk", "desk.nft"], "desk.nft:4:25: 80 exists already (line 2)\n" + failed.replace("overlap.nft", "desk.nft"), None, 1
     # where nothing is told
     yield [*run, "good.keys"], "", None, 0
     yield ["drill", "7", "2000"], "", None, 0
     yield ["help"], "", None, 0
-    yield ["run"], "", USAGE, 2
+    # words that are no command
+    for mistake in WORD_MISTAKES:
+        yield mistake[0].split(), word_note(mistake), USAGE, 2
+    yield ["run", "", "good.keys"], "pipapo: a word is empty\nhelp: write the name of a file, or '-' for the standard input\n", USAGE, 2
 
 
 def placed(name, line, column, said):

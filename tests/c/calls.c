@@ -79,6 +79,83 @@ static void refused_starts(void) {
     pipapo_free(&control);
 }
 
+/* Declared sets in the order of a script, its elements, and what it commits. */
+static void scripts(void) {
+    static const char rules[] =
+        "add set inet filter hosts { type ipv4_addr ; flags interval ; }\n"
+        "add set inet filter services { type ipv4_addr . inet_service ; flags interval ; }\n"
+        "add element inet filter services { 192.0.2.0/24 . 80-443, 192.0.3.7 . 22 }\n";
+    pipapo_control control = PIPAPO_EMPTY;
+    pipapo_reader readers[2] = {PIPAPO_EMPTY, PIPAPO_EMPTY};
+    pipapo_script_fault fault = {77, 77, 77, 77, 77, 77, 77};
+    pipapo_answer answer;
+    uint64_t generation = 77, purged, id = 77;
+    CHECK(pipapo_start_script(rules, strlen(rules), &control, readers, 2, &fault) == PIPAPO_OK && fault.line == 77);
+    CHECK(pipapo_number(&control, &generation) == PIPAPO_OK && generation == 1);
+    for (int i = 0; i < 2; ++i) {
+        CHECK(lookup_flow(&readers[i], 1, flow_of(NET + 7, 443), 0, &id) == PIPAPO_OK && id == 0);
+        CHECK(lookup_flow(&readers[i], 1, flow_of(NET + 256 + 7, 22), 0, &id) == PIPAPO_OK && id == 1);
+        CHECK(lookup_flow(&readers[i], 1, flow_of(NET + 256 + 7, 23), 0, &id) == PIPAPO_OK && id == PIPAPO_NONE);
+        CHECK(pipapo_lookup(&readers[i], 0, "\xc0\x00\x02\x07", 4, 0, &id) == PIPAPO_OK && id == PIPAPO_NONE);
+        CHECK(pipapo_enter(&readers[i], &generation) == PIPAPO_OK && generation == 1);
+    }
+    /* no change was left open, and ids go on */
+    CHECK(pipapo_commit(&control, 0, &generation, &purged) == PIPAPO_OK && generation == 2 && purged == 0);
+    CHECK(insert_flows(&control, 1, flows_of(NET, NET, 22, 22), PIPAPO_NEVER, 0, &answer) == PIPAPO_OK && answer.id == 2);
+
+    /* sets alone; several sections; an abort */
+    static const struct { const char *text; uint64_t generation, found; } good[] = {
+        {"", 0, 0},
+        {"add set ip t s { type mark ; }\n", 0, PIPAPO_NONE},
+        {"add set ip t s { type mark ; }\nadd element ip t s { 5 }\nround\ndelete element ip t s { 5 }\n", 2, PIPAPO_NONE},
+        {"add set ip t s { type mark ; }\nadd element ip t s { 5 }\ncommit\nadd element ip t s { 6 }\nabort\n", 1, 0},
+    };
+    for (size_t i = 0; i < sizeof good / sizeof *good; ++i) {
+        CHECK(pipapo_start_script(good[i].text, strlen(good[i].text), &control, readers, 2, &fault) == PIPAPO_OK);
+        CHECK(pipapo_number(&control, &generation) == PIPAPO_OK && generation == good[i].generation);
+        uint32_t found = pipapo_lookup(&readers[1], 0, "\0\0\0\5", 4, 0, &id);
+        CHECK(i == 0 ? found == PIPAPO_SET : found == PIPAPO_OK && id == good[i].found);
+    }
+
+    /* refusals: the place of the bad token or of the change */
+    static const struct { const char *text; uint32_t error; pipapo_script_fault fault; } bad[] = {
+        {"add set ip t s { type mark ; }\nadd elment ip t s { 5 }\n", PIPAPO_SCRIPT,
+         {.line = 2, .column = 5, .reason = PIPAPO_REASON_STATEMENT}},
+        {"add set ip t s { type mark ; }\nadd element ip t q { 5 }\n", PIPAPO_SCRIPT,
+         {.line = 2, .column = 18, .reason = PIPAPO_REASON_SET}},
+        {"add set ip t s { type colour ; }\n", PIPAPO_SCRIPT, {.line = 1, .column = 23, .reason = PIPAPO_REASON_TYPE}},
+        {"add set ip t s { type mark ;", PIPAPO_SCRIPT, {.line = 1, .column = 29, .reason = PIPAPO_REASON_END}},
+        {"add set ip t s { type mark ; }\nadd element ip t s { many }\n", PIPAPO_SCRIPT,
+         {.line = 2, .column = 22, .reason = PIPAPO_REASON_VALUE}},
+        {"add set ip t s { type mark ; flags interval ; }\nadd element ip t s { 5-9 }\n\nadd element ip t s { 7 }\n",
+         PIPAPO_CHANGE, {.line = 4, .cause = PIPAPO_OVERLAP}},
+        {"add set ip t r { type mark ; }\nadd set ip t s { type mark ; }\nadd element ip t s { 4, 5 }\ncreate element ip t s { 5 }\n",
+         PIPAPO_CHANGE, {.line = 4, .cause = PIPAPO_EXISTS, .id = 1, .set = 1}},
+        {"add set ip t s { type mark ; size 1 ; }\nadd element ip t s { 5 }\nadd element ip t s { 6 }\n", PIPAPO_CHANGE,
+         {.line = 3, .cause = PIPAPO_FULL}},
+        {"add set ip t s { type mark ; }\ndelete element ip t s { 5 }\ncommit\nadd element ip t s { 5 }\n", PIPAPO_CHANGE,
+         {.line = 2, .cause = PIPAPO_MISSING}},
+    };
+    void *held = control.at, *reader = readers[0].at;
+    for (size_t i = 0; i < sizeof bad / sizeof *bad; ++i) {
+        memset(&fault, 0x77, sizeof fault);
+        CHECK(pipapo_start_script(bad[i].text, strlen(bad[i].text), &control, readers, 2, &fault) == bad[i].error);
+        if (memcmp(&fault, &bad[i].fault, sizeof fault) != 0) {
+            fprintf(stderr, "script %zu: %d.%d reason %u cause %u set %u id %d\n", i, (int)fault.line, (int)fault.column,
+                    fault.reason, fault.cause, fault.set, (int)fault.id);
+            ++failures;
+        }
+        CHECK(control.at == held && readers[0].at == reader);
+    }
+    pipapo_reader none[17] = {PIPAPO_EMPTY};
+    CHECK(pipapo_start_script(rules, strlen(rules), &control, none, 0, &fault) == PIPAPO_READERS && fault.line == 0);
+    CHECK(pipapo_start_script("?", 1, &control, none, 17, &fault) == PIPAPO_READERS && fault.reason == 0);
+    CHECK(control.at == held && none[0].at == NULL);
+    pipapo_free(&control);
+    pipapo_free(&readers[0]);
+    pipapo_free(&readers[1]);
+}
+
 static void changes(void) {
     pipapo_control control = PIPAPO_EMPTY;
     pipapo_reader reader = PIPAPO_EMPTY;
@@ -299,11 +376,15 @@ static void texts(void) {
     for (uint32_t a = 0; a <= PIPAPO_MISSING; ++a)
         for (uint32_t b = 0; b < a; ++b)
             CHECK(strcmp(pipapo_strerror(a), pipapo_strerror(b)) != 0 || strcmp(pipapo_strerror(a), "unknown error") == 0);
+    for (uint32_t a = 0; a <= PIPAPO_REASON_STATEMENT; ++a)
+        for (uint32_t b = 0; b < a; ++b) CHECK(strcmp(pipapo_strreason(a), pipapo_strreason(b)) != 0);
+    CHECK(strcmp(pipapo_strreason(0), pipapo_strreason(77)) == 0);
 }
 
 int main(void) {
     wrong_handles();
     refused_starts();
+    scripts();
     changes();
     limits();
     every_kind();

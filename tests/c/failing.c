@@ -64,7 +64,14 @@ static int run(long n) {
     pipapo_answer answer;
     uint64_t id, generation, purged, count;
     left = n;
-    TRY(pipapo_start(sets, 2, &control, readers, 2));
+    uint32_t started = pipapo_start(sets, 2, &control, readers, 2);
+    if (started == PIPAPO_MEMORY) {
+        expect(blocks == 0 && control.at == NULL && readers[0].at == NULL, "a refused start leaves nothing");
+        ++refusals;
+        left = -1;
+        started = pipapo_start(sets, 2, &control, readers, 2);
+    }
+    expect(started == PIPAPO_OK, "a start is done");
     TRY(pipapo_insert(&control, 1, "\x06\x06", 2, PIPAPO_NEVER, "tcp", 3, 0, &answer));
     TRY(pipapo_flush(&control, 1, &count));
     expect(count == 1, "a flush counts one element");
@@ -94,9 +101,42 @@ static int run(long n) {
     return all;
 }
 
+/* A start by a script: one that wants memory leaves nothing allocated, and its handles empty. */
+static int run_script(long n) {
+    static const char text[] =
+        "add set ip t s { type ipv4_addr . inet_service ; flags interval,timeout ; }\n"
+        "add element ip t s { 192.0.2.0/24 . 80-443 comment \"web\", 192.0.3.0/24 . 22 timeout 5s }\ncommit\n"
+        "delete element ip t s { 192.0.3.0/24 . 22 }\n";
+    pipapo_control control = PIPAPO_EMPTY;
+    pipapo_reader readers[2] = {PIPAPO_EMPTY, PIPAPO_EMPTY};
+    pipapo_script_fault fault;
+    uint64_t generation;
+    left = n;
+    uint32_t got = pipapo_start_script(text, sizeof text - 1, &control, readers, 2, &fault);
+    if (got == PIPAPO_MEMORY) {
+        ++refusals;
+        expect(blocks == 0 && control.at == NULL && readers[0].at == NULL, "a refused start leaves nothing");
+        expect(fault.line == 0 && fault.reason == 0 && fault.cause == 0, "a start without memory has no place");
+        left = -1;
+        return 0;
+    }
+    int all = left != -1;
+    left = -1;
+    expect(got == PIPAPO_OK, "a script starts");
+    expect(pipapo_number(&control, &generation) == PIPAPO_OK && generation == 2, "a script commits twice");
+    pipapo_free(&control);
+    pipapo_free(&readers[0]);
+    pipapo_free(&readers[1]);
+    expect(blocks == 0, "every block is freed");
+    return all;
+}
+
 int main(void) {
     long n = 0;
     while (!run(n)) ++n;
+    long m = 0;
+    while (!run_script(m)) ++m;
+    n += m;
     printf("failing: %ld allocations, %lu calls that were refused and made again\n", n, refusals);
     return 0;
 }

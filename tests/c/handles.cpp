@@ -54,6 +54,13 @@ int main() {
     CHECK(control.destroy(0, low, high, answer) == PIPAPO_OK && answer.outcome == PIPAPO_ABSENT);
     CHECK(control.abort() == PIPAPO_OK);
     CHECK(control.flush(0, count) == PIPAPO_OK && count == 1);
+    pipapo_script_fault fault{};
+    CHECK(control.start_script("add set ip t s { type ipv4_addr . inet_service ; }\nadd element ip t s { 192.0.2.7 . 99 }\n",
+                               readers, fault) == PIPAPO_OK);
+    CHECK(readers[1].lookup(0, keys[0], 0, id) == PIPAPO_OK && id == 0);
+    CHECK(control.start_script("add set\nip", readers, fault) == PIPAPO_SCRIPT && fault.line == 1 && fault.column == 8);
+    CHECK(readers[1].lookup(0, keys[0], 0, id) == PIPAPO_OK && id == 0);
+
     pipapo::Control other = std::move(control);
     CHECK(!control && other);
     other.reset();

@@ -2,8 +2,9 @@
 
     layout.py TOP
 
-The file declares each export once more, and asserts the size of each struct and the offset of each field, all as they
-stand in the Rattle sources. It exits with 1 if the header declares a call that isn't exported, or the other way round.
+The file declares each export once more. It asserts the size of each struct and the offset of each field, and the number of
+each enumerator, all as they stand in the Rattle sources. The sizes there are those that the compiler of the archive proves.
+The script exits with 1 if the header or the sources have a call, a struct or an enumerator that the other lacks.
 """
 
 import re
@@ -11,10 +12,17 @@ import sys
 from pathlib import Path
 
 # the C names of the structs that cross
-STRUCTS = {"SetShape": "pipapo_set", "Answer": "pipapo_answer"}
+STRUCTS = {
+    "SetShape": ["pipapo_set"],
+    "Answer": ["pipapo_answer"],
+    "ScriptFault": ["pipapo_script_fault"],
+    "Handle": ["pipapo_control", "pipapo_reader"],
+}
+# what a handle points to, of which C sees nothing
+HIDDEN = {"Opaque"}
 NUMBERS = {"u8": ("uint8_t", 1), "u32": ("uint32_t", 4), "u64": ("uint64_t", 8)}
 # calls that c/texts.c adds to the exports
-IN_C = {"pipapo_strerror", "pipapo_version"}
+IN_C = {"pipapo_strerror", "pipapo_strreason", "pipapo_version"}
 
 
 def handle_type(name: str) -> str:
@@ -38,7 +46,7 @@ def c_parameters(name: str, kind: str) -> list[str]:
     if inner == "Handle":
         c_type = handle_type(name)
     elif inner in STRUCTS:
-        c_type = STRUCTS[inner]
+        (c_type,) = STRUCTS[inner]
     elif inner == "u8" and is_slice:
         c_type = bytes_type(name)
     else:
@@ -58,44 +66,90 @@ def exports(text: str) -> dict[str, str]:
     return found
 
 
-def fields(text: str, struct: str) -> list[tuple[str, int, int]]:
-    """Name, size of an item and number of items of each field of a struct."""
-    body = re.search(r"#\[repr\(C\)\]\s*(?:#\[derive\([^)]*\)\]\s*)?pub struct " + struct + r" \{(.*?)\n\}", text, re.S)
-    if not body:
-        raise SystemExit(f"layout.py: no struct {struct} under repr(C)")
+def structs(text: str) -> dict[str, str]:
+    """The fields' text of each struct that crosses."""
+    pattern = r"#\[repr\(C\)\]\s*(?:#\[derive\([^)]*\)\]\s*)?pub struct (\w+) \{(.*?)\n\}"
+    found = {name: body for name, body in re.findall(pattern, text, re.S) if name not in HIDDEN}
+    compare("structs", set(found), set(STRUCTS))
+    return found
+
+
+def fields(body: str) -> list[tuple[str, int, int]]:
+    """Name, size of an item and number of items of each field. A `Global` and what is ghost take no bytes."""
     rows = []
-    for name, array, kind, count in re.findall(r"pub (\w+): (?:(\[)(?=\w))?(\w+)(?:; (\d+)\])?,", body[1]):
-        rows.append((name, NUMBERS[kind][1], int(count) if array else 1))
+    for name, kind in re.findall(r"^    (?:pub )?(\w+): (.*),$", body, re.M):
+        array = re.fullmatch(r"\[(\w+); (\d+)\]", kind)
+        if kind.startswith("*"):
+            rows.append((name, 8, 1))
+        elif kind != "Global":
+            rows.append((name, NUMBERS[array[1] if array else kind][1], int(array[2]) if array else 1))
     return rows
 
 
-def layout(text: str, struct: str) -> list[str]:
-    lines, at, widest, c_type = [], 0, 1, STRUCTS[struct]
-    for name, size, count in fields(text, struct):
+def layout(body: str, c_type: str, proved_size: int) -> list[str]:
+    """The assertions of one struct, each field at the next place that its size divides."""
+    lines, at = [], 0
+    for name, size, count in fields(body):
         at += -at % size
         lines.append(f'_Static_assert(offsetof({c_type}, {name}) == {at}, "{c_type}.{name}");')
         lines.append(f'_Static_assert(sizeof((({c_type} *)0)->{name}) == {size * count}, "{c_type}.{name}");')
         at += size * count
-        widest = max(widest, size)
-    at += -at % widest
-    lines.append(f'_Static_assert(sizeof({c_type}) == {at}, "{c_type}");')
+    lines.append(f'_Static_assert(sizeof({c_type}) == {proved_size}, "{c_type}");')
     return lines
+
+
+# the enumerators whose names differ in the Rattle sources
+RENAMED = {"EMPTY": "NOTHING", "NONE": "ABSENT", "REASON_TYPE_WORD": "REASON_TYPE"}
+
+
+def enumerator(name: str) -> str:
+    """PIPAPO_RULES_FULL of RulesFull."""
+    upper = re.sub(r"(?<=[a-z])(?=[A-Z])", "_", name).upper()
+    return "PIPAPO_" + RENAMED.get(upper, upper)
+
+
+def numbers(codes: str, sources: str) -> dict[str, int]:
+    """The number of each enumerator in the Rattle sources."""
+    found = {"PIPAPO_OK": 0}
+    for name, number in re.findall(r"^code_of (?:\(Refused \(?)?(\w+).*? = (\d+)$", codes, re.M):
+        found[enumerator(name)] = int(number)
+    outcome = r"^(?:added_as \((\w+) id\)|destroyed_as (None)|(removed)_as id|(refused)_as other) = .*outcome = (\d+) \}$"
+    for *names, number in re.findall(outcome, codes, re.M):
+        found[enumerator("".join(names))] = int(number)
+    for number, of, name in re.findall(r"(\d+) => (?:Some\()?(Kind|Family)::(\w+)", sources):
+        found[enumerator(("Family" if of == "Family" else "") + name)] = int(number)
+    for name, number in re.findall(r"Reason::(\w+) => (\d+)", sources):
+        found[enumerator("Reason" + name)] = int(number)
+    return found
+
+
+def compare(what: str, ones: set[str], others: set[str]) -> None:
+    if ones != others or not ones:
+        raise SystemExit(f"layout.py: {what} on one side alone: {' '.join(sorted(ones ^ others))}")
 
 
 def main() -> None:
     top = Path(sys.argv[1])
+    handles = top / "crates/c_handles"
+    header = (top / "include/pipapo.h").read_text()
     found = exports((top / "crates/pipapo_c/src/lib.rt").read_text())
-    sources = "".join(path.read_text() for path in sorted((top / "crates/c_handles/src").glob("*.rt")))
-    declared = set(re.findall(r"^(?:uint32_t|void|const char \*) ?(pipapo_\w+)\(", (top / "include/pipapo.h").read_text(), re.M))
-    differences = declared ^ (set(found) | IN_C)
-    if differences or not found:
-        raise SystemExit(f"layout.py: declared or exported alone: {' '.join(sorted(differences))}")
+    declared = set(re.findall(r"^(?:uint32_t|void|const char \*) ?(pipapo_\w+)\(", header, re.M))
+    compare("calls", declared, set(found) | IN_C)
+    sources = "".join(path.read_text() for path in sorted((handles / "src").glob("*.rt")))
+    crossing = structs(sources)
+    compare("structs", set(re.findall(r"^(?:typedef struct \{.*)?\} (pipapo_\w+);", header, re.M)), set(sum(STRUCTS.values(), [])))
+    sizes = {name: int(size) for name, size in re.findall(r"prove!\(size_of::<(\w+)>\(\) == (\d+)\)", sources)}
+    compare("proved sizes", set(sizes), set(crossing))
+    numbered = numbers((handles / "specs/Codes.antt").read_text(), sources)
+    enumerators = set(re.findall(r"^    (PIPAPO_\w+) = ", header, re.M))
+    compare("enumerators", enumerators, enumerators & set(numbered))
     print('#include "pipapo.h"')
     print("\n".join(found.values()))
-    for struct in STRUCTS:
-        print("\n".join(layout(sources, struct)))
-    for handle in ("pipapo_control", "pipapo_reader"):
-        print(f'_Static_assert(sizeof({handle}) == sizeof(void *), "{handle}");')
+    for name, body in crossing.items():
+        for c_type in STRUCTS[name]:
+            print("\n".join(layout(body, c_type, sizes[name])))
+    for name in sorted(enumerators):
+        print(f'_Static_assert({name} == {numbered[name]}, "{name}");')
 
 
 main()

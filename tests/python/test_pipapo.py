@@ -13,7 +13,7 @@ import threading
 import unittest
 
 import pipapo
-from pipapo import Control, Error, Kind, Outcome, PipapoError, Receipt, Set
+from pipapo import Control, Error, Kind, Outcome, PipapoError, Reason, Receipt, Set
 
 FLOWS = [Set([Kind.IPV4, Kind.SERVICE])]
 
@@ -77,6 +77,27 @@ def test_refusals():
     assert refusal(Control, [Set([])]).error == Error.SCHEMA
     assert refusal(Control, FLOWS, readers=0).error == Error.READERS
     assert refusal(Control, FLOWS, readers=17).error == Error.READERS
+
+
+def test_scripts():
+    rules = (
+        "add set inet t hosts { type ipv4_addr ; }\n"
+        "add set inet t flows { type ipv4_addr . inet_service ; flags interval ; }\n"
+        "add element inet t flows { 192.0.2.0/24 . 80-443 }\n"
+    )
+    kinds = [[Kind.IPV4], [Kind.IPV4, Kind.SERVICE]]
+    with Control.from_script(rules, kinds, readers=2) as control:
+        assert control.number == 1 and len(control.readers) == 2
+        assert control.readers[1].lookup(1, ["192.0.2.7", 443]) == 0
+        assert control.readers[1].lookup(0, ["192.0.2.7"]) is None
+        assert control.insert(0, ["192.0.2.7"]).outcome == Outcome.NEW
+    bad = refusal(Control.from_script, rules.replace("80-443", "443-80"), kinds)
+    assert (bad.error, bad.line, bad.column, bad.reason) == (Error.SCRIPT, 3, 43, Reason.VALUE)
+    assert str(bad) == "3:43: a value or an interval is wanted here"
+    refused = refusal(Control.from_script, rules + "add element inet t flows { 192.0.2.1 . 80 }\n", kinds)
+    assert (refused.error, refused.line, refused.set, refused.cause, refused.id) == (Error.CHANGE, 4, 1, Error.OVERLAP, 0)
+    assert str(refused) == "4: a live element is in the way"
+    assert refusal(Control.from_script, rules, kinds, readers=17).error == Error.READERS
 
 
 def test_values():

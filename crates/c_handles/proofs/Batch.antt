@@ -1,8 +1,8 @@
 -- One key more of many.
-use Rattle.std.proofs.Common.{refl, ◌≡◌, ℕ, suc, zero, ◌+◌, ◌-◌, ◌*◌, ◌/◌, ◌<◌, ◌≤◌, List, [], ◌∷◌, ◌++◌, length, take, drop, ap, sym, ◌∙◌, subst, arith}
+use Rattle.std.proofs.Common.{◌≡◌, ℕ, suc, zero, ◌+◌, ◌-◌, ◌*◌, ◌<◌, ◌≤◌, List, [], ◌∷◌, ◌++◌, length, take, drop, ap, sym, ◌∙◌, subst, arith}
 use Rattle.std.proofs.lemmas.List.{take_more_set, take_all, length-set, append_assoc, append-nil}
 use Rattle.std.proofs.Math.ListN.{set}
-use Rattle.std.proofs.Math.Nat.{suc-mul, mul-div_cancel_left}
+use Rattle.std.proofs.Math.Nat.{suc-mul}
 use Rattle.set_model.specs.SetState.{State}
 use Rattle.pipapo_image.specs.Image.Found.{found}
 use Rattle.set_model.specs.declared.kind.Kind.{Kind}
@@ -41,11 +41,6 @@ no_more s kinds size now ids i rest all h e =
     let end : take i ids ++ ids_in s kinds size now (length ids - i) rest ≡ take i ids ++ [] = ap (λ (n : ℕ). take i ids ++ ids_in s kinds size now n rest) (none_left (length ids) i h) in
     sym (append-nil (take i ids) ∙ take_all i ids h) ∙ (sym end ∙ e)
 
--- no key, no id
-pub none_asked : (s : State) (kinds : List Kind) (size now : ℕ) (ids bytes : List ℕ) → length ids ≡ 0 → ids ≡ ids_in s kinds size now (length ids) bytes
-none_asked s kinds size now [] bytes h = refl
-none_asked s kinds size now (id ∷ ids) bytes h = absurd (omega (arith, h))
-
 -- the bytes of the keys that are left
 pub enough : (n i size len : ℕ) → i < n → len ≡ (n - i) * size → size ≤ len
 enough n i size len h e =
@@ -56,9 +51,6 @@ pub one_less : (n i size len : ℕ) → i < n → len ≡ (n - i) * size → len
 one_less n i size len h e =
     let more : (n - i) * size ≡ suc (n - (i + 1)) * size = ap (λ (k : ℕ). k * size) (less n i h) in
     omega (arith, e, more, suc-mul (n - (i + 1)) size)
-
-pub key_size : (length count size : ℕ) → 0 < count → length ≡ count * size → length / count ≡ size
-key_size length count size some e = ap (λ (n : ℕ). n / count) e ∙ mul-div_cancel_left size some
 
 sub_zero : (n : ℕ) → n - 0 ≡ n
 sub_zero n = omega arith

@@ -6,3 +6,5 @@ pub mod Causes
 pub mod Shapes
 pub mod Starting
 pub mod StartCauses
+pub mod ScriptCodes
+pub mod Scripting

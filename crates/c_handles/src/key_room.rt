@@ -6,27 +6,30 @@ ghost use Rattle.gen_publish.specs.Publish.{IsLookup, declared_kinds};
 ghost use Rattle.packed_values.specs.Packed.{values_in, packed_length};
 
 use gen_publish::Held;
-use packed_values::{has_length, have_length, read_key};
+use packed_values::{key_length, read_key};
 use set_model::{Duplicate, Found, Key, Kinds, Memory, Schema};
 use std::alloc::Global;
 use std::marker::Model;
 
-/// The kinds of a set's fields, and a key of as many values. What its values are doesn't matter: each lookup writes all.
+/// The kinds of a set's fields, how many bytes a key has, and a key of as many values. What its values are doesn't matter:
+/// each lookup writes all.
 #[derive(Drop)]
 pub struct KeyRoom {
     kinds: Kinds,
+    size: usize,
     key: Key,
 }
 
 impl Model for KeyRoom {
     ghost use Rattle.std.specs.Prelude.{◌≡◌, List, length};
     ghost use Rattle.set_model.specs.declared.kind.Kind.{Kind};
+    ghost use Rattle.packed_values.specs.Packed.{packed_length};
 
     ghost Value = { List Kind };
 
     ghost view = { λ r. r.kinds };
 
-    ghost invariant = { λ r. length r.key ≡ length r.kinds };
+    ghost invariant = { λ r. (length r.key ≡ length r.kinds) × (r.size ≡ packed_length r.kinds) };
 }
 
 /// A key of so many values, all 0.
@@ -44,25 +47,38 @@ impl KeyRoom {
     fn of(alloc: Global, kinds: &Kinds) -> Result<KeyRoom, Memory>
         ensures { IfOk result (λ room. room ≡ kinds.now) }
     {
-        let key = blank_key(alloc, kinds.len())?;
+        let Some(size) = key_length(kinds.as_slice()) else {
+            return Err(Memory);
+        };
         Ok(KeyRoom {
             kinds: kinds.copy(alloc)?,
-            key,
+            size,
+            key: blank_key(alloc, kinds.len())?,
         })
+    }
+
+    /// How many bytes a key has.
+    pub(crate) fn size(&self) -> usize
+        ensures { result ≡ packed_length self.now }
+    {
+        self.size
     }
 
     /// Whether a key has so many bytes.
     pub(crate) fn takes(&self, bytes: usize) -> bool
         ensures { IsTrue result ↔ (bytes ≡ packed_length self.now) }
     {
-        has_length(self.kinds.as_slice(), bytes)
+        bytes == self.size
     }
 
     /// Whether so many keys have so many bytes together.
     pub(crate) fn takes_all(&self, count: usize, bytes: usize) -> bool
         ensures { IsTrue result ↔ (bytes ≡ count * packed_length self.now) }
     {
-        have_length(self.kinds.as_slice(), count, bytes)
+        match count.checked_mul(self.size) {
+            Some(all) => bytes == all,
+            None => false,
+        }
     }
 
     /// Looks a key up in the held generation.

@@ -48,10 +48,7 @@ fn find_all(
     ensures same { (room.new ≡ room.old) × (held.new ≡ held.old) }
     ensures ids { (g : Generation) → EndsWith held.old.seen g → AreFound g room.old set bytes.now now ids.new result }
 {
-    if ids.is_empty() {
-        return held.generation();
-    }
-    let size = bytes.len() / ids.len();
+    let size = room.size();
     let mut rest = bytes;
     'keys: for i in 0..ids.len() {
         let (first, others) = rest.split_at(size);
@@ -59,6 +56,32 @@ fn find_all(
         ids[i] = id_or_none(room.find(held, set, first, now));
     }
     held.generation()
+}
+
+/// Looks a key up in the published generation. The reader, which holds none, holds it meanwhile.
+fn look_up_published(
+    place: &mut Place,
+    room: &mut KeyRoom,
+    set: u32,
+    key: &[u8],
+    now: u64,
+) -> Result<Option<Found>, Fault>
+    requires bytes { length key.now ≡ packed_length room.old }
+    requires declared { IsDeclaredAt place.old set room.old }
+    requires out { IsNotIn place.old }
+    ensures room { room.new ≡ room.old }
+    ensures ok { IfOk result (HasLookedUp (seen_at place.old) (seen_at place.new) room.old set key.now now) }
+    ensures stays { Stays place.old place.new }
+    ensures refused { IfErr result (λ fault. (fault ≡ Fault.Turn) × (place.old ≡ Place.Nowhere)) }
+    ensures err { OnErr result (place.new ≡ place.old) }
+{
+    let Place::Out(reader) = replace(place, Place::Nowhere) else {
+        return Err(Fault::Turn);
+    };
+    let mut held = reader.enter();
+    let found = room.find(&mut held, set, key, now);
+    *place = Place::Out(held.leave());
+    Ok(found)
 }
 
 /// Looks a key up in the held generation, or in the published one.
@@ -77,20 +100,38 @@ fn look_up(
     ensures refused { IfErr result (λ fault. (fault ≡ Fault.Turn) × (place.old ≡ Place.Nowhere)) }
     ensures err { OnErr result (place.new ≡ place.old) }
 {
-    match replace(place, Place::Nowhere) {
-        Place::Out(reader) => {
-            let mut held = reader.enter();
-            let found = room.find(&mut held, set, key, now);
-            *place = Place::Out(held.leave());
-            Ok(found)
-        }
-        Place::In(mut held) => {
-            let found = room.find(&mut held, set, key, now);
-            *place = Place::In(held);
-            Ok(found)
-        }
+    match place {
+        Place::In(held) => Ok(room.find(held, set, key, now)),
+        Place::Out(_) => look_up_published(place, room, set, key, now),
         Place::Nowhere => Err(Fault::Turn),
     }
+}
+
+/// Looks keys up, all in the published generation. The reader, which holds none, holds it meanwhile.
+fn look_all_up_published(
+    place: &mut Place,
+    room: &mut KeyRoom,
+    set: u32,
+    keys: &[u8],
+    now: u64,
+    ids: &mut [u64],
+) -> Result<u64, Fault>
+    requires bytes { length keys.now ≡ length ids.old * packed_length room.old }
+    requires declared { IsDeclaredAt place.old set room.old }
+    requires out { IsNotIn place.old }
+    ensures room { room.new ≡ room.old }
+    ensures ok { IfOk result (HasFoundAll (seen_at place.old) (seen_at place.new) room.old set keys.now now ids.new) }
+    ensures stays { Stays place.old place.new }
+    ensures refused { IfErr result (λ fault. (fault ≡ Fault.Turn) × (place.old ≡ Place.Nowhere)) }
+    ensures err { OnErr result ((place.new ≡ place.old) × (ids.new ≡ ids.old)) }
+{
+    let Place::Out(reader) = replace(place, Place::Nowhere) else {
+        return Err(Fault::Turn);
+    };
+    let mut held = reader.enter();
+    let number = find_all(&mut held, room, set, keys, now, ids);
+    *place = Place::Out(held.leave());
+    Ok(number)
 }
 
 /// Looks keys up in the held generation, or all in the published one.
@@ -110,18 +151,9 @@ fn look_all_up(
     ensures refused { IfErr result (λ fault. (fault ≡ Fault.Turn) × (place.old ≡ Place.Nowhere)) }
     ensures err { OnErr result ((place.new ≡ place.old) × (ids.new ≡ ids.old)) }
 {
-    match replace(place, Place::Nowhere) {
-        Place::Out(reader) => {
-            let mut held = reader.enter();
-            let number = find_all(&mut held, room, set, keys, now, ids);
-            *place = Place::Out(held.leave());
-            Ok(number)
-        }
-        Place::In(mut held) => {
-            let number = find_all(&mut held, room, set, keys, now, ids);
-            *place = Place::In(held);
-            Ok(number)
-        }
+    match place {
+        Place::In(held) => Ok(find_all(held, room, set, keys, now, ids)),
+        Place::Out(_) => look_all_up_published(place, room, set, keys, now, ids),
         Place::Nowhere => Err(Fault::Turn),
     }
 }

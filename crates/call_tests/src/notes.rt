@@ -41,7 +41,7 @@ const CALLS: [Noted; 9] = [
     Noted {
         words: &RUN,
         files: &[("a.nft", PORTS), ("keys", b"ip t p 80\nip t p x\n")],
-        notes: b"keys:2:8: 'x' isn't a value of field 1\nip t p x\n       ^\nhelp: write one value of the field's type, and no range or prefix\n",
+        notes: b"keys:2:8: 'x' doesn't fit field 1 (inet_service): it isn't a port\nip t p x\n       ^\nhelp: write a number from 0 to 65535\n",
         output: b"pipapo: keys line 2: value\n",
         status: 4,
     },

@@ -1,4 +1,4 @@
-ghost use Rattle.std.specs.Prelude.{◌≡◌, ◌≤◌, ◌++◌, ◌^◌, false, [], ◌∷◌, drop, length, All, IfOk};
+ghost use Rattle.std.specs.Prelude.{◌≡◌, ◌≤◌, ◌++◌, ◌^◌, false, [], ◌∷◌, drop, length, map, All, IfOk, OnOk};
 ghost use Rattle.std.specs.List.{flat_map, list_any};
 ghost use Rattle.control_desk.specs.Books.{IsClosed};
 ghost use Rattle.control_desk.specs.Woven.{said};
@@ -8,8 +8,9 @@ ghost use Rattle.packet_pool.specs.Running.{run, StandsAt};
 ghost use Rattle.set_report.specs.ListText.{list_text};
 ghost use Rattle.set_report.specs.Remarks.{remarks_text};
 ghost use Rattle.set_report.specs.Writes.{AreSetsOf, NamesSet};
+ghost use Rattle.script_laws.specs.Reports.{has_failed as have_failed, refusals_in};
 ghost use Rattle.script_laws.specs.Sections.{section_at};
-ghost use Rattle.desk_run.specs.DeskText.{IsDeskText, log_text};
+ghost use Rattle.desk_run.specs.DeskText.{IsDeskOutput, log_text, refusals_by};
 
 use crate::gate_bell::GateBell;
 use crate::running::run_later;
@@ -17,7 +18,7 @@ use crate::text::write_log;
 use control_desk::{Bell, Entry, Log};
 use gen_publish::{Control, start};
 use packet_pool::{Gate, run_steps};
-use script_laws::{Output, has_numbers, tells_refusal};
+use script_laws::{Output, Refusal, add_refusals, has_failed, has_numbers, tells_refusal};
 use set_model::{Duplicate, Events, Memory, Schema, Script, Sections, Steps};
 use set_report::{write_list, write_remarks};
 use std::alloc::Global;
@@ -81,6 +82,49 @@ fn any_refusal(told: &Events, log: &Log) -> bool
     tells_refusal(told.as_slice()) || have_refusal(log.as_slice())
 }
 
+/// Adds the refused changes of a log's transactions, each of its control thread.
+fn add_logged(log: &Log, refusals: &mut Vec<Refusal>) -> Result<(), Memory>
+    ensures { OnOk result (refusals.new.items ≡ refusals.old.items ++ flat_map refusals_by log.now) }
+{
+    for entry in log.as_slice() {
+        add_refusals(entry.clerk, entry.refused.as_slice(), refusals)?;
+        add_refusals(entry.clerk, &[entry.end], refusals)?;
+    }
+    Ok(())
+}
+
+/// The refused changes of the first section and of the log.
+fn all_refusals(alloc: Global, told: &Events, log: &Log) -> Result<Vec<Refusal>, Memory>
+    ensures { IfOk result (λ refusals. refusals.items ≡ refusals_in 0 told.now ++ flat_map refusals_by log.now) }
+{
+    let mut refusals = Vec::new(alloc);
+    add_refusals(0, told.as_slice(), &mut refusals)?;
+    add_logged(log, &mut refusals)?;
+    Ok(refusals)
+}
+
+/// Whether the last transaction failed: the log's last one, or the first section's if the log is empty.
+fn any_failure(told: &Events, log: &Log) -> bool
+    ensures { result ≡ have_failed (told.now ++ flat_map said log.now) }
+{
+    match log.as_slice().last() {
+        Some(entry) => has_failed(&[entry.end]),
+        None => has_failed(told.as_slice()),
+    }
+}
+
+/// The steps in the order in which they were done: the first section, and then the log's transactions.
+fn done_in_order(alloc: Global, first: Steps, log: &Log) -> Result<Sections, Memory>
+    ensures { IfOk result (λ done. done ≡ first ∷ map (λ e. e.steps) log.now) }
+{
+    let mut done = Sections::new(alloc);
+    done.push(first)?;
+    for entry in log.as_slice() {
+        done.push(entry.steps.copy(alloc)?)?;
+    }
+    Ok(done)
+}
+
 /// What a desk returns: the first section's reports, the log, and the last generation as a script, and whether a change was
 /// refused.
 fn write_desk(
@@ -94,7 +138,7 @@ fn write_desk(
     requires told { All (NamesSet (length schema.now)) told.now }
     requires log { All (λ e. All (NamesSet (length schema.now)) (said e)) log.now }
     requires sets { AreSetsOf schema.now control.now.work.base.sets }
-    ensures { IfOk result (λ out. (out.text.items ≡ remarks_text schema.now told.now ++ (log_text schema.now log.now ++ list_text schema.now control.now.work.base.sets last)) × (out.refused ≡ list_any is_refusal (told.now ++ flat_map said log.now))) }
+    ensures { IfOk result (λ out. (out.text.items ≡ remarks_text schema.now told.now ++ (log_text schema.now log.now ++ list_text schema.now control.now.work.base.sets last)) × (out.refused ≡ list_any is_refusal (told.now ++ flat_map said log.now)) × (out.refusals.items ≡ refusals_in 0 told.now ++ flat_map refusals_by log.now) × (out.failed ≡ have_failed (told.now ++ flat_map said log.now))) }
 {
     let mut text = Vec::new(alloc);
     write_remarks(schema, told, &mut text)?;
@@ -103,6 +147,9 @@ fn write_desk(
     Ok(Output {
         text,
         refused: any_refusal(told, log),
+        refusals: all_refusals(alloc, told, log)?,
+        failed: any_failure(told, log),
+        script: None,
     })
 }
 
@@ -126,7 +173,7 @@ pub fn desk<R: Threads + Wait + Sync, B: Bell, G: Gate>(
 ) -> Result<Output, Memory>
     requires script { IsRunnable script }
     requires clerks { length script.sections ≤ 17 }
-    ensures { IfOk result (λ out. IsDeskText script keep_going out.refused out.text.items) }
+    ensures { IfOk result (IsDeskOutput script keep_going) }
 {
     let Script {
         schema,
@@ -143,5 +190,18 @@ pub fn desk<R: Threads + Wait + Sync, B: Bell, G: Gate>(
     gate.section(0, bell.last, 0);
     let (control, told) = run_first(alloc, schema, &first, keep_going, gate)?;
     let (control, log) = run_later(rt, alloc, control, &sections, keep_going, &bell)?;
-    write_desk(alloc, &declared, &control, &told, &log, last)
+    let output = write_desk(alloc, &declared, &control, &told, &log, last)?;
+    if output.refused {
+        let done = done_in_order(alloc, first, &log)?;
+        let script = Script {
+            schema: declared,
+            sections: done,
+            last,
+        };
+        return Ok(Output {
+            script: Some(script),
+            ..output
+        });
+    }
+    Ok(output)
 }

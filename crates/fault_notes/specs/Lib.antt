@@ -1,2 +1,4 @@
+pub mod Refusals
 pub mod Shown
 pub mod Told
+pub mod Blanked

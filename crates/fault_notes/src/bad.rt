@@ -6,12 +6,15 @@ use crate::around::{Level, around_of};
 use crate::content::{foreign, swapped};
 use crate::explained::{Explained, Fault};
 use crate::help::{TextKind, explain_plainly};
+use crate::keys::{KeyFault, explain_key, type_item};
 use crate::note::Note;
+use crate::rest::is_caused;
 use crate::sets::explain_set;
 use crate::source::{Cut, cut_at};
 use crate::syntax::{explain_syntax, explain_text_end, explain_type};
 use crate::values::{explain_key_value, explain_moment, explain_value};
-use set_model::Memory;
+use crate::words::count_of;
+use set_model::{Memory, Schema};
 use std::alloc::Global;
 use token_forms::{BadToken, Reason};
 
@@ -66,9 +69,8 @@ fn told_as(alloc: Global, what: &[u8]) -> Result<Note, Memory> {
     Ok(note)
 }
 
-/// What a note says after the place of a script's bad token.
-fn said_of_script(alloc: Global, text: &[u8], bad: BadToken) -> Result<Note, Memory> {
-    let cut = cut_at(text, bad);
+/// What a note says after the place of a script's bad token. The token is in its line `cut`.
+fn said_at(alloc: Global, text: &[u8], bad: BadToken, cut: Cut<'_>) -> Result<Note, Memory> {
     let mut sets = Vec::new(alloc);
     let around = around_of(text, bad.at, &mut sets)?;
     if around.level == Level::Statement {
@@ -87,6 +89,11 @@ fn said_of_script(alloc: Global, text: &[u8], bad: BadToken) -> Result<Note, Mem
     with_source(alloc, &said, bad, cut)
 }
 
+/// What a note says after the place of a script's bad token.
+fn said_of_script(alloc: Global, text: &[u8], bad: BadToken) -> Result<Note, Memory> {
+    said_at(alloc, text, bad, cut_at(text, bad))
+}
+
 /// What a note says after the place of the bad token of another text.
 fn said_of_other(
     alloc: Global,
@@ -100,9 +107,31 @@ fn said_of_other(
     }
     let mut said = Explained::new(alloc);
     match bad.reason {
-        Reason::Value => explain_key_value(&mut said, cut.before, cut.token)?,
+        Reason::Value => explain_key_value(&mut said, b"", count_of(cut.front, b"."), cut.token)?,
         reason => explain_plainly(&mut said, kind, reason, cut.token)?,
     }
+    with_source(alloc, &said, bad, cut)
+}
+
+/// What a note says after the place of a key file's bad token.
+fn said_of_keys(
+    alloc: Global,
+    schema: &Schema,
+    text: &[u8],
+    bad: BadToken,
+) -> Result<Note, Memory> {
+    let cut = cut_at(text, bad);
+    if let Some(what) = foreign(text).or(swapped(TextKind::Keys, cut.line)) {
+        return told_as(alloc, what);
+    }
+    let type_item = type_item(alloc, schema, cut.line)?;
+    let fault = KeyFault {
+        before: cut.front,
+        token: cut.token,
+        reason: bad.reason,
+    };
+    let mut said = Explained::new(alloc);
+    explain_key(&mut said, type_item.as_slice(), fault)?;
     with_source(alloc, &said, bad, cut)
 }
 
@@ -113,6 +142,16 @@ fn said(alloc: Global, kind: TextKind, text: &[u8], bad: BadToken) -> Result<Not
         (None, TextKind::Script) => said_of_script(alloc, text, bad),
         (None, _) => said_of_other(alloc, kind, text, bad),
     }
+}
+
+/// A note that begins with the place of a bad token.
+fn placed_note(alloc: Global, name: &str, bad: BadToken, behind: &Note) -> Result<Note, Memory>
+    ensures place { IfOk result (λ note. Begins (place_text name.now bad.line bad.column) note.bytes.items) }
+{
+    let mut note = Note::new(alloc);
+    note.place(name.as_bytes(), bad.line, bad.column)?;
+    note.join(behind)?;
+    Ok(note)
 }
 
 /// The note on a text that isn't in its grammar: `NAME:LINE:COLUMN: what is wrong`, the line of the
@@ -131,8 +170,63 @@ pub fn bad_text_note(
     ensures place { IfOk result (λ note. Begins (place_text name.now bad.line bad.column) note.bytes.items) }
 {
     let behind = said(alloc, kind, text, bad)?;
-    let mut note = Note::new(alloc);
-    note.place(name.as_bytes(), bad.line, bad.column)?;
-    note.join(&behind)?;
-    Ok(note)
+    placed_note(alloc, name, bad, &behind)
+}
+
+/// The note on a key file that isn't in its grammar, as [`bad_text_note`]. It names the number and the type of
+/// the field in the set of the line.
+///
+/// # Errors
+///
+/// `Memory` if memory runs out.
+pub fn bad_keys_note(
+    alloc: Global,
+    schema: &Schema,
+    name: &str,
+    text: &[u8],
+    bad: BadToken,
+) -> Result<Note, Memory>
+    ensures place { IfOk result (λ note. Begins (place_text name.now bad.line bad.column) note.bytes.items) }
+{
+    let behind = said_of_keys(alloc, schema, text, bad)?;
+    placed_note(alloc, name, bad, &behind)
+}
+
+/// Whether a script's first note says that the file is of another kind. Then the rest of it has no
+/// further errors of a script.
+///
+/// # Errors
+///
+/// `Memory` if memory runs out.
+pub fn is_other_kind(alloc: Global, text: &[u8], bad: BadToken) -> Result<bool, Memory> {
+    let mut sets = Vec::new(alloc);
+    let around = around_of(text, bad.at, &mut sets)?;
+    let is_swapped = around.level == Level::Statement
+        && swapped(TextKind::Script, cut_at(text, bad).line).is_some();
+    Ok(is_swapped || foreign(text).is_some())
+}
+
+/// The note on a further bad token of a script, after the statements before it that were refused. `rest` is
+/// the script in which these are blanked out, so each of its tokens is at its place of the script. If one of
+/// them may be the cause, the note says so.
+///
+/// # Errors
+///
+/// `Memory` if memory runs out.
+pub fn further_note(
+    alloc: Global,
+    name: &str,
+    text: &[u8],
+    rest: &[u8],
+    bad: BadToken,
+) -> Result<Note, Memory>
+    ensures place { IfOk result (λ note. Begins (place_text name.now bad.line bad.column) note.bytes.items) }
+{
+    let cut = cut_at(text, bad);
+    let mut behind = said_at(alloc, rest, bad, cut)?;
+    if is_caused(text, rest, bad, cut.token) {
+        behind.say(b"an earlier error may have caused this one")?;
+        behind.end_line()?;
+    }
+    placed_note(alloc, name, bad, &behind)
 }

@@ -1,8 +1,7 @@
 //! Finds the steps of a script that a refusal is about.
-use crate::refused::{Cause, Refused, SetWords};
-use set_model::{Interval, Memory, Schema, Script, SetDecl, Step, Verb};
+use crate::refused::RefusedChange;
+use set_model::{Interval, Memory, Script, Step, Verb, Why};
 use std::alloc::Global;
-use text_pieces::family_word;
 
 /// How many changes of one line are considered.
 const MOST_ON_LINE: usize = 16;
@@ -24,26 +23,13 @@ pub(crate) struct Spoken<'a> {
     pub(crate) older: Option<Change<'a>>,
 }
 
-fn is_set(decl: &SetDecl, words: SetWords<'_>) -> bool {
-    family_word(decl.family) == words.family
-        && decl.table.as_slice() == words.table
-        && decl.name.as_slice() == words.name
-}
-
-/// The number of a set among the declared sets.
-pub(crate) fn set_number(schema: &Schema, words: SetWords<'_>) -> Option<u32> {
-    let place = schema
-        .as_slice()
-        .iter()
-        .position(|decl| is_set(decl, words))?;
-    u32::try_from(place).ok()
-}
-
-fn is_verb(cause: Cause, verb: Verb) -> bool {
-    match cause {
-        Cause::Missing => matches!(verb, Verb::Delete),
-        Cause::Exists => matches!(verb, Verb::Create),
-        Cause::Overlap | Cause::Full | Cause::Rules => matches!(verb, Verb::Add | Verb::Create),
+fn is_verb(why: Why, verb: Verb) -> bool {
+    match why {
+        Why::Missing => matches!(verb, Verb::Delete),
+        Why::Exists { .. } => matches!(verb, Verb::Create),
+        Why::Overlap { .. } | Why::Full | Why::RulesFull { .. } => {
+            matches!(verb, Verb::Add | Verb::Create)
+        }
     }
 }
 
@@ -67,16 +53,16 @@ fn shares(older: &[Interval], newer: &[Interval]) -> bool {
 }
 
 /// Whether an element may be the reason for which a change was refused so.
-fn may_refuse(cause: Cause, is_disjoint: bool, older: &[Interval], newer: &[Interval]) -> bool {
-    match cause {
-        Cause::Exists => older == newer,
-        Cause::Overlap => {
+fn may_refuse(why: Why, is_disjoint: bool, older: &[Interval], newer: &[Interval]) -> bool {
+    match why {
+        Why::Exists { .. } => older == newer,
+        Why::Overlap { .. } => {
             older != newer
                 && (holds_start(older, newer)
                     || holds_end(older, newer)
                     || (is_disjoint && shares(older, newer)))
         }
-        Cause::Full | Cause::Rules | Cause::Missing => false,
+        Why::Full | Why::RulesFull { .. } | Why::Missing => false,
     }
 }
 
@@ -84,15 +70,14 @@ fn may_refuse(cause: Cause, is_disjoint: bool, older: &[Interval], newer: &[Inte
 fn changes_of<'a>(
     alloc: Global,
     script: &'a Script,
-    set: u32,
-    refused: Refused<'_>,
+    refused: RefusedChange,
 ) -> Result<Vec<Change<'a>>, Memory> {
     let mut found = Vec::new(alloc);
     let mut place = 0u64;
     for steps in script.sections.as_slice() {
         for step in steps.as_slice() {
-            if let Some(change) = change_of(step, place, set) {
-                if change.line == refused.line && is_verb(refused.cause, change.verb) {
+            if let Some(change) = change_of(step, place, refused.set) {
+                if change.line == refused.line && is_verb(refused.why, change.verb) {
                     if found.len() > MOST_ON_LINE {
                         return Ok(found);
                     }
@@ -127,9 +112,8 @@ fn change_of(step: &Step, place: u64, set: u32) -> Option<Change<'_>> {
 /// The earlier additions that may be the element in a change's way: the first, and whether it is the only one.
 fn olders_of<'a>(
     script: &'a Script,
-    set: u32,
     is_disjoint: bool,
-    cause: Cause,
+    refused: RefusedChange,
     newer: Change<'_>,
 ) -> (Option<Change<'a>>, bool) {
     let mut first = None;
@@ -137,10 +121,10 @@ fn olders_of<'a>(
     let mut place = 0u64;
     for steps in script.sections.as_slice() {
         for step in steps.as_slice() {
-            if let Some(change) = change_of(step, place, set) {
+            if let Some(change) = change_of(step, place, refused.set) {
                 if change.place < newer.place
                     && adds(change.verb)
-                    && may_refuse(cause, is_disjoint, change.parts, newer.parts)
+                    && may_refuse(refused.why, is_disjoint, change.parts, newer.parts)
                 {
                     is_only = is_only && first.is_none();
                     first = first.or(Some(change));
@@ -157,11 +141,10 @@ fn olders_of<'a>(
 pub(crate) fn spoken_of<'a>(
     alloc: Global,
     script: &'a Script,
-    set: u32,
     is_disjoint: bool,
-    refused: Refused<'_>,
+    refused: RefusedChange,
 ) -> Result<Spoken<'a>, Memory> {
-    let changes = changes_of(alloc, script, set, refused)?;
+    let changes = changes_of(alloc, script, refused)?;
     let mut spoken = Spoken {
         change: None,
         older: None,
@@ -170,9 +153,9 @@ pub(crate) fn spoken_of<'a>(
     if changes.len() > MOST_ON_LINE {
         return Ok(spoken);
     }
-    let wants_older = matches!(refused.cause, Cause::Overlap | Cause::Exists);
+    let wants_older = matches!(refused.why, Why::Overlap { .. } | Why::Exists { .. });
     for change in &changes {
-        let (older, is_only) = olders_of(script, set, is_disjoint, refused.cause, *change);
+        let (older, is_only) = olders_of(script, is_disjoint, refused, *change);
         if older.is_some() || !wants_older {
             meant = meant.saturating_add(1);
             spoken = Spoken {

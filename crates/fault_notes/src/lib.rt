@@ -15,6 +15,9 @@
 //! compared with the words that may come there. At most a third of its letters may differ: so `intervall`
 //! gives `did you mean 'interval'?`.
 //!
+//! After the first bad token of a script the rest is read again, without the statement of that token
+//! ([`without_statement`], [`further_note`]). So one call shows several errors.
+//!
 //! It is proved that a note on a file begins with its name, and with the place of the bad token or byte
 //! if there is one. Tests check the words after it, and the notes on refused changes. A byte of a text
 //! or a name that isn't printable ASCII appears as its number, as `\x1b` does. So no file can move a
@@ -32,10 +35,12 @@ mod content;
 mod explained;
 mod files;
 mod help;
+mod keys;
 mod near;
 mod note;
 mod refusals;
 mod refused;
+mod rest;
 mod sets;
 mod source;
 mod syntax;
@@ -43,7 +48,7 @@ mod told;
 mod values;
 mod words;
 
-pub use bad::bad_text_note;
+pub use bad::{bad_keys_note, bad_text_note, further_note, is_other_kind};
 pub use captures::capture_note;
 pub use explained::Explained;
 pub use files::{explained_note, read_fault_note, too_large_note, too_many_clerks_note};
@@ -51,5 +56,7 @@ pub use help::TextKind;
 pub use note::Note;
 pub use pcap_keys::CaptureReason;
 pub use refusals::refusals_note;
+pub use rest::without_statement;
+pub use refused::{RefusedChange, RefusedChanges};
 pub use token_forms::BadToken;
 pub use told::tell_note;

@@ -30,7 +30,7 @@ fn hex(digit: u8) -> u8
 
 impl Note {
     /// An empty note. It takes no memory.
-    pub(crate) fn new(alloc: Global) -> Note
+    pub fn new(alloc: Global) -> Note
         ensures { result.bytes.items ≡ [] }
     {
         Note {
@@ -129,12 +129,18 @@ impl Note {
     }
 
     /// Ends a line.
-    pub(crate) fn end_line(&mut self) -> Result<(), Memory> {
+    pub(crate) fn end_line(&mut self) -> Result<(), Memory>
+        ensures { OnOk result (self.new.bytes.items ≡ self.old.bytes.items ++ 10 ∷ []) }
+    {
         self.append(b"\n")
     }
 
     /// Adds another note.
-    pub(crate) fn join(&mut self, other: &Note) -> Result<(), Memory>
+    ///
+    /// # Errors
+    ///
+    /// `Memory` if memory runs out.
+    pub fn join(&mut self, other: &Note) -> Result<(), Memory>
         ensures { OnOk result (self.new.bytes.items ≡ self.old.bytes.items ++ other.now.bytes.items) }
     {
         self.append(other.as_slice())

@@ -1,37 +1,29 @@
 //! The notes on refused changes.
-use crate::changes::{Change, set_number, spoken_of};
+ghost use Rattle.std.specs.Prelude.{◌≡◌, ◌++◌, List, ℕ, OnOk, IfOk};
+ghost use Rattle.fault_notes.specs.Refusals.{AreRefusalLines, IsRefusalLine, IsRefusalsNote, failure_text, more_words as words_on_more, rest_text};
+
+use crate::changes::{Change, spoken_of};
 use crate::note::Note;
-use crate::refused::{Cause, Refused, next_line, refused_by, without_mark};
+use crate::refused::{RefusedChange, RefusedChanges};
 use crate::source::last_line;
 use addr_text::{read_interval, write_interval};
-use set_model::{Interval, Kind, Memory, Script, is_good};
+use set_model::{Interval, Kind, Memory, Script, Why, is_good};
 use std::alloc::Global;
+use text_pieces::Piece::{Number, Word};
+use text_pieces::{append, append_pieces};
 use token_forms::{TokenKind, Tokens};
 
-/// How many refused changes are printed one by one.
-const MOST_TOLD: u64 = 20;
-
-impl Note {
-    /// Adds intervals, as a script has them.
-    fn intervals(
-        &mut self,
-        alloc: Global,
-        kinds: &[Kind],
-        parts: &[Interval],
-    ) -> Result<(), Memory> {
-        let mut text = Vec::new(alloc);
-        for (kind, part) in kinds.iter().zip(parts) {
-            if !text.is_empty() {
-                if text.extend_from_slice(b" . ").is_err() {
-                    return Err(Memory);
-                }
-            }
-            if is_good(*kind, part) && write_interval(*kind, *part, &mut text).is_err() {
-                return Err(Memory);
-            }
+/// Appends intervals, as a script has them.
+fn write_intervals(kinds: &[Kind], parts: &[Interval], out: &mut Vec<u8>) -> Result<(), Memory> {
+    let mut separator: &[u8] = b"";
+    for (kind, part) in kinds.iter().zip(parts) {
+        append(separator, out)?;
+        if is_good(*kind, part) {
+            write_interval(*kind, *part, out)?;
         }
-        self.say(text.as_slice())
+        separator = b" . ";
     }
+    Ok(())
 }
 
 /// The column of the first word in a line that means an interval.
@@ -51,110 +43,145 @@ fn column_of(text: &[u8], line: u64, kind: Kind, part: Interval) -> Option<u64> 
     None
 }
 
-/// The run of a note: the script's name, its text, and what the text means.
-#[derive(Clone, Copy)]
-struct Told<'a> {
-    name: &'a [u8],
-    text: &'a [u8],
-    script: &'a Script,
+/// The column of a change, if its first interval is found in its line.
+fn change_column(text: &[u8], kinds: &[Kind], change: Change<'_>) -> Option<u64> {
+    column_of(text, change.line, *kinds.first()?, *change.parts.first()?)
 }
 
-/// What a note says of a refused change if it doesn't name the element in the way.
-fn alone(cause: Cause) -> &'static [u8] {
-    match cause {
-        Cause::Overlap => b" overlaps an element that is there",
-        Cause::Exists => b" exists already",
-        Cause::Full => b" doesn't fit: the set has as many elements as it may have",
-        Cause::Rules => b" doesn't fit: a field would have more than 1048576 rules",
-        Cause::Missing => b" is no element of the set",
+/// What a line says of a refused change if it doesn't name the element in the way.
+fn alone(why: Why) -> &'static [u8] {
+    match why {
+        Why::Overlap { .. } => b" overlaps an element that is there",
+        Why::Exists { .. } => b" exists already",
+        Why::Full => b" doesn't fit: the set has as many elements as it may have",
+        Why::RulesFull { .. } => b" doesn't fit: a field would have more than 1048576 rules",
+        Why::Missing => b" is no element of the set",
     }
 }
 
-/// Adds the element that is in a change's way, and its line.
-fn add_older(
-    note: &mut Note,
-    alloc: Global,
+/// Appends why a change was refused, with the element in its way and the line of that one.
+fn write_older(
     kinds: &[Kind],
-    cause: Cause,
+    why: Why,
     older: Change<'_>,
+    out: &mut Vec<u8>,
 ) -> Result<(), Memory> {
-    if matches!(cause, Cause::Overlap) {
-        note.say(b" overlaps ")?;
-        note.intervals(alloc, kinds, older.parts)?;
+    if matches!(why, Why::Overlap { .. }) {
+        append(b" overlaps ", out)?;
+        write_intervals(kinds, older.parts, out)?;
     } else {
-        note.say(alone(cause))?;
+        append(alone(why), out)?;
     }
-    note.say(b" (line ")?;
-    note.number(older.line)?;
-    note.say(b")")
+    append_pieces(&[Word(b" (line "), Number(older.line), Word(b")")], out)
 }
 
-/// Adds the place of a change: its line, and its column if its first interval is found there.
-fn add_place(
-    note: &mut Note,
-    told: Told<'_>,
-    kinds: &[Kind],
-    change: Change<'_>,
-) -> Result<(), Memory> {
-    let column = match (kinds.first(), change.parts.first()) {
-        (Some(kind), Some(part)) => column_of(told.text, change.line, *kind, *part),
-        _ => None,
-    };
-    note.place(told.name, change.line, column.unwrap_or(1))
-}
-
-/// Adds the line of one refused change.
-fn add_refusal(
-    note: &mut Note,
+/// Appends the words on a refused change, and returns its column. `text` is the script's.
+fn write_change(
     alloc: Global,
-    told: Told<'_>,
-    refused: Refused<'_>,
-) -> Result<(), Memory> {
-    let Some(set) = set_number(&told.script.schema, refused.set) else {
-        return Ok(());
-    };
-    let Some(decl) = told.script.schema.as_slice().get(set as usize) else {
-        return Ok(());
+    text: &[u8],
+    script: &Script,
+    refused: RefusedChange,
+    out: &mut Vec<u8>,
+) -> Result<u64, Memory> {
+    let Some(decl) = script.schema.as_slice().get(refused.set as usize) else {
+        return Ok(1);
     };
     let kinds = decl.kinds.as_slice();
-    let spoken = spoken_of(alloc, told.script, set, decl.disjoint, refused)?;
-    match spoken.change {
+    let spoken = spoken_of(alloc, script, decl.disjoint, refused)?;
+    let column = match spoken.change {
         Some(change) => {
-            add_place(note, told, kinds, change)?;
-            note.intervals(alloc, kinds, change.parts)?;
+            write_intervals(kinds, change.parts, out)?;
+            change_column(text, kinds, change).unwrap_or(1)
         }
         None => {
-            note.place(told.name, refused.line, 1)?;
-            note.say(b"an element of this line")?;
+            append(b"an element of this line", out)?;
+            1
         }
-    }
+    };
     match spoken.older {
-        Some(older) if !refused.is_by_thread => add_older(
-            note,
-            alloc,
-            kinds,
-            refused.cause,
-            older,
-        )?,
-        _ => note.say(alone(refused.cause))?,
+        Some(older) => write_older(kinds, refused.why, older, out)?,
+        None => append(alone(refused.why), out)?,
     }
+    Ok(column)
+}
+
+/// Adds a line: a place in the script, and words.
+fn add_line(
+    note: &mut Note,
+    name: &[u8],
+    line: u64,
+    column: u64,
+    words: &[u8],
+) -> Result<(), Memory>
+    ensures { OnOk result ((text : List ℕ) × IsRefusalLine name.now line text × (note.new.bytes.items ≡ note.old.bytes.items ++ text)) }
+{
+    note.place(name, line, column)?;
+    note.say(words)?;
     note.end_line()
 }
 
-/// Adds how many refused changes weren't printed one by one.
-fn add_rest(note: &mut Note, name: &[u8], count: u64) -> Result<(), Memory> {
-    if count <= MOST_TOLD {
+/// Adds the line on a refused change.
+fn add_change(
+    note: &mut Note,
+    alloc: Global,
+    name: &[u8],
+    text: &[u8],
+    script: &Script,
+    refused: RefusedChange,
+) -> Result<(), Memory>
+    ensures { OnOk result ((line : List ℕ) × IsRefusalLine name.now refused.line line × (note.new.bytes.items ≡ note.old.bytes.items ++ line)) }
+{
+    let mut words = Vec::new(alloc);
+    let column = write_change(alloc, text, script, refused, &mut words)?;
+    add_line(note, name, refused.line, column, words.as_slice())
+}
+
+/// Adds the lines on refused changes, in their order.
+fn add_changes(
+    note: &mut Note,
+    alloc: Global,
+    name: &[u8],
+    text: &[u8],
+    script: &Script,
+    changes: &[RefusedChange],
+) -> Result<(), Memory>
+    ensures { OnOk result ((lines : List ℕ) × AreRefusalLines name.now changes.now lines × (note.new.bytes.items ≡ note.old.bytes.items ++ lines)) }
+{
+    for change in changes {
+        add_change(note, alloc, name, text, script, *change)?;
+    }
+    Ok(())
+}
+
+/// The words after the count of further refused changes.
+fn more_words(count: u64) -> &'static [u8]
+    ensures { result.now ≡ words_on_more count }
+{
+    if count == 1 {
+        b" more change is refused"
+    } else {
+        b" more changes are refused"
+    }
+}
+
+/// Adds how many refused changes have no line of their own, if there are any.
+fn add_rest(note: &mut Note, name: &[u8], count: u64) -> Result<(), Memory>
+    ensures { OnOk result (note.new.bytes.items ≡ note.old.bytes.items ++ rest_text name.now count) }
+{
+    if count == 0 {
         return Ok(());
     }
     note.file(name)?;
-    note.number(count - MOST_TOLD)?;
-    note.say(b" more changes are refused")?;
+    note.number(count)?;
+    note.say(more_words(count))?;
     note.end_line()
 }
 
-/// Adds that a listing or a dump is of the generation before a transaction that failed.
-fn add_failed(note: &mut Note, name: &[u8], is_failed: bool) -> Result<(), Memory> {
-    if !is_failed {
+/// Adds that the last transaction failed, if it did.
+fn add_failure(note: &mut Note, name: &[u8], failed: bool) -> Result<(), Memory>
+    ensures { OnOk result (note.new.bytes.items ≡ note.old.bytes.items ++ failure_text name.now failed) }
+{
+    if !failed {
         return Ok(());
     }
     note.file(name)?;
@@ -162,11 +189,12 @@ fn add_failed(note: &mut Note, name: &[u8], is_failed: bool) -> Result<(), Memor
     note.end_line()
 }
 
-/// The note on a run with refused changes, by the lines of its output. `text` is the script's.
+/// The note on a run with refused changes. `text` is the script's text. `script` has its steps in the order in which
+/// they were done.
 ///
-/// For each of the first 20 refused changes it has the change's element, and the element in its way
-/// with that one's line. Each is there if no other can be meant. Then it says how many more there are.
-/// For a listing or a dump it says that the last transaction failed, if it did.
+/// For each of the first changes it has a line with the change's place and element, and the element in its way with
+/// that one's line. Each element is there if no other can be meant. Then it says how many more changes are refused, and
+/// that the last transaction failed if it did.
 ///
 /// # Errors
 ///
@@ -176,32 +204,15 @@ pub fn refusals_note(
     name: &str,
     text: &[u8],
     script: &Script,
-    output: &[u8],
-) -> Result<Note, Memory> {
-    let told = Told {
-        name: name.as_bytes(),
-        text,
-        script,
-    };
+    changes: RefusedChanges<'_>,
+) -> Result<Note, Memory>
+    ensures { IfOk result (λ note. IsRefusalsNote name.now changes.entry.first.now changes.entry.count changes.entry.failed note.bytes.items) }
+{
+    let name = name.as_bytes();
     let mut note = Note::new(alloc);
-    let mut count = 0u64;
-    let mut is_failed = false;
-    let mut rest = output;
-    for _ in 0..output.len() {
-        let (line, behind) = next_line(rest);
-        rest = behind;
-        if line.starts_with(b"# ") && !without_mark(line).starts_with(b"line ") {
-            is_failed = without_mark(line).starts_with(b"fail ");
-        }
-        let Some(refused) = refused_by(line) else {
-            continue;
-        };
-        if count < MOST_TOLD && add_refusal(&mut note, alloc, told, refused).is_err() {
-            return Err(Memory);
-        }
-        count = count.saturating_add(1);
-    }
-    add_rest(&mut note, told.name, count)?;
-    add_failed(&mut note, told.name, is_failed)?;
+    add_changes(&mut note, alloc, name, text, script, changes.first)?;
+    let more = changes.count.saturating_sub(changes.first.len() as u64);
+    add_rest(&mut note, name, more)?;
+    add_failure(&mut note, name, changes.failed)?;
     Ok(note)
 }

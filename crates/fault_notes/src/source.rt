@@ -15,8 +15,9 @@ const BEHIND: usize = 40;
 /// A line of a text with a token in it, cut if it is long.
 #[derive(Clone, Copy)]
 pub(crate) struct Cut<'a> {
-    /// The whole line.
+    /// The whole line, and its bytes before the token.
     pub(crate) line: &'a [u8],
+    pub(crate) front: &'a [u8],
     /// The bytes before the token that are shown, and whether there are more.
     pub(crate) before: &'a [u8],
     has_more_before: bool,
@@ -66,6 +67,7 @@ pub(crate) fn cut_at<'a>(text: &'a [u8], bad: BadToken) -> Cut<'a> {
     let (token, behind) = line.split_at(line.len().min(bad.length as usize));
     Cut {
         line: first_line(&text[front.len() - before.len()..]),
+        front: before,
         before: last_of(before, BEFORE),
         has_more_before: before.len() > BEFORE,
         token,

@@ -306,8 +306,8 @@ fn explain_no_value(said: &mut Explained, fault: Fault<'_>) -> Result<(), Memory
     }
 }
 
-/// Explains an element that has too few fields, or too many.
-fn explain_fields(
+/// Explains an element or a key that has too few fields, or too many.
+pub(crate) fn explain_fields(
     said: &mut Explained,
     wrong: &[u8],
     number: u64,

@@ -114,7 +114,7 @@ fn what(kind: Kind) -> &'static [u8] {
 }
 
 /// A kind's word in a script.
-fn word_of(kind: Kind) -> &'static [u8] {
+pub(crate) fn word_of(kind: Kind) -> &'static [u8] {
     match kind {
         Kind::Ipv4 => b"ipv4_addr",
         Kind::Ipv6 => b"ipv6_addr",
@@ -449,22 +449,38 @@ pub(crate) fn explain_value(said: &mut Explained, fault: Fault<'_>) -> Result<()
     }
 }
 
-/// Explains a word of a key file at the place of a value. `before` is its line up to the word.
+/// Explains a word of a key file at the place of a value: the field of this number, from 0, of a set with
+/// this item `type`.
 pub(crate) fn explain_key_value(
     said: &mut Explained,
-    before: &[u8],
+    type_item: &[u8],
+    number: u64,
     word: &[u8],
 ) -> Result<(), Memory> {
-    said.wrong.pieces(
-        said.alloc,
-        &[
-            Piece::Word(b" isn't a value of field "),
-            Piece::Number(count_of(before, b".").saturating_add(1)),
-        ],
-    )?;
-    match port_of(word) {
-        Some(port) => said.wrong_port(b", and a port is a number and not a name", port),
-        None => said.help.say(b"write one value of the field's type, and no range or prefix"),
+    let Some(kind) = kind_at(type_item, number) else {
+        return said.tell(
+            &[
+                Piece::Word(b" isn't a value of field "),
+                Piece::Number(number.saturating_add(1)),
+            ],
+            &[Piece::Word(b"write one value of the field's type, and no range or prefix")],
+        );
+    };
+    let field = Field {
+        word,
+        number,
+        kind,
+        type_item,
+    };
+    match wrong_value(field) {
+        WrongValue::Several => said.say(
+            b" is more than one value, and a packet has one in each field",
+            b"write one value, and no range or prefix",
+        ),
+        wrong => {
+            said.misfit(field)?;
+            said.wrong_value(field, wrong)
+        }
     }
 }
 

@@ -26,22 +26,26 @@ Words = State (Option Berth) (SeatView Generation)
 abbrev pub IsRuled : ℕ → Words → Type 0
 IsRuled start words = Rule shown Follows start words
 
--- The reader r holds the slot that word 0 names after 256 was added to what it was. It has its
--- pointer of that slot, which shows the last generation that it has seen.
-pub record HoldsNamed (r word : ℕ) (me : Me (Option Berth) (SeatView Generation)) : Type 0 where
-  pub slot : me.0.role ≡ Holds r ((word + 256) % 2 ^ 64 % 256)
+-- A reader r takes its pointer of the slot that word 0 named. The pointer shows the last of these
+-- generations.
+pub record GetsLast (r word : ℕ) (me entering : Me (Option Berth) (SeatView Generation)) (committed : List Generation) : Type 0 where
   pub pointer : Berth
-  pub others : List (ℕ × Option Berth)
-  pub taken : me.1 ≡ (32 * r + word % 256, Some pointer) ∷ others
-  pub last : EndsWith me.0.seen (shown pointer)
+  pub taken : entering.1 ≡ (32 * r + word % 256, Some pointer) ∷ me.1
+  pub last : EndsWith committed (shown pointer)
 
 -- An enter adds 256 to word 0, and its clause is `entered`. After that the reader holds the slot that
 -- word 0 names.
 --
 -- As long as a reader holds the slot that word 0 names, it has seen exactly the generations that the
--- control has committed. So the generation that an enter gets is the last one that was committed at
--- the step of its addition.
+-- control has committed.
+--
+-- So an enter gets the last generation that is committed at the step of its addition. `after` are
+-- the words after that step.
 pub record EntersTheLast : Type 0 where
-  pub enter : (st : Step (Option Berth)) (r word : ℕ) (me entering : Me (Option Berth) (SeatView Generation)) → me.0.role ≡ Out r → entered shown Follows st me word entering → HoldsNamed r word entering
+  pub enter : (st : Step (Option Berth)) (r word : ℕ) (me entering : Me (Option Berth) (SeatView Generation)) → me.0.role ≡ Out r → entered shown Follows st me word entering
+      → entering.0.role ≡ Holds r ((word + 256) % 2 ^ 64 % 256)
   pub newest : (start : ℕ) (words : Words) → IsRuled start words → (i j r : ℕ) (reader control : SeatView Generation) (p : Plan Generation) → get_elem? words.views i ≡ some reader
       → reader.role ≡ Holds r (slice_index words.words 0 % 256) → get_elem? words.views j ≡ some control → control.role ≡ Keeper p → reader.seen ≡ control.seen
+  pub last : (start : ℕ) (after : Words) → IsRuled start after → (st : Step (Option Berth)) (i j r word : ℕ) (me entering : Me (Option Berth) (SeatView Generation)) (control : SeatView Generation) (p : Plan Generation) → me.0.role ≡ Out r
+      → entered shown Follows st me word entering → slice_index after.words 0 ≡ (word + 256) % 2 ^ 64 → get_elem? after.views i ≡ some entering.0 → get_elem? after.views j ≡ some control → control.role ≡ Keeper p
+      → GetsLast r word me entering control.seen

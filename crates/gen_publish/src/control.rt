@@ -7,6 +7,7 @@ ghost use Rattle.pipapo_image.specs.Image.Insert.{IsAnswer};
 ghost use Rattle.pipapo_image.specs.Image.Remove.{IsRemoval};
 ghost use Rattle.set_space.specs.Answers.{IsCreation, IsDestruction, IsFlush};
 ghost use Rattle.set_space.specs.Open.{opened, FitsSet, Lacks, IsChange};
+ghost use Rattle.gen_publish.specs.Accepted.{ShowsElement};
 ghost use Rattle.gen_publish.specs.Publish.{IsCommit, IsSteered, Grown, kinds_of, declared_kinds};
 
 use crate::berth::{Berth, next_berths};
@@ -119,6 +120,9 @@ impl Control {
     /// Inserts into an open set. `now` is in milliseconds. If a live element has the same intervals, it
     /// stays, and takes the new expiry if there is one.
     ///
+    /// After that a lookup of the start key in the open set finds the element, if its expiry is after
+    /// `now`.
+    ///
     /// # Errors
     ///
     /// The first of these that applies; each leaves the control as it was.
@@ -132,6 +136,7 @@ impl Control {
         requires set { set < length self.old.work.sets }
         requires fits { FitsSet self.old.work set element.now.parts }
         ensures change { IsChange (λ s t. IsAnswer (add s element.now now) result s t) self.old.work set self.new.work }
+        ensures shown { IfOk result (ShowsElement self.new.work set element.now now) }
         ensures others { self.new ≡ record self.old { work = self.new.work } }
         ensures refused { OnErr result (self.new ≡ self.old) }
     {

@@ -1,5 +1,5 @@
 -- Notes on files that can't be had.
-use Rattle.std.proofs.Common.{◌≡◌, ◌∙◌, subst, ℕ, List, Option, Some, Result, Ok}
+use Rattle.std.proofs.Common.{◌≡◌, sym, ◌∙◌, subst, ℕ, suc, List, [], ◌++◌, Option, Some, Result, Ok, append-nil}
 use Rattle.std.specs.Prelude.{IfOk}
 use Rattle.set_model.specs.declared.memory.Memory.{Memory as NoMemory}
 use Rattle.set_model.specs.declared.script.SetDecl.{SetDecl}
@@ -8,13 +8,16 @@ use Rattle.token_forms.specs.BadTokens.{IsBadToken, IsBadTokenAmong}
 use Rattle.token_forms.specs.Form.{Form}
 use Rattle.token_forms.specs.Token.{Lexeme}
 use Rattle.pcap_keys.specs.declared.error.CaptureReason.{CaptureReason}
-use Rattle.fault_notes.specs.Shown.{Begins, byte_text}
+use Rattle.fault_notes.specs.Shown.{Begins, place_text, byte_text}
 use Rattle.fault_notes.specs.Told.{MayTell}
 use Rattle.fault_notes.proofs.ToldLaws.{tells-as}
 use Rattle.input_files.specs.declared.fault.Flaw.TheVariants as flaws
 use Rattle.input_files.specs.declared.fault.FileFault.{FileFault}
 use Rattle.input_files.specs.declared.fault.FileFault.TheVariants.{Bad, ReadFault, TooLarge, Memory}
-use Rattle.input_files.specs.Noted.{IsPlacedBy, NamesBadToken, IsNoteOn}
+use Rattle.token_forms.specs.TextTokens.{text_tokens}
+use Rattle.set_script.specs.Script.{script as script_form}
+use Rattle.fault_notes.specs.Blanked.{blanked}
+use Rattle.input_files.specs.Noted.{IsPlacedBy, NamesBadToken, IsNoteOn, AreFurther, no_more, one_more, IsScriptNote, IsScriptNoted, NamesBadTokens}
 
 -- A note on a text by the bad token that was found in it names the bad token of the file's bytes, if they are known.
 pub bad-note : {A : Type 0} (form : Form A) (tokens : List ℕ → List Lexeme) (told : List ℕ → Option (List ℕ)) (name all slice : List ℕ) (found : Result (Option BadToken) NoMemory) (before mid now : Option (List ℕ))
@@ -27,6 +30,35 @@ bad-note form tokens told name all slice found before mid now bytes same is_bad 
       is_bad = subst (λ (t : List ℕ). IsBadToken form (tokens t) t placed.bad) (same ∙ bytes bs at) (subst (λ (r : Result (Option BadToken) NoMemory). IfOk r (IsBadTokenAmong form (tokens slice) slice)) placed.is_found is_bad);
       begins = placed.begins;
     }) tells)
+
+-- A note on a script by the bad token that was found in it names the bad tokens of the file's bytes, if they are known.
+pub script-note : (told : List ℕ → Option (List ℕ)) (name all slice : List ℕ) (found : Result (Option BadToken) NoMemory) (before mid now : Option (List ℕ))
+    → ((text : List ℕ) → told name ≡ Some text → all ≡ text) → slice ≡ all → IfOk found (IsBadTokenAmong script_form (text_tokens slice) slice) → mid ≡ before → MayTell (IsScriptNoted found name slice) mid now
+    → MayTell (λ text. (bytes : List ℕ) → told name ≡ Some bytes → NamesBadTokens bytes name text) before now
+script-note told name all slice found before mid now bytes same is_bad silent tells =
+    subst (λ (b : Option (List ℕ)). MayTell (λ text. (bytes : List ℕ) → told name ≡ Some bytes → NamesBadTokens bytes name text) b now) silent
+    (tells-as (IsScriptNoted found name slice) (λ text. (bytes : List ℕ) → told name ≡ Some bytes → NamesBadTokens bytes name text) mid now (λ text noted bs at. record {
+      bad = noted.bad;
+      is_bad = subst (λ (t : List ℕ). IsBadToken script_form (text_tokens t) t noted.bad) (same ∙ bytes bs at) (subst (λ (r : Result (Option BadToken) NoMemory). IfOk r (IsBadTokenAmong script_form (text_tokens slice) slice)) noted.is_found is_bad);
+      says = subst (λ (t : List ℕ). IsScriptNote name t noted.bad text) (same ∙ bytes bs at) noted.says;
+    }) tells)
+
+-- One more note on what is left of a script.
+pub one-further : (name : List ℕ) (most less : ℕ) (rest left note more all : List ℕ) (bad : BadToken) → most ≡ suc less → ((from : ℕ) × (to : ℕ) × (left ≡ blanked from to rest)) → IsBadToken script_form (text_tokens left) left bad
+    → Begins (place_text name bad.line bad.column) note → AreFurther name less left more → all ≡ note ++ more → AreFurther name most rest all
+one-further name most less rest left note more all bad count part is_bad begins further whole =
+    let names : NamesBadToken script_form (text_tokens left) left name note = record { bad = bad; is_bad = is_bad; begins = begins } in
+    let mine = subst (λ (t : List ℕ). NamesBadToken script_form (text_tokens t) t name note) part.2 names in
+    let others = subst (λ (t : List ℕ). AreFurther name less t more) part.2 further in
+    subst (λ (n : ℕ). AreFurther name n rest all) (sym count) (subst (λ (t : List ℕ). AreFurther name (suc less) rest t) (sym whole) (one_more less part.0 part.1 rest note more mine others))
+
+-- No further note.
+pub none_further : (name : List ℕ) (most : ℕ) (rest notes : List ℕ) → notes ≡ [] → AreFurther name most rest notes
+none_further name most rest notes none = subst (λ (t : List ℕ). AreFurther name most rest t) (sym none) (no_more most rest)
+
+-- A note on the first bad token alone.
+pub first_alone : (name text note : List ℕ) (bad : BadToken) → Begins (place_text name bad.line bad.column) note → IsScriptNote name text bad note
+first_alone name text note bad begins = record { first = note; more = []; begins = begins; further = no_more 9 text; whole = sym (append-nil note) }
 
 -- A note on a capture begins with its byte, whatever is known of its bytes.
 pub capture-note : (told : List ℕ → Option (List ℕ)) (name : List ℕ) (sets : List SetDecl) (byte : ℕ) (reason : CaptureReason) (before mid now : Option (List ℕ)) → mid ≡ before → MayTell (Begins (byte_text name byte)) mid now

@@ -1,5 +1,5 @@
 -- What is printed for a person about a file that failed.
-use Rattle.std.specs.Prelude.{◌≡◌, ℕ, List, Option, Some, Result, Ok}
+use Rattle.std.specs.Prelude.{◌≡◌, ℕ, suc, List, [], ◌++◌, Option, Some, Result, Ok}
 use Rattle.set_model.specs.declared.script.SetDecl.{SetDecl}
 use Rattle.set_model.specs.declared.memory.Memory.{Memory as NoMemory}
 use Rattle.token_forms.specs.declared.bad_token.BadToken.{BadToken}
@@ -11,6 +11,7 @@ use Rattle.set_script.specs.Script.{script as script_form}
 use Rattle.key_file.specs.Keys.{key_file}
 use Rattle.rule_chain.specs.Rules.{rules_file}
 use Rattle.pcap_keys.specs.Plans.{plan as plan_form}
+use Rattle.fault_notes.specs.Blanked.{blanked}
 use Rattle.fault_notes.specs.Shown.{Begins, place_text, byte_text, name_text}
 use Rattle.fault_notes.specs.Told.{MayTell}
 use Rattle.input_files.specs.declared.fault.Flaw.{Flaw}
@@ -32,10 +33,37 @@ pub record NamesBadToken {A : Type 0} (form : Form A) (tokens : List Lexeme) (te
   pub is_bad : IsBadToken form tokens text bad
   pub begins : Begins (place_text name bad.line bad.column) note
 
+-- Notes on bad tokens of a script after the first one, at most so many. Each begins with the place of the bad token of
+-- what is left: the script in which a part is blanked out, and one more for each note before it.
+pub data AreFurther (name : List ℕ) : ℕ → List ℕ → List ℕ → Type 0 where
+  no_more : (most : ℕ) (rest : List ℕ) → AreFurther name most rest []
+  one_more : (most from to : ℕ) (rest note more : List ℕ) → NamesBadToken script_form (text_tokens (blanked from to rest)) (blanked from to rest) name note
+      → AreFurther name most (blanked from to rest) more → AreFurther name (suc most) rest (note ++ more)
+
+-- A note on a script begins with the place of this bad token. At most nine notes on further ones follow.
+pub record IsScriptNote (name text : List ℕ) (bad : BadToken) (note : List ℕ) : Type 0 where
+  pub first : List ℕ
+  pub more : List ℕ
+  pub begins : Begins (place_text name bad.line bad.column) first
+  pub further : AreFurther name 9 text more
+  pub whole : note ≡ first ++ more
+
+-- A note is on a script by its bad token, if that was found.
+pub record IsScriptNoted (found : Result (Option BadToken) NoMemory) (name text note : List ℕ) : Type 0 where
+  pub bad : BadToken
+  pub is_found : found ≡ Ok (Some bad)
+  pub says : IsScriptNote name text bad note
+
+-- A note names a script's bad token by the definition, and further ones.
+pub record NamesBadTokens (text name note : List ℕ) : Type 0 where
+  pub bad : BadToken
+  pub is_bad : IsBadToken script_form (text_tokens text) text bad
+  pub says : IsScriptNote name text bad note
+
 -- A note on a flawed text begins with its name and the place of the flaw: of the bad token, or of a
--- capture's byte.
+-- capture's byte. In a script further bad tokens follow.
 abbrev pub NamesFlaw : List SetDecl → List ℕ → List ℕ → Flaw → List ℕ → Type 0
-NamesFlaw sets text name (flaws.Script line reason) note = NamesBadToken script_form (text_tokens text) text name note
+NamesFlaw sets text name (flaws.Script line reason) note = NamesBadTokens text name note
 NamesFlaw sets text name (flaws.Keys line reason) note = NamesBadToken (key_file sets) (text_tokens text) text name note
 NamesFlaw sets text name (flaws.Rules line reason) note = NamesBadToken (rules_file sets) (plain_tokens text) text name note
 NamesFlaw sets text name (flaws.Plan line reason) note = NamesBadToken (plan_form sets) (plain_tokens text) text name note

@@ -17,7 +17,8 @@ ghost use Rattle.input_files.specs.Inputs.{Input, ReadsAs, IsFileCause};
 ghost use Rattle.input_files.specs.Noted.{IsNoteOn};
 
 use crate::fault::{FileFault, Flaw};
-use crate::told::{tell_bad, tell_capture, tell_read_fault, tell_too_large};
+use crate::script_told::tell_script;
+use crate::told::{tell_bad, tell_capture, tell_keys, tell_read_fault, tell_too_large};
 use fault_notes::TextKind;
 use key_file::read_keys;
 use pcap_keys::{CaptureError, Frames, Plan, read_capture, read_plan};
@@ -88,7 +89,7 @@ pub fn script_of<'a, F: Shelf, N: Notes>(
         Ok(script) => Ok(script),
         Err(FormError::Bad { line, reason }) => {
             let found = set_script::bad_token(alloc, bytes);
-            tell_bad(alloc, notes, TextKind::Script, name, bytes, found);
+            tell_script(alloc, notes, name, bytes, found);
             Err(FileFault::Bad(Flaw::Script { line, reason }))
         }
         Err(FormError::Memory) => Err(FileFault::Memory),
@@ -124,7 +125,7 @@ pub fn keys_of<'a, F: Shelf, N: Notes>(
         Ok(keys) => Ok(keys),
         Err(FormError::Bad { line, reason }) => {
             let found = key_file::bad_token(alloc, schema, bytes);
-            tell_bad(alloc, notes, TextKind::Keys, name, bytes, found);
+            tell_keys(alloc, notes, schema, name, bytes, found);
             Err(FileFault::Bad(Flaw::Keys { line, reason }))
         }
         Err(FormError::Memory) => Err(FileFault::Memory),

@@ -21,6 +21,7 @@
 
 mod fault;
 mod files;
+mod script_told;
 mod told;
 mod work;
 

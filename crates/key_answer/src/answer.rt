@@ -8,6 +8,7 @@ ghost use Rattle.set_model.specs.Control.{mode_of, history, is_refusal as refuse
 ghost use Rattle.set_model.specs.Runnable.{IsRunnable, IsFitting};
 ghost use Rattle.set_report.specs.Writes.{AreSetsOf, NamesSet};
 ghost use Rattle.packet_pool.specs.Running.{run, StandsAt};
+ghost use Rattle.script_laws.specs.Reports.{IsReportOn};
 ghost use Rattle.token_forms.specs.declared.token.Reason.{Reason};
 ghost use Rattle.key_answer.specs.Answer.{answer_in, answer_text, origin_text, line_text, GivesAnswer};
 ghost use Rattle.key_answer.specs.Origin.{traced};
@@ -17,10 +18,10 @@ ghost use Rattle.key_answer.specs.declared.question.AnswerError.TheVariants.{Bad
 
 use crate::question::{AnswerError, packet_of};
 use crate::trail::trace_steps;
-use gen_publish::{Control, start};
+use gen_publish::Control;
 use packet_pool::Gate;
 use pipapo_image::{Scratch, SetImage};
-use script_laws::{Output, has_numbers, tells_refusal};
+use script_laws::{Output, add_refusals, has_numbers, start_run, tells_refusal};
 use set_model::{Element, Event, Events, Memory, Packet, Schema, Script, SetDecl};
 use set_report::{write_element, write_remarks};
 use set_space::Generation;
@@ -132,24 +133,20 @@ fn add_all(events: &mut Events, more: &Events) -> Result<(), Memory>
 /// Runs a script to its end, and notes the lines of the additions to a set.
 fn trace_script<G: Gate>(
     alloc: Global,
-    script: Script,
+    script: &Script,
     set: u32,
     keep_going: bool,
     gate: &G,
 ) -> Result<Trace, Memory>
-    requires script { IsRunnable script }
-    ensures ends { IfOk result (λ t. StandsAt [] (history (mode_of keep_going) script.schema script.sections) (run t.control false t.events)) }
-    ensures lines { IfOk result (λ t. t.lines.items ≡ (traced (mode_of keep_going) set script.schema script.sections).lines) }
-    ensures schema { IfOk result (λ t. t.control.schema ≡ script.schema) }
-    ensures named { IfOk result (λ t. All (NamesSet (length script.schema)) t.events) }
-    ensures sets { IfOk result (λ t. AreSetsOf script.schema t.control.work.base.sets) }
+    requires script { IsRunnable script.now }
+    ensures ends { IfOk result (λ t. StandsAt [] (history (mode_of keep_going) script.now.schema script.now.sections) (run t.control false t.events)) }
+    ensures lines { IfOk result (λ t. t.lines.items ≡ (traced (mode_of keep_going) set script.now.schema script.now.sections).lines) }
+    ensures schema { IfOk result (λ t. t.control.schema ≡ script.now.schema) }
+    ensures named { IfOk result (λ t. All (NamesSet (length script.now.schema)) t.events) }
+    ensures sets { IfOk result (λ t. AreSetsOf script.now.schema t.control.work.base.sets) }
 {
-    let Script {
-        schema,
-        sections,
-        ..
-    } = script;
-    let (mut control, _readers) = start(alloc, schema, 1)?;
+    let (mut control, _readers) = start_run(alloc, &script.schema, 1)?;
+    let sections = &script.sections;
     let mut events = Events::new(alloc);
     let mut lines = Vec::new(alloc);
     let last = sections.len().saturating_sub(1);
@@ -254,6 +251,8 @@ pub fn get<G: Gate>(
 ) -> Result<Output, AnswerError>
     requires script { IsRunnable script }
     ensures answer { IfOk result (λ out. GivesAnswer (mode_of keep_going) script (map string_bytes words.now) moment out.refused out.text.items) }
+    ensures report { IfOk result (IsReportOn (mode_of keep_going) script) }
+    ensures failed { IfOk result (λ out. out.failed ≡ false) }
     ensures bad { (line : ℕ) (reason : Reason) → result ≡ Err (BadKey line reason) → IsBadKey script.schema (map string_bytes words.now) line reason }
 {
     let asked = packet_of(alloc, &script.schema, words)?;
@@ -261,11 +260,12 @@ pub fn get<G: Gate>(
         now: moment.unwrap_or(script.last),
         ..asked
     };
-    let trace = trace_script(alloc, script, packet.set, keep_going, gate)?;
-    let mut text = Vec::new(alloc);
-    let found = write_all(alloc, &trace, &packet, &mut text)?;
-    Ok(Output {
-        text,
-        refused: fails(trace.events.as_slice(), found),
-    })
+    let trace = trace_script(alloc, &script, packet.set, keep_going, gate)?;
+    let mut output = Output::new(alloc);
+    let found = write_all(alloc, &trace, &packet, &mut output.text)?;
+    let events = trace.events.as_slice();
+    add_refusals(0, events, &mut output.refusals)?;
+    output.refused = fails(events, found);
+    output.script = Some(script);
+    Ok(output)
 }

@@ -1,5 +1,5 @@
 -- One field more of a row of bytes.
-use Rattle.std.proofs.Common.{◌≡◌, ℕ, suc, ◌+◌, ◌*◌, ◌^◌, ◌<◌, ◌≤◌, Bool, true, ◌&&◌, nat_le, List, [], ◌∷◌, ◌++◌, length, get_or, take, drop, refl, ap, sym, subst, ◌∙◌, arith, lit<, inl, inr}
+use Rattle.std.proofs.Common.{◌≡◌, ℕ, suc, ◌+◌, ◌^◌, ◌<◌, ◌≤◌, Bool, true, ◌&&◌, nat_le, List, [], ◌∷◌, ◌++◌, length, get_or, take, drop, refl, ap, sym, subst, ◌∙◌, arith, lit<, inl, inr}
 use Rattle.std.proofs.lemmas.List.{length-take-le, length-take, take_more_set, append_assoc, drop_more, length-drop, get_or-take, get_or-drop, get_or_past}
 use Rattle.std.proofs.lemmas.Bool.{cases_lt, lt-ltb, eq-eqb}
 use Rattle.std.proofs.Math.Bool.{and-true}
@@ -10,7 +10,7 @@ use Rattle.set_model.specs.declared.kind.Interval.{Interval}
 use Rattle.set_model.specs.Kind.{bits_of}
 use Rattle.set_model.specs.Key.{is_value, is_good, values_fit, intervals_fit, key_fits, parts_fit}
 use Rattle.addr_text.specs.Numbers.{big_endian}
-use Rattle.addr_text.proofs.NumberLaws.{more_digits, big_endian-lt}
+use Rattle.addr_text.proofs.NumberLaws.{big_endian-lt}
 use Rattle.packed_values.specs.Packed.{width_of, packed_length, values_in, intervals_in, all_rise}
 
 below-take : (bytes : List ℕ) (i k : ℕ) → ((j : ℕ) → get_or bytes j 0 < 256) → get_or (take i bytes) k 0 < 256
@@ -19,13 +19,6 @@ below-take bytes i k small =
       | inl within ↦ rw (get_or-take i bytes k 0 within) (small k)
       | inr past ↦ rw (get_or_past (take i bytes) k 0 (omega (arith, length-take i bytes))) (lit< tt)
     ]
-
--- 16 bytes fit 128 bits
-pub bytes_fit : (bytes : List ℕ) (i digit : ℕ) → length bytes ≤ 16 → i < length bytes → ((k : ℕ) → get_or bytes k 0 < 256) → digit < 256 → big_endian 256 (take i bytes) * 256 + digit < 256 ^ 16
-bytes_fit bytes i digit few inside small below =
-    let len : length (take i bytes) ≡ i = length-take-le i bytes (omega arith) in
-    let front : big_endian 256 (take i bytes) < 256 ^ length (take i bytes) = big_endian-lt 256 (take i bytes) (lit< tt) (λ k. below-take bytes i k small) in
-    more_digits 256 (big_endian 256 (take i bytes)) digit (length (take i bytes)) 16 (lit< tt) front below (omega arith)
 
 pub one_value : (kinds : List Kind) (i : ℕ) (kind : Kind) (key rest all : List ℕ) (value : ℕ) → i < length kinds → i < length key → get_or kinds i kind ≡ kind → value ≡ big_endian 256 (take (width_of kind) rest)
     → take i key ++ values_in (drop i kinds) rest ≡ all → take (i + 1) (set key i value) ++ values_in (drop (i + 1) kinds) (drop (width_of kind) rest) ≡ all

@@ -4,7 +4,8 @@
 #![tactic(auto)]
 
 mod kind_width;
+mod numbers;
 mod unpack;
 
 pub use kind_width::width;
-pub use unpack::{PartsError, has_length, have_length, read_key, read_parts};
+pub use unpack::{PartsError, has_length, key_length, read_key, read_parts};

@@ -1,22 +1,22 @@
-ghost use Rattle.std.specs.Prelude.{◌≡◌, ◌≤◌, ◌*◌, ◌↔◌, length, true, IsTrue, IfOk, IfErr};
+ghost use Rattle.std.specs.Prelude.{◌≡◌, ◌≤◌, ◌^◌, ◌↔◌, length, true, IsTrue, IfOk, IfErr, IfSome, None};
 ghost use Rattle.set_model.specs.Key.{key_fits, parts_fit};
-ghost use Rattle.addr_text.specs.Numbers.{big_endian};
 ghost use Rattle.packed_values.specs.Packed.{values_in, intervals_in, parts_in, packed_length, IsBounds, all_rise, Refuses};
 
 use crate::kind_width::width;
+use crate::numbers::value;
 use set_model::{Interval, Kind, Memory, Parts};
 use std::alloc::Global;
 
-/// The number that at most 16 bytes write.
-fn number(bytes: &[u8]) -> u128
-    requires { length bytes.now ≤ 16 }
-    ensures { result ≡ big_endian 256 bytes.now }
+/// How many bytes a key of these kinds has. `None` if no `usize` is so large.
+pub fn key_length(kinds: &[Kind]) -> Option<usize>
+    ensures some { IfSome result (λ size. size ≡ packed_length kinds.now) }
+    ensures none { result ≡ None → 2 ^ 64 ≤ packed_length kinds.now }
 {
-    let mut value = 0u128;
-    'bytes: for byte in bytes {
-        value = value * 256 + u128::from(*byte);
+    let mut size = 0usize;
+    'fields: for kind in kinds {
+        size = size.checked_add(width(*kind))?;
     }
-    value
+    Some(size)
 }
 
 /// Whether a key of these kinds has so many bytes.
@@ -34,16 +34,6 @@ pub fn has_length(kinds: &[Kind], length: usize) -> bool
     left == 0
 }
 
-/// Whether so many keys of these kinds have so many bytes together.
-pub fn have_length(kinds: &[Kind], count: usize, length: usize) -> bool
-    ensures { IsTrue result ↔ (length ≡ count * packed_length kinds.now) }
-{
-    if count == 0 {
-        return length == 0;
-    }
-    length % count == 0 && has_length(kinds, length / count)
-}
-
 /// Writes the values that the bytes stand for into a key of as many fields.
 pub fn read_key(key: &mut [u128], kinds: &[Kind], bytes: &[u8])
     requires fields { length key.old ≡ length kinds.now }
@@ -55,7 +45,7 @@ pub fn read_key(key: &mut [u128], kinds: &[Kind], bytes: &[u8])
     'fields: for i in 0..kinds.len() {
         let (front, others) = rest.split_at(width(kinds[i]));
         rest = others;
-        key[i] = number(front);
+        key[i] = value(kinds[i], front);
     }
 }
 
@@ -81,8 +71,8 @@ fn read_intervals(
         rest_of_lows = other_lows;
         rest_of_highs = other_highs;
         intervals.push(Interval {
-            low: number(low),
-            high: number(high),
+            low: value(kinds[i], low),
+            high: value(kinds[i], high),
         })?;
     }
     Ok(intervals)

@@ -128,7 +128,7 @@ pub use gen_publish::{Control, Held, Note, Reader, Receipt, start};
 pub use key_file::{KeyError, Reason, read_keys};
 pub use packet_pool::{Gate, OpenGate, run_steps};
 pub use pipapo_image::{Added, ChangeError, Scratch, SetImage as Set};
-pub use script_run::{Output, dump, has_numbers, listing, transcript};
+pub use script_run::{Output, Refusal, dump, has_numbers, listing, transcript};
 pub use set_compare::{Difference, Lack, compare, first_missing, have_same_kinds};
 pub use set_model::{
     Comment, Duplicate, Event, Events, Family, Found, Interval, Key, Keys, Kind, Kinds, Memory,

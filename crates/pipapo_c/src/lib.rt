@@ -9,11 +9,12 @@
 ghost use Rattle.std.specs.Prelude.{◌≡◌, ◌<◌, ◌*◌, length, map, None};
 ghost use Rattle.c_handles.specs.Starting.{HasStarted};
 ghost use Rattle.c_handles.specs.StartCauses.{IsRefusedStart};
+ghost use Rattle.c_handles.specs.Scripting.{HasScripted, IsRefusedText};
 ghost use Rattle.c_handles.specs.Seats.{Stays, WentIn, WentOut};
 ghost use Rattle.c_handles.specs.Causes.{IsRefusal, IsRefusedChange, RefusesInsertion, RefusesCreation, RefusesDeletion, RefusesDestruction, RefusesFlush, RefusesCommit, RefusesReaders, RefusesEntry, RefusesHolder, RefusesLookup, RefusesLookups};
 ghost use Rattle.c_handles.specs.Calls.{HasInserted, HasCreated, HasDeleted, HasDestroyed, HasFlushed, HasCommitted, HasAborted, HasNumber, HasEntered, HasFound, HasFoundAll, HasGeneration, HasMoved, TakesKey, TakesKeys, seen_by, kinds_in, kinds_by};
 
-use c_handles::{Answer, Handle, SetShape};
+use c_handles::{Answer, Handle, ScriptFault, SetShape};
 use std::alloc::Global;
 
 #[unsafe(no_mangle)]
@@ -28,6 +29,21 @@ pub extern "C" fn pipapo_start(
     ensures refused { 0 < result → IsRefusedStart sets.now (length readers.old) result }
 {
     c_handles::start(alloc, sets, control, readers)
+}
+
+#[unsafe(no_mangle)]
+pub extern "C" fn pipapo_start_script(
+    alloc: Global,
+    text: &[u8],
+    control: &mut Handle,
+    readers: &mut [Handle],
+    place: &mut ScriptFault,
+) -> u32
+    ensures done { result ≡ 0 → HasScripted text.now control.new.held (map (λ h. h.held) readers.new) }
+    ensures unchanged { 0 < result → (control.new ≡ control.old) × (readers.new ≡ readers.old) }
+    ensures refused { 0 < result → IsRefusedText text.now (length readers.old) result place.new }
+{
+    c_handles::start_script(alloc, text, control, readers, place)
 }
 
 #[unsafe(no_mangle)]

@@ -14,10 +14,10 @@ mod workload;
 use run::Lookups;
 use std::alloc::Global;
 
-/// Builds a set of these elements and looks up all keys `rounds` times. With `lookups` 0 they are
-/// the lookups of packets, and with 1 the textbook lookup. With 2 they are the lookups of packets,
-/// and each element but the last expired before the next one was added. Returns the bytes of the
-/// set's tables, or 0 if memory runs out or the workload is invalid.
+/// Builds a set of these elements, settles it as a commit does, and looks up all keys `rounds`
+/// times. With `lookups` 0 they are the lookups of packets, and with 1 the textbook lookup. With 2
+/// they are the lookups of packets, and each element but the last expired before the next one was
+/// added. Returns the bytes of the set's tables, or 0 if memory runs out or the workload is invalid.
 ///
 /// `kinds` has a number for each field: 0 to 5 for `ipv4_addr`, `ipv6_addr`, `ether_addr`,
 /// `inet_proto`, `inet_service` and `mark`. A value is two words, the lower one first. An element

@@ -89,12 +89,12 @@ impl Measured {
         Ok(table_bytes(&self.set))
     }
 
-    /// Adds all elements, but leaves out those that are refused.
+    /// Adds all elements, but leaves out those that are refused, and settles the set, as a commit does.
     fn fill(&mut self, elements: &[u64], fields: usize) -> Result<(), Memory> {
         for e in 0..elements.len() / fields.saturating_mul(4).max(1) {
             self.add_one(elements, fields, e)?;
         }
-        Ok(())
+        self.set.settle()
     }
 
     fn add_one(&mut self, elements: &[u64], fields: usize, e: usize) -> Result<(), Memory> {

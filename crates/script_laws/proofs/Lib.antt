@@ -1,3 +1,4 @@
 pub mod Lists
 pub mod ControlLaws
 pub mod RunLaws
+pub mod ReportLaws

@@ -11,16 +11,19 @@
 //! section if its generations can be numbered: at generation 1, a section of two steps commits generation 3 at most.
 //!
 //! `script_run` runs the sections beside packets, and `desk_run` runs them as control threads. Both return an [`Output`], and
-//! [`tells_refusal`] decides its mark.
+//! [`tells_refusal`] decides its mark. An output has its text and the facts in it: [`add_refusals`] takes the refused changes
+//! from the events, each as a [`Refusal`], and [`has_failed`] asks if the last transaction failed.
 //!
-//! **Definitions:** `specs/Sections.antt`. `specs/Control.antt` of `set_model` defines the control. **Theory:**
+//! **Definitions:** `specs/Sections.antt` and `Reports.antt`. `specs/Control.antt` of `set_model` defines the control. **Theory:**
 //! docs/architecture.md, "The way of a run". **Proofs:** docs/proofs.md, "A run (`packet_pool`, `script_run`)".
 #![tactic(auto)]
 
+mod begin;
 mod numbers;
 mod output;
 mod refusals;
 
+pub use begin::start_run;
 pub use numbers::has_numbers;
 pub use output::Output;
-pub use refusals::tells_refusal;
+pub use refusals::{Refusal, add_refusals, has_failed, tells_refusal};

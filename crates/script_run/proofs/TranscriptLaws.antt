@@ -2,6 +2,7 @@
 use Rattle.std.proofs.Common.{◌≡◌, refl, sym, ◌∙◌, ap, subst, ℕ, zero, suc, ◌+◌, ◌-◌, ◌/◌, ◌<◌, ◌≤◌, Bool, false, ◌||◌, List, [], ◌∷◌, ◌++◌, length, take, drop, slice_get, get_or, Option, Some, None, arith, All, append-nil, append_assoc, add-one, add-zero, ◌⊎◌, inl, inr, unwrap_or}
 use Rattle.std.specs.List.{flat_map, range_with_len, list_any}
 use Rattle.std.proofs.lemmas.List.{length-map, length-append, take_all}
+use Rattle.std.proofs.lemmas.List.Elements.{filter_map-append}
 use Rattle.std.proofs.lemmas.Option.{slice_get_within}
 use Rattle.set_model.specs.declared.packet.Packet.{Packet}
 use Rattle.set_model.specs.declared.packet.Verdict.{Verdict}
@@ -23,6 +24,8 @@ use Rattle.packet_pool.specs.Section.{IsSection, IsSectionLine, AnswersPacket}
 use Rattle.packet_pool.specs.Work.{AllReady}
 use Rattle.script_run.specs.declared.telling.Telling.{Telling}
 use Rattle.set_model.specs.Runnable.{EndsClosed}
+use Rattle.script_laws.specs.declared.refusals.Refusal.{Refusal}
+use Rattle.script_laws.specs.Reports.{refusal_in, refusals_in, refusals_of}
 use Rattle.script_laws.specs.Sections.{section_at}
 use Rattle.script_run.specs.Telling.{IsAtStart, IsAnsweredBy, TellsSection}
 use Rattle.set_model.proofs.ClosedLaws.{closed-section}
@@ -195,6 +198,8 @@ pub record IsToldUpTo (verdict : Generation → Packet → Verdict) (packets_tex
   pub ready : AllReady t.control t.readers.items
   pub text : t.output.text.items ≡ flat_map (section_text packets_text (mode_of keep_going) script keys lines) (range_with_len 0 n)
   pub refused : t.output.refused ≡ list_any is_refusal (before (mode_of keep_going) script n).events
+  pub refusals : t.output.refusals.items ≡ refusals_in 0 (before (mode_of keep_going) script n).events
+  pub failed : t.output.failed ≡ false
   pub count : t.packets ≡ packets_before keys n
   pub long : length lines ≡ packets_before keys n
   pub legal : IsLegalSoFar verdict (mode_of keep_going) script keys threads lines
@@ -212,6 +217,8 @@ module _ (verdict : Generation → Packet → Verdict) (packets_text : List Line
     ready = b.ready;
     text = b.text;
     refused = b.refused;
+    refusals = b.refusals;
+    failed = b.failed;
     count = b.packets;
     long = refl;
     legal = none-legal verdict mode script keys threads;
@@ -257,6 +264,8 @@ module _ (verdict : Generation → Packet → Verdict) (packets_text : List Line
             ∙ sym (range-more (section_text packets_text mode script keys all) 0 n)
             ∙ ap (λ m. flat_map (section_text packets_text mode script keys all) (range_with_len 0 m)) (sym (add-one n));
         refused = tells.refused ∙ ap (λ b. b || list_any is_refusal tells.events) h.refused ∙ sym (list_any-append is_refusal c.events tells.events) ∙ ap (list_any is_refusal) (sym here.told);
+        refusals = tells.refusals ∙ ap (λ (rs : List Refusal). rs ++ refusals_in 0 tells.events) h.refusals ∙ sym (filter_map-append (refusal_in 0) c.events tells.events) ∙ ap (refusals_in 0) (sym here.told);
+        failed = tells.failed ∙ h.failed;
         count = tells.count ∙ ap (λ m. m + length (packets_at keys n)) h.count ∙ counts;
         long = let both = length-append h.lines tells.lines in let long = h.long in omega (arith, both, long, size, counts);
         legal = legal-more fits n h.lines tells.lines h.long h.legal answers grown;
@@ -272,7 +281,7 @@ module _ (verdict : Generation → Packet → Verdict) (packets_text : List Line
 
   -- After the last section everything is written.
   pub told_all : (n : ℕ) (t : Telling) → section_count script keys ≡ n → IsToldUpTo verdict packets_text keep_going script keys threads n t
-      → ((lines : List Line) × AreLegal (IsAnsweredBy verdict script.schema) script keys threads mode lines × (t.output.text.items ≡ run_text packets_text mode script keys lines)) × (t.output.refused ≡ has_refusal mode script)
+      → ((lines : List Line) × AreLegal (IsAnsweredBy verdict script.schema) script keys threads mode lines × (t.output.text.items ≡ run_text packets_text mode script keys lines)) × (t.output.refused ≡ has_refusal mode script) × (t.output.refusals.items ≡ refusals_of mode script) × (t.output.failed ≡ false)
   told_all n t size h =
       let whole : take n script.sections ≡ script.sections = take_all n script.sections (omega (arith, size)) in
       let all_keys : take (n - 1) keys ≡ keys = take_all (n - 1) keys (omega (arith, size)) in
@@ -283,4 +292,6 @@ module _ (verdict : Generation → Packet → Verdict) (packets_text : List Line
           h.text ∙ ap (λ m. flat_map (section_text packets_text mode script keys h.lines) (range_with_len 0 m)) (sym size),
         ),
         h.refused ∙ ap (λ xs. list_any is_refusal (history mode script.schema xs).events) whole,
+        h.refusals ∙ ap (λ xs. refusals_in 0 (history mode script.schema xs).events) whole,
+        h.failed,
       )

@@ -13,6 +13,7 @@ use Rattle.set_model.specs.Text.{events_text}
 use Rattle.set_space.specs.Open.{opened}
 use Rattle.gen_publish.specs.Publish.{Grown, kinds_of, declared_kinds}
 use Rattle.packet_pool.specs.Running.{Ran}
+use Rattle.script_laws.specs.Reports.{refusals_in}
 use Rattle.packet_pool.specs.Section.{IsSection, verdict_in}
 use Rattle.packet_pool.specs.Work.{AllReady}
 use Rattle.script_run.specs.declared.telling.Telling.{Telling}
@@ -31,6 +32,8 @@ pub record IsAtStart (schema : List SetDecl) (threads : ℕ) (t : Telling) : Typ
   pub packets : t.packets ≡ 0
   pub text : t.output.text.items ≡ []
   pub refused : t.output.refused ≡ false
+  pub refusals : t.output.refusals.items ≡ []
+  pub failed : t.output.failed ≡ false
 
 -- the line's verdict is the judge's verdict on some packet in some generation
 abbrev pub IsLineOf : (Generation → Packet → Verdict) → Line → Type 0
@@ -54,4 +57,6 @@ pub record TellsSection (verdict : Generation → Packet → Verdict) (packets_t
   pub ready : AllReady new.control new.readers.items
   pub text : new.output.text.items ≡ old.output.text.items ++ (events_text old.control.schema events ++ packets_text lines)
   pub refused : new.output.refused ≡ (old.output.refused || list_any is_refusal events)
+  pub refusals : new.output.refusals.items ≡ old.output.refusals.items ++ refusals_in 0 events
+  pub failed : new.output.failed ≡ old.output.failed
   pub count : new.packets ≡ old.packets + length packets

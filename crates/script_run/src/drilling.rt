@@ -132,7 +132,7 @@ pub fn drill<R: Threads + Sync, G: Gate>(
         sections,
         ..
     } = script;
-    let mut telling = Telling::new(alloc, schema, threads)?;
+    let mut telling = Telling::new(alloc, &schema, threads)?;
     tell_drill(rt, alloc, &mut telling, sections.at(0), keys.at(0), gate)?;
     Ok(telling.output)
 }

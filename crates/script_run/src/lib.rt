@@ -32,5 +32,5 @@ mod whole;
 
 pub use drilling::drill;
 pub use output::{dump, judged, listing, transcript};
-pub use script_laws::{Output, has_numbers};
+pub use script_laws::{Output, Refusal, has_numbers};
 pub use whole::Whole;

@@ -1,4 +1,4 @@
-ghost use Rattle.std.specs.Prelude.{◌≡◌, ◌++◌, ◌+◌, ◌<◌, ◌≤◌, [], List, length, max, All, IfOk};
+ghost use Rattle.std.specs.Prelude.{◌≡◌, ◌++◌, ◌+◌, ◌<◌, ◌≤◌, false, [], List, length, max, All, IfOk};
 ghost use Rattle.std.specs.List.{list_any};
 ghost use Rattle.set_model.specs.Control.{mode_of, has_refusal, is_refusal};
 ghost use Rattle.set_model.specs.Legal.{AreLegal, Legal};
@@ -12,6 +12,7 @@ ghost use Rattle.set_report.specs.DumpText.{dump_text};
 ghost use Rattle.set_report.specs.ListText.{list_text};
 ghost use Rattle.set_report.specs.Writes.{AreSetsOf, NamesSet};
 ghost use Rattle.script_run.specs.Listings.{listing_text, tables_text};
+ghost use Rattle.script_laws.specs.Reports.{IsReportOn, ends_failed, has_failed as last_failed, refusals_in, refusals_of};
 ghost use Rattle.script_laws.specs.Sections.{section_at};
 ghost use Rattle.script_run.specs.Telling.{IsAnsweredBy};
 
@@ -20,7 +21,7 @@ use crate::telling::Telling;
 use crate::whole::Whole;
 use packet_pool::{ChainJudge, Gate, LookupJudge};
 use rule_chain::Chains;
-use script_laws::{Output, tells_refusal};
+use script_laws::{Output, add_refusals, has_failed, tells_refusal};
 use set_model::{Events, Keys, Listed, Memory, Packets, Schema, Script, Sections, Steps};
 use set_report::{write_dump, write_list, write_remarks};
 use std::alloc::Global;
@@ -50,34 +51,32 @@ fn later_sections(sections: &Sections, keys: &Keys) -> u64
 fn told_by<R: Threads + Sync, J: Teller, G: Gate>(
     rt: &R,
     alloc: Global,
-    script: Script,
+    script: &Script,
     keys: &Keys,
     keep_going: bool,
     threads: u32,
     judge: &J,
     gate: &G,
 ) -> Result<Output, Memory>
-    requires script { IsRunnable script }
-    requires keys { All (All (IsFitting script.schema)) keys.now }
+    requires script { IsRunnable script.now }
+    requires keys { All (All (IsFitting script.now.schema)) keys.now }
     requires threads { (0 < threads) × (threads ≤ 16) }
-    requires judge { J.serves judge.now script.schema }
-    ensures text { IfOk result (λ out. (lines : List PacketLine) × AreLegal (IsAnsweredBy (J.verdict judge.now) script.schema) script keys.now threads (mode_of keep_going) lines × (out.text.items ≡ run_text (J.packets_text judge.now) (mode_of keep_going) script keys.now lines)) }
-    ensures refused { IfOk result (λ out. out.refused ≡ has_refusal (mode_of keep_going) script) }
+    requires judge { J.serves judge.now script.now.schema }
+    ensures text { IfOk result (λ out. (lines : List PacketLine) × AreLegal (IsAnsweredBy (J.verdict judge.now) script.now.schema) script.now keys.now threads (mode_of keep_going) lines × (out.text.items ≡ run_text (J.packets_text judge.now) (mode_of keep_going) script.now keys.now lines)) }
+    ensures refused { IfOk result (λ out. out.refused ≡ has_refusal (mode_of keep_going) script.now) }
+    ensures refusals { IfOk result (λ out. out.refusals.items ≡ refusals_of (mode_of keep_going) script.now) }
+    ensures failed { IfOk result (λ out. out.failed ≡ false) }
 {
-    let Script {
-        schema,
-        sections,
-        ..
-    } = script;
-    let mut telling = Telling::new(alloc, schema, threads)?;
+    let mut telling = Telling::new(alloc, &script.schema, threads)?;
+    let sections = &script.sections;
     let no_steps = Steps::new(alloc);
     let no_packets = Packets::new(alloc);
-    let first = section(&sections, 0, &no_steps);
-    let last = later_sections(&sections, keys);
+    let first = section(sections, 0, &no_steps);
+    let last = later_sections(sections, keys);
     gate.section(0, last, 0);
     telling.do_section(rt, alloc, first, &no_packets, keep_going, judge, gate)?;
     'rest: for j in 0..last {
-        let steps = section(&sections, j + 1, &no_steps);
+        let steps = section(sections, j + 1, &no_steps);
         let packets = section(keys, j, &no_packets);
         gate.section(j + 1, last, packets.len());
         telling.do_section(rt, alloc, steps, packets, keep_going, judge, gate)?;
@@ -105,17 +104,21 @@ pub fn transcript<R: Threads + Sync, G: Gate>(
     requires threads { (0 < threads) × (threads ≤ 16) }
     ensures text { IfOk result (λ out. (lines : List PacketLine) × Legal script keys.now threads (mode_of keep_going) lines × (out.text.items ≡ transcript_text (mode_of keep_going) script keys.now lines)) }
     ensures refused { IfOk result (λ out. out.refused ≡ has_refusal (mode_of keep_going) script) }
+    ensures report { IfOk result (IsReportOn (mode_of keep_going) script) }
+    ensures failed { IfOk result (λ out. out.failed ≡ false) }
 {
-    told_by(
+    let mut output = told_by(
         rt,
         alloc,
-        script,
+        &script,
         keys,
         keep_going,
         threads,
         &LookupJudge,
         gate,
-    )
+    )?;
+    output.script = Some(script);
+    Ok(output)
 }
 
 /// Runs a script beside the packets of a key file, which so many threads judge by chains of rules.
@@ -140,9 +143,13 @@ pub fn judged<R: Threads + Sync, G: Gate>(
     requires threads { (0 < threads) × (threads ≤ 16) }
     ensures text { IfOk result (λ out. (lines : List PacketLine) × AreLegal (IsJudged chains) script keys.now threads (mode_of keep_going) lines × (out.text.items ≡ run_text (judged_text chains) (mode_of keep_going) script keys.now lines)) }
     ensures refused { IfOk result (λ out. out.refused ≡ has_refusal (mode_of keep_going) script) }
+    ensures report { IfOk result (IsReportOn (mode_of keep_going) script) }
+    ensures failed { IfOk result (λ out. out.failed ≡ false) }
 {
     let judge = ChainJudge { chains };
-    told_by(rt, alloc, script, keys, keep_going, threads, &judge, gate)
+    let mut output = told_by(rt, alloc, &script, keys, keep_going, threads, &judge, gate)?;
+    output.script = Some(script);
+    Ok(output)
 }
 
 /// The events as comments: the first lines of a listing and of a dump.
@@ -150,13 +157,16 @@ fn remarks(alloc: Global, schema: &Schema, events: &Events) -> Result<Output, Me
     requires { All (NamesSet (length schema.now)) events.now }
     ensures text { IfOk result (λ out. out.text.items ≡ remarks_text schema.now events.now) }
     ensures refused { IfOk result (λ out. out.refused ≡ list_any is_refusal events.now) }
+    ensures refusals { IfOk result (λ out. out.refusals.items ≡ refusals_in 0 events.now) }
+    ensures failed { IfOk result (λ out. out.failed ≡ last_failed events.now) }
 {
-    let mut text = Vec::new(alloc);
-    write_remarks(schema, events, &mut text)?;
-    Ok(Output {
-        text,
-        refused: tells_refusal(events.as_slice()),
-    })
+    let mut output = Output::new(alloc);
+    write_remarks(schema, events, &mut output.text)?;
+    let events = events.as_slice();
+    add_refusals(0, events, &mut output.refusals)?;
+    output.refused = tells_refusal(events);
+    output.failed = has_failed(events);
+    Ok(output)
 }
 
 /// The last generation of a run as a script, at a moment, after the events.
@@ -165,6 +175,8 @@ fn list_of(alloc: Global, whole: &Whole, last: u64) -> Result<Output, Memory>
     requires sets { AreSetsOf whole.now.control.schema whole.now.control.work.base.sets }
     ensures text { IfOk result (λ out. out.text.items ≡ remarks_text whole.now.control.schema whole.now.events ++ list_text whole.now.control.schema whole.now.control.work.base.sets last) }
     ensures refused { IfOk result (λ out. out.refused ≡ list_any is_refusal whole.now.events) }
+    ensures refusals { IfOk result (λ out. out.refusals.items ≡ refusals_in 0 whole.now.events) }
+    ensures failed { IfOk result (λ out. out.failed ≡ last_failed whole.now.events) }
 {
     let control = &whole.control;
     let mut output = remarks(alloc, control.schema(), &whole.events)?;
@@ -183,6 +195,8 @@ fn dump_of(alloc: Global, whole: &Whole) -> Result<Output, Memory>
     requires sets { AreSetsOf whole.now.control.schema whole.now.control.work.base.sets }
     ensures text { IfOk result (λ out. out.text.items ≡ remarks_text whole.now.control.schema whole.now.events ++ dump_text whole.now.control.schema whole.now.control.work.base.sets) }
     ensures refused { IfOk result (λ out. out.refused ≡ list_any is_refusal whole.now.events) }
+    ensures refusals { IfOk result (λ out. out.refusals.items ≡ refusals_in 0 whole.now.events) }
+    ensures failed { IfOk result (λ out. out.failed ≡ last_failed whole.now.events) }
 {
     let control = &whole.control;
     let mut output = remarks(alloc, control.schema(), &whole.events)?;
@@ -204,10 +218,13 @@ pub fn listing<G: Gate>(
     requires script { IsRunnable script }
     ensures text { IfOk result (λ out. out.text.items ≡ listing_text (mode_of keep_going) script) }
     ensures refused { IfOk result (λ out. out.refused ≡ has_refusal (mode_of keep_going) script) }
+    ensures report { IfOk result (IsReportOn (mode_of keep_going) script) }
+    ensures failed { IfOk result (λ out. out.failed ≡ ends_failed (mode_of keep_going) script) }
 {
-    let last = script.last;
-    let whole = Whole::run(alloc, script, keep_going, gate)?;
-    list_of(alloc, &whole, last)
+    let whole = Whole::run(alloc, &script, keep_going, gate)?;
+    let mut output = list_of(alloc, &whole, script.last)?;
+    output.script = Some(script);
+    Ok(output)
 }
 
 /// Runs a script, and shows the tables of its last generation.
@@ -224,7 +241,11 @@ pub fn dump<G: Gate>(
     requires script { IsRunnable script }
     ensures text { IfOk result (λ out. out.text.items ≡ tables_text (mode_of keep_going) script) }
     ensures refused { IfOk result (λ out. out.refused ≡ has_refusal (mode_of keep_going) script) }
+    ensures report { IfOk result (IsReportOn (mode_of keep_going) script) }
+    ensures failed { IfOk result (λ out. out.failed ≡ ends_failed (mode_of keep_going) script) }
 {
-    let whole = Whole::run(alloc, script, keep_going, gate)?;
-    dump_of(alloc, &whole)
+    let whole = Whole::run(alloc, &script, keep_going, gate)?;
+    let mut output = dump_of(alloc, &whole)?;
+    output.script = Some(script);
+    Ok(output)
 }

@@ -7,9 +7,9 @@ ghost use Rattle.packet_pool.specs.Work.{AllReady};
 ghost use Rattle.script_run.specs.Telling.{IsAtStart, TellsSection};
 
 use crate::teller::Teller;
-use gen_publish::{Control, Reader, start};
+use gen_publish::{Control, Reader};
 use packet_pool::{Gate, run_section};
-use script_laws::{Output, has_numbers, tells_refusal};
+use script_laws::{Output, add_refusals, has_numbers, start_run, tells_refusal};
 use set_model::{Event, Memory, Packets, Schema, Steps};
 use set_report::write_events;
 use std::alloc::Global;
@@ -48,22 +48,19 @@ fn at_places(alloc: Global, readers: Vec<Reader>) -> Result<Vec<Option<Reader>>,
 
 impl Telling {
     /// A run before its first step.
-    pub fn new(alloc: Global, schema: Schema, threads: u32) -> Result<Telling, Memory>
+    pub fn new(alloc: Global, schema: &Schema, threads: u32) -> Result<Telling, Memory>
         requires threads { (0 < threads) × (threads ≤ 16) }
-        requires sets { All CanBeBuilt schema }
-        requires few_sets { length schema ≤ 2 ^ 32 }
-        ensures { IfOk result (λ t. IsAtStart schema threads t) }
+        requires sets { All CanBeBuilt schema.now }
+        requires few_sets { length schema.now ≤ 2 ^ 32 }
+        ensures { IfOk result (λ t. IsAtStart schema.now threads t) }
     {
-        let (control, readers) = start(alloc, schema, threads)?;
+        let (control, readers) = start_run(alloc, schema, threads)?;
         let all = at_places(alloc, readers)?;
         Ok(Telling {
             control,
             readers: all,
             packets: 0,
-            output: Output {
-                text: Vec::new(alloc),
-                refused: false,
-            },
+            output: Output::new(alloc),
         })
     }
 
@@ -109,7 +106,9 @@ impl Telling {
         let text = &mut self.output.text;
         write_events(self.control.schema(), &section.events, b"", text)?;
         judge.write(&section.lines, text)?;
-        self.output.refused = tells_more(self.output.refused, section.events.as_slice());
+        let events = section.events.as_slice();
+        add_refusals(0, events, &mut self.output.refusals)?;
+        self.output.refused = tells_more(self.output.refused, events);
         self.packets = end;
         Ok(())
     }

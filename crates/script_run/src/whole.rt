@@ -5,9 +5,9 @@ ghost use Rattle.set_model.specs.Runnable.{EndsClosed, HasFields, IsRunnable, Is
 ghost use Rattle.set_report.specs.Writes.{NamesSet, AreSetsOf};
 ghost use Rattle.packet_pool.specs.Running.{run, Ran, StandsAt};
 
-use gen_publish::{Control, start};
+use gen_publish::Control;
 use packet_pool::{Gate, run_steps};
-use script_laws::has_numbers;
+use script_laws::{has_numbers, start_run};
 use set_model::{Events, Memory, Schema, Script, Sections, Steps};
 use std::alloc::Global;
 
@@ -34,34 +34,29 @@ impl Whole {
     /// Runs all sections of a script, without packets.
     pub fn run<G: Gate>(
         alloc: Global,
-        script: Script,
+        script: &Script,
         keep_going: bool,
         gate: &G,
     ) -> Result<Whole, Memory>
-        requires script { IsRunnable script }
-        ensures ends { IfOk result (λ whole. StandsAt [] (history (mode_of keep_going) script.schema script.sections) (run whole.control false whole.events)) }
-        ensures schema { IfOk result (λ whole. whole.control.schema ≡ script.schema) }
-        ensures named { IfOk result (λ whole. All (NamesSet (length script.schema)) whole.events) }
-        ensures sets { IfOk result (λ whole. AreSetsOf script.schema whole.control.work.base.sets) }
+        requires script { IsRunnable script.now }
+        ensures ends { IfOk result (λ whole. StandsAt [] (history (mode_of keep_going) script.now.schema script.now.sections) (run whole.control false whole.events)) }
+        ensures schema { IfOk result (λ whole. whole.control.schema ≡ script.now.schema) }
+        ensures named { IfOk result (λ whole. All (NamesSet (length script.now.schema)) whole.events) }
+        ensures sets { IfOk result (λ whole. AreSetsOf script.now.schema whole.control.work.base.sets) }
     {
-        let Script {
-            schema,
-            sections,
-            ..
-        } = script;
-        let mut whole = Whole::new(alloc, schema)?;
-        whole.do_sections(alloc, &sections, keep_going, gate)?;
+        let mut whole = Whole::new(alloc, &script.schema)?;
+        whole.do_sections(alloc, &script.sections, keep_going, gate)?;
         Ok(whole)
     }
 
     /// A run before its first section.
-    fn new(alloc: Global, schema: Schema) -> Result<Whole, Memory>
-        requires sets { All HasFields schema }
-        requires few_sets { length schema ≤ 2 ^ 32 }
-        ensures stands { IfOk result (λ whole. StandsAt [] (begins schema) (run whole.control false whole.events)) }
-        ensures schema { IfOk result (λ whole. whole.control.schema ≡ schema) }
+    fn new(alloc: Global, schema: &Schema) -> Result<Whole, Memory>
+        requires sets { All HasFields schema.now }
+        requires few_sets { length schema.now ≤ 2 ^ 32 }
+        ensures stands { IfOk result (λ whole. StandsAt [] (begins schema.now) (run whole.control false whole.events)) }
+        ensures schema { IfOk result (λ whole. whole.control.schema ≡ schema.now) }
     {
-        let (control, _readers) = start(alloc, schema, 1)?;
+        let (control, _readers) = start_run(alloc, schema, 1)?;
         Ok(Whole {
             control,
             events: Events::new(alloc),

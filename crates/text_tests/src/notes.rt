@@ -1,11 +1,11 @@
 //! Notes for a person: on bad tokens, captures, files and refused changes.
 use crate::cases::{assert_told, cut, joined, number};
 use fault_notes::{
-    BadToken, CaptureReason, Note, TextKind, bad_text_note, capture_note, read_fault_note,
-    refusals_note, too_large_note, too_many_clerks_note,
+    BadToken, CaptureReason, Note, RefusedChange, RefusedChanges, TextKind, bad_text_note,
+    capture_note, read_fault_note, refusals_note, too_large_note, too_many_clerks_note,
 };
 use pip_base::FaultKind;
-use set_model::{Memory, Script};
+use set_model::{Memory, Script, Why};
 use set_script::read_script;
 use std::alloc::Global;
 use std::test::Fail;
@@ -109,17 +109,54 @@ const OVERLAP: &[u8] = b"\
     table ip t {\n\x20set s {\n\x20type ipv4_addr; flags interval\n\x20elements = {\n\x20 10.0.1.0/24,\n\
     \x20 10.0.1.128/25 } } }\n";
 
-fn told_of(alloc: Global, script: &Script, output: &[u8]) -> Result<Vec<u8>, Memory> {
+fn why_of(word: &[u8]) -> Why {
+    match word {
+        b"overlap" => Why::Overlap { id: 0 },
+        b"missing" => Why::Missing,
+        _ => Why::Full,
+    }
+}
+
+fn told_of(
+    alloc: Global,
+    script: &Script,
+    change: RefusedChange,
+    count: u64,
+    failed: bool,
+) -> Result<Vec<u8>, Memory> {
+    let mut first = Vec::new(alloc);
+    for _ in 0..count.min(20) {
+        first.push(change)?;
+    }
+    let changes = RefusedChanges {
+        first: first.as_slice(),
+        count,
+        failed,
+    };
     told_note(
         alloc,
-        refusals_note(alloc, "x.nft", OVERLAP, script, output),
+        refusals_note(alloc, "x.nft", OVERLAP, script, changes),
     )
 }
 
-/// The note on the refused changes of an output of `OVERLAP`.
-fn told_refusals(alloc: Global, output: &[u8]) -> Result<Vec<u8>, Memory> {
+/// The note on so many refusals of one change of `OVERLAP`: why, its line, how many, and whether the transaction failed.
+fn told_refusals(alloc: Global, words: &[u8]) -> Result<Vec<u8>, Memory> {
+    let (why, words) = cut(words, b' ');
+    let (line, words) = cut(words, b' ');
+    let (count, end) = cut(words, b' ');
+    let change = RefusedChange {
+        line: number(line),
+        set: 0,
+        why: why_of(why),
+    };
     match read_script(alloc, OVERLAP) {
-        Ok(script) => told_of(alloc, &script, output),
+        Ok(script) => told_of(
+            alloc,
+            &script,
+            change,
+            number(count),
+            end == b"failed".as_slice(),
+        ),
         Err(_) => Err(Memory),
     }
 }
@@ -189,13 +226,12 @@ const FILES: &[u8] = b"\
     18|a.nft: the script has 18 sections, and desk runs 17 at most: the first, and one for each of 16 control threads; join some, by leaving lines 'round' out\n~\
 ";
 
-// a desk's sections come in any order, so its note shows no older element
 /// Refused changes with both elements.
 const REFUSALS: &[u8] = b"\
-    line 6 refused overlap ip t s element 0\nfail generation 0\n|x.nft:6:3: 10.0.1.128/25 overlaps 10.0.1.0/24 (line 5)\n~\
-    commit generation 1 purged 0\npacket 0 thread 0 generation 1 none\n|~\
-    # line 6 refused full ip t s\n# fail generation 0\n|x.nft:6:3: 10.0.1.128/25 doesn't fit: the set has as many elements as it may have\nx.nft: the last transaction failed, so this shows the generation before it\n~\
-    # commit generation 1 purged 0\n# clerk 1 line 6 refused overlap ip t s element 0\n# clerk 1 fail generation 1\n# clerk 2 commit generation 2 purged 0\n|x.nft:6:3: 10.0.1.128/25 overlaps an element that is there\n~\
+    overlap 6 1 ended|x.nft:6:3: 10.0.1.128/25 overlaps 10.0.1.0/24 (line 5)\n~\
+    full 6 0 ended|~\
+    full 6 1 failed|x.nft:6:3: 10.0.1.128/25 doesn't fit: the set has as many elements as it may have\nx.nft: the last transaction failed, so this shows the generation before it\n~\
+    missing 6 2 ended|x.nft:6:1: an element of this line is no element of the set\nx.nft:6:1: an element of this line is no element of the set\n~\
 ";
 
 #[test]
@@ -207,25 +243,27 @@ fn notes(rt: HostRuntime) {
     assert_told(&rt, rt.alloc(), REFUSALS, 4, told_refusals);
 }
 
-/// The same line, so many times.
-fn repeated(alloc: Global, times: u64, line: &[u8]) -> Result<Vec<u8>, Memory> {
-    let mut text = Vec::new(alloc);
-    for _ in 0..times {
-        text.extend_from_slice(line)?;
+/// Whether a note on so many refused changes has 20 lines, and then this.
+fn are_counted(alloc: Global, words: &[u8], counted: &[u8]) -> Result<bool, Memory> {
+    let mut lines = Vec::new(alloc);
+    for _ in 0..20 {
+        lines.extend_from_slice(
+            b"x.nft:5:3: 10.0.1.0/24 doesn't fit: the set has as many elements as it may have\n",
+        )?;
     }
-    Ok(text)
-}
-
-/// Whether a note on so many refused changes shows 20, and counts the others.
-fn are_counted(alloc: Global, refused: u64, counted: &[u8]) -> Result<bool, Memory> {
-    let full = b"x.nft:5:3: 10.0.1.0/24 doesn't fit: the set has as many elements as it may have\n";
-    let expected = joined(alloc, &repeated(alloc, 20, full)?, counted)?;
-    let output = repeated(alloc, refused, b"line 5 refused full ip t s\n")?;
-    Ok(told_refusals(alloc, &output)?.as_slice() == expected.as_slice())
+    let expected = joined(alloc, &lines, counted)?;
+    Ok(told_refusals(alloc, words)?.as_slice() == expected.as_slice())
 }
 
 #[test]
 fn more_than_20_refusals_are_counted(rt: HostRuntime) -> Result<(), Fail> {
-    assert!(rt; are_counted(rt.alloc(), 23, b"x.nft: 3 more changes are refused\n")?);
+    let counts: [(&[u8], &[u8]); 3] = [
+        (b"full 5 20 ended", b""),
+        (b"full 5 21 ended", b"x.nft: 1 more change is refused\n"),
+        (b"full 5 23 ended", b"x.nft: 3 more changes are refused\n"),
+    ];
+    for (words, counted) in counts {
+        assert!(rt; are_counted(rt.alloc(), words, counted)?);
+    }
     Ok(())
 }

@@ -28,6 +28,8 @@ use Rattle.top_call.specs.Lines.{answer_fault, done_status, status_of, fault_lin
 use Rattle.top_call.specs.Names.{AsksInOrder}
 use Rattle.top_call.specs.Answers.{Ends, IsDue, IsExactly, HasOutput}
 use Rattle.top_call.specs.Noted.{words_front, IsNoted}
+use Rattle.script_laws.specs.declared.refusals.Refusal.{Refusal}
+use Rattle.top_call.specs.Refused.{AreRefused, IsNoteDue}
 use Rattle.top_call.specs.Promises.{Goes}
 use Rattle.top_call.proofs.Asking.{asks-nothing, asks-files, asks-until, asks-all}
 use Rattle.top_call.proofs.Deliveries.{ends-map}
@@ -76,14 +78,14 @@ module _ (c : Call) where
   Silent = c.noted_now ≡ c.noted_before
 
   pub goes-output : (d : Command) → IsCommand c.words d → HasRead c.shelf d → (refused : Bool) (text : List ℕ) → IsOutput d c.shelf.told refused text → EndsWith (done_status refused) text
-      → (mid : Option (List ℕ)) → mid ≡ c.noted_before → MayTell (λ (_ : List ℕ). refused ≡ true) mid c.noted_now → Goes c
-  goes-output d is_d r refused text is_output ends mid silent tells =
+      → (refusals : List Refusal) (failed : Bool) → AreRefused d c.shelf.told refused text refusals failed → (mid : Option (List ℕ)) → mid ≡ c.noted_before → MayTell (IsNoteDue d refused refusals failed) mid c.noted_now → Goes c
+  goes-output d is_d r refused text is_output ends refusals failed are mid silent tells =
       let has : HasOutput c.words c.shelf refused text = record { command = d; is_command = is_d; has_read = r; is_output = is_output } in
       record {
         ends = ends-map (IsExactly (done_status refused) text) (IsDue c.words c.shelf) c.taken_before c.taken_now c.faults_before c.faults_now c.status (due-of-output c.words c.shelf refused text has) ends;
         names = asks-files c.words c.shelf d is_d r;
         all_read = λ e. asks-all c.words c.shelf d is_d r;
-        noted = changes-noted c refused text has (ended-of (done_status refused) text c.taken_before c.taken_now c.faults_before c.faults_now c.status ends) mid silent tells;
+        noted = changes-noted c d refused text refusals failed has is_d are (ended-of (done_status refused) text c.taken_before c.taken_now c.faults_before c.faults_now c.status ends) mid silent tells;
       }
 
   goes-fault : (fault : Fault) → IsCause c.words c.shelf fault → AsksInOrder c.words c.shelf → EndsWith (status_of fault) (fault_line fault) → IsNoted c → Goes c

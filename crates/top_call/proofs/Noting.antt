@@ -1,5 +1,5 @@
 -- The note for a person beside a call's output.
-use Rattle.std.proofs.Common.{◌≡◌, ◌≤◌, refl, subst, ℕ, Bool, true, List, Option, inl, inr, arith}
+use Rattle.std.proofs.Common.{◌≡◌, ◌≤◌, refl, subst, ℕ, Bool, true, List, Option, inl, inr, arith, false, [], ◌∷◌, ◌⊎◌, None, Result, Ok, Err, OnOk, OnErr}
 use Rattle.command_words.specs.declared.page.Page.{Page}
 use Rattle.command_words.specs.Words.{Command, IsCommand, IsNoCommand, AsksFor, desk}
 use Rattle.command_words.proofs.PageWords.{page-no-command}
@@ -14,6 +14,14 @@ use Rattle.top_call.specs.Causes.{HasManySections}
 use Rattle.top_call.specs.Lines.{done_status, file_status}
 use Rattle.top_call.specs.Answers.{Ends, written, cut, memory, IsExactly, HasOutput}
 use Rattle.top_call.specs.Noted.{Ended, IsDueNote, words_front, on_words, on_file, on_sections, on_changes, IsNoted}
+use Rattle.set_model.specs.declared.memory.Memory.{Memory}
+use Rattle.script_laws.specs.declared.output.Output.{Output}
+use Rattle.script_laws.specs.declared.refusals.Refusal.{Refusal}
+use Rattle.command_words.specs.declared.words.Task.{Task}
+use Rattle.command_words.specs.declared.words.Task.TheVariants as tasks
+use Rattle.command_words.specs.WordForms.{plain_task}
+use Rattle.input_files.specs.Inputs.{script, keys as keys_form, rules as rules_form, plan as plan_form, capture as capture_form}
+use Rattle.top_call.specs.Refused.{AreRefused, HasNothingToTell, HasTold, IsNoteDue, IsNoteOnChanges, NamesScript, TellsChanges, TellsOf}
 use Rattle.top_call.proofs.Endings.{file-above}
 
 -- A call whose status and text are due ends with that status, or its sink failed.
@@ -30,14 +38,44 @@ due-above : (words : List (List ℕ)) (shelf : Shelved) (status : ℕ) (text : L
 due-above words shelf status text (on_words t none is ended) e = ended-above 2 status (omega arith) ended e
 due-above words shelf status text (on_file d fault stops t is_d is ended) e = ended-above (file_status fault) status (let above = file-above fault in omega (arith, above)) ended e
 due-above words shelf status text (on_sections name t has is ended) e = ended-above 12 status (omega arith) ended e
-due-above words shelf status text (on_changes output t has ended) e = ended-above 1 status (omega arith) ended e
+due-above words shelf status text (on_changes c name output t refusals failed has is_c names are is ended) e = ended-above 1 status (omega arith) ended e
+
+-- What was told, or not told as memory ran out.
+pub told-may : {T E : Type 0} (r : Result T E) (IsNote : List ℕ → Type 0) (before now : Option (List ℕ)) → OnOk r (HasTold IsNote before now) → OnErr r (now ≡ before) → MayTell IsNote before now
+told-may (Ok x) IsNote before now h silent = note h.0 h.1 h.2 h.3
+told-may (Err e) IsNote before now h silent = nothing silent
+
+-- The same of the refused changes.
+pub changes-may : (d : Command) (out : Output) (before now : Option (List ℕ)) (r : Result Bool Memory) → TellsChanges d out before now r → MayTell (IsNoteDue d out.refused out.refusals.items out.failed) before now
+changes-may d out before now (Ok true) h = note h.0 h.1 h.2 h.3
+changes-may d out before now (Ok false) h = nothing h.1
+changes-may d out before now (Err e) h = nothing h
+
+-- If the output reports a refusal, the answer is about the command whose script has this name.
+pub changes-told : (d : Command) (name : List ℕ) (out : Output) (before now : Option (List ℕ)) (r : Result Bool Memory) → NamesScript d name → out.refused ≡ true → TellsOf (IsNoteOnChanges name out.refusals.items out.failed) out before now r → TellsChanges d out before now r
+changes-told d name out before now (Ok true) names is h = (h.0, h.1, (name, names, is, h.2), h.3)
+changes-told d name out before now (Ok false) names is h = (none h.0, h.1) where
+  none : (out.refusals.items ≡ []) ⊎ (out.script ≡ None) → HasNothingToTell d out
+  none (inl e) = inr (inl e)
+  none (inr e) = inr (inr (inl e))
+changes-told d name out before now (Err e) names is h = h
+
+-- A command with a script names it.
+pub script-named : (name : List ℕ) (task : Task) (keep_going : Bool) → NamesScript (plain_task name task keep_going) name
+script-named name (tasks.Run keys threads) keep_going = (record { name = name; form = script }, record { name = keys.now; form = keys_form } ∷ [], refl, refl)
+script-named name tasks.List keep_going = (record { name = name; form = script }, [], refl, refl)
+script-named name tasks.Dump keep_going = (record { name = name; form = script }, [], refl, refl)
+script-named name (tasks.Judge rules keys threads) keep_going = (record { name = name; form = script }, record { name = rules.now; form = rules_form } ∷ record { name = keys.now; form = keys_form } ∷ [], refl, refl)
+script-named name (tasks.Capture plan packets threads) keep_going = (record { name = name; form = script }, record { name = plan.now; form = plan_form } ∷ record { name = packets.now; form = capture_form } ∷ [], refl, refl)
+script-named name tasks.Desk keep_going = (record { name = name; form = script }, [], refl, refl)
+script-named name (tasks.Get key moment) keep_going = (record { name = name; form = script }, [], refl, refl)
 
 -- No note is due to words that ask for a page.
 page-due : (words : List (List ℕ)) (shelf : Shelved) (status : ℕ) (text : List ℕ) (p : Page) → AsksFor words p → IsDueNote words shelf status text → ⊥
 page-due words shelf status text p asks (on_words t none is ended) = none.no_page p asks
 page-due words shelf status text p asks (on_file d fault stops t is_d is ended) = page-no-command words p d asks is_d
 page-due words shelf status text p asks (on_sections name t has is ended) = page-no-command words p (desk name has.keep_going) asks has.is_desk
-page-due words shelf status text p asks (on_changes output t has ended) = page-no-command words p has.command asks has.is_command
+page-due words shelf status text p asks (on_changes c name output t refusals failed has is_c names are is ended) = page-no-command words p has.command asks has.is_command
 
 module _ (c : Call) where
   -- With status 0 no note was written.
@@ -66,7 +104,9 @@ module _ (c : Call) where
       (tells-as (Begins (name_text name)) (IsDueNote c.words c.shelf c.status) mid c.noted_now (λ text is. on_sections name text has is ended) tells)
 
   -- The note on refused changes is due.
-  pub changes-noted : (refused : Bool) (output : List ℕ) → HasOutput c.words c.shelf refused output → Ended (done_status refused) c.status → (mid : Option (List ℕ)) → mid ≡ c.noted_before → MayTell (λ (_ : List ℕ). refused ≡ true) mid c.noted_now → IsNoted c
-  changes-noted refused output has ended mid silent tells =
+  pub changes-noted : (d : Command) (refused : Bool) (output : List ℕ) (refusals : List Refusal) (failed : Bool) → HasOutput c.words c.shelf refused output → IsCommand c.words d → AreRefused d c.shelf.told refused output refusals failed
+      → Ended (done_status refused) c.status → (mid : Option (List ℕ)) → mid ≡ c.noted_before → MayTell (IsNoteDue d refused refusals failed) mid c.noted_now → IsNoted c
+  changes-noted d refused output refusals failed has is_d are ended mid silent tells =
       subst (λ (b : Option (List ℕ)). MayTell (IsDueNote c.words c.shelf c.status) b c.noted_now) silent
-      (tells-as (λ (_ : List ℕ). refused ≡ true) (IsDueNote c.words c.shelf c.status) mid c.noted_now (λ text is. on_changes output text (subst (λ (r : Bool). HasOutput c.words c.shelf r output) is has) (subst (λ (r : Bool). Ended (done_status r) c.status) is ended)) tells)
+      (tells-as (IsNoteDue d refused refusals failed) (IsDueNote c.words c.shelf c.status) mid c.noted_now
+      (λ text is. on_changes d is.0 output text refusals failed (subst (λ (r : Bool). HasOutput c.words c.shelf r output) is.2 has) is_d is.1 (subst (λ (r : Bool). AreRefused d c.shelf.told r output refusals failed) is.2 are) is.3 (subst (λ (r : Bool). Ended (done_status r) c.status) is.2 ended)) tells)

@@ -5,6 +5,8 @@ use Rattle.input_files.specs.declared.work.Work.{Work}
 use Rattle.input_files.specs.declared.work.Work.TheVariants as works
 use Rattle.input_files.specs.Works.{IsWork}
 use Rattle.pcap_keys.specs.Planned.{packets as planned_packets}
+use Rattle.script_laws.specs.declared.output.Output.{Output}
+use Rattle.top_call.specs.Refused.{AreRefused, GivesRefusals}
 use Rattle.top_call.specs.Transcript.{IsOutput, GivesText}
 
 pub is-output : (told : List ℕ → Option (List ℕ)) (c : Command) (w : Work) (refused : Bool) (text : List ℕ) → IsWork told c w → GivesText w refused text → IsOutput c told refused text
@@ -45,3 +47,14 @@ is-output told c (works.Judge s chains packets n g) refused text w h = subst (λ
 is-output told c (works.Desk s g) refused text w h = subst (λ (x : Command). IsOutput x told refused text) (sym w.1) (λ script_text at. record { script = s; script_is = (w.2 script_text at).1; few = h.1; is_desk = h.0 })
 is-output told c (works.Get s key moment g) refused text w h = subst (λ (x : Command). IsOutput x told refused text) (sym w.1) (λ script_text at. record { script = s; script_is = (w.2 script_text at).1; gives = h })
 is-output told c (works.Drill seed count n) refused text w h = subst (λ (x : Command). IsOutput x told refused text) (sym w) (h.1, h.0)
+
+-- The refused changes that a work's output has as data are the command's.
+pub are-refused : (told : List ℕ → Option (List ℕ)) (c : Command) (w : Work) (out : Output) → IsWork told c w → GivesRefusals w out → AreRefused c told out.refused out.text.items out.refusals.items out.failed
+are-refused told c (works.Run s packets n g) out w h = subst (λ (x : Command). AreRefused x told out.refused out.text.items out.refusals.items out.failed) (sym w.2) (λ text at. (s, (w.3 text at).1, h.0.refusals_are, h.1))
+are-refused told c (works.List s g) out w h = subst (λ (x : Command). AreRefused x told out.refused out.text.items out.refusals.items out.failed) (sym w.1) (λ text at. (s, (w.2 text at).1, h.0.refusals_are, h.1))
+are-refused told c (works.Dump s g) out w h = subst (λ (x : Command). AreRefused x told out.refused out.text.items out.refusals.items out.failed) (sym w.1) (λ text at. (s, (w.2 text at).1, h.0.refusals_are, h.1))
+are-refused told c (works.Capture s plan frames n g) out w h = subst (λ (x : Command). AreRefused x told out.refused out.text.items out.refusals.items out.failed) (sym w.3) (λ text at. (s, (w.4 text at).1, h.0.refusals_are, h.1))
+are-refused told c (works.Judge s chains packets n g) out w h = subst (λ (x : Command). AreRefused x told out.refused out.text.items out.refusals.items out.failed) (sym w.3) (λ text at. (s, (w.4 text at).1, h.0.refusals_are, h.1))
+are-refused told c (works.Desk s g) out w h = subst (λ (x : Command). AreRefused x told out.refused out.text.items out.refusals.items out.failed) (sym w.1) (λ text at. (s, (w.2 text at).1, h.desk, h.refusals_are, h.failed_is))
+are-refused told c (works.Get s key moment g) out w h = subst (λ (x : Command). AreRefused x told out.refused out.text.items out.refusals.items out.failed) (sym w.1) (λ text at. (s, (w.2 text at).1, h.0.refusals_are, h.1))
+are-refused told c (works.Drill seed count n) out w h = subst (λ (x : Command). AreRefused x told out.refused out.text.items out.refusals.items out.failed) (sym w) tt

@@ -7,3 +7,4 @@ pub mod Answers
 pub mod Noted
 pub mod Exactly
 pub mod Promises
+pub mod Refused

@@ -1,5 +1,5 @@
 -- The note for a person beside a call's output.
-use Rattle.std.specs.Prelude.{◌≡◌, ◌⊎◌, ℕ, true, List, codes}
+use Rattle.std.specs.Prelude.{◌≡◌, ◌⊎◌, ℕ, true, List, codes, Bool}
 use Rattle.command_words.specs.Words.{Command, IsCommand, IsNoCommand}
 use Rattle.fault_notes.specs.Shown.{Begins, name_text}
 use Rattle.fault_notes.specs.Told.{MayTell}
@@ -9,7 +9,9 @@ use Rattle.input_files.specs.Reads.{Shelved, StopsAt}
 use Rattle.top_call.specs.Calls.{Call}
 use Rattle.top_call.specs.Causes.{HasManySections}
 use Rattle.top_call.specs.Lines.{file_status}
+use Rattle.script_laws.specs.declared.refusals.Refusal.{Refusal}
 use Rattle.top_call.specs.Answers.{HasOutput}
+use Rattle.top_call.specs.Refused.{AreRefused, IsNoteOnChanges, NamesScript}
 
 -- A call has this status, or its sink failed.
 abbrev pub Ended : ℕ → ℕ → Type 0
@@ -19,14 +21,15 @@ Ended due status = (status ≡ due) ⊎ (status ≡ 6)
 abbrev pub words_front : List ℕ
 words_front = name_text (codes "pipapo")
 
--- The notes that are due. One is on words that are no command and ask for no page. One begins with the name of a file that can't be had, in its turn, and the place of what is
--- wrong with its text. One begins with the name of a desk's script that has too many sections. One is on the refused
--- changes that an output reports.
+-- The notes that are due. One is on words that are no command and ask for no page. One begins with the name of a file that
+-- can't be had, in its turn, and the place of what is wrong with its text. One begins with the name of a desk's script that
+-- has too many sections. One has a line for each of the first 20 refused changes of the command, with the script's name and
+-- the change's line, and how many more there are.
 pub data IsDueNote (words : List (List ℕ)) (shelf : Shelved) (status : ℕ) : List ℕ → Type 0 where
   on_words : (text : List ℕ) → IsNoCommand words → Begins words_front text → Ended 2 status → IsDueNote words shelf status text
   on_file : (c : Command) (fault : FileFault) (stops : StopsAt shelf c fault) (text : List ℕ) → IsCommand words c → IsNoteOn shelf.told stops.sets stops.input.name fault text → Ended (file_status fault) status → IsDueNote words shelf status text
   on_sections : (name text : List ℕ) → HasManySections words shelf name → Begins (name_text name) text → Ended 12 status → IsDueNote words shelf status text
-  on_changes : (output text : List ℕ) → HasOutput words shelf true output → Ended 1 status → IsDueNote words shelf status text
+  on_changes : (c : Command) (name output text : List ℕ) (refusals : List Refusal) (failed : Bool) → HasOutput words shelf true output → IsCommand words c → NamesScript c name → AreRefused c shelf.told true output refusals failed → IsNoteOnChanges name refusals failed text → Ended 1 status → IsDueNote words shelf status text
 
 -- A call writes no note, or one note that is due.
 abbrev pub IsNoted : Call → Type 0

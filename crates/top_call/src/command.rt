@@ -75,13 +75,13 @@ fn do_command<'a, R: Threads + Wait + Sync, F: Shelf, K: Sink, N: Notes, G: Gate
     match work_of(alloc, shelf, notes, &mut script_text, command) {
         Ok(work) => match overfull(command, &work) {
             Some((name, sections)) => {
-                tell_too_many(alloc, notes, name, sections);
+                let _ = tell_too_many(alloc, notes, name, sections);
                 tell(sink, Fault::TooManyClerks(name))
             }
             None => match output_of(rt, alloc, work, gate) {
                 Ok(output) => {
                     let status = deliver(sink, done_status(output.refused), output.text.as_slice());
-                    tell_refusals(alloc, notes, command, script_text.as_slice(), &output);
+                    let _ = tell_refusals(alloc, notes, command, script_text.as_slice(), &output);
                     status
                 }
                 Err(error) => tell(sink, answer_fault(error)),

@@ -7,6 +7,7 @@ ghost use Rattle.set_model.specs.Runnable.{IsFitting};
 ghost use Rattle.pcap_keys.specs.Fitting.{HasValues, IsPlanned};
 ghost use Rattle.pcap_keys.specs.Planned as planned;
 ghost use Rattle.input_files.specs.Works.{IsDoable};
+ghost use Rattle.top_call.specs.Refused.{GivesRefusals};
 ghost use Rattle.top_call.specs.Transcript.{GivesText, HasBadWords, HasFewClerks};
 
 use control_desk::QuietBell;
@@ -46,6 +47,7 @@ pub fn output_of<R: Threads + Wait + Sync, G: Gate>(
     requires doable { IsDoable work }
     requires clerks { HasFewClerks work }
     ensures text { IfOk result (λ out. GivesText work.entry out.refused out.text.items) }
+    ensures refusals { IfOk result (GivesRefusals work.entry) }
     ensures bad { (line : ℕ) (reason : Reason) → result ≡ Err (BadKey line reason) → HasBadWords work.entry line reason }
 {
     match work {

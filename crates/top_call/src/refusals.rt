@@ -1,41 +1,124 @@
 //! Notes for a person, on refused changes and on a desk's script that has too many sections.
-ghost use Rattle.std.specs.Prelude.{◌≡◌, true};
+ghost use Rattle.std.specs.Prelude.{◌≡◌, map, take, IfOk, OnOk, OnErr};
+ghost use Rattle.command_words.specs.WordForms.{plain};
 ghost use Rattle.fault_notes.specs.Shown.{Begins, name_text};
-ghost use Rattle.fault_notes.specs.Told.{MayTell};
+ghost use Rattle.top_call.specs.Refused.{HasTold, IsNoteOnChanges, TellsChanges, TellsOf, change_of as as_told, most_told};
 
 use command_words::Command;
-use fault_notes::{refusals_note, tell_note, too_many_clerks_note};
+use fault_notes::{Note, RefusedChange, RefusedChanges, refusals_note, too_many_clerks_note};
 use pip_base::Notes;
-use script_run::Output;
-use set_script::read_script;
+use script_run::{Output, Refusal};
+use set_model::{Memory, Script};
 use std::alloc::Global;
 
-/// Writes a note on the changes of a command's script that were refused, by the lines of its output. It reads
-/// the script again from its text. Writes none if no change was refused, or if memory runs out.
+/// The most refused changes that have a line each.
+const MOST_TOLD: usize = 20;
+
+/// A refused change as a note has it.
+fn change_of(refusal: &Refusal) -> RefusedChange
+    ensures { result ≡ as_told refusal.now }
+{
+    RefusedChange {
+        line: refusal.line,
+        set: refusal.set,
+        why: refusal.why,
+    }
+}
+
+/// The first refused changes, which have a line each.
+fn first_changes(alloc: Global, refusals: &[Refusal]) -> Result<Vec<RefusedChange>, Memory>
+    ensures { IfOk result (λ first. first.items ≡ map as_told (take most_told refusals.now)) }
+{
+    let first = refusals
+        .iter()
+        .take(MOST_TOLD)
+        .map(|refusal| change_of(refusal))
+        .collect(alloc)?;
+    Ok(first)
+}
+
+/// The note on the refused changes of an output.
+fn changes_note(
+    alloc: Global,
+    name: &str,
+    script_text: &[u8],
+    script: &Script,
+    output: &Output,
+) -> Result<Note, Memory>
+    ensures { IfOk result (λ note. IsNoteOnChanges name.now output.now.refusals.items output.now.failed note.bytes.items) }
+{
+    let refusals = output.refusals.as_slice();
+    let first = first_changes(alloc, refusals)?;
+    let changes = RefusedChanges {
+        first: first.as_slice(),
+        count: refusals.len() as u64,
+        failed: output.failed,
+    };
+    refusals_note(alloc, name, script_text, script, changes)
+}
+
+/// Writes the note on the refused changes of an output, if it has some.
+fn tell_changes<N: Notes>(
+    alloc: Global,
+    notes: &mut N,
+    name: &str,
+    script_text: &[u8],
+    output: &Output,
+) -> Result<bool, Memory>
+    ensures { TellsOf (IsNoteOnChanges name.now output.now.refusals.items output.now.failed) output.now (N.told notes.old) (N.told notes.new) result }
+{
+    let Some(script) = &output.script else {
+        return Ok(false);
+    };
+    if output.refusals.is_empty() {
+        return Ok(false);
+    }
+    let note = changes_note(alloc, name, script_text, script, output)?;
+    notes.tell(note.as_slice());
+    Ok(true)
+}
+
+/// Writes a note on the changes of a command's script that were refused. Returns whether it wrote one: there is none if no
+/// change was refused.
+///
+/// # Errors
+///
+/// `Memory` if memory runs out. Nothing is then written.
 pub fn tell_refusals<N: Notes>(
     alloc: Global,
     notes: &mut N,
     command: Command<'_>,
     script_text: &[u8],
     output: &Output,
-)
-    ensures { MayTell (λ _. output.now.refused ≡ true) (N.told notes.old) (N.told notes.new) }
+) -> Result<bool, Memory>
+    ensures { TellsChanges (plain command.entry) output.now (N.told notes.old) (N.told notes.new) result }
 {
     if !output.refused {
-        return;
+        return Ok(false);
     }
-    let Command::Script { script: name, .. } = command else {
-        return;
-    };
-    if let Ok(script) = read_script(alloc, script_text) {
-        let note = refusals_note(alloc, name, script_text, &script, output.text.as_slice());
-        tell_note(notes, note);
+    match command {
+        Command::Script { script: name, .. } => {
+            tell_changes(alloc, notes, name, script_text, output)
+        }
+        Command::Drill { .. } => Ok(false),
     }
 }
 
 /// Writes the note that a desk's script has too many sections.
-pub fn tell_too_many<N: Notes>(alloc: Global, notes: &mut N, name: &str, sections: u64)
-    ensures { MayTell (Begins (name_text name.now)) (N.told notes.old) (N.told notes.new) }
+///
+/// # Errors
+///
+/// `Memory` if memory runs out. Nothing is then written.
+pub fn tell_too_many<N: Notes>(
+    alloc: Global,
+    notes: &mut N,
+    name: &str,
+    sections: u64,
+) -> Result<(), Memory>
+    ensures told { OnOk result (HasTold (Begins (name_text name.now)) (N.told notes.old) (N.told notes.new)) }
+    ensures kept { OnErr result (N.told notes.new ≡ N.told notes.old) }
 {
-    tell_note(notes, too_many_clerks_note(alloc, name, sections));
+    let note = too_many_clerks_note(alloc, name, sections)?;
+    notes.tell(note.as_slice());
+    Ok(())
 }

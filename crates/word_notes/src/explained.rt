@@ -20,12 +20,6 @@ const OPTIONS: [&[u8]; 3] = [b"--threads", b"--keep-going", b"--at"];
 /// The words with a dash that may come first.
 const FIRST_OPTIONS: [&[u8]; 4] = [b"--help", b"-h", b"--version", b"-V"];
 
-/// Says that a command, or what follows one, has this form.
-fn add_form(said: &mut Explained, verb: Verb) -> Result<(), Memory> {
-    said.help.say(b"the form is: ")?;
-    said.help.say(form_of(verb))
-}
-
 /// Explains a word at the place of a command.
 fn explain_command(said: &mut Explained, word: &str) -> Result<(), Memory> {
     said.wrong.quoted(word.as_bytes())?;
@@ -62,8 +56,7 @@ fn explain_option(said: &mut Explained, verb: Verb, option: &str) -> Result<(), 
     said.wrong.quoted(option.as_bytes())?;
     let is_other = OPTIONS.iter().any(|other| *other == option.as_bytes());
     if is_other {
-        said.wrong.say(b" isn't an option of this command")?;
-        return add_form(said, verb);
+        return said.say(b" isn't an option of this command", form_of(verb));
     }
     let mut near: &[&[u8]] = &OPTIONS;
     if !takes(verb, b"--at") {
@@ -135,8 +128,7 @@ fn explain_missing(said: &mut Explained, verb: Verb, names: usize) -> Result<(),
             Err(_) => return Err(Memory),
         }
     }
-    said.wrong.say(end)?;
-    add_form(said, verb)
+    said.say(end, form_of(verb))
 }
 
 /// Explains a word that is one too many, or that can't come with others.
@@ -182,7 +174,12 @@ pub(crate) fn explain(said: &mut Explained, fault: WordFault<'_>) -> Result<(), 
             b"leave one of the two out",
         ),
         WordFault::NoValue(option) => {
-            explain_extra(said, option, b" takes no value", b"leave the '=' out")
+            explain_extra(
+                said,
+                option,
+                b" takes no value",
+                b"leave out the '=' and what follows it",
+            )
         }
         WordFault::NoNumber(number) => explain_no_number(said, number),
         WordFault::BadNumber(number, word) => explain_number(said, number, word),
@@ -195,9 +192,7 @@ pub(crate) fn explain(said: &mut Explained, fault: WordFault<'_>) -> Result<(), 
             b"only one file can be the standard input",
         ),
         WordFault::TooMany(verb, word) => {
-            said.wrong.quoted(word.as_bytes())?;
-            said.wrong.say(b" is a word too many")?;
-            add_form(said, verb)
+            explain_extra(said, word, b" is a word too many", form_of(verb))
         }
         WordFault::Missing(verb, names) => explain_missing(said, verb, names),
         WordFault::Other => said.say(

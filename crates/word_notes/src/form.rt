@@ -4,14 +4,13 @@ use command_words::{Page, Verb};
 /// How many names a command has at most.
 pub(crate) const MOST_NAMES: usize = 4;
 
-/// A command's form, as `pipapo list SCRIPT [--keep-going]`.
+/// A command's form, as `usage: pipapo list SCRIPT [--keep-going]`.
 pub(crate) fn form_of(verb: Verb) -> &'static [u8] {
     let page = Page::Command(verb).text().as_bytes();
-    let line = match page.iter().position(|byte| *byte == b'\n') {
+    match page.iter().position(|byte| *byte == b'\n') {
         Some(end) => &page[..end],
         None => page,
-    };
-    line.strip_prefix(b"usage: ").unwrap_or(line)
+    }
 }
 
 /// Whether a word of a form stands for a name, as `SCRIPT`.

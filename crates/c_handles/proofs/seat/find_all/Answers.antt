@@ -1,4 +1,4 @@
-use Rattle.std.proofs.Common.{rules, ◌≡◌, ℕ, List, ◌+◌, ◌-◌, ◌*◌, ◌++◌, ◌/◌, length, take, ap, sym, ◌∙◌, subst}
+use Rattle.std.proofs.Common.{rules, ◌≡◌, ℕ, List, ◌+◌, ◌-◌, ◌*◌, ◌++◌, length, take, ap, sym, ◌∙◌, subst}
 use Rattle.std.proofs.lemmas.List.{length-set, length-drop, length-take-le}
 use Rattle.std.specs.Prelude.{slice_set}
 use Rattle.history_laws.specs.Histories.{EndsWith}
@@ -8,33 +8,32 @@ use Rattle.gen_publish.specs.Publish.{ReaderView}
 use Rattle.packed_values.specs.Packed.{values_in, packed_length}
 use Rattle.c_handles.specs.Codes.{id_of}
 use Rattle.c_handles.specs.Calls.{ids_in}
-use Rattle.c_handles.proofs.Batch.{one_more, found_at, no_more, none_asked, enough, one_less, key_size, all_left, none_yet}
+use Rattle.c_handles.proofs.Batch.{one_more, found_at, no_more, enough, one_less, all_left, none_yet}
 use Rattle.c_handles.proofs.seat.find_all.Goals as goal
 
 pub split_at-requires : goal.split_at-requires
-split_at-requires c = enough (length c.keys.ids) c.keys.i (length c.args.bytes.now / length c.args.ids.now) (length c.keys.rest.now) (search rules) c.keys.invariant.left
+split_at-requires c = enough (length c.keys.ids) c.keys.i c.size-size.result (length c.keys.rest.now) (search rules) c.keys.invariant.left
 
 pub find-requires-clause-bytes : goal.find-requires-clause-bytes
 find-requires-clause-bytes c =
-    let size = length c.args.bytes.now / length c.args.ids.now in
+    let size = c.size-size.result in
     let room = enough (length c.keys.ids) c.keys.i size (length c.keys.rest.now) (search rules) c.keys.invariant.left in
     ap length c.split_at.ensures.front ∙ (length-take-le size c.keys.rest.now room ∙ (c.keys.invariant.size ∙ ap (λ (ks : List Kind). packed_length ks) (sym c.keys.invariant.room)))
 
 pub keys-init : goal.keys-init
 keys-init c =
-    let size = key_size (length c.args.bytes.now) (length c.args.ids.now) (packed_length c.args.room.now) (search rules) c.requires.bytes in
     record {
       room = search rules;
       held = search rules;
       count = search rules;
-      size = size;
-      left = all_left (length c.args.bytes.now) (length c.args.ids.now) (length c.args.bytes.now / length c.args.ids.now) (packed_length c.args.room.now) c.requires.bytes size;
-      ids = λ g e s at. none_yet s c.args.room.now (length c.args.bytes.now / length c.args.ids.now) c.args.now c.args.ids.now c.args.bytes.now;
+      size = c.size-size.ensures;
+      left = all_left (length c.args.bytes.now) (length c.args.ids.now) c.size-size.result (packed_length c.args.room.now) c.requires.bytes c.size-size.ensures;
+      ids = λ g e s at. none_yet s c.args.room.now c.size-size.result c.args.now c.args.ids.now c.args.bytes.now;
     }
 
 pub keys-preserved : goal.keys-preserved
 keys-preserved c =
-    let kinds = c.args.room.now in let size = length c.args.bytes.now / length c.args.ids.now in let now = c.args.now in let i = c.keys.i in let x = c.id_or_none.result in let count = length-set c.keys.ids i x in
+    let kinds = c.args.room.now in let size = c.size-size.result in let now = c.args.now in let i = c.keys.i in let x = c.id_or_none.result in let count = length-set c.keys.ids i x in
     record {
       room = c.find.ensures.same.0 ∙ c.keys.invariant.room;
       held = c.find.ensures.same.1 ∙ c.keys.invariant.held;
@@ -51,17 +50,11 @@ keys-preserved c =
           (sym c.split_at.ensures.back) (next ∙ ap (λ (n : ℕ). ids_in s kinds size now n c.args.bytes.now) (sym count));
     }
 
-pub returns-then-is_empty-clause-ids : goal.returns-then-is_empty-clause-ids
-returns-then-is_empty-clause-ids c = λ g e. record {
-  numbered = c.generation.ensures.last g e;
-  are = λ s at. none_asked s c.args.room.now _ c.args.now c.args.ids.now c.args.bytes.now (search rules);
-}
-
 pub returns-clause-ids : goal.returns-clause-ids
 returns-clause-ids c = λ g e. record {
-  numbered = c.generation-2.ensures.last g (subst (λ (h : ReaderView). EndsWith h.seen g) (sym c.keys.invariant.held) e);
+  numbered = c.generation.ensures.last g (subst (λ (h : ReaderView). EndsWith h.seen g) (sym c.keys.invariant.held) e);
   are = λ s at.
-      let kinds = c.args.room.now in let size = length c.args.bytes.now / length c.args.ids.now in
+      let kinds = c.args.room.now in let size = c.size-size.result in
       no_more s kinds size c.args.now c.keys.ids c.keys.i c.keys.rest.now (ids_in s kinds size c.args.now (length c.keys.ids) c.args.bytes.now) (search rules) (c.keys.invariant.ids g e s at)
       ∙ ap (λ (n : ℕ). ids_in s kinds n c.args.now (length c.keys.ids) c.args.bytes.now) c.keys.invariant.size;
 }

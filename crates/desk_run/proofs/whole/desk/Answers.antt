@@ -1,5 +1,6 @@
-use Rattle.std.proofs.Common.{◌≡◌, ap, sym, subst, ◌++◌, List, All, length, length-drop, arith}
+use Rattle.std.proofs.Common.{◌≡◌, ◌∙◌, ap, sym, subst, ◌++◌, true≢false, Some, List, All, length, length-drop, arith}
 use Rattle.std.proofs.lemmas.List.Elements.{All-drop}
+use Rattle.set_model.specs.declared.script.Script.{Script}
 use Rattle.set_model.specs.declared.script.SetDecl.{SetDecl}
 use Rattle.set_model.specs.declared.script.Step.{Step}
 use Rattle.set_model.specs.Runnable.{EndsClosed, IsRunnableStep}
@@ -7,11 +8,11 @@ use Rattle.set_report.specs.ListText.{list_text}
 use Rattle.set_report.specs.Remarks.{remarks_text}
 use Rattle.set_report.specs.Writes.{AreSetsOf, NamesSet}
 use Rattle.script_laws.proofs.Lists.{All-section}
-use Rattle.script_laws.proofs.RunLaws.{closed-at, ok-as}
+use Rattle.script_laws.proofs.RunLaws.{closed-at}
 use Rattle.control_desk.specs.declared.entry.Entry.{Entry}
 use Rattle.control_desk.specs.Woven.{said}
 use Rattle.desk_run.specs.DeskText.{log_text}
-use Rattle.desk_run.proofs.Telling.{log_named, sets_declared, tells, told_named}
+use Rattle.desk_run.proofs.Telling.{done_script, log_named, reports, sets_declared, told_named}
 use Rattle.desk_run.proofs.whole.desk.Goals as goal
 
 pub run_first-requires-clause-steps : goal.run_first-requires-clause-steps
@@ -46,9 +47,20 @@ write_desk-requires-clause-sets g c = subst (λ (s : List SetDecl). AreSetsOf s 
     c.take_first-first.ensures.first c.take_first-first.ensures.others c.in_ok-control.ensures.stands c.in_ok-control-2.ensures)
 
 pub returns : goal.returns
-returns g c = ok-as c.write_desk.result
-    (λ out wrote. tells c.args.script c.args.keep_going c.take_first-first.result c.take_first-first.new.sections c.in_ok-control.control c.in_ok-control-2.control c.in_ok-control.told c.in_ok-control-2.log
-    c.take_first-first.ensures.first c.take_first-first.ensures.others c.in_ok-control.ensures.stands c.in_ok-control-2.ensures
-    out.refused out.text.items
+returns g c =
+    let out = c.in_ok-output.output in let wrote = c.in_ok-output.ensures in
+    reports c.args.script c.args.keep_going c.take_first-first.result c.take_first-first.new.sections c.in_ok-control.control c.in_ok-control-2.control c.in_ok-control.told c.in_ok-control-2.log
+    c.take_first-first.ensures.first c.take_first-first.ensures.others c.in_ok-control.ensures.stands c.in_ok-control-2.ensures out
     (subst (λ (s : List SetDecl). out.text.items ≡ remarks_text s c.in_ok-control.told ++ (log_text s c.in_ok-control-2.log ++ list_text s c.in_ok-control-2.control.work.base.sets c.args.script.last)) c.in_ok-declared.ensures wrote.0)
-    wrote.1) c.write_desk.ensures
+    wrote.1 wrote.2 wrote.3 (λ refused. absurd (true≢false (sym refused ∙ c.if-output.false)))
+
+pub returns-then-output : goal.returns-then-output
+returns-then-output g c =
+    let out = c.in_ok-output.output in let wrote = c.in_ok-output.ensures in
+    let done : Script = record { schema = c.in_ok-declared.declared; sections = c.in_ok-done.done; last = c.args.script.last } in
+    reports c.args.script c.args.keep_going c.take_first-first.result c.take_first-first.new.sections c.in_ok-control.control c.in_ok-control-2.control c.in_ok-control.told c.in_ok-control-2.log
+    c.take_first-first.ensures.first c.take_first-first.ensures.others c.in_ok-control.ensures.stands c.in_ok-control-2.ensures (record out { script = Some done })
+    (subst (λ (s : List SetDecl). out.text.items ≡ remarks_text s c.in_ok-control.told ++ (log_text s c.in_ok-control-2.log ++ list_text s c.in_ok-control-2.control.work.base.sets c.args.script.last)) c.in_ok-declared.ensures wrote.0)
+    wrote.1 wrote.2 wrote.3
+    (λ refused. ap Some (done_script c.args.script c.args.keep_going c.take_first-first.result c.take_first-first.new.sections c.in_ok-control.control c.in_ok-control-2.control c.in_ok-control.told c.in_ok-control-2.log
+    c.take_first-first.ensures.first c.take_first-first.ensures.others c.in_ok-control.ensures.stands c.in_ok-control-2.ensures c.in_ok-declared.declared c.in_ok-done.done c.in_ok-declared.ensures c.in_ok-done.ensures))

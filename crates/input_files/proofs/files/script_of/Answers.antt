@@ -1,10 +1,8 @@
 use Rattle.std.proofs.Common.{refl, ap, Err}
-use Rattle.token_forms.specs.TextTokens.{text_tokens}
-use Rattle.set_script.specs.Script.{script as script_form}
 use Rattle.input_files.specs.declared.fault.Flaw.TheVariants as flaws
 use Rattle.input_files.specs.Inputs.{script}
 use Rattle.input_files.proofs.Reading.{bad-cause}
-use Rattle.input_files.proofs.Telling.{bad-note}
+use Rattle.input_files.proofs.Telling.{script-note}
 use Rattle.input_files.proofs.files.script_of.Goals as goal
 
 pub returns-in-Err-clause-cause : goal.returns-in-Err-clause-cause
@@ -18,4 +16,4 @@ returns-in-Err-Bad-clause-cause g c =
 
 pub returns-in-Err-Bad-clause-noted : goal.returns-in-Err-Bad-clause-noted
 returns-in-Err-Bad-clause-noted g c =
-    λ sets. bad-note script_form text_tokens (g.F.Shelf.told c.args.shelf.now) c.args.name.now c.in-Ok.text.items c.as_slice-bytes.result.now c.bad_token-found.result _ _ _ c.in-Ok.ensures.bytes c.as_slice-bytes.ensures.value c.bad_token-found.ensures c.in-Ok.ensures.silent c.tell_bad.ensures
+    λ sets. script-note (g.F.Shelf.told c.args.shelf.now) c.args.name.now c.in-Ok.text.items c.as_slice-bytes.result.now c.bad_token-found.result _ _ _ c.in-Ok.ensures.bytes c.as_slice-bytes.ensures.value c.bad_token-found.ensures c.in-Ok.ensures.silent c.tell_script.ensures

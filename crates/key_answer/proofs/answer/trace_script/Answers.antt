@@ -12,7 +12,7 @@ use Rattle.key_answer.proofs.answer.trace_script.Goals as goal
 
 pub sections-init : goal.sections-init
 sections-init g c = let e = c.in_ok-control.ensures.control in record {
-  stands = subst (λ (z : List Event). StandsAt [] (start c.args.script.schema) (run c.in_ok-control.control false z)) (sym c.new-events.ensures) (start_stands c.args.script.schema c.in_ok-control.control e.2 e.3);
+  stands = subst (λ (z : List Event). StandsAt [] (start c.args.script.now.schema) (run c.in_ok-control.control false z)) (sym c.new-events.ensures) (start_stands c.args.script.now.schema c.in_ok-control.control e.2 e.3);
   lines_are = search;
   schema_is = e.0;
 }
@@ -20,21 +20,21 @@ sections-init g c = let e = c.in_ok-control.ensures.control in record {
 pub trace_steps-requires-clause-steps : goal.trace_steps-requires-clause-steps
 trace_steps-requires-clause-steps g c κs within =
     subst (λ (s : List SetDecl). All (IsRunnableStep s) c.steps-item.result) (sym c.sections.invariant.schema_is)
-    (of-place (All (IsRunnableStep c.args.script.schema)) c.as_slice-steps-items.result.now c.args.script.sections c.sections.steps-index c.steps-item.result c.as_slice-steps-items.ensures c.sections-test.true c.steps-item.is c.requires.script.steps)
+    (of-place (All (IsRunnableStep c.args.script.now.schema)) c.as_slice-steps-items.result.now c.args.script.now.sections c.sections.steps-index c.steps-item.result c.as_slice-steps-items.ensures c.sections-test.true c.steps-item.is c.requires.script.steps)
 
 pub sections-preserved : goal.sections-preserved
 sections-preserved g c = record {
-  stands = next_stands c.args.keep_going c.args.script.schema c.as_slice-steps-items.result.now c.sections.steps-index c.steps-item.result c.sections.control c.trace_steps.new.control c.sections.events c.in_ok-told.told c.add_all.new.events
+  stands = next_stands c.args.keep_going c.args.script.now.schema c.as_slice-steps-items.result.now c.sections.steps-index c.steps-item.result c.sections.control c.trace_steps.new.control c.sections.events c.in_ok-told.told c.add_all.new.events
       c.sections-test.true c.steps-item.is
-      (of-place EndsClosed c.as_slice-steps-items.result.now c.args.script.sections c.sections.steps-index c.steps-item.result c.as_slice-steps-items.ensures c.sections-test.true c.steps-item.is c.requires.script.closed)
+      (of-place EndsClosed c.as_slice-steps-items.result.now c.args.script.now.sections c.sections.steps-index c.steps-item.result c.as_slice-steps-items.ensures c.sections-test.true c.steps-item.is c.requires.script.closed)
       c.sections.invariant.stands c.in_ok-told.ensures.ran c.in_ok-add_all.ensures;
-  lines_are = lines-more (mode_of c.args.keep_going) c.args.set c.args.script.schema c.as_slice-steps-items.result.now c.sections.steps-index c.steps-item.result c.sections.lines.items c.trace_steps.new.lines.items c.sections-test.true c.steps-item.is
-      c.sections.invariant.lines_are (c.in_ok-told.ensures.lines c.sections.events (history (mode_of c.args.keep_going) c.args.script.schema (take c.sections.steps-index c.as_slice-steps-items.result.now)) (fresh-stands _ c.sections.control c.sections.events c.sections.invariant.stands));
+  lines_are = lines-more (mode_of c.args.keep_going) c.args.set c.args.script.now.schema c.as_slice-steps-items.result.now c.sections.steps-index c.steps-item.result c.sections.lines.items c.trace_steps.new.lines.items c.sections-test.true c.steps-item.is
+      c.sections.invariant.lines_are (c.in_ok-told.ensures.lines c.sections.events (history (mode_of c.args.keep_going) c.args.script.now.schema (take c.sections.steps-index c.as_slice-steps-items.result.now)) (fresh-stands _ c.sections.control c.sections.events c.sections.invariant.stands));
   schema_is = c.in_ok-told.ensures.ran.goes_on.schema_is ∙ c.sections.invariant.schema_is;
 }
 
 pub returns-clause-named : goal.returns-clause-named
-returns-clause-named g c = events_declared (mode_of c.args.keep_going) c.args.script.schema (take c.sections.steps-index c.as_slice-steps-items.result.now) c.sections.control c.sections.events c.sections.invariant.stands
+returns-clause-named g c = events_declared (mode_of c.args.keep_going) c.args.script.now.schema (take c.sections.steps-index c.as_slice-steps-items.result.now) c.sections.control c.sections.events c.sections.invariant.stands
 
 pub returns-clause-sets : goal.returns-clause-sets
-returns-clause-sets g c = sets_declared (mode_of c.args.keep_going) c.args.script.schema (take c.sections.steps-index c.as_slice-steps-items.result.now) c.sections.control c.sections.events c.sections.invariant.stands
+returns-clause-sets g c = sets_declared (mode_of c.args.keep_going) c.args.script.now.schema (take c.sections.steps-index c.as_slice-steps-items.result.now) c.sections.control c.sections.events c.sections.invariant.stands

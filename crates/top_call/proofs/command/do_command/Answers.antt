@@ -1,6 +1,8 @@
 use Rattle.std.proofs.Common.{ap, Err}
 use Rattle.command_words.specs.WordForms.{plain}
-use Rattle.top_call.proofs.Outputs.{is-output}
+use Rattle.fault_notes.specs.Shown.{Begins, name_text}
+use Rattle.top_call.proofs.Noting.{changes-may, told-may}
+use Rattle.top_call.proofs.Outputs.{are-refused, is-output}
 use Rattle.top_call.proofs.Goings.{goes-output, goes-file, goes-too-many, goes-unanswered, many-sections, no-key}
 use Rattle.top_call.proofs.command.do_command.Goals as goal
 
@@ -9,12 +11,15 @@ returns-in-Ok-output_of g c words is_command =
     let out = c.in-Ok-output_of.output in
     goes-output _ (plain c.args.command) is_command c.in-Ok.ensures.all out.refused out.text.items
     (is-output (g.F.Shelf.told c.args.shelf.now) (plain c.args.command) c.in-Ok.work out.refused out.text.items c.in-Ok.ensures.work c.in-Ok-output_of.ensures.text)
-    (rw (c.done_status.ensures, c.as_slice.ensures.value) at c.deliver-status.ensures) _ c.in-Ok.ensures.silent (search c.tell_refusals.ensures)
+    (rw (c.done_status.ensures, c.as_slice.ensures.value) at c.deliver-status.ensures)
+    out.refusals.items out.failed (are-refused (g.F.Shelf.told c.args.shelf.now) (plain c.args.command) c.in-Ok.work out c.in-Ok.ensures.work c.in-Ok-output_of.ensures.refusals)
+    _ c.in-Ok.ensures.silent (changes-may (plain c.args.command) out _ _ c.tell_refusals.result c.tell_refusals.ensures)
 
 pub returns-in-Some : goal.returns-in-Some
 returns-in-Some g c words is_command =
     let over = c.in-Some.ensures.some in
-    goes-too-many _ c.in-Some.name (many-sections words _ (plain c.args.command) c.in-Ok.work c.in-Some.name is_command c.in-Ok.ensures.all c.in-Ok.ensures.work over) _ c.in-Ok.ensures.silent c.tell_too_many.ensures c.tell.ensures
+    goes-too-many _ c.in-Some.name (many-sections words _ (plain c.args.command) c.in-Ok.work c.in-Some.name is_command c.in-Ok.ensures.all c.in-Ok.ensures.work over) _ c.in-Ok.ensures.silent
+    (told-may c.tell_too_many.result (Begins (name_text c.in-Some.name.now)) _ _ c.tell_too_many.ensures.told c.tell_too_many.ensures.kept) c.tell.ensures
 
 pub returns-in-Ok : goal.returns-in-Ok
 returns-in-Ok g c words is_command =

@@ -1,9 +1,5 @@
-use Rattle.std.proofs.Common.{◌≡◌, true}
-use Rattle.fault_notes.specs.declared.note.Note.{Note}
-use Rattle.fault_notes.proofs.ToldLaws.{made-told, if-ok-any}
+use Rattle.top_call.proofs.Noting.{changes-told, script-named}
 use Rattle.top_call.proofs.refusals.tell_refusals.Goals as goal
 
-pub returns-in-Ok : goal.returns-in-Ok
-returns-in-Ok g c =
-    let refused : c.args.output.now.refused ≡ true = (search c.if-not-output.false) in
-    made-told c.refusals_note-note.result (λ (n : Note). n.bytes.items) (λ _. c.args.output.now.refused ≡ true) _ _ c.tell_note.ensures.told c.tell_note.ensures.nothing (if-ok-any c.refusals_note-note.result refused)
+pub returns-in-Script : goal.returns-in-Script
+returns-in-Script g c = rw c.in-Script.is (changes-told _ c.in-Script.name.now c.args.output.now _ _ c.tell_changes.result (script-named c.in-Script.name.now c.in-Script.task c.in-Script.keep_going) (search c.if-not-output.false) c.tell_changes.ensures)

@@ -1,7 +1,6 @@
+use Rattle.std.proofs.Common.{subst, sym}
 use Rattle.fault_notes.specs.Shown.{Begins, name_text}
-use Rattle.fault_notes.specs.declared.note.Note.{Note}
-use Rattle.fault_notes.proofs.ToldLaws.{made-told}
 use Rattle.top_call.proofs.refusals.tell_too_many.Goals as goal
 
-pub returns : goal.returns
-returns g c = made-told c.too_many_clerks_note.result (λ (n : Note). n.bytes.items) (Begins (name_text c.args.name.now)) _ _ c.tell_note.ensures.told c.tell_note.ensures.nothing c.too_many_clerks_note.ensures.name
+pub returns-clause-told : goal.returns-clause-told
+returns-clause-told g c = (c.as_slice.result.now, c.as_slice.ensures.quiet, subst (Begins (name_text c.args.name.now)) (sym c.as_slice.ensures.bytes) c.in_ok-note.ensures.name, c.tell.ensures)

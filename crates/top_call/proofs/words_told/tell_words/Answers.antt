@@ -5,4 +5,4 @@ use Rattle.fault_notes.proofs.ToldLaws.{made-told}
 use Rattle.top_call.proofs.words_told.tell_words.Goals as goal
 
 pub returns : goal.returns
-returns g c = made-told c.words_note.result (λ (n : Note). n.bytes.items) (Begins (name_text (codes "pipapo"))) _ _ c.tell_note.ensures.told c.tell_note.ensures.nothing c.words_note.ensures
+returns g c = made-told c.words_note.result (λ (n : Note). n.bytes.items) (Begins (name_text (codes "pipapo"))) _ _ c.tell_note.ensures.told c.tell_note.ensures.nothing c.words_note.ensures.name

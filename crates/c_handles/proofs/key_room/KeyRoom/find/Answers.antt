@@ -9,7 +9,7 @@ use Rattle.c_handles.proofs.key_room.KeyRoom.find.Goals as goal
 pub lookup-requires : goal.lookup-requires
 lookup-requires c =
     let read : c.read_key.new.key ≡ values_in c.args.self.now c.args.bytes.now = cc (c.read_key.ensures.values, c.as_slice.ensures, c.self.view_is) in
-    let room : length c.self.inside.key ≡ length c.args.self.now = cc (c.self.invariant, c.self.view_is) in
+    let room : length c.self.inside.key ≡ length c.args.self.now = cc (c.self.invariant.0, c.self.view_is) in
     let same : c.as_slice.result.now ≡ c.args.self.now = cc (c.as_slice.ensures, c.self.view_is) in
     let fits = subst (λ (ks : List Kind). key_fits ks c.read_key.new.key ≡ true) same c.read_key.ensures.fits in
     fitting c.args.held.now.schema c.args.set c.args.self.now c.args.bytes.now c.self.inside.key c.read_key.new.key c.args.now c.requires.declared read fits room
@@ -17,5 +17,5 @@ lookup-requires c =
 pub returns-clause-answer : goal.returns-clause-answer
 returns-clause-answer c = λ g e.
     let read : c.read_key.new.key ≡ values_in c.args.self.now c.args.bytes.now = cc (c.read_key.ensures.values, c.as_slice.ensures, c.self.view_is) in
-    let room : length c.self.inside.key ≡ length c.args.self.now = cc (c.self.invariant, c.self.view_is) in
+    let room : length c.self.inside.key ≡ length c.args.self.now = cc (c.self.invariant.0, c.self.view_is) in
     subst (λ (key : List ℕ). IsLookup g c.args.set key c.args.now c.lookup.result) (written_over c.args.self.now c.args.bytes.now c.self.inside.key c.read_key.new.key read room) (c.lookup.ensures.found g e)

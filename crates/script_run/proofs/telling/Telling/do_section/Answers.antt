@@ -36,5 +36,7 @@ returns g c =
           ∙ append_assoc old (events_text c.schema.result.now events) (packets lines)
           ∙ ap (λ s. old ++ (events_text s events ++ packets lines)) (c.schema.ensures ∙ ran.goes_on.schema_is);
       refused = search rules;
+      refusals = search rules;
+      failed = search rules;
       count = search rules;
     }

@@ -15,6 +15,8 @@ returns c = let e = c.in_ok-control.ensures.control in let r = c.in_ok-control.e
   ready = fresh_ready control c.in_ok-control.readers.items c.in_ok-all.all.items
       (subst (λ (z : List SetDecl × List Generation). AllFresh control.of z.0 z.1 0 c.in_ok-control.readers.items) (λ i. (sym e.0 i, sym e.2 i)) r.1) c.in_ok-all.ensures;
   packets = refl;
-  text = c.new.ensures.items;
-  refused = refl;
+  text = c.new.ensures.text;
+  refused = c.new.ensures.refused;
+  refusals = c.new.ensures.refusals;
+  failed = c.new.ensures.failed;
 }

@@ -8,11 +8,11 @@ use Rattle.script_run.proofs.whole.Whole.run.Goals as goal
 pub returns-clause-named : goal.returns-clause-named
 returns-clause-named g c =
     let new = c.do_sections.new.self in
-    events_declared (mode_of c.args.keep_going) c.args.script.schema c.args.script.sections new.control new.events
-    (subst (λ (z : List SetDecl). StandsAt [] (history (mode_of c.args.keep_going) z c.args.script.sections) (run new.control false new.events)) c.in_ok-whole.ensures.schema c.in_ok-do_sections.ensures.stands)
+    events_declared (mode_of c.args.keep_going) c.args.script.now.schema c.args.script.now.sections new.control new.events
+    (subst (λ (z : List SetDecl). StandsAt [] (history (mode_of c.args.keep_going) z c.args.script.now.sections) (run new.control false new.events)) c.in_ok-whole.ensures.schema c.in_ok-do_sections.ensures.stands)
 
 pub returns-clause-sets : goal.returns-clause-sets
 returns-clause-sets g c =
     let new = c.do_sections.new.self in
-    sets_declared (mode_of c.args.keep_going) c.args.script.schema c.args.script.sections new.control new.events
-    (subst (λ (z : List SetDecl). StandsAt [] (history (mode_of c.args.keep_going) z c.args.script.sections) (run new.control false new.events)) c.in_ok-whole.ensures.schema c.in_ok-do_sections.ensures.stands)
+    sets_declared (mode_of c.args.keep_going) c.args.script.now.schema c.args.script.now.sections new.control new.events
+    (subst (λ (z : List SetDecl). StandsAt [] (history (mode_of c.args.keep_going) z c.args.script.now.sections) (run new.control false new.events)) c.in_ok-whole.ensures.schema c.in_ok-do_sections.ensures.stands)

@@ -1,0 +1,122 @@
+//! Explains a word of a key file by the types of the set that its line names.
+use crate::around::set_named;
+use crate::content::is_family;
+use crate::explained::Explained;
+use crate::help::{TextKind, explain_plainly};
+use crate::refused::SetWords;
+use crate::syntax::explain_fields;
+use crate::values::{explain_key_value, word_of};
+use crate::words::{count_of, kind_at, last_word, word_at};
+use set_model::{Family, Kind, Memory, Schema, SetDecl};
+use std::alloc::Global;
+use text_pieces::{Piece, append_pieces};
+use token_forms::Reason;
+
+/// A bad token of a key file.
+#[derive(Clone, Copy)]
+pub(crate) struct KeyFault<'a> {
+    /// Its line, up to it.
+    pub(crate) before: &'a [u8],
+    /// Its bytes. A line feed and the end of the text have none.
+    pub(crate) token: &'a [u8],
+    pub(crate) reason: Reason,
+}
+
+fn family_word(family: Family) -> &'static [u8] {
+    match family {
+        Family::Ip => b"ip",
+        Family::Ip6 => b"ip6",
+        Family::Inet => b"inet",
+        Family::Arp => b"arp",
+        Family::Bridge => b"bridge",
+        Family::Netdev => b"netdev",
+    }
+}
+
+/// Whether a set has this family, table and name.
+fn is_named(set: &SetDecl, words: SetWords<'_>) -> bool {
+    family_word(set.family) == words.family
+        && set.table.as_slice() == words.table
+        && set.name.as_slice() == words.name
+}
+
+/// The item `type` of a set that is declared, as a script has it.
+fn type_item_of(alloc: Global, kinds: &[Kind]) -> Result<Vec<u8>, Memory> {
+    let mut item = Vec::new(alloc);
+    let mut front: &[u8] = b"type ";
+    for kind in kinds {
+        let added = append_pieces(
+            &[Piece::Word(front), Piece::Word(word_of(*kind))],
+            &mut item,
+        );
+        match added {
+            Ok(()) => front = b" . ",
+            Err(_) => return Err(Memory),
+        }
+    }
+    Ok(item)
+}
+
+/// The item `type` of the set that a line of a key file names. It is empty if no set has that name.
+pub(crate) fn type_item(alloc: Global, schema: &Schema, line: &[u8]) -> Result<Vec<u8>, Memory> {
+    let words = set_named(line, 0);
+    for set in schema.as_slice() {
+        if is_named(set, words) {
+            return type_item_of(alloc, set.kinds.as_slice());
+        }
+    }
+    Ok(Vec::new(alloc))
+}
+
+/// How many words of a line name its set.
+fn name_count(line: &[u8]) -> u64 {
+    if is_family(word_at(line, 0)) { 3 } else { 2 }
+}
+
+/// How many fields of a key come before the bad token. Each begins with a word, and a `.` is between two.
+fn fields_before(before: &[u8]) -> u64 {
+    let dots = count_of(before, b".");
+    if word_at(before, name_count(before)).is_empty() || last_word(before) == b".".as_slice() {
+        return dots;
+    }
+    dots.saturating_add(1)
+}
+
+/// Explains a token that can't come at its place of a key, or the end of its line.
+fn explain_place(
+    said: &mut Explained,
+    type_item: &[u8],
+    fault: KeyFault<'_>,
+) -> Result<(), Memory> {
+    let fields = fields_before(fault.before);
+    let has_more = kind_at(type_item, fields).is_some();
+    let is_known = fields > 0 && !type_item.is_empty();
+    match fault.token {
+        b"." if is_known && !has_more => explain_fields(
+            said,
+            b" begins one more field, and the set has ",
+            fields,
+            type_item,
+        ),
+        b"" if is_known && has_more => {
+            explain_fields(said, b" ends the key after ", fields, type_item)
+        }
+        _ => explain_plainly(said, TextKind::Keys, fault.reason, fault.token),
+    }
+}
+
+/// Explains a bad token of a key file, by the types of its line's set.
+pub(crate) fn explain_key(
+    said: &mut Explained,
+    type_item: &[u8],
+    fault: KeyFault<'_>,
+) -> Result<(), Memory> {
+    match fault.reason {
+        Reason::Value => {
+            let number = count_of(fault.before, b".");
+            explain_key_value(said, type_item, number, fault.token)
+        }
+        Reason::Statement | Reason::End => explain_place(said, type_item, fault),
+        reason => explain_plainly(said, TextKind::Keys, reason, fault.token),
+    }
+}

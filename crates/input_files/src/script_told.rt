@@ -1,0 +1,82 @@
+//! Prints where a script isn't in its grammar: its bad token, and those of the statements after it.
+ghost use Rattle.std.specs.Prelude.{IfOk};
+ghost use Rattle.fault_notes.specs.Told.{MayTell};
+ghost use Rattle.input_files.specs.Noted.{AreFurther, IsScriptNote, IsScriptNoted};
+
+use fault_notes::{
+    Note, TextKind, bad_text_note, further_note, is_other_kind, tell_note, without_statement,
+};
+use pip_base::Notes;
+use set_model::Memory;
+use set_script::bad_token;
+use std::alloc::Global;
+use token_forms::BadToken;
+
+/// How many errors a note shows after the first one.
+pub const MOST_FURTHER: u64 = 9;
+
+/// The most bytes of a script that is read again for further errors.
+const MOST_READ_AGAIN: usize = 1_048_576;
+
+/// The notes on the bad tokens after this one, at most so many. Each is the bad token of the script without
+/// the statements of those before it. In `rest` these are blanked out, except for this one's.
+#[tactic(auto, using(crate::proofs::Telling::none_further))]
+fn further(
+    alloc: Global,
+    name: &str,
+    text: &[u8],
+    rest: &[u8],
+    bad: BadToken,
+    most: u64,
+) -> Result<Note, Memory>
+    ensures { IfOk result (λ notes. AreFurther name.now most rest.now notes.bytes.items) }
+{
+    if most == 0 {
+        return Ok(Note::new(alloc));
+    }
+    let left = without_statement(alloc, rest, bad.at)?;
+    let bytes = left.as_slice();
+    let found = bad_token(alloc, bytes)?;
+    match found {
+        Some(next) if next.at > bad.at => {
+            let mut notes = further_note(alloc, name, text, bytes, next)?;
+            let more = further(alloc, name, text, bytes, next, most - 1)?;
+            notes.join(&more)?;
+            Ok(notes)
+        }
+        _ => Ok(Note::new(alloc)),
+    }
+}
+
+/// The note on a script that isn't in its grammar, on its bad token and on further ones. A long script isn't
+/// read again.
+#[tactic(auto, using(crate::proofs::Telling::first_alone))]
+fn script_note(alloc: Global, name: &str, text: &[u8], bad: BadToken) -> Result<Note, Memory>
+    ensures { IfOk result (λ note. IsScriptNote name.now text.now bad note.bytes.items) }
+{
+    let mut note = bad_text_note(alloc, TextKind::Script, name, text, bad)?;
+    if text.len() > MOST_READ_AGAIN {
+        return Ok(note);
+    }
+    if is_other_kind(alloc, text, bad)? {
+        return Ok(note);
+    }
+    let more = further(alloc, name, text, text, bad, MOST_FURTHER)?;
+    note.join(&more)?;
+    Ok(note)
+}
+
+/// Prints where a script isn't in its grammar, by its bad token, if that was found.
+pub fn tell_script<N: Notes>(
+    alloc: Global,
+    notes: &mut N,
+    name: &str,
+    text: &[u8],
+    found: Result<Option<BadToken>, Memory>,
+)
+    ensures { MayTell (IsScriptNoted found name.now text.now) (N.told notes.old) (N.told notes.new) }
+{
+    if let Ok(Some(bad)) = found {
+        tell_note(notes, script_note(alloc, name, text, bad));
+    }
+}

@@ -1,0 +1,107 @@
+-- Worked examples of the definitions. They compute, so the proof check refuses a wrong byte.
+use Rattle.std.specs.Prelude.{◌≡◌, refl, ℕ, ◌+◌, List, [], ◌∷◌, ◌++◌, map, codes}
+use Rattle.ruleset_sets.specs.declared.sieve.SkipReason.{SkipReason}
+use Rattle.ruleset_sets.specs.declared.sieve.SkipReason.TheVariants.{NoSet, UnknownType, AutoMerge, CatchAll, Unclosed, DroppedPart}
+use Rattle.ruleset_sets.specs.declared.role_token.RoleToken.{RoleToken}
+use Rattle.ruleset_sets.specs.Kept.{all_taken, notes, kept_byte}
+
+abbrev kept_from : List RoleToken → ℕ → List ℕ → List ℕ
+kept_from taken k [] = []
+kept_from taken k (b ∷ bytes) = kept_byte taken k b ∷ kept_from taken (k + 1) bytes
+
+abbrev kept_of : List ℕ → List ℕ
+kept_of text = kept_from (all_taken text) 0 text
+
+-- the reason, the line and the place of each note
+abbrev noted : List ℕ → List (SkipReason × ℕ × ℕ)
+noted text = map (λ s. (s.why, s.at.line, s.at.from)) (notes text)
+
+-- A brace in a string ends no chain, and a counter of a kept set is dropped.
+abbrev a_brace_in_a_string : List ℕ
+a_brace_in_a_string = codes "table ip t{chain c{log " ++ 34 ∷ codes "}" ++ 34 ∷ codes "}" ++ 10 ∷ codes "set s{type mark;counter;}}"
+
+a_brace_in_a_string-kept : kept_of a_brace_in_a_string ≡ codes "table ip t{                " ++ 10 ∷ codes "set s{type mark;       ;}}"
+a_brace_in_a_string-kept = refl
+
+a_brace_in_a_string-noted : noted a_brace_in_a_string ≡ (NoSet, 1, 11) ∷ (DroppedPart, 2, 44) ∷ []
+a_brace_in_a_string-noted = refl
+
+-- A brace in a comment ends no chain.
+abbrev a_brace_in_a_comment : List ℕ
+a_brace_in_a_comment = codes "table ip t{chain c{#}" ++ 10 ∷ codes "}" ++ 10 ∷ codes "}"
+
+a_brace_in_a_comment-kept : kept_of a_brace_in_a_comment ≡ codes "table ip t{        #}" ++ 10 ∷ codes " " ++ 10 ∷ codes "}"
+a_brace_in_a_comment-kept = refl
+
+a_brace_in_a_comment-noted : noted a_brace_in_a_comment ≡ (NoSet, 1, 11) ∷ []
+a_brace_in_a_comment-noted = refl
+
+-- A set with auto-merge is left out as a whole, and the next one is kept.
+abbrev a_set_left_out : List ℕ
+a_set_left_out = codes "table ip t{set a{type mark;auto-merge;}" ++ 10 ∷ codes "set b{type mark;}}"
+
+a_set_left_out-kept : kept_of a_set_left_out ≡ codes "table ip t{                            " ++ 10 ∷ codes "set b{type mark;}}"
+a_set_left_out-kept = refl
+
+a_set_left_out-noted : noted a_set_left_out ≡ (AutoMerge, 1, 11) ∷ []
+a_set_left_out-noted = refl
+
+-- A rule is skipped to its end, with sets in it. An element keeps its comment and loses its counter.
+abbrev a_rule : List ℕ
+a_rule = codes "add rule ip t c tcp dport {80,{443}} accept" ++ 10 ∷ codes "add element ip t b{1 counter packets 2 bytes 3 comment " ++ 34 ∷ codes "x" ++ 34 ∷ codes "}"
+
+a_rule-kept : kept_of a_rule ≡ codes "                                           " ++ 10 ∷ codes "add element ip t b{1                           comment " ++ 34 ∷ codes "x" ++ 34 ∷ codes "}"
+a_rule-kept = refl
+
+a_rule-noted : noted a_rule ≡ (NoSet, 1, 0) ∷ (DroppedPart, 2, 65) ∷ []
+a_rule-noted = refl
+
+-- A chain whose brace is missing goes on to the end, and the table stays open.
+abbrev a_missing_brace : List ℕ
+a_missing_brace = codes "table ip t{chain c{" ++ 10 ∷ codes "set s{type mark;}}"
+
+a_missing_brace-kept : kept_of a_missing_brace ≡ codes "table ip t{        " ++ 10 ∷ codes "                  "
+a_missing_brace-kept = refl
+
+a_missing_brace-noted : noted a_missing_brace ≡ (NoSet, 1, 11) ∷ []
+a_missing_brace-noted = refl
+
+-- A dropped flag takes one comma with it.
+abbrev dropped_flags : List ℕ
+dropped_flags = codes "add set ip t s{type mark;flags constant,interval,dynamic;}"
+
+dropped_flags-kept : kept_of dropped_flags ≡ codes "add set ip t s{type mark;flags          interval        ;}"
+dropped_flags-kept = refl
+
+dropped_flags-noted : noted dropped_flags ≡ (DroppedPart, 1, 31) ∷ (DroppedPart, 1, 49) ∷ []
+dropped_flags-noted = refl
+
+-- A type that is not known, a catch-all element, and a map.
+abbrev reasons : List ℕ
+reasons = codes "table ip t{set a{type ifname;}" ++ 10 ∷ codes "set b{type mark;elements={*}}" ++ 10 ∷ codes "map m{type mark:mark;}}"
+
+reasons-kept : kept_of reasons ≡ codes "table ip t{                   " ++ 10 ∷ codes "                             " ++ 10 ∷ codes "                      }"
+reasons-kept = refl
+
+reasons-noted : noted reasons ≡ (UnknownType, 1, 11) ∷ (CatchAll, 2, 31) ∷ (NoSet, 3, 61) ∷ []
+reasons-noted = refl
+
+-- A quote that begins no string stays, and a script with it is refused.
+abbrev an_open_quote : List ℕ
+an_open_quote = codes "chain c {" ++ 34 ∷ codes "x" ++ 10 ∷ codes "}"
+
+an_open_quote-kept : kept_of an_open_quote ≡ codes "         " ++ 34 ∷ codes " " ++ 10 ∷ codes " "
+an_open_quote-kept = refl
+
+an_open_quote-noted : noted an_open_quote ≡ (NoSet, 1, 0) ∷ []
+an_open_quote-noted = refl
+
+-- A statement whose braces don't close keeps those that open.
+abbrev an_open_brace : List ℕ
+an_open_brace = codes "add chain ip t c{" ++ 10 ∷ codes "add set ip t s{type mark;}"
+
+an_open_brace-kept : kept_of an_open_brace ≡ codes "                {" ++ 10 ∷ codes "              {           "
+an_open_brace-kept = refl
+
+an_open_brace-noted : noted an_open_brace ≡ (Unclosed, 1, 0) ∷ []
+an_open_brace-noted = refl

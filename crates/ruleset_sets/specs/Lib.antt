@@ -1,0 +1,6 @@
+pub mod Roles
+pub mod RoleTokens
+pub mod Sieve
+pub mod Items
+pub mod Kept
+pub mod RulesetText
