@@ -7,12 +7,8 @@ use Rattle.set_model.specs.SetState.{State}
 use Rattle.pipapo_image.specs.Image.Found.{found}
 use Rattle.set_model.specs.declared.kind.Kind.{Kind}
 use Rattle.packed_values.specs.Packed.{values_in}
-use Rattle.std.specs.Prelude.{slice_get, Option, Some}
 use Rattle.history_laws.specs.Histories.{StartsWith, EndsWith}
 use Rattle.set_model.specs.Control.{Generation}
-use Rattle.set_model.specs.declared.packet.Found.{Found}
-use Rattle.gen_publish.specs.Publish.{IsLookup}
-use Rattle.c_handles.proofs.Found.{one_state}
 use Rattle.c_handles.specs.Codes.{id_of}
 use Rattle.c_handles.specs.Calls.{ids_in, AreFound, HasFoundAll}
 
@@ -29,9 +25,6 @@ one_more s kinds size now ids i rest x all h ex e =
     let before : take i ids ++ ids_in s kinds size now (length ids - i) rest ≡ take i ids ++ id_of (found s (values_in kinds (take size rest)) now) ∷ left =
     ap (λ (n : ℕ). take i ids ++ ids_in s kinds size now n rest) (less (length ids) i h) in
     now_so ∙ (append_assoc (take i ids) (x ∷ []) left ∙ (ap (λ (y : ℕ). take i ids ++ y ∷ left) ex ∙ (sym before ∙ e)))
-
-pub found_at : (g : Generation) (s : State) (set : ℕ) (key : List ℕ) (now : ℕ) (answer : Option Found) → IsLookup g set key now answer → slice_get g.sets set ≡ Some s → answer ≡ found s key now
-found_at g s set key now answer l at = l.first_match ∙ ap (λ (t : State). found t key now) (one_state l.state s (sym l.at ∙ at))
 
 none_left : (n : ℕ) (i : ℕ) → n ≤ i → n - i ≡ zero
 none_left n i h = omega arith

@@ -6,14 +6,13 @@ use Rattle.set_model.specs.SetState.{State, add, removed}
 use Rattle.set_model.specs.declared.kind.Kind.{Kind}
 use Rattle.set_model.specs.declared.script.SetDecl.{SetDecl}
 use Rattle.set_model.specs.declared.element.NewElement.{NewElement}
-use Rattle.set_model.specs.declared.packet.Found.{Found}
 use Rattle.pipapo_image.specs.Image.Found.{found}
 use Rattle.pipapo_image.specs.Image.Insert.{IsAnswer}
 use Rattle.pipapo_image.specs.Image.Remove.{IsRemoval}
 use Rattle.pipapo_image.specs.declared.answers.Added.{Added}
 use Rattle.set_space.specs.Answers.{IsCreation, IsDestruction, IsFlush}
 use Rattle.set_space.specs.Open.{IsChange, opened}
-use Rattle.gen_publish.specs.Publish.{Steering, IsCommit, IsLookup}
+use Rattle.gen_publish.specs.Publish.{Steering, IsCommit}
 use Rattle.gen_publish.specs.declared.receipt.Receipt.{Receipt}
 use Rattle.packed_values.specs.Packed.{values_in, parts_in, packed_length, IsBounds, all_rise}
 use Rattle.c_handles.specs.Codes.{id_of, added_as, created_as, removed_as, destroyed_as}
@@ -83,16 +82,14 @@ abbrev pub HasMoved : (Place → Place → Type 0) → Option Object → Option 
 HasMoved step (Some (Reader s)) (Some (Reader t)) = step s.place t.place × (t.kinds ≡ s.kinds)
 HasMoved step old new = ⊥
 
--- A lookup: the reader has seen what it had seen. In the last generation that it has seen, the answer is that of the
--- definition, for the values that the bytes stand for.
-pub record HasLookedUp (old : List Generation) (new : List Generation) (kinds : List Kind) (set : ℕ) (key : List ℕ) (now : ℕ) (answer : Option Found) : Type 0 where
-  pub seen : StartsWith new old
-  pub answers : (g : Generation) → EndsWith new g → IsLookup g set (values_in kinds key) now answer
+-- In a generation the id of a key is that of the definition, for the values that the bytes stand for.
+abbrev pub IsIdIn : Generation → List Kind → ℕ → List ℕ → ℕ → ℕ → Type 0
+IsIdIn g kinds set key now id = (s : State) → slice_get g.sets set ≡ Some s → id ≡ id_of (found s (values_in kinds key) now)
 
--- The same as C sees it.
+-- A lookup: the reader has seen what it had seen, and the id is of the last generation that it has seen.
 pub record HasFound (old : List Generation) (new : List Generation) (kinds : List Kind) (set : ℕ) (key : List ℕ) (now : ℕ) (id : ℕ) : Type 0 where
   pub seen : StartsWith new old
-  pub is : (g : Generation) → EndsWith new g → (s : State) → slice_get g.sets set ≡ Some s → id ≡ id_of (found s (values_in kinds key) now)
+  pub is : (g : Generation) → EndsWith new g → IsIdIn g kinds set key now id
 
 -- the ids of so many keys, each of so many bytes, one after the other
 abbrev pub ids_in : State → List Kind → ℕ → ℕ → ℕ → List ℕ → List ℕ

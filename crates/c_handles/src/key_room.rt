@@ -2,12 +2,13 @@
 ghost use Rattle.std.specs.Prelude.{◌≡◌, ◌↔◌, ◌*◌, length, slice_get, Some, IsTrue, IfOk};
 ghost use Rattle.history_laws.specs.Histories.{EndsWith};
 ghost use Rattle.set_model.specs.Control.{Generation};
-ghost use Rattle.gen_publish.specs.Publish.{IsLookup, declared_kinds};
-ghost use Rattle.packed_values.specs.Packed.{values_in, packed_length};
+ghost use Rattle.gen_publish.specs.Publish.{declared_kinds};
+ghost use Rattle.packed_values.specs.Packed.{packed_length};
 
+use crate::object::id_or_none;
 use gen_publish::Held;
 use packed_values::{key_length, read_key};
-use set_model::{Duplicate, Found, Key, Kinds, Memory, Schema};
+use set_model::{Duplicate, Key, Kinds, Memory, Schema};
 use std::alloc::Global;
 use std::marker::Model;
 
@@ -44,6 +45,8 @@ fn blank_key(alloc: Global, fields: u64) -> Result<Key, Memory>
 }
 
 impl KeyRoom {
+    ghost use Rattle.c_handles.specs.Calls.{IsIdIn};
+
     fn of(alloc: Global, kinds: &Kinds) -> Result<KeyRoom, Memory>
         ensures { IfOk result (λ room. room ≡ kinds.now) }
     {
@@ -81,21 +84,16 @@ impl KeyRoom {
         }
     }
 
-    /// Looks a key up in the held generation.
-    pub(crate) fn find(
-        &mut self,
-        held: &mut Held,
-        set: u32,
-        bytes: &[u8],
-        now: u64,
-    ) -> Option<Found>
+    /// Looks a key up in the held generation, and gives the element's id, or the largest number. (A number comes back in a
+    /// register, and what was found through memory.)
+    pub(crate) fn find(&mut self, held: &mut Held, set: u32, bytes: &[u8], now: u64) -> u64
         requires bytes { length bytes.now ≡ packed_length self.old }
         requires declared { slice_get (declared_kinds held.old.schema) set ≡ Some self.old }
         ensures same { (self.new ≡ self.old) × (held.new ≡ held.old) }
-        ensures answer { (g : Generation) → EndsWith held.old.seen g → IsLookup g set (values_in self.old bytes.now) now result }
+        ensures id { (g : Generation) → EndsWith held.old.seen g → IsIdIn g self.old set bytes.now now result }
     {
         read_key(self.key.as_mut_slice(), self.kinds.as_slice(), bytes);
-        held.lookup(set, &self.key, now)
+        id_or_none(held.lookup(set, &self.key, now))
     }
 }
 

@@ -1,7 +1,7 @@
 //! What a handle holds.
 ghost use Rattle.std.specs.Prelude.{◌≡◌, ◌<◌, ◌*◌, length, Some, IfOk, IfErr, OnOk, OnErr};
 ghost use Rattle.c_handles.specs.Seats.{Stays, WentIn, WentOut};
-ghost use Rattle.c_handles.specs.Calls.{HasEntered, HasFoundAll, HasLookedUp, HasGeneration, HasMoved, TakesKey, TakesKeys, seen_of, kinds_in, kinds_of};
+ghost use Rattle.c_handles.specs.Calls.{HasEntered, HasFound, HasFoundAll, HasGeneration, HasMoved, TakesKey, TakesKeys, seen_of, kinds_in, kinds_of};
 ghost use Rattle.c_handles.specs.Causes.{RefusesEntry, RefusesHolder, RefusesLookup, RefusesLookups};
 ghost use Rattle.c_handles.specs.Codes.{id_of};
 
@@ -66,8 +66,8 @@ impl Object {
     }
 
     /// Looks a key up.
-    pub(crate) fn lookup(&mut self, set: u32, key: &[u8], now: u64) -> Result<Option<Found>, Fault>
-        ensures ok { IfOk result (HasLookedUp (seen_of self.old) (seen_of self.new) (kinds_in (kinds_of self.old) set) set key.now now) }
+    pub(crate) fn lookup(&mut self, set: u32, key: &[u8], now: u64) -> Result<u64, Fault>
+        ensures ok { IfOk result (HasFound (seen_of self.old) (seen_of self.new) (kinds_in (kinds_of self.old) set) set key.now now) }
         ensures taken { OnOk result (TakesKey (kinds_of self.old) set (length key.now)) }
         ensures moved { OnOk result (HasMoved Stays (Some self.old) (Some self.new)) }
         ensures refused { IfErr result (RefusesLookup set (length key.now) self.old) }

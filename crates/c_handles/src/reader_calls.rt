@@ -6,7 +6,6 @@ ghost use Rattle.c_handles.specs.Causes.{IsRefusal, RefusesEntry, RefusesHolder,
 
 use crate::fault::{DONE, Fault};
 use crate::handle::Handle;
-use crate::object::id_or_none;
 use std::alloc::Global;
 
 /// Holds the published generation until `leave`. `generation` gets its number.
@@ -90,7 +89,7 @@ pub fn lookup(
     reader.put(boxed);
     match outcome {
         Ok(found) => {
-            *id = id_or_none(found);
+            *id = found;
             DONE
         }
         Err(fault) => fault.code(),

@@ -5,15 +5,13 @@ ghost use Rattle.set_model.specs.Control.{Generation};
 ghost use Rattle.gen_publish.specs.Publish.{declared_kinds};
 ghost use Rattle.packed_values.specs.Packed.{packed_length};
 ghost use Rattle.c_handles.specs.Seats.{IsDeclaredAt, IsSeated, Stays, WentIn, WentOut};
-ghost use Rattle.c_handles.specs.Calls.{AreFound, HasEntered, HasFoundAll, HasLookedUp, HasGeneration, TakesKey, TakesKeys, seen_at, kinds_in};
+ghost use Rattle.c_handles.specs.Calls.{AreFound, HasEntered, HasFound, HasFoundAll, HasGeneration, TakesKey, TakesKeys, seen_at, kinds_in};
 ghost use Rattle.c_handles.specs.Causes.{IsNotIn, IsNotOut, RefusesKeys};
 
 use crate::fault::Fault;
 use crate::key_room::KeyRoom;
-use crate::object::id_or_none;
 use crate::place::Place;
 use gen_publish::{Held, Reader};
-use set_model::Found;
 use std::marker::Model;
 use std::mem::replace;
 
@@ -53,24 +51,25 @@ fn find_all(
     'keys: for i in 0..ids.len() {
         let (first, others) = rest.split_at(size);
         rest = others;
-        ids[i] = id_or_none(room.find(held, set, first, now));
+        ids[i] = room.find(held, set, first, now);
     }
     held.generation()
 }
 
 /// Looks a key up in the published generation. The reader, which holds none, holds it meanwhile.
+#[inline(never)]
 fn look_up_published(
     place: &mut Place,
     room: &mut KeyRoom,
     set: u32,
     key: &[u8],
     now: u64,
-) -> Result<Option<Found>, Fault>
+) -> Result<u64, Fault>
     requires bytes { length key.now ≡ packed_length room.old }
     requires declared { IsDeclaredAt place.old set room.old }
     requires out { IsNotIn place.old }
     ensures room { room.new ≡ room.old }
-    ensures ok { IfOk result (HasLookedUp (seen_at place.old) (seen_at place.new) room.old set key.now now) }
+    ensures ok { IfOk result (HasFound (seen_at place.old) (seen_at place.new) room.old set key.now now) }
     ensures stays { Stays place.old place.new }
     ensures refused { IfErr result (λ fault. (fault ≡ Fault.Turn) × (place.old ≡ Place.Nowhere)) }
     ensures err { OnErr result (place.new ≡ place.old) }
@@ -79,9 +78,9 @@ fn look_up_published(
         return Err(Fault::Turn);
     };
     let mut held = reader.enter();
-    let found = room.find(&mut held, set, key, now);
+    let id = room.find(&mut held, set, key, now);
     *place = Place::Out(held.leave());
-    Ok(found)
+    Ok(id)
 }
 
 /// Looks a key up in the held generation, or in the published one.
@@ -91,11 +90,11 @@ fn look_up(
     set: u32,
     key: &[u8],
     now: u64,
-) -> Result<Option<Found>, Fault>
+) -> Result<u64, Fault>
     requires bytes { length key.now ≡ packed_length room.old }
     requires declared { IsDeclaredAt place.old set room.old }
     ensures room { room.new ≡ room.old }
-    ensures ok { IfOk result (HasLookedUp (seen_at place.old) (seen_at place.new) room.old set key.now now) }
+    ensures ok { IfOk result (HasFound (seen_at place.old) (seen_at place.new) room.old set key.now now) }
     ensures stays { Stays place.old place.new }
     ensures refused { IfErr result (λ fault. (fault ≡ Fault.Turn) × (place.old ≡ Place.Nowhere)) }
     ensures err { OnErr result (place.new ≡ place.old) }
@@ -108,6 +107,7 @@ fn look_up(
 }
 
 /// Looks keys up, all in the published generation. The reader, which holds none, holds it meanwhile.
+#[inline(never)]
 fn look_all_up_published(
     place: &mut Place,
     room: &mut KeyRoom,
@@ -226,8 +226,8 @@ impl Seat {
     }
 
     /// Looks a key up in the held generation, or in the published one.
-    pub(crate) fn lookup(&mut self, set: u32, key: &[u8], now: u64) -> Result<Option<Found>, Fault>
-        ensures ok { IfOk result (HasLookedUp (seen_at self.old.place) (seen_at self.new.place) (kinds_in self.old.kinds set) set key.now now) }
+    pub(crate) fn lookup(&mut self, set: u32, key: &[u8], now: u64) -> Result<u64, Fault>
+        ensures ok { IfOk result (HasFound (seen_at self.old.place) (seen_at self.new.place) (kinds_in self.old.kinds set) set key.now now) }
         ensures taken { OnOk result (TakesKey self.old.kinds set (length key.now)) }
         ensures stays { Stays self.old.place self.new.place }
         ensures kinds { self.new.kinds ≡ self.old.kinds }

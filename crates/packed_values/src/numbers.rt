@@ -1,5 +1,5 @@
 // Numbers of a fixed width in network byte order.
-ghost use Rattle.std.specs.Prelude.{◌≡◌, length};
+ghost use Rattle.std.specs.Prelude.{◌≡◌, ◌≤◌, length, take, drop};
 ghost use Rattle.addr_text.specs.Numbers.{big_endian};
 ghost use Rattle.packed_values.specs.Packed.{width_of};
 
@@ -43,18 +43,37 @@ fn sixteen(bytes: &[u8]) -> u128
     u128::from(eight(high)) * (1 << 64) + u128::from(eight(low))
 }
 
-/// The value of this kind that its bytes write.
+/// The value of this kind that the first bytes write, and the other bytes.
 #[inline(always)]
-pub(crate) fn value(kind: Kind, bytes: &[u8]) -> u128
-    requires { length bytes.now ≡ width_of kind }
-    ensures { result ≡ big_endian 256 bytes.now }
+pub(crate) fn first_value(kind: Kind, bytes: &[u8]) -> (u128, &[u8])
+    requires { width_of kind ≤ length bytes.now }
+    ensures value { result.0 ≡ big_endian 256 (take (width_of kind) bytes.now) }
+    ensures others { result.1.now ≡ drop (width_of kind) bytes.now }
 {
     match kind {
-        Kind::Ipv4 => u128::from(four(bytes)),
-        Kind::Ipv6 => sixteen(bytes),
-        Kind::Ether => u128::from(six(bytes)),
-        Kind::Proto => u128::from(bytes[0]),
-        Kind::Service => u128::from(two(bytes)),
-        Kind::Mark => u128::from(four(bytes)),
+        Kind::Ipv4 => {
+            let (front, others) = bytes.split_at(4);
+            (u128::from(four(front)), others)
+        }
+        Kind::Ipv6 => {
+            let (front, others) = bytes.split_at(16);
+            (sixteen(front), others)
+        }
+        Kind::Ether => {
+            let (front, others) = bytes.split_at(6);
+            (u128::from(six(front)), others)
+        }
+        Kind::Proto => {
+            let (front, others) = bytes.split_at(1);
+            (u128::from(front[0]), others)
+        }
+        Kind::Service => {
+            let (front, others) = bytes.split_at(2);
+            (u128::from(two(front)), others)
+        }
+        Kind::Mark => {
+            let (front, others) = bytes.split_at(4);
+            (u128::from(four(front)), others)
+        }
     }
 }

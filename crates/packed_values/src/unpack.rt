@@ -3,7 +3,7 @@ ghost use Rattle.set_model.specs.Key.{key_fits, parts_fit};
 ghost use Rattle.packed_values.specs.Packed.{values_in, intervals_in, parts_in, packed_length, IsBounds, all_rise, Refuses};
 
 use crate::kind_width::width;
-use crate::numbers::value;
+use crate::numbers::first_value;
 use set_model::{Interval, Kind, Memory, Parts};
 use std::alloc::Global;
 
@@ -43,9 +43,9 @@ pub fn read_key(key: &mut [u128], kinds: &[Kind], bytes: &[u8])
 {
     let mut rest = bytes;
     'fields: for i in 0..kinds.len() {
-        let (front, others) = rest.split_at(width(kinds[i]));
+        let (value, others) = first_value(kinds[i], rest);
         rest = others;
-        key[i] = value(kinds[i], front);
+        key[i] = value;
     }
 }
 
@@ -65,15 +65,11 @@ fn read_intervals(
     let mut rest_of_lows = lows;
     let mut rest_of_highs = highs;
     'fields: for i in 0..kinds.len() {
-        let size = width(kinds[i]);
-        let (low, other_lows) = rest_of_lows.split_at(size);
-        let (high, other_highs) = rest_of_highs.split_at(size);
+        let (low, other_lows) = first_value(kinds[i], rest_of_lows);
+        let (high, other_highs) = first_value(kinds[i], rest_of_highs);
         rest_of_lows = other_lows;
         rest_of_highs = other_highs;
-        intervals.push(Interval {
-            low: value(kinds[i], low),
-            high: value(kinds[i], high),
-        })?;
+        intervals.push(Interval { low, high })?;
     }
     Ok(intervals)
 }

@@ -8,7 +8,7 @@ use Rattle.gen_publish.specs.Publish.{ReaderView}
 use Rattle.packed_values.specs.Packed.{values_in, packed_length}
 use Rattle.c_handles.specs.Codes.{id_of}
 use Rattle.c_handles.specs.Calls.{ids_in}
-use Rattle.c_handles.proofs.Batch.{one_more, found_at, no_more, enough, one_less, all_left, none_yet}
+use Rattle.c_handles.proofs.Batch.{one_more, no_more, enough, one_less, all_left, none_yet}
 use Rattle.c_handles.proofs.seat.find_all.Goals as goal
 
 pub split_at-requires : goal.split_at-requires
@@ -33,7 +33,7 @@ keys-init c =
 
 pub keys-preserved : goal.keys-preserved
 keys-preserved c =
-    let kinds = c.args.room.now in let size = c.size-size.result in let now = c.args.now in let i = c.keys.i in let x = c.id_or_none.result in let count = length-set c.keys.ids i x in
+    let kinds = c.args.room.now in let size = c.size-size.result in let now = c.args.now in let i = c.keys.i in let x = c.find.result in let count = length-set c.keys.ids i x in
     record {
       room = c.find.ensures.same.0 ∙ c.keys.invariant.room;
       held = c.find.ensures.same.1 ∙ c.keys.invariant.held;
@@ -42,9 +42,8 @@ keys-preserved c =
       left = ap length c.split_at.ensures.back ∙ (length-drop size c.keys.rest.now ∙ (one_less (length c.keys.ids) i size (length c.keys.rest.now) (search rules) c.keys.invariant.left ∙ ap (λ (n : ℕ). (n - (i + 1)) * size) (sym count)));
       ids = λ g e s at.
           let here : EndsWith c.keys.held.seen g = subst (λ (h : ReaderView). EndsWith h.seen g) (sym c.keys.invariant.held) e in
-          let l = c.find.ensures.answer g here in
           let is : x ≡ id_of (found s (values_in kinds (take size c.keys.rest.now)) now) =
-          c.id_or_none.ensures ∙ (ap id_of (found_at g s c.args.set _ now _ l at) ∙ (ap (λ (ks : List Kind). id_of (found s (values_in ks c.split_at.result.0.now) now)) c.keys.invariant.room ∙ ap (λ (vs : List ℕ). id_of (found s (values_in kinds vs) now)) c.split_at.ensures.front)) in
+          c.find.ensures.id g here s at ∙ (ap (λ (ks : List Kind). id_of (found s (values_in ks c.split_at.result.0.now) now)) c.keys.invariant.room ∙ ap (λ (vs : List ℕ). id_of (found s (values_in kinds vs) now)) c.split_at.ensures.front) in
           let next = one_more s kinds size now c.keys.ids i c.keys.rest.now x (ids_in s kinds size now (length c.keys.ids) c.args.bytes.now) (search rules) is (c.keys.invariant.ids g e s at) in
           subst (λ (rest : List ℕ). take (i + 1) (slice_set c.keys.ids i x) ++ ids_in s kinds size now (length (slice_set c.keys.ids i x) - (i + 1)) rest ≡ ids_in s kinds size now (length (slice_set c.keys.ids i x)) c.args.bytes.now)
           (sym c.split_at.ensures.back) (next ∙ ap (λ (n : ℕ). ids_in s kinds size now n c.args.bytes.now) (sym count));
