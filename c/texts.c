@@ -1,4 +1,6 @@
 /* The calls that give C strings, which no export of the proved archive can return. */
+#include <stdlib.h>
+
 #include "pipapo.h"
 
 const char *pipapo_strerror(uint32_t error) {
@@ -16,6 +18,7 @@ const char *pipapo_strerror(uint32_t error) {
     case PIPAPO_NUMBERS: return "there are no numbers for further generations";
     case PIPAPO_SCRIPT: return "the text isn't a script";
     case PIPAPO_CHANGE: return "a change of the script is refused";
+    case PIPAPO_ROOM: return "the text is longer than the buffer";
     case PIPAPO_OVERLAP: return "a live element is in the way";
     case PIPAPO_EXISTS: return "a live element has the same intervals";
     case PIPAPO_FULL: return "the set is full";
@@ -39,6 +42,28 @@ const char *pipapo_strreason(uint32_t reason) {
     case PIPAPO_REASON_STATEMENT: return "another word or mark is wanted here";
     default: return "unknown reason";
     }
+}
+
+uint32_t pipapo_list(pipapo_control *control, uint64_t now, char **text, size_t *length) {
+    char none = 0;
+    uint64_t wanted = 0;
+    uint32_t error = pipapo_list_into(control, now, &none, 0, &wanted);
+    if (error != PIPAPO_OK && error != PIPAPO_ROOM) return error;
+    char *made = wanted < SIZE_MAX ? malloc((size_t)wanted + 1) : NULL;
+    if (!made) return PIPAPO_MEMORY;
+    error = pipapo_list_into(control, now, made, (size_t)wanted, &wanted);
+    if (error != PIPAPO_OK) {
+        free(made);
+        return error;
+    }
+    made[wanted] = 0;
+    *text = made;
+    *length = (size_t)wanted;
+    return PIPAPO_OK;
+}
+
+void pipapo_free_text(char *text) {
+    free(text);
 }
 
 uint32_t pipapo_version(void) {

@@ -37,7 +37,7 @@
  * one call at a time. A handle may go to another thread through a lock, the start or end of a thread, or a sequentially
  * consistent atomic. Different handles need no order.
  *
- * MEMORY. Only the two starts, the changes and pipapo_commit allocate, by malloc and realloc. The control and each reader take
+ * MEMORY. Only the two starts, the changes, pipapo_commit and the listings allocate, by malloc and realloc. The control and each reader take
  * 768 KiB for the rows of a lookup, and the control takes the sets. A generation's memory is freed by the control.
  *
  * THE CALLER MUST SEE TO THIS, since no call can test it. Otherwise the behaviour is undefined:
@@ -165,6 +165,7 @@ enum pipapo_error {
     PIPAPO_NUMBERS = 10,    /* there are no numbers for further generations */
     PIPAPO_SCRIPT = 11,     /* pipapo_start_script: the text isn't a script */
     PIPAPO_CHANGE = 12,     /* pipapo_start_script: a change of the script is refused */
+    PIPAPO_ROOM = 13,       /* pipapo_list_into: the text is longer than the buffer */
     PIPAPO_OVERLAP = 16,    /* a live element is in the way */
     PIPAPO_EXISTS = 17,     /* pipapo_create: a live element has the same intervals */
     PIPAPO_FULL = 18,       /* the set has as many elements as it may have */
@@ -249,6 +250,22 @@ uint32_t pipapo_abort(pipapo_control *control);
 /* The number of the last generation. Errors: NOTHING, HANDLE. */
 PIPAPO_NONNULL PIPAPO_CHECK_RESULT
 uint32_t pipapo_number(pipapo_control *control, uint64_t *generation);
+
+/* Writes the last generation as a script of nft(8), as the program's `list` does: its tables, its sets and their elements. An
+ * element that expires has the time from `now` to its expiry. `text` gets the text's first byte, `length` how many bytes it has;
+ * a zero byte follows them. pipapo_free_text frees it. pipapo_start_script reads it if each table and each set has a name.
+ * Errors: NOTHING, HANDLE, MEMORY; `text` and `length` are then as they were.
+ * Cost: the text is made twice, and each set is copied for it. */
+PIPAPO_NONNULL PIPAPO_CHECK_RESULT
+uint32_t pipapo_list(pipapo_control *control, uint64_t now, char **text, size_t *length);
+
+/* Frees a text of pipapo_list. A null pointer is passed over. */
+void pipapo_free_text(char *text);
+
+/* As pipapo_list, into the `size` bytes at `text`, and with no zero byte. `written` gets the text's length, also after ROOM.
+ * Errors: NOTHING, HANDLE, MEMORY, ROOM; `text` is then as it was. */
+PIPAPO_NONNULL PIPAPO_CHECK_RESULT
+uint32_t pipapo_list_into(pipapo_control *control, uint64_t now, char *text, size_t size, uint64_t *written);
 
 /* Makes the reader hold the last published generation until pipapo_leave; `generation` gets its number, which is never below
  * one that this reader got before. Errors: NOTHING, HANDLE, TURN. Cost: one atomic addition. Allocates nothing. */

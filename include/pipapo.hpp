@@ -5,6 +5,8 @@
 
 #include <cstddef>
 #include <cstdint>
+#include <memory>
+#include <string>
 #include <string_view>
 #include <utility>
 
@@ -132,6 +134,16 @@ public:
     [[nodiscard]] std::uint32_t abort() noexcept { return pipapo_abort(get()); }
 
     [[nodiscard]] std::uint32_t number(std::uint64_t &generation) noexcept { return pipapo_number(get(), &generation); }
+
+    /// The last generation as a script. It throws std::bad_alloc if the string has no memory.
+    [[nodiscard]] std::uint32_t list(std::string &text, std::uint64_t now = 0) {
+        char *made = nullptr;
+        std::size_t length = 0;
+        std::uint32_t error = pipapo_list(get(), now, &made, &length);
+        const std::unique_ptr<char, decltype(&pipapo_free_text)> owner(made, &pipapo_free_text);
+        if (error == PIPAPO_OK) text.assign(made, length);
+        return error;
+    }
 
 private:
     /// Puts the readers of a start into their handles, and passes its answer on.

@@ -111,6 +111,15 @@ static inline uint32_t pipapo_checked_number(pipapo_control *control, uint64_t *
     PIPAPO_GUARDED(control, pipapo_number, (control, generation));
 }
 
+static inline uint32_t pipapo_checked_list(pipapo_control *control, uint64_t now, char **text, size_t *length) {
+    PIPAPO_GUARDED(control, pipapo_list, (control, now, text, length));
+}
+
+static inline uint32_t pipapo_checked_list_into(pipapo_control *control, uint64_t now, char *text, size_t size,
+                                                uint64_t *written) {
+    PIPAPO_GUARDED(control, pipapo_list_into, (control, now, text, size, written));
+}
+
 static inline uint32_t pipapo_checked_enter(pipapo_reader *reader, uint64_t *generation) {
     PIPAPO_GUARDED(reader, pipapo_enter, (reader, generation));
 }
@@ -144,6 +153,8 @@ static inline uint32_t pipapo_checked_lookup_many(pipapo_reader *reader, uint32_
 #define pipapo_commit pipapo_checked_commit
 #define pipapo_abort pipapo_checked_abort
 #define pipapo_number pipapo_checked_number
+#define pipapo_list pipapo_checked_list
+#define pipapo_list_into pipapo_checked_list_into
 #define pipapo_enter pipapo_checked_enter
 #define pipapo_leave pipapo_checked_leave
 #define pipapo_generation pipapo_checked_generation

@@ -100,6 +100,7 @@ class Error(enum.IntEnum):
     NUMBERS = 10
     SCRIPT = 11
     CHANGE = 12
+    ROOM = 13
     OVERLAP = 16
     EXISTS = 17
     FULL = 18
@@ -219,6 +220,7 @@ def _load() -> ctypes.CDLL:
         "commit": [handle, number, out, out],
         "abort": [handle],
         "number": [handle, out],
+        "list": [handle, number, ctypes.POINTER(ctypes.c_void_p), ctypes.POINTER(size)],
         "enter": [handle, out],
         "leave": [handle],
         "generation": [handle, out],
@@ -229,6 +231,7 @@ def _load() -> ctypes.CDLL:
         call = getattr(library, f"pipapo_{name}")
         call.argtypes, call.restype = parameters, ctypes.c_uint32
     library.pipapo_free.argtypes, library.pipapo_free.restype = [handle], None
+    library.pipapo_free_text.argtypes, library.pipapo_free_text.restype = [ctypes.c_void_p], None
     library.pipapo_strerror.argtypes, library.pipapo_strerror.restype = [ctypes.c_uint32], ctypes.c_char_p
     library.pipapo_strreason.argtypes, library.pipapo_strreason.restype = [ctypes.c_uint32], ctypes.c_char_p
     library.pipapo_version.argtypes, library.pipapo_version.restype = [], ctypes.c_uint32
@@ -447,6 +450,15 @@ class Control:
         number = ctypes.c_uint64()
         _must(_library.pipapo_number(self._handle, number))
         return number.value
+
+    def list(self, now: int = 0) -> bytes:
+        """The last generation as a script of nft(8). An element that expires has the time from `now` to its expiry."""
+        text, length = ctypes.c_void_p(), ctypes.c_size_t()
+        _must(_library.pipapo_list(self._handle, now, text, length))
+        try:
+            return ctypes.string_at(text.value or 0, length.value)
+        finally:
+            _library.pipapo_free_text(text)
 
     def transaction(self, now: int = 0) -> Transaction:
         """Changes that are committed together at the end of a `with`."""

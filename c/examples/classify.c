@@ -2,7 +2,7 @@
  *
  *     classify RULES CAPTURE [MILLISECONDS]    (500)
  *
- * RULES has a line `ADDRESS/PREFIX LOW-HIGH` for each element: IPv4 addresses, and ports. CAPTURE is a file of libpcap with
+ * RULES is a script of nft(8) whose first set has the type `ipv4_addr . inet_service`. CAPTURE is a file of libpcap with
  * Ethernet frames. The key of a packet is the destination's address and port, of TCP and UDP over IPv4; other packets have
  * none. Meanwhile the control inserts and deletes 203.0.113.0/24 at all ports, and commits each change.
  *
@@ -116,47 +116,19 @@ static double seconds(void) {
     return (double)now.tv_sec + (double)now.tv_nsec * 1e-9;
 }
 
-/* The bounds of a line `ADDRESS/PREFIX LOW-HIGH`. Whether it is one. */
-static int read_rule(const char *line, flow bounds[2]) {
-    unsigned a, b, c, d, prefix, low, high;
-    char end;
-    if (sscanf(line, "%u.%u.%u.%u/%u %u-%u %c", &a, &b, &c, &d, &prefix, &low, &high, &end) != 7) return 0;
-    if ((a | b | c | d) > 255 || prefix > 32 || (low | high) > 65535) return 0;
-    uint32_t hosts = prefix == 0 ? UINT32_MAX : (UINT32_C(1) << (32 - prefix)) - 1;
-    uint32_t address = (uint32_t)(a << 24 | b << 16 | c << 8 | d) & ~hosts;
-    for (int i = 0; i < 2; ++i, address |= hosts) {
-        for (int byte = 0; byte < 4; ++byte) bounds[i].address[byte] = (uint8_t)(address >> (24 - 8 * byte));
-        unsigned port = i ? high : low;
-        bounds[i].port[0] = (uint8_t)(port >> 8);
-        bounds[i].port[1] = (uint8_t)port;
-    }
-    return 1;
-}
-
-/* Makes a set of the rules, and commits it. */
-static void load(const char *name, pipapo_control *control, pipapo_reader *readers) {
-    const pipapo_set set = {.kinds = {PIPAPO_IPV4, PIPAPO_SERVICE}, .fields = 2};
-    pipapo_answer answer;
-    uint64_t generation, purged;
-    char line[256];
-    FILE *file = fopen(name, "r");
-    if (!file) fail(name, "can't be read");
-    must(pipapo_start(&set, 1, control, readers, THREADS), "pipapo_start");
-    for (int number = 1; fgets(line, sizeof line, file); ++number) {
-        flow bounds[2];
-        if (line[0] == '#' || line[0] == '\n') continue;
-        if (!read_rule(line, bounds)) {
-            fprintf(stderr, "%s:%d: expected ADDRESS/PREFIX LOW-HIGH\n", name, number);
-            exit(1);
-        }
-        uint32_t error = pipapo_insert(control, SET, bounds, sizeof bounds, PIPAPO_NEVER, "", 0, 0, &answer);
-        if (error != PIPAPO_OK) {
-            fprintf(stderr, "%s:%d: %s (element %llu)\n", name, number, pipapo_strerror(error), (unsigned long long)answer.id);
-            exit(1);
-        }
-    }
-    fclose(file);
-    must(pipapo_commit(control, 0, &generation, &purged), "pipapo_commit");
+/* Starts by the rules, or says where they are wrong. */
+static void start(const char *name, pipapo_control *control, pipapo_reader *readers) {
+    size_t length;
+    pipapo_script_fault fault;
+    char *rules = (char *)read_file(name, &length);
+    uint32_t error = pipapo_start_script(rules, length, control, readers, THREADS, &fault);
+    free(rules);
+    if (error == PIPAPO_OK) return;
+    unsigned long long line = fault.line, column = fault.column;
+    if (error == PIPAPO_SCRIPT) fprintf(stderr, "%s:%llu:%llu: %s\n", name, line, column, pipapo_strreason(fault.reason));
+    else if (error == PIPAPO_CHANGE) fprintf(stderr, "%s:%llu: %s\n", name, line, pipapo_strerror(fault.cause));
+    else fail(name, pipapo_strerror(error));
+    exit(1);
 }
 
 int main(int argc, char **argv) {
@@ -166,7 +138,7 @@ int main(int argc, char **argv) {
     pipapo_reader readers[THREADS] = {PIPAPO_EMPTY};
     static worker workers[THREADS];
     read_capture(argv[2]);
-    load(argv[1], &control, readers);
+    start(argv[1], &control, readers);
 
     for (int i = 0; i < THREADS; ++i) {
         workers[i].reader = readers[i]; /* the copy is the handle from now on */

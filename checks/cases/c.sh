@@ -53,12 +53,15 @@ others=$(nm -D --defined-only "$made/libpipapo.so.0" | awk '$2 != "A" && $3 !~ /
 
 # The example, on a capture of which three of six packets have a key. The rules let all three through.
 gcc $strict -std=c11 -O2 -pthread -o "$room/classify" c/examples/classify.c "$made/libpipapo.a" &&
-    "$room/classify" c/examples/allow.rules examples/capture/six.pcap 100 >"$room/counts" || complain "the example fails"
+    "$room/classify" c/examples/allow.nft examples/capture/six.pcap 100 >"$room/counts" || complain "the example fails"
 awk '$1 == "thread" && $3 > 0 && $3 == $5 { ++threads } END { exit threads != 4 }' "$room/counts" ||
     complain "the example writes $(cat "$room/counts")"
-if "$room/classify" examples/capture/allow.nft examples/capture/six.pcap 2>"$room/refused"; then
-    complain "the example takes rules that aren't in its form"
+printf 'add set\n' >"$room/bad.nft"
+if "$room/classify" "$room/bad.nft" examples/capture/six.pcap 2>"$room/refused"; then
+    complain "the example takes a text that isn't a script"
 fi
+[ "$(cat "$room/refused")" = "$room/bad.nft:1:8: another word or mark is wanted here" ] ||
+    complain "the example says $(cat "$room/refused")"
 
 python3 "$tests/layout.py" "$top" >"$room/layout.c" && gcc $strict -std=c11 -c -o "$room/layout.o" "$room/layout.c" ||
     complain "the header doesn't declare what is exported"

@@ -198,6 +198,22 @@ SEVERAL = [
     (SETS + "add element ip t p { 70000\nadd element ip t p { 70000 }\n", [(2, 22, "'70000' " + TOO_GREAT, PORT, False)]),
 ]
 
+ONE_VALUE = "write one value, and no range or prefix"
+
+# lines of a key file for SETS, the column of the bad token, what is wrong, and what to do
+KEY_MISTAKES = [
+    ("ip t p 70000", 8, "'70000' " + TOO_GREAT, PORT),
+    ("ip t p 80-90", 8, "'80-90' is more than one value, and a packet has one in each field", ONE_VALUE),
+    ("ip t a 10.0.0.0/8 . 80", 8, "'10.0.0.0/8' is more than one value, and a packet has one in each field", ONE_VALUE),
+    ("ip t a 10.0.0.1 . http", 19, "'http' doesn't fit field 2 (inet_service): a port is a number and not a name", "use 80"),
+    ("ip t a 80 . 10.0.0.1", 8, "'80' doesn't fit field 1 (ipv4_addr): it fits field 2 (inet_service)", PAIR),
+    ("ip t a 10.0.0.1", 16, "the end of the line ends the key after 1 field", PAIR),
+    ("ip t a 10.0.0.1 . 80 . 90", 22, "'.' begins one more field, and the set has 2 fields", PAIR),
+    ("ip t v 10.0.0.1", 8, "'10.0.0.1' doesn't fit field 1 (ipv6_addr): it is an IPv4 address", IPV6),
+    ("t l TCP . 1", 5, "'TCP' doesn't fit field 1 (inet_proto): it isn't a protocol", PROTO),
+    ("ip t e 02:00:5e:10:00", 8, "'02:00:5e:10:00' doesn't fit field 1 (ether_addr): it isn't an Ethernet address", ETHER),
+]
+
 RUN = "usage: pipapo run SCRIPT KEYS [--threads N] [--keep-going]"
 LIST = "usage: pipapo list SCRIPT [--keep-going]"
 JUDGE = "usage: pipapo judge SCRIPT RULES KEYS [--threads N] [--keep-going]"
@@ -257,6 +273,12 @@ def several_notes(name, script, mistakes):
     """The whole text on a script with several mistakes."""
     cause = {False: "", True: "an earlier error may have caused this one\n"}
     return "".join(note(name, (script, *mistake[:4], None)) + cause[mistake[4]] for mistake in mistakes)
+
+
+def key_note(name, mistake):
+    """The whole note on a line of a key file, which is its first one."""
+    line, column, wrong, help_line = mistake
+    return note(name, (line + "\n", 1, column, wrong, help_line, None))
 
 
 def word_note(mistake):

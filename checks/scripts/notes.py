@@ -10,7 +10,7 @@ import subprocess
 import sys
 import tempfile
 
-from mistakes import MISTAKES, SEVERAL, WORD_MISTAKES, note, several_notes, word_note
+from mistakes import KEY_MISTAKES, MISTAKES, SETS, SEVERAL, WORD_MISTAKES, key_note, note, several_notes, word_note
 
 LARGE = 67_108_865
 
@@ -66,6 +66,7 @@ FILES = {
 # each mistake in a script of its own
 FILES |= {f"mistake{number}.nft": mistake[0] for number, mistake in enumerate(MISTAKES)}
 FILES |= {f"several{number}.nft": script for number, (script, _) in enumerate(SEVERAL)}
+FILES |= {"sets.nft": SETS, **{f"mistake{number}.keys": mistake[0] + "\n" for number, mistake in enumerate(KEY_MISTAKES)}}
 
 USAGE = re.compile("pipapo: usage: ")
 
@@ -101,6 +102,9 @@ def cases(shown):
     for number, (script, mistakes) in enumerate(SEVERAL):
         name = f"several{number}.nft"
         yield ["list", name], several_notes(name, script, mistakes), re.compile(rf"pipapo: script line {mistakes[0][0]}: .*\n"), 3
+    for number, mistake in enumerate(KEY_MISTAKES):
+        name = f"mistake{number}.keys"
+        yield ["run", "sets.nft", name], key_note(name, mistake), re.compile(r"pipapo: keys line 1: .*\n"), 4
     # other files in a text's place
     for name, said in [
         ("gzip.nft", "this is a file that gzip has packed: unpack it first"),

@@ -156,6 +156,69 @@ static void scripts(void) {
     pipapo_free(&readers[1]);
 }
 
+/* Listings in nft's form, of what is committed, and what refuses one. */
+static void listings(void) {
+    static const char rules[] =
+        "add set inet filter hosts { type ipv4_addr ; size 9 ; }\n"
+        "add set inet filter services { type ipv4_addr . inet_service ; flags interval,timeout ; }\n"
+        "add set ip nat marks { type mark ; }\n"
+        "add element inet filter services { 192.0.2.0/24 . 80-443 comment \"web\", 192.0.3.7 . 22 timeout 1m }\n"
+        "add element ip nat marks { 0x10 }\n";
+    static const char listed[] =
+        "table inet filter {\n"
+        "\tset hosts {\n\t\ttype ipv4_addr\n\t\tsize 9\n\t}\n"
+        "\n"
+        "\tset services {\n\t\ttype ipv4_addr . inet_service\n\t\tflags interval,timeout\n"
+        "\t\telements = { 192.0.2.0/24 . 80-443 comment \"web\",\n\t\t\t     192.0.3.7 . 22 expires 50s }\n\t}\n"
+        "}\n"
+        "\n"
+        "table ip nat {\n\tset marks {\n\t\ttype mark\n\t\telements = { 0x00000010 }\n\t}\n}\n";
+    pipapo_control control = PIPAPO_EMPTY, empty = PIPAPO_EMPTY;
+    pipapo_reader reader = PIPAPO_EMPTY;
+    pipapo_script_fault fault;
+    pipapo_answer answer;
+    char *text = NULL, buffer[sizeof listed + 1];
+    size_t length = 77;
+    uint64_t written = 77, generation;
+    CHECK(pipapo_start_script(rules, strlen(rules), &control, &reader, 1, &fault) == PIPAPO_OK);
+    /* what is open isn't listed */
+    CHECK(insert_flows(&control, 1, flows_of(NET, NET, 22, 22), PIPAPO_NEVER, 0, &answer) == PIPAPO_OK);
+    for (int twice = 0; twice < 2; ++twice) {
+        CHECK(pipapo_list(&control, 10000, &text, &length) == PIPAPO_OK);
+        CHECK(length == strlen(listed) && strcmp(text, listed) == 0);
+        if (text && strcmp(text, listed) != 0) fprintf(stderr, "%s", text);
+        /* a listing is a script again, of the same listing */
+        CHECK(pipapo_start_script(text, length, &control, &reader, 1, &fault) == PIPAPO_OK);
+        CHECK(pipapo_number(&control, &generation) == PIPAPO_OK && generation == 1);
+        pipapo_free_text(text);
+        CHECK(pipapo_list(&control, 0, &text, &length) == PIPAPO_OK && strcmp(text, listed) == 0);
+        pipapo_free_text(text);
+        CHECK(pipapo_start_script(rules, strlen(rules), &control, &reader, 1, &fault) == PIPAPO_OK);
+    }
+    pipapo_free_text(NULL);
+
+    /* into a buffer: its length if it is too short, and nothing after it if it isn't */
+    memset(buffer, '?', sizeof buffer);
+    CHECK(pipapo_list_into(&control, 10000, buffer, strlen(listed) - 1, &written) == PIPAPO_ROOM);
+    CHECK(written == strlen(listed) && buffer[0] == '?' && buffer[sizeof buffer - 1] == '?');
+    written = 77;
+    CHECK(pipapo_list_into(&control, 10000, buffer, sizeof buffer, &written) == PIPAPO_OK && written == strlen(listed));
+    CHECK(memcmp(buffer, listed, strlen(listed)) == 0 && buffer[strlen(listed)] == '?' && buffer[sizeof buffer - 1] == '?');
+
+    text = NULL;
+    length = written = 77;
+    CHECK(pipapo_list(&empty, 0, &text, &length) == PIPAPO_NOTHING);
+    CHECK(pipapo_list((pipapo_control *)&reader, 0, &text, &length) == PIPAPO_HANDLE);
+    CHECK(pipapo_list_into(&empty, 0, buffer, sizeof buffer, &written) == PIPAPO_NOTHING);
+    CHECK(pipapo_list_into((pipapo_control *)&reader, 0, buffer, sizeof buffer, &written) == PIPAPO_HANDLE);
+    CHECK(text == NULL && length == 77 && written == 77);
+    CHECK(pipapo_start_script("", 0, &control, &reader, 1, &fault) == PIPAPO_OK);
+    CHECK(pipapo_list(&control, 0, &text, &length) == PIPAPO_OK && length == 0 && text[0] == 0);
+    pipapo_free_text(text);
+    pipapo_free(&control);
+    pipapo_free(&reader);
+}
+
 static void changes(void) {
     pipapo_control control = PIPAPO_EMPTY;
     pipapo_reader reader = PIPAPO_EMPTY;
@@ -385,6 +448,7 @@ int main(void) {
     wrong_handles();
     refused_starts();
     scripts();
+    listings();
     changes();
     limits();
     every_kind();

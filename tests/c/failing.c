@@ -101,6 +101,27 @@ static int run(long n) {
     return all;
 }
 
+/* A listing whose allocations fail in turn: it leaves nothing allocated, and writes nothing. */
+static void list_failing(pipapo_control *control) {
+    long at_first = blocks;
+    for (long n = 0;; ++n) {
+        char *text = NULL;
+        size_t length = 77;
+        left = n;
+        uint32_t got = pipapo_list(control, 0, &text, &length);
+        left = -1;
+        if (got == PIPAPO_OK) {
+            expect(length == strlen(text), "a text has its length");
+            pipapo_free_text(text);
+            break;
+        }
+        ++refusals;
+        expect(got == PIPAPO_MEMORY && text == NULL && length == 77, "a refused listing writes nothing");
+        expect(blocks == at_first, "a refused listing leaves nothing");
+    }
+    expect(blocks == at_first, "a freed text is freed");
+}
+
 /* A start by a script: one that wants memory leaves nothing allocated, and its handles empty. */
 static int run_script(long n) {
     static const char text[] =
@@ -124,6 +145,7 @@ static int run_script(long n) {
     left = -1;
     expect(got == PIPAPO_OK, "a script starts");
     expect(pipapo_number(&control, &generation) == PIPAPO_OK && generation == 2, "a script commits twice");
+    list_failing(&control);
     pipapo_free(&control);
     pipapo_free(&readers[0]);
     pipapo_free(&readers[1]);

@@ -61,6 +61,10 @@ int main() {
     CHECK(control.start_script("add set\nip", readers, fault) == PIPAPO_SCRIPT && fault.line == 1 && fault.column == 8);
     CHECK(readers[1].lookup(0, keys[0], 0, id) == PIPAPO_OK && id == 0);
 
+    std::string text = "?";
+    CHECK(control.list(text) == PIPAPO_OK);
+    CHECK(text == "table ip t {\n\tset s {\n\t\ttype ipv4_addr . inet_service\n\t\telements = { 192.0.2.7 . 99 }\n\t}\n}\n");
+
     pipapo::Control other = std::move(control);
     CHECK(!control && other);
     other.reset();

@@ -22,7 +22,7 @@ STRUCTS = {
 HIDDEN = {"Opaque"}
 NUMBERS = {"u8": ("uint8_t", 1), "u32": ("uint32_t", 4), "u64": ("uint64_t", 8)}
 # calls that c/texts.c adds to the exports
-IN_C = {"pipapo_strerror", "pipapo_strreason", "pipapo_version"}
+IN_C = {"pipapo_free_text", "pipapo_list", "pipapo_strerror", "pipapo_strreason", "pipapo_version"}
 
 
 def handle_type(name: str) -> str:

@@ -100,6 +100,19 @@ def test_scripts():
     assert refusal(Control.from_script, rules, kinds, readers=17).error == Error.READERS
 
 
+def test_listings():
+    with Control([Set([Kind.MARK])]) as control:
+        control.insert(0, [5], comment="five")
+        assert b"elements" not in control.list()
+        control.commit()
+        listed = control.list()
+        assert b'\t\ttype mark\n\t\tflags interval,timeout\n\t\telements = { 0x00000005 comment "five" }\n' in listed
+    rules = b"table ip t {\n\tset s {\n\t\ttype mark\n\t\telements = { 0x00000005,\n\t\t\t     0x00000007 }\n\t}\n}\n"
+    with Control.from_script(rules, [[Kind.MARK]]) as control:
+        assert control.list() == rules
+    assert refusal(control.list).error == Error.NOTHING
+
+
 def test_values():
     assert Kind.ETHER.pack("02:00:00:00:00:05") == b"\x02\0\0\0\0\x05"
     assert Kind.IPV6.pack("2001:db8::1") == bytes.fromhex("20010db8000000000000000000000001")

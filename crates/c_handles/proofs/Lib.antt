@@ -5,5 +5,6 @@ pub mod WrittenOver
 pub mod Batch
 pub mod Kept
 pub mod Refused
+pub mod Listed
 pub mod Started
 pub mod Tested

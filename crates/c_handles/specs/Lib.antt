@@ -8,3 +8,4 @@ pub mod Starting
 pub mod StartCauses
 pub mod ScriptCodes
 pub mod Scripting
+pub mod Listing

@@ -36,6 +36,8 @@ pub enum Fault {
     Script,
     /// A change of a script was refused.
     Change,
+    /// The buffer has no room for the text.
+    Room,
     /// The change was refused.
     Refused(Why),
 }
@@ -61,6 +63,7 @@ impl Fault {
             Fault::Numbers => 10,
             Fault::Script => 11,
             Fault::Change => 12,
+            Fault::Room => 13,
             Fault::Refused(why) => match why {
                 Why::Overlap { id: _ } => 16,
                 Why::Exists { id: _ } => 17,

@@ -71,16 +71,16 @@ fn first_word(line: &[u8]) -> &[u8] {
 
 /// Whether a word begins a statement of a script that no line of a key file begins with.
 fn begins_a_statement(word: &[u8]) -> bool {
-    matches!(
+    is_one_of(
         word,
-        b"add" | b"create" | b"delete" | b"destroy" | b"flush" | b"table"
+        &[b"add", b"create", b"delete", b"destroy", b"flush", b"table"],
     )
 }
 
 pub(crate) fn is_family(word: &[u8]) -> bool {
-    matches!(
+    is_one_of(
         word,
-        b"ip" | b"ip6" | b"inet" | b"arp" | b"bridge" | b"netdev"
+        &[b"ip", b"ip6", b"inet", b"arp", b"bridge", b"netdev"],
     )
 }
 

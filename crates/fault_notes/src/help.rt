@@ -38,23 +38,53 @@ pub(crate) const TIME: &[u8] =
 /// How a set's size is written.
 pub(crate) const SIZE: &[u8] = b"write a number from 1 to 4294967295";
 
+const NO_CHAINS: &[u8] = b"remove chains and rules: a script has sets alone";
+
+const NO_MAPS: &[u8] = b"remove maps and flowtables: a script has sets alone";
+
+const NO_COUNTERS: &[u8] = b"remove it: elements have no counters, quotas and limits";
+
+const NO_VARIABLES: &[u8] = b"write the values themselves: there are no variables";
+
+const NO_FLAG: &[u8] = b"remove the flag: the flags are interval, timeout and disjoint";
+
+/// Words that nft(8) reads and this program doesn't, and what to do about each.
+const LEFT_OUT: [(&[u8], &[u8]); 16] = [
+    (
+        b"*",
+        b"write all values as a prefix or a range, as 0.0.0.0/0",
+    ),
+    (b"chain", NO_CHAINS),
+    (b"rule", NO_CHAINS),
+    (b"map", NO_MAPS),
+    (b"flowtable", NO_MAPS),
+    (b"counter", NO_COUNTERS),
+    (b"quota", NO_COUNTERS),
+    (b"limit", NO_COUNTERS),
+    (b"define", NO_VARIABLES),
+    (b"undefine", NO_VARIABLES),
+    (b"redefine", NO_VARIABLES),
+    (b"include", b"copy the included file to this place"),
+    (
+        b"typeof",
+        b"write 'type' and the types themselves, as: type ipv4_addr . inet_service",
+    ),
+    (
+        b"auto-merge",
+        b"remove it: intervals aren't merged, and one that overlaps is refused",
+    ),
+    (b"constant", NO_FLAG),
+    (b"dynamic", NO_FLAG),
+];
+
 /// What to do about a word that nft(8) reads and this program doesn't.
 fn for_left_out(word: &[u8]) -> &'static [u8] {
-    match word {
-        b"*" => b"write all values as a prefix or a range, as 0.0.0.0/0",
-        b"chain" | b"rule" => b"remove chains and rules: a script has sets alone",
-        b"map" | b"flowtable" => b"remove maps and flowtables: a script has sets alone",
-        b"counter" | b"quota" | b"limit" =>
-            b"remove it: elements have no counters, quotas and limits",
-        b"define" | b"undefine" | b"redefine" =>
-            b"write the values themselves: there are no variables",
-        b"include" => b"copy the included file to this place",
-        b"typeof" => b"write 'type' and the types themselves, as: type ipv4_addr . inet_service",
-        b"auto-merge" => b"remove it: intervals aren't merged, and one that overlaps is refused",
-        b"constant" | b"dynamic" =>
-            b"remove the flag: the flags are interval, timeout and disjoint",
-        _ => b"write 'add set' to declare a set, or 'flush set' to remove its elements",
+    for (other, help) in &LEFT_OUT {
+        if *other == word {
+            return *help;
+        }
     }
+    b"write 'add set' to declare a set, or 'flush set' to remove its elements"
 }
 
 /// What to do about a token that begins with this byte, which begins no word and no string.

@@ -2,7 +2,7 @@
 ghost use Rattle.std.specs.Prelude.{◌≡◌, ℕ, IfOk};
 ghost use Rattle.fault_notes.specs.Blanked.{blanked};
 
-use crate::words::{bytes_of, is_separator};
+use crate::words::{bytes_of, is_one_of, is_separator, word_at};
 use set_model::Memory;
 use std::alloc::Global;
 use token_forms::{BadToken, Reason, Tokens};
@@ -67,13 +67,19 @@ fn is_blanked(text: &[u8], rest: &[u8], word: &[u8]) -> bool {
     false
 }
 
+/// Whether a token is the first one of its statement.
+fn is_first(text: &[u8], at: u64) -> bool {
+    let (begin, _) = statement_at(text, at);
+    word_at(text.get(begin..at as usize).unwrap_or(b""), 0).is_empty()
+}
+
 /// Whether an earlier error may have caused this one: the token names a set that a statement before it,
 /// which was refused, names, too. Or it is a `}` that closes nothing, or the `set` of a table that isn't
 /// open.
 pub(crate) fn is_caused(text: &[u8], rest: &[u8], bad: BadToken, token: &[u8]) -> bool {
     match bad.reason {
         Reason::Set => is_blanked(text, rest, token),
-        Reason::Statement => token == b"}".as_slice() || token == b"set".as_slice(),
+        Reason::Statement if is_one_of(token, &[b"}", b"set"]) => is_first(rest, bad.at),
         _ => false,
     }
 }

@@ -85,17 +85,24 @@ pub(crate) fn item_of<'a>(items: &'a [u8], word: &[u8]) -> &'a [u8] {
     }
 }
 
+/// The kinds, by their words in a script.
+const KINDS: [(&[u8], Kind); 6] = [
+    (b"ipv4_addr", Kind::Ipv4),
+    (b"ipv6_addr", Kind::Ipv6),
+    (b"ether_addr", Kind::Ether),
+    (b"inet_proto", Kind::Proto),
+    (b"inet_service", Kind::Service),
+    (b"mark", Kind::Mark),
+];
+
 /// The kind that a word names.
 fn kind_of(word: &[u8]) -> Option<Kind> {
-    match word {
-        b"ipv4_addr" => Some(Kind::Ipv4),
-        b"ipv6_addr" => Some(Kind::Ipv6),
-        b"ether_addr" => Some(Kind::Ether),
-        b"inet_proto" => Some(Kind::Proto),
-        b"inet_service" => Some(Kind::Service),
-        b"mark" => Some(Kind::Mark),
-        _ => None,
+    for (other, kind) in &KINDS {
+        if *other == word {
+            return Some(*kind);
+        }
     }
+    None
 }
 
 /// The kind of a field, from 0, in a set's `type` item.

@@ -10,6 +10,7 @@ ghost use Rattle.std.specs.Prelude.{◌≡◌, ◌<◌, ◌*◌, length, map, No
 ghost use Rattle.c_handles.specs.Starting.{HasStarted};
 ghost use Rattle.c_handles.specs.StartCauses.{IsRefusedStart};
 ghost use Rattle.c_handles.specs.Scripting.{HasScripted, IsRefusedText};
+ghost use Rattle.c_handles.specs.Listing.{HasListed, IsRefusedListing};
 ghost use Rattle.c_handles.specs.Seats.{Stays, WentIn, WentOut};
 ghost use Rattle.c_handles.specs.Causes.{IsRefusal, IsRefusedChange, RefusesInsertion, RefusesCreation, RefusesDeletion, RefusesDestruction, RefusesFlush, RefusesCommit, RefusesReaders, RefusesEntry, RefusesHolder, RefusesLookup, RefusesLookups};
 ghost use Rattle.c_handles.specs.Calls.{HasInserted, HasCreated, HasDeleted, HasDestroyed, HasFlushed, HasCommitted, HasAborted, HasNumber, HasEntered, HasFound, HasFoundAll, HasGeneration, HasMoved, TakesKey, TakesKeys, seen_by, kinds_in, kinds_by};
@@ -166,6 +167,22 @@ pub extern "C" fn pipapo_number(alloc: Global, control: &mut Handle, generation:
     ensures refused { 0 < result → IsRefusal RefusesReaders control.old.held result }
 {
     c_handles::number(alloc, control, generation)
+}
+
+#[unsafe(no_mangle)]
+pub extern "C" fn pipapo_list_into(
+    alloc: Global,
+    control: &mut Handle,
+    now: u64,
+    text: &mut [u8],
+    written: &mut u64,
+) -> u32
+    ensures same { control.new.held ≡ control.old.held }
+    ensures done { result ≡ 0 → HasListed control.old.held now text.old text.new written.new }
+    ensures unchanged { 0 < result → text.new ≡ text.old }
+    ensures refused { 0 < result → IsRefusedListing control.old.held now (length text.old) result written.new }
+{
+    c_handles::list_into(alloc, control, now, text, written)
 }
 
 #[unsafe(no_mangle)]

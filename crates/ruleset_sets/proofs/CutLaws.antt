@@ -6,7 +6,7 @@ use Rattle.ruleset_sets.specs.declared.item.Item.{Item}
 use Rattle.ruleset_sets.specs.declared.skipped.Skipped.{Skipped}
 use Rattle.ruleset_sets.specs.Items.{cuts_from, first_item}
 use Rattle.ruleset_sets.specs.Kept.{taken_from, taken_in, notes_by, notes_in, kept_byte}
-use Rattle.ruleset_sets.proofs.BlankLaws.{next-parts}
+use Rattle.ruleset_sets.proofs.BlankLaws.{next-tokens}
 
 cuts-inside : (n : ℕ) (level : Level) (ps : List RoleToken) → n ≤ length ps → cuts_from n level ps ≡ cuts_from 0 level (drop n ps)
 cuts-inside zero level ps h = refl
@@ -35,7 +35,7 @@ pub text-next : (level : Level) (p : RoleToken) (ps left these behind : List Rol
 text-next level p ps left these behind i k b old new e f some within front back one all =
     let first = cuts-first level p ps left i e f some within in
     let whole : kept_byte (taken_from i.skipped (take i.size left) ++ taken_in (cuts_from 0 i.level (drop i.size left))) k old ≡ b = rw first at all in
-    rw back (next-parts (taken_from i.skipped (take i.size left)) (taken_in (cuts_from 0 i.level (drop i.size left))) k b old new (rw front at one) whole)
+    rw back (next-tokens (taken_from i.skipped (take i.size left)) (taken_in (cuts_from 0 i.level (drop i.size left))) k b old new (rw front at one) whole)
 
 -- The notes on the first item, and then those on the others.
 pub skips-next : (level : Level) (p : RoleToken) (ps left these behind : List RoleToken) (i : Item) (old new all : List Skipped)

@@ -21,3 +21,8 @@ pub record IsSetOf (d : SetDecl) (s : State) : Type 0 where
 pub record AreSetsOf (schema : List SetDecl) (sets : List State) : Type 0 where
   pub one_each : length sets ≡ length schema
   pub each : (i : ℕ) (d : SetDecl) (s : State) → slice_get schema i ≡ Some d → slice_get sets i ≡ Some s → IsSetOf d s
+
+-- The sets have the declared kinds: one for each declared set, in their order. A listing needs no more.
+pub record HaveDeclaredKinds (schema : List SetDecl) (sets : List State) : Type 0 where
+  pub one_each : length sets ≡ length schema
+  pub each : (i : ℕ) (d : SetDecl) (s : State) → slice_get schema i ≡ Some d → slice_get sets i ≡ Some s → s.kinds ≡ d.kinds

@@ -6,7 +6,7 @@ ghost use Rattle.set_report.specs.Kept.{KeepsBytes};
 ghost use Rattle.set_report.specs.KindText.{kind_text};
 ghost use Rattle.set_report.specs.ListText.{parts_text, expiry_text, comment_text, element_text, type_line, size_line, flag_words, flags_line, timeout_line, elements_line, items_text, listed_set, same_table, sets_beside, listed_table, first_sets, list_text};
 ghost use Rattle.text_pieces.specs.Pieces.{piece_text};
-ghost use Rattle.set_report.specs.Writes.{AreSetsOf};
+ghost use Rattle.set_report.specs.Writes.{HaveDeclaredKinds};
 ghost use Rattle.text_pieces.specs.Appends.{AppendsPart};
 
 use crate::kinds::kind_word;
@@ -261,7 +261,7 @@ fn write_sets(
     now: u64,
     out: &mut Vec<u8>,
 ) -> Result<(), Memory>
-    requires { AreSetsOf schema.now generation.now.sets }
+    requires { HaveDeclaredKinds schema.now generation.now.sets }
     ensures ok { OnOk result (out.new.items ≡ out.old.items ++ join_by (listed_set now) (codes "\n") (sets_beside first.now (zip schema.now generation.now.sets))) }
     ensures kept { KeepsBytes out.old.items out.new.items }
 {
@@ -286,7 +286,7 @@ fn write_table(
     now: u64,
     out: &mut Vec<u8>,
 ) -> Result<(), Memory>
-    requires { AreSetsOf schema.now generation.now.sets }
+    requires { HaveDeclaredKinds schema.now generation.now.sets }
     ensures ok { OnOk result (out.new.items ≡ out.old.items ++ listed_table (zip schema.now generation.now.sets) now first.now) }
     ensures kept { KeepsBytes out.old.items out.new.items }
 {
@@ -321,7 +321,7 @@ fn write_tables(
     now: u64,
     out: &mut Vec<u8>,
 ) -> Result<(), Memory>
-    requires { AreSetsOf schema.now generation.now.sets }
+    requires { HaveDeclaredKinds schema.now generation.now.sets }
     ensures ok { OnOk result (out.new.items ≡ out.old.items ++ list_text schema.now generation.now.sets now) }
     ensures kept { KeepsBytes out.old.items out.new.items }
 {
@@ -351,7 +351,7 @@ pub fn write_list(
     now: u64,
     out: &mut Vec<u8>,
 ) -> Result<(), Memory>
-    requires { AreSetsOf schema.now generation.now.sets }
+    requires { HaveDeclaredKinds schema.now generation.now.sets }
     ensures ok { OnOk result (out.new.items ≡ out.old.items ++ list_text schema.now generation.now.sets now) }
     ensures err { OnErr result (AppendsPart out.old.items out.new.items (list_text schema.now generation.now.sets now)) }
 {

@@ -1,6 +1,6 @@
 //! Tests the texts that the program reads and writes, by tables of cases.
 //!
-//! The texts are addresses and times, scripts, key files, rules files, captures and their plans, notes of
+//! The texts are addresses and times, scripts, rulesets, key files, rules files, captures and their plans, notes of
 //! faults, and the words of a command. Files and outputs are real ones or in memory. Copies of elements have
 //! tests here, too.
 //!
@@ -31,6 +31,8 @@ mod notes;
 mod packets;
 #[cfg(test)]
 mod rules;
+#[cfg(test)]
+mod rulesets;
 #[cfg(test)]
 mod script_refusals;
 #[cfg(test)]
