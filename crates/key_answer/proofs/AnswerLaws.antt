@@ -183,10 +183,6 @@ answer-written schema g p d s lines other old b answer same declared at answers 
 pub answer-found : (g : Generation) (p : Packet) (s : State) (answer : Option Element) → slice_get g.sets p.set ≡ Some s → answer ≡ first s p.key p.now → is_some answer ≡ is_some (answer_in g p)
 answer-found g p s answer at answers = ap is_some (answers ∙ ap (first_in p.key p.now) (sym at))
 
--- The comments of the refused changes were written.
-pub remarks-written : (schema other : List SetDecl) (events kept : List Event) (old a : List ℕ) → other ≡ schema → kept ≡ filter is_refusal events → a ≡ old ++ remarks_text other kept → a ≡ old ++ remarks_text schema (filter is_refusal events)
-remarks-written schema other events kept old a same is wrote = wrote ∙ ap (λ z. old ++ remarks_text z kept) same ∙ ap (λ z. old ++ remarks_text schema z) is
-
 -- The line at a place, as it is found.
 pub got-line : (lines : List ℕ) (i : ℕ) (r : Option (Bor ℕ)) → is_some r ≡ nat_lt i (length lines) → IfSome r (λ x. x.now ≡ get_or lines i x.now) → option_map (λ n. n.now) r ≡ slice_get lines i
 got-line lines i None e h = go (slice_get_cases lines i).1 where

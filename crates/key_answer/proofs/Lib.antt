@@ -1,3 +1,4 @@
 mod Worked
+mod LineLaws
 mod TraceLaws
 mod AnswerLaws

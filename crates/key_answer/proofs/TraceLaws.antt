@@ -1,5 +1,5 @@
 -- A run that notes lines goes on as the definition does.
-use Rattle.std.proofs.Common.{fold, ◌≡◌, refl, sym, ◌∙◌, ap, subst, ℕ, ◌+◌, ◌<◌, ◌==◌, ◌||◌, Bool, true, false, not, if◌then◌else◌, List, [], ◌∷◌, ◌++◌, length, take, get_or, Option, Some, None, Result, Ok, Err, slice_get, append_assoc, eq-eqb}
+use Rattle.std.proofs.Common.{fold, ◌≡◌, refl, sym, ◌∙◌, ap, subst, ℕ, ◌+◌, ◌<◌, ◌==◌, ◌||◌, Bool, true, false, not, if◌then◌else◌, List, [], ◌∷◌, ◌++◌, length, take, get_or, Option, Some, None, Result, Ok, Err, slice_get, append_assoc, eq-eqb, eqb-true}
 use Rattle.set_model.specs.declared.element.NewElement.{NewElement}
 use Rattle.set_model.specs.declared.report.Event.{Event}
 use Rattle.set_model.specs.declared.report.Event.TheVariants.{Refused as Told}
@@ -20,8 +20,8 @@ use Rattle.pipapo_image.specs.declared.answers.ChangeError.TheVariants as errors
 use Rattle.pipapo_image.specs.Image.Insert.{IsAnswer}
 use Rattle.packet_pool.specs.Running.{Run, run, HasCome, StandsAt, GoesOn}
 use Rattle.packet_pool.proofs.RunLaws.{change_goes, refusal_goes, open_change, fold-more, goes_more}
-use Rattle.key_answer.specs.Origin.{new_id, made_in, with_line, lines_after, Traced, traced_step, traced_section, traced}
-use Rattle.key_answer.specs.Tracing.{adding, Makes, HasMade, Traces}
+use Rattle.key_answer.specs.Origin.{new_id, made_in, with_line, lines_after, lines_of, Traced, traced_step, traced_section, traced}
+use Rattle.key_answer.specs.Tracing.{adding, Makes, HasMade, IsNoted, Traces}
 
 -- the call of an insertion, by the id of the element that it made
 abbrev pub made_by : Result Added ChangeError → Result (Option ℕ) ChangeError
@@ -124,55 +124,73 @@ pub same-lines : (set line other : ℕ) (verb : Verb) (e : NewElement) (now : �
 same-lines set line other verb e now c lines none =
     ap (λ (made : Option ℕ). if not (other == set) || c.failed then lines else with_line lines line made) (none (slice_get c.sets other)) ∙ either-same (not (other == set) || c.failed) lines
 
+-- The lines of each set after an addition to one, in a transaction that hasn't failed.
+each-line : (line set : ℕ) (verb : Verb) (e : NewElement) (now : ℕ) (made : Option ℕ) (lines more : List (List ℕ)) (s : State) (c : Control) → IsNoted set line made lines more → c.failed ≡ false → slice_get c.sets set ≡ Some s → made ≡ made_in verb e now (Some s)
+    → (k : ℕ) → k < length lines → lines_of more k ≡ lines_after k c (lines_of lines k) (Change line set verb e now)
+each-line line set verb e now made lines more s c h quiet at is k within = go (set == k) refl where
+  go : (b : Bool) → (set == k) ≡ b → lines_of more k ≡ lines_after k c (lines_of lines k) (Change line set verb e now)
+  go true same =
+      let this : set ≡ k = eqb-true set k same in
+      let P : ℕ → Type 0 = λ n. n < length lines → lines_of more n ≡ lines_after n c (lines_of lines n) (Change line set verb e now) in
+      subst P this (λ w. h.own w ∙ noted set line verb e now c (lines_of lines set) s made quiet at is) within
+  go false other = h.others k other ∙ sym (other-lines k line set verb e now c (lines_of lines k) other)
+
+-- No line was noted.
+pub noted-none : (set line : ℕ) (lines : List (List ℕ)) → IsNoted set line None lines lines
+noted-none set line lines = record { one_each = refl; own = λ _. refl; others = λ other _. refl }
+
 module _ (mode : Mode) (line set : ℕ) (verb : Verb) (e : NewElement) (now : ℕ) (k new : Steering) (told : List Event) (same : new ≡ record k { work = new.work }) where
   -- An addition was made, and its line noted.
-  pub made-traces : (failed : Bool) (made : Option ℕ) (lines more : List ℕ) → failed ≡ false → IsChange (HasMade verb e now (Ok made)) k.work set new.work → more ≡ with_line lines line made
-      → Traces mode set (Change line set verb e now ∷ []) (run k failed told) (run new failed told) lines more
+  pub made-traces : (failed : Bool) (made : Option ℕ) (lines more : List (List ℕ)) → failed ≡ false → IsChange (HasMade verb e now (Ok made)) k.work set new.work → IsNoted set line made lines more
+      → Traces mode (Change line set verb e now ∷ []) (run k failed told) (run new failed told) lines more
   made-traces failed made lines more quiet h noted_is = record {
     goes_on = open_change mode (run k failed told) (run new failed told) line set verb e now quiet
         (change_goes mode line set verb e now k new told same failed (change-by (HasMade verb e now (Ok made)) _ k.work set new.work (λ s t come. come.0) h));
+    one_each = noted_is.one_each;
     lines_are = λ before c st.
         let at : slice_get c.sets set ≡ Some h.state = ap (λ z. slice_get z set) st.sets ∙ h.at in
-        noted_is ∙ noted set line verb e now c lines h.state made (st.failed ∙ quiet) at h.changed.1;
+        each-line line set verb e now made lines more h.state c noted_is (st.failed ∙ quiet) at h.changed.1;
   }
 
   -- An addition was refused.
-  pub refused-traces : (failed failed' : Bool) (why : Why) (events : List Event) (lines more : List ℕ) → failed ≡ false → IsChange (HasMade verb e now (Err (errors.Refused why))) k.work set new.work
-      → ((x : Steering) → GoesOn (λ c. refused mode c line set why) (run x failed told) (run x failed' events)) → more ≡ lines
-      → Traces mode set (Change line set verb e now ∷ []) (run k failed told) (run new failed' events) lines more
-  refused-traces failed failed' why events lines more quiet h does same_lines = record {
+  pub refused-traces : (failed failed' : Bool) (why : Why) (events : List Event) (lines : List (List ℕ)) → failed ≡ false → IsChange (HasMade verb e now (Err (errors.Refused why))) k.work set new.work
+      → ((x : Steering) → GoesOn (λ c. refused mode c line set why) (run x failed told) (run x failed' events))
+      → Traces mode (Change line set verb e now ∷ []) (run k failed told) (run new failed' events) lines lines
+  refused-traces failed failed' why events lines quiet h does = record {
     goes_on = open_change mode (run k failed told) (run new failed' events) line set verb e now quiet
         (refusal_goes mode line set verb e now k new told same why failed failed' events (change-by (HasMade verb e now (Err (errors.Refused why))) _ k.work set new.work (λ s t come. come.0) h) does);
+    one_each = refl;
     lines_are = λ before c st.
         let at : slice_get c.sets set ≡ Some h.state = ap (λ z. slice_get z set) st.sets ∙ h.at in
-        same_lines ∙ noted set line verb e now c lines h.state None (st.failed ∙ quiet) at (sym h.changed.1);
+        each-line line set verb e now None lines lines h.state c (noted-none set line lines) (st.failed ∙ quiet) at (sym h.changed.1);
   }
 
 -- A step that notes no line.
-pub unnoted : (mode : Mode) (set : ℕ) (s : Step) (old new : Run) (lines more : List ℕ) → more ≡ lines → ((before : List Event) (c : Control) → StandsAt before c old → lines_after set c lines s ≡ lines) → GoesOn (λ c. step mode c s) old new
-    → Traces mode set (s ∷ []) old new lines more
-unnoted mode set s old new lines more same none does = record { goes_on = does; lines_are = λ before c st. same ∙ sym (none before c st) }
+pub unnoted : (mode : Mode) (s : Step) (old new : Run) (lines : List (List ℕ)) → ((before : List Event) (c : Control) → StandsAt before c old → (set : ℕ) → lines_after set c (lines_of lines set) s ≡ lines_of lines set) → GoesOn (λ c. step mode c s) old new
+    → Traces mode (s ∷ []) old new lines lines
+unnoted mode s old new lines none does = record { goes_on = does; one_each = refl; lines_are = λ before c st set within. sym (none before c st set) }
 
 -- The control of a traced section is the section's control.
 pub traced-control : (mode : Mode) (set : ℕ) (t : Traced) (steps : List Step) → (traced_section mode set t steps).control ≡ section mode t.control steps
 traced-control mode set t [] = refl
 traced-control mode set t (s ∷ steps) = traced-control mode set (traced_step mode set t s) steps
 
-pub traces-none : (mode : Mode) (set : ℕ) (r : Run) (lines : List ℕ) → Traces mode set [] r r lines lines
-traces-none mode set r lines = record { goes_on = record { of_is = refl; schema_is = refl; readers_is = refl; stands = λ before c h. h }; lines_are = λ before c h. refl }
+pub traces-none : (mode : Mode) (r : Run) (lines : List (List ℕ)) → Traces mode [] r r lines lines
+traces-none mode r lines = record { goes_on = record { of_is = refl; schema_is = refl; readers_is = refl; stands = λ before c h. h }; one_each = refl; lines_are = λ before c h set within. refl }
 
 -- One step more.
-pub traces-more : (mode : Mode) (set : ℕ) (steps : List Step) (i : ℕ) (s : Step) (r here new : Run) (lines mid more : List ℕ) → i < length steps → s ≡ get_or steps i s
-    → Traces mode set (take i steps) r here lines mid → Traces mode set (s ∷ []) here new mid more → Traces mode set (take (i + 1) steps) r new lines more
-traces-more mode set steps i s r here new lines mid more h e first next = record {
+pub traces-more : (mode : Mode) (steps : List Step) (i : ℕ) (s : Step) (r here new : Run) (lines mid more : List (List ℕ)) → i < length steps → s ≡ get_or steps i s
+    → Traces mode (take i steps) r here lines mid → Traces mode (s ∷ []) here new mid more → Traces mode (take (i + 1) steps) r new lines more
+traces-more mode steps i s r here new lines mid more h e first next = record {
   goes_on = goes_more mode steps i s r here new h e first.goes_on next.goes_on;
-  lines_are = λ before c st.
-      let t : Traced = record { control = c; lines = lines } in
+  one_each = next.one_each ∙ first.one_each;
+  lines_are = λ before c st set within.
+      let t : Traced = record { control = c; lines = lines_of lines set } in
       let far = traced_section mode set t (take i steps) in
       let control : far.control ≡ section mode c (take i steps) = traced-control mode set t (take i steps) in
-      let mid_is : mid ≡ far.lines = first.lines_are before c st in
-      let last = next.lines_are before (section mode c (take i steps)) (first.goes_on.stands before c st) in
-      last ∙ ap (λ (d : Control). lines_after set d mid s) (sym control) ∙ ap (λ ls. lines_after set far.control ls s) mid_is ∙ ap (λ (u : Traced). u.lines) (fold-more (traced_step mode set) t steps i s h e);
+      let mid_is : lines_of mid set ≡ far.lines = first.lines_are before c st set within in
+      let last = next.lines_are before (section mode c (take i steps)) (first.goes_on.stands before c st) set (subst (λ n. set < n) (sym first.one_each) within) in
+      last ∙ ap (λ (d : Control). lines_after set d (lines_of mid set) s) (sym control) ∙ ap (λ ls. lines_after set far.control ls s) mid_is ∙ ap (λ (u : Traced). u.lines) (fold-more (traced_step mode set) t steps i s h e);
 }
 
 -- A traced history has the control of the history.

@@ -1,6 +1,6 @@
 -- The line of a script that added an element of a set.
 use Rattle.std.specs.Prelude.{ℕ, ◌==◌, ◌||◌, not, if◌then◌else◌, List, [], ◌∷◌, ◌++◌, take, fold, Option, Some, None}
-use Rattle.std.specs.Prelude.{slice_get}
+use Rattle.std.specs.Prelude.{slice_get, get_or}
 use Rattle.set_model.specs.declared.element.NewElement.{NewElement}
 use Rattle.set_model.specs.declared.script.SetDecl.{SetDecl}
 use Rattle.set_model.specs.declared.script.Step.{Step}
@@ -50,6 +50,10 @@ traced_step mode set t s = record { control = step mode t.control s; lines = lin
 -- A section: its steps, one after another.
 abbrev pub traced_section : Mode → ℕ → Traced → List Step → Traced
 traced_section mode set t steps = fold (traced_step mode set) t steps
+
+-- The lines of a set among those of all sets; none if there is no such set.
+abbrev pub lines_of : List (List ℕ) → ℕ → List ℕ
+lines_of lines set = get_or lines set []
 
 -- Sections, one after another, from generation 0 on.
 abbrev pub traced : Mode → ℕ → List SetDecl → List (List Step) → Traced

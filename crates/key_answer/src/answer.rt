@@ -1,39 +1,41 @@
 //! The answer to a key, and its text.
 ghost use Rattle.std.specs.List.{list_any};
-ghost use Rattle.std.specs.Prelude.{◌≡◌, ◌||◌, ◌<◌, not, ◌++◌, [], false, true, All, filter, length, map, is_some, slice_get, Some, Err, IfOk, IfSome, OnOk, ℕ, option_map};
+ghost use Rattle.std.specs.Prelude.{◌≡◌, ◌||◌, not, ◌++◌, true, All, filter, length, map, is_some, slice_get, Some, Err, IfOk, IfSome, OnOk, ℕ, option_map};
 ghost use Rattle.std.specs.String.{string_bytes};
 ghost use Rattle.set_model.specs.Key.{key_fits, parts_fit};
 ghost use Rattle.set_model.specs.SetState.{first};
-ghost use Rattle.set_model.specs.Control.{mode_of, history, is_refusal as refuses};
+ghost use Rattle.set_model.specs.Control.{mode_of, is_refusal as refuses};
 ghost use Rattle.set_model.specs.Runnable.{IsRunnable, IsFitting};
 ghost use Rattle.set_report.specs.Writes.{AreSetsOf, NamesSet};
 ghost use Rattle.packet_pool.specs.Running.{run, StandsAt};
 ghost use Rattle.script_laws.specs.Reports.{IsReportOn};
 ghost use Rattle.token_forms.specs.declared.token.Reason.{Reason};
 ghost use Rattle.key_answer.specs.Answer.{answer_in, answer_text, origin_text, line_text, GivesAnswer};
-ghost use Rattle.key_answer.specs.Origin.{traced};
+ghost use Rattle.key_answer.specs.Origin.{lines_of};
 ghost use Rattle.key_answer.specs.Question.{IsBadKey};
 ghost use Rattle.set_report.specs.Remarks.{remarks_text};
 ghost use Rattle.key_answer.specs.declared.question.AnswerError.TheVariants.{BadKey};
 
 use crate::question::{AnswerError, packet_of};
-use crate::trail::trace_steps;
-use gen_publish::Control;
+use crate::trace::{Trace, trace_script};
 use packet_pool::Gate;
 use pipapo_image::{Scratch, SetImage};
-use script_laws::{Output, add_refusals, has_numbers, start_run, tells_refusal};
-use set_model::{Element, Event, Events, Memory, Packet, Schema, Script, SetDecl};
-use set_report::{write_element, write_remarks};
-use set_space::Generation;
+use script_laws::{Output, add_refusals, tells_refusal};
+use set_model::{Element, Event, Memory, Packet, Script, SetDecl};
+use set_report::write_element;
 use std::alloc::Global;
 use text_pieces::Piece::{Number, Word};
 use text_pieces::append_pieces;
 
-/// Appends the line that added an element, if it is known.
-fn write_line(line: Option<&u64>, out: &mut Vec<u8>) -> Result<(), Memory>
-    ensures { OnOk result (out.new.items ≡ out.old.items ++ line_text (option_map (λ n. n.now) line.entry)) }
+/// Appends the line that added the element of an id, if it is known: ` (line 9)`.
+///
+/// # Errors
+///
+/// `Memory` if memory runs out.
+pub fn write_line(lines: &[u64], id: u64, out: &mut Vec<u8>) -> Result<(), Memory>
+    ensures { OnOk result (out.new.items ≡ out.old.items ++ line_text (slice_get lines.now id)) }
 {
-    match line {
+    match lines.get(id as usize) {
         None => Ok(()),
         Some(line) => append_pieces(&[Word(b" (line "), Number(*line), Word(b")")], out),
     }
@@ -52,7 +54,7 @@ fn write_origin(
 {
     append_pieces(&[Word(b"element "), Number(element.id), Word(b": ")], out)?;
     write_element(set, now, element, out)?;
-    write_line(lines.get(element.id as usize), out)
+    write_line(lines, element.id, out)
 }
 
 /// The element of a set that answers a packet.
@@ -96,93 +98,6 @@ fn write_answer(
     }
 }
 
-/// The refusals among events.
-fn refusals(alloc: Global, events: &Events) -> Result<Events, Memory>
-    ensures { IfOk result (λ some. some ≡ filter refuses events.now) }
-{
-    let mut some = Events::new(alloc);
-    'events: for event in events.as_slice() {
-        if event.is_refusal() {
-            some.push(*event)?;
-        }
-    }
-    Ok(some)
-}
-
-/// A script that was run to its end, with the lines of the additions to one set.
-#[derive(Drop)]
-struct Trace {
-    /// The control after the last step.
-    control: Control,
-    /// The events of all steps, in their order.
-    events: Events,
-    /// For each id of the set, the line of the addition that made the element.
-    lines: Vec<u64>,
-}
-
-/// Adds events after others.
-fn add_all(events: &mut Events, more: &Events) -> Result<(), Memory>
-    ensures { OnOk result (events.new ≡ events.old ++ more.now) }
-{
-    for event in more.as_slice() {
-        events.push(*event)?;
-    }
-    Ok(())
-}
-
-/// Runs a script to its end, and notes the lines of the additions to a set.
-fn trace_script<G: Gate>(
-    alloc: Global,
-    script: &Script,
-    set: u32,
-    keep_going: bool,
-    gate: &G,
-) -> Result<Trace, Memory>
-    requires script { IsRunnable script.now }
-    ensures ends { IfOk result (λ t. StandsAt [] (history (mode_of keep_going) script.now.schema script.now.sections) (run t.control false t.events)) }
-    ensures lines { IfOk result (λ t. t.lines.items ≡ (traced (mode_of keep_going) set script.now.schema script.now.sections).lines) }
-    ensures schema { IfOk result (λ t. t.control.schema ≡ script.now.schema) }
-    ensures named { IfOk result (λ t. All (NamesSet (length script.now.schema)) t.events) }
-    ensures sets { IfOk result (λ t. AreSetsOf script.now.schema t.control.work.base.sets) }
-{
-    let (mut control, _readers) = start_run(alloc, &script.schema, 1)?;
-    let sections = &script.sections;
-    let mut events = Events::new(alloc);
-    let mut lines = Vec::new(alloc);
-    let last = sections.len().saturating_sub(1);
-    let mut number = 0;
-    'sections: for steps in sections.as_slice() {
-        gate.section(number, last, 0);
-        number = number.saturating_add(1);
-        if !has_numbers(&control, steps.len()) {
-            return Err(Memory);
-        }
-        let told = trace_steps(
-            alloc,
-            &mut control,
-            steps,
-            keep_going,
-            set,
-            &mut lines,
-            gate,
-        )?;
-        add_all(&mut events, &told)?;
-    }
-    Ok(Trace {
-        control,
-        events,
-        lines,
-    })
-}
-
-/// An image of a set of a generation.
-fn image_of(alloc: Global, generation: &Generation, set: u32) -> Result<SetImage, Memory>
-    requires { set < length generation.now.sets }
-    ensures { IfOk result (λ image. slice_get generation.now.sets set ≡ Some image) }
-{
-    generation.sets.at(u64::from(set)).closed_up(alloc)
-}
-
 /// Appends the answer to a packet in the last generation of a run, and returns whether an element answers it.
 fn write_found(
     alloc: Global,
@@ -192,16 +107,16 @@ fn write_found(
 ) -> Result<bool, Memory>
     requires sets { AreSetsOf trace.now.control.schema trace.now.control.work.base.sets }
     requires fits { IsFitting trace.now.control.schema packet.now }
-    ensures text { OnOk result (out.new.items ≡ out.old.items ++ answer_text (slice_get trace.now.control.schema packet.entry.now.set) packet.entry.now.now trace.now.lines.items (answer_in trace.now.control.work.base packet.entry.now)) }
+    ensures text { OnOk result (out.new.items ≡ out.old.items ++ answer_text (slice_get trace.now.control.schema packet.entry.now.set) packet.entry.now.now (lines_of trace.now.lines packet.entry.now.set) (answer_in trace.now.control.work.base packet.entry.now)) }
     ensures found { IfOk result (λ found. found ≡ is_some (answer_in trace.now.control.work.base packet.entry.now)) }
 {
-    let image = image_of(alloc, trace.control.generation(), packet.set)?;
+    let image = trace.image(alloc, packet.set)?;
     let mut scratch = Scratch::new(alloc)?;
     let answer = element_for(&image, packet, &mut scratch);
     write_answer(
         trace.control.schema().at(u64::from(packet.set)),
         packet.now,
-        trace.lines.as_slice(),
+        trace.lines.of(packet.set),
         answer,
         out,
     )
@@ -218,11 +133,10 @@ fn write_all(
     requires named { All (NamesSet (length trace.now.control.schema)) trace.now.events }
     requires sets { AreSetsOf trace.now.control.schema trace.now.control.work.base.sets }
     requires fits { IsFitting trace.now.control.schema packet.now }
-    ensures text { OnOk result (out.new.items ≡ out.old.items ++ (remarks_text trace.now.control.schema (filter refuses trace.now.events) ++ answer_text (slice_get trace.now.control.schema packet.entry.now.set) packet.entry.now.now trace.now.lines.items (answer_in trace.now.control.work.base packet.entry.now))) }
+    ensures text { OnOk result (out.new.items ≡ out.old.items ++ (remarks_text trace.now.control.schema (filter refuses trace.now.events) ++ answer_text (slice_get trace.now.control.schema packet.entry.now.set) packet.entry.now.now (lines_of trace.now.lines packet.entry.now.set) (answer_in trace.now.control.work.base packet.entry.now))) }
     ensures found { IfOk result (λ found. found ≡ is_some (answer_in trace.now.control.work.base packet.entry.now)) }
 {
-    let refused = refusals(alloc, &trace.events)?;
-    write_remarks(trace.control.schema(), &refused, out)?;
+    trace.write_refusals(alloc, b"# ", out)?;
     write_found(alloc, trace, packet, out)
 }
 
@@ -260,7 +174,7 @@ pub fn get<G: Gate>(
         now: moment.unwrap_or(script.last),
         ..asked
     };
-    let trace = trace_script(alloc, &script, packet.set, keep_going, gate)?;
+    let trace = trace_script(alloc, &script, keep_going, gate)?;
     let mut output = Output::new(alloc);
     let found = write_all(alloc, &trace, &packet, &mut output.text)?;
     let events = trace.events.as_slice();

@@ -7,7 +7,7 @@
 //!     10.0.0.7 . 8080    none
 //!
 //! The words of the key are one line of a key file ([`AnswerError::BadKey`] if they aren't). [`get`] runs the script
-//! and notes the line of each addition that makes an element. The lines are a list by the ids of the set's elements.
+//! and notes the line of each addition that makes an element. For each set, the lines are a list by the ids of its elements.
 //! Here they are lines 3 and 4: ids 0 and 1. If a transaction is taken back, its ids are given again. So an addition
 //! that makes element 1 again cuts the list to one line, and then appends its own. A renewal makes no element, and
 //! the element keeps its line.
@@ -20,8 +20,12 @@
 #![tactic(auto)]
 
 mod answer;
+mod lines;
 mod question;
+mod trace;
 mod trail;
 
-pub use answer::get;
+pub use answer::{get, write_line};
+pub use lines::Lines;
 pub use question::AnswerError;
+pub use trace::{Trace, trace_script};

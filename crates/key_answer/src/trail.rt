@@ -1,47 +1,46 @@
-//! A run of a script that notes which line added each element of one set.
-ghost use Rattle.std.specs.Prelude.{◌≡◌, ◌<◌, ◌^◌, ◌∷◌, [], List, true, false, length, All, IfSome, IfOk, OnOk, None};
+//! A run of a script that notes which line added each element.
+ghost use Rattle.std.specs.Prelude.{◌≡◌, ◌<◌, ◌^◌, ◌∷◌, [], List, ℕ, true, false, length, All, IfSome, IfOk, OnOk, None};
 ghost use Rattle.set_model.specs.declared.script.Step.TheVariants.{Change};
 ghost use Rattle.set_model.specs.Control.{Control as Steered, mode_of, refused};
 ghost use Rattle.set_model.specs.Runnable.{IsRunnableStep};
 ghost use Rattle.set_space.specs.Open.{FitsSet, IsChange};
-ghost use Rattle.key_answer.specs.Origin.{lines_after, with_line, traced_section};
+ghost use Rattle.key_answer.specs.Origin.{lines_after, lines_of, traced_section};
 ghost use Rattle.packet_pool.specs.Running.{run, GoesOn, Ran, HasNumbers, StandsAt};
 ghost use Rattle.gen_publish.specs.Publish.{Steering};
 ghost use Rattle.set_model.specs.declared.report.Event.{Event as Told};
 ghost use Rattle.key_answer.specs.Tracing.{adding, HasMade, Traces};
 
+use crate::lines::Lines;
 use gen_publish::Control;
 use packet_pool::{Gate, do_step};
 use pipapo_image::{Added, ChangeError};
 use set_model::{Event, Events, Memory, NewElement, Step, Steps, Verb, Why};
 use std::alloc::Global;
 
-/// An addition to the set that is traced.
+/// An addition to a set.
 #[derive(Clone, Copy)]
 struct Addition<'a> {
     line: u64,
+    set: u32,
     /// Whether it is refused if the element exists.
     creates: bool,
     element: &'a NewElement,
     now: u64,
 }
 
-/// The addition to a set that a step is, if it is one.
-fn addition_to<'a>(step: &'a Step, set: u32) -> Option<Addition<'a>>
-    ensures some { IfSome result (λ a. step.now ≡ Change a.line set (adding a.creates) a.element.now a.now) }
-    ensures none { result ≡ None → (c : Steered) (lines : List _) → lines_after set c lines step.now ≡ lines }
+/// The addition that a step is, if it is one.
+fn addition_of(step: &Step) -> Option<Addition<'_>>
+    ensures some { IfSome result (λ a. step.now ≡ Change a.line a.set (adding a.creates) a.element.now a.now) }
+    ensures none { result ≡ None → (set : ℕ) (c : Steered) (lines : List ℕ) → lines_after set c lines step.now ≡ lines }
 {
     match step {
         Step::Change {
             line,
-            set: other,
+            set,
             verb,
             element,
             now,
         } => {
-            if *other != set {
-                return None;
-            }
             let creates = match verb {
                 Verb::Add => false,
                 Verb::Create => true,
@@ -49,6 +48,7 @@ fn addition_to<'a>(step: &'a Step, set: u32) -> Option<Addition<'a>>
             };
             Some(Addition {
                 line: *line,
+                set: *set,
                 creates,
                 element,
                 now: *now,
@@ -96,33 +96,17 @@ fn create(
 }
 
 /// Inserts or creates an element, and returns its id if it is new.
-fn try_add(
-    control: &mut Control,
-    set: u32,
-    addition: Addition<'_>,
-) -> Result<Option<u64>, ChangeError>
-    requires set { set < length control.old.work.sets }
-    requires fits { FitsSet control.old.work set addition.element.now.parts }
+fn try_add(control: &mut Control, addition: Addition<'_>) -> Result<Option<u64>, ChangeError>
+    requires set { addition.set < length control.old.work.sets }
+    requires fits { FitsSet control.old.work addition.set addition.element.now.parts }
     ensures others { control.new ≡ record control.old { work = control.new.work } }
-    ensures change { IsChange (HasMade (adding addition.entry.creates) addition.entry.element.now addition.entry.now result) control.old.work set control.new.work }
+    ensures change { IsChange (HasMade (adding addition.entry.creates) addition.entry.element.now addition.entry.now result) control.old.work addition.entry.set control.new.work }
 {
     if addition.creates {
-        create(control, set, addition.element, addition.now)
+        create(control, addition.set, addition.element, addition.now)
     } else {
-        insert(control, set, addition.element, addition.now)
+        insert(control, addition.set, addition.element, addition.now)
     }
-}
-
-/// Notes the line of the addition that made an element. Lines of this id and later ones are of a
-/// transaction that was taken back.
-fn note_line(lines: &mut Vec<u64>, line: u64, made: Option<u64>) -> Result<(), Memory>
-    ensures { OnOk result (lines.new.items ≡ with_line lines.old.items line made) }
-{
-    if let Some(id) = made {
-        lines.truncate(id as usize);
-        lines.push(line)?;
-    }
-    Ok(())
 }
 
 /// Reports a refusal. The refusal fails the transaction unless the run keeps going.
@@ -142,58 +126,61 @@ fn refuse(
     Ok(())
 }
 
-/// Does an addition to the traced set, in a transaction that hasn't failed.
+/// Does an addition, in a transaction that hasn't failed.
 fn add(
     control: &mut Control,
     failed: &mut bool,
     keep_going: bool,
-    set: u32,
     addition: Addition<'_>,
-    lines: &mut Vec<u64>,
+    lines: &mut Lines,
     events: &mut Events,
 ) -> Result<(), Memory>
     requires quiet { failed.old ≡ false }
-    requires set { set < length control.old.work.sets }
-    requires fits { FitsSet control.old.work set addition.element.now.parts }
-    ensures { OnOk result (Traces (mode_of keep_going) set (Change addition.entry.line set (adding addition.entry.creates) addition.entry.element.now addition.entry.now ∷ []) (run control.old failed.old events.old) (run control.new failed.new events.new) lines.old.items lines.new.items) }
+    requires set { addition.set < length control.old.work.sets }
+    requires fits { FitsSet control.old.work addition.set addition.element.now.parts }
+    ensures { OnOk result (Traces (mode_of keep_going) (Change addition.entry.line addition.entry.set (adding addition.entry.creates) addition.entry.element.now addition.entry.now ∷ []) (run control.old failed.old events.old) (run control.new failed.new events.new) lines.old lines.new) }
 {
-    match try_add(control, set, addition) {
-        Ok(made) => note_line(lines, addition.line, made),
-        Err(ChangeError::Refused(why)) => {
-            refuse(failed, keep_going, addition.line, set, why, events)
-        }
+    match try_add(control, addition) {
+        Ok(made) => lines.note(addition.set, addition.line, made),
+        Err(ChangeError::Refused(why)) => refuse(
+            failed,
+            keep_going,
+            addition.line,
+            addition.set,
+            why,
+            events,
+        ),
         Err(ChangeError::Memory) => Err(Memory),
     }
 }
 
-/// Does a step, and notes its line if it makes an element of the traced set.
+/// Does a step, and notes its line if it makes an element.
 fn trace_step<G: Gate>(
     control: &mut Control,
     failed: &mut bool,
     keep_going: bool,
     step: &Step,
-    set: u32,
-    lines: &mut Vec<u64>,
+    lines: &mut Lines,
     events: &mut Events,
     gate: &G,
 ) -> Result<(), Memory>
     requires runnable { IsRunnableStep control.old.schema step.now }
     requires number { control.old.work.base.number < 2 ^ 63 }
-    ensures { OnOk result (Traces (mode_of keep_going) set (step.now ∷ []) (run control.old failed.old events.old) (run control.new failed.new events.new) lines.old.items lines.new.items) }
+    ensures { OnOk result (Traces (mode_of keep_going) (step.now ∷ []) (run control.old failed.old events.old) (run control.new failed.new events.new) lines.old lines.new) }
 {
     if *failed {
         return do_step(control, failed, keep_going, step, events, gate);
     }
-    match addition_to(step, set) {
+    match addition_of(step) {
         None => do_step(control, failed, keep_going, step, events, gate),
         Some(addition) => {
             control.known();
-            add(control, failed, keep_going, set, addition, lines, events)
+            add(control, failed, keep_going, addition, lines, events)
         }
     }
 }
 
-/// Does the steps of a section, and notes the lines that make elements of the traced set. Returns the events.
+/// Does the steps of a section, and notes the lines that make elements. Returns the events.
 ///
 /// # Errors
 ///
@@ -203,14 +190,14 @@ pub fn trace_steps<G: Gate>(
     control: &mut Control,
     steps: &Steps,
     keep_going: bool,
-    set: u32,
-    lines: &mut Vec<u64>,
+    lines: &mut Lines,
     gate: &G,
 ) -> Result<Events, Memory>
     requires steps { All (IsRunnableStep control.old.schema) steps.now }
     requires numbers { HasNumbers control.old steps.now }
     ensures ran { IfOk result (λ events. Ran keep_going steps.now control.old control.new events) }
-    ensures lines { IfOk result (λ events. (before : List Told) (c : Steered) → StandsAt before c (run control.old false []) → lines.new.items ≡ (traced_section (mode_of keep_going) set (record { control = c; lines = lines.old.items }) steps.now).lines) }
+    ensures one_each { OnOk result (length lines.new ≡ length lines.old) }
+    ensures lines { OnOk result ((before : List Told) (c : Steered) → StandsAt before c (run control.old false []) → (set : ℕ) → set < length lines.old → lines_of lines.new set ≡ (traced_section (mode_of keep_going) set (record { control = c; lines = lines_of lines.old set }) steps.now).lines) }
 {
     let mut events = Events::new(alloc);
     let mut failed = false;
@@ -221,7 +208,6 @@ pub fn trace_steps<G: Gate>(
             &mut failed,
             keep_going,
             step,
-            set,
             lines,
             &mut events,
             gate,

@@ -1,20 +1,20 @@
 use Rattle.std.proofs.Common.{◌≡◌, ◌∙◌, ◌<◌, sym, subst, ap, length, List, Some, slice_get}
 use Rattle.std.proofs.lemmas.Option.{slice_get_within}
 use Rattle.std.proofs.lemmas.Result.{on_ok_weaker, IfOk-weaker}
-use Rattle.set_model.specs.Control.{Generation}
 use Rattle.set_model.specs.declared.script.SetDecl.{SetDecl}
+use Rattle.key_answer.specs.Origin.{lines_of}
 use Rattle.key_answer.proofs.AnswerLaws.{set-within, key-fits, parts-fit, answer-written, answer-found}
 use Rattle.key_answer.proofs.answer.write_found.Goals as goal
 
-pub image_of-requires : goal.image_of-requires
-image_of-requires c =
+pub image-requires : goal.image-requires
+image-requires c =
     let control = c.args.trace.now.control in
-    subst (λ (g : Generation). c.args.packet.now.set < length g.sets) (sym c.generation.ensures) (set-within control.schema control.work.base.sets c.args.packet.now c.requires.fits c.requires.sets)
+    set-within control.schema control.work.base.sets c.args.packet.now c.requires.fits c.requires.sets
 
 pub element_for-answer-requires : goal.element_for-answer-requires
 element_for-answer-requires c =
     let control = c.args.trace.now.control in
-    key-fits control.schema control.work.base.sets c.args.packet.now c.requires.fits c.requires.sets c.in_ok-image.image (ap (λ (g : Generation). slice_get g.sets c.args.packet.now.set) (sym c.generation.ensures) ∙ c.in_ok-image.ensures)
+    key-fits control.schema control.work.base.sets c.args.packet.now c.requires.fits c.requires.sets c.in_ok-image.image c.in_ok-image.ensures
 
 pub at-requires : goal.at-requires
 at-requires c =
@@ -25,19 +25,19 @@ pub write_answer-requires : goal.write_answer-requires
 write_answer-requires c =
     let control = c.args.trace.now.control in
     let declared : slice_get control.schema c.args.packet.now.set ≡ Some c.at.result.now = ap (slice_get control.schema) (sym c.from.ensures) ∙ ap (λ z. slice_get z c.from.result) (sym c.schema.ensures) ∙ c.at.ensures in
-    parts-fit control.schema control.work.base.sets c.args.packet.now c.requires.fits c.requires.sets c.in_ok-image.image c.at.result.now c.element_for-answer.result (ap (λ (g : Generation). slice_get g.sets c.args.packet.now.set) (sym c.generation.ensures) ∙ c.in_ok-image.ensures) declared c.element_for-answer.ensures.fits
+    parts-fit control.schema control.work.base.sets c.args.packet.now c.requires.fits c.requires.sets c.in_ok-image.image c.at.result.now c.element_for-answer.result c.in_ok-image.ensures declared c.element_for-answer.ensures.fits
 
 pub returns-clause-text : goal.returns-clause-text
 returns-clause-text c =
     let control = c.args.trace.now.control in
     let declared : slice_get control.schema c.args.packet.now.set ≡ Some c.at.result.now = ap (slice_get control.schema) (sym c.from.ensures) ∙ ap (λ z. slice_get z c.from.result) (sym c.schema.ensures) ∙ c.at.ensures in
-    let at = ap (λ (g : Generation). slice_get g.sets c.args.packet.now.set) (sym c.generation.ensures) ∙ c.in_ok-image.ensures in
+    let at = c.in_ok-image.ensures in
     on_ok_weaker c.write_answer.result
-    (λ wrote. answer-written control.schema control.work.base c.args.packet.now c.at.result.now c.in_ok-image.image c.args.trace.now.lines.items _ c.args.out.now.items _ _ c.as_slice.ensures.value declared at c.element_for-answer.ensures.first wrote)
+    (λ wrote. answer-written control.schema control.work.base c.args.packet.now c.at.result.now c.in_ok-image.image (lines_of c.args.trace.now.lines c.args.packet.now.set) _ c.args.out.now.items _ _ c.of.ensures declared at c.element_for-answer.ensures.first wrote)
     c.write_answer.ensures.text
 
 pub returns-clause-found : goal.returns-clause-found
 returns-clause-found c =
     let control = c.args.trace.now.control in
-    let at = ap (λ (g : Generation). slice_get g.sets c.args.packet.now.set) (sym c.generation.ensures) ∙ c.in_ok-image.ensures in
+    let at = c.in_ok-image.ensures in
     IfOk-weaker c.write_answer.result _ _ (λ found is. is ∙ answer-found control.work.base c.args.packet.now c.in_ok-image.image _ at c.element_for-answer.ensures.first) c.write_answer.ensures.found

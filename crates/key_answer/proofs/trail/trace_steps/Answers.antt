@@ -14,7 +14,7 @@ trace_step-requires-clause-number g c =
 
 pub steps-preserved : goal.steps-preserved
 steps-preserved g c =
-    traces-more (mode_of c.args.keep_going) c.args.set c.args.steps.now c.steps.step-index c.step-item.result _ _ _ _ _ _ (search rules) (search rules) c.steps.invariant c.in_ok-trace_step.ensures
+    traces-more (mode_of c.args.keep_going) c.args.steps.now c.steps.step-index c.step-item.result _ _ _ _ _ _ (search rules) (search rules) c.steps.invariant c.in_ok-trace_step.ensures
 
 pub returns-clause-ran : goal.returns-clause-ran
 returns-clause-ran g c =

@@ -1,5 +1,5 @@
 use Rattle.std.proofs.Common.{◌≡◌, ◌++◌, take}
-use Rattle.key_answer.proofs.answer.add_all.Given as goal
+use Rattle.key_answer.proofs.trace.add_all.Given as goal
 
 abbrev pub invariant-loop-event : goal.invariant-loop-event
 invariant-loop-event l = l.events ≡ l.initial.events ++ take l.event-index l.event-items

@@ -1,0 +1,5 @@
+mod Worked
+mod KeyLaws
+mod VerdictLaws
+mod ReportLaws
+mod Ends
