@@ -71,6 +71,7 @@ MISTAKES = [
     (add("l", "TCP . 1"), 2, 22, "'TCP' doesn't fit field 1 (inet_proto): it isn't a protocol", PROTO, "taken"),
     (add("e", "02:00:5e:10:00"), 2, 22, "'02:00:5e:10:00' doesn't fit field 1 (ether_addr): it isn't an Ethernet address", ETHER, "syntax error, unexpected colon, expecting comma or '}'"),
     (add("p", "10-"), 2, 22, "'10-' doesn't fit field 1 (inet_service): an end of the range is missing", "write both ends without blanks, as 10-20", "syntax error, unexpected '}'"),
+    (add("p", "80:90"), 2, 22, "'80:90' doesn't fit field 1 (inet_service): a range has '-' between its ends", "write 80-90", "Could not resolve"),
     (add("p", "10-web"), 2, 22, "'10-web' doesn't fit field 1 (inet_service): 'web' isn't a port", PORT, "Could not resolve"),
     # elements
     (add("p", "80 443"), 2, 25, "'443' can't follow an element", COMMA, "syntax error, unexpected number, expecting comma or '}'"),
@@ -230,6 +231,7 @@ TWICE = "leave one of the two out"
 WORD_MISTAKES = [
     ("", "a command is missing", COMMANDS),
     ("lits a.nft", "'lits' isn't a command", "did you mean 'list'?"),
+    ("rn a.nft b.keys", "'rn' isn't a command", "did you mean 'run'?"),
     ("a.nft b.keys", "'a.nft' isn't a command", COMMANDS),
     ("help rnu", "'rnu' isn't a command", "did you mean 'run'?"),
     ("help run list", "'list' is a word too many", "write one command after 'help'"),

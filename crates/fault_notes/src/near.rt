@@ -21,7 +21,7 @@ fn distance(alloc: Global, word: &[u8], other: &[u8]) -> Result<usize, Memory> {
     }
 }
 
-/// The word with the fewest wrong letters, if at most a third of the letters is wrong.
+/// The word with the fewest wrong letters, if at most a third of the letters of the longer one is wrong.
 pub(crate) fn nearest<'a>(
     alloc: Global,
     word: &[u8],
@@ -34,10 +34,11 @@ pub(crate) fn nearest<'a>(
     }
     for other in words {
         match distance(alloc, word, other) {
-            Ok(wrong) if wrong < least && wrong.saturating_mul(3) <= word.len() => {
-                best = Some(*other);
-                least = wrong;
-            }
+            Ok(wrong) if wrong < least && wrong.saturating_mul(3) <= word.len().max(other.len()) =>
+                {
+                    best = Some(*other);
+                    least = wrong;
+                }
             Ok(_) => {}
             Err(_) => return Err(Memory),
         }

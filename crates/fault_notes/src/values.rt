@@ -33,6 +33,8 @@ enum WrongValue<'a> {
     NoPrefix(&'a [u8]),
     /// A range's first value is greater than its second.
     Reversed(&'a [u8], &'a [u8]),
+    /// A range has a `:` in place of `-` between these values.
+    Colon(&'a [u8], &'a [u8]),
     /// One end of a range is missing.
     NoEnd,
     /// It is a value of another kind.
@@ -196,8 +198,23 @@ fn wrong_end(kind: Kind, word: &[u8]) -> WrongValue<'_> {
     }
 }
 
+/// Two values of a kind with a `:` between them.
+fn colon_between(kind: Kind, word: &[u8]) -> Option<(&[u8], &[u8])> {
+    let place = word.iter().position(|byte| *byte == b':')?;
+    let (low, behind) = word.split_at(place);
+    match behind {
+        [_, high @ ..] if read_value(kind, low).is_ok() && read_value(kind, high).is_ok() => {
+            Some((low, high))
+        }
+        _ => None,
+    }
+}
+
 /// What is wrong with a word that is no interval of a kind.
 fn wrong_interval(kind: Kind, word: &[u8]) -> WrongValue<'_> {
+    if let Some((low, high)) = colon_between(kind, word) {
+        return WrongValue::Colon(low, high);
+    }
     let (low, rest) = first_end(word);
     if read_value(kind, low).is_err() {
         return match wrong_end(kind, word) {
@@ -327,6 +344,15 @@ impl Explained {
                     Piece::Word(shortened(high)),
                     Piece::Word(b"-"),
                     Piece::Word(shortened(low)),
+                ],
+            ),
+            WrongValue::Colon(low, high) => self.tell(
+                &[Piece::Word(b"a range has '-' between its ends")],
+                &[
+                    Piece::Word(b"write "),
+                    Piece::Word(shortened(low)),
+                    Piece::Word(b"-"),
+                    Piece::Word(shortened(high)),
                 ],
             ),
             _ => self.say(

@@ -55,10 +55,10 @@
 //!
 //! # Texts
 //!
-//! `read_script` reads a script of nft(8), and `read_keys` the packets of a key file. They refuse a text that isn't in
-//! its grammar, with its line and the reason. `run_steps` does a script's steps on a control, `write_events` writes
-//! their events, and `write_list` a generation as a script again. `transcript`, `listing` and `dump` return what the
-//! commands `run`, `list` and `dump` write.
+//! `read_script` reads a script of nft(8), `read_ruleset` the sets of a ruleset as nft prints it, and `read_keys` the
+//! packets of a key file. They refuse a text that isn't in its grammar, with its line and the reason. `run_steps` does a
+//! script's steps on a control, `write_events` writes their events, and `write_list` a generation as a script again.
+//! `transcript`, `listing` and `dump` return what the commands `run`, `list` and `dump` write.
 //!
 //! **Each call's promise and cost:** docs/library.md. **Definitions:** docs/definitions.md. The contracts of controls
 //! and readers are in `gen_publish`, those of a transaction in `set_space`, and those of a set in `pipapo_image`.
@@ -128,6 +128,9 @@ pub use gen_publish::{Control, Held, Note, Reader, Receipt, start};
 pub use key_file::{KeyError, Reason, read_keys};
 pub use packet_pool::{Gate, OpenGate, run_steps};
 pub use pipapo_image::{Added, ChangeError, Scratch, SetImage as Set};
+pub use ruleset_sets::{
+    RoleToken, Ruleset, SkipReason, Skipped, Skips, leaves_sets_out, read_ruleset,
+};
 pub use script_run::{Output, Refusal, dump, has_numbers, listing, transcript};
 pub use set_compare::{Difference, Lack, compare, first_missing, have_same_kinds};
 pub use set_model::{
