@@ -16,12 +16,13 @@
 //! gives `did you mean 'interval'?`.
 //!
 //! It is proved that a note on a file begins with its name, and with the place of the bad token or byte
-//! if there is one. Tests check the words after it, and the notes on refused changes. A byte of a text
-//! or a name that isn't printable ASCII appears as its number, as `\x1b` does. So no file can move a
-//! terminal.
+//! if there is one. A note on refused changes has a line for each of the first ones, with its place, and
+//! then how many more there are. Tests check the words after the places. A byte of a text or a name that
+//! isn't printable ASCII appears as its number, as `\x1b` does. So no file can move a terminal.
 //!
-//! **Definitions:** `specs/Shown.antt` says how a byte is shown and how a note begins. `Told.antt` says
-//! that one note is printed, or nothing. **Theory:** docs/formats.md, "The standard error".
+//! **Definitions:** `specs/Shown.antt` says how a byte is shown and how a note begins. `Refusals.antt`
+//! has the note on refused changes. `Told.antt` says that one note is printed, or nothing. **Theory:**
+//! docs/formats.md, "The standard error".
 #![tactic(auto)]
 
 mod around;
