@@ -40,6 +40,8 @@ pub enum Verb {
     Desk,
     /// It looks a key up in the last generation of a script.
     Get,
+    /// It compares two scripts at their last generations.
+    Compare,
 }
 
 /// The shape of the words after a command's word, so far.
@@ -106,6 +108,7 @@ impl Verb {
             "capture" => Some(Verb::Capture),
             "desk" => Some(Verb::Desk),
             "get" => Some(Verb::Get),
+            "compare" => Some(Verb::Compare),
             _ => None,
         }
     }
@@ -116,7 +119,7 @@ impl Verb {
     {
         match self {
             Verb::List | Verb::Dump | Verb::Desk | Verb::Get => 1,
-            Verb::Run | Verb::Drill => 2,
+            Verb::Run | Verb::Drill | Verb::Compare => 2,
             Verb::Judge | Verb::Capture => 3,
         }
     }
@@ -126,7 +129,7 @@ impl Verb {
     {
         match self {
             Verb::Run | Verb::Drill | Verb::Judge | Verb::Capture => true,
-            Verb::List | Verb::Dump | Verb::Desk | Verb::Get => false,
+            Verb::List | Verb::Dump | Verb::Desk | Verb::Get | Verb::Compare => false,
         }
     }
 

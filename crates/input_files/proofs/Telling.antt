@@ -1,5 +1,5 @@
 -- Notes on files that can't be had.
-use Rattle.std.proofs.Common.{◌≡◌, ◌∙◌, subst, ℕ, List, Option, Some, Result, Ok}
+use Rattle.std.proofs.Common.{◌≡◌, ◌∙◌, subst, ℕ, List, Option, Some, Result}
 use Rattle.std.specs.Prelude.{IfOk}
 use Rattle.set_model.specs.declared.memory.Memory.{Memory as NoMemory}
 use Rattle.set_model.specs.declared.script.SetDecl.{SetDecl}

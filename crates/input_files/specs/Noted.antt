@@ -36,6 +36,7 @@ pub record NamesBadToken {A : Type 0} (form : Form A) (tokens : List Lexeme) (te
 -- capture's byte.
 abbrev pub NamesFlaw : List SetDecl → List ℕ → List ℕ → Flaw → List ℕ → Type 0
 NamesFlaw sets text name (flaws.Script line reason) note = NamesBadToken script_form (text_tokens text) text name note
+NamesFlaw sets text name (flaws.SecondScript line reason) note = NamesBadToken script_form (text_tokens text) text name note
 NamesFlaw sets text name (flaws.Keys line reason) note = NamesBadToken (key_file sets) (text_tokens text) text name note
 NamesFlaw sets text name (flaws.Rules line reason) note = NamesBadToken (rules_file sets) (plain_tokens text) text name note
 NamesFlaw sets text name (flaws.Plan line reason) note = NamesBadToken (plan_form sets) (plain_tokens text) text name note
