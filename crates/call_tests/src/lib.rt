@@ -12,6 +12,8 @@ mod answers;
 #[cfg(test)]
 mod calls;
 #[cfg(test)]
+mod comparisons;
+#[cfg(test)]
 mod desks;
 #[cfg(test)]
 mod faults;

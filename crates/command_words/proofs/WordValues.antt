@@ -4,9 +4,9 @@ use Rattle.std.specs.Prelude.{IfSome, IsSome}
 use Rattle.std.specs.Borrow.{Bor}
 use Rattle.command_words.specs.declared.words.Arguments.{Arguments}
 use Rattle.command_words.specs.declared.shape.Verb.{Verb}
-use Rattle.command_words.specs.declared.shape.Verb.TheVariants.{Run, List as Lists, Dump, Drill, Judge, Capture, Desk, Get}
+use Rattle.command_words.specs.declared.shape.Verb.TheVariants.{Run, List as Lists, Dump, Drill, Judge, Capture, Desk, Get, Compare}
 use Rattle.command_words.specs.GetWords.{is_file_name}
-use Rattle.command_words.specs.Words.{NameStdinOnce, Command, run, list, dump, drill, judge, capture, desk, get, IsCommand, AreWords, ArePacketWords, AreThreads, IsNumber, last_seed, most_drill_elements}
+use Rattle.command_words.specs.Words.{NameStdinOnce, Command, run, list, dump, drill, judge, capture, desk, get, compare, IsCommand, AreWords, ArePacketWords, AreFileWords, AreThreads, IsNumber, last_seed, most_drill_elements}
 use Rattle.command_words.specs.WordForms.{HasVerb, HasShape, HasArguments, ArePlain, verb_of}
 use Rattle.command_words.proofs.CommandWords.{number-is-name}
 
@@ -42,6 +42,7 @@ module _ (words : List (List ℕ)) where
   arguments-of-command (dump script goes) shape h = some-arguments (codes "dump") (script ∷ []) None goes 1 (omega arith) refl h
   arguments-of-command (desk script goes) shape h = some-arguments (codes "desk") (script ∷ []) None goes 1 (omega arith) refl h
   arguments-of-command (drill seed elements n) shape h = some-arguments (codes "drill") (h.1 ∷ h.2 ∷ []) h.0 false n (omega arith) h.6 h.3
+  arguments-of-command (compare first second goes) shape h = some-arguments (codes "compare") (first ∷ second ∷ []) None goes 1 (omega arith) refl h.0
   arguments-of-command (get script key moment goes) shape h = absurd (shape refl)
 
   -- The words of a command with a shape are such.
@@ -55,7 +56,7 @@ Found = Option (Bor (List ℕ))
 abbrev text_of : Found → Option (List ℕ)
 text_of = option_map (λ w. w.now)
 
--- What the arguments of words with packet threads are, of words with a script alone, and of a drill.
+-- What the arguments of words with packet threads are, of words with a script alone, of words with two names, and of a drill.
 pub record IsPacketOf (words : List (List ℕ)) (a : Arguments) (word : List ℕ) (names : List (List ℕ)) : Type 0 where
   pub count : ℕ
   pub first : text_of a.first ≡ slice_get names 0
@@ -69,6 +70,14 @@ pub record IsAloneOf (words : List (List ℕ)) (a : Arguments) (word : List ℕ)
   pub script : List ℕ
   pub first : text_of a.first ≡ Some script
   pub said : AreWords words word (script ∷ []) None a.keep_going
+
+pub record IsFilesOf (words : List (List ℕ)) (a : Arguments) (word : List ℕ) : Type 0 where
+  pub name : List ℕ
+  pub other : List ℕ
+  pub first : text_of a.first ≡ Some name
+  pub second : text_of a.second ≡ Some other
+  pub said : AreWords words word (name ∷ other ∷ []) None a.keep_going
+  pub once : NameStdinOnce (name ∷ other ∷ [])
 
 pub record IsDrillOf (words : List (List ℕ)) (a : Arguments) : Type 0 where
   pub seed_word : List ℕ
@@ -99,6 +108,7 @@ Of words a Judge = IsTripleOf words a (codes "judge")
 Of words a Capture = IsTripleOf words a (codes "capture")
 Of words a Desk = IsAloneOf words a (codes "desk")
 Of words a Get = ⊥
+Of words a Compare = IsFilesOf words a (codes "compare")
 
 module _ (words : List (List ℕ)) (a : Arguments) (given : (word : List ℕ) (names : List (List ℕ)) (threads : Option (List ℕ)) (keep_going : Bool) → AreWords words word names threads keep_going → ArePlain names threads → HasArguments a names threads keep_going) where
   with-mark : (word : List ℕ) (names : List (List ℕ)) (threads : Option (List ℕ)) (goes : Bool) → a.keep_going ≡ goes → AreWords words word names threads goes → AreWords words word names threads a.keep_going
@@ -124,6 +134,12 @@ module _ (words : List (List ℕ)) (a : Arguments) (given : (word : List ℕ) (n
         once = h.3;
       }
 
+  files : (word first second : List ℕ) (goes : Bool) → AreFileWords words word (first ∷ second ∷ []) goes → IsFilesOf words a word
+  files word first second goes h =
+      let names = first ∷ second ∷ [] in
+      let k = given word names None goes h.0 (record { few = omega arith; no_dash = tt }) in
+      record { name = first; other = second; first = k.first; second = k.second; said = with-mark word names None goes k.mark h.0; once = h.1 }
+
   of-command : (c : Command) → HasShape (verb_of c) → IsCommand words c → Of words a (verb_of c)
   of-command (run script keys n goes) shape h = (script, keys, packets (codes "run") (script ∷ keys ∷ []) n goes (omega arith) h)
   of-command (judge script rules keys n goes) shape h = (script, rules, keys, packets (codes "judge") (script ∷ rules ∷ keys ∷ []) n goes (omega arith) h)
@@ -145,6 +161,7 @@ module _ (words : List (List ℕ)) (a : Arguments) (given : (word : List ℕ) (n
         threads_are = subst (λ (o : Option (List ℕ)). AreThreads o n) (sym k.threads_are) h.6;
         said = with-threads (codes "drill") (h.1 ∷ h.2 ∷ []) h.0 false k.threads_are h.3;
       }
+  of-command (compare first second goes) shape h = files (codes "compare") first second goes h
   of-command (get script key moment goes) shape h = absurd (shape refl)
 
   -- The arguments of words that are a command with a shape.
@@ -170,6 +187,7 @@ module _ (words : List (List ℕ)) (a : Arguments) where
   has-first Capture of = there a.first of.0 of.3.first
   has-first Desk of = there a.first of.script of.first
   has-first Get of = absurd of
+  has-first Compare of = there a.first of.name of.first
 
   pub pair-second : (word : List ℕ) → IsPairOf words a word → IsSome a.second
   pair-second word of = there a.second of.1 of.2.second
@@ -179,6 +197,9 @@ module _ (words : List (List ℕ)) (a : Arguments) where
 
   pub triple-third : (word : List ℕ) → IsTripleOf words a word → IsSome a.third
   triple-third word of = there a.third of.2 of.3.third
+
+  pub files-second : (word : List ℕ) → IsFilesOf words a word → IsSome a.second
+  files-second word of = there a.second of.other of.second
 
   pub drill-second : IsDrillOf words a → IsSome a.second
   drill-second of = there a.second of.count_word of.second
@@ -201,6 +222,13 @@ module _ (words : List (List ℕ)) (a : Arguments) where
           let script = found-is a.first first of.0 first_is of.2.first in
           let other = found-is a.second second of.1 second_is of.2.second in
           is-packet word n (of.0 ∷ of.1 ∷ []) (first.now ∷ second.now ∷ []) (cc (script, other)) threads_are of.2
+
+      pub is-files : (word : List ℕ) → IsFilesOf words a word → AreFileWords words word (first.now ∷ second.now ∷ []) a.keep_going
+      is-files word of =
+          let name = found-is a.first first of.name first_is of.first in
+          let other = found-is a.second second of.other second_is of.second in
+          let same : of.name ∷ of.other ∷ [] ≡ first.now ∷ second.now ∷ [] = cc (name, other) in
+          (subst (λ (ws : List (List ℕ)). AreWords words word ws None a.keep_going) same of.said, subst (λ (ws : List (List ℕ)). NameStdinOnce ws) same of.once)
 
       pub is-triple : (word : List ℕ) (n : ℕ) (third : Bor (List ℕ)) → a.third ≡ Some third → AreThreads (text_of a.threads) n → IsTripleOf words a word → ArePacketWords words word (first.now ∷ second.now ∷ third.now ∷ []) n a.keep_going
       is-triple word n third third_is threads_are of =

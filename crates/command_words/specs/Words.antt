@@ -24,6 +24,7 @@ verb_word verbs.Judge = codes "judge"
 verb_word verbs.Capture = codes "capture"
 verb_word verbs.Desk = codes "desk"
 verb_word verbs.Get = codes "get"
+verb_word verbs.Compare = codes "compare"
 
 abbrev pub threads_word : List ℕ
 threads_word = codes "--threads"
@@ -75,6 +76,7 @@ pub data Command : Type 0 where
   capture : (script plan packets : List ℕ) (threads : ℕ) (keep_going : Bool) → Command
   desk : (script : List ℕ) (keep_going : Bool) → Command
   get : (script : List ℕ) (key : List (List ℕ)) (moment : Option ℕ) (keep_going : Bool) → Command
+  compare : (first second : List ℕ) (keep_going : Bool) → Command
 
 -- At most one of the names is the standard input.
 abbrev pub NameStdinOnce : List (List ℕ) → Type 0
@@ -84,6 +86,10 @@ NameStdinOnce names = count_by is_stdin names ≤ 1
 -- look packets up.
 abbrev pub ArePacketWords : List (List ℕ) → List ℕ → List (List ℕ) → ℕ → Bool → Type 0
 ArePacketWords words first names n keep_going = (threads : Option (List ℕ)) × AreWords words first names threads keep_going × AreThreads threads n × NameStdinOnce names
+
+-- The words are this one, the names of files, and perhaps `--keep-going`.
+abbrev pub AreFileWords : List (List ℕ) → List ℕ → List (List ℕ) → Bool → Type 0
+AreFileWords words first names keep_going = AreWords words first names None keep_going × NameStdinOnce names
 
 -- The words are `get` and what it asks.
 pub record AreGetWords (words : List (List ℕ)) (asks : Asked) : Type 0 where
@@ -101,6 +107,7 @@ IsCommand words (drill seed count n) = (threads : Option (List ℕ)) × (seed_wo
 IsCommand words (judge script rules keys n keep_going) = ArePacketWords words (codes "judge") (script ∷ rules ∷ keys ∷ []) n keep_going
 IsCommand words (capture script plan packets n keep_going) = ArePacketWords words (codes "capture") (script ∷ plan ∷ packets ∷ []) n keep_going
 IsCommand words (desk script keep_going) = AreWords words (codes "desk") (script ∷ []) None keep_going
+IsCommand words (compare first second keep_going) = AreFileWords words (codes "compare") (first ∷ second ∷ []) keep_going
 IsCommand words (get script key moment keep_going) = AreGetWords words (record { script = script; key = key; moment = moment; keep_going = keep_going })
 
 -- The words ask for a text about the program: help on it or on one of its commands, or its version.
@@ -116,7 +123,7 @@ pub record IsNoCommand (words : List (List ℕ)) : Type 0 where
 
 -- The words are a command of one of these sorts: a run of a script beside a key file, a listing of a
 -- script, or a dump of its tables; a drill; a run whose packets a rules file judges, or whose packets a
--- plan takes from a capture; or a script by several control threads; or a question for a key.
+-- plan takes from a capture; or a script by several control threads; or a question for a key; or a comparison of two scripts.
 abbrev pub IsRunCommand : List (List ℕ) → List ℕ → List ℕ → ℕ → Bool → Type 0
 IsRunCommand words script keys threads keep_going = IsCommand words (run script keys threads keep_going)
 
@@ -141,6 +148,9 @@ IsDeskCommand words script keep_going = IsCommand words (desk script keep_going)
 abbrev pub IsGetCommand : List (List ℕ) → List ℕ → List (List ℕ) → Option ℕ → Bool → Type 0
 IsGetCommand words script key moment keep_going = IsCommand words (get script key moment keep_going)
 
+abbrev pub IsCompareCommand : List (List ℕ) → List ℕ → List ℕ → Bool → Type 0
+IsCompareCommand words first second keep_going = IsCommand words (compare first second keep_going)
+
 -- the names of the files that a command reads, in their order
 abbrev pub file_names : Command → List (List ℕ)
 file_names (run script keys threads keep_going) = script ∷ keys ∷ []
@@ -151,6 +161,7 @@ file_names (judge script rules keys threads keep_going) = script ∷ rules ∷ k
 file_names (capture script plan packets threads keep_going) = script ∷ plan ∷ packets ∷ []
 file_names (desk script keep_going) = script ∷ []
 file_names (get script key moment keep_going) = script ∷ []
+file_names (compare first second keep_going) = first ∷ second ∷ []
 
 -- The first file of a command is its script.
 abbrev pub IsScriptOf : Command → List ℕ → Type 0

@@ -15,12 +15,14 @@ usage: pipapo run SCRIPT KEYS [--threads N] [--keep-going]
        pipapo capture SCRIPT PLAN PCAP [--threads N] [--keep-going]
        pipapo desk SCRIPT [--keep-going]
        pipapo get [--at MOMENT] [--keep-going] SCRIPT KEY ..
+       pipapo compare SCRIPT1 SCRIPT2 [--keep-going]
        pipapo help [COMMAND], pipapo [COMMAND] --help, pipapo [COMMAND] -h
        pipapo --version, pipapo -V
 
 commands:
-  to ask what holds a key:
+  to ask about keys:
     get      runs SCRIPT, and prints the element that holds a key, with the line that added it
+    compare  runs two scripts, and prints for each set whether they decide alike on every key
   to run a script:
     run      runs SCRIPT beside the packets of KEYS, and writes the transcript
     judge    as run, but each packet is judged by the chains of RULES
@@ -43,7 +45,8 @@ A value may also follow its option in one word, as --threads=4.
 
 statuses:
   0   the whole output was written, and no change was refused
-  1   the whole output was written, and a change was refused, or a get found no element
+  1   the whole output was written, and a change was refused, or a get found no element, or a
+      compare found a difference
   2   the words are no command
   3   the script isn't in its grammar
   4   the key file isn't in its grammar
@@ -202,4 +205,23 @@ options, before SCRIPT:
 statuses: 0 an element holds the key and no change was refused, 1 no element does or a change
 was refused, 3 SCRIPT isn't in its grammar, 13 the words are no key, 5 SCRIPT can't be read, 6 the
 standard output failed, 7 want of memory, 8 SCRIPT is too large
+";
+
+/// The page of `compare`.
+pub const COMPARE: &str = "\
+usage: pipapo compare SCRIPT1 SCRIPT2 [--keep-going]
+
+Runs both scripts, and compares their sets at their last generations and moments. Two sets of one
+family, table and name are the same if for each key both have an element or neither does. Prints a
+line for each set: same, or differs with the least key that only one of them has, the element that
+holds it and its line. If each has a key that the other lacks, there are two lines. Then come the
+sets that only one script has. Refused changes come first, as comments. One script may be -, the
+standard input.
+
+options, before or behind the names:
+  --keep-going   a refused change is skipped, and doesn't fail its transaction
+
+statuses: 0 all sets are the same and no change was refused, 1 sets differ or a change was refused,
+3 a script isn't in its grammar, 5 a script can't be read, 6 the standard output failed, 7 want of
+memory, 8 a script is too large
 ";

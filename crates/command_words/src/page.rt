@@ -3,7 +3,7 @@ ghost use Rattle.std.specs.String.{string_bytes};
 ghost use Rattle.command_words.specs.Words.{AsksFor};
 ghost use Rattle.command_words.specs.WordForms.{page_text};
 
-use crate::help::{CAPTURE, DESK, DRILL, DUMP, GET, JUDGE, LIST, PROGRAM, RUN, VERSION};
+use crate::help::{CAPTURE, COMPARE, DESK, DRILL, DUMP, GET, JUDGE, LIST, PROGRAM, RUN, VERSION};
 use crate::shape::Verb;
 
 /// A text that the program prints about itself.
@@ -32,6 +32,7 @@ impl Page {
             Page::Command(Verb::Capture) => CAPTURE,
             Page::Command(Verb::Desk) => DESK,
             Page::Command(Verb::Get) => GET,
+            Page::Command(Verb::Compare) => COMPARE,
             Page::Version => VERSION,
         }
     }

@@ -44,6 +44,8 @@ pub enum Verb {
     Desk,
     /// It looks a key up in the last generation of a script.
     Get,
+    /// It compares two scripts at their last generations.
+    Compare,
 }
 
 /// The shape of the words after a command's word, so far.
@@ -117,6 +119,7 @@ impl Verb {
             "capture" => Some(Verb::Capture),
             "desk" => Some(Verb::Desk),
             "get" => Some(Verb::Get),
+            "compare" => Some(Verb::Compare),
             _ => None,
         }
     }
@@ -127,7 +130,7 @@ impl Verb {
     {
         match self {
             Verb::List | Verb::Dump | Verb::Desk | Verb::Get => 1,
-            Verb::Run | Verb::Drill => 2,
+            Verb::Run | Verb::Drill | Verb::Compare => 2,
             Verb::Judge | Verb::Capture => 3,
         }
     }
@@ -137,7 +140,7 @@ impl Verb {
     {
         match self {
             Verb::Run | Verb::Drill | Verb::Judge | Verb::Capture => true,
-            Verb::List | Verb::Dump | Verb::Desk | Verb::Get => false,
+            Verb::List | Verb::Dump | Verb::Desk | Verb::Get | Verb::Compare => false,
         }
     }
 

@@ -68,6 +68,12 @@ pub enum Command<'a> {
         count: u32,
         threads: u32,
     },
+    /// A comparison of the scripts of these names.
+    Compare {
+        first: &'a str,
+        second: &'a str,
+        keep_going: bool,
+    },
 }
 
 /// Why words give no command.
@@ -222,6 +228,11 @@ fn command_with<'a>(
             keep_going,
         }),
         Verb::Get => unreachable!(),
+        Verb::Compare => Ok(Command::Compare {
+            first,
+            second: second.unwrap(),
+            keep_going,
+        }),
         Verb::Drill => Ok(Command::Drill {
             seed: written_number(first, 0, u64::MAX),
             count: written_number(second.unwrap(), 1, MOST_ELEMENTS) as u32,

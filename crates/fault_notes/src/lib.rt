@@ -24,7 +24,8 @@
 //! isn't printable ASCII appears as its number, as `\x1b` does. So no file can move a terminal.
 //!
 //! **Definitions:** `specs/Shown.antt` says how a byte is shown and how a note begins. `Refusals.antt`
-//! has the note on refused changes. `Told.antt` says that one note is printed, or nothing. **Theory:** docs/formats.md, "The standard error".
+//! has the note on refused changes. `Told.antt` says that one note is printed, or nothing. **Theory:**
+//! docs/formats.md, "The standard error".
 #![tactic(auto)]
 
 mod around;

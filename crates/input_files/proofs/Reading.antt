@@ -27,12 +27,13 @@ use Rattle.command_words.specs.declared.words.Command.TheVariants as asked
 use Rattle.command_words.specs.WordForms.{plain}
 use Rattle.command_words.specs.Words.{Command}
 use Rattle.input_files.specs.declared.fault.Flaw.{Flaw}
+use Rattle.input_files.specs.declared.fault.Flaw.TheVariants as flaws
 use Rattle.input_files.specs.declared.fault.FileFault.{FileFault}
 use Rattle.input_files.specs.declared.fault.FileFault.TheVariants.{Bad, ReadFault, TooLarge, Memory}
-use Rattle.input_files.specs.Inputs.{Input, script, keys, rules, plan, capture, names_of, inputs, form_of, IsOf, IsFlawed, ReadsAs, IsFileCause}
+use Rattle.input_files.specs.Inputs.{Input, script, second, keys, rules, plan, capture, names_of, inputs, form_of, IsOf, IsFlawed, ReadsAs, IsFileCause, as_second}
 use Rattle.fault_notes.specs.Told.{MayTell}
 use Rattle.input_files.specs.Noted.{IsNoteOn, StopsTelling}
-use Rattle.input_files.specs.Reads.{AreOf, AreReadWhole, AreRead, HasRead, StopsAt}
+use Rattle.input_files.specs.Reads.{AreOf, AreReadWhole, AreRead, HasRead}
 use Rattle.fault_notes.proofs.ToldLaws.{tells-as}
 use Rattle.input_files.proofs.Telling.{same-note}
 
@@ -75,6 +76,9 @@ whole-more old mid new left_mid left n w kept picks r =
 pub as-script : (told : List ℕ → Option (List ℕ)) (name : List ℕ) (s : Script) → ReadsAs told name (λ text. IsScriptText text s) → ReadsAs told name (IsOf script s.schema)
 as-script told name s read text at = let r = read text at in (r.0, (s, r.1, refl))
 
+pub as-other : (told : List ℕ → Option (List ℕ)) (name : List ℕ) (sets : List SetDecl) (s : Script) → ReadsAs told name (λ text. IsScriptText text s) → ReadsAs told name (IsOf second sets)
+as-other told name sets s read text at = let r = read text at in (r.0, (s, r.1))
+
 pub as-keys : (told : List ℕ → Option (List ℕ)) (name : List ℕ) (sets : List SetDecl) (packets : List (List Packet)) → ReadsAs told name (λ text. IsKeysText sets text packets) → ReadsAs told name (IsOf keys sets)
 as-keys told name sets packets read text at = let r = read text at in (r.0, (packets, r.1))
 
@@ -96,6 +100,34 @@ pub bad-cause : (told : List ℕ → Option (List ℕ)) (others asked : List (Li
     → ((text : List ℕ) → told i.name ≡ Some text → all ≡ text) → length all ≤ size_limit → slice ≡ all → IsFlawed sets slice flaw → IsFileCause told sets others i asked before now (Bad flaw)
 bad-cause told others asked before now sets i flaw all slice quiet form bytes limit same flawed =
     (quiet.0, quiet.1, form, λ text at. (subst (λ (t : List ℕ). length t ≤ size_limit) (bytes text at) limit, subst (λ (t : List ℕ). IsFlawed sets t flaw) (same ∙ bytes text at) flawed))
+
+-- Why a script failed is why it failed as a second script, and a note on it is one on the second script.
+pub second-cause : (told : List ℕ → Option (List ℕ)) (sets : List SetDecl) (others asked : List (List ℕ)) (before now : ℕ) (name : List ℕ) (fault : FileFault) → IsFileCause told sets others (record { name = name; form = script }) asked before now fault
+    → IsFileCause told sets others (record { name = name; form = second }) asked before now (as_second fault)
+second-cause told sets others asked before now name (Bad (flaws.Script line reason)) h = (h.0, h.1, refl, h.3)
+second-cause told sets others asked before now name (Bad (flaws.SecondScript line reason)) h = absurd (let e = h.2 in cc e)
+second-cause told sets others asked before now name (Bad (flaws.Keys line reason)) h = absurd (let e = h.2 in cc e)
+second-cause told sets others asked before now name (Bad (flaws.Rules line reason)) h = absurd (let e = h.2 in cc e)
+second-cause told sets others asked before now name (Bad (flaws.Plan line reason)) h = absurd (let e = h.2 in cc e)
+second-cause told sets others asked before now name (Bad (flaws.Capture byte reason)) h = absurd (let e = h.2 in cc e)
+second-cause told sets others asked before now name (ReadFault n) h = h
+second-cause told sets others asked before now name (TooLarge n) h = h
+second-cause told sets others asked before now name Memory h = h
+
+note-on-second : (told : List ℕ → Option (List ℕ)) (sets : List SetDecl) (name : List ℕ) (fault : FileFault) (text : List ℕ) → IsNoteOn told sets name fault text → IsNoteOn told sets name (as_second fault) text
+note-on-second told sets name (Bad (flaws.Script line reason)) text h = h
+note-on-second told sets name (Bad (flaws.SecondScript line reason)) text h = h
+note-on-second told sets name (Bad (flaws.Keys line reason)) text h = h
+note-on-second told sets name (Bad (flaws.Rules line reason)) text h = h
+note-on-second told sets name (Bad (flaws.Plan line reason)) text h = h
+note-on-second told sets name (Bad (flaws.Capture byte reason)) text h = h
+note-on-second told sets name (ReadFault n) text h = h
+note-on-second told sets name (TooLarge n) text h = h
+note-on-second told sets name Memory text h = h
+
+pub second-noted : (told : List ℕ → Option (List ℕ)) (sets : List SetDecl) (name : List ℕ) (fault other : FileFault) (before now : Option (List ℕ)) → other ≡ as_second fault → MayTell (IsNoteOn told sets name fault) before now → MayTell (IsNoteOn told sets name other) before now
+second-noted told sets name fault other before now is tells =
+    subst (λ (f : FileFault). MayTell (IsNoteOn told sets name f) before now) (sym is) (tells-as (IsNoteOn told sets name fault) (IsNoteOn told sets name (as_second fault)) before now (note-on-second told sets name fault) tells)
 
 names-append : (files : List Input) (i : Input) → names_of (files ++ i ∷ []) ≡ names_of files ++ i.name ∷ []
 names-append [] i = refl

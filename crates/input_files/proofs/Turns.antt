@@ -7,10 +7,10 @@ use Rattle.set_script.proofs.ScriptWhole.{script_single}
 use Rattle.key_file.specs.KeysText.{IsKeysText}
 use Rattle.rule_chain.specs.RulesText.{IsRulesText}
 use Rattle.pcap_keys.specs.PlansText.{IsPlanText}
-use Rattle.command_words.specs.Words.{Command, run, list, dump, drill, judge, capture as capture_command, desk, get}
+use Rattle.command_words.specs.Words.{Command, run, list, dump, drill, judge, capture as capture_command, desk, get, compare}
 use Rattle.input_files.specs.declared.fault.Flaw.{Flaw}
 use Rattle.input_files.specs.declared.fault.Flaw.TheVariants as flaws
-use Rattle.input_files.specs.Inputs.{Input, FileForm, script, keys, rules, plan, capture, inputs, form_of, IsOf, IsFlawed, ReadsAs}
+use Rattle.input_files.specs.Inputs.{Input, FileForm, script, second, keys, rules, plan, capture, inputs, form_of, IsOf, IsFlawed, ReadsAs}
 use Rattle.input_files.specs.Reads.{AreOf}
 use Rattle.input_files.specs.Given.{Has, AreGiven}
 
@@ -61,14 +61,25 @@ module _ (told : List ℕ → Option (List ℕ)) where
 pub no-script : (sets others : List SetDecl) (text : List ℕ) (flaw : Flaw) → form_of flaw ≡ script → IsFlawed sets text flaw → IsOf script others text → ⊥
 unfolding IsScriptText
 no-script sets others text (flaws.Script line reason) e h w = h.outside w.0 w.1
+no-script sets others text (flaws.SecondScript line reason) e h w = cc e
 no-script sets others text (flaws.Keys line reason) e h w = cc e
 no-script sets others text (flaws.Rules line reason) e h w = cc e
 no-script sets others text (flaws.Plan line reason) e h w = cc e
 no-script sets others text (flaws.Capture byte reason) e h w = cc e
 
+no-second : (sets others : List SetDecl) (text : List ℕ) (flaw : Flaw) → form_of flaw ≡ second → IsFlawed sets text flaw → IsOf second others text → ⊥
+unfolding IsScriptText
+no-second sets others text (flaws.Script line reason) e h w = cc e
+no-second sets others text (flaws.SecondScript line reason) e h w = h.outside w.0 w.1
+no-second sets others text (flaws.Keys line reason) e h w = cc e
+no-second sets others text (flaws.Rules line reason) e h w = cc e
+no-second sets others text (flaws.Plan line reason) e h w = cc e
+no-second sets others text (flaws.Capture byte reason) e h w = cc e
+
 no-keys : (sets : List SetDecl) (text : List ℕ) (flaw : Flaw) → form_of flaw ≡ keys → IsFlawed sets text flaw → IsOf keys sets text → ⊥
 unfolding IsKeysText
 no-keys sets text (flaws.Script line reason) e h w = cc e
+no-keys sets text (flaws.SecondScript line reason) e h w = cc e
 no-keys sets text (flaws.Keys line reason) e h w = h.outside w.0 w.1
 no-keys sets text (flaws.Rules line reason) e h w = cc e
 no-keys sets text (flaws.Plan line reason) e h w = cc e
@@ -77,6 +88,7 @@ no-keys sets text (flaws.Capture byte reason) e h w = cc e
 no-rules : (sets : List SetDecl) (text : List ℕ) (flaw : Flaw) → form_of flaw ≡ rules → IsFlawed sets text flaw → IsOf rules sets text → ⊥
 unfolding IsRulesText
 no-rules sets text (flaws.Script line reason) e h w = cc e
+no-rules sets text (flaws.SecondScript line reason) e h w = cc e
 no-rules sets text (flaws.Keys line reason) e h w = cc e
 no-rules sets text (flaws.Rules line reason) e h w = h.outside w.0 w.1
 no-rules sets text (flaws.Plan line reason) e h w = cc e
@@ -85,6 +97,7 @@ no-rules sets text (flaws.Capture byte reason) e h w = cc e
 no-plan : (sets : List SetDecl) (text : List ℕ) (flaw : Flaw) → form_of flaw ≡ plan → IsFlawed sets text flaw → IsOf plan sets text → ⊥
 unfolding IsPlanText
 no-plan sets text (flaws.Script line reason) e h w = cc e
+no-plan sets text (flaws.SecondScript line reason) e h w = cc e
 no-plan sets text (flaws.Keys line reason) e h w = cc e
 no-plan sets text (flaws.Rules line reason) e h w = cc e
 no-plan sets text (flaws.Plan line reason) e h w = h.outside w.0 w.1
@@ -92,6 +105,7 @@ no-plan sets text (flaws.Capture byte reason) e h w = cc e
 
 no-capture : (sets others : List SetDecl) (text : List ℕ) (flaw : Flaw) → form_of flaw ≡ capture → IsFlawed sets text flaw → IsOf capture others text → ⊥
 no-capture sets others text (flaws.Script line reason) e h w = cc e
+no-capture sets others text (flaws.SecondScript line reason) e h w = cc e
 no-capture sets others text (flaws.Keys line reason) e h w = cc e
 no-capture sets others text (flaws.Rules line reason) e h w = cc e
 no-capture sets others text (flaws.Plan line reason) e h w = cc e
@@ -99,6 +113,7 @@ no-capture sets others text (flaws.Capture byte reason) e h w = cc (h, w.1)
 
 pub not-of : (sets : List SetDecl) (text : List ℕ) (flaw : Flaw) (form : FileForm) → form_of flaw ≡ form → IsFlawed sets text flaw → IsOf form sets text → ⊥
 not-of sets text flaw script e h w = no-script sets sets text flaw e h w
+not-of sets text flaw second e h w = no-second sets sets text flaw e h w
 not-of sets text flaw keys e h w = no-keys sets text flaw e h w
 not-of sets text flaw rules e h w = no-rules sets text flaw e h w
 not-of sets text flaw plan e h w = no-plan sets text flaw e h w
@@ -117,6 +132,7 @@ first-is-script c a i later e = go c a e where
   go (dump s g) a e = head-is _ _ a refl e
   go (desk s g) a e = head-is _ _ a refl e
   go (get s k m g) a e = head-is _ _ a refl e
+  go (compare f s g) a e = head-is _ _ a refl e
   go (judge s r k n g) a e = head-is _ _ a refl e
   go (capture_command s p f n g) a e = head-is _ _ a refl e
   go (drill s k n) [] e = absurd (cc e)

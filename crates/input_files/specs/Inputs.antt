@@ -19,7 +19,7 @@ use Rattle.pcap_keys.specs.PlansText.{IsPlanText, IsBadPlan}
 use Rattle.pip_base.specs.Causes.{Rose}
 use Rattle.pip_base.specs.Picks.{AsksOnce}
 use Rattle.pip_base.specs.Whole.{size_limit}
-use Rattle.command_words.specs.Words.{Command, run, list, dump, drill, judge, capture as capture_command, desk, get}
+use Rattle.command_words.specs.Words.{Command, run, list, dump, drill, judge, capture as capture_command, desk, get, compare}
 use Rattle.input_files.specs.declared.fault.Flaw.{Flaw}
 use Rattle.input_files.specs.declared.fault.Flaw.TheVariants as flaws
 use Rattle.input_files.specs.declared.fault.FileFault.{FileFault}
@@ -28,6 +28,7 @@ use Rattle.input_files.specs.declared.fault.FileFault.TheVariants.{Bad, ReadFaul
 -- the form of a file
 pub data FileForm : Type 0 where
   script : FileForm
+  second : FileForm
   keys : FileForm
   rules : FileForm
   plan : FileForm
@@ -51,11 +52,13 @@ inputs (judge s r k threads keep_going) = record { name = s; form = script } ∷
 inputs (capture_command s p c threads keep_going) = record { name = s; form = script } ∷ record { name = p; form = plan } ∷ record { name = c; form = capture } ∷ []
 inputs (desk s keep_going) = record { name = s; form = script } ∷ []
 inputs (get s key moment keep_going) = record { name = s; form = script } ∷ []
+inputs (compare a b keep_going) = record { name = a; form = script } ∷ record { name = b; form = second } ∷ []
 
 -- A text is of a form, for a script that declares these sets: it is that script; or a key file, a rules
--- file or a plan for these sets; or a capture, which doesn't depend on the sets.
+-- file or a plan for these sets; or a second script or a capture, which don't depend on the sets.
 abbrev pub IsOf : FileForm → List SetDecl → List ℕ → Type 0
 IsOf script sets text = (s : Script) × IsScriptText text s × (s.schema ≡ sets)
+IsOf second sets text = (s : Script) × IsScriptText text s
 IsOf keys sets text = (packets : List (List Packet)) × IsKeysText sets text packets
 IsOf rules sets text = (chains : List Chain × Bool) × IsRulesText sets text chains
 IsOf plan sets text = (lines : List PlanLine) × IsPlanText sets text lines
@@ -64,6 +67,7 @@ IsOf capture sets text = (frames : List Frame) × IsCapture text frames
 -- the form to which a flaw belongs
 abbrev pub form_of : Flaw → FileForm
 form_of (flaws.Script line reason) = script
+form_of (flaws.SecondScript line reason) = second
 form_of (flaws.Keys line reason) = keys
 form_of (flaws.Rules line reason) = rules
 form_of (flaws.Plan line reason) = plan
@@ -73,6 +77,7 @@ form_of (flaws.Capture byte reason) = capture
 -- has this reason; or its first fault as a capture is this one.
 abbrev pub IsFlawed : List SetDecl → List ℕ → Flaw → Type 0
 IsFlawed sets text (flaws.Script line reason) = IsFault script_form (text_tokens text) line reason
+IsFlawed sets text (flaws.SecondScript line reason) = IsFault script_form (text_tokens text) line reason
 IsFlawed sets text (flaws.Keys line reason) = IsFault (key_file sets) (text_tokens text) line reason
 IsFlawed sets text (flaws.Rules line reason) = IsBadRules sets text line reason
 IsFlawed sets text (flaws.Plan line reason) = IsBadPlan sets text line reason
@@ -93,3 +98,15 @@ IsFileCause told sets others i asked before now (Bad flaw) = (asked ≡ others +
 IsFileCause told sets others i asked before now (ReadFault name) = (asked ≡ others ++ i.name ∷ []) × (name.now ≡ i.name) × Rose before now
 IsFileCause told sets others i asked before now (TooLarge name) = (asked ≡ others ++ i.name ∷ []) × (name.now ≡ i.name) × (now ≡ before) × IsTooLarge told i.name
 IsFileCause told sets others i asked before now Memory = AsksOnce others asked i.name × (now ≡ before)
+
+-- The same fault of a command's second script.
+abbrev pub as_second : FileFault → FileFault
+as_second (Bad (flaws.Script line reason)) = Bad (flaws.SecondScript line reason)
+as_second (Bad (flaws.SecondScript line reason)) = Bad (flaws.SecondScript line reason)
+as_second (Bad (flaws.Keys line reason)) = Bad (flaws.Keys line reason)
+as_second (Bad (flaws.Rules line reason)) = Bad (flaws.Rules line reason)
+as_second (Bad (flaws.Plan line reason)) = Bad (flaws.Plan line reason)
+as_second (Bad (flaws.Capture byte reason)) = Bad (flaws.Capture byte reason)
+as_second (ReadFault name) = ReadFault name
+as_second (TooLarge name) = TooLarge name
+as_second Memory = Memory

@@ -64,6 +64,7 @@ pub record NamesBadTokens (text name note : List ℕ) : Type 0 where
 -- capture's byte. In a script further bad tokens follow.
 abbrev pub NamesFlaw : List SetDecl → List ℕ → List ℕ → Flaw → List ℕ → Type 0
 NamesFlaw sets text name (flaws.Script line reason) note = NamesBadTokens text name note
+NamesFlaw sets text name (flaws.SecondScript line reason) note = NamesBadTokens text name note
 NamesFlaw sets text name (flaws.Keys line reason) note = NamesBadToken (key_file sets) (text_tokens text) text name note
 NamesFlaw sets text name (flaws.Rules line reason) note = NamesBadToken (rules_file sets) (plain_tokens text) text name note
 NamesFlaw sets text name (flaws.Plan line reason) note = NamesBadToken (plan_form sets) (plain_tokens text) text name note

@@ -8,7 +8,7 @@ use Rattle.rule_chain.specs.RulesText.{IsRulesText}
 use Rattle.pcap_keys.specs.CapturedPackets.{IsCapture}
 use Rattle.pcap_keys.specs.Fitting.{HasValues, IsPlanned}
 use Rattle.pcap_keys.specs.PlansText.{IsPlanText}
-use Rattle.command_words.specs.Words.{Command, run, list, dump, drill, judge, capture, desk, get}
+use Rattle.command_words.specs.Words.{Command, run, list, dump, drill, judge, capture, desk, get, compare}
 use Rattle.input_files.specs.declared.work.Work.{Work}
 use Rattle.input_files.specs.declared.work.Work.TheVariants as works
 use Rattle.input_files.specs.Inputs.{ReadsAs}
@@ -28,6 +28,7 @@ IsWork told c (works.Capture script plan frames threads keep_going) =
     × ReadsAs told p (λ text. IsPlanText script.schema text plan) × ReadsAs told f (λ text. IsCapture text frames)
 IsWork told c (works.Get script key moment keep_going) = (s : List ℕ) × (c ≡ get s (map string_bytes key.now) moment keep_going) × ReadsAs told s (λ text. IsScriptText text script)
 IsWork told c (works.Desk script keep_going) = (s : List ℕ) × (c ≡ desk s keep_going) × ReadsAs told s (λ text. IsScriptText text script)
+IsWork told c (works.Compare a s b t keep_going) = (c ≡ compare a.now b.now keep_going) × ReadsAs told a.now (λ text. IsScriptText text s) × ReadsAs told b.now (λ text. IsScriptText text t)
 
 -- There is at least one packet thread, and there are at most sixteen.
 abbrev pub FewThreads : ℕ → Type 0
@@ -43,3 +44,4 @@ IsDoable (works.Judge script chains keys threads keep_going) = IsRunnable script
 IsDoable (works.Capture script plan frames threads keep_going) = IsRunnable script × All (IsPlanned script.schema) plan × All HasValues frames × FewThreads threads
 IsDoable (works.Desk script keep_going) = IsRunnable script
 IsDoable (works.Get script key moment keep_going) = IsRunnable script
+IsDoable (works.Compare a s b t keep_going) = IsRunnable s × IsRunnable t

@@ -7,6 +7,8 @@ use token_forms::Reason;
 pub enum Flaw {
     /// The script isn't in the grammar: the line of its first token that doesn't fit.
     Script { line: u64, reason: Reason },
+    /// The second script isn't in the grammar.
+    SecondScript { line: u64, reason: Reason },
     /// The key file isn't in the grammar under the script's sets.
     Keys { line: u64, reason: Reason },
     /// The rules file isn't in the grammar under the script's sets.

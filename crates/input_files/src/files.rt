@@ -13,7 +13,7 @@ ghost use Rattle.pip_base.specs.Picks.{AsksOnce, KeepsLeft, ReadsToEnd};
 ghost use Rattle.pip_base.specs.Whole.{size_limit};
 ghost use Rattle.fault_notes.specs.Told.{MayTell};
 ghost use Rattle.input_files.specs.Inputs as inputs;
-ghost use Rattle.input_files.specs.Inputs.{Input, ReadsAs, IsFileCause};
+ghost use Rattle.input_files.specs.Inputs.{Input, ReadsAs, IsFileCause, as_second};
 ghost use Rattle.input_files.specs.Noted.{IsNoteOn};
 
 use crate::fault::{FileFault, Flaw};
@@ -93,6 +93,43 @@ pub fn script_of<'a, F: Shelf, N: Notes>(
             Err(FileFault::Bad(Flaw::Script { line, reason }))
         }
         Err(FormError::Memory) => Err(FileFault::Memory),
+    }
+}
+
+/// The fault of a command's second script.
+fn of_second(fault: FileFault<'_>) -> FileFault<'_>
+    ensures { result ≡ as_second fault.entry }
+{
+    match fault {
+        FileFault::Bad(Flaw::Script { line, reason }) => {
+            FileFault::Bad(Flaw::SecondScript { line, reason })
+        }
+        _ => fault,
+    }
+}
+
+/// The script of the file with this name, which is the second script of a command.
+pub fn second_script_of<'a, F: Shelf, N: Notes>(
+    alloc: Global,
+    shelf: &mut F,
+    notes: &mut N,
+    name: &'a str,
+) -> Result<Script, FileFault<'a>>
+    requires { length (F.asked shelf.old) ≤ 2 }
+    ensures runnable { IfOk result IsRunnable }
+    ensures read { IfOk result (λ script. ReadsAs (F.told shelf.old) name.now (λ text. IsScriptText text script)) }
+    ensures quiet { OnOk result ((F.asked shelf.new ≡ F.asked shelf.old ++ name.now ∷ []) × (F.faults shelf.new ≡ F.faults shelf.old)) }
+    ensures whole { OnOk result (ReadsToEnd (F.is_picked shelf.old) (F.is_picked shelf.new) (F.left shelf.new)) }
+    ensures kept { KeepsLeft (F.is_picked shelf.old) (F.is_picked shelf.new) (F.left shelf.old) (F.left shelf.new) }
+    ensures told { (other : List ℕ) → F.told shelf.new other ≡ F.told shelf.old other }
+    ensures cause { (sets : List Declared) → IfErr result (IsFileCause (F.told shelf.old) sets (F.asked shelf.old) (record { name = name.now; form = inputs.second }) (F.asked shelf.new) (F.faults shelf.old) (F.faults shelf.new)) }
+    ensures silent { OnOk result (N.told notes.new ≡ N.told notes.old) }
+    ensures noted { (sets : List Declared) → IfErr result (λ fault. MayTell (IsNoteOn (F.told shelf.old) sets name.now fault) (N.told notes.old) (N.told notes.new)) }
+{
+    let mut text = Vec::new(alloc);
+    match script_of(alloc, shelf, notes, &mut text, name) {
+        Ok(script) => Ok(script),
+        Err(fault) => Err(of_second(fault)),
     }
 }
 

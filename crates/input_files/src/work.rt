@@ -6,7 +6,7 @@ ghost use Rattle.input_files.specs.Reads.{HasRead};
 ghost use Rattle.input_files.specs.Works.{IsWork, IsDoable};
 
 use crate::fault::FileFault;
-use crate::files::{capture_of, keys_of, plan_of, rules_of, script_of};
+use crate::files::{capture_of, keys_of, plan_of, rules_of, script_of, second_script_of};
 use command_words::{Command, Task};
 use pcap_keys::{Frames, Plan};
 use pip_base::{Notes, Shelf};
@@ -74,10 +74,18 @@ pub enum Work<'a> {
         moment: Option<u64>,
         keep_going: bool,
     },
+    /// A comparison of two scripts, each with the name of its file.
+    Compare {
+        first: &'a str,
+        first_script: Script,
+        second: &'a str,
+        second_script: Script,
+        keep_going: bool,
+    },
 }
 
 /// Reads the files of a command, in the order of its words. It opens a file only after the one before
-/// is read and accepted. The script's text is put into `script_text`.
+/// is read and accepted. The text of the first script is put into `script_text`.
 ///
 /// # Errors
 ///
@@ -183,5 +191,25 @@ pub fn work_of<'a, F: Shelf, N: Notes>(
             count,
             threads,
         }),
+        Command::Compare {
+            first,
+            second,
+            keep_going,
+        } => {
+            let first_script = match script_of(alloc, shelf, notes, script_text, first) {
+                Ok(script) => script,
+                Err(fault) => return Err(fault),
+            };
+            match second_script_of(alloc, shelf, notes, second) {
+                Ok(second_script) => Ok(Work::Compare {
+                    first,
+                    first_script,
+                    second,
+                    second_script,
+                    keep_going,
+                }),
+                Err(fault) => Err(fault),
+            }
+        }
     }
 }

@@ -133,6 +133,11 @@ fn told_command(alloc: Global, command: Command<'_>) -> Result<Vec<u8>, Memory> 
                 Piece::Number(u64::from(threads)),
             ],
         ),
+        Command::Compare {
+            first,
+            second,
+            keep_going,
+        } => told_task(alloc, b"compare ", &[first, second, ""], 0, keep_going),
     }
 }
 
@@ -226,6 +231,10 @@ const NO_COMMANDS: &[u8] = b"\
     get|no command~\
     get a|no command~\
     get a t s 1 --at 5|no command~\
+    compare a|no command~\
+    compare - -|no command~\
+    compare a b --threads 2|no command~\
+    compare a b c|no command~\
     get --at a t s 1|no command~\
     get --at 1000000000000001 a t s 1|no command~\
     get --at=1000000000000001 a t s 1|no command~\
@@ -266,6 +275,9 @@ const COMMANDS: &[u8] = b"\
     get --keep-going --at 5 get get|get get 1 get 5 true~\
     get --at=5 --keep-going get get|get get 1 get 5 true~\
     get --keep-going --at=0 a t s 1|get a 3 1 0 true~\
+    compare a b|compare a b  0 false~\
+    compare --keep-going - compare|compare - compare  0 true~\
+    compare a a --keep-going|compare a a  0 true~\
 ";
 
 /// Words that ask for a page.
@@ -299,6 +311,8 @@ const PAGES: &[u8] = b"\
     help get|usage: pipapo get [--at MOMENT] [--keep-going] SCRIPT KEY ..~\
     get --help|usage: pipapo get [--at MOMENT] [--keep-going] SCRIPT KEY ..~\
     get -h|usage: pipapo get [--at MOMENT] [--keep-going] SCRIPT KEY ..~\
+    help compare|usage: pipapo compare SCRIPT1 SCRIPT2 [--keep-going]~\
+    compare --help|usage: pipapo compare SCRIPT1 SCRIPT2 [--keep-going]~\
 ";
 
 #[test]

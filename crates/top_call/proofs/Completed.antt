@@ -22,10 +22,11 @@ use Rattle.pcap_keys.specs.CapturedPackets.{AreCaptured}
 use Rattle.pcap_keys.proofs.OneCapture.{one_capture}
 use Rattle.token_forms.specs.declared.token.Reason.{Reason}
 use Rattle.key_answer.specs.Answer.{GivesAnswer, get_text, has_no_answer}
+use Rattle.compare_answer.specs.Compared.{GivesComparison}
 use Rattle.key_answer.specs.Question.{IsKey, IsBadKey, key_text, at_moment}
 use Rattle.script_run.specs.Listings.{listing_text, tables_text}
 use Rattle.desk_run.specs.DeskText.{IsDeskText}
-use Rattle.command_words.specs.Words.{Command, IsCommand, run, list, dump, drill, judge, capture, desk, get}
+use Rattle.command_words.specs.Words.{Command, IsCommand, run, list, dump, drill, judge, capture, desk, get, compare}
 use Rattle.command_words.proofs.CommandWords.{one-command}
 use Rattle.command_words.proofs.PageWords.{page-no-command}
 use Rattle.input_files.specs.declared.fault.FileFault.{FileFault}
@@ -37,12 +38,12 @@ use Rattle.input_files.specs.Given.{Has, AreGiven}
 use Rattle.input_files.proofs.Turns.{given-one, given-front, given-refuses}
 use Rattle.top_call.specs.declared.fault.Fault.{Fault}
 use Rattle.top_call.specs.declared.fault.Fault.TheVariants.{Usage, File, TooManyClerks, BadKey, Memory}
-use Rattle.top_call.specs.Transcript.{IsTranscript, IsJudgement, AreRulesOf, IsCaptured, IsTextOf, IsWovenOf, most_sections, IsAnswerOf}
+use Rattle.top_call.specs.Transcript.{IsTranscript, IsJudgement, AreRulesOf, IsCaptured, IsTextOf, IsWovenOf, most_sections, IsAnswerOf, IsComparisonOf}
 use Rattle.top_call.specs.Calls.{Call, IsQuiet}
 use Rattle.top_call.specs.Causes.{IsCause, no_command, of_file, too_many, bad_key, no_memory}
 use Rattle.top_call.specs.Lines.{done_status, form_status, file_status, file_line, status_of, fault_line}
 use Rattle.top_call.specs.Answers.{Ends, EndsDuly, written, cut, memory, IsDue, output, page, refusal, TellsReadFault, TellsFlaw, TellsTooMany, TellsBadKey}
-use Rattle.top_call.specs.Exactly.{HasScript, HasKeys, HasRules, HasCaptured, Completes, DeliversText, DeliversRun, DeliversJudgement, DeliversDesk, DeliversAnswer, RanOut}
+use Rattle.top_call.specs.Exactly.{HasScript, HasKeys, HasRules, HasCaptured, Completes, DeliversText, DeliversRun, DeliversJudgement, DeliversDesk, DeliversAnswer, DeliversComparison, RanOut}
 use Rattle.top_call.proofs.Endings.{done-small, does, Wrote, HasWritten, drilled, page-told}
 
 -- The numbers that are a form's status.
@@ -52,6 +53,7 @@ is_form n = (n == 3) || (n == 4) || (n == 9) || (n == 10) || (n == 11)
 form-is : (form : FileForm) → is_form (form_status form) ≡ true
 unfolding is_form
 form-is forms.script = refl
+form-is forms.second = refl
 form-is forms.keys = refl
 form-is forms.rules = refl
 form-is forms.plan = refl
@@ -59,21 +61,6 @@ form-is forms.capture = refl
 
 form-apart : (form : FileForm) (n : ℕ) → n ≡ form_status form → is_form n ≡ false → ⊥
 form-apart form n e f = let t = form-is form in let u : is_form n ≡ is_form (form_status form) = ap is_form e in cc (t, u, f)
-
--- the form of a status
-form_at : ℕ → FileForm
-form_at n = if n == 3 then forms.script else (if n == 4 then forms.keys else (if n == 9 then forms.rules else (if n == 10 then forms.capture else forms.plan)))
-
-at-form : (form : FileForm) → form_at (form_status form) ≡ form
-unfolding form_at
-at-form forms.script = refl
-at-form forms.keys = refl
-at-form forms.rules = refl
-at-form forms.plan = refl
-at-form forms.capture = refl
-
-same-form : (a b : FileForm) → form_status a ≡ form_status b → a ≡ b
-same-form a b e = sym (at-form a) ∙ ap form_at e ∙ at-form b
 
 done-no-form : (refused : Bool) → is_form (done_status refused) ≡ false
 unfolding is_form
@@ -112,14 +99,14 @@ module _ (c : Call) where
 
   -- With the status of a form the line of what is wrong with a file of that form was written.
   module _ (form : FileForm) where
-    file-flaw : (d : Command) (fault : FileFault) → IsCommand c.words d → StopsAt c.shelf d fault → file_status fault ≡ form_status form → Appends c.taken_before c.taken_now (file_line fault) → TellsFlaw form c
+    file-flaw : (d : Command) (fault : FileFault) → IsCommand c.words d → StopsAt c.shelf d fault → file_status fault ≡ form_status form → Appends c.taken_before c.taken_now (file_line fault) → TellsFlaw (form_status form) c
     unfolding is_form
-    file-flaw d (files.Bad flaw) is_d s e line = record { command = d; flaw = flaw; is_command = is_d; stops = s; of_form = same-form (form_of flaw) form e; written = line }
+    file-flaw d (files.Bad flaw) is_d s e line = record { command = d; flaw = flaw; is_command = is_d; stops = s; of_status = e; written = line }
     file-flaw d (files.ReadFault name) is_d s e line = absurd (form-apart form 5 e refl)
     file-flaw d (files.TooLarge name) is_d s e line = absurd (form-apart form 8 e refl)
     file-flaw d files.Memory is_d s e line = absurd (form-apart form 7 e refl)
 
-    cause-flaw : (fault : Fault) → IsCause c.words c.shelf fault → status_of fault ≡ form_status form → Appends c.taken_before c.taken_now (fault_line fault) → TellsFlaw form c
+    cause-flaw : (fault : Fault) → IsCause c.words c.shelf fault → status_of fault ≡ form_status form → Appends c.taken_before c.taken_now (fault_line fault) → TellsFlaw (form_status form) c
     unfolding is_form
     cause-flaw Usage (no_command none nothing same) e line = absurd (form-apart form 2 e refl)
     cause-flaw (File f) (of_file d g is_d s) e line = file-flaw d f is_d s e line
@@ -127,13 +114,13 @@ module _ (c : Call) where
     cause-flaw (BadKey l r) (bad_key m q h) e line = absurd (form-apart form 13 e refl)
     cause-flaw Memory (no_memory d is_d asked same) e line = absurd (form-apart form 7 e refl)
 
-    due-flaw : (status : ℕ) (text : List ℕ) → IsDue c.words c.shelf status text → status ≡ form_status form → Appends c.taken_before c.taken_now text → TellsFlaw form c
+    due-flaw : (status : ℕ) (text : List ℕ) → IsDue c.words c.shelf status text → status ≡ form_status form → Appends c.taken_before c.taken_now text → TellsFlaw (form_status form) c
     unfolding is_form
     due-flaw status text (output refused t has) e line = absurd (form-apart form (done_status refused) e (done-no-form refused))
     due-flaw status text (page p asks nothing same) e line = absurd (form-apart form 0 e refl)
     due-flaw status text (refusal fault cause) e line = cause-flaw fault cause e line
 
-    ends-flaw : (result : ℕ) → Ends (IsDue c.words c.shelf) c.taken_before c.taken_now c.faults_before c.faults_now result → result ≡ form_status form → TellsFlaw form c
+    ends-flaw : (result : ℕ) → Ends (IsDue c.words c.shelf) c.taken_before c.taken_now c.faults_before c.faults_now result → result ≡ form_status form → TellsFlaw (form_status form) c
     unfolding is_form
     ends-flaw result (written status text due appends quiet) e = due-flaw status text due e appends
     ends-flaw result (cut status text due front rose) e = absurd (form-apart form 6 e refl)
@@ -144,6 +131,7 @@ module _ (c : Call) where
   file-no-twelve (files.Bad flaw) e = form-no-twelve (form_of flaw) e where
     form-no-twelve : (form : FileForm) → form_status form ≡ 12 → ⊥
     form-no-twelve forms.script e = omega (arith, e)
+    form-no-twelve forms.second e = omega (arith, e)
     form-no-twelve forms.keys e = omega (arith, e)
     form-no-twelve forms.rules e = omega (arith, e)
     form-no-twelve forms.plan e = omega (arith, e)
@@ -177,6 +165,7 @@ module _ (c : Call) where
   file-no-thirteen (files.Bad flaw) e = form-no-thirteen (form_of flaw) e where
     form-no-thirteen : (form : FileForm) → form_status form ≡ 13 → ⊥
     form-no-thirteen forms.script e = omega (arith, e)
+    form-no-thirteen forms.second e = omega (arith, e)
     form-no-thirteen forms.keys e = omega (arith, e)
     form-no-thirteen forms.rules e = omega (arith, e)
     form-no-thirteen forms.plan e = omega (arith, e)
@@ -205,7 +194,7 @@ module _ (c : Call) where
   pub tells-bad-key : EndsDuly c → c.status ≡ 13 → TellsBadKey c
   tells-bad-key ends e = ends-key c.status ends e
 
-  pub tells-flaw : EndsDuly c → (form : FileForm) → c.status ≡ form_status form → TellsFlaw form c
+  pub tells-flaw : EndsDuly c → (form : FileForm) → c.status ≡ form_status form → TellsFlaw (form_status form) c
   tells-flaw ends form e = ends-flaw form c.status ends e
 
 -- The shelf's count rises only with a read fault, and the sink's only with a write fault.
@@ -312,6 +301,9 @@ module _ (words : List (List ℕ)) (shelf : Shelved) (quiet : Rose shelf.faults_
 pub given-script : (told : List ℕ → Option (List ℕ)) (name : List ℕ) (s : Script) → HasScript told name s → Has told name (IsOf forms.script s.schema)
 given-script told name s h = record { text = h.text; is_told = h.is_told; fits = h.fits; holds = (s, h.holds, refl) }
 
+given-second : (told : List ℕ → Option (List ℕ)) (name : List ℕ) (t : Script) (sets : List SetDecl) → HasScript told name t → Has told name (IsOf forms.second sets)
+given-second told name t sets h = record { text = h.text; is_told = h.is_told; fits = h.fits; holds = (t, h.holds) }
+
 given-keys : (told : List ℕ → Option (List ℕ)) (name : List ℕ) (s : Script) (packets : List (List Packet)) → HasKeys told name s packets → Has told name (IsOf forms.keys s.schema)
 given-keys told name s packets h = record { text = h.text; is_told = h.is_told; fits = h.fits; holds = (packets, h.holds) }
 
@@ -412,6 +404,15 @@ module _ (c : Call) (ends : EndsDuly c) (quiet : IsQuiet c) where
         status = w.status ∙ ap done_status (gives.refused_is ∙ ap (λ (x : Packet). has_no_answer (mode_of g) s (at_moment moment s x)) packet);
       }
 
+  -- the comparison of the scripts that were read
+  same-comparison : (first second : List ℕ) (g : Bool) (s t : Script) (hs : HasScript c.shelf.told first s) (ht : HasScript c.shelf.told second t) → (w : HasWritten c) → IsComparisonOf first hs.text second ht.text (mode_of g) w.refused w.text
+      → DeliversComparison (mode_of g) first s second t c
+  same-comparison first second g s t hs ht w made =
+      let one : made.script ≡ s = script_single hs.text made.script s made.script_is hs.holds in
+      let two : made.other ≡ t = script_single ht.text made.other t made.other_is ht.holds in
+      let with_first : GivesComparison (mode_of g) first s second made.other w.refused w.text = subst (λ (x : Script). GivesComparison (mode_of g) first x second made.other w.refused w.text) one made.gives in
+      record { differs = w.refused; text = w.text; gives = subst (λ (x : Script). GivesComparison (mode_of g) first s second x w.refused w.text) two with_first; written = w.appends; status = w.status }
+
   -- words that are a key aren't none
   has-key : (script : List ℕ) (key : List (List ℕ)) (moment : Option ℕ) (g : Bool) (s : Script) (p : Packet) (hs : HasScript c.shelf.told script s) → IsKey s.schema key p → HasKey c.shelf.told (get script key moment g)
   has-key script key moment g s p hs is_key name other m k t line reason e reads bad =
@@ -456,6 +457,10 @@ module _ (c : Call) (ends : EndsDuly c) (quiet : IsQuiet c) where
         or-ran-out (DeliversAnswer (mode_of g) s (at_moment moment s p) c)
         (λ w. same-answer script key moment g s p hs is_key w (does c.words c.shelf (get script key moment g) w.refused w.text is_get w.has hs.text hs.is_told))
         (ended (get script key moment g) s.schema is_get (given-script c.shelf.told script s hs, tt) (λ name k t e. absurd (cc e)) (has-key script key moment g s p hs is_key));
+    compare = λ first second g s t is_compare hs ht.
+        or-ran-out (DeliversComparison (mode_of g) first s second t c)
+        (λ w. same-comparison first second g s t hs ht w (does c.words c.shelf (compare first second g) w.refused w.text is_compare w.has hs.text ht.text hs.is_told ht.is_told))
+        (ended (compare first second g) s.schema is_compare (given-script c.shelf.told first s hs, (given-second c.shelf.told second t s.schema ht, tt)) (λ name k t e. absurd (cc e)) (λ name key m k t l r e. absurd (cc e)));
     drill = λ seed count threads is_drill. or-ran-out _ (drilled c seed count threads is_drill) (ended (drill seed count threads) [] is_drill tt (λ name k t e. absurd (cc e)) (λ name key m k t l r e. absurd (cc e)));
     page = page-told c ends quiet.sink;
   }

@@ -1,7 +1,7 @@
 -- The note for a person beside a call's output.
 use Rattle.std.proofs.Common.{◌≡◌, ◌≤◌, refl, subst, ℕ, Bool, true, List, Option, inl, inr, arith, false, [], ◌∷◌, ◌⊎◌, None, Result, Ok, Err, OnOk, OnErr}
 use Rattle.command_words.specs.declared.page.Page.{Page}
-use Rattle.command_words.specs.Words.{Command, IsCommand, IsNoCommand, AsksFor, desk}
+use Rattle.command_words.specs.Words.{Command, IsCommand, IsNoCommand, AsksFor, desk, compare}
 use Rattle.command_words.proofs.PageWords.{page-no-command}
 use Rattle.fault_notes.specs.Shown.{Begins, name_text}
 use Rattle.fault_notes.specs.Told.{MayTell, nothing, note}
@@ -20,7 +20,7 @@ use Rattle.script_laws.specs.declared.refusals.Refusal.{Refusal}
 use Rattle.command_words.specs.declared.words.Task.{Task}
 use Rattle.command_words.specs.declared.words.Task.TheVariants as tasks
 use Rattle.command_words.specs.WordForms.{plain_task}
-use Rattle.input_files.specs.Inputs.{script, keys as keys_form, rules as rules_form, plan as plan_form, capture as capture_form}
+use Rattle.input_files.specs.Inputs.{script, second as second_form, keys as keys_form, rules as rules_form, plan as plan_form, capture as capture_form}
 use Rattle.top_call.specs.Refused.{AreRefused, HasNothingToTell, HasTold, IsNoteDue, IsNoteOnChanges, NamesScript, TellsChanges, TellsOf}
 use Rattle.top_call.proofs.Endings.{file-above}
 
@@ -69,6 +69,10 @@ script-named name (tasks.Judge rules keys threads) keep_going = (record { name =
 script-named name (tasks.Capture plan packets threads) keep_going = (record { name = name; form = script }, record { name = plan.now; form = plan_form } ∷ record { name = packets.now; form = capture_form } ∷ [], refl, refl)
 script-named name tasks.Desk keep_going = (record { name = name; form = script }, [], refl, refl)
 script-named name (tasks.Get key moment) keep_going = (record { name = name; form = script }, [], refl, refl)
+
+-- A comparison names its first script.
+pub compare-named : (first second : List ℕ) (keep_going : Bool) → NamesScript (compare first second keep_going) first
+compare-named first second keep_going = (record { name = first; form = script }, record { name = second; form = second_form } ∷ [], refl, refl)
 
 -- No note is due to words that ask for a page.
 page-due : (words : List (List ℕ)) (shelf : Shelved) (status : ℕ) (text : List ℕ) (p : Page) → AsksFor words p → IsDueNote words shelf status text → ⊥

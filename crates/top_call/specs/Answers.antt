@@ -8,16 +8,16 @@ use Rattle.token_forms.specs.declared.token.Reason.{Reason}
 use Rattle.script_run.specs.Drill.{drill_text}
 use Rattle.command_words.specs.declared.page.Page.{Page}
 use Rattle.command_words.specs.WordForms.{page_text}
-use Rattle.command_words.specs.Words.{Command, IsCommand, AsksFor, IsRunCommand, IsListCommand, IsDumpCommand, IsDrillCommand, IsJudgeCommand, IsCaptureCommand, IsDeskCommand, IsGetCommand}
+use Rattle.command_words.specs.Words.{Command, IsCommand, AsksFor, IsRunCommand, IsListCommand, IsDumpCommand, IsDrillCommand, IsJudgeCommand, IsCaptureCommand, IsDeskCommand, IsGetCommand, IsCompareCommand}
 use Rattle.input_files.specs.declared.fault.Flaw.{Flaw}
 use Rattle.input_files.specs.declared.fault.FileFault.TheVariants.{Bad}
-use Rattle.input_files.specs.Inputs.{FileForm, form_of}
+use Rattle.input_files.specs.Inputs.{form_of}
 use Rattle.input_files.specs.Reads.{Shelved, HasRead, StopsAt}
 use Rattle.top_call.specs.declared.fault.Fault.{Fault}
-use Rattle.top_call.specs.Transcript.{IsOutput, IsTranscript, IsJudgement, IsCaptured, IsListing, IsTables, IsWovenOf, IsAnswerOf}
+use Rattle.top_call.specs.Transcript.{IsOutput, IsTranscript, IsJudgement, IsCaptured, IsListing, IsTables, IsWovenOf, IsAnswerOf, IsComparisonOf}
 use Rattle.top_call.specs.Calls.{Call}
 use Rattle.top_call.specs.Causes.{IsCause, HasManySections, HasNoKey}
-use Rattle.top_call.specs.Lines.{done_status, status_of, fault_line, flaw_line, read_fault_line, too_many_line, bad_key_line}
+use Rattle.top_call.specs.Lines.{done_status, form_status, status_of, fault_line, flaw_line, read_fault_line, too_many_line, bad_key_line}
 
 -- The command of these words has this output: all its files were asked for and read, no fault was counted, and this
 -- is what the command does.
@@ -100,6 +100,13 @@ Weaves c = (script script_text : List ℕ) (keep_going : Bool) → IsDeskCommand
 abbrev pub AnswersKeys : Call → Type 0
 AnswersKeys c = (script script_text : List ℕ) (key : List (List ℕ)) (moment : Option ℕ) (keep_going : Bool) → IsGetCommand c.words script key moment keep_going → c.shelf.told script ≡ Some script_text → Writes (IsAnswerOf script_text key moment (mode_of keep_going)) c
 
+-- The same of a `compare`. The sink took the refused changes of both scripts, and then for each set whether it is the same: for
+-- each key that fits both have an element, or neither has. The least key on which they differ comes with the first live
+-- element that holds it, and the line that added this element.
+abbrev pub Compares : Call → Type 0
+Compares c = (first second first_text second_text : List ℕ) (keep_going : Bool) → IsCompareCommand c.words first second keep_going → c.shelf.told first ≡ Some first_text → c.shelf.told second ≡ Some second_text
+    → Writes (IsComparisonOf first first_text second second_text (mode_of keep_going)) c
+
 -- A text was written whole, and the status is 0.
 pub record Delivers (text : List ℕ) (c : Call) : Type 0 where
   pub written : Appends c.taken_before c.taken_now text
@@ -121,13 +128,13 @@ pub record TellsReadFault (c : Call) : Type 0 where
   pub rose : Rose c.shelf.faults_before c.shelf.faults_now
   pub line : Appends c.taken_before c.taken_now (read_fault_line name)
 
--- The line of a file of this form was written: the file came to its turn, and isn't of its form.
-pub record TellsFlaw (form : FileForm) (c : Call) : Type 0 where
+-- The line of a file with this status was written: the file came to its turn, and isn't of its form.
+pub record TellsFlaw (status : ℕ) (c : Call) : Type 0 where
   pub command : Command
   pub flaw : Flaw
   pub is_command : IsCommand c.words command
   pub stops : StopsAt c.shelf command (Bad flaw)
-  pub of_form : form_of flaw ≡ form
+  pub of_status : form_status (form_of flaw) ≡ status
   pub written : Appends c.taken_before c.taken_now (flaw_line flaw)
 
 -- The line of a desk's script with too many sections was written, with the script's name.

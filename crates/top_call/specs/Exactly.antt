@@ -24,9 +24,10 @@ use Rattle.script_run.specs.Drill.{drill_text}
 use Rattle.desk_run.specs.DeskText.{IsDeskText}
 use Rattle.key_answer.specs.Answer.{get_text, has_no_answer}
 use Rattle.key_answer.specs.Question.{IsKey, at_moment}
+use Rattle.compare_answer.specs.Compared.{GivesComparison}
 use Rattle.pip_base.specs.Whole.{size_limit}
 use Rattle.command_words.specs.declared.page.Page.{Page}
-use Rattle.command_words.specs.Words.{Command, IsCommand, AsksFor, IsNoCommand, IsRunCommand, IsListCommand, IsDumpCommand, IsDrillCommand, IsJudgeCommand, IsCaptureCommand, IsDeskCommand, IsGetCommand}
+use Rattle.command_words.specs.Words.{Command, IsCommand, AsksFor, IsNoCommand, IsRunCommand, IsListCommand, IsDumpCommand, IsDrillCommand, IsJudgeCommand, IsCaptureCommand, IsDeskCommand, IsGetCommand, IsCompareCommand}
 use Rattle.input_files.specs.Inputs.{Input, inputs, IsOf}
 use Rattle.input_files.specs.Given.{Has, AreGiven}
 use Rattle.top_call.specs.Transcript.{AreRulesOf, most_sections}
@@ -91,6 +92,7 @@ pub record IsExact (c : Call) : Type 0 where
       → ((p : Packet) → IsKey s.schema key p → ⊥) → IsStatus 13 c
   pub done_get : (script : List ℕ) (key : List (List ℕ)) (moment : Option ℕ) (keep_going : Bool) (s : Script) (p : Packet) → IsGetCommand c.words script key moment keep_going → HasScript c.shelf.told script s → IsKey s.schema key p
       → IsStatus (done_status (has_no_answer (mode_of keep_going) s (at_moment moment s p))) c
+  pub done_compare : (first second : List ℕ) (keep_going : Bool) (s t : Script) → IsCompareCommand c.words first second keep_going → HasScript c.shelf.told first s → HasScript c.shelf.told second t → (differs : Bool) × IsStatus (done_status differs) c
   pub done_drill : (seed count threads : ℕ) → IsDrillCommand c.words seed count threads → IsStatus 0 c
   pub done_page : (p : Page) → AsksFor c.words p → c.status ≡ 0
 
@@ -129,6 +131,14 @@ pub record DeliversAnswer (mode : Mode) (s : Script) (p : Packet) (c : Call) : T
   pub written : Appends c.taken_before c.taken_now (get_text mode s p)
   pub status : c.status ≡ done_status (has_no_answer mode s p)
 
+-- The comparison of two scripts was written. The status is 1 if a change is refused or sets differ, and 0 otherwise.
+pub record DeliversComparison (mode : Mode) (first : List ℕ) (s : Script) (second : List ℕ) (t : Script) (c : Call) : Type 0 where
+  pub differs : Bool
+  pub text : List ℕ
+  pub gives : GivesComparison mode first s second t differs text
+  pub written : Appends c.taken_before c.taken_now text
+  pub status : c.status ≡ done_status differs
+
 -- The words are a command, and its files are within their size and of their forms. Then the output of exactly these
 -- files was written; or memory ran out, and nothing was written. A drill has no files. A page is written in any case.
 pub record Completes (c : Call) : Type 0 where
@@ -143,5 +153,7 @@ pub record Completes (c : Call) : Type 0 where
   pub desk : (script : List ℕ) (keep_going : Bool) (s : Script) → IsDeskCommand c.words script keep_going → HasScript c.shelf.told script s → length s.sections ≤ most_sections → DeliversDesk s keep_going c ⊎ RanOut c
   pub get : (script : List ℕ) (key : List (List ℕ)) (moment : Option ℕ) (keep_going : Bool) (s : Script) (p : Packet) → IsGetCommand c.words script key moment keep_going → HasScript c.shelf.told script s → IsKey s.schema key p
       → DeliversAnswer (mode_of keep_going) s (at_moment moment s p) c ⊎ RanOut c
+  pub compare : (first second : List ℕ) (keep_going : Bool) (s t : Script) → IsCompareCommand c.words first second keep_going → HasScript c.shelf.told first s → HasScript c.shelf.told second t
+      → DeliversComparison (mode_of keep_going) first s second t c ⊎ RanOut c
   pub drill : (seed count threads : ℕ) → IsDrillCommand c.words seed count threads → Delivers (drill_text seed count) c ⊎ RanOut c
   pub page : TellsPage c

@@ -7,7 +7,7 @@ use Rattle.input_files.specs.Inputs.{FileForm}
 use Rattle.top_call.specs.Calls.{Call, IsQuiet}
 use Rattle.top_call.specs.Lines.{form_status}
 use Rattle.top_call.specs.Names.{AsksInOrder, AsksForAll}
-use Rattle.top_call.specs.Answers.{EndsDuly, IsComplete, Transcribes, Judges, Captures, Lists, Dumps, Weaves, AnswersKeys, Drills, TellsPage, TellsReadFault, TellsFlaw, TellsTooMany, TellsBadKey}
+use Rattle.top_call.specs.Answers.{EndsDuly, IsComplete, Transcribes, Judges, Captures, Lists, Dumps, Weaves, AnswersKeys, Compares, Drills, TellsPage, TellsReadFault, TellsFlaw, TellsTooMany, TellsBadKey}
 use Rattle.top_call.specs.Exactly.{IsExact, Completes}
 use Rattle.top_call.specs.Noted.{IsNoted}
 
@@ -41,6 +41,11 @@ pub record Promises (c : Call) : Type 0 where
   -- the key, with the line of the addition that made it; or `none` exactly if there is no such element. The status is 0
   -- exactly if there is one and no change is refused.
   pub get : IsComplete c.status → AnswersKeys c
+  -- Of a `compare` the sink took the refused changes of both scripts, and then a line for each set. It says `same` exactly if for
+  -- each key that fits both sets have an element or neither has. Else there is a line for each direction in which they differ. It
+  -- has the least key there, the first live element that holds it, and the line of the addition that made this element. The
+  -- status is 0 exactly if all sets are the same and no change is refused.
+  pub compare : IsComplete c.status → Compares c
   -- Of a drill the sink took its one line, and of words that ask for a page the page. The status is 0.
   pub drill : IsComplete c.status → Drills c
   pub page : IsComplete c.status → TellsPage c
@@ -49,8 +54,8 @@ pub record Promises (c : Call) : Type 0 where
   -- the shelf shows what is left of them; the system's files don't.
   pub names : AsksInOrder c.words c.shelf
   pub all_read : IsComplete c.status → AsksForAll c.words c.shelf
-  -- With the status of a form the sink took the line of what is wrong with the file of this form.
-  pub bad : (form : FileForm) → c.status ≡ form_status form → TellsFlaw form c
+  -- With the status of a form the sink took the line of what is wrong with a file of a form with this status.
+  pub bad : (form : FileForm) → c.status ≡ form_status form → TellsFlaw (form_status form) c
   -- With status 12 the sink took the line of a desk's script that was read and has too many sections.
   pub too_many : c.status ≡ 12 → TellsTooMany c
   -- With status 13 the sink took the line of the words of a `get` that are no key of its script's sets.

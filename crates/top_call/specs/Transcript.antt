@@ -4,6 +4,7 @@ use Rattle.std.specs.Prelude.{◌≡◌, ◌≤◌, ◌<◌, ℕ, Bool, false, L
 use Rattle.std.specs.String.{string_bytes}
 use Rattle.token_forms.specs.declared.token.Reason.{Reason}
 use Rattle.key_answer.specs.Answer.{GivesAnswer}
+use Rattle.compare_answer.specs.Compared.{GivesComparison}
 use Rattle.key_answer.specs.Question.{IsBadKey}
 use Rattle.set_model.specs.declared.script.Script.{Script}
 use Rattle.set_model.specs.declared.packet.Packet.{Packet}
@@ -22,7 +23,7 @@ use Rattle.pcap_keys.specs.CapturedPackets.{AreCaptured}
 use Rattle.script_run.specs.Listings.{listing_text, tables_text}
 use Rattle.script_run.specs.Drill.{drill_text}
 use Rattle.desk_run.specs.DeskText.{IsDeskText}
-use Rattle.command_words.specs.Words.{Command, run, list, dump, drill, judge, capture, desk, get}
+use Rattle.command_words.specs.Words.{Command, run, list, dump, drill, judge, capture, desk, get, compare}
 use Rattle.input_files.specs.declared.work.Work.{Work}
 use Rattle.input_files.specs.declared.work.Work.TheVariants as works
 
@@ -101,6 +102,14 @@ pub record IsAnswerOf (script_text : List ℕ) (key : List (List ℕ)) (moment :
   pub script_is : IsScriptText script_text script
   pub gives : GivesAnswer mode script key moment refused output
 
+-- The output compares the scripts in these texts, which name their files so.
+pub record IsComparisonOf (first first_text second second_text : List ℕ) (mode : Mode) (refused : Bool) (output : List ℕ) : Type 0 where
+  pub script : Script
+  pub other : Script
+  pub script_is : IsScriptText first_text script
+  pub other_is : IsScriptText second_text other
+  pub gives : GivesComparison mode first script second other refused output
+
 -- What a command writes, by the bytes under its files' names, and whether its text reports a refusal.
 abbrev pub IsOutput : Command → (List ℕ → Option (List ℕ)) → Bool → List ℕ → Type 0
 IsOutput (run script keys threads keep_going) told refused output = (script_text keys_text : List ℕ) → told script ≡ Some script_text → told keys ≡ Some keys_text → IsTranscript script_text keys_text threads (mode_of keep_going) refused output
@@ -115,6 +124,7 @@ IsOutput (capture script plan packets threads keep_going) told refused output =
     → IsCaptured script_text plan_text capture_text threads (mode_of keep_going) refused output
 IsOutput (desk script keep_going) told refused output = (script_text : List ℕ) → told script ≡ Some script_text → IsWovenOf script_text keep_going refused output
 IsOutput (get script key moment keep_going) told refused output = (script_text : List ℕ) → told script ≡ Some script_text → IsAnswerOf script_text key moment (mode_of keep_going) refused output
+IsOutput (compare first second keep_going) told refused output = (first_text second_text : List ℕ) → told first ≡ Some first_text → told second ≡ Some second_text → IsComparisonOf first first_text second second_text (mode_of keep_going) refused output
 
 -- The lines are legal ones of a script and its packets, and the text is the text of their transcript.
 pub record HasTranscript (s : Script) (packets : List (List Packet)) (threads : ℕ) (mode : Mode) (text : List ℕ) : Type 0 where
@@ -139,6 +149,7 @@ HasFewClerks (works.Judge s chains packets threads keep_going) = Unit {0}
 HasFewClerks (works.Capture s plan frames threads keep_going) = Unit {0}
 HasFewClerks (works.Desk s keep_going) = length s.sections ≤ most_sections
 HasFewClerks (works.Get s key moment keep_going) = Unit {0}
+HasFewClerks (works.Compare a s b t keep_going) = Unit {0}
 
 -- A command's work is a desk with more sections than there may be, of the script of this name.
 pub record IsOverfull (c : Command) (work : Work) (name : Bor (List ℕ)) : Type 0 where
@@ -159,6 +170,7 @@ GivesText (works.Capture s plan frames threads keep_going) refused text =
 GivesText (works.Judge s chains packets threads keep_going) refused text = HasJudgement s chains packets threads (mode_of keep_going) text × (refused ≡ has_refusal (mode_of keep_going) s)
 GivesText (works.Desk s keep_going) refused text = IsDeskText s keep_going refused text × (length s.sections ≤ most_sections)
 GivesText (works.Get s key moment keep_going) refused text = GivesAnswer (mode_of keep_going) s (map string_bytes key.now) moment refused text
+GivesText (works.Compare a s b t keep_going) refused text = GivesComparison (mode_of keep_going) a.now s b.now t refused text
 
 -- A command's work is a `get` whose words are no key.
 abbrev pub HasBadWords : Work → ℕ → Reason → Type 0
@@ -170,3 +182,4 @@ HasBadWords (works.Judge s chains packets threads keep_going) line reason = ⊥
 HasBadWords (works.Capture s plan frames threads keep_going) line reason = ⊥
 HasBadWords (works.Desk s keep_going) line reason = ⊥
 HasBadWords (works.Get s key moment keep_going) line reason = IsBadKey s.schema (map string_bytes key.now) line reason
+HasBadWords (works.Compare a s b t keep_going) line reason = ⊥

@@ -50,7 +50,7 @@ fn overfull<'a>(command: Command<'a>, work: &Work<'_>) -> Option<(&'a str, u64)>
     match work {
         Work::Desk { script, .. } if script.sections.len() > MOST_SECTIONS => match command {
             Command::Script { script: name, .. } => Some((name, script.sections.len())),
-            Command::Drill { .. } => unreachable!(),
+            Command::Drill { .. } | Command::Compare { .. } => unreachable!(),
         },
         _ => None,
     }
@@ -151,6 +151,8 @@ fn carry_out<R: Threads + Wait + Sync, F: Shelf, K: Sink, N: Notes, G: Gate>(
 ///   generation.
 /// - `get [--at MOMENT] [--keep-going] SCRIPT KEY ..` runs a script, and writes the element of
 ///   the last generation that holds the key, with the line that added it, or `none`. Its options come in either order.
+/// - `compare SCRIPT1 SCRIPT2 [--keep-going]` runs two scripts, and writes for each set whether both decide alike on every
+///   key, with the least key on which they don't.
 ///
 /// `--threads=N` means `--threads N`, and `--at=MOMENT` means `--at MOMENT`.
 ///
@@ -165,7 +167,8 @@ fn carry_out<R: Threads + Wait + Sync, F: Shelf, K: Sink, N: Notes, G: Gate>(
 /// its progress. The status is:
 ///
 /// - 0: the whole output was written, and reports no refusal;
-/// - 1: the whole output was written, and reports that a change was refused, or that no element holds the key of a `get`;
+/// - 1: the whole output was written, and reports that a change was refused, that no element holds the key of a `get`, or that the
+///   scripts of a `compare` don't have the same sets;
 /// - 2: the words are no command, and the usage line was written;
 /// - 3, 4, 9, 11: the script, the key file, the rules file, the plan isn't in its grammar;
 /// - 5: a file couldn't be opened or read;

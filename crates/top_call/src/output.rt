@@ -10,6 +10,7 @@ ghost use Rattle.input_files.specs.Works.{IsDoable};
 ghost use Rattle.top_call.specs.Refused.{GivesRefusals};
 ghost use Rattle.top_call.specs.Transcript.{GivesText, HasBadWords, HasFewClerks};
 
+use compare_answer::{Side, compare_scripts};
 use control_desk::QuietBell;
 use desk_run::desk;
 use input_files::Work;
@@ -90,5 +91,22 @@ pub fn output_of<R: Threads + Wait + Sync, G: Gate>(
             moment,
             keep_going,
         } => get(alloc, script, key, moment, keep_going, gate),
+        Work::Compare {
+            first,
+            first_script,
+            second,
+            second_script,
+            keep_going,
+        } => {
+            let side = Side {
+                file: first,
+                script: first_script,
+            };
+            let other = Side {
+                file: second,
+                script: second_script,
+            };
+            Ok(compare_scripts(alloc, side, other, keep_going, gate)?)
+        }
     }
 }

@@ -100,6 +100,9 @@ pub fn tell_refusals<N: Notes>(
         Command::Script { script: name, .. } => {
             tell_changes(alloc, notes, name, script_text, output)
         }
+        Command::Compare { first: name, .. } => {
+            tell_changes(alloc, notes, name, script_text, output)
+        }
         Command::Drill { .. } => Ok(false),
     }
 }

@@ -13,9 +13,10 @@ pub(crate) fn form_of(verb: Verb) -> &'static [u8] {
     }
 }
 
-/// Whether a word of a form stands for a name, as `SCRIPT`.
+/// Whether a word of a form is that of a name, as `SCRIPT` or `SCRIPT1`.
 fn is_name(word: &[u8]) -> bool {
-    word.iter().all(|byte| byte.is_ascii_uppercase())
+    word.iter()
+        .all(|byte| byte.is_ascii_uppercase() || byte.is_ascii_digit())
 }
 
 /// The name at a place of a command's words, from 0.

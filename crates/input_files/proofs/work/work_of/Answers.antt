@@ -1,8 +1,8 @@
 use Rattle.std.proofs.Common.{refl, ap, ◌∙◌, [], ◌∷◌}
 use Rattle.command_words.specs.WordForms.{plain}
 use Rattle.command_words.specs.declared.words.Command.TheVariants as asked
-use Rattle.input_files.specs.Inputs.{script, keys, rules, plan, capture, inputs}
-use Rattle.input_files.proofs.Reading.{up-to-none, up-to-more, as-script, as-keys, as-rules, as-plan, as-capture, stops, has-read, script-first}
+use Rattle.input_files.specs.Inputs.{script, second, keys, rules, plan, capture, inputs}
+use Rattle.input_files.proofs.Reading.{up-to-none, up-to-more, as-script, as-other, as-keys, as-rules, as-plan, as-capture, stops, has-read, script-first}
 use Rattle.input_files.proofs.work.work_of.Goals as goal
 
 pub returns-in-Err-clause-stops : goal.returns-in-Err-clause-stops
@@ -89,6 +89,23 @@ returns-in-Script-clause-stops g c =
     (as-script (g.F.Shelf.told c.args.shelf.now) c.in-Script.script.now c.in-Ok.script c.in-Ok.ensures.read) c.in-Ok.ensures.quiet c.in-Ok.ensures.whole c.in-Ok.ensures.kept c.in-Ok.ensures.told)
     (as-plan (g.F.Shelf.told c.script_of.new.shelf) c.in-Capture.plan.now c.in-Ok.script.schema c.in-Ok-plan_of.plan c.in-Ok-plan_of.ensures.read) c.in-Ok-plan_of.ensures.quiet c.in-Ok-plan_of.ensures.whole c.in-Ok-plan_of.ensures.kept c.in-Ok-plan_of.ensures.told) c.in-Err-capture_of.ensures.kept (c.in-Err-capture_of.ensures.cause c.in-Ok.script.schema) (c.in-Ok-plan_of.ensures.silent ∙ c.in-Ok.ensures.silent) (c.in-Err-capture_of.ensures.noted c.in-Ok.script.schema)
 
-pub returns-clause-all : goal.returns-clause-all
-returns-clause-all g c =
+pub returns-in-Drill-clause-all : goal.returns-in-Drill-clause-all
+returns-in-Drill-clause-all g c =
     has-read (plain c.args.command) (ap (λ x. inputs (plain x)) c.in-Drill.is) (up-to-none (g.F.Shelf.told c.args.shelf.now) (g.F.Shelf.asked c.args.shelf.now) (g.F.Shelf.faults c.args.shelf.now) (g.F.Shelf.is_picked c.args.shelf.now) (g.F.Shelf.left c.args.shelf.now) [] c.requires.nothing)
+
+pub returns-in-Err-script_of-clause-stops : goal.returns-in-Err-script_of-clause-stops
+returns-in-Err-script_of-clause-stops g c =
+    stops (plain c.args.command) (record { name = c.in-Compare.first.now; form = script }) (record { name = c.in-Compare.second.now; form = second } ∷ []) c.in-Err-script_of.fault (ap (λ x. inputs (plain x)) c.in-Compare.is) (up-to-none (g.F.Shelf.told c.args.shelf.now) (g.F.Shelf.asked c.args.shelf.now) (g.F.Shelf.faults c.args.shelf.now) (g.F.Shelf.is_picked c.args.shelf.now) (g.F.Shelf.left c.args.shelf.now) [] c.requires.nothing) c.in-Err-script_of.ensures.kept (c.in-Err-script_of.ensures.cause []) refl (c.in-Err-script_of.ensures.noted [])
+
+pub returns-in-Ok-second_script_of-clause-all : goal.returns-in-Ok-second_script_of-clause-all
+returns-in-Ok-second_script_of-clause-all g c =
+    has-read (plain c.args.command) (ap (λ x. inputs (plain x)) c.in-Compare.is)
+    (up-to-more (record { name = c.in-Compare.second.now; form = second }) (up-to-more (record { name = c.in-Compare.first.now; form = script }) (up-to-none (g.F.Shelf.told c.args.shelf.now) (g.F.Shelf.asked c.args.shelf.now) (g.F.Shelf.faults c.args.shelf.now) (g.F.Shelf.is_picked c.args.shelf.now) (g.F.Shelf.left c.args.shelf.now) c.in-Ok-script_of.script.schema c.requires.nothing)
+    (as-script (g.F.Shelf.told c.args.shelf.now) c.in-Compare.first.now c.in-Ok-script_of.script c.in-Ok-script_of.ensures.read) c.in-Ok-script_of.ensures.quiet c.in-Ok-script_of.ensures.whole c.in-Ok-script_of.ensures.kept c.in-Ok-script_of.ensures.told)
+    (as-other (g.F.Shelf.told c.script_of-in-Compare.new.shelf) c.in-Compare.second.now c.in-Ok-script_of.script.schema c.in-Ok-second_script_of.second_script c.in-Ok-second_script_of.ensures.read) c.in-Ok-second_script_of.ensures.quiet c.in-Ok-second_script_of.ensures.whole c.in-Ok-second_script_of.ensures.kept c.in-Ok-second_script_of.ensures.told)
+
+pub returns-clause-stops : goal.returns-clause-stops
+returns-clause-stops g c =
+    stops (plain c.args.command) (record { name = c.in-Compare.second.now; form = second }) [] c.in-Err-second_script_of.fault (ap (λ x. inputs (plain x)) c.in-Compare.is)
+    (up-to-more (record { name = c.in-Compare.first.now; form = script }) (up-to-none (g.F.Shelf.told c.args.shelf.now) (g.F.Shelf.asked c.args.shelf.now) (g.F.Shelf.faults c.args.shelf.now) (g.F.Shelf.is_picked c.args.shelf.now) (g.F.Shelf.left c.args.shelf.now) c.in-Ok-script_of.script.schema c.requires.nothing)
+    (as-script (g.F.Shelf.told c.args.shelf.now) c.in-Compare.first.now c.in-Ok-script_of.script c.in-Ok-script_of.ensures.read) c.in-Ok-script_of.ensures.quiet c.in-Ok-script_of.ensures.whole c.in-Ok-script_of.ensures.kept c.in-Ok-script_of.ensures.told) c.in-Err-second_script_of.ensures.kept (c.in-Err-second_script_of.ensures.cause c.in-Ok-script_of.script.schema) c.in-Ok-script_of.ensures.silent (c.in-Err-second_script_of.ensures.noted c.in-Ok-script_of.script.schema)

@@ -8,3 +8,6 @@ returns-in-Keys g c = rw c.in-Keys.is (search c.deliver_placed-in-Keys.ensures)
 
 pub returns-in-Rules : goal.returns-in-Rules
 returns-in-Rules g c = rw c.in-Rules.is (search c.deliver_placed-in-Rules.ensures)
+
+pub returns-in-SecondScript : goal.returns-in-SecondScript
+returns-in-SecondScript g c = rw c.in-SecondScript.is (search c.deliver_placed-in-SecondScript.ensures)
