@@ -317,7 +317,7 @@ const PAGES: &[u8] = b"\
 
 #[test]
 fn words_of_a_command(rt: HostRuntime) {
-    assert_told(&rt, rt.alloc(), NO_COMMANDS, 79, asked);
-    assert_told(&rt, rt.alloc(), COMMANDS, 28, asked);
-    assert_told(&rt, rt.alloc(), PAGES, 29, asked);
+    assert_told(&rt, rt.alloc(), NO_COMMANDS, 83, asked);
+    assert_told(&rt, rt.alloc(), COMMANDS, 31, asked);
+    assert_told(&rt, rt.alloc(), PAGES, 31, asked);
 }
