@@ -37,8 +37,8 @@
  * one call at a time. A handle may go to another thread through a lock, the start or end of a thread, or a sequentially
  * consistent atomic. Different handles need no order.
  *
- * MEMORY. Only the two starts, the changes, pipapo_commit and the listings allocate, by malloc and realloc. The control and each reader take
- * 768 KiB for the rows of a lookup, and the control takes the sets. A generation's memory is freed by the control.
+ * MEMORY. Only the two starts, the changes, pipapo_commit and the listings allocate, by malloc and realloc. The control and each
+ * reader take 768 KiB for the rows of a lookup, and the control takes the sets. The control frees a generation's memory.
  *
  * THE CALLER MUST SEE TO THIS, since no call can test it. Otherwise the behaviour is undefined:
  *   - No pointer is null, also if its count is 0. Each points to as much memory as its count says.
@@ -109,8 +109,8 @@ typedef struct {
     uint8_t name[64];   /* the set's name, alike */
 } pipapo_set;
 
-/* Where a script starts nothing, and why (pipapo_start_script). Lines and columns count from 1, and a column counts bytes. What
- * doesn't apply is 0. */
+/* Why pipapo_start_script starts nothing, and the place in the script. Lines and columns count from 1, and a column counts bytes.
+ * A field that doesn't apply is 0. */
 typedef struct {
     uint64_t line;   /* of the bad token, or of the first refused change */
     uint64_t column; /* PIPAPO_SCRIPT: where the bad token begins in its line */
@@ -137,7 +137,7 @@ enum pipapo_reason {
 
 /* What a change answers. */
 typedef struct {
-    uint64_t id;      /* the element's id; after PIPAPO_OVERLAP and PIPAPO_EXISTS that of the element in the way; else 0 */
+    uint64_t id;      /* the element's id; after PIPAPO_OVERLAP and PIPAPO_EXISTS the id of the element in the way; else 0 */
     uint32_t field;   /* after PIPAPO_RULES_FULL the field that is full, from 0; else 0 */
     uint32_t outcome; /* an enum pipapo_outcome */
 } pipapo_answer;
@@ -185,13 +185,13 @@ uint32_t pipapo_start(const pipapo_set *sets, size_t set_count, pipapo_control *
                       size_t reader_count);
 
 /* Makes a control and `reader_count` readers, 1 to 16, by a script of nft(8), as docs/formats.md has it: `length` bytes at
- * `text`. Its declared sets get the numbers 0, 1, .. The control does all its sections, one after another, and commits what
- * they commit: the end of a section commits what is open. So a script that declares sets and adds elements leaves generation 1,
- * and one that only declares sets leaves generation 0. No change is open. No reader enters a generation before the last one
- * that was committed. The script's moments are those of its own statements `at`, from 0 on.
+ * `text`. Its declared sets get the numbers 0, 1, .. The control does all sections of the script, one after another. The end of
+ * a section commits what is open. So a script that declares sets and adds elements leaves generation 1, and one that only
+ * declares sets leaves generation 0. No change is open. No reader enters a generation before the last one that was committed.
+ * The moment is 0 until the script's first statement `at`.
  * Errors: READERS; SCRIPT, with the bad token's line, column and reason in `fault`; CHANGE, with the first refused change in
- * `fault`; MEMORY. The handles are then as they were, and nothing stays allocated. Nothing is started if one change of many
- * is refused. `fault` is written only if the call is refused; it is all zeros after READERS and MEMORY.
+ * `fault`; MEMORY. The handles are then as they were, and nothing stays allocated. One refused change of many is enough to
+ * start nothing. `fault` is written only if the call is refused. It is all zeros after READERS and MEMORY.
  * Cost: 768 KiB for the control and for each reader, and the script's changes and commits. */
 PIPAPO_NONNULL PIPAPO_CHECK_RESULT
 uint32_t pipapo_start_script(const char *text, size_t length, pipapo_control *control, pipapo_reader *readers,
@@ -252,17 +252,18 @@ PIPAPO_NONNULL PIPAPO_CHECK_RESULT
 uint32_t pipapo_number(pipapo_control *control, uint64_t *generation);
 
 /* Writes the last generation as a script of nft(8), as the program's `list` does: its tables, its sets and their elements. An
- * element that expires has the time from `now` to its expiry. `text` gets the text's first byte, `length` how many bytes it has;
- * a zero byte follows them. pipapo_free_text frees it. pipapo_start_script reads it if each table and each set has a name.
+ * element that expires has the time from `now` to its expiry. `text` gets a pointer to the text, and `length` the number of its
+ * bytes. A zero byte follows them. pipapo_free_text frees the text. pipapo_start_script reads it if each table and each set has a
+ * name.
  * Errors: NOTHING, HANDLE, MEMORY; `text` and `length` are then as they were.
  * Cost: the text is made twice, and each set is copied for it. */
 PIPAPO_NONNULL PIPAPO_CHECK_RESULT
 uint32_t pipapo_list(pipapo_control *control, uint64_t now, char **text, size_t *length);
 
-/* Frees a text of pipapo_list. A null pointer is passed over. */
+/* Frees a text of pipapo_list. A null pointer is ignored. */
 void pipapo_free_text(char *text);
 
-/* As pipapo_list, into the `size` bytes at `text`, and with no zero byte. `written` gets the text's length, also after ROOM.
+/* As pipapo_list, but into the `size` bytes at `text`, and without a zero byte. `written` gets the text's length, also after ROOM.
  * Errors: NOTHING, HANDLE, MEMORY, ROOM; `text` is then as it was. */
 PIPAPO_NONNULL PIPAPO_CHECK_RESULT
 uint32_t pipapo_list_into(pipapo_control *control, uint64_t now, char *text, size_t size, uint64_t *written);
