@@ -68,7 +68,7 @@ module _ (mode : Mode) (file : List ℕ) (s : Script) (control : Steering) (even
   has-refusals : list_any is_refusal events ≡ has_refusal mode s
   has-refusals = ap (list_any is_refusal) (sym h.ends.told)
 
--- What was told of the runs is the comparison of the scripts.
+-- What was written of the runs is the comparison of the scripts.
 pub gives : (mode : Mode) (a b : Finished) (s t : Script) (differs : Bool) (text : List ℕ) → HasRun mode s a.trace.control a.trace.events (lines_of a.trace.lines) → HasRun mode t b.trace.control b.trace.events (lines_of b.trace.lines) → a.at ≡ s.last → b.at ≡ t.last
     → TellsEnds a b differs text → GivesComparison mode a.file.now s b.file.now t differs text
 gives mode a b s t differs text hs ht at_a at_b told =

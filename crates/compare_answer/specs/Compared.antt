@@ -54,7 +54,7 @@ abbrev pub refusals_text : Mode → List ℕ → Script → List ℕ
 refusals_text mode file s = told_text (codes "# " ++ (file ++ codes " ")) s.schema (filter is_refusal (history mode s.schema s.sections).events)
 
 -- What `compare` writes of two scripts, by the names of their files, and whether the status is 1. The text has the refused changes
--- of the first and of the second script, the reports on the first script's sets, and the lines on those that only the second has.
+-- of both scripts. Then it has the reports on the first script's sets, and the lines on the sets that only the second has.
 pub record GivesComparison (mode : Mode) (file : List ℕ) (s : Script) (other : List ℕ) (t : Script) (differs : Bool) (text : List ℕ) : Type 0 where
   pub same : Bool
   pub reported : List ℕ

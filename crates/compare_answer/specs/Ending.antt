@@ -6,8 +6,8 @@ use Rattle.set_model.specs.Control.{Mode, history}
 use Rattle.set_model.specs.SetState.{State}
 use Rattle.key_answer.specs.Origin.{traced}
 
--- A script at its end: the name of its file, its declared sets, what they hold in the last generation, its last moment, and for
--- each set the lines that added its elements, by the ids of the elements.
+-- A script at its end: its file's name, its declared sets, what they hold in the last generation, and its last moment. For each
+-- set it has the lines that added the elements, by their ids.
 pub record Ending : Type 0 where
   pub file : List ℕ
   pub schema : List SetDecl

@@ -1,6 +1,6 @@
 //! The answer to a key, and its text.
 ghost use Rattle.std.specs.List.{list_any};
-ghost use Rattle.std.specs.Prelude.{◌≡◌, ◌||◌, not, ◌++◌, true, All, filter, length, map, is_some, slice_get, Some, Err, IfOk, IfSome, OnOk, ℕ, option_map};
+ghost use Rattle.std.specs.Prelude.{◌≡◌, ◌||◌, not, ◌++◌, true, All, filter, length, map, is_some, slice_get, Some, Err, IfOk, IfSome, OnOk, ℕ, option_map, false};
 ghost use Rattle.std.specs.String.{string_bytes};
 ghost use Rattle.set_model.specs.Key.{key_fits, parts_fit};
 ghost use Rattle.set_model.specs.SetState.{first};

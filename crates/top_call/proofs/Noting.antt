@@ -40,7 +40,7 @@ due-above words shelf status text (on_file d fault stops t is_d is ended) e = en
 due-above words shelf status text (on_sections name t has is ended) e = ended-above 12 status (omega arith) ended e
 due-above words shelf status text (on_changes c name output t refusals failed has is_c names are is ended) e = ended-above 1 status (omega arith) ended e
 
--- What was told, or not told as memory ran out.
+-- A note was printed, or none, as memory ran out.
 pub told-may : {T E : Type 0} (r : Result T E) (IsNote : List ℕ → Type 0) (before now : Option (List ℕ)) → OnOk r (HasTold IsNote before now) → OnErr r (now ≡ before) → MayTell IsNote before now
 told-may (Ok x) IsNote before now h silent = note h.0 h.1 h.2 h.3
 told-may (Err e) IsNote before now h silent = nothing silent

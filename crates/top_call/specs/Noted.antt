@@ -23,8 +23,8 @@ words_front = name_text (codes "pipapo")
 
 -- The notes that are due. One is on words that are no command and ask for no page. One begins with the name of a file that
 -- can't be had, in its turn, and the place of what is wrong with its text. One begins with the name of a desk's script that
--- has too many sections. One has a line for each of the first 20 refused changes of the command, with the script's name and
--- the change's line, and how many more there are.
+-- has too many sections. One is on the command's refused changes. It has a line for each of the first 20, with the script's
+-- name and the change's line, and how many more there are.
 pub data IsDueNote (words : List (List ℕ)) (shelf : Shelved) (status : ℕ) : List ℕ → Type 0 where
   on_words : (text : List ℕ) → IsNoCommand words → Begins words_front text → Ended 2 status → IsDueNote words shelf status text
   on_file : (c : Command) (fault : FileFault) (stops : StopsAt shelf c fault) (text : List ℕ) → IsCommand words c → IsNoteOn shelf.told stops.sets stops.input.name fault text → Ended (file_status fault) status → IsDueNote words shelf status text

@@ -21,7 +21,7 @@ use Rattle.input_files.specs.declared.work.Work.TheVariants as works
 abbrev pub shows_all : Mode → Script → Bool
 shows_all mode s = false
 
--- The refused changes of the script with this text, if one control runs it alone, and whether its output shows the generation
+-- The refused changes of the script with this text, if one control runs it alone. Also whether its output shows the generation
 -- before a last transaction that failed.
 abbrev pub AreRefusedAlone : (Mode → Script → Bool) → List ℕ → Mode → List Refusal → Bool → Type 0
 AreRefusedAlone shows script_text mode refusals failed = (s : Script) × IsScriptText script_text s × (refusals ≡ refusals_of mode s) × (failed ≡ shows mode s)

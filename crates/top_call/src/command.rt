@@ -167,8 +167,8 @@ fn carry_out<R: Threads + Wait + Sync, F: Shelf, K: Sink, N: Notes, G: Gate>(
 /// its progress. The status is:
 ///
 /// - 0: the whole output was written, and reports no refusal;
-/// - 1: the whole output was written, and reports that a change was refused, that no element holds the key of a `get`, or that the
-///   scripts of a `compare` don't have the same sets;
+/// - 1: the whole output was written. A change was refused, no element holds the key of a `get`, or the scripts of a `compare`
+///   don't have the same sets;
 /// - 2: the words are no command, and the usage line was written;
 /// - 3, 4, 9, 11: the script, the key file, the rules file, the plan isn't in its grammar;
 /// - 5: a file couldn't be opened or read;

@@ -13,7 +13,7 @@ pub(crate) fn form_of(verb: Verb) -> &'static [u8] {
     }
 }
 
-/// Whether a word of a form is that of a name, as `SCRIPT` or `SCRIPT1`.
+/// Whether a word of a form is a name's, as `SCRIPT` or `SCRIPT1`.
 fn is_name(word: &[u8]) -> bool {
     word.iter()
         .all(|byte| byte.is_ascii_uppercase() || byte.is_ascii_digit())

@@ -11,7 +11,7 @@
 //! option is compared with those that there are: `lits` gives `did you mean 'list'?`.
 //!
 //! It is proved that a note begins with `pipapo: `. Tests check the words after it
-//! (`checks/scripts/word_mistakes.py`).
+//! (`checks/scripts/mistakes.py`).
 //!
 //! **Theory:** docs/formats.md, "The standard error".
 #![tactic(auto)]

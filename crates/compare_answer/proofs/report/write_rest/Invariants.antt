@@ -3,7 +3,7 @@ use Rattle.std.specs.List.{list_any}
 use Rattle.compare_answer.specs.Compared.{is_alone, alone_text}
 use Rattle.compare_answer.proofs.report.write_rest.Given as goal
 
--- the sets so far are told
+-- the lines on the sets so far are written
 abbrev pub invariant-sets : goal.invariant-sets
 invariant-sets l = record {
   any : l.any ≡ list_any (is_alone l.others) (take l.set-index l.set-items);
