@@ -82,7 +82,7 @@ abbrev pub HasMoved : (Place → Place → Type 0) → Option Object → Option 
 HasMoved step (Some (Reader s)) (Some (Reader t)) = step s.place t.place × (t.kinds ≡ s.kinds)
 HasMoved step old new = ⊥
 
--- In a generation the id of a key is the definition's id for the values that the bytes mean.
+-- In a generation the id of a key is that of the definition, for the values that the bytes stand for.
 abbrev pub IsIdIn : Generation → List Kind → ℕ → List ℕ → ℕ → ℕ → Type 0
 IsIdIn g kinds set key now id = (s : State) → slice_get g.sets set ≡ Some s → id ≡ id_of (found s (values_in kinds key) now)
 

@@ -28,7 +28,7 @@ describe_sets shapes = nat_le (length shapes) (2 ^ 32) && list_all describes_set
 abbrev pub name_in : List ℕ → List ℕ
 name_in bytes = take_while (λ byte. not (nat_eq byte 0)) bytes
 
--- the most elements that a set may have; 0 means any number
+-- the most elements that a set may have; 0 stands for any number
 abbrev pub most_of : ℕ → Option ℕ
 most_of size = if nat_eq size 0 then None else Some size
 

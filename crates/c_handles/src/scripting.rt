@@ -27,8 +27,8 @@ fn make(alloc: Global, text: &[u8], readers: u32) -> Result<Boxes, StartError>
 /// Makes a control of the sets that a script's text declares, which has done all sections of the script, and a reader for
 /// each of the other handles. Each reader has seen what is committed. What the handles held ends.
 ///
-/// Returns the number of `Readers` if there aren't 1 to 16 reader handles, then of `Script` if the text isn't a script. It
-/// returns the number of `Change` if a change is refused, or of `Memory`. After `Script` and `Change`, `place` has the place.
+/// The numbers of its refusals: that of `Readers` if there aren't 1 to 16 handles for readers. Then that of `Script` if the
+/// text isn't a script, and that of `Change` if a change is refused; `place` has the place then. Or that of `Memory`.
 pub fn start_script(
     alloc: Global,
     text: &[u8],

@@ -105,8 +105,8 @@ fn make(alloc: Global, sets: &[SetShape], readers: usize) -> Result<Boxes, Fault
 /// Makes a control at generation 0, in which these sets are empty, and a reader for each of the other handles. What the
 /// handles held ends.
 ///
-/// Returns the number of `Readers` if there aren't 1 to 16 reader handles, then of `Schema` if a struct describes no set, or of
-/// `Memory`.
+/// The numbers of its refusals: those of `Readers` if there aren't 1 to 16 handles for readers, and of `Schema` if a struct
+/// describes no set. The first that applies counts, and then `Memory`.
 pub fn start(alloc: Global, sets: &[SetShape], control: &mut Handle, readers: &mut [Handle]) -> u32
     ensures done { result ≡ 0 → HasStarted sets.now control.new.held (map (λ h. h.held) readers.new) }
     ensures unchanged { 0 < result → (control.new ≡ control.old) × (readers.new ≡ readers.old) }
