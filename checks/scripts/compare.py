@@ -78,13 +78,14 @@ class Sets:
     def first(self, s, key, refused):
         """The id and the line of the first live element of a set that holds a key."""
         made = [(e, line) for e, line in zip(self.sets[s], self.lines[s]) if line not in refused]
-        # an element with the intervals of an earlier one makes none
-        seen, places = [], []
+        # an element with the intervals of an earlier one makes none; if it has a life, it renews that one's
+        places = []
         for (parts, life), line in made:
-            if parts in seen:
-                continue
-            seen.append(parts)
-            places.append((parts, life, line))
+            same = [place for place in places if place[0] == parts]
+            if not same:
+                places.append([parts, life, line])
+            elif life is not None:
+                same[0][1] = life
         for number, (parts, life, line) in enumerate(places):
             if (life is None or life > MOMENT) and all(low <= v <= high for (low, high), v in zip(parts, key)):
                 return number, line

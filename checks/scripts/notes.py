@@ -151,8 +151,8 @@ def cases(shown):
     yield ["run", "many.nft", "good.keys", "--keep-going"], many + "many.nft: 5 more changes are refused\n", None, 1
     yield ["list", "twenty.nft", "--keep-going"], many.replace("many.nft", "twenty.nft"), None, 1
     yield ["list", "one_more.nft", "--keep-going"], many.replace("many.nft", "one_more.nft") + "one_more.nft: 1 more change is refused\n", None, 1
-    yield ["get", "twenty.nft", "80", "--keep-going"], many.replace("many.nft", "twenty.nft"), None, 1
-    yield ["get", "good.nft", "81"], "", None, 1
+    yield ["get", "--keep-going", "twenty.nft", "ip", "t", "p", "80"], many.replace("many.nft", "twenty.nft"), None, 1
+    yield ["get", "good.nft", "ip", "t", "p", "81"], "", None, 1
     # several control threads
     yield ["desk", "clerks.nft"], "clerks.nft: the script has 18 sections, and desk runs 17 at most: the first, and one for each of 16 control threads; join some, by leaving lines 'round' out\n", "pipapo: too many clerks: clerks.nft", 12
     yield ["desk", "desk.nft"], "desk.nft:4:25: 80 exists already (line 2)\n" + failed.replace("overlap.nft", "desk.nft"), None, 1
