@@ -36,7 +36,7 @@ if has pkg-config; then
     # shellcheck disable=SC2046
     cc -std=c11 -O2 -pthread -o "$room/classify" c/examples/classify.c $(PKG_CONFIG_SYSROOT_DIR=$room/stage \
         PKG_CONFIG_LIBDIR=$place/lib/pkgconfig pkg-config --cflags --libs pipapo) &&
-        LD_LIBRARY_PATH=$place/lib "$room/classify" c/examples/allow.rules examples/capture/six.pcap 10 >"$room/counts" ||
+        LD_LIBRARY_PATH=$place/lib "$room/classify" c/examples/allow.nft examples/capture/six.pcap 10 >"$room/counts" ||
         complain "no program builds and runs with the installed library"
 else
     skip_part "a program with the installed library, since pkg-config isn't installed"
