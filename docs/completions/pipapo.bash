@@ -1,12 +1,18 @@
 # bash completion of pipapo
 _pipapo() {
-    local word=${COMP_WORDS[COMP_CWORD]} command=${COMP_WORDS[1]}
+    local word=${COMP_WORDS[COMP_CWORD]} before=${COMP_WORDS[COMP_CWORD - 1]} command=${COMP_WORDS[1]}
+    # bash makes '=' a word of its own
+    if [ "$word" = "=" ]; then
+        word=
+    elif [ "$before" = "=" ]; then
+        before=${COMP_WORDS[COMP_CWORD - 2]}
+    fi
     COMPREPLY=()
     if [ "$COMP_CWORD" -eq 1 ]; then
         mapfile -t COMPREPLY < <(compgen -W "run list dump drill judge capture desk get compare help --help --version" -- "$word")
     elif [ "$command" = help ]; then
         mapfile -t COMPREPLY < <(compgen -W "run list dump drill judge capture desk get compare" -- "$word")
-    elif [ "${COMP_WORDS[COMP_CWORD - 1]}" = --threads ]; then
+    elif [ "$before" = --threads ]; then
         mapfile -t COMPREPLY < <(compgen -W "$(seq 1 16)" -- "$word")
     elif [[ $word == -* ]]; then
         case $command in
