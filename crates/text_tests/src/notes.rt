@@ -170,7 +170,6 @@ const SCRIPTS_AND_KEYS: &[u8] = b"\
     s 9 0 1 10 end;table t {|x:1:10: the end of the text leaves the '{' of line 1 open\ntable t {\n         ^\nhelp: write '}' after the last set of the table\n~\
     s 60 9 2 22 value;add set ip t p { type inet_service ; }\nadd element ip t p { 443-70000 }\n|x:2:22: '443-70000' doesn't fit field 1 (inet_service): 70000 is greater than 65535, the last port\nadd element ip t p { 443-70000 }\n                     ^^^^^^^^^\nhelp: write a number from 0 to 65535\n~\
     k 3 1 1 4 statement;t s\n|x:1:4: the end of the line can't come here\nt s\n   ^\nhelp: write a line [FAMILY] TABLE SET VALUE . VALUE .., with one value for each field, or 'at' MOMENT, or 'round'\n~\
-    k 15 5 1 16 value;t s 10.0.0.1 . https\n|x:1:16: 'https' isn't a value of field 2, and a port is a number and not a name\nt s 10.0.0.1 . https\n               ^^^^^\nhelp: use 443\n~\
     k 2 1 1 3 character;t\x1b\xc3 s\n|x:1:3: '\\xc3' is an unexpected character\nt\\x1b\\xc3 s\n     ^^^^\nhelp: write ASCII: other characters may be in strings and comments only\n~\
     s 53 1 2 18 set;add set ip t s { type ipv4_addr ; }\nadd element ip t q { 10.0.0.1 }\n|x:2:18: 'q' isn't a set that is declared before this place\nadd element ip t q { 10.0.0.1 }\n                 ^\nhelp: the sets declared before are ip t s\n~\
     s 0 2 1 1 statement;ip t s 10.0.0.1\n|x:1:1: this looks like a key file: the script is named first, and then the key file\n~\
@@ -236,7 +235,7 @@ const REFUSALS: &[u8] = b"\
 
 #[test]
 fn notes(rt: HostRuntime) {
-    assert_told(&rt, rt.alloc(), SCRIPTS_AND_KEYS, 17, told_bad);
+    assert_told(&rt, rt.alloc(), SCRIPTS_AND_KEYS, 16, told_bad);
     assert_told(&rt, rt.alloc(), RULES_AND_PLANS, 7, told_bad);
     assert_told(&rt, rt.alloc(), CAPTURES, 18, told_capture);
     assert_told(&rt, rt.alloc(), FILES, 4, told_file);
