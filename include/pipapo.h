@@ -15,10 +15,11 @@
  *     uint64_t generation, purged, id;
  *     pipapo_answer answer;
  *
- *     pipapo_start(&set, 1, &control, &reader, 1);
- *     pipapo_insert(&control, 0, range, sizeof range, PIPAPO_NEVER, "", 0, 0, &answer);
- *     pipapo_commit(&control, 0, &generation, &purged);
- *     pipapo_lookup(&reader, 0, &packet, sizeof packet, 0, &id);                        // id is answer.id
+ *     uint32_t error = pipapo_start(&set, 1, &control, &reader, 1);
+ *     if (!error) error = pipapo_insert(&control, 0, range, sizeof range, PIPAPO_NEVER, "", 0, 0, &answer);
+ *     if (!error) error = pipapo_commit(&control, 0, &generation, &purged);
+ *     if (!error) error = pipapo_lookup(&reader, 0, &packet, sizeof packet, 0, &id);    // id is answer.id
+ *     if (error) puts(pipapo_strerror(error));
  *     pipapo_free(&reader);
  *     pipapo_free(&control);
  *
@@ -30,8 +31,8 @@
  * MOMENTS are milliseconds since any start that the program chooses. An element that expires at moment m is live before m.
  *
  * RETURN VALUES. Each call returns PIPAPO_OK (0), or the reason why it did nothing. If several reasons apply, it is the first
- * one that the call's comment names. A refused call changes nothing that a handle holds, and writes nothing but the answer of
- * a change.
+ * one that the call's comment names. A refused call changes nothing that a handle holds. It writes nothing but the `answer` of
+ * a change, the `fault` of a start by a script, and after ROOM the text's length.
  *
  * THREADS. The control and each reader may be in a thread of their own. No call waits for another thread. One handle is for
  * one call at a time. A handle may go to another thread through a lock, the start or end of a thread, or a sequentially
@@ -103,7 +104,7 @@ typedef struct {
     uint32_t kinds[16]; /* an enum pipapo_kind for each field */
     uint32_t fields;    /* 1 to 16 */
     uint32_t family;    /* an enum pipapo_family */
-    uint32_t disjoint;  /* not 0: an element that shares a key with a live one is refused */
+    uint32_t disjoint;  /* not 0: an element that shares a key with a live one is refused; in a script `flags disjoint` */
     uint32_t size;      /* at most so many elements; 0: any number */
     uint8_t table[64];  /* the table's name, which ends at the first zero byte; for listings alone */
     uint8_t name[64];   /* the set's name, alike */
@@ -210,6 +211,9 @@ void pipapo_free(void *handle);
 
 /* Inserts an element. `comment` is kept with it, and plays no part in lookups. If a live element has the same intervals, it
  * stays, and gets the new expiry unless that is PIPAPO_NEVER.
+ * In the way is a live element of other intervals that holds the low key or the high key of `bounds`. In a disjoint set it is
+ * one that shares any key with the new element. So an element inside a live wider one is refused. In a set that isn't
+ * disjoint, one around a live narrower one is accepted if that holds neither key of `bounds`.
  * Errors: OVERLAP with the id of the element in the way; then FULL; then RULES_FULL with the field.
  * Cost: one or two lookups, and the new rules. */
 PIPAPO_NONNULL PIPAPO_CHECK_RESULT
@@ -253,8 +257,11 @@ uint32_t pipapo_number(pipapo_control *control, uint64_t *generation);
 
 /* Writes the last generation as a script of nft(8), as the program's `list` does: its tables, its sets and their elements. An
  * element that expires has the time from `now` to its expiry. `text` gets a pointer to the text, and `length` the number of its
- * bytes. A zero byte follows them. pipapo_free_text frees the text. pipapo_start_script reads it if each table and each set has a
- * name.
+ * bytes. A zero byte follows them. pipapo_free_text frees the text.
+ * pipapo_start_script reads the text if it is in the script's language, and the changes allow more than that. Each table and each
+ * set must have a name that a script may have. A set that came from a script needs `flags interval` for ranges, and `timeout`
+ * among its flags for elements that expire. A set of pipapo_start has both. A comment must have at most 128 bytes,
+ * none of them a quotation mark or below 32.
  * Errors: NOTHING, HANDLE, MEMORY; `text` and `length` are then as they were.
  * Cost: the text is made twice, and each set is copied for it. */
 PIPAPO_NONNULL PIPAPO_CHECK_RESULT
