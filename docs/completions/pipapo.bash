@@ -9,9 +9,9 @@ _pipapo() {
     fi
     COMPREPLY=()
     if [ "$COMP_CWORD" -eq 1 ]; then
-        mapfile -t COMPREPLY < <(compgen -W "run list dump drill judge capture desk get compare help --help --version" -- "$word")
+        mapfile -t COMPREPLY < <(compgen -W "run list dump drill judge capture desk get compare sets help --help --version" -- "$word")
     elif [ "$command" = help ]; then
-        mapfile -t COMPREPLY < <(compgen -W "run list dump drill judge capture desk get compare" -- "$word")
+        mapfile -t COMPREPLY < <(compgen -W "run list dump drill judge capture desk get compare sets" -- "$word")
     elif [ "$before" = --threads ]; then
         mapfile -t COMPREPLY < <(compgen -W "$(seq 1 16)" -- "$word")
     elif [[ $word == -* ]]; then
@@ -19,6 +19,7 @@ _pipapo() {
         run | judge | capture) mapfile -t COMPREPLY < <(compgen -W "--threads --keep-going --help" -- "$word") ;;
         list | dump | desk | compare) mapfile -t COMPREPLY < <(compgen -W "--keep-going --help" -- "$word") ;;
         get) mapfile -t COMPREPLY < <(compgen -W "--at --keep-going --help" -- "$word") ;;
+        sets) mapfile -t COMPREPLY < <(compgen -W "--help" -- "$word") ;;
         drill) mapfile -t COMPREPLY < <(compgen -W "--threads --help" -- "$word") ;;
         esac
     elif [ "$command" != drill ]; then

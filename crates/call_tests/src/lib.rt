@@ -26,6 +26,8 @@ mod other_files;
 #[cfg(test)]
 mod reasons;
 #[cfg(test)]
+mod rulesets;
+#[cfg(test)]
 mod runs;
 #[cfg(test)]
 mod threads;

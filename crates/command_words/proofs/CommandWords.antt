@@ -10,10 +10,10 @@ use Rattle.std.proofs.lemmas.List.Sums.{sum_by-cons}
 use Rattle.std.proofs.lemmas.Slice.Eq.{bytes_eq-Decides}
 use Rattle.std.proofs.lemmas.Str.Parse.{digit_at}
 use Rattle.command_words.specs.declared.shape.Verb.{Verb}
-use Rattle.command_words.specs.declared.shape.Verb.TheVariants.{Run, List as Lists, Dump, Drill, Judge, Capture, Desk, Get, Compare}
+use Rattle.command_words.specs.declared.shape.Verb.TheVariants.{Run, List as Lists, Dump, Drill, Judge, Capture, Desk, Get, Compare, Sets}
 use Rattle.command_words.specs.declared.shape.Shape.{Shape}
 use Rattle.command_words.specs.GetWords.{Asked, asked, is_file_name, keep_going_word}
-use Rattle.command_words.specs.Words.{stdin_name, is_stdin, verb_word, IsNumber, AreThreads, AreWords, ArePacketWords, Command, run, list, dump, drill, judge, capture, desk, get, IsCommand, AreArguments, no_words, name_and, threads_and, threads_with, mark_and, threads_word, threads_front, last_seed, most_drill_elements, AreFileWords, compare}
+use Rattle.command_words.specs.Words.{stdin_name, is_stdin, verb_word, IsNumber, AreThreads, AreWords, ArePacketWords, Command, run, list, dump, drill, judge, capture, desk, get, IsCommand, AreArguments, no_words, name_and, threads_and, threads_with, mark_and, threads_word, threads_front, last_seed, most_drill_elements, AreFileWords, compare, sets_of}
 use Rattle.command_words.specs.Fronts.{after_front}
 use Rattle.command_words.specs.Numbers.{number_within}
 use Rattle.command_words.specs.WordForms.{verb_of, name_count, is_whole_shape, empty_shape, stdin_once, fits, accepts, HasVerb, takes_name, takes_threads, takes_mark, with_threads, with_joined, with_argument, with_word, shape_after}
@@ -158,6 +158,7 @@ name-of-command Judge place word e = (both _ _ e).1
 name-of-command Capture place word e = (both _ _ e).1
 name-of-command Desk place word e = (both _ _ e).1
 name-of-command Compare place word e = (both _ _ e).1
+name-of-command Sets place word e = (both _ _ e).1
 name-of-command Get place word e = absurd (no-name (nat_lt place 1) e)
 name-of-command Drill place word e = go (place == 0) (both _ _ e).1 where
   go : (b : Bool) → is_some (cond b (number_within 0 last_seed word) (number_within 1 most_drill_elements word)) ≡ true → is_file_name word ≡ true
@@ -396,6 +397,8 @@ module _ (rest : List (List ℕ)) (threads : Option (List ℕ)) (keep_going : Bo
       let none : threads ≡ None = no-threads Compare threads refl ts in
       let same = stdin-of-arguments rest names threads keep_going a (subst (λ (o : Option (List ℕ)). NoStdin o) (sym none) tt) in
       (compare first second keep_going, (lone-words Compare names refl a ts, leb-true _ _ (ap (λ k. nat_le k 1) (sym same) ∙ once)), refl)
+  by-verb Sets (file ∷ []) a ns ts gs count once =
+      (sets_of file, subst (λ (b : Bool). AreWords (codes "sets" ∷ rest) (codes "sets") (file ∷ []) None b) (no-mark Sets keep_going refl gs) (lone-words Sets (file ∷ []) refl a ts), refl)
   by-verb Get (word ∷ names) a ns ts gs count once = absurd (no-name (nat_lt 0 1) ns.0)
   by-verb verb names a ns ts gs count once = absurd (omega (arith, count))
 
@@ -419,6 +422,7 @@ accepts-shape Judge other rest = refl
 accepts-shape Capture other rest = refl
 accepts-shape Desk other rest = refl
 accepts-shape Compare other rest = refl
+accepts-shape Sets other rest = refl
 accepts-shape Get other rest = absurd (other refl)
 
 -- Words that ask something are a `get`.
@@ -438,6 +442,7 @@ command-of-shape Judge rest h = shape-command Judge rest h
 command-of-shape Capture rest h = shape-command Capture rest h
 command-of-shape Desk rest h = shape-command Desk rest h
 command-of-shape Compare rest h = shape-command Compare rest h
+command-of-shape Sets rest h = shape-command Sets rest h
 command-of-shape Get rest h = get-command rest h
 
 -- a number that a word writes
@@ -494,6 +499,7 @@ shape-of-command word ws (judge script rules keys n keep_going) h = packet-shape
 shape-of-command word ws (capture script plan packets n keep_going) h = packet-shape word ws (script ∷ plan ∷ packets ∷ []) n keep_going Capture refl refl (λ all. all) refl h
 shape-of-command word ws (desk script keep_going) h = lone-shape word ws script keep_going Desk refl (λ all. all) refl h
 shape-of-command word ws (compare first second keep_going) h = shaped word ws (first ∷ second ∷ []) None keep_going Compare h.0 (names-of h.0) tt (λ _. (refl, refl)) refl tt (le-leb _ _ h.1)
+shape-of-command word ws (sets_of file) h = shaped word ws (file ∷ []) None false Sets h (names-of h) tt (λ e. absurd (true≢false (sym e))) refl tt (one-once file)
 shape-of-command word ws (get script key moment keep_going) h =
     let first : word ≡ codes "get" = cc h.words_are in
     let behind : ws ≡ h.rest = cc h.words_are in
@@ -567,7 +573,7 @@ same-threads (Some v) (Some w) m n e h k = same-number 1 16 v w m n (omega arith
 -- the verb of a word
 verb_named : List ℕ → Verb
 verb_named word = cond (bytes_eq word (codes "run")) Run (cond (bytes_eq word (codes "list")) Lists (cond (bytes_eq word (codes "dump")) Dump (cond (bytes_eq word (codes "drill")) Drill
-    (cond (bytes_eq word (codes "judge")) Judge (cond (bytes_eq word (codes "capture")) Capture (cond (bytes_eq word (codes "desk")) Desk (cond (bytes_eq word (codes "compare")) Compare Get)))))))
+    (cond (bytes_eq word (codes "judge")) Judge (cond (bytes_eq word (codes "capture")) Capture (cond (bytes_eq word (codes "desk")) Desk (cond (bytes_eq word (codes "compare")) Compare (cond (bytes_eq word (codes "sets")) Sets Get))))))))
 
 named-verb : (verb : Verb) → verb_named (verb_word verb) ≡ verb
 unfolding verb_named
@@ -580,6 +586,7 @@ named-verb Capture = refl
 named-verb Desk = refl
 named-verb Get = refl
 named-verb Compare = refl
+named-verb Sets = refl
 
 pub first-word : (words : List (List ℕ)) (c : Command) → IsCommand words c → (rest : List (List ℕ)) × (words ≡ verb_word (verb_of c) ∷ rest)
 first-word words (run script keys n g) h = (h.1.rest, h.1.words_are)
@@ -591,6 +598,7 @@ first-word words (capture script plan packets n g) h = (h.1.rest, h.1.words_are)
 first-word words (desk script g) h = (h.rest, h.words_are)
 first-word words (get script key moment g) h = (h.rest, h.words_are)
 first-word words (compare first second g) h = (h.0.rest, h.0.words_are)
+first-word words (sets_of file) h = (h.rest, h.words_are)
 
 same-packet-words : (words : List (List ℕ)) (first other : List ℕ) (names ms : List (List ℕ)) (n m : ℕ) (keep_going g : Bool) → ArePacketWords words first names n keep_going → ArePacketWords words other ms m g → (names ≡ ms) × (n ≡ m) × (keep_going ≡ g)
 same-packet-words words first other names ms n m keep_going g h j =
@@ -624,6 +632,7 @@ one-command words c d h j = one c d verb h j where
   one (list s g) (list s' g') e h j = let r = same-words words _ _ _ _ _ _ _ _ h j in let script : s ≡ s' = cc r.1 in cc (script, r.3)
   one (dump s g) (dump s' g') e h j = let r = same-words words _ _ _ _ _ _ _ _ h j in let script : s ≡ s' = cc r.1 in cc (script, r.3)
   one (desk s g) (desk s' g') e h j = let r = same-words words _ _ _ _ _ _ _ _ h j in let script : s ≡ s' = cc r.1 in cc (script, r.3)
+  one (sets_of s) (sets_of s') e h j = let r = same-words words _ _ _ _ _ _ _ _ h j in let file : s ≡ s' = cc r.1 in cc file
   one (compare s k g) (compare s' k' g') e h j =
       let r = same-words words _ _ _ _ _ _ _ _ h.0 j.0 in
       let first : s ≡ s' = cc r.1 in

@@ -4,9 +4,9 @@ use Rattle.std.specs.Prelude.{IfSome, IsSome}
 use Rattle.std.specs.Borrow.{Bor}
 use Rattle.command_words.specs.declared.words.Arguments.{Arguments}
 use Rattle.command_words.specs.declared.shape.Verb.{Verb}
-use Rattle.command_words.specs.declared.shape.Verb.TheVariants.{Run, List as Lists, Dump, Drill, Judge, Capture, Desk, Get, Compare}
+use Rattle.command_words.specs.declared.shape.Verb.TheVariants.{Run, List as Lists, Dump, Drill, Judge, Capture, Desk, Get, Compare, Sets}
 use Rattle.command_words.specs.GetWords.{is_file_name}
-use Rattle.command_words.specs.Words.{NameStdinOnce, Command, run, list, dump, drill, judge, capture, desk, get, compare, IsCommand, AreWords, ArePacketWords, AreFileWords, AreThreads, IsNumber, last_seed, most_drill_elements}
+use Rattle.command_words.specs.Words.{NameStdinOnce, Command, run, list, dump, drill, judge, capture, desk, get, compare, sets_of, IsCommand, AreWords, ArePacketWords, AreFileWords, AreThreads, IsNumber, last_seed, most_drill_elements}
 use Rattle.command_words.specs.WordForms.{HasVerb, HasShape, HasArguments, ArePlain, verb_of}
 use Rattle.command_words.proofs.CommandWords.{number-is-name}
 
@@ -43,6 +43,7 @@ module _ (words : List (List ℕ)) where
   arguments-of-command (desk script goes) shape h = some-arguments (codes "desk") (script ∷ []) None goes 1 (omega arith) refl h
   arguments-of-command (drill seed elements n) shape h = some-arguments (codes "drill") (h.1 ∷ h.2 ∷ []) h.0 false n (omega arith) h.6 h.3
   arguments-of-command (compare first second goes) shape h = some-arguments (codes "compare") (first ∷ second ∷ []) None goes 1 (omega arith) refl h.0
+  arguments-of-command (sets_of file) shape h = some-arguments (codes "sets") (file ∷ []) None false 1 (omega arith) refl h
   arguments-of-command (get script key moment goes) shape h = absurd (shape refl)
 
   -- The words of a command with a shape are such.
@@ -70,6 +71,12 @@ pub record IsAloneOf (words : List (List ℕ)) (a : Arguments) (word : List ℕ)
   pub script : List ℕ
   pub first : text_of a.first ≡ Some script
   pub said : AreWords words word (script ∷ []) None a.keep_going
+
+-- of words with a name alone, and no mark
+pub record IsRulesetOf (words : List (List ℕ)) (a : Arguments) (word : List ℕ) : Type 0 where
+  pub file : List ℕ
+  pub first : text_of a.first ≡ Some file
+  pub said : AreWords words word (file ∷ []) None false
 
 pub record IsFilesOf (words : List (List ℕ)) (a : Arguments) (word : List ℕ) : Type 0 where
   pub name : List ℕ
@@ -109,6 +116,7 @@ Of words a Capture = IsTripleOf words a (codes "capture")
 Of words a Desk = IsAloneOf words a (codes "desk")
 Of words a Get = ⊥
 Of words a Compare = IsFilesOf words a (codes "compare")
+Of words a Sets = IsRulesetOf words a (codes "sets")
 
 module _ (words : List (List ℕ)) (a : Arguments) (given : (word : List ℕ) (names : List (List ℕ)) (threads : Option (List ℕ)) (keep_going : Bool) → AreWords words word names threads keep_going → ArePlain names threads → HasArguments a names threads keep_going) where
   with-mark : (word : List ℕ) (names : List (List ℕ)) (threads : Option (List ℕ)) (goes : Bool) → a.keep_going ≡ goes → AreWords words word names threads goes → AreWords words word names threads a.keep_going
@@ -162,6 +170,9 @@ module _ (words : List (List ℕ)) (a : Arguments) (given : (word : List ℕ) (n
         said = with-threads (codes "drill") (h.1 ∷ h.2 ∷ []) h.0 false k.threads_are h.3;
       }
   of-command (compare first second goes) shape h = files (codes "compare") first second goes h
+  of-command (sets_of file) shape h =
+      let k = given (codes "sets") (file ∷ []) None false h (record { few = omega arith; no_dash = tt }) in
+      record { file = file; first = k.first; said = h }
   of-command (get script key moment goes) shape h = absurd (shape refl)
 
   -- The arguments of words that are a command with a shape.
@@ -188,6 +199,7 @@ module _ (words : List (List ℕ)) (a : Arguments) where
   has-first Desk of = there a.first of.script of.first
   has-first Get of = absurd of
   has-first Compare of = there a.first of.name of.first
+  has-first Sets of = there a.first of.file of.first
 
   pub pair-second : (word : List ℕ) → IsPairOf words a word → IsSome a.second
   pair-second word of = there a.second of.1 of.2.second
@@ -212,6 +224,9 @@ module _ (words : List (List ℕ)) (a : Arguments) where
   module _ (first : Bor (List ℕ)) (first_is : a.first ≡ Some first) where
     pub is-alone : (word : List ℕ) → IsAloneOf words a word → AreWords words word (first.now ∷ []) None a.keep_going
     is-alone word of = subst (λ (s : List ℕ). AreWords words word (s ∷ []) None a.keep_going) (found-is a.first first of.script first_is of.first) of.said
+
+    pub is-ruleset : IsRulesetOf words a (codes "sets") → IsCommand words (sets_of first.now)
+    is-ruleset of = subst (λ (s : List ℕ). AreWords words (codes "sets") (s ∷ []) None false) (found-is a.first first of.file first_is of.first) of.said
 
     pub is-seed : (of : IsDrillOf words a) → (n : ℕ) × IsNumber 0 last_seed first.now n
     is-seed of = (of.seed, subst (λ (w : List ℕ). IsNumber 0 last_seed w of.seed) (found-is a.first first of.seed_word first_is of.first) of.seed_is)

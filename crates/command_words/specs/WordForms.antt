@@ -16,11 +16,11 @@ use Rattle.command_words.specs.declared.words.Command.{Command as Asked}
 use Rattle.command_words.specs.declared.words.Command.TheVariants as asked
 use Rattle.command_words.specs.declared.page.Page.{Page}
 use Rattle.command_words.specs.declared.page.Page.TheVariants as pages
-use Rattle.command_words.specs.declared.help.TheConstants.{PROGRAM, RUN, LIST, DUMP, DRILL, JUDGE, CAPTURE, DESK, GET, VERSION, COMPARE}
+use Rattle.command_words.specs.declared.help.TheConstants.{PROGRAM, RUN, LIST, DUMP, DRILL, JUDGE, CAPTURE, DESK, GET, VERSION, COMPARE, SETS}
 use Rattle.command_words.specs.Fronts.{after_front}
 use Rattle.command_words.specs.Numbers.{number_within}
 use Rattle.command_words.specs.GetWords.{asked, is_file_name, keep_going_word}
-use Rattle.command_words.specs.Words.{Command, run, list, dump, drill, judge, capture, desk, get, IsCommand, is_stdin, threads_word, threads_front, last_seed, most_drill_elements, compare}
+use Rattle.command_words.specs.Words.{Command, run, list, dump, drill, judge, capture, desk, get, IsCommand, is_stdin, threads_word, threads_front, last_seed, most_drill_elements, compare, sets_of}
 
 -- How many names a command has. The words of `get` have a reading of their own, and no shape.
 abbrev pub name_count : Verb → ℕ
@@ -33,6 +33,7 @@ name_count verbs.Capture = 3
 name_count verbs.Desk = 1
 name_count verbs.Get = 1
 name_count verbs.Compare = 2
+name_count verbs.Sets = 1
 
 -- A command may have packet threads.
 abbrev pub takes_threads : Verb → Bool
@@ -45,6 +46,7 @@ takes_threads verbs.Capture = true
 takes_threads verbs.Desk = false
 takes_threads verbs.Get = false
 takes_threads verbs.Compare = false
+takes_threads verbs.Sets = false
 
 -- A command may keep going after a refused change.
 abbrev pub takes_mark : Verb → Bool
@@ -57,6 +59,7 @@ takes_mark verbs.Capture = true
 takes_mark verbs.Desk = true
 takes_mark verbs.Get = false
 takes_mark verbs.Compare = true
+takes_mark verbs.Sets = false
 
 -- the number at a place of a drill: first the seed, and then the number of elements
 abbrev pub drill_number : ℕ → List ℕ → Option ℕ
@@ -73,6 +76,7 @@ is_name_of verbs.Capture place word = is_file_name word
 is_name_of verbs.Desk place word = is_file_name word
 is_name_of verbs.Get place word = false
 is_name_of verbs.Compare place word = is_file_name word
+is_name_of verbs.Sets place word = is_file_name word
 
 abbrev pub takes_name : Verb → ℕ → List ℕ → Bool
 takes_name verb place word = nat_lt place (name_count verb) && is_name_of verb place word
@@ -130,6 +134,7 @@ accepts verbs.Capture rest = fits verbs.Capture rest
 accepts verbs.Desk rest = fits verbs.Desk rest
 accepts verbs.Get rest = is_some (asked rest)
 accepts verbs.Compare rest = fits verbs.Compare rest
+accepts verbs.Sets rest = fits verbs.Sets rest
 
 abbrev pub verb_of : Command → Verb
 verb_of (run script keys threads keep_going) = verbs.Run
@@ -141,6 +146,7 @@ verb_of (capture script plan packets threads keep_going) = verbs.Capture
 verb_of (desk script keep_going) = verbs.Desk
 verb_of (get script key moment keep_going) = verbs.Get
 verb_of (compare first second keep_going) = verbs.Compare
+verb_of (sets_of file) = verbs.Sets
 
 -- A command whose words have a shape.
 abbrev pub HasShape : Verb → Type 0
@@ -162,6 +168,7 @@ page_text (pages.Command verbs.Capture) = CAPTURE.now
 page_text (pages.Command verbs.Desk) = DESK.now
 page_text (pages.Command verbs.Get) = GET.now
 page_text (pages.Command verbs.Compare) = COMPARE.now
+page_text (pages.Command verbs.Sets) = SETS.now
 page_text pages.Version = VERSION.now
 
 -- the command that the code's command is
@@ -178,6 +185,7 @@ abbrev pub plain : Asked → Command
 plain (asked.Script script task keep_going) = plain_task script.now task keep_going
 plain (asked.Drill seed count threads) = drill seed count threads
 plain (asked.Compare first second keep_going) = compare first.now second.now keep_going
+plain (asked.Sets file) = sets_of file.now
 
 -- At most three names, and a word after `--threads` that doesn't begin with a dash.
 pub record ArePlain (names : List (List ℕ)) (threads : Option (List ℕ)) : Type 0 where

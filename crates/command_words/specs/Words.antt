@@ -25,6 +25,7 @@ verb_word verbs.Capture = codes "capture"
 verb_word verbs.Desk = codes "desk"
 verb_word verbs.Get = codes "get"
 verb_word verbs.Compare = codes "compare"
+verb_word verbs.Sets = codes "sets"
 
 abbrev pub threads_word : List ℕ
 threads_word = codes "--threads"
@@ -77,6 +78,7 @@ pub data Command : Type 0 where
   desk : (script : List ℕ) (keep_going : Bool) → Command
   get : (script : List ℕ) (key : List (List ℕ)) (moment : Option ℕ) (keep_going : Bool) → Command
   compare : (first second : List ℕ) (keep_going : Bool) → Command
+  sets_of : (file : List ℕ) → Command
 
 -- At most one of the names is the standard input.
 abbrev pub NameStdinOnce : List (List ℕ) → Type 0
@@ -108,6 +110,7 @@ IsCommand words (judge script rules keys n keep_going) = ArePacketWords words (c
 IsCommand words (capture script plan packets n keep_going) = ArePacketWords words (codes "capture") (script ∷ plan ∷ packets ∷ []) n keep_going
 IsCommand words (desk script keep_going) = AreWords words (codes "desk") (script ∷ []) None keep_going
 IsCommand words (compare first second keep_going) = AreFileWords words (codes "compare") (first ∷ second ∷ []) keep_going
+IsCommand words (sets_of file) = AreWords words (codes "sets") (file ∷ []) None false
 IsCommand words (get script key moment keep_going) = AreGetWords words (record { script = script; key = key; moment = moment; keep_going = keep_going })
 
 -- The words ask for a text about the program: help on it or on one of its commands, or its version.
@@ -123,7 +126,7 @@ pub record IsNoCommand (words : List (List ℕ)) : Type 0 where
 
 -- The words are a command of one of these sorts: a run of a script beside a key file, a listing of a
 -- script, or a dump of its tables; a drill; a run whose packets a rules file judges, or whose packets a
--- plan takes from a capture; or a script by several control threads; or a question for a key; or a comparison of two scripts.
+-- plan takes from a capture; or a script by several control threads; or a question for a key; or a comparison of two scripts; or the sets of a ruleset.
 abbrev pub IsRunCommand : List (List ℕ) → List ℕ → List ℕ → ℕ → Bool → Type 0
 IsRunCommand words script keys threads keep_going = IsCommand words (run script keys threads keep_going)
 
@@ -151,6 +154,9 @@ IsGetCommand words script key moment keep_going = IsCommand words (get script ke
 abbrev pub IsCompareCommand : List (List ℕ) → List ℕ → List ℕ → Bool → Type 0
 IsCompareCommand words first second keep_going = IsCommand words (compare first second keep_going)
 
+abbrev pub IsSetsCommand : List (List ℕ) → List ℕ → Type 0
+IsSetsCommand words file = IsCommand words (sets_of file)
+
 -- the names of the files that a command reads, in their order
 abbrev pub file_names : Command → List (List ℕ)
 file_names (run script keys threads keep_going) = script ∷ keys ∷ []
@@ -162,6 +168,7 @@ file_names (capture script plan packets threads keep_going) = script ∷ plan �
 file_names (desk script keep_going) = script ∷ []
 file_names (get script key moment keep_going) = script ∷ []
 file_names (compare first second keep_going) = first ∷ second ∷ []
+file_names (sets_of file) = file ∷ []
 
 -- The first file of a command is its script.
 abbrev pub IsScriptOf : Command → List ℕ → Type 0

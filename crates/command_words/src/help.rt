@@ -16,6 +16,7 @@ usage: pipapo run SCRIPT KEYS [--threads N] [--keep-going]
        pipapo desk SCRIPT [--keep-going]
        pipapo get [--at MOMENT] [--keep-going] SCRIPT KEY ..
        pipapo compare SCRIPT1 SCRIPT2 [--keep-going]
+       pipapo sets RULESET
        pipapo help [COMMAND], pipapo [COMMAND] --help, pipapo [COMMAND] -h
        pipapo --version, pipapo -V
 
@@ -32,10 +33,12 @@ commands:
   to convert a script:
     list     runs SCRIPT, and lists its last generation as a script
     dump     runs SCRIPT, and writes the tables of its last generation
+    sets     writes the sets of RULESET as a script, and names what it skips
 
 SCRIPT is in a subset of the language of nft(8), and KEYS has a packet's key in each line.
 RULES has chains of rules over the sets, PLAN says which fields of a frame are the keys of a
-set, and PCAP is a capture in pcap or pcapng. One of them may be -, the standard input.
+set, and PCAP is a capture in pcap or pcapng. RULESET is a ruleset as nft(8) lists it, or a
+file for nft(8). One of them may be -, the standard input.
 
 options, in any order among the names:
   --threads N    packet threads beside the control: 1 to 16, and else 1
@@ -46,9 +49,9 @@ A value may also follow its option in one word, as --threads=4.
 statuses:
   0   the whole output was written, and no change was refused
   1   the whole output was written, and a change was refused, or a get found no element, or a
-      compare found a difference
+      compare found a difference, or sets left a set out
   2   the words are no command
-  3   the script isn't in its grammar
+  3   the script isn't in its grammar, or the sets of a ruleset aren't
   4   the key file isn't in its grammar
   5   a file can't be opened or read
   6   the standard output failed
@@ -224,4 +227,27 @@ options, before or behind the names:
 statuses: 0 all sets are the same and no change was refused, 1 sets differ or a change was refused,
 3 a script isn't in its grammar, 5 a script can't be read, 6 the standard output failed, 7 want of
 memory, 8 a script is too large
+";
+
+/// The page of `sets`.
+pub const SETS: &str = "\
+usage: pipapo sets RULESET
+
+Writes the sets of RULESET as a script, with their elements. RULESET is what nft list ruleset, list
+table, list sets or list set prints, or any file of tables and statements for nft(8). It may be -,
+the standard input. In the output everything else is blank, so each set keeps its lines and columns.
+
+What isn't kept is named on the standard error, with its place and the reason: chains, maps and all
+other objects; statements on them; and sets that can't be read, as those with auto-merge. Counters
+and the flags constant and dynamic are dropped from a set, since no verdict depends on them.
+
+An example, to be pasted into a shell:
+
+  nft list ruleset > rules.nft
+  pipapo sets rules.nft > sets.nft
+  pipapo get sets.nft inet filter blocked 192.0.2.7
+
+statuses: 0 all sets were written, 1 a set was left out, 3 a brace isn't closed or a set isn't in its
+grammar, 5 RULESET can't be read, 6 the standard output failed, 7 want of memory, 8 RULESET is too
+large
 ";

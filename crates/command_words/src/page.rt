@@ -3,7 +3,9 @@ ghost use Rattle.std.specs.String.{string_bytes};
 ghost use Rattle.command_words.specs.Words.{AsksFor};
 ghost use Rattle.command_words.specs.WordForms.{page_text};
 
-use crate::help::{CAPTURE, COMPARE, DESK, DRILL, DUMP, GET, JUDGE, LIST, PROGRAM, RUN, VERSION};
+use crate::help::{
+    CAPTURE, COMPARE, DESK, DRILL, DUMP, GET, JUDGE, LIST, PROGRAM, RUN, SETS, VERSION,
+};
 use crate::shape::Verb;
 
 /// A text that the program prints about itself.
@@ -33,6 +35,7 @@ impl Page {
             Page::Command(Verb::Desk) => DESK,
             Page::Command(Verb::Get) => GET,
             Page::Command(Verb::Compare) => COMPARE,
+            Page::Command(Verb::Sets) => SETS,
             Page::Version => VERSION,
         }
     }

@@ -46,6 +46,8 @@ pub enum Verb {
     Get,
     /// It compares two scripts at their last generations.
     Compare,
+    /// It writes the sets of a ruleset as a script.
+    Sets,
 }
 
 /// The shape of the words after a command's word, so far.
@@ -120,6 +122,7 @@ impl Verb {
             "desk" => Some(Verb::Desk),
             "get" => Some(Verb::Get),
             "compare" => Some(Verb::Compare),
+            "sets" => Some(Verb::Sets),
             _ => None,
         }
     }
@@ -129,7 +132,7 @@ impl Verb {
         ensures { result ≡ count_of_names self }
     {
         match self {
-            Verb::List | Verb::Dump | Verb::Desk | Verb::Get => 1,
+            Verb::List | Verb::Dump | Verb::Desk | Verb::Get | Verb::Sets => 1,
             Verb::Run | Verb::Drill | Verb::Compare => 2,
             Verb::Judge | Verb::Capture => 3,
         }
@@ -140,7 +143,9 @@ impl Verb {
     {
         match self {
             Verb::Run | Verb::Drill | Verb::Judge | Verb::Capture => true,
-            Verb::List | Verb::Dump | Verb::Desk | Verb::Get | Verb::Compare => false,
+            Verb::List | Verb::Dump | Verb::Desk | Verb::Get | Verb::Compare | Verb::Sets => {
+                false
+            }
         }
     }
 
@@ -148,7 +153,7 @@ impl Verb {
         ensures { result ≡ mark_test self }
     {
         match self {
-            Verb::Drill | Verb::Get => false,
+            Verb::Drill | Verb::Get | Verb::Sets => false,
             _ => true,
         }
     }

@@ -74,6 +74,10 @@ pub enum Command<'a> {
         second: &'a str,
         keep_going: bool,
     },
+    /// The sets of the ruleset in the file of this name.
+    Sets {
+        file: &'a str,
+    },
 }
 
 /// Why words give no command.
@@ -233,6 +237,7 @@ fn command_with<'a>(
             second: second.unwrap(),
             keep_going,
         }),
+        Verb::Sets => Ok(Command::Sets { file: first }),
         Verb::Drill => Ok(Command::Drill {
             seed: written_number(first, 0, u64::MAX),
             count: written_number(second.unwrap(), 1, MOST_ELEMENTS) as u32,

@@ -1,4 +1,5 @@
 pub mod Refusals
+pub mod Skips
 pub mod Shown
 pub mod Told
 pub mod Blanked

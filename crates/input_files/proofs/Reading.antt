@@ -10,6 +10,8 @@ use Rattle.set_model.specs.declared.script.Script.{Script}
 use Rattle.set_model.specs.declared.script.SetDecl.{SetDecl}
 use Rattle.set_model.specs.declared.packet.Packet.{Packet}
 use Rattle.set_script.specs.ScriptText.{IsScriptText}
+use Rattle.ruleset_sets.specs.declared.skipped.Skipped.{Skipped}
+use Rattle.ruleset_sets.specs.Kept.{IsKept, all_taken, notes}
 use Rattle.key_file.specs.KeysText.{IsKeysText}
 use Rattle.rule_chain.specs.declared.chains.Chain.{Chain}
 use Rattle.rule_chain.specs.RulesText.{IsRulesText}
@@ -30,10 +32,11 @@ use Rattle.input_files.specs.declared.fault.Flaw.{Flaw}
 use Rattle.input_files.specs.declared.fault.Flaw.TheVariants as flaws
 use Rattle.input_files.specs.declared.fault.FileFault.{FileFault}
 use Rattle.input_files.specs.declared.fault.FileFault.TheVariants.{Bad, ReadFault, TooLarge, Memory}
-use Rattle.input_files.specs.Inputs.{Input, script, second, keys, rules, plan, capture, names_of, inputs, form_of, IsOf, IsFlawed, ReadsAs, IsFileCause, as_second}
+use Rattle.input_files.specs.Inputs.{Input, script, second, rules_of_nft, keys, rules, plan, capture, names_of, inputs, form_of, IsOf, IsFlawed, ReadsAs, IsFileCause, as_second}
 use Rattle.fault_notes.specs.Told.{MayTell}
 use Rattle.input_files.specs.Noted.{IsNoteOn, StopsTelling}
 use Rattle.input_files.specs.Reads.{AreOf, AreReadWhole, AreRead, HasRead}
+use Rattle.input_files.specs.Works.{AreSetsOf}
 use Rattle.fault_notes.proofs.ToldLaws.{tells-as}
 use Rattle.input_files.proofs.Telling.{same-note}
 
@@ -79,6 +82,16 @@ as-script told name s read text at = let r = read text at in (r.0, (s, r.1, refl
 pub as-other : (told : List ℕ → Option (List ℕ)) (name : List ℕ) (sets : List SetDecl) (s : Script) → ReadsAs told name (λ text. IsScriptText text s) → ReadsAs told name (IsOf second sets)
 as-other told name sets s read text at = let r = read text at in (r.0, (s, r.1))
 
+pub as-ruleset : (told : List ℕ → Option (List ℕ)) (name : List ℕ) (sets : List SetDecl) (whole kept : List ℕ) (skips : List Skipped) → ReadsAs told name (λ text. (whole ≡ text) × AreSetsOf text kept skips) → ReadsAs told name (IsOf rules_of_nft sets)
+as-ruleset told name sets whole kept skips read text at = let r = read text at in (r.0, (r.2.script, record { kept = kept; is_kept = r.2.is_kept; holds = r.2.is_script }))
+
+-- What is kept of the text that was read is kept of the file's bytes, if they are known.
+pub sets-read : (told : List ℕ → Option (List ℕ)) (name whole slice kept bytes : List ℕ) (skips : List Skipped) (s : Script) → ((text : List ℕ) → told name ≡ Some text → whole ≡ text) → length whole ≤ size_limit → slice ≡ whole
+    → IsKept slice (all_taken slice) kept → skips ≡ notes slice → bytes ≡ kept → IsScriptText bytes s → ReadsAs told name (λ text. (whole ≡ text) × AreSetsOf text kept skips)
+sets-read told name whole slice kept bytes skips s known limit same is_kept skips_are is_bytes is_script text at =
+    let of_slice : AreSetsOf slice kept skips = record { script = s; is_kept = is_kept; is_script = subst (λ (t : List ℕ). IsScriptText t s) is_bytes is_script; skips_are = skips_are } in
+    (subst (λ (t : List ℕ). length t ≤ size_limit) (known text at) limit, known text at, subst (λ (t : List ℕ). AreSetsOf t kept skips) (same ∙ known text at) of_slice)
+
 pub as-keys : (told : List ℕ → Option (List ℕ)) (name : List ℕ) (sets : List SetDecl) (packets : List (List Packet)) → ReadsAs told name (λ text. IsKeysText sets text packets) → ReadsAs told name (IsOf keys sets)
 as-keys told name sets packets read text at = let r = read text at in (r.0, (packets, r.1))
 
@@ -106,6 +119,7 @@ pub second-cause : (told : List ℕ → Option (List ℕ)) (sets : List SetDecl)
     → IsFileCause told sets others (record { name = name; form = second }) asked before now (as_second fault)
 second-cause told sets others asked before now name (Bad (flaws.Script line reason)) h = (h.0, h.1, refl, h.3)
 second-cause told sets others asked before now name (Bad (flaws.SecondScript line reason)) h = absurd (let e = h.2 in cc e)
+second-cause told sets others asked before now name (Bad (flaws.Ruleset line reason)) h = absurd (let e = h.2 in cc e)
 second-cause told sets others asked before now name (Bad (flaws.Keys line reason)) h = absurd (let e = h.2 in cc e)
 second-cause told sets others asked before now name (Bad (flaws.Rules line reason)) h = absurd (let e = h.2 in cc e)
 second-cause told sets others asked before now name (Bad (flaws.Plan line reason)) h = absurd (let e = h.2 in cc e)
@@ -117,6 +131,7 @@ second-cause told sets others asked before now name Memory h = h
 note-on-second : (told : List ℕ → Option (List ℕ)) (sets : List SetDecl) (name : List ℕ) (fault : FileFault) (text : List ℕ) → IsNoteOn told sets name fault text → IsNoteOn told sets name (as_second fault) text
 note-on-second told sets name (Bad (flaws.Script line reason)) text h = h
 note-on-second told sets name (Bad (flaws.SecondScript line reason)) text h = h
+note-on-second told sets name (Bad (flaws.Ruleset line reason)) text h = h
 note-on-second told sets name (Bad (flaws.Keys line reason)) text h = h
 note-on-second told sets name (Bad (flaws.Rules line reason)) text h = h
 note-on-second told sets name (Bad (flaws.Plan line reason)) text h = h

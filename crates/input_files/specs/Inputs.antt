@@ -8,6 +8,7 @@ use Rattle.token_forms.specs.TextTokens.{text_tokens}
 use Rattle.token_forms.specs.Faults.{IsFault}
 use Rattle.set_script.specs.Script.{script as script_form}
 use Rattle.set_script.specs.ScriptText.{IsScriptText}
+use Rattle.ruleset_sets.specs.RulesetText.{IsRulesetText, IsBadRuleset}
 use Rattle.key_file.specs.Keys.{key_file}
 use Rattle.key_file.specs.KeysText.{IsKeysText}
 use Rattle.rule_chain.specs.declared.chains.Chain.{Chain}
@@ -19,7 +20,7 @@ use Rattle.pcap_keys.specs.PlansText.{IsPlanText, IsBadPlan}
 use Rattle.pip_base.specs.Causes.{Rose}
 use Rattle.pip_base.specs.Picks.{AsksOnce}
 use Rattle.pip_base.specs.Whole.{size_limit}
-use Rattle.command_words.specs.Words.{Command, run, list, dump, drill, judge, capture as capture_command, desk, get, compare}
+use Rattle.command_words.specs.Words.{Command, run, list, dump, drill, judge, capture as capture_command, desk, get, compare, sets_of}
 use Rattle.input_files.specs.declared.fault.Flaw.{Flaw}
 use Rattle.input_files.specs.declared.fault.Flaw.TheVariants as flaws
 use Rattle.input_files.specs.declared.fault.FileFault.{FileFault}
@@ -29,6 +30,7 @@ use Rattle.input_files.specs.declared.fault.FileFault.TheVariants.{Bad, ReadFaul
 pub data FileForm : Type 0 where
   script : FileForm
   second : FileForm
+  rules_of_nft : FileForm
   keys : FileForm
   rules : FileForm
   plan : FileForm
@@ -52,13 +54,15 @@ inputs (judge s r k threads keep_going) = record { name = s; form = script } ∷
 inputs (capture_command s p c threads keep_going) = record { name = s; form = script } ∷ record { name = p; form = plan } ∷ record { name = c; form = capture } ∷ []
 inputs (desk s keep_going) = record { name = s; form = script } ∷ []
 inputs (get s key moment keep_going) = record { name = s; form = script } ∷ []
+inputs (sets_of f) = record { name = f; form = rules_of_nft } ∷ []
 inputs (compare a b keep_going) = record { name = a; form = script } ∷ record { name = b; form = second } ∷ []
 
 -- A text is of a form, for a script that declares these sets: it is that script; or a key file, a rules
--- file or a plan for these sets; or a second script or a capture, which don't depend on the sets.
+-- file or a plan for these sets; or a second script, a ruleset or a capture, which don't depend on the sets.
 abbrev pub IsOf : FileForm → List SetDecl → List ℕ → Type 0
 IsOf script sets text = (s : Script) × IsScriptText text s × (s.schema ≡ sets)
 IsOf second sets text = (s : Script) × IsScriptText text s
+IsOf rules_of_nft sets text = (s : Script) × IsRulesetText text s
 IsOf keys sets text = (packets : List (List Packet)) × IsKeysText sets text packets
 IsOf rules sets text = (chains : List Chain × Bool) × IsRulesText sets text chains
 IsOf plan sets text = (lines : List PlanLine) × IsPlanText sets text lines
@@ -68,6 +72,7 @@ IsOf capture sets text = (frames : List Frame) × IsCapture text frames
 abbrev pub form_of : Flaw → FileForm
 form_of (flaws.Script line reason) = script
 form_of (flaws.SecondScript line reason) = second
+form_of (flaws.Ruleset line reason) = rules_of_nft
 form_of (flaws.Keys line reason) = keys
 form_of (flaws.Rules line reason) = rules
 form_of (flaws.Plan line reason) = plan
@@ -78,6 +83,7 @@ form_of (flaws.Capture byte reason) = capture
 abbrev pub IsFlawed : List SetDecl → List ℕ → Flaw → Type 0
 IsFlawed sets text (flaws.Script line reason) = IsFault script_form (text_tokens text) line reason
 IsFlawed sets text (flaws.SecondScript line reason) = IsFault script_form (text_tokens text) line reason
+IsFlawed sets text (flaws.Ruleset line reason) = IsBadRuleset text line reason
 IsFlawed sets text (flaws.Keys line reason) = IsFault (key_file sets) (text_tokens text) line reason
 IsFlawed sets text (flaws.Rules line reason) = IsBadRules sets text line reason
 IsFlawed sets text (flaws.Plan line reason) = IsBadPlan sets text line reason
@@ -103,6 +109,7 @@ IsFileCause told sets others i asked before now Memory = AsksOnce others asked i
 abbrev pub as_second : FileFault → FileFault
 as_second (Bad (flaws.Script line reason)) = Bad (flaws.SecondScript line reason)
 as_second (Bad (flaws.SecondScript line reason)) = Bad (flaws.SecondScript line reason)
+as_second (Bad (flaws.Ruleset line reason)) = Bad (flaws.Ruleset line reason)
 as_second (Bad (flaws.Keys line reason)) = Bad (flaws.Keys line reason)
 as_second (Bad (flaws.Rules line reason)) = Bad (flaws.Rules line reason)
 as_second (Bad (flaws.Plan line reason)) = Bad (flaws.Plan line reason)

@@ -8,6 +8,7 @@ use Rattle.token_forms.specs.Form.{Form}
 use Rattle.token_forms.specs.TextTokens.{text_tokens, plain_tokens}
 use Rattle.token_forms.specs.Token.{Lexeme}
 use Rattle.set_script.specs.Script.{script as script_form}
+use Rattle.ruleset_sets.specs.RulesetText.{HoldsOfKept}
 use Rattle.key_file.specs.Keys.{key_file}
 use Rattle.rule_chain.specs.Rules.{rules_file}
 use Rattle.pcap_keys.specs.Plans.{plan as plan_form}
@@ -61,10 +62,11 @@ pub record NamesBadTokens (text name note : List ℕ) : Type 0 where
   pub says : IsScriptNote name text bad note
 
 -- A note on a flawed text begins with its name and the place of the flaw: of the bad token, or of a
--- capture's byte. In a script further bad tokens follow.
+-- capture's byte. In a script further bad tokens follow. Those of a ruleset are those of what is kept of it.
 abbrev pub NamesFlaw : List SetDecl → List ℕ → List ℕ → Flaw → List ℕ → Type 0
 NamesFlaw sets text name (flaws.Script line reason) note = NamesBadTokens text name note
 NamesFlaw sets text name (flaws.SecondScript line reason) note = NamesBadTokens text name note
+NamesFlaw sets text name (flaws.Ruleset line reason) note = HoldsOfKept text (λ kept. NamesBadTokens kept name note)
 NamesFlaw sets text name (flaws.Keys line reason) note = NamesBadToken (key_file sets) (text_tokens text) text name note
 NamesFlaw sets text name (flaws.Rules line reason) note = NamesBadToken (rules_file sets) (plain_tokens text) text name note
 NamesFlaw sets text name (flaws.Plan line reason) note = NamesBadToken (plan_form sets) (plain_tokens text) text name note

@@ -1,17 +1,27 @@
 -- What a command works on, by the texts of its files.
 use Rattle.std.specs.Prelude.{◌≡◌, ◌≤◌, ◌<◌, ℕ, List, Option, All, map}
+use Rattle.set_model.specs.declared.script.Script.{Script}
 use Rattle.std.specs.String.{string_bytes}
 use Rattle.set_model.specs.Runnable.{IsRunnable, IsFitting}
 use Rattle.set_script.specs.ScriptText.{IsScriptText}
+use Rattle.ruleset_sets.specs.declared.skipped.Skipped.{Skipped}
+use Rattle.ruleset_sets.specs.Kept.{IsKept, all_taken, notes}
 use Rattle.key_file.specs.KeysText.{IsKeysText}
 use Rattle.rule_chain.specs.RulesText.{IsRulesText}
 use Rattle.pcap_keys.specs.CapturedPackets.{IsCapture}
 use Rattle.pcap_keys.specs.Fitting.{HasValues, IsPlanned}
 use Rattle.pcap_keys.specs.PlansText.{IsPlanText}
-use Rattle.command_words.specs.Words.{Command, run, list, dump, drill, judge, capture, desk, get, compare}
+use Rattle.command_words.specs.Words.{Command, run, list, dump, drill, judge, capture, desk, get, compare, sets_of}
 use Rattle.input_files.specs.declared.work.Work.{Work}
 use Rattle.input_files.specs.declared.work.Work.TheVariants as works
 use Rattle.input_files.specs.Inputs.{ReadsAs}
+
+-- This is kept of a ruleset: a script of the same length. What isn't kept has its notes.
+pub record AreSetsOf (text kept : List ℕ) (skips : List Skipped) : Type 0 where
+  pub script : Script
+  pub is_kept : IsKept text (all_taken text) kept
+  pub is_script : IsScriptText kept script
+  pub skips_are : skips ≡ notes text
 
 -- This is what a command works on: what the texts of its files mean, and the options of its words.
 abbrev pub IsWork : (List ℕ → Option (List ℕ)) → Command → Work → Type 0
@@ -28,6 +38,7 @@ IsWork told c (works.Capture script plan frames threads keep_going) =
     × ReadsAs told p (λ text. IsPlanText script.schema text plan) × ReadsAs told f (λ text. IsCapture text frames)
 IsWork told c (works.Get script key moment keep_going) = (s : List ℕ) × (c ≡ get s (map string_bytes key.now) moment keep_going) × ReadsAs told s (λ text. IsScriptText text script)
 IsWork told c (works.Desk script keep_going) = (s : List ℕ) × (c ≡ desk s keep_going) × ReadsAs told s (λ text. IsScriptText text script)
+IsWork told c (works.Sets f whole sieved) = (c ≡ sets_of f.now) × ReadsAs told f.now (λ text. (whole.items ≡ text) × AreSetsOf text sieved.text.items sieved.skips)
 IsWork told c (works.Compare a s b t keep_going) = (c ≡ compare a.now b.now keep_going) × ReadsAs told a.now (λ text. IsScriptText text s) × ReadsAs told b.now (λ text. IsScriptText text t)
 
 -- There is at least one packet thread, and there are at most sixteen.
@@ -44,4 +55,5 @@ IsDoable (works.Judge script chains keys threads keep_going) = IsRunnable script
 IsDoable (works.Capture script plan frames threads keep_going) = IsRunnable script × All (IsPlanned script.schema) plan × All HasValues frames × FewThreads threads
 IsDoable (works.Desk script keep_going) = IsRunnable script
 IsDoable (works.Get script key moment keep_going) = IsRunnable script
+IsDoable (works.Sets f whole sieved) = Unit {0}
 IsDoable (works.Compare a s b t keep_going) = IsRunnable s × IsRunnable t

@@ -9,6 +9,8 @@ pub enum Flaw {
     Script { line: u64, reason: Reason },
     /// The second script isn't in the grammar.
     SecondScript { line: u64, reason: Reason },
+    /// What is kept of the ruleset isn't in the grammar of scripts. The line is the ruleset's.
+    Ruleset { line: u64, reason: Reason },
     /// The key file isn't in the grammar under the script's sets.
     Keys { line: u64, reason: Reason },
     /// The rules file isn't in the grammar under the script's sets.

@@ -30,7 +30,7 @@ use std::alloc::Global;
 use token_forms::ReadError as FormError;
 
 /// All bytes of the file with this name.
-fn text_of<'a, F: Shelf, N: Notes>(
+pub fn text_of<'a, F: Shelf, N: Notes>(
     alloc: Global,
     shelf: &mut F,
     notes: &mut N,

@@ -7,10 +7,12 @@ ghost use Rattle.input_files.specs.Works.{IsWork, IsDoable};
 
 use crate::fault::FileFault;
 use crate::files::{capture_of, keys_of, plan_of, rules_of, script_of, second_script_of};
+use crate::rulesets::{SetsRead, sets_of};
 use command_words::{Command, Task};
 use pcap_keys::{Frames, Plan};
 use pip_base::{Notes, Shelf};
 use rule_chain::Chains;
+use ruleset_sets::Sieved;
 use set_model::{Keys, Script};
 use std::alloc::Global;
 
@@ -81,6 +83,14 @@ pub enum Work<'a> {
         second: &'a str,
         second_script: Script,
         keep_going: bool,
+    },
+    /// The sets of a ruleset.
+    Sets {
+        /// The name of its file, and its text.
+        file: &'a str,
+        whole: Vec<u8>,
+        /// What is kept of it, which is a script, and the notes on the rest.
+        sieved: Sieved,
     },
 }
 
@@ -211,5 +221,13 @@ pub fn work_of<'a, F: Shelf, N: Notes>(
                 Err(fault) => Err(fault),
             }
         }
+        Command::Sets { file } => match sets_of(alloc, shelf, notes, file) {
+            Ok(SetsRead { whole, sieved }) => Ok(Work::Sets {
+                file,
+                whole,
+                sieved,
+            }),
+            Err(fault) => Err(fault),
+        },
     }
 }

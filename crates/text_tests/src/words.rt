@@ -138,6 +138,7 @@ fn told_command(alloc: Global, command: Command<'_>) -> Result<Vec<u8>, Memory> 
             second,
             keep_going,
         } => told_task(alloc, b"compare ", &[first, second, ""], 0, keep_going),
+        Command::Sets { file } => told_task(alloc, b"sets ", &[file, "", ""], 0, false),
     }
 }
 
@@ -235,6 +236,10 @@ const NO_COMMANDS: &[u8] = b"\
     compare - -|no command~\
     compare a b --threads 2|no command~\
     compare a b c|no command~\
+    sets|no command~\
+    sets a b|no command~\
+    sets a --keep-going|no command~\
+    sets a --threads 2|no command~\
     get --at a t s 1|no command~\
     get --at 1000000000000001 a t s 1|no command~\
     get --at=1000000000000001 a t s 1|no command~\
@@ -278,6 +283,8 @@ const COMMANDS: &[u8] = b"\
     compare a b|compare a b  0 false~\
     compare --keep-going - compare|compare - compare  0 true~\
     compare a a --keep-going|compare a a  0 true~\
+    sets -|sets -   0 false~\
+    sets sets|sets sets   0 false~\
 ";
 
 /// Words that ask for a page.
@@ -311,6 +318,8 @@ const PAGES: &[u8] = b"\
     help get|usage: pipapo get [--at MOMENT] [--keep-going] SCRIPT KEY ..~\
     get --help|usage: pipapo get [--at MOMENT] [--keep-going] SCRIPT KEY ..~\
     get -h|usage: pipapo get [--at MOMENT] [--keep-going] SCRIPT KEY ..~\
+    help sets|usage: pipapo sets RULESET~\
+    sets -h|usage: pipapo sets RULESET~\
     help compare|usage: pipapo compare SCRIPT1 SCRIPT2 [--keep-going]~\
     compare --help|usage: pipapo compare SCRIPT1 SCRIPT2 [--keep-going]~\
 ";

@@ -16,6 +16,8 @@ use Rattle.rule_chain.specs.JudgedText.{judged_text}
 use Rattle.rule_chain.proofs.FileLaws.{rules_single}
 use Rattle.set_script.proofs.ScriptWhole.{script_single}
 use Rattle.set_script.specs.ScriptText.{IsScriptText}
+use Rattle.ruleset_sets.specs.RulesetText.{IsRulesetText}
+use Rattle.ruleset_sets.proofs.KeptLaws.{kept_script}
 use Rattle.key_file.specs.KeysText.{IsKeysText}
 use Rattle.key_file.proofs.KeysLaws.{keys_single}
 use Rattle.pcap_keys.specs.CapturedPackets.{AreCaptured}
@@ -26,7 +28,7 @@ use Rattle.compare_answer.specs.Compared.{GivesComparison}
 use Rattle.key_answer.specs.Question.{IsKey, IsBadKey, key_text, at_moment}
 use Rattle.script_run.specs.Listings.{listing_text, tables_text}
 use Rattle.desk_run.specs.DeskText.{IsDeskText}
-use Rattle.command_words.specs.Words.{Command, IsCommand, run, list, dump, drill, judge, capture, desk, get, compare}
+use Rattle.command_words.specs.Words.{Command, IsCommand, run, list, dump, drill, judge, capture, desk, get, compare, sets_of}
 use Rattle.command_words.proofs.CommandWords.{one-command}
 use Rattle.command_words.proofs.PageWords.{page-no-command}
 use Rattle.input_files.specs.declared.fault.FileFault.{FileFault}
@@ -38,12 +40,12 @@ use Rattle.input_files.specs.Given.{Has, AreGiven}
 use Rattle.input_files.proofs.Turns.{given-one, given-front, given-refuses}
 use Rattle.top_call.specs.declared.fault.Fault.{Fault}
 use Rattle.top_call.specs.declared.fault.Fault.TheVariants.{Usage, File, TooManyClerks, BadKey, Memory}
-use Rattle.top_call.specs.Transcript.{IsTranscript, IsJudgement, AreRulesOf, IsCaptured, IsTextOf, IsWovenOf, most_sections, IsAnswerOf, IsComparisonOf}
+use Rattle.top_call.specs.Transcript.{IsTranscript, IsJudgement, AreRulesOf, IsCaptured, IsTextOf, IsWovenOf, most_sections, IsAnswerOf, IsComparisonOf, AreSetsIn, leaves_any}
 use Rattle.top_call.specs.Calls.{Call, IsQuiet}
 use Rattle.top_call.specs.Causes.{IsCause, no_command, of_file, too_many, bad_key, no_memory}
 use Rattle.top_call.specs.Lines.{done_status, form_status, file_status, file_line, status_of, fault_line}
 use Rattle.top_call.specs.Answers.{Ends, EndsDuly, written, cut, memory, IsDue, output, page, refusal, TellsReadFault, TellsFlaw, TellsTooMany, TellsBadKey}
-use Rattle.top_call.specs.Exactly.{HasScript, HasKeys, HasRules, HasCaptured, Completes, DeliversText, DeliversRun, DeliversJudgement, DeliversDesk, DeliversAnswer, DeliversComparison, RanOut}
+use Rattle.top_call.specs.Exactly.{HasScript, HasRuleset, HasKeys, HasRules, HasCaptured, Completes, DeliversText, DeliversRun, DeliversJudgement, DeliversDesk, DeliversAnswer, DeliversComparison, DeliversSets, RanOut}
 use Rattle.top_call.proofs.Endings.{done-small, does, Wrote, HasWritten, drilled, page-told}
 
 -- The numbers that are a form's status.
@@ -54,6 +56,7 @@ form-is : (form : FileForm) → is_form (form_status form) ≡ true
 unfolding is_form
 form-is forms.script = refl
 form-is forms.second = refl
+form-is forms.rules_of_nft = refl
 form-is forms.keys = refl
 form-is forms.rules = refl
 form-is forms.plan = refl
@@ -132,6 +135,7 @@ module _ (c : Call) where
     form-no-twelve : (form : FileForm) → form_status form ≡ 12 → ⊥
     form-no-twelve forms.script e = omega (arith, e)
     form-no-twelve forms.second e = omega (arith, e)
+    form-no-twelve forms.rules_of_nft e = omega (arith, e)
     form-no-twelve forms.keys e = omega (arith, e)
     form-no-twelve forms.rules e = omega (arith, e)
     form-no-twelve forms.plan e = omega (arith, e)
@@ -166,6 +170,7 @@ module _ (c : Call) where
     form-no-thirteen : (form : FileForm) → form_status form ≡ 13 → ⊥
     form-no-thirteen forms.script e = omega (arith, e)
     form-no-thirteen forms.second e = omega (arith, e)
+    form-no-thirteen forms.rules_of_nft e = omega (arith, e)
     form-no-thirteen forms.keys e = omega (arith, e)
     form-no-thirteen forms.rules e = omega (arith, e)
     form-no-thirteen forms.plan e = omega (arith, e)
@@ -304,6 +309,9 @@ given-script told name s h = record { text = h.text; is_told = h.is_told; fits =
 given-second : (told : List ℕ → Option (List ℕ)) (name : List ℕ) (t : Script) (sets : List SetDecl) → HasScript told name t → Has told name (IsOf forms.second sets)
 given-second told name t sets h = record { text = h.text; is_told = h.is_told; fits = h.fits; holds = (t, h.holds) }
 
+given-ruleset : (told : List ℕ → Option (List ℕ)) (name : List ℕ) (s : Script) (sets : List SetDecl) → HasRuleset told name s → Has told name (IsOf forms.rules_of_nft sets)
+given-ruleset told name s sets h = record { text = h.text; is_told = h.is_told; fits = h.fits; holds = (s, h.holds) }
+
 given-keys : (told : List ℕ → Option (List ℕ)) (name : List ℕ) (s : Script) (packets : List (List Packet)) → HasKeys told name s packets → Has told name (IsOf forms.keys s.schema)
 given-keys told name s packets h = record { text = h.text; is_told = h.is_told; fits = h.fits; holds = (packets, h.holds) }
 
@@ -413,6 +421,10 @@ module _ (c : Call) (ends : EndsDuly c) (quiet : IsQuiet c) where
       let with_first : GivesComparison (mode_of g) first s second made.other w.refused w.text = subst (λ (x : Script). GivesComparison (mode_of g) first x second made.other w.refused w.text) one made.gives in
       record { differs = w.refused; text = w.text; gives = subst (λ (x : Script). GivesComparison (mode_of g) first s second x w.refused w.text) two with_first; written = w.appends; status = w.status }
 
+  -- what is kept of the ruleset that was read
+  same-sets : (file : List ℕ) (s : Script) (h : HasRuleset c.shelf.told file s) (w : HasWritten c) → AreSetsIn h.text w.refused w.text → DeliversSets h.text s c
+  same-sets file s h w t = record { kept = w.text; is_kept = t.is_kept; is_script = kept_script h.text w.text s t.is_kept h.holds; written = w.appends; status = w.status ∙ ap done_status t.refusal }
+
   -- words that are a key aren't none
   has-key : (script : List ℕ) (key : List (List ℕ)) (moment : Option ℕ) (g : Bool) (s : Script) (p : Packet) (hs : HasScript c.shelf.told script s) → IsKey s.schema key p → HasKey c.shelf.told (get script key moment g)
   has-key script key moment g s p hs is_key name other m k t line reason e reads bad =
@@ -461,6 +473,10 @@ module _ (c : Call) (ends : EndsDuly c) (quiet : IsQuiet c) where
         or-ran-out (DeliversComparison (mode_of g) first s second t c)
         (λ w. same-comparison first second g s t hs ht w (does c.words c.shelf (compare first second g) w.refused w.text is_compare w.has hs.text ht.text hs.is_told ht.is_told))
         (ended (compare first second g) s.schema is_compare (given-script c.shelf.told first s hs, (given-second c.shelf.told second t s.schema ht, tt)) (λ name k t e. absurd (cc e)) (λ name key m k t l r e. absurd (cc e)));
+    sets = λ file s is_sets h.
+        or-ran-out (DeliversSets h.text s c)
+        (λ w. same-sets file s h w (does c.words c.shelf (sets_of file) w.refused w.text is_sets w.has h.text h.is_told))
+        (ended (sets_of file) s.schema is_sets (given-ruleset c.shelf.told file s s.schema h, tt) (λ name k t e. absurd (cc e)) (λ name key m k t l r e. absurd (cc e)));
     drill = λ seed count threads is_drill. or-ran-out _ (drilled c seed count threads is_drill) (ended (drill seed count threads) [] is_drill tt (λ name k t e. absurd (cc e)) (λ name key m k t l r e. absurd (cc e)));
     page = page-told c ends quiet.sink;
   }

@@ -6,7 +6,7 @@ use Rattle.set_model.specs.Control.{mode_of}
 use Rattle.script_run.specs.Drill.{drill_text}
 use Rattle.command_words.specs.declared.page.Page.{Page}
 use Rattle.command_words.specs.WordForms.{page_text}
-use Rattle.command_words.specs.Words.{Command, run, list, dump, drill, judge, capture, desk, get, compare, IsCommand, AsksFor, IsDrillCommand}
+use Rattle.command_words.specs.Words.{Command, run, list, dump, drill, judge, capture, desk, get, compare, IsCommand, AsksFor, IsDrillCommand, sets_of}
 use Rattle.command_words.proofs.CommandWords.{one-command}
 use Rattle.command_words.proofs.PageWords.{page-no-command, one-page}
 use Rattle.input_files.specs.declared.fault.FileFault.{FileFault}
@@ -16,11 +16,11 @@ use Rattle.input_files.specs.Inputs.{FileForm, form_of}
 use Rattle.input_files.specs.Reads.{Shelved}
 use Rattle.top_call.specs.declared.fault.Fault.{Fault}
 use Rattle.top_call.specs.declared.fault.Fault.TheVariants.{Usage, File, TooManyClerks, BadKey, Memory}
-use Rattle.top_call.specs.Transcript.{IsOutput, IsTranscript, IsJudgement, IsCaptured, IsListing, IsTables, IsWovenOf, IsAnswerOf, IsComparisonOf}
+use Rattle.top_call.specs.Transcript.{IsOutput, IsTranscript, IsJudgement, IsCaptured, IsListing, IsTables, IsWovenOf, IsAnswerOf, IsComparisonOf, AreSetsIn}
 use Rattle.top_call.specs.Calls.{Call}
 use Rattle.top_call.specs.Causes.{IsCause, no_command, of_file, too_many, bad_key, no_memory}
 use Rattle.top_call.specs.Lines.{done_status, form_status, file_status, status_of, fault_line}
-use Rattle.top_call.specs.Answers.{Ends, EndsDuly, written, cut, memory, IsDue, output, page, refusal, IsExactly, HasOutput, IsComplete, Writes, Transcribes, Judges, Captures, Lists, Dumps, Weaves, AnswersKeys, Compares, Drills, Delivers, TellsPage}
+use Rattle.top_call.specs.Answers.{Ends, EndsDuly, written, cut, memory, IsDue, output, page, refusal, IsExactly, HasOutput, IsComplete, Writes, Transcribes, Judges, Captures, Lists, Dumps, Weaves, AnswersKeys, Compares, WritesSets, Drills, Delivers, TellsPage}
 
 -- an output's status is 0 or 1, and a fault's status is greater
 pub done-small : (refused : Bool) → done_status refused ≤ 1
@@ -34,6 +34,7 @@ not-done n h (inr e) = omega (arith, h, e)
 form-above : (form : FileForm) → 2 ≤ form_status form
 form-above forms.script = omega arith
 form-above forms.second = omega arith
+form-above forms.rules_of_nft = omega arith
 form-above forms.keys = omega arith
 form-above forms.rules = omega arith
 form-above forms.plan = omega arith
@@ -157,6 +158,11 @@ module _ (c : Call) where
       let w = of-command ends e d is_compare in
       writes (IsComparisonOf first first_text second second_text (mode_of keep_going)) w (does c.words c.shelf d w.refused w.text is_compare w.has first_text second_text at at_second)
 
+  pub writes-sets : EndsDuly c → IsComplete c.status → WritesSets c
+  writes-sets ends e file text is_sets at =
+      let w = of-command ends e (sets_of file) is_sets in
+      writes (AreSetsIn text) w (does c.words c.shelf (sets_of file) w.refused w.text is_sets w.has text at)
+
   pub drilled : (seed count threads : ℕ) → IsDrillCommand c.words seed count threads → HasWritten → Delivers (drill_text seed count) c
   drilled seed count threads is_drill w =
       let d = does c.words c.shelf (drill seed count threads) w.refused w.text is_drill w.has in
@@ -185,6 +191,7 @@ module _ (c : Call) where
         form-not-six : (form : FileForm) → form_status form ≡ 6 → ⊥
         form-not-six forms.script e = omega (arith, e)
         form-not-six forms.second e = omega (arith, e)
+        form-not-six forms.rules_of_nft e = omega (arith, e)
         form-not-six forms.keys e = omega (arith, e)
         form-not-six forms.rules e = omega (arith, e)
         form-not-six forms.plan e = omega (arith, e)

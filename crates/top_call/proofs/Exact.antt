@@ -21,7 +21,7 @@ use Rattle.rule_chain.specs.Chains.{Rules}
 use Rattle.set_script.proofs.ScriptWhole.{script_single}
 use Rattle.key_answer.specs.Answer.{has_no_answer}
 use Rattle.key_answer.specs.Question.{IsKey, at_moment}
-use Rattle.top_call.specs.Transcript.{IsOutput, most_sections}
+use Rattle.top_call.specs.Transcript.{IsOutput, most_sections, leaves_any}
 use Rattle.pip_base.specs.Whole.{size_limit}
 use Rattle.top_call.specs.declared.fault.Fault.{Fault}
 use Rattle.top_call.specs.declared.fault.Fault.TheVariants.{Usage, File, TooManyClerks, BadKey, Memory}
@@ -29,10 +29,10 @@ use Rattle.top_call.specs.Calls.{Call, IsQuiet}
 use Rattle.top_call.specs.Causes.{IsCause, no_command, of_file, too_many, bad_key, no_memory}
 use Rattle.top_call.specs.Lines.{done_status, form_status, file_status, status_of}
 use Rattle.top_call.specs.Answers.{Ends, EndsDuly, written, cut, memory, IsDue, output, page, refusal, Delivers}
-use Rattle.top_call.specs.Exactly.{HasTurn, IsExact, IsStatus, Completes, DeliversText, DeliversRun, DeliversJudgement, DeliversDesk, DeliversAnswer, DeliversComparison, HasScript, RanOut}
+use Rattle.top_call.specs.Exactly.{HasTurn, IsExact, IsStatus, Completes, DeliversText, DeliversRun, DeliversJudgement, DeliversDesk, DeliversAnswer, DeliversComparison, DeliversSets, HasScript, RanOut}
 use Rattle.top_call.specs.Promises.{Promises, Goes}
 use Rattle.top_call.proofs.Noting.{no-note, page-quiet}
-use Rattle.top_call.proofs.Endings.{does, page-told, transcribes, judges, captures, lists, dumps, weaves, answers-keys, drills, tells-page, compares}
+use Rattle.top_call.proofs.Endings.{does, page-told, transcribes, judges, captures, lists, dumps, weaves, answers-keys, drills, tells-page, compares, writes-sets}
 use Rattle.top_call.proofs.Completed.{completes, file-given, given-script, tells-read-fault, tells-flaw, tells-too-many, tells-bad-key, shelf-moved, sink-moved}
 
 -- A file came to its turn, and the shelf shows its text.
@@ -221,6 +221,10 @@ module _ (c : Call) (ends : EndsDuly c) (quiet : IsQuiet c) where
   of-comparison mode first second s t (inl d) = (d.differs, inl d.status)
   of-comparison mode first second s t (inr r) = (false, inr r.0)
 
+  of-sets : (text : List ℕ) (s : Script) → DeliversSets text s c ⊎ RanOut c → IsStatus (done_status (leaves_any text)) c
+  of-sets text s (inl d) = inl d.status
+  of-sets text s (inr r) = inr r.0
+
   of-drill : (text : List ℕ) → Delivers text c ⊎ RanOut c → IsStatus 0 c
   of-drill text (inl d) = inl d.status
   of-drill text (inr r) = inr r.0
@@ -247,6 +251,7 @@ module _ (c : Call) (ends : EndsDuly c) (quiet : IsQuiet c) where
     bad_key = λ script key moment g s is_get hs no_key. ends-key c.words c.shelf quiet.shelf script key moment g s is_get hs no_key c.taken_before c.taken_now c.faults_before c.faults_now c.status ends quiet.sink;
     done_get = λ script key moment g s p is_get hs is_key. of-answer (mode_of g) s (at_moment moment s p) (done.get script key moment g s p is_get hs is_key);
     done_compare = λ first second g s t is_compare hs ht. of-comparison (mode_of g) first second s t (done.compare first second g s t is_compare hs ht);
+    done_sets = λ file s is_sets h. of-sets h.text s (done.sets file s is_sets h);
     done_drill = λ seed count n is_drill. of-drill _ (done.drill seed count n is_drill);
     done_page = λ p asks. (page-told c ends quiet.sink p asks).status;
   }
@@ -265,6 +270,7 @@ promises c g = record {
   desk = λ e. weaves c g.ends e;
   get = λ e. answers-keys c g.ends e;
   compare = λ e. compares c g.ends e;
+  sets = λ e. writes-sets c g.ends e;
   drill = λ e. drills c g.ends e;
   page = λ e. tells-page c g.ends e;
   names = g.names;
@@ -276,6 +282,6 @@ promises c g = record {
   shelf_count = λ moved. shelf-moved c.words c.shelf c.taken_before c.taken_now c.faults_before c.faults_now c.status g.ends moved;
   sink_count = λ moved. sink-moved c.words c.shelf c.taken_before c.taken_now c.faults_before c.faults_now c.status g.ends moved;
   noted = g.noted;
-  no_note = λ e. no-note c g.noted e;
+  no_note = λ e other. no-note c g.noted e other;
   page_without_note = λ p asks. page-quiet c p asks g.noted;
 }

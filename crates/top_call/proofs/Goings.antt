@@ -5,7 +5,7 @@ use Rattle.std.specs.String.{string_bytes}
 use Rattle.token_forms.specs.declared.token.Reason.{Reason}
 use Rattle.command_words.specs.declared.page.Page.{Page}
 use Rattle.command_words.specs.WordForms.{page_text}
-use Rattle.command_words.specs.Words.{Command, IsCommand, IsNoCommand, AsksFor, desk, get}
+use Rattle.command_words.specs.Words.{Command, IsCommand, IsNoCommand, AsksFor, desk, get, sets_of}
 use Rattle.command_words.proofs.PageWords.{page-no-command}
 use Rattle.fault_notes.specs.Shown.{Begins, name_text}
 use Rattle.fault_notes.specs.Told.{MayTell, nothing as no_note}
@@ -27,14 +27,14 @@ use Rattle.top_call.specs.Causes.{IsCause, HasManySections, HasNoKey, no_command
 use Rattle.top_call.specs.Lines.{answer_fault, done_status, status_of, fault_line}
 use Rattle.top_call.specs.Names.{AsksInOrder}
 use Rattle.top_call.specs.Answers.{Ends, IsDue, IsExactly, HasOutput}
-use Rattle.top_call.specs.Noted.{words_front, IsNoted}
+use Rattle.top_call.specs.Noted.{words_front, AreSkipsOf, IsNoted}
 use Rattle.script_laws.specs.declared.refusals.Refusal.{Refusal}
 use Rattle.top_call.specs.Refused.{AreRefused, IsNoteDue}
 use Rattle.top_call.specs.Promises.{Goes}
 use Rattle.top_call.proofs.Asking.{asks-nothing, asks-files, asks-until, asks-all}
 use Rattle.top_call.proofs.Deliveries.{ends-map}
 use Rattle.top_call.proofs.Endings.{due-of-output, due-refusal, due-of-page, fault-not-done}
-use Rattle.top_call.proofs.Noting.{ended-of, words-noted, file-noted, sections-noted, changes-noted}
+use Rattle.top_call.proofs.Noting.{ended-of, words-noted, file-noted, sections-noted, changes-noted, skips-noted}
 
 -- A desk's script that was read has too many sections.
 pub many-sections : (words : List (List ℕ)) (shelf : Shelved) (c : Command) (work : Work) (name : Bor (List ℕ)) → IsCommand words c → HasRead shelf c → IsWork shelf.told c work → IsOverfull c work name → HasManySections words shelf name.now
@@ -69,6 +69,7 @@ no-key words shelf c (works.Drill seed count threads) line reason is_c has_read 
 no-key words shelf c (works.Judge s chains packets threads g) line reason is_c has_read is_work bad = absurd bad
 no-key words shelf c (works.Capture s plan frames threads g) line reason is_c has_read is_work bad = absurd bad
 no-key words shelf c (works.Compare a s b t g) line reason is_c has_read is_work bad = absurd bad
+no-key words shelf c (works.Sets f whole sieved) line reason is_c has_read is_work bad = absurd bad
 no-key words shelf c (works.Desk s g) line reason is_c has_read is_work bad = absurd bad
 
 module _ (c : Call) where
@@ -87,6 +88,18 @@ module _ (c : Call) where
         names = asks-files c.words c.shelf d is_d r;
         all_read = λ e. asks-all c.words c.shelf d is_d r;
         noted = changes-noted c d refused text refusals failed has is_d are (ended-of (done_status refused) text c.taken_before c.taken_now c.faults_before c.faults_now c.status ends) mid silent tells;
+      }
+
+  -- the sets of a ruleset are written
+  pub goes-sets : (d : Command) (file : List ℕ) → d ≡ sets_of file → IsCommand c.words d → HasRead c.shelf d → (refused : Bool) (text : List ℕ) → IsOutput d c.shelf.told refused text → EndsWith (done_status refused) text
+      → (mid : Option (List ℕ)) → mid ≡ c.noted_before → MayTell (AreSkipsOf c.shelf.told file) mid c.noted_now → Goes c
+  goes-sets d file is is_d r refused text is_output ends mid silent tells =
+      let has : HasOutput c.words c.shelf refused text = record { command = d; is_command = is_d; has_read = r; is_output = is_output } in
+      record {
+        ends = ends-map (IsExactly (done_status refused) text) (IsDue c.words c.shelf) c.taken_before c.taken_now c.faults_before c.faults_now c.status (due-of-output c.words c.shelf refused text has) ends;
+        names = asks-files c.words c.shelf d is_d r;
+        all_read = λ e. asks-all c.words c.shelf d is_d r;
+        noted = skips-noted c file refused text has (subst (λ (x : Command). IsCommand c.words x) is is_d) (ended-of (done_status refused) text c.taken_before c.taken_now c.faults_before c.faults_now c.status ends) mid silent tells;
       }
 
   goes-fault : (fault : Fault) → IsCause c.words c.shelf fault → AsksInOrder c.words c.shelf → EndsWith (status_of fault) (fault_line fault) → IsNoted c → Goes c

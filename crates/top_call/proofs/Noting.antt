@@ -1,10 +1,13 @@
 -- The note for a person beside a call's output.
-use Rattle.std.proofs.Common.{◌≡◌, ◌≤◌, refl, subst, ℕ, Bool, true, List, Option, inl, inr, arith, false, [], ◌∷◌, ◌⊎◌, None, Result, Ok, Err, OnOk, OnErr}
+use Rattle.std.proofs.Common.{◌≡◌, ◌∙◌, ap, ◌≤◌, refl, subst, ℕ, Bool, true, List, Option, inl, inr, arith, false, [], ◌∷◌, ◌⊎◌, None, Result, Ok, Err, OnOk, OnErr}
 use Rattle.command_words.specs.declared.page.Page.{Page}
-use Rattle.command_words.specs.Words.{Command, IsCommand, IsNoCommand, AsksFor, desk, compare}
+use Rattle.command_words.specs.Words.{Command, IsCommand, IsNoCommand, IsSetsCommand, AsksFor, desk, compare, sets_of}
 use Rattle.command_words.proofs.PageWords.{page-no-command}
 use Rattle.fault_notes.specs.Shown.{Begins, name_text}
+use Rattle.fault_notes.specs.Skips.{skips_text}
 use Rattle.fault_notes.specs.Told.{MayTell, nothing, note}
+use Rattle.ruleset_sets.specs.declared.skipped.Skipped.{Skipped}
+use Rattle.input_files.specs.Works.{AreSetsOf}
 use Rattle.fault_notes.proofs.ToldLaws.{tells-as}
 use Rattle.input_files.specs.declared.fault.FileFault.{FileFault}
 use Rattle.input_files.specs.Noted.{IsNoteOn, StopsTelling}
@@ -13,14 +16,14 @@ use Rattle.top_call.specs.Calls.{Call}
 use Rattle.top_call.specs.Causes.{HasManySections}
 use Rattle.top_call.specs.Lines.{done_status, file_status}
 use Rattle.top_call.specs.Answers.{Ends, written, cut, memory, IsExactly, HasOutput}
-use Rattle.top_call.specs.Noted.{Ended, IsDueNote, words_front, on_words, on_file, on_sections, on_changes, IsNoted}
+use Rattle.top_call.specs.Noted.{Ended, IsDueNote, words_front, on_words, on_file, on_sections, on_changes, on_skips, AreSkipsOf, IsNoted}
 use Rattle.set_model.specs.declared.memory.Memory.{Memory}
 use Rattle.script_laws.specs.declared.output.Output.{Output}
 use Rattle.script_laws.specs.declared.refusals.Refusal.{Refusal}
 use Rattle.command_words.specs.declared.words.Task.{Task}
 use Rattle.command_words.specs.declared.words.Task.TheVariants as tasks
 use Rattle.command_words.specs.WordForms.{plain_task}
-use Rattle.input_files.specs.Inputs.{script, second as second_form, keys as keys_form, rules as rules_form, plan as plan_form, capture as capture_form}
+use Rattle.input_files.specs.Inputs.{ReadsAs, script, rules_of_nft, second as second_form, keys as keys_form, rules as rules_form, plan as plan_form, capture as capture_form}
 use Rattle.top_call.specs.Refused.{AreRefused, HasNothingToTell, HasTold, IsNoteDue, IsNoteOnChanges, NamesScript, TellsChanges, TellsOf}
 use Rattle.top_call.proofs.Endings.{file-above}
 
@@ -34,11 +37,12 @@ ended-above : (due status : ℕ) → 1 ≤ due → Ended due status → status �
 ended-above due status above (inl is) e = omega (arith, above, is, e)
 ended-above due status above (inr is) e = omega (arith, is, e)
 
-due-above : (words : List (List ℕ)) (shelf : Shelved) (status : ℕ) (text : List ℕ) → IsDueNote words shelf status text → status ≡ 0 → ⊥
-due-above words shelf status text (on_words t none is ended) e = ended-above 2 status (omega arith) ended e
-due-above words shelf status text (on_file d fault stops t is_d is ended) e = ended-above (file_status fault) status (let above = file-above fault in omega (arith, above)) ended e
-due-above words shelf status text (on_sections name t has is ended) e = ended-above 12 status (omega arith) ended e
-due-above words shelf status text (on_changes c name output t refusals failed has is_c names are is ended) e = ended-above 1 status (omega arith) ended e
+due-above : (words : List (List ℕ)) (shelf : Shelved) (status : ℕ) (text : List ℕ) → IsDueNote words shelf status text → status ≡ 0 → ((file : List ℕ) → IsSetsCommand words file → ⊥) → ⊥
+due-above words shelf status text (on_words t none is ended) e other = ended-above 2 status (omega arith) ended e
+due-above words shelf status text (on_file d fault stops t is_d is ended) e other = ended-above (file_status fault) status (let above = file-above fault in omega (arith, above)) ended e
+due-above words shelf status text (on_sections name t has is ended) e other = ended-above 12 status (omega arith) ended e
+due-above words shelf status text (on_changes c name output t refusals failed has is_c names are is ended) e other = ended-above 1 status (omega arith) ended e
+due-above words shelf status text (on_skips file output t refused has is_sets are ended) e other = other file is_sets
 
 -- A note was printed, or none, as memory ran out.
 pub told-may : {T E : Type 0} (r : Result T E) (IsNote : List ℕ → Type 0) (before now : Option (List ℕ)) → OnOk r (HasTold IsNote before now) → OnErr r (now ≡ before) → MayTell IsNote before now
@@ -70,9 +74,20 @@ script-named name (tasks.Capture plan packets threads) keep_going = (record { na
 script-named name tasks.Desk keep_going = (record { name = name; form = script }, [], refl, refl)
 script-named name (tasks.Get key moment) keep_going = (record { name = name; form = script }, [], refl, refl)
 
+-- The sets of a ruleset name it.
+pub sets-named : (file : List ℕ) → NamesScript (sets_of file) file
+sets-named file = (record { name = file; form = rules_of_nft }, [], refl, refl)
+
 -- A comparison names its first script.
 pub compare-named : (first second : List ℕ) (keep_going : Bool) → NamesScript (compare first second keep_going) first
 compare-named first second keep_going = (record { name = first; form = script }, record { name = second; form = second_form } ∷ [], refl, refl)
+
+-- A note on what isn't kept of a ruleset that was read is one on the file's bytes, if they are known.
+pub skips-of : (told : List ℕ → Option (List ℕ)) (file whole slice kept : List ℕ) (skips : List Skipped) (before now : Option (List ℕ)) → slice ≡ whole → ReadsAs told file (λ text. (whole ≡ text) × AreSetsOf text kept skips)
+    → MayTell (λ note. note ≡ skips_text file slice skips) before now → MayTell (AreSkipsOf told file) before now
+skips-of told file whole slice kept skips before now same read tells =
+    tells-as (λ note. note ≡ skips_text file slice skips) (AreSkipsOf told file) before now
+    (λ note is text at. let r = (read text at).1 in is ∙ ap (λ (t : List ℕ). skips_text file t skips) (same ∙ r.0) ∙ ap (λ (ss : List Skipped). skips_text file text ss) r.1.skips_are) tells
 
 -- No note is due to words that ask for a page.
 page-due : (words : List (List ℕ)) (shelf : Shelved) (status : ℕ) (text : List ℕ) (p : Page) → AsksFor words p → IsDueNote words shelf status text → ⊥
@@ -80,12 +95,13 @@ page-due words shelf status text p asks (on_words t none is ended) = none.no_pag
 page-due words shelf status text p asks (on_file d fault stops t is_d is ended) = page-no-command words p d asks is_d
 page-due words shelf status text p asks (on_sections name t has is ended) = page-no-command words p (desk name has.keep_going) asks has.is_desk
 page-due words shelf status text p asks (on_changes c name output t refusals failed has is_c names are is ended) = page-no-command words p has.command asks has.is_command
+page-due words shelf status text p asks (on_skips file output t refused has is_sets are ended) = page-no-command words p (sets_of file) asks is_sets
 
 module _ (c : Call) where
-  -- With status 0 no note was written.
-  pub no-note : IsNoted c → c.status ≡ 0 → c.noted_now ≡ c.noted_before
-  no-note (nothing same) e = same
-  no-note (note text quiet due told) e = absurd (due-above c.words c.shelf c.status text due e)
+  -- With status 0 no note was written, but one on what isn't kept of a ruleset.
+  pub no-note : IsNoted c → c.status ≡ 0 → ((file : List ℕ) → IsSetsCommand c.words file → ⊥) → c.noted_now ≡ c.noted_before
+  no-note (nothing same) e other = same
+  no-note (note text quiet due told) e other = absurd (due-above c.words c.shelf c.status text due e other)
 
   -- With a page no note was written.
   pub page-quiet : (p : Page) → AsksFor c.words p → IsNoted c → c.noted_now ≡ c.noted_before
@@ -114,3 +130,10 @@ module _ (c : Call) where
       subst (λ (b : Option (List ℕ)). MayTell (IsDueNote c.words c.shelf c.status) b c.noted_now) silent
       (tells-as (IsNoteDue d refused refusals failed) (IsDueNote c.words c.shelf c.status) mid c.noted_now
       (λ text is. on_changes d is.0 output text refusals failed (subst (λ (r : Bool). HasOutput c.words c.shelf r output) is.2 has) is_d is.1 (subst (λ (r : Bool). AreRefused d c.shelf.told r output refusals failed) is.2 are) is.3 (subst (λ (r : Bool). Ended (done_status r) c.status) is.2 ended)) tells)
+
+  -- The note on what isn't kept of a ruleset is due.
+  pub skips-noted : (file : List ℕ) (refused : Bool) (output : List ℕ) → HasOutput c.words c.shelf refused output → IsSetsCommand c.words file → Ended (done_status refused) c.status
+      → (mid : Option (List ℕ)) → mid ≡ c.noted_before → MayTell (AreSkipsOf c.shelf.told file) mid c.noted_now → IsNoted c
+  skips-noted file refused output has is_sets ended mid silent tells =
+      subst (λ (b : Option (List ℕ)). MayTell (IsDueNote c.words c.shelf c.status) b c.noted_now) silent
+      (tells-as (AreSkipsOf c.shelf.told file) (IsDueNote c.words c.shelf c.status) mid c.noted_now (λ text are. on_skips file output text refused has is_sets are ended) tells)

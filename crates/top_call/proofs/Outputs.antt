@@ -1,13 +1,27 @@
 -- The text that a command's work makes is the command's output.
-use Rattle.std.proofs.Common.{refl, sym, subst, ℕ, Bool, List, Option}
+use Rattle.std.specs.List.{list_any}
+use Rattle.std.proofs.Common.{◌≡◌, ◌∙◌, ap, refl, sym, subst, ℕ, Bool, List, Option}
 use Rattle.command_words.specs.Words.{Command}
 use Rattle.input_files.specs.declared.work.Work.{Work}
 use Rattle.input_files.specs.declared.work.Work.TheVariants as works
-use Rattle.input_files.specs.Works.{IsWork}
+use Rattle.input_files.specs.Works.{IsWork, AreSetsOf}
+use Rattle.ruleset_sets.specs.declared.skipped.Skipped.{Skipped}
+use Rattle.ruleset_sets.specs.Kept.{IsKept, all_taken}
+use Rattle.ruleset_sets.specs.RulesetText.{leaves_out}
+use Rattle.set_script.specs.ScriptText.{IsScriptText}
 use Rattle.pcap_keys.specs.Planned.{packets as planned_packets}
 use Rattle.script_laws.specs.declared.output.Output.{Output}
 use Rattle.top_call.specs.Refused.{AreRefused, GivesRefusals}
-use Rattle.top_call.specs.Transcript.{IsOutput, GivesText}
+use Rattle.top_call.specs.Transcript.{IsOutput, GivesText, AreSetsIn}
+
+-- What is kept of a ruleset was written.
+sets-in : (bytes kept text : List ℕ) (skips : List Skipped) (refused : Bool) → AreSetsOf bytes kept skips → text ≡ kept → refused ≡ list_any (λ s. leaves_out s.why) skips → AreSetsIn bytes refused text
+sets-in bytes kept text skips refused are same left_out = record {
+  script = are.script;
+  is_kept = subst (λ (t : List ℕ). IsKept bytes (all_taken bytes) t) (sym same) are.is_kept;
+  is_script = subst (λ (t : List ℕ). IsScriptText t are.script) (sym same) are.is_script;
+  refusal = left_out ∙ ap (λ (ss : List Skipped). list_any (λ s. leaves_out s.why) ss) are.skips_are;
+}
 
 pub is-output : (told : List ℕ → Option (List ℕ)) (c : Command) (w : Work) (refused : Bool) (text : List ℕ) → IsWork told c w → GivesText w refused text → IsOutput c told refused text
 is-output told c (works.Run s packets n g) refused text w h = subst (λ (x : Command). IsOutput x told refused text) (sym w.2) (λ script_text keys_text at at_keys. record {
@@ -47,6 +61,7 @@ is-output told c (works.Judge s chains packets n g) refused text w h = subst (λ
 is-output told c (works.Desk s g) refused text w h = subst (λ (x : Command). IsOutput x told refused text) (sym w.1) (λ script_text at. record { script = s; script_is = (w.2 script_text at).1; few = h.1; is_desk = h.0 })
 is-output told c (works.Get s key moment g) refused text w h = subst (λ (x : Command). IsOutput x told refused text) (sym w.1) (λ script_text at. record { script = s; script_is = (w.2 script_text at).1; gives = h })
 is-output told c (works.Compare a s b t g) refused text w h = subst (λ (x : Command). IsOutput x told refused text) (sym w.0) (λ first_text second_text at at_second. record { script = s; other = t; script_is = (w.1 first_text at).1; other_is = (w.2 second_text at_second).1; gives = h })
+is-output told c (works.Sets f whole sieved) refused text w h = subst (λ (x : Command). IsOutput x told refused text) (sym w.0) (λ bytes at. sets-in bytes sieved.text.items text sieved.skips refused (w.1 bytes at).2 h.0 h.1)
 is-output told c (works.Drill seed count n) refused text w h = subst (λ (x : Command). IsOutput x told refused text) (sym w) (h.1, h.0)
 
 -- The refused changes that a work's output has as data are the command's.
@@ -59,4 +74,5 @@ are-refused told c (works.Judge s chains packets n g) out w h = subst (λ (x : C
 are-refused told c (works.Desk s g) out w h = subst (λ (x : Command). AreRefused x told out.refused out.text.items out.refusals.items out.failed) (sym w.1) (λ text at. (s, (w.2 text at).1, h.desk, h.refusals_are, h.failed_is))
 are-refused told c (works.Get s key moment g) out w h = subst (λ (x : Command). AreRefused x told out.refused out.text.items out.refusals.items out.failed) (sym w.1) (λ text at. (s, (w.2 text at).1, h.0.refusals_are, h.1))
 are-refused told c (works.Compare a s b t g) out w h = subst (λ (x : Command). AreRefused x told out.refused out.text.items out.refusals.items out.failed) (sym w.0) h
+are-refused told c (works.Sets f whole sieved) out w h = subst (λ (x : Command). AreRefused x told out.refused out.text.items out.refusals.items out.failed) (sym w.0) h
 are-refused told c (works.Drill seed count n) out w h = subst (λ (x : Command). AreRefused x told out.refused out.text.items out.refusals.items out.failed) (sym w) tt

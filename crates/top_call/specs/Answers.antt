@@ -8,13 +8,13 @@ use Rattle.token_forms.specs.declared.token.Reason.{Reason}
 use Rattle.script_run.specs.Drill.{drill_text}
 use Rattle.command_words.specs.declared.page.Page.{Page}
 use Rattle.command_words.specs.WordForms.{page_text}
-use Rattle.command_words.specs.Words.{Command, IsCommand, AsksFor, IsRunCommand, IsListCommand, IsDumpCommand, IsDrillCommand, IsJudgeCommand, IsCaptureCommand, IsDeskCommand, IsGetCommand, IsCompareCommand}
+use Rattle.command_words.specs.Words.{Command, IsCommand, AsksFor, IsRunCommand, IsListCommand, IsDumpCommand, IsDrillCommand, IsJudgeCommand, IsCaptureCommand, IsDeskCommand, IsGetCommand, IsCompareCommand, IsSetsCommand}
 use Rattle.input_files.specs.declared.fault.Flaw.{Flaw}
 use Rattle.input_files.specs.declared.fault.FileFault.TheVariants.{Bad}
 use Rattle.input_files.specs.Inputs.{form_of}
 use Rattle.input_files.specs.Reads.{Shelved, HasRead, StopsAt}
 use Rattle.top_call.specs.declared.fault.Fault.{Fault}
-use Rattle.top_call.specs.Transcript.{IsOutput, IsTranscript, IsJudgement, IsCaptured, IsListing, IsTables, IsWovenOf, IsAnswerOf, IsComparisonOf}
+use Rattle.top_call.specs.Transcript.{IsOutput, IsTranscript, IsJudgement, IsCaptured, IsListing, IsTables, IsWovenOf, IsAnswerOf, IsComparisonOf, AreSetsIn}
 use Rattle.top_call.specs.Calls.{Call}
 use Rattle.top_call.specs.Causes.{IsCause, HasManySections, HasNoKey}
 use Rattle.top_call.specs.Lines.{done_status, form_status, status_of, fault_line, flaw_line, read_fault_line, too_many_line, bad_key_line}
@@ -106,6 +106,10 @@ AnswersKeys c = (script script_text : List ℕ) (key : List (List ℕ)) (moment 
 abbrev pub Compares : Call → Type 0
 Compares c = (first second first_text second_text : List ℕ) (keep_going : Bool) → IsCompareCommand c.words first second keep_going → c.shelf.told first ≡ Some first_text → c.shelf.told second ≡ Some second_text
     → Writes (IsComparisonOf first first_text second second_text (mode_of keep_going)) c
+
+-- The same of the sets of a ruleset. The sink took what is kept of it, which is a script.
+abbrev pub WritesSets : Call → Type 0
+WritesSets c = (file text : List ℕ) → IsSetsCommand c.words file → c.shelf.told file ≡ Some text → Writes (AreSetsIn text) c
 
 -- A text was written whole, and the status is 0.
 pub record Delivers (text : List ℕ) (c : Call) : Type 0 where

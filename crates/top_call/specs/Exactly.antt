@@ -13,6 +13,8 @@ use Rattle.rule_chain.specs.Chains.{Rules}
 use Rattle.rule_chain.specs.Judged.{IsJudged}
 use Rattle.rule_chain.specs.JudgedText.{judged_text}
 use Rattle.set_script.specs.ScriptText.{IsScriptText}
+use Rattle.ruleset_sets.specs.Kept.{IsKept, all_taken}
+use Rattle.ruleset_sets.specs.RulesetText.{IsRulesetText}
 use Rattle.key_file.specs.KeysText.{IsKeysText}
 use Rattle.pcap_keys.specs.declared.facts.Frame.{Frame}
 use Rattle.pcap_keys.specs.declared.selector.PlanLine.{PlanLine}
@@ -27,10 +29,10 @@ use Rattle.key_answer.specs.Question.{IsKey, at_moment}
 use Rattle.compare_answer.specs.Compared.{GivesComparison}
 use Rattle.pip_base.specs.Whole.{size_limit}
 use Rattle.command_words.specs.declared.page.Page.{Page}
-use Rattle.command_words.specs.Words.{Command, IsCommand, AsksFor, IsNoCommand, IsRunCommand, IsListCommand, IsDumpCommand, IsDrillCommand, IsJudgeCommand, IsCaptureCommand, IsDeskCommand, IsGetCommand, IsCompareCommand}
+use Rattle.command_words.specs.Words.{Command, IsCommand, AsksFor, IsNoCommand, IsRunCommand, IsListCommand, IsDumpCommand, IsDrillCommand, IsJudgeCommand, IsCaptureCommand, IsDeskCommand, IsGetCommand, IsCompareCommand, IsSetsCommand}
 use Rattle.input_files.specs.Inputs.{Input, inputs, IsOf}
 use Rattle.input_files.specs.Given.{Has, AreGiven}
-use Rattle.top_call.specs.Transcript.{AreRulesOf, most_sections}
+use Rattle.top_call.specs.Transcript.{AreRulesOf, most_sections, leaves_any}
 use Rattle.top_call.specs.Calls.{Call}
 use Rattle.top_call.specs.Lines.{done_status, form_status}
 use Rattle.top_call.specs.Answers.{Delivers, TellsPage}
@@ -38,6 +40,10 @@ use Rattle.top_call.specs.Answers.{Delivers, TellsPage}
 -- A file's bytes, within their size, are read as this script.
 abbrev pub HasScript : (List ℕ → Option (List ℕ)) → List ℕ → Script → Type 0
 HasScript told name s = Has told name (λ text. IsScriptText text s)
+
+-- A file's bytes, within their size, are a ruleset that means this script.
+abbrev pub HasRuleset : (List ℕ → Option (List ℕ)) → List ℕ → Script → Type 0
+HasRuleset told name s = Has told name (λ text. IsRulesetText text s)
 
 -- A file's bytes, within their size, are read as these packets under the sets of a script.
 abbrev pub HasKeys : (List ℕ → Option (List ℕ)) → List ℕ → Script → List (List Packet) → Type 0
@@ -93,6 +99,7 @@ pub record IsExact (c : Call) : Type 0 where
   pub done_get : (script : List ℕ) (key : List (List ℕ)) (moment : Option ℕ) (keep_going : Bool) (s : Script) (p : Packet) → IsGetCommand c.words script key moment keep_going → HasScript c.shelf.told script s → IsKey s.schema key p
       → IsStatus (done_status (has_no_answer (mode_of keep_going) s (at_moment moment s p))) c
   pub done_compare : (first second : List ℕ) (keep_going : Bool) (s t : Script) → IsCompareCommand c.words first second keep_going → HasScript c.shelf.told first s → HasScript c.shelf.told second t → (differs : Bool) × IsStatus (done_status differs) c
+  pub done_sets : (file : List ℕ) (s : Script) → IsSetsCommand c.words file → (h : HasRuleset c.shelf.told file s) → IsStatus (done_status (leaves_any h.text)) c
   pub done_drill : (seed count threads : ℕ) → IsDrillCommand c.words seed count threads → IsStatus 0 c
   pub done_page : (p : Page) → AsksFor c.words p → c.status ≡ 0
 
@@ -139,6 +146,15 @@ pub record DeliversComparison (mode : Mode) (first : List ℕ) (s : Script) (sec
   pub written : Appends c.taken_before c.taken_now text
   pub status : c.status ≡ done_status differs
 
+-- What is kept of the ruleset with this text was written. It is a script, the one that the ruleset means. The status is 1 if a set
+-- is left out, and 0 otherwise.
+pub record DeliversSets (text : List ℕ) (s : Script) (c : Call) : Type 0 where
+  pub kept : List ℕ
+  pub is_kept : IsKept text (all_taken text) kept
+  pub is_script : IsScriptText kept s
+  pub written : Appends c.taken_before c.taken_now kept
+  pub status : c.status ≡ done_status (leaves_any text)
+
 -- The words are a command, and its files are within their size and of their forms. Then the output of exactly these
 -- files was written; or memory ran out, and nothing was written. A drill has no files. A page is written in any case.
 pub record Completes (c : Call) : Type 0 where
@@ -155,5 +171,6 @@ pub record Completes (c : Call) : Type 0 where
       → DeliversAnswer (mode_of keep_going) s (at_moment moment s p) c ⊎ RanOut c
   pub compare : (first second : List ℕ) (keep_going : Bool) (s t : Script) → IsCompareCommand c.words first second keep_going → HasScript c.shelf.told first s → HasScript c.shelf.told second t
       → DeliversComparison (mode_of keep_going) first s second t c ⊎ RanOut c
+  pub sets : (file : List ℕ) (s : Script) → IsSetsCommand c.words file → (h : HasRuleset c.shelf.told file s) → DeliversSets h.text s c ⊎ RanOut c
   pub drill : (seed count threads : ℕ) → IsDrillCommand c.words seed count threads → Delivers (drill_text seed count) c ⊎ RanOut c
   pub page : TellsPage c

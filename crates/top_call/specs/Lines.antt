@@ -8,13 +8,13 @@ use Rattle.input_files.specs.declared.fault.Flaw.{Flaw}
 use Rattle.input_files.specs.declared.fault.Flaw.TheVariants as flaws
 use Rattle.input_files.specs.declared.fault.FileFault.{FileFault}
 use Rattle.input_files.specs.declared.fault.FileFault.TheVariants as files
-use Rattle.input_files.specs.Inputs.{FileForm, script, second, keys, rules, plan, capture, form_of}
+use Rattle.input_files.specs.Inputs.{FileForm, script, second, rules_of_nft, keys, rules, plan, capture, form_of}
 use Rattle.key_answer.specs.declared.question.AnswerError.{AnswerError}
 use Rattle.key_answer.specs.declared.question.AnswerError.TheVariants as answers
 use Rattle.top_call.specs.declared.fault.Fault.{Fault}
 use Rattle.top_call.specs.declared.fault.Fault.TheVariants.{Usage, File, TooManyClerks, BadKey, Memory}
 
--- the status of an output: 1 if it reports a refusal, that no element answers or that scripts differ, and 0 otherwise
+-- the status of an output: 1 if it reports a refusal, that no element answers, that scripts differ or that a set is left out, and 0 otherwise
 abbrev pub done_status : Bool → ℕ
 done_status true = 1
 done_status false = 0
@@ -23,6 +23,7 @@ done_status false = 0
 abbrev pub form_status : FileForm → ℕ
 form_status script = 3
 form_status second = 3
+form_status rules_of_nft = 3
 form_status keys = 4
 form_status rules = 9
 form_status plan = 11
@@ -49,7 +50,7 @@ status_of (BadKey line reason) = 13
 status_of Memory = 7
 
 abbrev pub usage_line : List ℕ
-usage_line = codes "pipapo: usage: run SCRIPT KEYS [--threads N] [--keep-going] | list SCRIPT [--keep-going] | dump SCRIPT [--keep-going] | drill SEED COUNT [--threads N] | judge SCRIPT RULES KEYS [--threads N] [--keep-going] | capture SCRIPT PLAN PCAP [--threads N] [--keep-going] | desk SCRIPT [--keep-going] | get [--at MOMENT] [--keep-going] SCRIPT KEY .. | compare SCRIPT1 SCRIPT2 [--keep-going]\n"
+usage_line = codes "pipapo: usage: run SCRIPT KEYS [--threads N] [--keep-going] | list SCRIPT [--keep-going] | dump SCRIPT [--keep-going] | drill SEED COUNT [--threads N] | judge SCRIPT RULES KEYS [--threads N] [--keep-going] | capture SCRIPT PLAN PCAP [--threads N] [--keep-going] | desk SCRIPT [--keep-going] | get [--at MOMENT] [--keep-going] SCRIPT KEY .. | compare SCRIPT1 SCRIPT2 [--keep-going] | sets RULESET\n"
 
 -- a line that ends with a name
 abbrev pub named_line : List ℕ → List ℕ → List ℕ
@@ -94,6 +95,7 @@ capture_end reason = codes ": " ++ capture_reason_text reason ++ codes "\n"
 abbrev pub flaw_line : Flaw → List ℕ
 flaw_line (flaws.Script line reason) = placed_line (codes "pipapo: script line ") line reason
 flaw_line (flaws.SecondScript line reason) = placed_line (codes "pipapo: second script line ") line reason
+flaw_line (flaws.Ruleset line reason) = placed_line (codes "pipapo: ruleset line ") line reason
 flaw_line (flaws.Keys line reason) = placed_line (codes "pipapo: keys line ") line reason
 flaw_line (flaws.Rules line reason) = placed_line (codes "pipapo: rules line ") line reason
 flaw_line (flaws.Plan line reason) = placed_line (codes "pipapo: plan line ") line reason

@@ -1,13 +1,13 @@
 -- What a call of the program promises. Read two clauses first: by `ends` every status has its cause, and by `exact`
 -- each cause has its status.
-use Rattle.std.specs.Prelude.{◌≡◌, ◌≢◌, ◌⊎◌}
+use Rattle.std.specs.Prelude.{◌≡◌, ◌≢◌, ◌⊎◌, ℕ, List}
 use Rattle.command_words.specs.declared.page.Page.{Page}
-use Rattle.command_words.specs.Words.{AsksFor}
+use Rattle.command_words.specs.Words.{AsksFor, IsSetsCommand}
 use Rattle.input_files.specs.Inputs.{FileForm}
 use Rattle.top_call.specs.Calls.{Call, IsQuiet}
 use Rattle.top_call.specs.Lines.{form_status}
 use Rattle.top_call.specs.Names.{AsksInOrder, AsksForAll}
-use Rattle.top_call.specs.Answers.{EndsDuly, IsComplete, Transcribes, Judges, Captures, Lists, Dumps, Weaves, AnswersKeys, Compares, Drills, TellsPage, TellsReadFault, TellsFlaw, TellsTooMany, TellsBadKey}
+use Rattle.top_call.specs.Answers.{EndsDuly, IsComplete, Transcribes, Judges, Captures, Lists, Dumps, Weaves, AnswersKeys, Compares, WritesSets, Drills, TellsPage, TellsReadFault, TellsFlaw, TellsTooMany, TellsBadKey}
 use Rattle.top_call.specs.Exactly.{IsExact, Completes}
 use Rattle.top_call.specs.Noted.{IsNoted}
 
@@ -46,6 +46,9 @@ pub record Promises (c : Call) : Type 0 where
   -- has the least key there, the first live element that holds it, and the line of the addition that made this element. The
   -- status is 0 exactly if all sets are the same and no change is refused.
   pub compare : IsComplete c.status → Compares c
+  -- Of the sets of a ruleset the sink took what is kept of it: a text of the same length, which is a script and means these sets.
+  -- The status is 0 exactly if no set is left out. A note names each item and part that isn't kept.
+  pub sets : IsComplete c.status → WritesSets c
   -- Of a drill the sink took its one line, and of words that ask for a page the page. The status is 0.
   pub drill : IsComplete c.status → Drills c
   pub page : IsComplete c.status → TellsPage c
@@ -66,7 +69,8 @@ pub record Promises (c : Call) : Type 0 where
   pub shelf_count : c.shelf.faults_now ≢ c.shelf.faults_before → (c.status ≡ 5) ⊎ (c.status ≡ 6)
   pub sink_count : c.faults_now ≢ c.faults_before → c.status ≡ 6
   -- No note is written; or one on words that are no command, on why and in which place a file can't be had, or on the
-  -- refused changes. With status 0 there is none, and neither if the words ask for a page.
+  -- refused changes, or on what isn't kept of a ruleset. With status 0 only this last one is written. If the words ask for a page
+  -- there is none.
   pub noted : IsNoted c
-  pub no_note : c.status ≡ 0 → c.noted_now ≡ c.noted_before
+  pub no_note : c.status ≡ 0 → ((file : List ℕ) → IsSetsCommand c.words file → ⊥) → c.noted_now ≡ c.noted_before
   pub page_without_note : (p : Page) → AsksFor c.words p → c.noted_now ≡ c.noted_before

@@ -1,5 +1,6 @@
 -- What a command writes: the transcript of a run, the listing of a script, the tables of a script, a drill's summary.
 use Rattle.std.specs.Borrow.{Bor}
+use Rattle.std.specs.List.{list_any}
 use Rattle.std.specs.Prelude.{◌≡◌, ◌≤◌, ◌<◌, ℕ, Bool, false, List, [], ◌∷◌, Option, Some, length, map}
 use Rattle.std.specs.String.{string_bytes}
 use Rattle.token_forms.specs.declared.token.Reason.{Reason}
@@ -17,13 +18,15 @@ use Rattle.rule_chain.specs.Judged.{IsJudged}
 use Rattle.rule_chain.specs.JudgedText.{judged_text}
 use Rattle.rule_chain.specs.RulesText.{IsRulesText}
 use Rattle.set_script.specs.ScriptText.{IsScriptText}
+use Rattle.ruleset_sets.specs.Kept.{IsKept, all_taken, notes}
+use Rattle.ruleset_sets.specs.RulesetText.{leaves_out}
 use Rattle.key_file.specs.KeysText.{IsKeysText}
 use Rattle.pcap_keys.specs.Planned.{packets as planned_packets}
 use Rattle.pcap_keys.specs.CapturedPackets.{AreCaptured}
 use Rattle.script_run.specs.Listings.{listing_text, tables_text}
 use Rattle.script_run.specs.Drill.{drill_text}
 use Rattle.desk_run.specs.DeskText.{IsDeskText}
-use Rattle.command_words.specs.Words.{Command, run, list, dump, drill, judge, capture, desk, get, compare}
+use Rattle.command_words.specs.Words.{Command, run, list, dump, drill, judge, capture, desk, get, compare, sets_of}
 use Rattle.input_files.specs.declared.work.Work.{Work}
 use Rattle.input_files.specs.declared.work.Work.TheVariants as works
 
@@ -110,6 +113,18 @@ pub record IsComparisonOf (first first_text second second_text : List ℕ) (mode
   pub other_is : IsScriptText second_text other
   pub gives : GivesComparison mode first script second other refused output
 
+-- A set of the ruleset with this text, or a statement on one, is left out.
+abbrev pub leaves_any : List ℕ → Bool
+leaves_any text = list_any (λ s. leaves_out s.why) (notes text)
+
+-- The output is what is kept of the ruleset with this text, and it is a script. It reports a refusal exactly if a set
+-- is left out.
+pub record AreSetsIn (text : List ℕ) (refused : Bool) (output : List ℕ) : Type 0 where
+  pub script : Script
+  pub is_kept : IsKept text (all_taken text) output
+  pub is_script : IsScriptText output script
+  pub refusal : refused ≡ leaves_any text
+
 -- What a command writes, by the bytes under its files' names, and whether its text reports a refusal.
 abbrev pub IsOutput : Command → (List ℕ → Option (List ℕ)) → Bool → List ℕ → Type 0
 IsOutput (run script keys threads keep_going) told refused output = (script_text keys_text : List ℕ) → told script ≡ Some script_text → told keys ≡ Some keys_text → IsTranscript script_text keys_text threads (mode_of keep_going) refused output
@@ -124,6 +139,7 @@ IsOutput (capture script plan packets threads keep_going) told refused output =
     → IsCaptured script_text plan_text capture_text threads (mode_of keep_going) refused output
 IsOutput (desk script keep_going) told refused output = (script_text : List ℕ) → told script ≡ Some script_text → IsWovenOf script_text keep_going refused output
 IsOutput (get script key moment keep_going) told refused output = (script_text : List ℕ) → told script ≡ Some script_text → IsAnswerOf script_text key moment (mode_of keep_going) refused output
+IsOutput (sets_of file) told refused output = (text : List ℕ) → told file ≡ Some text → AreSetsIn text refused output
 IsOutput (compare first second keep_going) told refused output = (first_text second_text : List ℕ) → told first ≡ Some first_text → told second ≡ Some second_text → IsComparisonOf first first_text second second_text (mode_of keep_going) refused output
 
 -- The lines are legal ones of a script and its packets, and the text is the text of their transcript.
@@ -150,6 +166,7 @@ HasFewClerks (works.Capture s plan frames threads keep_going) = Unit {0}
 HasFewClerks (works.Desk s keep_going) = length s.sections ≤ most_sections
 HasFewClerks (works.Get s key moment keep_going) = Unit {0}
 HasFewClerks (works.Compare a s b t keep_going) = Unit {0}
+HasFewClerks (works.Sets f whole sieved) = Unit {0}
 
 -- A command's work is a desk with more sections than there may be, of the script of this name.
 pub record IsOverfull (c : Command) (work : Work) (name : Bor (List ℕ)) : Type 0 where
@@ -170,6 +187,7 @@ GivesText (works.Capture s plan frames threads keep_going) refused text =
 GivesText (works.Judge s chains packets threads keep_going) refused text = HasJudgement s chains packets threads (mode_of keep_going) text × (refused ≡ has_refusal (mode_of keep_going) s)
 GivesText (works.Desk s keep_going) refused text = IsDeskText s keep_going refused text × (length s.sections ≤ most_sections)
 GivesText (works.Get s key moment keep_going) refused text = GivesAnswer (mode_of keep_going) s (map string_bytes key.now) moment refused text
+GivesText (works.Sets f whole sieved) refused text = (text ≡ sieved.text.items) × (refused ≡ list_any (λ s. leaves_out s.why) sieved.skips)
 GivesText (works.Compare a s b t keep_going) refused text = GivesComparison (mode_of keep_going) a.now s b.now t refused text
 
 -- A command's work is a `get` whose words are no key.
@@ -183,3 +201,17 @@ HasBadWords (works.Capture s plan frames threads keep_going) line reason = ⊥
 HasBadWords (works.Desk s keep_going) line reason = ⊥
 HasBadWords (works.Get s key moment keep_going) line reason = IsBadKey s.schema (map string_bytes key.now) line reason
 HasBadWords (works.Compare a s b t keep_going) line reason = ⊥
+HasBadWords (works.Sets f whole sieved) line reason = ⊥
+
+-- A work makes an output: all but that of a ruleset.
+abbrev pub MakesOutput : Work → Type 0
+MakesOutput (works.Run s packets threads keep_going) = Unit {0}
+MakesOutput (works.List s keep_going) = Unit {0}
+MakesOutput (works.Dump s keep_going) = Unit {0}
+MakesOutput (works.Drill seed count threads) = Unit {0}
+MakesOutput (works.Judge s chains packets threads keep_going) = Unit {0}
+MakesOutput (works.Capture s plan frames threads keep_going) = Unit {0}
+MakesOutput (works.Desk s keep_going) = Unit {0}
+MakesOutput (works.Get s key moment keep_going) = Unit {0}
+MakesOutput (works.Compare a s b t keep_going) = Unit {0}
+MakesOutput (works.Sets f whole sieved) = ⊥

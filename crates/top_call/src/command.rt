@@ -2,15 +2,16 @@ ghost use Rattle.std.specs.Prelude.{◌≡◌, [], List, ℕ, map, Option, None,
 ghost use Rattle.std.specs.String.{string_bytes};
 ghost use Rattle.command_words.specs.Words.{IsCommand, AsksFor};
 ghost use Rattle.command_words.specs.WordForms.{plain};
-ghost use Rattle.top_call.specs.Lines.{answer_fault as fault_of_answer, done_status as status_of_done};
+ghost use Rattle.top_call.specs.Lines.{answer_fault as fault_of_answer};
 ghost use Rattle.input_files.specs.Works.{IsWork};
 ghost use Rattle.top_call.specs.Promises.{Goes, Promises};
 ghost use Rattle.top_call.specs.Transcript.{HasFewClerks, IsOverfull};
 
-use crate::delivery::{deliver, deliver_page, tell};
+use crate::delivery::{deliver, deliver_page, done_status, tell};
 use crate::fault::Fault;
 use crate::output::output_of;
 use crate::refusals::{tell_refusals, tell_too_many};
+use crate::sets::deliver_sets;
 use crate::words_told::tell_words;
 use command_words::{Command, WordsError, command_of, page_of};
 use input_files::{Work, work_of};
@@ -20,13 +21,6 @@ use pip_base::{Notes, Shelf, Sink};
 use std::alloc::Global;
 use std::sync::Wait;
 use std::thread::Threads;
-
-/// The status of an output.
-fn done_status(refused: bool) -> u8
-    ensures { result ≡ status_of_done refused }
-{
-    if refused { 1 } else { 0 }
-}
 
 /// What is reported in place of an output.
 fn answer_fault<'a>(error: AnswerError) -> Fault<'a>
@@ -50,7 +44,9 @@ fn overfull<'a>(command: Command<'a>, work: &Work<'_>) -> Option<(&'a str, u64)>
     match work {
         Work::Desk { script, .. } if script.sections.len() > MOST_SECTIONS => match command {
             Command::Script { script: name, .. } => Some((name, script.sections.len())),
-            Command::Drill { .. } | Command::Compare { .. } => unreachable!(),
+            Command::Drill { .. } | Command::Compare { .. } | Command::Sets { .. } => {
+                unreachable!()
+            }
         },
         _ => None,
     }
@@ -73,6 +69,13 @@ fn do_command<'a, R: Threads + Wait + Sync, F: Shelf, K: Sink, N: Notes, G: Gate
 {
     let mut script_text = Vec::new(alloc);
     match work_of(alloc, shelf, notes, &mut script_text, command) {
+        Ok(
+            Work::Sets {
+                file,
+                whole,
+                sieved,
+            },
+        ) => deliver_sets(alloc, sink, notes, file, whole.as_slice(), &sieved),
         Ok(work) => match overfull(command, &work) {
             Some((name, sections)) => {
                 let _ = tell_too_many(alloc, notes, name, sections);
@@ -154,6 +157,8 @@ fn carry_out<R: Threads + Wait + Sync, F: Shelf, K: Sink, N: Notes, G: Gate>(
 /// - `compare SCRIPT1 SCRIPT2 [--keep-going]` runs two scripts, and writes for each set whether both decide alike on every
 ///   key, with the least key on which they don't.
 ///
+/// - `sets RULESET` writes the sets of a ruleset as a script. `notes` gets a note on what isn't kept.
+///
 /// `--threads=N` means `--threads N`, and `--at=MOMENT` means `--at MOMENT`.
 ///
 /// `help`, `--help` or `-h` alone asks for help, and so do `help` before the word of a command and `--help` or
@@ -167,10 +172,10 @@ fn carry_out<R: Threads + Wait + Sync, F: Shelf, K: Sink, N: Notes, G: Gate>(
 /// its progress. The status is:
 ///
 /// - 0: the whole output was written, and reports no refusal;
-/// - 1: the whole output was written. A change was refused, no element holds the key of a `get`, or the scripts of a `compare`
-///   don't have the same sets;
+/// - 1: the whole output was written. A change was refused, no element holds the key of a `get`, the scripts of a `compare`
+///   don't have the same sets, or a set of a ruleset was left out;
 /// - 2: the words are no command, and the usage line was written;
-/// - 3, 4, 9, 11: the script, the key file, the rules file, the plan isn't in its grammar;
+/// - 3, 4, 9, 11: the script or the sets of a ruleset, the key file, the rules file, the plan isn't in its grammar;
 /// - 5: a file couldn't be opened or read;
 /// - 6: the sink failed, after a front of what was to be written;
 /// - 7: memory ran out, and nothing was written;

@@ -5,7 +5,7 @@ ghost use Rattle.pip_base.specs.Whole.{AppendsFront};
 ghost use Rattle.command_words.specs.WordForms.{page_text};
 ghost use Rattle.top_call.specs.Answers.{Ends, IsExactly};
 ghost use Rattle.input_files.specs.Inputs.{form_of};
-ghost use Rattle.top_call.specs.Lines.{named_line, placed_line, reason_end as end_of_line, capture_end as end_of_capture, form_status, flaw_line, file_status, file_line, status_of, fault_line};
+ghost use Rattle.top_call.specs.Lines.{named_line, placed_line, reason_end as end_of_line, capture_end as end_of_capture, done_status as status_of_done, form_status, flaw_line, file_status, file_line, status_of, fault_line};
 
 use crate::fault::Fault;
 use command_words::Page;
@@ -16,7 +16,14 @@ use pip_base::{Sink, WriteFault, write_whole};
 use token_forms::Reason;
 
 const USAGE: &[u8] =
-    b"pipapo: usage: run SCRIPT KEYS [--threads N] [--keep-going] | list SCRIPT [--keep-going] | dump SCRIPT [--keep-going] | drill SEED COUNT [--threads N] | judge SCRIPT RULES KEYS [--threads N] [--keep-going] | capture SCRIPT PLAN PCAP [--threads N] [--keep-going] | desk SCRIPT [--keep-going] | get [--at MOMENT] [--keep-going] SCRIPT KEY .. | compare SCRIPT1 SCRIPT2 [--keep-going]\n";
+    b"pipapo: usage: run SCRIPT KEYS [--threads N] [--keep-going] | list SCRIPT [--keep-going] | dump SCRIPT [--keep-going] | drill SEED COUNT [--threads N] | judge SCRIPT RULES KEYS [--threads N] [--keep-going] | capture SCRIPT PLAN PCAP [--threads N] [--keep-going] | desk SCRIPT [--keep-going] | get [--at MOMENT] [--keep-going] SCRIPT KEY .. | compare SCRIPT1 SCRIPT2 [--keep-going] | sets RULESET\n";
+
+/// The status of an output.
+pub fn done_status(refused: bool) -> u8
+    ensures { result ≡ status_of_done refused }
+{
+    if refused { 1 } else { 0 }
+}
 
 /// Writes a text, and returns its status, or 6 if the sink fails.
 pub fn deliver<K: Sink>(sink: &mut K, status: u8, text: &[u8]) -> u8
@@ -153,6 +160,9 @@ fn tell_flaw<K: Sink>(sink: &mut K, flaw: Flaw) -> u8
         }
         Flaw::SecondScript { line, reason } => {
             deliver_placed(sink, 3, b"pipapo: second script line ", line, reason)
+        }
+        Flaw::Ruleset { line, reason } => {
+            deliver_placed(sink, 3, b"pipapo: ruleset line ", line, reason)
         }
         Flaw::Keys { line, reason } => {
             deliver_placed(sink, 4, b"pipapo: keys line ", line, reason)

@@ -8,7 +8,7 @@ ghost use Rattle.pcap_keys.specs.Fitting.{HasValues, IsPlanned};
 ghost use Rattle.pcap_keys.specs.Planned as planned;
 ghost use Rattle.input_files.specs.Works.{IsDoable};
 ghost use Rattle.top_call.specs.Refused.{GivesRefusals};
-ghost use Rattle.top_call.specs.Transcript.{GivesText, HasBadWords, HasFewClerks};
+ghost use Rattle.top_call.specs.Transcript.{GivesText, HasBadWords, HasFewClerks, MakesOutput};
 
 use compare_answer::{Side, compare_scripts};
 use control_desk::QuietBell;
@@ -47,6 +47,7 @@ pub fn output_of<R: Threads + Wait + Sync, G: Gate>(
 ) -> Result<Output, AnswerError>
     requires doable { IsDoable work }
     requires clerks { HasFewClerks work }
+    requires makes { MakesOutput work }
     ensures text { IfOk result (λ out. GivesText work.entry out.refused out.text.items) }
     ensures refusals { IfOk result (GivesRefusals work.entry) }
     ensures bad { (line : ℕ) (reason : Reason) → result ≡ Err (BadKey line reason) → HasBadWords work.entry line reason }
@@ -108,5 +109,6 @@ pub fn output_of<R: Threads + Wait + Sync, G: Gate>(
             };
             Ok(compare_scripts(alloc, side, other, keep_going, gate)?)
         }
+        Work::Sets { .. } => unreachable!(),
     }
 }

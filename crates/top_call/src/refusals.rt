@@ -103,7 +103,7 @@ pub fn tell_refusals<N: Notes>(
         Command::Compare { first: name, .. } => {
             tell_changes(alloc, notes, name, script_text, output)
         }
-        Command::Drill { .. } => Ok(false),
+        Command::Drill { .. } | Command::Sets { .. } => Ok(false),
     }
 }
 

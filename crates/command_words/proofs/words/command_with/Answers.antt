@@ -1,7 +1,7 @@
 use Rattle.std.proofs.Common.{refl, map, codes}
 use Rattle.std.specs.String.{string_bytes}
 use Rattle.command_words.specs.declared.shape.Verb.TheVariants as verbs
-use Rattle.command_words.proofs.WordValues.{of-verb, has-first, pair-second, triple-second, triple-third, drill-second, files-second, is-alone, is-pair, is-files, is-triple, is-seed, is-count, is-drill}
+use Rattle.command_words.proofs.WordValues.{of-verb, has-first, pair-second, triple-second, triple-third, drill-second, files-second, is-alone, is-ruleset, is-pair, is-files, is-triple, is-seed, is-count, is-drill}
 use Rattle.command_words.proofs.words.command_with.Goals as goal
 
 pub unwrap-first-requires : goal.unwrap-first-requires
@@ -82,6 +82,11 @@ pub returns-in-Desk : goal.returns-in-Desk
 returns-in-Desk c =
     is-alone (map string_bytes c.args.words.now) c.in_ok-first.field-0 c.unwrap-first.result c.unwrap-first.ensures (codes "desk")
     (of-verb (map string_bytes c.args.words.now) c.in_ok-first.field-0 c.in_ok-first.ensures c.args.verb verbs.Desk c.in-Desk.is c.requires.shape c.requires.words)
+
+pub returns-in-Sets : goal.returns-in-Sets
+returns-in-Sets c =
+    is-ruleset (map string_bytes c.args.words.now) c.in_ok-first.field-0 c.unwrap-first.result c.unwrap-first.ensures
+    (of-verb (map string_bytes c.args.words.now) c.in_ok-first.field-0 c.in_ok-first.ensures c.args.verb verbs.Sets c.in-Sets.is c.requires.shape c.requires.words)
 
 pub unwrap-requires-in-Compare : goal.unwrap-requires-in-Compare
 unwrap-requires-in-Compare c = files-second (map string_bytes c.args.words.now) c.in_ok-first.field-0 (codes "compare") (of-verb (map string_bytes c.args.words.now) c.in_ok-first.field-0 c.in_ok-first.ensures c.args.verb verbs.Compare c.in-Compare.is c.requires.shape c.requires.words)

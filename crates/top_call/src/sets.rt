@@ -1,0 +1,46 @@
+//! Writes the sets of a ruleset, and the note on what isn't kept of it.
+ghost use Rattle.std.specs.Prelude.{◌≡◌};
+ghost use Rattle.std.specs.List.{list_any};
+ghost use Rattle.fault_notes.specs.Skips.{skips_text};
+ghost use Rattle.fault_notes.specs.Told.{MayTell};
+ghost use Rattle.ruleset_sets.specs.RulesetText.{leaves_out};
+ghost use Rattle.top_call.specs.Answers.{Ends, IsExactly};
+ghost use Rattle.top_call.specs.Lines.{done_status as status_of_done};
+
+use crate::delivery::{deliver, done_status};
+use fault_notes::{skips_note, tell_note};
+use pip_base::{Notes, Sink};
+use ruleset_sets::{Sieved, Skipped, leaves_sets_out};
+use std::alloc::Global;
+
+/// Writes the note on what isn't kept of a ruleset with this text, if there is something.
+fn tell_skips<N: Notes>(alloc: Global, notes: &mut N, file: &str, whole: &[u8], skips: &[Skipped])
+    ensures { MayTell (λ note. note ≡ skips_text file.now whole.now skips.now) (N.told notes.old) (N.told notes.new) }
+{
+    if !skips.is_empty() {
+        tell_note(notes, skips_note(alloc, file, whole, skips));
+    }
+}
+
+/// Writes what is kept of a ruleset with this text, and the note on the rest. Returns the status: 1 if a set
+/// is left out, and 6 if the sink fails.
+pub fn deliver_sets<K: Sink, N: Notes>(
+    alloc: Global,
+    sink: &mut K,
+    notes: &mut N,
+    file: &str,
+    whole: &[u8],
+    sieved: &Sieved,
+) -> u8
+    ensures ends { Ends (IsExactly (status_of_done (list_any (λ s. leaves_out s.why) sieved.now.skips)) sieved.now.text.items) (K.taken sink.old) (K.taken sink.new) (K.faults sink.old) (K.faults sink.new) result }
+    ensures tells { MayTell (λ note. note ≡ skips_text file.now whole.now sieved.now.skips) (N.told notes.old) (N.told notes.new) }
+{
+    let skips = sieved.skips.as_slice();
+    let status = deliver(
+        sink,
+        done_status(leaves_sets_out(skips)),
+        sieved.text.as_slice(),
+    );
+    tell_skips(alloc, notes, file, whole, skips);
+    status
+}
