@@ -1,5 +1,4 @@
 pub mod Refusals
-pub mod Skips
 pub mod Shown
 pub mod Told
 pub mod Blanked

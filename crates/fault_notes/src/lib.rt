@@ -20,12 +20,11 @@
 //!
 //! It is proved that a note on a file begins with its name, and with the place of the bad token or byte
 //! if there is one. A note on refused changes has a line for each of the first ones, with its place, and
-//! then how many more there are. A note on what isn't kept of a ruleset is exactly the text that is
-//! defined. Tests check the words after the places. A byte of a text or a name that
+//! then how many more there are. Tests check the words after the places. A byte of a text or a name that
 //! isn't printable ASCII appears as its number, as `\x1b` does. So no file can move a terminal.
 //!
 //! **Definitions:** `specs/Shown.antt` says how a byte is shown and how a note begins. `Refusals.antt`
-//! has the note on refused changes, and `Skips.antt` that on what isn't kept of a ruleset. `Told.antt` says that one note is printed, or nothing. **Theory:**
+//! has the note on refused changes. `Told.antt` says that one note is printed, or nothing. **Theory:**
 //! docs/formats.md, "The standard error".
 #![tactic(auto)]
 
@@ -44,7 +43,6 @@ mod refusals;
 mod refused;
 mod rest;
 mod sets;
-mod skips;
 mod source;
 mod syntax;
 mod told;
@@ -61,6 +59,5 @@ pub use pcap_keys::CaptureReason;
 pub use refusals::refusals_note;
 pub use refused::{RefusedChange, RefusedChanges};
 pub use rest::without_statement;
-pub use skips::skips_note;
 pub use token_forms::BadToken;
 pub use told::tell_note;

@@ -83,14 +83,14 @@ pub as-other : (told : List ℕ → Option (List ℕ)) (name : List ℕ) (sets :
 as-other told name sets s read text at = let r = read text at in (r.0, (s, r.1))
 
 pub as-ruleset : (told : List ℕ → Option (List ℕ)) (name : List ℕ) (sets : List SetDecl) (whole kept : List ℕ) (skips : List Skipped) → ReadsAs told name (λ text. (whole ≡ text) × AreSetsOf text kept skips) → ReadsAs told name (IsOf rules_of_nft sets)
-as-ruleset told name sets whole kept skips read text at = let r = read text at in (r.0, (r.2.script, record { kept = kept; is_kept = r.2.is_kept; holds = r.2.is_script }))
+as-ruleset told name sets whole kept skips read text at = let r = read text at in let are = r.1.1 in (r.0, (are.script, record { kept = kept; is_kept = are.is_kept; holds = are.is_script }))
 
 -- What is kept of the text that was read is kept of the file's bytes, if they are known.
 pub sets-read : (told : List ℕ → Option (List ℕ)) (name whole slice kept bytes : List ℕ) (skips : List Skipped) (s : Script) → ((text : List ℕ) → told name ≡ Some text → whole ≡ text) → length whole ≤ size_limit → slice ≡ whole
     → IsKept slice (all_taken slice) kept → skips ≡ notes slice → bytes ≡ kept → IsScriptText bytes s → ReadsAs told name (λ text. (whole ≡ text) × AreSetsOf text kept skips)
 sets-read told name whole slice kept bytes skips s known limit same is_kept skips_are is_bytes is_script text at =
     let of_slice : AreSetsOf slice kept skips = record { script = s; is_kept = is_kept; is_script = subst (λ (t : List ℕ). IsScriptText t s) is_bytes is_script; skips_are = skips_are } in
-    (subst (λ (t : List ℕ). length t ≤ size_limit) (known text at) limit, known text at, subst (λ (t : List ℕ). AreSetsOf t kept skips) (same ∙ known text at) of_slice)
+    (subst (λ (t : List ℕ). length t ≤ size_limit) (known text at) limit, (known text at, subst (λ (t : List ℕ). AreSetsOf t kept skips) (same ∙ known text at) of_slice))
 
 pub as-keys : (told : List ℕ → Option (List ℕ)) (name : List ℕ) (sets : List SetDecl) (packets : List (List Packet)) → ReadsAs told name (λ text. IsKeysText sets text packets) → ReadsAs told name (IsOf keys sets)
 as-keys told name sets packets read text at = let r = read text at in (r.0, (packets, r.1))

@@ -16,6 +16,8 @@ use Rattle.input_files.specs.declared.fault.FileFault.{FileFault}
 use Rattle.input_files.specs.declared.fault.FileFault.TheVariants.{Bad, ReadFault, TooLarge, Memory}
 use Rattle.token_forms.specs.TextTokens.{text_tokens}
 use Rattle.set_script.specs.Script.{script as script_form}
+use Rattle.ruleset_sets.specs.Kept.{IsKept, all_taken}
+use Rattle.ruleset_sets.specs.RulesetText.{HoldsOfKept}
 use Rattle.fault_notes.specs.Blanked.{blanked}
 use Rattle.input_files.specs.Noted.{IsPlacedBy, NamesBadToken, IsNoteOn, AreFurther, no_more, one_more, IsScriptNote, IsScriptNoted, NamesBadTokens}
 
@@ -42,6 +44,17 @@ script-note told name all slice found before mid now bytes same is_bad silent te
       is_bad = subst (λ (t : List ℕ). IsBadToken script_form (text_tokens t) t noted.bad) (same ∙ bytes bs at) (subst (λ (r : Result (Option BadToken) NoMemory). IfOk r (IsBadTokenAmong script_form (text_tokens slice) slice)) noted.is_found is_bad);
       says = subst (λ (t : List ℕ). IsScriptNote name t noted.bad text) (same ∙ bytes bs at) noted.says;
     }) tells)
+
+-- The same of what is kept of a ruleset.
+pub ruleset-note : (told : List ℕ → Option (List ℕ)) (name all slice kept bytes : List ℕ) (found : Result (Option BadToken) NoMemory) (before mid now : Option (List ℕ)) → ((text : List ℕ) → told name ≡ Some text → all ≡ text) → slice ≡ all
+    → IsKept slice (all_taken slice) kept → bytes ≡ kept → IfOk found (IsBadTokenAmong script_form (text_tokens bytes) bytes) → mid ≡ before → MayTell (IsScriptNoted found name bytes) mid now
+    → MayTell (λ text. (bs : List ℕ) → told name ≡ Some bs → HoldsOfKept bs (λ kept. NamesBadTokens kept name text)) before now
+ruleset-note told name all slice kept bytes found before mid now known same is_kept is_bytes is_bad silent tells =
+    subst (λ (b : Option (List ℕ)). MayTell (λ text. (bs : List ℕ) → told name ≡ Some bs → HoldsOfKept bs (λ kept. NamesBadTokens kept name text)) b now) silent
+    (tells-as (IsScriptNoted found name bytes) (λ text. (bs : List ℕ) → told name ≡ Some bs → HoldsOfKept bs (λ kept. NamesBadTokens kept name text)) mid now (λ text noted bs at.
+        let bad : NamesBadTokens bytes name text = record { bad = noted.bad; is_bad = subst (λ (r : Result (Option BadToken) NoMemory). IfOk r (IsBadTokenAmong script_form (text_tokens bytes) bytes)) noted.is_found is_bad; says = noted.says } in
+        let here : HoldsOfKept slice (λ kept. NamesBadTokens kept name text) = record { kept = kept; is_kept = is_kept; holds = subst (λ (t : List ℕ). NamesBadTokens t name text) is_bytes bad } in
+        subst (λ (t : List ℕ). HoldsOfKept t (λ kept. NamesBadTokens kept name text)) (same ∙ known bs at) here) tells)
 
 -- One more note on what is left of a script.
 pub one-further : (name : List ℕ) (most less : ℕ) (rest left note more all : List ℕ) (bad : BadToken) → most ≡ suc less → ((from : ℕ) × (to : ℕ) × (left ≡ blanked from to rest)) → IsBadToken script_form (text_tokens left) left bad

@@ -4,7 +4,7 @@ use Rattle.command_words.specs.declared.page.Page.{Page}
 use Rattle.command_words.specs.Words.{Command, IsCommand, IsNoCommand, IsSetsCommand, AsksFor, desk, compare, sets_of}
 use Rattle.command_words.proofs.PageWords.{page-no-command}
 use Rattle.fault_notes.specs.Shown.{Begins, name_text}
-use Rattle.fault_notes.specs.Skips.{skips_text}
+use Rattle.skip_notes.specs.Skips.{skips_text}
 use Rattle.fault_notes.specs.Told.{MayTell, nothing, note}
 use Rattle.ruleset_sets.specs.declared.skipped.Skipped.{Skipped}
 use Rattle.input_files.specs.Works.{AreSetsOf}

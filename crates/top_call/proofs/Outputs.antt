@@ -61,7 +61,7 @@ is-output told c (works.Judge s chains packets n g) refused text w h = subst (λ
 is-output told c (works.Desk s g) refused text w h = subst (λ (x : Command). IsOutput x told refused text) (sym w.1) (λ script_text at. record { script = s; script_is = (w.2 script_text at).1; few = h.1; is_desk = h.0 })
 is-output told c (works.Get s key moment g) refused text w h = subst (λ (x : Command). IsOutput x told refused text) (sym w.1) (λ script_text at. record { script = s; script_is = (w.2 script_text at).1; gives = h })
 is-output told c (works.Compare a s b t g) refused text w h = subst (λ (x : Command). IsOutput x told refused text) (sym w.0) (λ first_text second_text at at_second. record { script = s; other = t; script_is = (w.1 first_text at).1; other_is = (w.2 second_text at_second).1; gives = h })
-is-output told c (works.Sets f whole sieved) refused text w h = subst (λ (x : Command). IsOutput x told refused text) (sym w.0) (λ bytes at. sets-in bytes sieved.text.items text sieved.skips refused (w.1 bytes at).2 h.0 h.1)
+is-output told c (works.Sets f whole sieved) refused text w h = subst (λ (x : Command). IsOutput x told refused text) (sym w.0) (λ bytes at. sets-in bytes sieved.text.items text sieved.skips refused (w.1 bytes at).1.1 h.0 h.1)
 is-output told c (works.Drill seed count n) refused text w h = subst (λ (x : Command). IsOutput x told refused text) (sym w) (h.1, h.0)
 
 -- The refused changes that a work's output has as data are the command's.

@@ -2,9 +2,9 @@
 use Rattle.std.specs.Prelude.{◌≡◌, ◌⊎◌, ℕ, true, List, codes, Bool, Option, Some}
 use Rattle.command_words.specs.Words.{Command, IsCommand, IsNoCommand, IsSetsCommand}
 use Rattle.fault_notes.specs.Shown.{Begins, name_text}
-use Rattle.fault_notes.specs.Skips.{skips_text}
 use Rattle.fault_notes.specs.Told.{MayTell}
 use Rattle.ruleset_sets.specs.Kept.{notes}
+use Rattle.skip_notes.specs.Skips.{skips_text}
 use Rattle.input_files.specs.declared.fault.FileFault.{FileFault}
 use Rattle.input_files.specs.Noted.{IsNoteOn}
 use Rattle.input_files.specs.Reads.{Shelved, StopsAt}

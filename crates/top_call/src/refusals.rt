@@ -103,7 +103,8 @@ pub fn tell_refusals<N: Notes>(
         Command::Compare { first: name, .. } => {
             tell_changes(alloc, notes, name, script_text, output)
         }
-        Command::Drill { .. } | Command::Sets { .. } => Ok(false),
+        Command::Sets { file: name } => tell_changes(alloc, notes, name, script_text, output),
+        Command::Drill { .. } => Ok(false),
     }
 }
 

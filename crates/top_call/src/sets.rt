@@ -1,24 +1,27 @@
 //! Writes the sets of a ruleset, and the note on what isn't kept of it.
 ghost use Rattle.std.specs.Prelude.{◌≡◌};
 ghost use Rattle.std.specs.List.{list_any};
-ghost use Rattle.fault_notes.specs.Skips.{skips_text};
+ghost use Rattle.skip_notes.specs.Skips.{skips_text};
 ghost use Rattle.fault_notes.specs.Told.{MayTell};
 ghost use Rattle.ruleset_sets.specs.RulesetText.{leaves_out};
 ghost use Rattle.top_call.specs.Answers.{Ends, IsExactly};
 ghost use Rattle.top_call.specs.Lines.{done_status as status_of_done};
 
 use crate::delivery::{deliver, done_status};
-use fault_notes::{skips_note, tell_note};
 use pip_base::{Notes, Sink};
 use ruleset_sets::{Sieved, Skipped, leaves_sets_out};
+use skip_notes::skips_note;
 use std::alloc::Global;
 
 /// Writes the note on what isn't kept of a ruleset with this text, if there is something.
 fn tell_skips<N: Notes>(alloc: Global, notes: &mut N, file: &str, whole: &[u8], skips: &[Skipped])
     ensures { MayTell (λ note. note ≡ skips_text file.now whole.now skips.now) (N.told notes.old) (N.told notes.new) }
 {
-    if !skips.is_empty() {
-        tell_note(notes, skips_note(alloc, file, whole, skips));
+    if skips.is_empty() {
+        return;
+    }
+    if let Ok(note) = skips_note(alloc, file, whole, skips) {
+        notes.tell(note.as_slice());
     }
 }
 

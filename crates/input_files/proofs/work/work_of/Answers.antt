@@ -1,8 +1,8 @@
 use Rattle.std.proofs.Common.{refl, ap, ◌∙◌, [], ◌∷◌}
 use Rattle.command_words.specs.WordForms.{plain}
 use Rattle.command_words.specs.declared.words.Command.TheVariants as asked
-use Rattle.input_files.specs.Inputs.{script, second, keys, rules, plan, capture, inputs}
-use Rattle.input_files.proofs.Reading.{up-to-none, up-to-more, as-script, as-other, as-keys, as-rules, as-plan, as-capture, stops, has-read, script-first}
+use Rattle.input_files.specs.Inputs.{script, second, rules_of_nft, keys, rules, plan, capture, inputs}
+use Rattle.input_files.proofs.Reading.{up-to-none, up-to-more, as-script, as-other, as-ruleset, as-keys, as-rules, as-plan, as-capture, stops, has-read, script-first}
 use Rattle.input_files.proofs.work.work_of.Goals as goal
 
 pub returns-in-Err-clause-stops : goal.returns-in-Err-clause-stops
@@ -104,8 +104,18 @@ returns-in-Ok-second_script_of-clause-all g c =
     (as-script (g.F.Shelf.told c.args.shelf.now) c.in-Compare.first.now c.in-Ok-script_of.script c.in-Ok-script_of.ensures.read) c.in-Ok-script_of.ensures.quiet c.in-Ok-script_of.ensures.whole c.in-Ok-script_of.ensures.kept c.in-Ok-script_of.ensures.told)
     (as-other (g.F.Shelf.told c.script_of-in-Compare.new.shelf) c.in-Compare.second.now c.in-Ok-script_of.script.schema c.in-Ok-second_script_of.second_script c.in-Ok-second_script_of.ensures.read) c.in-Ok-second_script_of.ensures.quiet c.in-Ok-second_script_of.ensures.whole c.in-Ok-second_script_of.ensures.kept c.in-Ok-second_script_of.ensures.told)
 
+pub returns-in-Ok-sets_of-clause-all : goal.returns-in-Ok-sets_of-clause-all
+returns-in-Ok-sets_of-clause-all g c =
+    has-read (plain c.args.command) (ap (λ x. inputs (plain x)) c.in-Sets.is)
+    (up-to-more (record { name = c.in-Sets.file.now; form = rules_of_nft }) (up-to-none (g.F.Shelf.told c.args.shelf.now) (g.F.Shelf.asked c.args.shelf.now) (g.F.Shelf.faults c.args.shelf.now) (g.F.Shelf.is_picked c.args.shelf.now) (g.F.Shelf.left c.args.shelf.now) [] c.requires.nothing)
+    (as-ruleset (g.F.Shelf.told c.args.shelf.now) c.in-Sets.file.now [] c.in-Ok-sets_of.whole.items c.in-Ok-sets_of.sieved.text.items c.in-Ok-sets_of.sieved.skips c.in-Ok-sets_of.ensures.read) c.in-Ok-sets_of.ensures.quiet c.in-Ok-sets_of.ensures.whole c.in-Ok-sets_of.ensures.kept c.in-Ok-sets_of.ensures.told)
+
 pub returns-clause-stops : goal.returns-clause-stops
 returns-clause-stops g c =
+    stops (plain c.args.command) (record { name = c.in-Sets.file.now; form = rules_of_nft }) [] c.in-Err-sets_of.fault (ap (λ x. inputs (plain x)) c.in-Sets.is) (up-to-none (g.F.Shelf.told c.args.shelf.now) (g.F.Shelf.asked c.args.shelf.now) (g.F.Shelf.faults c.args.shelf.now) (g.F.Shelf.is_picked c.args.shelf.now) (g.F.Shelf.left c.args.shelf.now) [] c.requires.nothing) c.in-Err-sets_of.ensures.kept (c.in-Err-sets_of.ensures.cause []) refl (c.in-Err-sets_of.ensures.noted [])
+
+pub returns-in-Compare-clause-stops : goal.returns-in-Compare-clause-stops
+returns-in-Compare-clause-stops g c =
     stops (plain c.args.command) (record { name = c.in-Compare.second.now; form = second }) [] c.in-Err-second_script_of.fault (ap (λ x. inputs (plain x)) c.in-Compare.is)
     (up-to-more (record { name = c.in-Compare.first.now; form = script }) (up-to-none (g.F.Shelf.told c.args.shelf.now) (g.F.Shelf.asked c.args.shelf.now) (g.F.Shelf.faults c.args.shelf.now) (g.F.Shelf.is_picked c.args.shelf.now) (g.F.Shelf.left c.args.shelf.now) c.in-Ok-script_of.script.schema c.requires.nothing)
     (as-script (g.F.Shelf.told c.args.shelf.now) c.in-Compare.first.now c.in-Ok-script_of.script c.in-Ok-script_of.ensures.read) c.in-Ok-script_of.ensures.quiet c.in-Ok-script_of.ensures.whole c.in-Ok-script_of.ensures.kept c.in-Ok-script_of.ensures.told) c.in-Err-second_script_of.ensures.kept (c.in-Err-second_script_of.ensures.cause c.in-Ok-script_of.script.schema) c.in-Ok-script_of.ensures.silent (c.in-Err-second_script_of.ensures.noted c.in-Ok-script_of.script.schema)

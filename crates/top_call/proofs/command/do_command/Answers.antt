@@ -1,9 +1,12 @@
-use Rattle.std.proofs.Common.{ap, Err}
+use Rattle.std.proofs.Common.{ap, Err, refl}
+use Rattle.std.specs.List.{list_any}
+use Rattle.input_files.specs.declared.work.Work.TheVariants as works
+use Rattle.ruleset_sets.specs.RulesetText.{leaves_out}
 use Rattle.command_words.specs.WordForms.{plain}
 use Rattle.fault_notes.specs.Shown.{Begins, name_text}
-use Rattle.top_call.proofs.Noting.{changes-may, told-may}
+use Rattle.top_call.proofs.Noting.{changes-may, skips-of, told-may}
 use Rattle.top_call.proofs.Outputs.{are-refused, is-output}
-use Rattle.top_call.proofs.Goings.{goes-output, goes-file, goes-too-many, goes-unanswered, many-sections, no-key}
+use Rattle.top_call.proofs.Goings.{goes-output, goes-sets, goes-file, goes-too-many, goes-unanswered, many-sections, no-key}
 use Rattle.top_call.proofs.command.do_command.Goals as goal
 
 pub returns-in-Ok-output_of : goal.returns-in-Ok-output_of
@@ -29,3 +32,16 @@ returns-in-Ok g c words is_command =
 
 pub returns : goal.returns
 returns g c words is_command = goes-file _ (plain c.args.command) c.in-Err.fault is_command c.in-Err.ensures.stops c.tell-in-Err.ensures
+
+pub returns-in-Ok-Sets : goal.returns-in-Ok-Sets
+returns-in-Ok-Sets g c words is_command =
+    let file = c.in-Ok-Sets.file in
+    let whole = c.in-Ok-Sets.whole in
+    let sieved = c.in-Ok-Sets.sieved in
+    let told = g.F.Shelf.told c.args.shelf.now in
+    let left_out = list_any (λ s. leaves_out s.why) sieved.skips in
+    let is_work = rw c.in-Ok-Sets.field-0-is at c.in-Ok-Sets.ensures.work in
+    goes-sets _ (plain c.args.command) file.now is_work.0 is_command c.in-Ok-Sets.ensures.all left_out sieved.text.items
+    (is-output told (plain c.args.command) (works.Sets file whole sieved) left_out sieved.text.items is_work (refl, refl))
+    c.deliver_sets.ensures.ends _ c.in-Ok-Sets.ensures.silent
+    (skips-of told file.now whole.items c.as_slice.result.now sieved.text.items sieved.skips _ _ c.as_slice.ensures.value is_work.1 c.deliver_sets.ensures.tells)

@@ -11,3 +11,6 @@ returns-in-Rules g c = rw c.in-Rules.is (search c.deliver_placed-in-Rules.ensure
 
 pub returns-in-SecondScript : goal.returns-in-SecondScript
 returns-in-SecondScript g c = rw c.in-SecondScript.is (search c.deliver_placed-in-SecondScript.ensures)
+
+pub returns-in-Ruleset : goal.returns-in-Ruleset
+returns-in-Ruleset g c = rw c.in-Ruleset.is (search c.deliver_placed-in-Ruleset.ensures)

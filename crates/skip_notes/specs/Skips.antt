@@ -1,13 +1,11 @@
 -- The note on what isn't kept of a ruleset.
-use Rattle.std.specs.Prelude.{ℕ, List, [], ◌++◌, Option, Some, None, codes, take, drop}
-use Rattle.std.specs.List.{flat_map}
+use Rattle.std.specs.Prelude.{ℕ, List, [], ◌∷◌, ◌++◌, Option, Some, None, codes, decimal, take, drop, flat_map}
 use Rattle.token_forms.specs.BadTokens.{column_at}
 use Rattle.ruleset_sets.specs.declared.role_token.RoleToken.{RoleToken}
 use Rattle.ruleset_sets.specs.declared.sieve.SkipReason.{SkipReason}
 use Rattle.ruleset_sets.specs.declared.sieve.SkipReason.TheVariants as reasons
 use Rattle.ruleset_sets.specs.declared.skipped.Skipped.{Skipped}
-use Rattle.fault_notes.specs.Shown.{shown, place_text}
-use Rattle.fault_notes.specs.Refusals.{line_feed}
+use Rattle.fault_notes.specs.Shown.{shown}
 
 -- what becomes of a thing that isn't kept, and why
 abbrev pub reason_words : SkipReason → List ℕ
@@ -25,15 +23,21 @@ abbrev pub token_bytes : List ℕ → RoleToken → List ℕ
 token_bytes text p = take p.size (drop p.from text)
 
 -- the name of an item, after a blank
-abbrev pub named_bytes : List ℕ → Option RoleToken → List ℕ
-named_bytes text None = []
-named_bytes text (Some p) = shown (codes " ") ++ shown (token_bytes text p)
+abbrev pub name_bytes : List ℕ → Option RoleToken → List ℕ
+name_bytes text None = []
+name_bytes text (Some p) = codes " " ++ token_bytes text p
 
--- The line on an item or a part: its place, its first token and its name in quotes, and why it isn't kept.
+-- the place of an item or a part: the name of the text, its line and its column
+abbrev pub place_bytes : List ℕ → List ℕ → RoleToken → List ℕ
+place_bytes name text p = name ++ codes ":" ++ decimal p.line ++ codes ":" ++ decimal (column_at text p.from)
+
+-- What a line says of an item or a part: its place, its first token and its name in quotes, and why it isn't kept.
+abbrev pub said_of : List ℕ → List ℕ → Skipped → List ℕ
+said_of name text s = place_bytes name text s.at ++ codes ": '" ++ token_bytes text s.at ++ name_bytes text s.name ++ codes "' " ++ reason_words s.why
+
+-- the line, with its bytes as they are shown
 abbrev pub skip_line : List ℕ → List ℕ → Skipped → List ℕ
-skip_line name text s =
-    place_text name s.at.line (column_at text s.at.from)
-    ++ (shown (codes "'") ++ (shown (token_bytes text s.at) ++ (named_bytes text s.name ++ (shown (codes "' ") ++ (shown (reason_words s.why) ++ line_feed)))))
+skip_line name text s = shown (said_of name text s) ++ 10 ∷ []
 
 -- the note: a line for each, in their order
 abbrev pub skips_text : List ℕ → List ℕ → List Skipped → List ℕ

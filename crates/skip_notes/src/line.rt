@@ -1,0 +1,106 @@
+//! What a line of the note says.
+ghost use Rattle.std.specs.Prelude.{◌≡◌, ◌≤◌, ◌++◌, OnOk, length, take, reverse, not};
+ghost use Rattle.std.specs.List.{prefix_len};
+ghost use Rattle.token_forms.specs.Bytes.{is_line_feed};
+ghost use Rattle.token_forms.specs.BadTokens.{column_at};
+ghost use Rattle.skip_notes.specs.Skips.{reason_words as words_on, token_bytes, name_bytes, place_bytes, said_of};
+
+use ruleset_sets::{RoleToken, SkipReason, Skipped};
+use set_model::Memory;
+use text_pieces::Piece::{Number, Word};
+use text_pieces::{append, append_pieces};
+
+/// What becomes of a thing that isn't kept, and why.
+fn reason_words(why: SkipReason) -> &'static [u8]
+    ensures { result.now ≡ words_on why }
+{
+    match why {
+        SkipReason::NoSet => b"is skipped: it isn't a set",
+        SkipReason::UnknownType => b"is left out: it has a type that isn't known here",
+        SkipReason::Typeof => b"is left out: 'typeof' isn't read here",
+        SkipReason::AutoMerge => b"is left out: 'auto-merge' isn't read here",
+        SkipReason::CatchAll => b"is left out: it has the catch-all element '*'",
+        SkipReason::Stateful => {
+            b"is left out: it has a quota, a limit or a count of connections"
+        }
+        SkipReason::Unclosed => b"is skipped: its braces don't close",
+        SkipReason::DroppedPart => b"is dropped: no verdict depends on it",
+    }
+}
+
+/// The bytes of a text before a place.
+fn bytes_before(text: &[u8], at: u64) -> &[u8]
+    ensures { result.now ≡ take at text.now }
+{
+    let length = text.len().min(at as usize);
+    &text[..length]
+}
+
+/// The bytes of a token.
+fn bytes_of<'a>(text: &'a [u8], token: &RoleToken) -> &'a [u8]
+    ensures { result.now ≡ token_bytes text.now token.now }
+{
+    match text.get(token.from as usize..) {
+        Some(rest) => bytes_before(rest, token.size),
+        None => b"",
+    }
+}
+
+/// How many bytes follow the last line feed, or all if there is none.
+fn last_line(text: &[u8]) -> usize
+    ensures run { result ≡ prefix_len (λ b. not (is_line_feed b)) (reverse text.now) }
+    ensures within { result ≤ length text.now }
+{
+    text.iter().rev().take_while(|b| **b != b'\n').count()
+}
+
+/// The column of a place.
+fn column(text: &[u8], at: u64) -> u64
+    ensures { result ≡ column_at text.now at }
+{
+    1 + last_line(bytes_before(text, at)) as u64
+}
+
+/// Appends the place of an item or a part.
+fn append_place(name: &[u8], text: &[u8], at: &RoleToken, out: &mut Vec<u8>) -> Result<(), Memory>
+    ensures { OnOk result (out.new.items ≡ out.old.items ++ place_bytes name.now text.now at.now) }
+{
+    append_pieces(
+        &[
+            Word(name),
+            Word(b":"),
+            Number(at.line),
+            Word(b":"),
+            Number(column(text, at.from)),
+        ],
+        out,
+    )
+}
+
+/// Appends the name of an item, if it has one.
+fn append_name(text: &[u8], name: Option<RoleToken>, out: &mut Vec<u8>) -> Result<(), Memory>
+    ensures { OnOk result (out.new.items ≡ out.old.items ++ name_bytes text.now name) }
+{
+    match name {
+        Some(token) => append_pieces(&[Word(b" "), Word(bytes_of(text, &token))], out),
+        None => Ok(()),
+    }
+}
+
+/// Appends what a line says of an item or a part.
+#[tactic(auto, using(std::proofs::Common::append_assoc))]
+pub fn append_said(
+    name: &[u8],
+    text: &[u8],
+    skip: &Skipped,
+    out: &mut Vec<u8>,
+) -> Result<(), Memory>
+    ensures { OnOk result (out.new.items ≡ out.old.items ++ said_of name.now text.now skip.now) }
+{
+    append_place(name, text, &skip.at, out)?;
+    append(b": '", out)?;
+    append(bytes_of(text, &skip.at), out)?;
+    append_name(text, skip.name, out)?;
+    append(b"' ", out)?;
+    append(reason_words(skip.why), out)
+}
