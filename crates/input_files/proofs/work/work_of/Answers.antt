@@ -108,7 +108,7 @@ pub returns-in-Ok-sets_of-clause-all : goal.returns-in-Ok-sets_of-clause-all
 returns-in-Ok-sets_of-clause-all g c =
     has-read (plain c.args.command) (ap (λ x. inputs (plain x)) c.in-Sets.is)
     (up-to-more (record { name = c.in-Sets.file.now; form = rules_of_nft }) (up-to-none (g.F.Shelf.told c.args.shelf.now) (g.F.Shelf.asked c.args.shelf.now) (g.F.Shelf.faults c.args.shelf.now) (g.F.Shelf.is_picked c.args.shelf.now) (g.F.Shelf.left c.args.shelf.now) [] c.requires.nothing)
-    (as-ruleset (g.F.Shelf.told c.args.shelf.now) c.in-Sets.file.now [] c.in-Ok-sets_of.whole.items c.in-Ok-sets_of.sieved.text.items c.in-Ok-sets_of.sieved.skips c.in-Ok-sets_of.ensures.read) c.in-Ok-sets_of.ensures.quiet c.in-Ok-sets_of.ensures.whole c.in-Ok-sets_of.ensures.kept c.in-Ok-sets_of.ensures.told)
+    (as-ruleset (g.F.Shelf.told c.args.shelf.now) c.in-Sets.file.now [] c.in-Ok-sets_of.field-0.whole.items c.in-Ok-sets_of.field-0.sieved.text.items c.in-Ok-sets_of.field-0.sieved.skips c.in-Ok-sets_of.ensures.read) c.in-Ok-sets_of.ensures.quiet c.in-Ok-sets_of.ensures.whole c.in-Ok-sets_of.ensures.kept c.in-Ok-sets_of.ensures.told)
 
 pub returns-clause-stops : goal.returns-clause-stops
 returns-clause-stops g c =
