@@ -40,15 +40,15 @@ aged-few now i e ages new is few = subst (λ (a : Ages). a.expiring ≤ i + 1) (
   go true h = rw h (omega (arith, few))
   go false h = rw h (omega (arith, few))
 
-range-next : (a n : ℕ) → range_with_len a (n + 1) ≡ range_with_len a n ++ (a + n) ∷ []
-range-next a zero = refl
-range-next a (suc n) = ap (λ (ns : List ℕ). a ∷ ns) (range-next (a + 1) n ∙ (let e : a + 1 + n ≡ a + suc n = omega arith in ap (λ m. range_with_len (a + 1) n ++ m ∷ []) e))
+range-next : (a n k : ℕ) → k ≡ a + n → range_with_len a (n + 1) ≡ range_with_len a n ++ k ∷ []
+range-next a zero k e = let same : a ≡ k = omega (arith, e) in ap (λ (m : ℕ). m ∷ []) same
+range-next a (suc n) k e = let next : k ≡ a + 1 + n = omega (arith, e) in ap (λ (ns : List ℕ). a ∷ ns) (range-next (a + 1) n k next)
 
 -- One field more.
 pub lines-next : (kinds : List Kind) (es : List Element) (n : ℕ) → field_lines kinds es (n + 1) ≡ field_lines kinds es n ++ field_line n (field_figures kinds es n)
 lines-next kinds es n =
     let g : ℕ → List ℕ = λ f. field_line f (field_figures kinds es f) in
-    ap (flat_map g) (range-next 0 n) ∙ flat_map-append g (range_with_len 0 n) (n ∷ []) ∙ ap (λ t. flat_map g (range_with_len 0 n) ++ t) (append-nil (g n))
+    ap (flat_map g) (range-next 0 n n (omega arith)) ∙ flat_map-append g (range_with_len 0 n) (n ∷ []) ∙ ap (λ t. flat_map g (range_with_len 0 n) ++ t) (append-nil (g n))
 
 -- Two texts, and three, one after another.
 pub two-parts : (old mid new a b : List ℕ) → mid ≡ old ++ a → new ≡ mid ++ b → new ≡ old ++ (a ++ b)

@@ -4,6 +4,6 @@ use Rattle.stat_answer.proofs.ages.ages_at.Goals as goal
 
 pub elements-preserved : goal.elements-preserved
 elements-preserved c = record {
-  ages = c.with_element.ensures ∙ aged-next c.args.now c.args.elements.now c.elements.i c.at.result.now c.elements.ages (search rules) c.elements.invariant.ages;
-  few = aged-few c.args.now c.elements.i c.at.result.now c.elements.ages c.with_element.result c.with_element.ensures c.elements.invariant.few;
+  ages = c.with_element-ages.ensures ∙ aged-next c.args.now c.args.elements.now c.elements.i c.at.result.now c.elements.ages (search rules) c.elements.invariant.ages;
+  few = aged-few c.args.now c.elements.i c.at.result.now c.elements.ages c.with_element-ages.result c.with_element-ages.ensures c.elements.invariant.few;
 }

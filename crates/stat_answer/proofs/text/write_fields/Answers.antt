@@ -17,8 +17,8 @@ fields-preserved c =
           ∙ append_assoc old (field_lines kinds es f) (field_line f c.figures_at-figures.result)
           ∙ ap (λ t. old ++ t) (ap (λ (x : FieldFigures). field_lines kinds es f ++ field_line f x) c.figures_at-figures.ensures ∙ sym (lines-next kinds es f));
       bytes =
-          ap (λ n. n + c.from.result) c.fields.invariant.bytes
-          ∙ ap (λ n. _ + n) (c.from.ensures ∙ ap (λ (x : FieldFigures). x.bytes) c.figures_at-figures.ensures)
+          ap (λ n. n + c.from-bytes.result) c.fields.invariant.bytes
+          ∙ ap (λ n. _ + n) (c.from-bytes.ensures ∙ ap (λ (x : FieldFigures). x.bytes) c.figures_at-figures.ensures)
           ∙ sym (sum_by-map-range_with_len_more (λ (x : FieldFigures). x.bytes) (field_figures kinds es) 0 f f refl);
-      small = omega (arith, c.from.ensures, c.from.type_inv, c.fields.invariant.small);
+      small = omega (arith, c.from-bytes.ensures, c.from-bytes.type_inv, c.fields.invariant.small);
     }

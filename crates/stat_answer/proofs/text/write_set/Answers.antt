@@ -13,7 +13,7 @@ returns c =
     let es = c.args.image.now.elements in
     on_ok_weaker c.append_pieces.result
     (λ last. three-parts c.args.out.now.items c.write_set_line.new.out.items c.write_fields.new.out.items _ (set_line c.args.now d es) (field_lines kinds es (length kinds)) (total_line (all_bytes kinds es))
-    (c.in_ok-write_set_line.ensures ∙ ap (λ (z : List Element). c.args.out.now.items ++ set_line c.args.now d z) c.elements.ensures)
+    (c.in_ok-write_set_line.ensures ∙ ap (λ (z : List Element). c.args.out.now.items ++ set_line c.args.now d z) c.elements.ensures.same)
     c.in_ok-bytes.ensures.text
     (last ∙ ap (λ n. c.write_fields.new.out.items ++ total_line n) c.in_ok-bytes.ensures.bytes))
     c.append_pieces.ensures.ok
