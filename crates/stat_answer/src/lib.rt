@@ -19,7 +19,7 @@
 
 mod ages;
 mod figures;
-mod stat;
+mod report;
 mod text;
 
-pub use stat::stat;
+pub use report::stat;

@@ -1,6 +1,6 @@
 use Rattle.std.proofs.Common.{refl, sym, ◌∙◌, ap}
 use Rattle.script_laws.specs.Reports.{has_failed, refusals_in}
-use Rattle.stat_answer.proofs.stat.stat.Goals as goal
+use Rattle.stat_answer.proofs.report.stat.Goals as goal
 
 pub returns-clause-report : goal.returns-clause-report
 returns-clause-report g c = record { refusals_are = c.in_ok-output.ensures.refusals ∙ ap (refusals_in 0) (sym c.in_ok-whole.ensures.ends.told); script_is = refl }
