@@ -10,10 +10,10 @@ use Rattle.std.proofs.lemmas.List.Sums.{sum_by-cons}
 use Rattle.std.proofs.lemmas.Slice.Eq.{bytes_eq-Decides}
 use Rattle.std.proofs.lemmas.Str.Parse.{digit_at}
 use Rattle.command_words.specs.declared.shape.Verb.{Verb}
-use Rattle.command_words.specs.declared.shape.Verb.TheVariants.{Run, List as Lists, Dump, Drill, Judge, Capture, Desk, Get, Compare}
+use Rattle.command_words.specs.declared.shape.Verb.TheVariants.{Run, List as Lists, Dump, Drill, Judge, Capture, Desk, Get, Compare, Stat}
 use Rattle.command_words.specs.declared.shape.Shape.{Shape}
 use Rattle.command_words.specs.GetWords.{Asked, asked, is_file_name, keep_going_word}
-use Rattle.command_words.specs.Words.{stdin_name, is_stdin, verb_word, IsNumber, AreThreads, AreWords, ArePacketWords, Command, run, list, dump, drill, judge, capture, desk, get, IsCommand, AreArguments, no_words, name_and, threads_and, threads_with, mark_and, threads_word, threads_front, last_seed, most_drill_elements, AreFileWords, compare}
+use Rattle.command_words.specs.Words.{stdin_name, is_stdin, verb_word, IsNumber, AreThreads, AreWords, ArePacketWords, Command, run, list, dump, drill, judge, capture, desk, get, stat, IsCommand, AreArguments, no_words, name_and, threads_and, threads_with, mark_and, threads_word, threads_front, last_seed, most_drill_elements, AreFileWords, compare}
 use Rattle.command_words.specs.Fronts.{after_front}
 use Rattle.command_words.specs.Numbers.{number_within}
 use Rattle.command_words.specs.WordForms.{verb_of, name_count, is_whole_shape, empty_shape, stdin_once, fits, accepts, HasVerb, takes_name, takes_threads, takes_mark, with_threads, with_joined, with_argument, with_word, shape_after}
@@ -154,6 +154,7 @@ name-of-command : (verb : Verb) (place : ℕ) (word : List ℕ) → takes_name v
 name-of-command Run place word e = (both _ _ e).1
 name-of-command Lists place word e = (both _ _ e).1
 name-of-command Dump place word e = (both _ _ e).1
+name-of-command Stat place word e = (both _ _ e).1
 name-of-command Judge place word e = (both _ _ e).1
 name-of-command Capture place word e = (both _ _ e).1
 name-of-command Desk place word e = (both _ _ e).1
@@ -354,7 +355,7 @@ one-once a = go (is_stdin a) refl where
 numbers-once : (low high k m : ℕ) (a b : List ℕ) (x y : ℕ) → high < 2 ^ 64 → m < 2 ^ 64 → IsNumber low high a x → IsNumber k m b y → stdin_once (a ∷ b ∷ []) ≡ true
 numbers-once low high k m a b x y small little h j = rw (number-no-stdin low high a x small h, number-no-stdin k m b y little j) refl
 
--- A list, a dump and a desk have no packet threads, and a drill no mark.
+-- A list, a dump, a stat and a desk have no packet threads, and a drill no mark.
 no-threads : (verb : Verb) (threads : Option (List ℕ)) → takes_threads verb ≡ false → ThreadsFit verb false threads → threads ≡ None
 no-threads verb None e h = refl
 no-threads verb (Some word) e h = absurd (true≢false (sym h.0 ∙ e))
@@ -383,6 +384,7 @@ module _ (rest : List (List ℕ)) (threads : Option (List ℕ)) (keep_going : Bo
   by-verb Run (script ∷ keys ∷ []) a ns ts gs count once = let k = packet-words Run (script ∷ keys ∷ []) a ts once in (run script keys k.0 keep_going, k.1, refl)
   by-verb Lists (script ∷ []) a ns ts gs count once = (list script keep_going, lone-words Lists (script ∷ []) refl a ts, refl)
   by-verb Dump (script ∷ []) a ns ts gs count once = (dump script keep_going, lone-words Dump (script ∷ []) refl a ts, refl)
+  by-verb Stat (script ∷ []) a ns ts gs count once = (stat script keep_going, lone-words Stat (script ∷ []) refl a ts, refl)
   by-verb Desk (script ∷ []) a ns ts gs count once = (desk script keep_going, lone-words Desk (script ∷ []) refl a ts, refl)
   by-verb Drill (seed ∷ count ∷ []) a ns ts gs _ once =
       let s = number-of 0 last_seed seed ns.0 in
@@ -414,6 +416,7 @@ pub accepts-shape : (verb : Verb) → (verb ≡ Get → ⊥) → (rest : List (L
 accepts-shape Run other rest = refl
 accepts-shape Lists other rest = refl
 accepts-shape Dump other rest = refl
+accepts-shape Stat other rest = refl
 accepts-shape Drill other rest = refl
 accepts-shape Judge other rest = refl
 accepts-shape Capture other rest = refl
@@ -433,6 +436,7 @@ pub command-of-shape : (verb : Verb) (rest : List (List ℕ)) → accepts verb r
 command-of-shape Run rest h = shape-command Run rest h
 command-of-shape Lists rest h = shape-command Lists rest h
 command-of-shape Dump rest h = shape-command Dump rest h
+command-of-shape Stat rest h = shape-command Stat rest h
 command-of-shape Drill rest h = shape-command Drill rest h
 command-of-shape Judge rest h = shape-command Judge rest h
 command-of-shape Capture rest h = shape-command Capture rest h
@@ -489,6 +493,7 @@ pub shape-of-command : (word : List ℕ) (ws : List (List ℕ)) (c : Command) �
 shape-of-command word ws (run script keys n keep_going) h = packet-shape word ws (script ∷ keys ∷ []) n keep_going Run refl refl (λ all. all) refl h
 shape-of-command word ws (list script keep_going) h = lone-shape word ws script keep_going Lists refl (λ all. all) refl h
 shape-of-command word ws (dump script keep_going) h = lone-shape word ws script keep_going Dump refl (λ all. all) refl h
+shape-of-command word ws (stat script keep_going) h = lone-shape word ws script keep_going Stat refl (λ all. all) refl h
 shape-of-command word ws (drill seed count n) h = shaped word ws _ h.0 false Drill h.3 (writes 0 last_seed h.1 seed (omega arith) h.4, (writes 1 most_drill_elements h.2 count (omega arith) h.5, tt)) (threads-fit Drill h.0 n refl h.6) (λ e. absurd (true≢false (sym e))) refl (threads-no-stdin h.0 n h.6) (numbers-once 0 last_seed 1 most_drill_elements h.1 h.2 seed count (omega arith) (omega arith) h.4 h.5)
 shape-of-command word ws (judge script rules keys n keep_going) h = packet-shape word ws (script ∷ rules ∷ keys ∷ []) n keep_going Judge refl refl (λ all. all) refl h
 shape-of-command word ws (capture script plan packets n keep_going) h = packet-shape word ws (script ∷ plan ∷ packets ∷ []) n keep_going Capture refl refl (λ all. all) refl h
@@ -567,13 +572,14 @@ same-threads (Some v) (Some w) m n e h k = same-number 1 16 v w m n (omega arith
 -- the verb of a word
 verb_named : List ℕ → Verb
 verb_named word = cond (bytes_eq word (codes "run")) Run (cond (bytes_eq word (codes "list")) Lists (cond (bytes_eq word (codes "dump")) Dump (cond (bytes_eq word (codes "drill")) Drill
-    (cond (bytes_eq word (codes "judge")) Judge (cond (bytes_eq word (codes "capture")) Capture (cond (bytes_eq word (codes "desk")) Desk (cond (bytes_eq word (codes "compare")) Compare Get)))))))
+    (cond (bytes_eq word (codes "judge")) Judge (cond (bytes_eq word (codes "capture")) Capture (cond (bytes_eq word (codes "desk")) Desk (cond (bytes_eq word (codes "compare")) Compare (cond (bytes_eq word (codes "stat")) Stat Get))))))))
 
 named-verb : (verb : Verb) → verb_named (verb_word verb) ≡ verb
 unfolding verb_named
 named-verb Run = refl
 named-verb Lists = refl
 named-verb Dump = refl
+named-verb Stat = refl
 named-verb Drill = refl
 named-verb Judge = refl
 named-verb Capture = refl
@@ -585,6 +591,7 @@ pub first-word : (words : List (List ℕ)) (c : Command) → IsCommand words c �
 first-word words (run script keys n g) h = (h.1.rest, h.1.words_are)
 first-word words (list script g) h = (h.rest, h.words_are)
 first-word words (dump script g) h = (h.rest, h.words_are)
+first-word words (stat script g) h = (h.rest, h.words_are)
 first-word words (drill seed count n) h = (h.3.rest, h.3.words_are)
 first-word words (judge script rules keys n g) h = (h.1.rest, h.1.words_are)
 first-word words (capture script plan packets n g) h = (h.1.rest, h.1.words_are)
@@ -623,6 +630,7 @@ one-command words c d h j = one c d verb h j where
       cc (script, plan, packets, r.1, r.2)
   one (list s g) (list s' g') e h j = let r = same-words words _ _ _ _ _ _ _ _ h j in let script : s ≡ s' = cc r.1 in cc (script, r.3)
   one (dump s g) (dump s' g') e h j = let r = same-words words _ _ _ _ _ _ _ _ h j in let script : s ≡ s' = cc r.1 in cc (script, r.3)
+  one (stat s g) (stat s' g') e h j = let r = same-words words _ _ _ _ _ _ _ _ h j in let script : s ≡ s' = cc r.1 in cc (script, r.3)
   one (desk s g) (desk s' g') e h j = let r = same-words words _ _ _ _ _ _ _ _ h j in let script : s ≡ s' = cc r.1 in cc (script, r.3)
   one (compare s k g) (compare s' k' g') e h j =
       let r = same-words words _ _ _ _ _ _ _ _ h.0 j.0 in

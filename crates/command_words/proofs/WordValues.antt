@@ -4,9 +4,9 @@ use Rattle.std.specs.Prelude.{IfSome, IsSome}
 use Rattle.std.specs.Borrow.{Bor}
 use Rattle.command_words.specs.declared.words.Arguments.{Arguments}
 use Rattle.command_words.specs.declared.shape.Verb.{Verb}
-use Rattle.command_words.specs.declared.shape.Verb.TheVariants.{Run, List as Lists, Dump, Drill, Judge, Capture, Desk, Get, Compare}
+use Rattle.command_words.specs.declared.shape.Verb.TheVariants.{Run, List as Lists, Dump, Drill, Judge, Capture, Desk, Get, Compare, Stat}
 use Rattle.command_words.specs.GetWords.{is_file_name}
-use Rattle.command_words.specs.Words.{NameStdinOnce, Command, run, list, dump, drill, judge, capture, desk, get, compare, IsCommand, AreWords, ArePacketWords, AreFileWords, AreThreads, IsNumber, last_seed, most_drill_elements}
+use Rattle.command_words.specs.Words.{NameStdinOnce, Command, run, list, dump, drill, judge, capture, desk, get, compare, stat, IsCommand, AreWords, ArePacketWords, AreFileWords, AreThreads, IsNumber, last_seed, most_drill_elements}
 use Rattle.command_words.specs.WordForms.{HasVerb, HasShape, HasArguments, ArePlain, verb_of}
 use Rattle.command_words.proofs.CommandWords.{number-is-name}
 
@@ -40,6 +40,7 @@ module _ (words : List (List ℕ)) where
   arguments-of-command (capture script plan file n goes) shape h = some-arguments (codes "capture") (script ∷ plan ∷ file ∷ []) h.0 goes n (omega arith) h.2 h.1
   arguments-of-command (list script goes) shape h = some-arguments (codes "list") (script ∷ []) None goes 1 (omega arith) refl h
   arguments-of-command (dump script goes) shape h = some-arguments (codes "dump") (script ∷ []) None goes 1 (omega arith) refl h
+  arguments-of-command (stat script goes) shape h = some-arguments (codes "stat") (script ∷ []) None goes 1 (omega arith) refl h
   arguments-of-command (desk script goes) shape h = some-arguments (codes "desk") (script ∷ []) None goes 1 (omega arith) refl h
   arguments-of-command (drill seed elements n) shape h = some-arguments (codes "drill") (h.1 ∷ h.2 ∷ []) h.0 false n (omega arith) h.6 h.3
   arguments-of-command (compare first second goes) shape h = some-arguments (codes "compare") (first ∷ second ∷ []) None goes 1 (omega arith) refl h.0
@@ -103,6 +104,7 @@ abbrev Of : List (List ℕ) → Arguments → Verb → Type 0
 Of words a Run = IsPairOf words a (codes "run")
 Of words a Lists = IsAloneOf words a (codes "list")
 Of words a Dump = IsAloneOf words a (codes "dump")
+Of words a Stat = IsAloneOf words a (codes "stat")
 Of words a Drill = IsDrillOf words a
 Of words a Judge = IsTripleOf words a (codes "judge")
 Of words a Capture = IsTripleOf words a (codes "capture")
@@ -146,6 +148,7 @@ module _ (words : List (List ℕ)) (a : Arguments) (given : (word : List ℕ) (n
   of-command (capture script plan file n goes) shape h = (script, plan, file, packets (codes "capture") (script ∷ plan ∷ file ∷ []) n goes (omega arith) h)
   of-command (list script goes) shape h = alone (codes "list") script goes h
   of-command (dump script goes) shape h = alone (codes "dump") script goes h
+  of-command (stat script goes) shape h = alone (codes "stat") script goes h
   of-command (desk script goes) shape h = alone (codes "desk") script goes h
   of-command (drill seed elements n) shape h =
       let k = given (codes "drill") (h.1 ∷ h.2 ∷ []) h.0 false h.3 (record { few = omega arith; no_dash = plain-threads h.0 n h.6 }) in record {
@@ -182,6 +185,7 @@ module _ (words : List (List ℕ)) (a : Arguments) where
   has-first Run of = there a.first of.0 of.2.first
   has-first Lists of = there a.first of.script of.first
   has-first Dump of = there a.first of.script of.first
+  has-first Stat of = there a.first of.script of.first
   has-first Drill of = there a.first of.seed_word of.first
   has-first Judge of = there a.first of.0 of.3.first
   has-first Capture of = there a.first of.0 of.3.first

@@ -16,17 +16,18 @@ use Rattle.command_words.specs.declared.words.Command.{Command as Asked}
 use Rattle.command_words.specs.declared.words.Command.TheVariants as asked
 use Rattle.command_words.specs.declared.page.Page.{Page}
 use Rattle.command_words.specs.declared.page.Page.TheVariants as pages
-use Rattle.command_words.specs.declared.help.TheConstants.{PROGRAM, RUN, LIST, DUMP, DRILL, JUDGE, CAPTURE, DESK, GET, VERSION, COMPARE}
+use Rattle.command_words.specs.declared.help.TheConstants.{PROGRAM, RUN, LIST, DUMP, DRILL, JUDGE, CAPTURE, DESK, GET, VERSION, COMPARE, STAT}
 use Rattle.command_words.specs.Fronts.{after_front}
 use Rattle.command_words.specs.Numbers.{number_within}
 use Rattle.command_words.specs.GetWords.{asked, is_file_name, keep_going_word}
-use Rattle.command_words.specs.Words.{Command, run, list, dump, drill, judge, capture, desk, get, IsCommand, is_stdin, threads_word, threads_front, last_seed, most_drill_elements, compare}
+use Rattle.command_words.specs.Words.{Command, run, list, dump, drill, judge, capture, desk, get, IsCommand, is_stdin, threads_word, threads_front, last_seed, most_drill_elements, compare, stat}
 
 -- How many names a command has. The words of `get` have a reading of their own, and no shape.
 abbrev pub name_count : Verb → ℕ
 name_count verbs.Run = 2
 name_count verbs.List = 1
 name_count verbs.Dump = 1
+name_count verbs.Stat = 1
 name_count verbs.Drill = 2
 name_count verbs.Judge = 3
 name_count verbs.Capture = 3
@@ -39,6 +40,7 @@ abbrev pub takes_threads : Verb → Bool
 takes_threads verbs.Run = true
 takes_threads verbs.List = false
 takes_threads verbs.Dump = false
+takes_threads verbs.Stat = false
 takes_threads verbs.Drill = true
 takes_threads verbs.Judge = true
 takes_threads verbs.Capture = true
@@ -51,6 +53,7 @@ abbrev pub takes_mark : Verb → Bool
 takes_mark verbs.Run = true
 takes_mark verbs.List = true
 takes_mark verbs.Dump = true
+takes_mark verbs.Stat = true
 takes_mark verbs.Drill = false
 takes_mark verbs.Judge = true
 takes_mark verbs.Capture = true
@@ -67,6 +70,7 @@ abbrev pub is_name_of : Verb → ℕ → List ℕ → Bool
 is_name_of verbs.Run place word = is_file_name word
 is_name_of verbs.List place word = is_file_name word
 is_name_of verbs.Dump place word = is_file_name word
+is_name_of verbs.Stat place word = is_file_name word
 is_name_of verbs.Drill place word = is_some (drill_number place word)
 is_name_of verbs.Judge place word = is_file_name word
 is_name_of verbs.Capture place word = is_file_name word
@@ -124,6 +128,7 @@ abbrev pub accepts : Verb → List (List ℕ) → Bool
 accepts verbs.Run rest = fits verbs.Run rest
 accepts verbs.List rest = fits verbs.List rest
 accepts verbs.Dump rest = fits verbs.Dump rest
+accepts verbs.Stat rest = fits verbs.Stat rest
 accepts verbs.Drill rest = fits verbs.Drill rest
 accepts verbs.Judge rest = fits verbs.Judge rest
 accepts verbs.Capture rest = fits verbs.Capture rest
@@ -135,6 +140,7 @@ abbrev pub verb_of : Command → Verb
 verb_of (run script keys threads keep_going) = verbs.Run
 verb_of (list script keep_going) = verbs.List
 verb_of (dump script keep_going) = verbs.Dump
+verb_of (stat script keep_going) = verbs.Stat
 verb_of (drill seed count threads) = verbs.Drill
 verb_of (judge script rules keys threads keep_going) = verbs.Judge
 verb_of (capture script plan packets threads keep_going) = verbs.Capture
@@ -156,6 +162,7 @@ page_text pages.Program = PROGRAM.now
 page_text (pages.Command verbs.Run) = RUN.now
 page_text (pages.Command verbs.List) = LIST.now
 page_text (pages.Command verbs.Dump) = DUMP.now
+page_text (pages.Command verbs.Stat) = STAT.now
 page_text (pages.Command verbs.Drill) = DRILL.now
 page_text (pages.Command verbs.Judge) = JUDGE.now
 page_text (pages.Command verbs.Capture) = CAPTURE.now
@@ -169,6 +176,7 @@ abbrev pub plain_task : List ℕ → Task → Bool → Command
 plain_task script (tasks.Run keys threads) keep_going = run script keys.now threads keep_going
 plain_task script tasks.List keep_going = list script keep_going
 plain_task script tasks.Dump keep_going = dump script keep_going
+plain_task script tasks.Stat keep_going = stat script keep_going
 plain_task script (tasks.Judge rules keys threads) keep_going = judge script rules.now keys.now threads keep_going
 plain_task script (tasks.Capture plan packets threads) keep_going = capture script plan.now packets.now threads keep_going
 plain_task script tasks.Desk keep_going = desk script keep_going

@@ -16,13 +16,15 @@ usage: pipapo run SCRIPT KEYS [--threads N] [--keep-going]
        pipapo desk SCRIPT [--keep-going]
        pipapo get [--at MOMENT] [--keep-going] SCRIPT KEY ..
        pipapo compare SCRIPT1 SCRIPT2 [--keep-going]
+       pipapo stat SCRIPT [--keep-going]
        pipapo help [COMMAND], pipapo [COMMAND] --help, pipapo [COMMAND] -h
        pipapo --version, pipapo -V
 
 commands:
-  to ask about keys:
+  to ask about sets:
     get      runs SCRIPT, and prints the element that holds a key, with the line that added it
     compare  runs two scripts, and prints for each set whether they decide alike on every key
+    stat     runs SCRIPT, and prints how large its sets and their tables are
   to run a script:
     run      runs SCRIPT beside the packets of KEYS, and writes the transcript
     judge    as run, but each packet is judged by the chains of RULES
@@ -224,4 +226,36 @@ options, before or behind the names:
 statuses: 0 all sets are the same and no change was refused, 1 sets differ or a change was refused,
 3 a script isn't in its grammar, 5 a script can't be read, 6 the standard output failed, 7 want of
 memory, 8 a script is too large
+";
+
+/// The page of `stat`.
+pub const STAT: &str = "\
+usage: pipapo stat SCRIPT [--keep-going]
+
+Runs SCRIPT, and writes what became of its transactions as comments, and then the figures of the
+last generation. Each set has a line with its elements at the script's last moment: how many there
+are, how many of them are expired and will leave with a commit, how many expire later, and the time
+until the next of these does. Each field has a line with the bits of a group of its table, its rules
+and the bytes of its buckets. The bytes of all fields of the set come last. SCRIPT may be -, the
+standard input.
+
+An example, to be pasted into a shell:
+
+  echo 'add set ip t s { type ipv4_addr . inet_service; flags interval; }
+  add element ip t s { 10.0.0.5 . 1024, 192.168.1.0-192.168.2.1 . 2048 }' > s.nft
+  pipapo stat s.nft
+
+It prints:
+
+  # commit generation 1 purged 0
+  set ip t s elements 2 expired 0 expiring 0 next none
+  field 0 width 8 rules 3 bytes 8192
+  field 1 width 8 rules 2 bytes 4096
+  total bytes 12288
+
+options, before or after the name:
+  --keep-going   a refused change is skipped, and doesn't fail its transaction
+
+statuses: 0 done, 1 done with a refused change, 3 SCRIPT isn't in its grammar, 5 it can't be
+read, 6 the standard output failed, 7 want of memory, 8 SCRIPT is too large
 ";

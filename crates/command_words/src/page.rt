@@ -3,7 +3,7 @@ ghost use Rattle.std.specs.String.{string_bytes};
 ghost use Rattle.command_words.specs.Words.{AsksFor};
 ghost use Rattle.command_words.specs.WordForms.{page_text};
 
-use crate::help::{CAPTURE, COMPARE, DESK, DRILL, DUMP, GET, JUDGE, LIST, PROGRAM, RUN, VERSION};
+use crate::help::{CAPTURE, COMPARE, DESK, DRILL, DUMP, GET, JUDGE, LIST, PROGRAM, RUN, STAT, VERSION};
 use crate::shape::Verb;
 
 /// A text that the program prints about itself.
@@ -27,6 +27,7 @@ impl Page {
             Page::Command(Verb::Run) => RUN,
             Page::Command(Verb::List) => LIST,
             Page::Command(Verb::Dump) => DUMP,
+            Page::Command(Verb::Stat) => STAT,
             Page::Command(Verb::Drill) => DRILL,
             Page::Command(Verb::Judge) => JUDGE,
             Page::Command(Verb::Capture) => CAPTURE,

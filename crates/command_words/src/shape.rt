@@ -46,6 +46,8 @@ pub enum Verb {
     Get,
     /// It compares two scripts at their last generations.
     Compare,
+    /// It counts what a script's last generation has.
+    Stat,
 }
 
 /// The shape of the words after a command's word, so far.
@@ -114,6 +116,7 @@ impl Verb {
             "run" => Some(Verb::Run),
             "list" => Some(Verb::List),
             "dump" => Some(Verb::Dump),
+            "stat" => Some(Verb::Stat),
             "drill" => Some(Verb::Drill),
             "judge" => Some(Verb::Judge),
             "capture" => Some(Verb::Capture),
@@ -129,7 +132,7 @@ impl Verb {
         ensures { result ≡ count_of_names self }
     {
         match self {
-            Verb::List | Verb::Dump | Verb::Desk | Verb::Get => 1,
+            Verb::List | Verb::Dump | Verb::Stat | Verb::Desk | Verb::Get => 1,
             Verb::Run | Verb::Drill | Verb::Compare => 2,
             Verb::Judge | Verb::Capture => 3,
         }
@@ -140,7 +143,7 @@ impl Verb {
     {
         match self {
             Verb::Run | Verb::Drill | Verb::Judge | Verb::Capture => true,
-            Verb::List | Verb::Dump | Verb::Desk | Verb::Get | Verb::Compare => false,
+            Verb::List | Verb::Dump | Verb::Stat | Verb::Desk | Verb::Get | Verb::Compare => false,
         }
     }
 

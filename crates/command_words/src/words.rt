@@ -27,6 +27,8 @@ pub enum Task<'a> {
     List,
     /// The tables of the last generation.
     Dump,
+    /// The figures of the last generation.
+    Stat,
     /// A run beside the packets of a key file, which a rules file judges. Both are given by their
     /// names. So many packet threads look up.
     Judge {
@@ -202,6 +204,11 @@ fn command_with<'a>(
         Verb::Dump => Ok(Command::Script {
             script: first,
             task: Task::Dump,
+            keep_going,
+        }),
+        Verb::Stat => Ok(Command::Script {
+            script: first,
+            task: Task::Stat,
             keep_going,
         }),
         Verb::Judge => Ok(Command::Script {

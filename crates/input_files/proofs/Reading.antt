@@ -205,6 +205,7 @@ pub script-first : (name : Bor (List ℕ)) (task : Task) (goes : Bool) → (late
 script-first name (tasks.Run k n) goes = (record { name = k.now; form = keys } ∷ [], refl)
 script-first name tasks.List goes = ([], refl)
 script-first name tasks.Dump goes = ([], refl)
+script-first name tasks.Stat goes = ([], refl)
 script-first name tasks.Desk goes = ([], refl)
 script-first name (tasks.Get k m) goes = ([], refl)
 script-first name (tasks.Judge r k n) goes = (record { name = r.now; form = rules } ∷ record { name = k.now; form = keys } ∷ [], refl)

@@ -7,7 +7,7 @@ use Rattle.set_script.proofs.ScriptWhole.{script_single}
 use Rattle.key_file.specs.KeysText.{IsKeysText}
 use Rattle.rule_chain.specs.RulesText.{IsRulesText}
 use Rattle.pcap_keys.specs.PlansText.{IsPlanText}
-use Rattle.command_words.specs.Words.{Command, run, list, dump, drill, judge, capture as capture_command, desk, get, compare}
+use Rattle.command_words.specs.Words.{Command, run, list, dump, drill, judge, capture as capture_command, desk, get, compare, stat}
 use Rattle.input_files.specs.declared.fault.Flaw.{Flaw}
 use Rattle.input_files.specs.declared.fault.Flaw.TheVariants as flaws
 use Rattle.input_files.specs.Inputs.{Input, FileForm, script, second, keys, rules, plan, capture, inputs, form_of, IsOf, IsFlawed, ReadsAs}
@@ -130,6 +130,7 @@ first-is-script c a i later e = go c a e where
   go (run s k n g) a e = head-is _ _ a refl e
   go (list s g) a e = head-is _ _ a refl e
   go (dump s g) a e = head-is _ _ a refl e
+  go (stat s g) a e = head-is _ _ a refl e
   go (desk s g) a e = head-is _ _ a refl e
   go (get s k m g) a e = head-is _ _ a refl e
   go (compare f s g) a e = head-is _ _ a refl e

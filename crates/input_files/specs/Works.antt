@@ -8,7 +8,7 @@ use Rattle.rule_chain.specs.RulesText.{IsRulesText}
 use Rattle.pcap_keys.specs.CapturedPackets.{IsCapture}
 use Rattle.pcap_keys.specs.Fitting.{HasValues, IsPlanned}
 use Rattle.pcap_keys.specs.PlansText.{IsPlanText}
-use Rattle.command_words.specs.Words.{Command, run, list, dump, drill, judge, capture, desk, get, compare}
+use Rattle.command_words.specs.Words.{Command, run, list, dump, drill, judge, capture, desk, get, compare, stat}
 use Rattle.input_files.specs.declared.work.Work.{Work}
 use Rattle.input_files.specs.declared.work.Work.TheVariants as works
 use Rattle.input_files.specs.Inputs.{ReadsAs}
@@ -19,6 +19,7 @@ IsWork told c (works.Run script keys threads keep_going) =
     (s : List ℕ) × (k : List ℕ) × (c ≡ run s k threads keep_going) × ReadsAs told s (λ text. IsScriptText text script) × ReadsAs told k (λ text. IsKeysText script.schema text keys)
 IsWork told c (works.List script keep_going) = (s : List ℕ) × (c ≡ list s keep_going) × ReadsAs told s (λ text. IsScriptText text script)
 IsWork told c (works.Dump script keep_going) = (s : List ℕ) × (c ≡ dump s keep_going) × ReadsAs told s (λ text. IsScriptText text script)
+IsWork told c (works.Stat script keep_going) = (s : List ℕ) × (c ≡ stat s keep_going) × ReadsAs told s (λ text. IsScriptText text script)
 IsWork told c (works.Drill seed count threads) = c ≡ drill seed count threads
 IsWork told c (works.Judge script chains keys threads keep_going) =
     (s : List ℕ) × (r : List ℕ) × (k : List ℕ) × (c ≡ judge s r k threads keep_going) × ReadsAs told s (λ text. IsScriptText text script)
@@ -39,6 +40,7 @@ abbrev pub IsDoable : Work → Type 0
 IsDoable (works.Run script keys threads keep_going) = IsRunnable script × All (All (IsFitting script.schema)) keys × FewThreads threads
 IsDoable (works.List script keep_going) = IsRunnable script
 IsDoable (works.Dump script keep_going) = IsRunnable script
+IsDoable (works.Stat script keep_going) = IsRunnable script
 IsDoable (works.Drill seed count threads) = FewThreads threads
 IsDoable (works.Judge script chains keys threads keep_going) = IsRunnable script × (chains.schema ≡ script.schema) × All (All (IsFitting script.schema)) keys × FewThreads threads
 IsDoable (works.Capture script plan frames threads keep_going) = IsRunnable script × All (IsPlanned script.schema) plan × All HasValues frames × FewThreads threads

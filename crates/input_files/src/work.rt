@@ -36,6 +36,11 @@ pub enum Work<'a> {
         script: Script,
         keep_going: bool,
     },
+    /// The figures of the last generation.
+    Stat {
+        script: Script,
+        keep_going: bool,
+    },
     /// A generated run of so many elements and packets. So many packet threads look the packets up.
     Drill {
         seed: u64,
@@ -133,6 +138,7 @@ pub fn work_of<'a, F: Shelf, N: Notes>(
                 },
                 Task::List => Ok(Work::List { script, keep_going }),
                 Task::Dump => Ok(Work::Dump { script, keep_going }),
+                Task::Stat => Ok(Work::Stat { script, keep_going }),
                 Task::Desk => Ok(Work::Desk { script, keep_going }),
                 Task::Get { key, moment } => Ok(Work::Get {
                     script,

@@ -84,6 +84,7 @@ fn told_script(
         }
         Task::List => told_task(alloc, b"list ", &[script, "", ""], 0, keep_going),
         Task::Dump => told_task(alloc, b"dump ", &[script, "", ""], 0, keep_going),
+        Task::Stat => told_task(alloc, b"stat ", &[script, "", ""], 0, keep_going),
         Task::Desk => told_task(alloc, b"desk ", &[script, "", ""], 0, keep_going),
         Task::Get { key, moment } => told_key(alloc, script, key, moment, keep_going),
         Task::Judge {
@@ -194,6 +195,9 @@ const NO_COMMANDS: &[u8] = b"\
     dump --|no command~\
     dump a --keep|no command~\
     dump a --threads 1|no command~\
+    stat|no command~\
+    stat a b|no command~\
+    stat a --threads 1|no command~\
     drill 1|no command~\
     drill - 1|no command~\
     drill 1 2 3|no command~\
@@ -260,6 +264,8 @@ const COMMANDS: &[u8] = b"\
     list -|list -   0 false~\
     dump d --keep-going|dump d   0 true~\
     dump --keep-going -|dump -   0 true~\
+    stat stat|stat stat   0 false~\
+    stat --keep-going -|stat -   0 true~\
     drill 18446744073709551615 20000|drill 18446744073709551615 20000 1~\
     drill 0 --threads 4 1|drill 0 1 4~\
     drill 0 1 --threads=4|drill 0 1 4~\
@@ -296,6 +302,9 @@ const PAGES: &[u8] = b"\
     help dump|usage: pipapo dump SCRIPT [--keep-going]~\
     dump --help|usage: pipapo dump SCRIPT [--keep-going]~\
     dump -h|usage: pipapo dump SCRIPT [--keep-going]~\
+    help stat|usage: pipapo stat SCRIPT [--keep-going]~\
+    stat --help|usage: pipapo stat SCRIPT [--keep-going]~\
+    stat -h|usage: pipapo stat SCRIPT [--keep-going]~\
     help drill|usage: pipapo drill SEED COUNT [--threads N]~\
     drill --help|usage: pipapo drill SEED COUNT [--threads N]~\
     drill -h|usage: pipapo drill SEED COUNT [--threads N]~\

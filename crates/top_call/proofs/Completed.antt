@@ -25,8 +25,9 @@ use Rattle.key_answer.specs.Answer.{GivesAnswer, get_text, has_no_answer}
 use Rattle.compare_answer.specs.Compared.{GivesComparison}
 use Rattle.key_answer.specs.Question.{IsKey, IsBadKey, key_text, at_moment}
 use Rattle.script_run.specs.Listings.{listing_text, tables_text}
+use Rattle.stat_answer.specs.StatText.{stat_text}
 use Rattle.desk_run.specs.DeskText.{IsDeskText}
-use Rattle.command_words.specs.Words.{Command, IsCommand, run, list, dump, drill, judge, capture, desk, get, compare}
+use Rattle.command_words.specs.Words.{Command, IsCommand, run, list, dump, drill, judge, capture, desk, get, compare, stat}
 use Rattle.command_words.proofs.CommandWords.{one-command}
 use Rattle.command_words.proofs.PageWords.{page-no-command}
 use Rattle.input_files.specs.declared.fault.FileFault.{FileFault}
@@ -449,6 +450,10 @@ module _ (c : Call) (ends : EndsDuly c) (quiet : IsQuiet c) where
         or-ran-out (DeliversText (mode_of g) s (tables_text (mode_of g) s) c)
         (λ w. same-script tables_text (mode_of g) script s hs w (does c.words c.shelf (dump script g) w.refused w.text is_dump w.has hs.text hs.is_told))
         (ended (dump script g) s.schema is_dump (given-script c.shelf.told script s hs, tt) (λ name k t e. absurd (cc e)) (λ name key m k t l r e. absurd (cc e)));
+    stat = λ script g s is_stat hs.
+        or-ran-out (DeliversText (mode_of g) s (stat_text (mode_of g) s) c)
+        (λ w. same-script stat_text (mode_of g) script s hs w (does c.words c.shelf (stat script g) w.refused w.text is_stat w.has hs.text hs.is_told))
+        (ended (stat script g) s.schema is_stat (given-script c.shelf.told script s hs, tt) (λ name k t e. absurd (cc e)) (λ name key m k t l r e. absurd (cc e)));
     desk = λ script g s is_desk hs few.
         or-ran-out (DeliversDesk s g c)
         (λ w. same-desk script g s hs w (does c.words c.shelf (desk script g) w.refused w.text is_desk w.has hs.text hs.is_told))

@@ -22,6 +22,7 @@ is-output told c (works.Run s packets n g) refused text w h = subst (λ (x : Com
 })
 is-output told c (works.List s g) refused text w h = subst (λ (x : Command). IsOutput x told refused text) (sym w.1) (λ script_text at. record { script = s; script_is = (w.2 script_text at).1; text_is = h.0; refusal = h.1 })
 is-output told c (works.Dump s g) refused text w h = subst (λ (x : Command). IsOutput x told refused text) (sym w.1) (λ script_text at. record { script = s; script_is = (w.2 script_text at).1; text_is = h.0; refusal = h.1 })
+is-output told c (works.Stat s g) refused text w h = subst (λ (x : Command). IsOutput x told refused text) (sym w.1) (λ script_text at. record { script = s; script_is = (w.2 script_text at).1; text_is = h.0; refusal = h.1 })
 is-output told c (works.Capture s plan frames n g) refused text w h = subst (λ (x : Command). IsOutput x told refused text) (sym w.3) (λ script_text plan_text capture_text at at_plan at_capture. record {
   script = s;
   packets = planned_packets plan frames;
@@ -54,6 +55,7 @@ pub are-refused : (told : List ℕ → Option (List ℕ)) (c : Command) (w : Wor
 are-refused told c (works.Run s packets n g) out w h = subst (λ (x : Command). AreRefused x told out.refused out.text.items out.refusals.items out.failed) (sym w.2) (λ text at. (s, (w.3 text at).1, h.0.refusals_are, h.1))
 are-refused told c (works.List s g) out w h = subst (λ (x : Command). AreRefused x told out.refused out.text.items out.refusals.items out.failed) (sym w.1) (λ text at. (s, (w.2 text at).1, h.0.refusals_are, h.1))
 are-refused told c (works.Dump s g) out w h = subst (λ (x : Command). AreRefused x told out.refused out.text.items out.refusals.items out.failed) (sym w.1) (λ text at. (s, (w.2 text at).1, h.0.refusals_are, h.1))
+are-refused told c (works.Stat s g) out w h = subst (λ (x : Command). AreRefused x told out.refused out.text.items out.refusals.items out.failed) (sym w.1) (λ text at. (s, (w.2 text at).1, h.0.refusals_are, h.1))
 are-refused told c (works.Capture s plan frames n g) out w h = subst (λ (x : Command). AreRefused x told out.refused out.text.items out.refusals.items out.failed) (sym w.3) (λ text at. (s, (w.4 text at).1, h.0.refusals_are, h.1))
 are-refused told c (works.Judge s chains packets n g) out w h = subst (λ (x : Command). AreRefused x told out.refused out.text.items out.refusals.items out.failed) (sym w.3) (λ text at. (s, (w.4 text at).1, h.0.refusals_are, h.1))
 are-refused told c (works.Desk s g) out w h = subst (λ (x : Command). AreRefused x told out.refused out.text.items out.refusals.items out.failed) (sym w.1) (λ text at. (s, (w.2 text at).1, h.desk, h.refusals_are, h.failed_is))

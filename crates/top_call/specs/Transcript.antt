@@ -21,9 +21,10 @@ use Rattle.key_file.specs.KeysText.{IsKeysText}
 use Rattle.pcap_keys.specs.Planned.{packets as planned_packets}
 use Rattle.pcap_keys.specs.CapturedPackets.{AreCaptured}
 use Rattle.script_run.specs.Listings.{listing_text, tables_text}
+use Rattle.stat_answer.specs.StatText.{stat_text}
 use Rattle.script_run.specs.Drill.{drill_text}
 use Rattle.desk_run.specs.DeskText.{IsDeskText}
-use Rattle.command_words.specs.Words.{Command, run, list, dump, drill, judge, capture, desk, get, compare}
+use Rattle.command_words.specs.Words.{Command, run, list, dump, drill, judge, capture, desk, get, compare, stat}
 use Rattle.input_files.specs.declared.work.Work.{Work}
 use Rattle.input_files.specs.declared.work.Work.TheVariants as works
 
@@ -84,6 +85,10 @@ IsListing = IsTextOf listing_text
 abbrev pub IsTables : List ℕ → Mode → Bool → List ℕ → Type 0
 IsTables = IsTextOf tables_text
 
+-- the figures of the last generation
+abbrev pub IsStat : List ℕ → Mode → Bool → List ℕ → Type 0
+IsStat = IsTextOf stat_text
+
 -- the most sections of a desk's script: the first, and one for each of sixteen control threads
 abbrev pub most_sections : ℕ
 most_sections = 17
@@ -115,6 +120,7 @@ abbrev pub IsOutput : Command → (List ℕ → Option (List ℕ)) → Bool → 
 IsOutput (run script keys threads keep_going) told refused output = (script_text keys_text : List ℕ) → told script ≡ Some script_text → told keys ≡ Some keys_text → IsTranscript script_text keys_text threads (mode_of keep_going) refused output
 IsOutput (list script keep_going) told refused output = (script_text : List ℕ) → told script ≡ Some script_text → IsListing script_text (mode_of keep_going) refused output
 IsOutput (dump script keep_going) told refused output = (script_text : List ℕ) → told script ≡ Some script_text → IsTables script_text (mode_of keep_going) refused output
+IsOutput (stat script keep_going) told refused output = (script_text : List ℕ) → told script ≡ Some script_text → IsStat script_text (mode_of keep_going) refused output
 IsOutput (drill seed count threads) told refused output = (refused ≡ false) × (output ≡ drill_text seed count)
 IsOutput (judge script rules keys threads keep_going) told refused output =
     (script_text rules_text keys_text : List ℕ) → told script ≡ Some script_text → told rules ≡ Some rules_text → told keys ≡ Some keys_text
@@ -144,6 +150,7 @@ abbrev pub HasFewClerks : Work → Type 0
 HasFewClerks (works.Run s packets threads keep_going) = Unit {0}
 HasFewClerks (works.List s keep_going) = Unit {0}
 HasFewClerks (works.Dump s keep_going) = Unit {0}
+HasFewClerks (works.Stat s keep_going) = Unit {0}
 HasFewClerks (works.Drill seed count threads) = Unit {0}
 HasFewClerks (works.Judge s chains packets threads keep_going) = Unit {0}
 HasFewClerks (works.Capture s plan frames threads keep_going) = Unit {0}
@@ -164,6 +171,7 @@ abbrev pub GivesText : Work → Bool → List ℕ → Type 0
 GivesText (works.Run s packets threads keep_going) refused text = HasTranscript s packets threads (mode_of keep_going) text × (refused ≡ has_refusal (mode_of keep_going) s)
 GivesText (works.List s keep_going) refused text = (text ≡ listing_text (mode_of keep_going) s) × (refused ≡ has_refusal (mode_of keep_going) s)
 GivesText (works.Dump s keep_going) refused text = (text ≡ tables_text (mode_of keep_going) s) × (refused ≡ has_refusal (mode_of keep_going) s)
+GivesText (works.Stat s keep_going) refused text = (text ≡ stat_text (mode_of keep_going) s) × (refused ≡ has_refusal (mode_of keep_going) s)
 GivesText (works.Drill seed count threads) refused text = (text ≡ drill_text seed count) × (refused ≡ false)
 GivesText (works.Capture s plan frames threads keep_going) refused text =
     HasTranscript s (planned_packets plan frames ∷ []) threads (mode_of keep_going) text × (refused ≡ has_refusal (mode_of keep_going) s)
@@ -177,6 +185,7 @@ abbrev pub HasBadWords : Work → ℕ → Reason → Type 0
 HasBadWords (works.Run s packets threads keep_going) line reason = ⊥
 HasBadWords (works.List s keep_going) line reason = ⊥
 HasBadWords (works.Dump s keep_going) line reason = ⊥
+HasBadWords (works.Stat s keep_going) line reason = ⊥
 HasBadWords (works.Drill seed count threads) line reason = ⊥
 HasBadWords (works.Judge s chains packets threads keep_going) line reason = ⊥
 HasBadWords (works.Capture s plan frames threads keep_going) line reason = ⊥

@@ -153,6 +153,8 @@ fn carry_out<R: Threads + Wait + Sync, F: Shelf, K: Sink, N: Notes, G: Gate>(
 ///   the last generation that holds the key, with the line that added it, or `none`. Its options come in either order.
 /// - `compare SCRIPT1 SCRIPT2 [--keep-going]` runs two scripts, and writes for each set whether both decide alike on every
 ///   key, with the least key on which they don't.
+/// - `stat SCRIPT [--keep-going]` runs a script, and writes how many elements its last generation has, when they expire, and how
+///   large their tables are.
 ///
 /// `--threads=N` means `--threads N`, and `--at=MOMENT` means `--at MOMENT`.
 ///

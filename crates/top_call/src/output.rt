@@ -19,6 +19,7 @@ use packet_pool::Gate;
 use pcap_keys::{Frames, Plan, keys_of};
 use script_run::{Output, drill, dump, judged, listing, transcript};
 use set_model::{Keys, Memory};
+use stat_answer::stat;
 use std::alloc::Global;
 use std::sync::Wait;
 use std::thread::Threads;
@@ -60,6 +61,7 @@ pub fn output_of<R: Threads + Wait + Sync, G: Gate>(
         } => Ok(transcript(rt, alloc, script, &keys, keep_going, threads, gate)?),
         Work::List { script, keep_going } => Ok(listing(alloc, script, keep_going, gate)?),
         Work::Dump { script, keep_going } => Ok(dump(alloc, script, keep_going, gate)?),
+        Work::Stat { script, keep_going } => Ok(stat(alloc, script, keep_going, gate)?),
         Work::Drill {
             seed,
             count,

@@ -7,12 +7,12 @@ use set_model::Memory;
 use text_pieces::Piece;
 
 /// The words at the place of a command.
-const COMMANDS: [&[u8]; 10] = [
-    b"get", b"compare", b"run", b"judge", b"capture", b"desk", b"drill", b"list", b"dump", b"help",
+const COMMANDS: [&[u8]; 11] = [
+    b"get", b"compare", b"stat", b"run", b"judge", b"capture", b"desk", b"drill", b"list", b"dump", b"help",
 ];
 
 const COMMANDS_ARE: &[u8] =
-    b"the commands are get, compare, run, judge, capture, desk, drill, list, dump and help";
+    b"the commands are get, compare, stat, run, judge, capture, desk, drill, list, dump and help";
 
 /// The options of all commands.
 const OPTIONS: [&[u8]; 3] = [b"--threads", b"--keep-going", b"--at"];

@@ -78,6 +78,11 @@ returns-in-Dump c =
     is-alone (map string_bytes c.args.words.now) c.in_ok-first.field-0 c.unwrap-first.result c.unwrap-first.ensures (codes "dump")
     (of-verb (map string_bytes c.args.words.now) c.in_ok-first.field-0 c.in_ok-first.ensures c.args.verb verbs.Dump c.in-Dump.is c.requires.shape c.requires.words)
 
+pub returns-in-Stat : goal.returns-in-Stat
+returns-in-Stat c =
+    is-alone (map string_bytes c.args.words.now) c.in_ok-first.field-0 c.unwrap-first.result c.unwrap-first.ensures (codes "stat")
+    (of-verb (map string_bytes c.args.words.now) c.in_ok-first.field-0 c.in_ok-first.ensures c.args.verb verbs.Stat c.in-Stat.is c.requires.shape c.requires.words)
+
 pub returns-in-Desk : goal.returns-in-Desk
 returns-in-Desk c =
     is-alone (map string_bytes c.args.words.now) c.in_ok-first.field-0 c.unwrap-first.result c.unwrap-first.ensures (codes "desk")

@@ -35,6 +35,12 @@ returns-in-Dump-clause-all g c =
     (up-to-more (record { name = c.in-Script.script.now; form = script }) (up-to-none (g.F.Shelf.told c.args.shelf.now) (g.F.Shelf.asked c.args.shelf.now) (g.F.Shelf.faults c.args.shelf.now) (g.F.Shelf.is_picked c.args.shelf.now) (g.F.Shelf.left c.args.shelf.now) c.in-Ok.script.schema c.requires.nothing)
     (as-script (g.F.Shelf.told c.args.shelf.now) c.in-Script.script.now c.in-Ok.script c.in-Ok.ensures.read) c.in-Ok.ensures.quiet c.in-Ok.ensures.whole c.in-Ok.ensures.kept c.in-Ok.ensures.told)
 
+pub returns-in-Stat-clause-all : goal.returns-in-Stat-clause-all
+returns-in-Stat-clause-all g c =
+    has-read (plain c.args.command) (ap (λ x. inputs (plain x)) c.in-Script.is ∙ ap (λ t. inputs (plain (asked.Script c.in-Script.script t c.in-Script.keep_going))) c.in-Stat.is)
+    (up-to-more (record { name = c.in-Script.script.now; form = script }) (up-to-none (g.F.Shelf.told c.args.shelf.now) (g.F.Shelf.asked c.args.shelf.now) (g.F.Shelf.faults c.args.shelf.now) (g.F.Shelf.is_picked c.args.shelf.now) (g.F.Shelf.left c.args.shelf.now) c.in-Ok.script.schema c.requires.nothing)
+    (as-script (g.F.Shelf.told c.args.shelf.now) c.in-Script.script.now c.in-Ok.script c.in-Ok.ensures.read) c.in-Ok.ensures.quiet c.in-Ok.ensures.whole c.in-Ok.ensures.kept c.in-Ok.ensures.told)
+
 pub returns-in-Desk-clause-all : goal.returns-in-Desk-clause-all
 returns-in-Desk-clause-all g c =
     has-read (plain c.args.command) (ap (λ x. inputs (plain x)) c.in-Script.is ∙ ap (λ t. inputs (plain (asked.Script c.in-Script.script t c.in-Script.keep_going))) c.in-Desk.is)
