@@ -34,9 +34,9 @@
  * one that the call's comment names. A refused call changes nothing that a handle holds. It writes nothing but the `answer` of
  * a change, the `fault` of a start by a script, and after ROOM the length of a text, or the lengths of an element.
  *
- * THREADS. The control, each reader and each set's elements may be in a thread of their own. No call waits for another thread. One handle is for
- * one call at a time. A handle may go to another thread through a lock, the start or end of a thread, or a sequentially
- * consistent atomic. Different handles need no order.
+ * THREADS. The control, each reader and each set's elements may be in a thread of their own. No call waits for another
+ * thread. One handle is for one call at a time. A handle may go to another thread through a lock, the start or end of a
+ * thread, or a sequentially consistent atomic. Different handles need no order.
  *
  * MEMORY. Only the two starts, the changes, pipapo_commit, the listings and pipapo_elements_of allocate, by malloc and realloc.
  * The control and each reader take 768 KiB for the rows of a lookup, and the control takes the sets. The control frees a
