@@ -21,15 +21,15 @@ pub struct Elements {
 }
 
 impl Model for Elements {
-    ghost use Rattle.std.specs.Prelude.{◌≡◌};
+    ghost use Rattle.std.specs.Prelude.{◌≡◌, ◌*◌};
     ghost use Rattle.set_model.specs.SetState.{State};
-    ghost use Rattle.c_handles.specs.Elements.{bounds_size};
+    ghost use Rattle.packed_values.specs.Packed.{packed_length};
 
     ghost Value = { State };
 
     ghost view = { λ e. e.image };
 
-    ghost invariant = { λ e. e.size ≡ bounds_size e.image.kinds };
+    ghost invariant = { λ e. e.size ≡ 2 * packed_length e.image.kinds };
 }
 
 fn number_of_expiry(expiry: Option<u64>) -> u64
