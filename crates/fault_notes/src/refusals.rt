@@ -4,7 +4,7 @@ ghost use Rattle.fault_notes.specs.Refusals.{AreRefusalLines, IsRefusalLine, IsR
 
 use crate::changes::{Change, spoken_of};
 use crate::note::Note;
-use crate::refused::{RefusedChange, RefusedChanges};
+use crate::refused::{RefusedChange, RefusedChanges, RefusedSteps};
 use crate::source::last_line;
 use addr_text::{read_interval, write_interval};
 use set_model::{Interval, Kind, Memory, Script, Why, is_good};
@@ -55,7 +55,7 @@ fn alone(why: Why) -> &'static [u8] {
         Why::Exists { .. } => b" exists already",
         Why::Full => b" doesn't fit: the set has as many elements as it may have",
         Why::RulesFull { .. } => b" doesn't fit: a field would have more than 1048576 rules",
-        Why::Missing => b" is no element of the set",
+        Why::Missing => b" isn't in the set",
     }
 }
 
@@ -77,17 +77,17 @@ fn write_older(
 
 /// Appends the words on a refused change, and returns its column. `text` is the script's.
 fn write_change(
-    alloc: Global,
     text: &[u8],
     script: &Script,
     refused: RefusedChange,
+    steps: Option<RefusedSteps>,
     out: &mut Vec<u8>,
 ) -> Result<u64, Memory> {
     let Some(decl) = script.schema.as_slice().get(refused.set as usize) else {
         return Ok(1);
     };
     let kinds = decl.kinds.as_slice();
-    let spoken = spoken_of(alloc, script, decl.disjoint, refused)?;
+    let spoken = spoken_of(script, refused, steps);
     let column = match spoken.change {
         Some(change) => {
             write_intervals(kinds, change.parts, out)?;
@@ -128,11 +128,12 @@ fn add_change(
     text: &[u8],
     script: &Script,
     refused: RefusedChange,
+    steps: Option<RefusedSteps>,
 ) -> Result<(), Memory>
     ensures { OnOk result ((line : List ℕ) × IsRefusalLine name.now refused.line line × (note.new.bytes.items ≡ note.old.bytes.items ++ line)) }
 {
     let mut words = Vec::new(alloc);
-    let column = write_change(alloc, text, script, refused, &mut words)?;
+    let column = write_change(text, script, refused, steps, &mut words)?;
     add_line(note, name, refused.line, column, words.as_slice())
 }
 
@@ -144,11 +145,15 @@ fn add_changes(
     text: &[u8],
     script: &Script,
     changes: &[RefusedChange],
+    steps: &[RefusedSteps],
 ) -> Result<(), Memory>
     ensures { OnOk result ((lines : List ℕ) × AreRefusalLines name.now changes.now lines × (note.new.bytes.items ≡ note.old.bytes.items ++ lines)) }
 {
+    let mut number = 0usize;
     for change in changes {
-        add_change(note, alloc, name, text, script, *change)?;
+        let about = steps.get(number).copied();
+        add_change(note, alloc, name, text, script, *change, about)?;
+        number = number.saturating_add(1);
     }
     Ok(())
 }
@@ -193,8 +198,8 @@ fn add_failure(note: &mut Note, name: &[u8], failed: bool) -> Result<(), Memory>
 /// they were done.
 ///
 /// For each of the first changes it has a line with the change's place and element, and the element in its way with
-/// that one's line. Each element is there if no other can be meant. Then it says how many more changes are refused, and
-/// that the last transaction failed if it did.
+/// that one's line, if the steps are known. Then it says how many more changes are refused, and that the last transaction
+/// failed if it did.
 ///
 /// # Errors
 ///
@@ -210,7 +215,15 @@ pub fn refusals_note(
 {
     let name = name.as_bytes();
     let mut note = Note::new(alloc);
-    add_changes(&mut note, alloc, name, text, script, changes.first)?;
+    add_changes(
+        &mut note,
+        alloc,
+        name,
+        text,
+        script,
+        changes.first,
+        changes.steps,
+    )?;
     let more = changes.count.saturating_sub(changes.first.len() as u64);
     add_rest(&mut note, name, more)?;
     add_failure(&mut note, name, changes.failed)?;
