@@ -125,6 +125,7 @@ def cases(shown):
     yield [*run, "good.nft"], re.compile("good.nft:1:[0-9]+: this looks like a script: the script is named first, and then the key file\n"), None, 4
     yield [*run, "good.rules"], re.compile("good.rules:1:[0-9]+: this looks like a rules file: .*\n"), None, 4
     yield ["judge", "good.nft", "good.keys", "good.rules"], re.compile("good.keys:1:1: this looks like a key file: .*\n"), None, 9
+    yield ["capture", "good.nft", "good.keys", "link.pcap"], "good.keys:1:8: this looks like a key file: the script is named first, then the plan, and then the capture\n", None, 11
     yield ["capture", "good.nft", "good.nft", "link.pcap"], re.compile("good.nft:1:[0-9]+: this looks like a script: .*\n"), None, 11
     # captures
     for name, byte, said, why in [

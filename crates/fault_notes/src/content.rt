@@ -144,6 +144,11 @@ pub(crate) fn swapped(kind: TextKind, line: &[u8]) -> Option<&'static [u8]> {
                 b"this looks like a script: the script is named first, then the rules file, and then the key file",
             )
         }
+        TextKind::Plan if is_family(word) && matches!(last_word(line), [b'0'..=b'9', ..]) => {
+            Some(
+                b"this looks like a key file: the script is named first, then the plan, and then the capture",
+            )
+        }
         TextKind::Plan if begins_a_statement(word) => {
             Some(
                 b"this looks like a script: the script is named first, then the plan, and then the capture",

@@ -84,6 +84,14 @@ fn explain_place(
         b"" if is_known && has_more => {
             explain_fields(said, b" ends the key after ", fields, type_item)
         }
+        b"" => explain_plainly(said, TextKind::Keys, fault.reason, fault.token),
+        _ if is_known && has_more => {
+            said.say(b" can't follow a value", b"write ' . ' between fields")
+        }
+        _ if is_known => said.say(
+            b" can't follow the last field",
+            b"write each key in a line of its own",
+        ),
         _ => explain_plainly(said, TextKind::Keys, fault.reason, fault.token),
     }
 }

@@ -316,18 +316,15 @@ fn explain_in_item(said: &mut Explained, fault: Fault<'_>) -> Result<(), Memory>
         return explain_unit(said, last, word);
     }
     match word_at(part, 0) {
-        b"flags" if last == b"timeout".as_slice() && word.first().is_some_and(u8::is_ascii_digit) =>
-            {
-                said.tell(
-                    &[Piece::Word(b" can't follow a flag")],
-                    &[
-                        Piece::Word(
-                            b"write the time as an item of its own: flags timeout; timeout ",
-                        ),
-                        Piece::Word(shortened(word)),
-                    ],
-                )
-            }
+        b"flags" if last == b"timeout".as_slice() && matches!(word, [b'0'..=b'9', ..]) => {
+            said.tell(
+                &[Piece::Word(b" can't follow a flag")],
+                &[
+                    Piece::Word(b"write the time as an item of its own: flags timeout; timeout "),
+                    Piece::Word(shortened(word)),
+                ],
+            )
+        }
         b"type" if last == b"type".as_slice() || last == b".".as_slice() => said.say(
             b" isn't a type",
             b"a type is expected, as ipv4_addr",
