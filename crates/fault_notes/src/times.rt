@@ -72,12 +72,16 @@ pub(crate) fn explain_unit(said: &mut Explained, number: &[u8], word: &[u8]) -> 
     tell_time(said, b" can't follow the number of a time", number, word)
 }
 
+/// The digits at the front of a word, and the rest.
+fn first_number(word: &[u8]) -> (&[u8], &[u8]) {
+    match word.iter().position(|byte| !byte.is_ascii_digit()) {
+        Some(place) => word.split_at(place),
+        None => (word, b""),
+    }
+}
+
 /// Explains a word that isn't a time.
 pub(crate) fn explain_time(said: &mut Explained, word: &[u8]) -> Result<(), Memory> {
-    let digits = match word.iter().position(|byte| !byte.is_ascii_digit()) {
-        Some(place) => place,
-        None => word.len(),
-    };
-    let (number, unit) = word.split_at(digits);
+    let (number, unit) = first_number(word);
     tell_time(said, b" isn't a time", number, unit)
 }

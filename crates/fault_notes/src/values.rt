@@ -213,6 +213,9 @@ fn mask_bits(word: &[u8]) -> Option<u64> {
     let Ok(mask) = read_value(Kind::Ipv4, word) else {
         return None;
     };
+    if mask > 4_294_967_295 {
+        return None;
+    }
     let mask = mask as u32;
     let ones = mask.count_ones();
     if ones.saturating_add(mask.trailing_zeros()) == 32 {
