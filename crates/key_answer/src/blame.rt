@@ -1,6 +1,7 @@
 //! Finds the steps of a script that its refused changes are about, by a second run of the script.
-ghost use Rattle.std.specs.Prelude.{◌≡◌, ◌<◌, ◌≤◌, ◌^◌, true, length, All, IfOk, IfSome, Some, None};
-ghost use Rattle.set_model.specs.Runnable.{HasFields, IsRunnableStep};
+ghost use Rattle.std.specs.Prelude.{◌≡◌, ◌≤◌, true, length, All, IfSome};
+ghost use Rattle.set_model.specs.Runnable.{IsRunnableStep};
+ghost use Rattle.set_space.specs.Open.{CanBeBuilt};
 
 use crate::lines::Lines;
 use crate::trail::{Addition, addition_of, try_add};
@@ -8,7 +9,7 @@ use gen_publish::Control;
 use packet_pool::{Gate, do_step};
 use pipapo_image::ChangeError;
 use script_laws::{has_numbers, start_run, tells_refusal};
-use set_model::{Events, Memory, Schema, Script, Step, Why, parts_fit};
+use set_model::{Events, Memory, Schema, Script, SetDecl, Step, Why, parts_fit};
 use std::alloc::Global;
 
 /// What a refusal is about, by the places of steps among all steps of the script, from 0.
@@ -40,17 +41,29 @@ fn id_in_way(why: Why) -> Option<u64> {
     }
 }
 
-/// Whether a run can do a step on declared sets.
-fn is_runnable(schema: &Schema, step: &Step) -> bool
-    ensures { result ≡ true → IsRunnableStep schema.now step.now }
+/// A step, if a run can do it on declared sets.
+fn runnable<'a>(schema: &Schema, step: &'a Step) -> Option<&'a Step>
+    ensures { IfSome result (λ s. IsRunnableStep schema.now s.now) }
 {
     match step {
         Step::Change { set, element, .. } => {
             let place = u64::from(*set);
-            place < schema.len() && parts_fit(&schema.at(place).kinds, &element.parts)
+            if place >= schema.len() {
+                return None;
+            }
+            if !parts_fit(&schema.at(place).kinds, &element.parts) {
+                return None;
+            }
+            Some(step)
         }
-        Step::Flush { set, .. } => u64::from(*set) < schema.len(),
-        Step::Commit { .. } | Step::Abort => true,
+        Step::Flush { set, .. } => {
+            if u64::from(*set) >= schema.len() {
+                return None;
+            }
+            let _declared = schema.at(u64::from(*set));
+            Some(step)
+        }
+        Step::Commit { .. } | Step::Abort => Some(step),
     }
 }
 
@@ -91,8 +104,11 @@ impl Replay {
         step: &Step,
         gate: &G,
     ) -> Result<(), Memory> {
-        if !is_runnable(self.control.schema(), step) || !has_numbers(&self.control, 0) {
+        let Some(step) = runnable(self.control.schema(), step) else {
             return Ok(());
+        };
+        if !has_numbers(&self.control, 1) {
+            return Err(Memory);
         }
         let mut events = Events::new(alloc);
         do_step(
@@ -127,17 +143,23 @@ impl Replay {
     }
 }
 
-/// Whether sets can be built: each has 1 to 16 fields.
-fn can_be_built(schema: &Schema) -> bool {
-    schema.len() <= 64
-        && schema
-            .as_slice()
-            .iter()
-            .all(|set| 0 < set.kinds.len() && set.kinds.len() <= 16)
+/// Whether each of these sets has 1 to 16 fields.
+fn have_fields(sets: &[SetDecl]) -> bool
+    ensures { result ≡ true → All CanBeBuilt sets.now }
+{
+    for set in sets {
+        if set.kinds.len() == 0 || set.kinds.len() > 16 {
+            return false;
+        }
+    }
+    true
 }
 
 /// A run of a script before its first step.
-fn begin(alloc: Global, schema: &Schema, keep_going: bool) -> Result<Replay, Memory> {
+fn begin(alloc: Global, schema: &Schema, keep_going: bool) -> Result<Replay, Memory>
+    requires sets { All CanBeBuilt schema.now }
+    requires few { length schema.now ≤ 64 }
+{
     let makers = Lines::new(alloc, schema.len())?;
     let (control, _readers) = start_run(alloc, schema, 1)?;
     Ok(Replay {
@@ -162,7 +184,7 @@ pub fn blames_of<G: Gate>(
     most: u64,
     gate: &G,
 ) -> Result<Vec<Blame>, Memory> {
-    if !can_be_built(&script.schema) {
+    if script.schema.len() > 64 || !have_fields(script.schema.as_slice()) {
         return Ok(Vec::new(alloc));
     }
     let mut replay = begin(alloc, &script.schema, keep_going)?;
