@@ -58,7 +58,7 @@ pub use help::TextKind;
 pub use note::Note;
 pub use pcap_keys::CaptureReason;
 pub use refusals::refusals_note;
-pub use refused::{RefusedChange, RefusedChanges, RefusedSteps};
+pub use refused::{RefusedChange, RefusedChanges};
 pub use rest::without_statement;
 pub use token_forms::BadToken;
 pub use told::tell_note;

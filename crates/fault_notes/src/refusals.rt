@@ -4,7 +4,7 @@ ghost use Rattle.fault_notes.specs.Refusals.{AreRefusalLines, IsRefusalLine, IsR
 
 use crate::changes::{Change, spoken_of};
 use crate::note::Note;
-use crate::refused::{RefusedChange, RefusedChanges, RefusedSteps};
+use crate::refused::{RefusedChange, RefusedChanges};
 use crate::source::last_line;
 use addr_text::{read_interval, write_interval};
 use set_model::{Interval, Kind, Memory, Script, Why, is_good};
@@ -77,17 +77,17 @@ fn write_older(
 
 /// Appends the words on a refused change, and returns its column. `text` is the script's.
 fn write_change(
+    alloc: Global,
     text: &[u8],
     script: &Script,
     refused: RefusedChange,
-    steps: Option<RefusedSteps>,
     out: &mut Vec<u8>,
 ) -> Result<u64, Memory> {
     let Some(decl) = script.schema.as_slice().get(refused.set as usize) else {
         return Ok(1);
     };
     let kinds = decl.kinds.as_slice();
-    let spoken = spoken_of(script, refused, steps);
+    let spoken = spoken_of(alloc, script, decl.disjoint, refused)?;
     let column = match spoken.change {
         Some(change) => {
             write_intervals(kinds, change.parts, out)?;
@@ -128,12 +128,11 @@ fn add_change(
     text: &[u8],
     script: &Script,
     refused: RefusedChange,
-    steps: Option<RefusedSteps>,
 ) -> Result<(), Memory>
     ensures { OnOk result ((line : List ℕ) × IsRefusalLine name.now refused.line line × (note.new.bytes.items ≡ note.old.bytes.items ++ line)) }
 {
     let mut words = Vec::new(alloc);
-    let column = write_change(text, script, refused, steps, &mut words)?;
+    let column = write_change(alloc, text, script, refused, &mut words)?;
     add_line(note, name, refused.line, column, words.as_slice())
 }
 
@@ -145,15 +144,11 @@ fn add_changes(
     text: &[u8],
     script: &Script,
     changes: &[RefusedChange],
-    steps: &[RefusedSteps],
 ) -> Result<(), Memory>
     ensures { OnOk result ((lines : List ℕ) × AreRefusalLines name.now changes.now lines × (note.new.bytes.items ≡ note.old.bytes.items ++ lines)) }
 {
-    let mut number = 0usize;
     for change in changes {
-        let about = steps.get(number).copied();
-        add_change(note, alloc, name, text, script, *change, about)?;
-        number = number.saturating_add(1);
+        add_change(note, alloc, name, text, script, *change)?;
     }
     Ok(())
 }
@@ -198,8 +193,8 @@ fn add_failure(note: &mut Note, name: &[u8], failed: bool) -> Result<(), Memory>
 /// they were done.
 ///
 /// For each of the first changes it has a line with the change's place and element, and the element in its way with
-/// that one's line, if the steps are known. Then it says how many more changes are refused, and that the last transaction
-/// failed if it did.
+/// that one's line. Each element is there if no other can be meant. Then it says how many more changes are refused, and
+/// that the last transaction failed if it did.
 ///
 /// # Errors
 ///
@@ -215,15 +210,7 @@ pub fn refusals_note(
 {
     let name = name.as_bytes();
     let mut note = Note::new(alloc);
-    add_changes(
-        &mut note,
-        alloc,
-        name,
-        text,
-        script,
-        changes.first,
-        changes.steps,
-    )?;
+    add_changes(&mut note, alloc, name, text, script, changes.first)?;
     let more = changes.count.saturating_sub(changes.first.len() as u64);
     add_rest(&mut note, name, more)?;
     add_failure(&mut note, name, changes.failed)?;

@@ -12,22 +12,11 @@ pub struct RefusedChange {
     pub why: Why,
 }
 
-/// What a refusal is about, by the places of steps among all steps of the script, from 0.
-#[derive(Clone, Copy, Debug, PartialEq, Eq)]
-pub struct RefusedSteps {
-    /// The change that was refused.
-    pub change: u64,
-    /// The addition that made the element in its way, if one is in its way.
-    pub older: Option<u64>,
-}
-
 /// The refused changes that a note is on.
 #[derive(Clone, Copy)]
 pub struct RefusedChanges<'a> {
     /// The first of them, which have a line each.
     pub first: &'a [RefusedChange],
-    /// The steps that each of them is about, in the same order. Those that aren't known are left out at the end.
-    pub steps: &'a [RefusedSteps],
     /// How many there are.
     pub count: u64,
     /// Whether the output shows the generation before a last transaction that failed.

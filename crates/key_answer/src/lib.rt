@@ -12,9 +12,6 @@
 //! that makes element 1 again cuts the list to one line, and then appends its own. A renewal makes no element, and
 //! the element keeps its line.
 //!
-//! [`blames_of`] runs a script in which changes were refused once more. It finds the step of each refused change, and the step
-//! that made the element in its way.
-//!
 //! The answer comes from the set's tables. It is the earliest inserted element that is live and holds the key.
 //!
 //! **Definitions:** `specs/Origin.antt` has the lines, `Question.antt` the key, and `Answer.antt` the
@@ -23,14 +20,12 @@
 #![tactic(auto)]
 
 mod answer;
-mod blame;
 mod lines;
 mod question;
 mod trace;
 mod trail;
 
 pub use answer::{get, write_line};
-pub use blame::{Blame, blames_of};
 pub use lines::Lines;
 pub use question::AnswerError;
 pub use trace::{Trace, trace_script};

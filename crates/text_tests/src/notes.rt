@@ -1,8 +1,8 @@
 //! Notes for a person: on bad tokens, captures, files and refused changes.
 use crate::cases::{assert_told, cut, joined, number};
 use fault_notes::{
-    BadToken, CaptureReason, Note, RefusedChange, RefusedChanges, RefusedSteps, TextKind,
-    bad_script_note, bad_text_note, capture_note, read_fault_note, refusals_note, too_large_note,
+    BadToken, CaptureReason, Note, RefusedChange, RefusedChanges, TextKind, bad_script_note,
+    bad_text_note, capture_note, read_fault_note, refusals_note, too_large_note,
     too_many_clerks_note,
 };
 use pip_base::FaultKind;
@@ -135,19 +135,15 @@ fn told_of(
     alloc: Global,
     script: &Script,
     change: RefusedChange,
-    steps: RefusedSteps,
     count: u64,
     failed: bool,
 ) -> Result<Vec<u8>, Memory> {
     let mut first = Vec::new(alloc);
-    let mut each = Vec::new(alloc);
     for _ in 0..count.min(20) {
         first.push(change)?;
-        each.push(steps)?;
     }
     let changes = RefusedChanges {
         first: first.as_slice(),
-        steps: each.as_slice(),
         count,
         failed,
     };
@@ -155,24 +151,6 @@ fn told_of(
         alloc,
         refusals_note(alloc, "x.nft", OVERLAP, script, changes),
     )
-}
-
-/// The steps of `OVERLAP` that a refusal is about: its elements are in lines 5 and 6. A missing element has none.
-fn steps_of(change: RefusedChange) -> RefusedSteps {
-    match change.why {
-        Why::Overlap { .. } => RefusedSteps {
-            change: 1,
-            older: Some(0),
-        },
-        Why::Missing => RefusedSteps {
-            change: 9,
-            older: None,
-        },
-        _ => RefusedSteps {
-            change: change.line.saturating_sub(5),
-            older: None,
-        },
-    }
 }
 
 /// The note on so many refusals of one change of `OVERLAP`: why, its line, how many, and whether the transaction failed.
@@ -190,7 +168,6 @@ fn told_refusals(alloc: Global, words: &[u8]) -> Result<Vec<u8>, Memory> {
             alloc,
             &script,
             change,
-            steps_of(change),
             number(count),
             end == b"failed".as_slice(),
         ),

@@ -108,9 +108,8 @@ fn carry_out_command<R: Threads + Wait + Sync, F: Shelf, K: Sink, N: Notes, G: G
     match command_of(alloc, words) {
         Ok(command) => do_command(rt, alloc, command, shelf, sink, notes, gate),
         Err(WordsError::NoCommand) => {
-            let status = tell(sink, Fault::Usage);
             tell_words(alloc, notes, words);
-            status
+            tell(sink, Fault::Usage)
         }
         Err(WordsError::Memory) => tell(sink, Fault::Memory),
     }

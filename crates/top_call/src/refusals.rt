@@ -5,11 +5,7 @@ ghost use Rattle.fault_notes.specs.Shown.{Begins, name_text};
 ghost use Rattle.top_call.specs.Refused.{HasTold, IsNoteOnChanges, TellsChanges, TellsOf, change_of as as_told, most_told};
 
 use command_words::Command;
-use fault_notes::{
-    Note, RefusedChange, RefusedChanges, RefusedSteps, refusals_note, too_many_clerks_note,
-};
-use key_answer::{Blame, blames_of};
-use packet_pool::OpenGate;
+use fault_notes::{Note, RefusedChange, RefusedChanges, refusals_note, too_many_clerks_note};
 use pip_base::Notes;
 use script_run::{Output, Refusal};
 use set_model::{Memory, Script};
@@ -41,39 +37,20 @@ fn first_changes(alloc: Global, refusals: &[Refusal]) -> Result<Vec<RefusedChang
     Ok(first)
 }
 
-/// The steps of a refused change as a note has them.
-fn steps_of(blame: &Blame) -> RefusedSteps {
-    RefusedSteps {
-        change: blame.change,
-        older: blame.older,
-    }
-}
-
-/// The steps that the first refused changes of a script are about.
-fn blamed(alloc: Global, script: &Script, keep_going: bool) -> Result<Vec<RefusedSteps>, Memory> {
-    let blames = blames_of(alloc, script, keep_going, MOST_TOLD as u64, &OpenGate)?;
-    let steps = blames.iter().map(|blame| steps_of(blame)).collect(alloc)?;
-    Ok(steps)
-}
-
 /// The note on the refused changes of an output.
 fn changes_note(
     alloc: Global,
     name: &str,
     script_text: &[u8],
     script: &Script,
-    keep_going: bool,
     output: &Output,
 ) -> Result<Note, Memory>
     ensures { IfOk result (λ note. IsNoteOnChanges name.now output.now.refusals.items output.now.failed note.bytes.items) }
 {
     let refusals = output.refusals.as_slice();
     let first = first_changes(alloc, refusals)?;
-    let steps = blamed(alloc, script, keep_going)?;
-    let about = steps.as_slice();
     let changes = RefusedChanges {
         first: first.as_slice(),
-        steps: about,
         count: refusals.len() as u64,
         failed: output.failed,
     };
@@ -86,7 +63,6 @@ fn tell_changes<N: Notes>(
     notes: &mut N,
     name: &str,
     script_text: &[u8],
-    keep_going: bool,
     output: &Output,
 ) -> Result<bool, Memory>
     ensures { TellsOf (IsNoteOnChanges name.now output.now.refusals.items output.now.failed) output.now (N.told notes.old) (N.told notes.new) result }
@@ -97,7 +73,7 @@ fn tell_changes<N: Notes>(
     if output.refusals.is_empty() {
         return Ok(false);
     }
-    let note = changes_note(alloc, name, script_text, script, keep_going, output)?;
+    let note = changes_note(alloc, name, script_text, script, output)?;
     notes.tell(note.as_slice());
     Ok(true)
 }
@@ -121,16 +97,12 @@ pub fn tell_refusals<N: Notes>(
         return Ok(false);
     }
     match command {
-        Command::Script {
-            script: name,
-            keep_going,
-            ..
-        } => tell_changes(alloc, notes, name, script_text, keep_going, output),
-        Command::Compare {
-            first: name,
-            keep_going,
-            ..
-        } => tell_changes(alloc, notes, name, script_text, keep_going, output),
+        Command::Script { script: name, .. } => {
+            tell_changes(alloc, notes, name, script_text, output)
+        }
+        Command::Compare { first: name, .. } => {
+            tell_changes(alloc, notes, name, script_text, output)
+        }
         Command::Drill { .. } => Ok(false),
     }
 }
