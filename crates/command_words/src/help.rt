@@ -54,7 +54,7 @@ statuses:
   4   the key file isn't in its grammar
   5   a file can't be opened or read
   6   the standard output failed
-  7   want of memory
+  7   out of memory
   8   a file has more than 67,108,864 bytes
   9   the rules file isn't in its grammar
   10  the capture isn't in its form
@@ -92,7 +92,7 @@ options, in any order among the names:
   --keep-going   a refused change is skipped, and doesn't fail its transaction
 
 statuses: 0 done, 1 done with a refused change, 3 SCRIPT isn't in its grammar, 4 KEYS isn't,
-5 a file can't be read, 6 the standard output failed, 7 want of memory, 8 a file is too large
+5 a file can't be read, 6 the standard output failed, 7 out of memory, 8 a file is too large
 ";
 
 /// The page of `list`.
@@ -106,7 +106,7 @@ options, before or after the name:
   --keep-going   a refused change is skipped, and doesn't fail its transaction
 
 statuses: 0 done, 1 done with a refused change, 3 SCRIPT isn't in its grammar, 5 it can't be
-read, 6 the standard output failed, 7 want of memory, 8 SCRIPT is too large
+read, 6 the standard output failed, 7 out of memory, 8 SCRIPT is too large
 ";
 
 /// The page of `dump`.
@@ -120,7 +120,7 @@ options, before or after the name:
   --keep-going   a refused change is skipped, and doesn't fail its transaction
 
 statuses: 0 done, 1 done with a refused change, 3 SCRIPT isn't in its grammar, 5 it can't be
-read, 6 the standard output failed, 7 want of memory, 8 SCRIPT is too large
+read, 6 the standard output failed, 7 out of memory, 8 SCRIPT is too large
 ";
 
 /// The page of `drill`.
@@ -133,7 +133,7 @@ looks the packets up, and writes one line on it: the same for every number of th
 options, in any order among the numbers:
   --threads N    packet threads: 1 to 16, and else 1
 
-statuses: 0 done, 6 the standard output failed, 7 want of memory
+statuses: 0 done, 6 the standard output failed, 7 out of memory
 ";
 
 /// The page of `judge`.
@@ -149,7 +149,7 @@ options, in any order among the names:
   --keep-going   a refused change is skipped, and doesn't fail its transaction
 
 statuses: 0 done, 1 done with a refused change, 3 SCRIPT isn't in its grammar, 4 KEYS isn't,
-9 RULES isn't, 5 a file can't be read, 6 the standard output failed, 7 want of memory, 8 a file
+9 RULES isn't, 5 a file can't be read, 6 the standard output failed, 7 out of memory, 8 a file
 is too large
 ";
 
@@ -167,7 +167,7 @@ options, in any order among the names:
   --keep-going   a refused change is skipped, and doesn't fail its transaction
 
 statuses: 0 done, 1 done with a refused change, 3 SCRIPT isn't in its grammar, 11 PLAN isn't,
-10 PCAP isn't in its form, 5 a file can't be read, 6 the standard output failed, 7 want of
+10 PCAP isn't in its form, 5 a file can't be read, 6 the standard output failed, 7 out of
 memory, 8 a file is too large
 ";
 
@@ -186,7 +186,7 @@ options, before or after the name:
   --keep-going   a refused change is skipped, and doesn't fail its transaction
 
 statuses: 0 done, 1 done with a refused change, 3 SCRIPT isn't in its grammar, 12 it has more
-than 17 sections, 5 it can't be read, 6 the standard output failed, 7 want of memory, 8 SCRIPT
+than 17 sections, 5 it can't be read, 6 the standard output failed, 7 out of memory, 8 SCRIPT
 is too large
 ";
 
@@ -206,7 +206,7 @@ options, before SCRIPT:
 
 statuses: 0 an element holds the key and no change was refused, 1 no element does or a change
 was refused, 3 SCRIPT isn't in its grammar, 13 the words are no key, 5 SCRIPT can't be read, 6 the
-standard output failed, 7 want of memory, 8 SCRIPT is too large
+standard output failed, 7 out of memory, 8 SCRIPT is too large
 ";
 
 /// The page of `compare`.
@@ -220,11 +220,14 @@ holds it and its line. If each has a key that the other lacks, there are two lin
 sets that only one script has. Refused changes come first, as comments. One script may be -, the
 standard input.
 
-options, before or behind the names:
+An element that expires after its script's last moment still counts. A change of a transaction
+that fails doesn't: its script's sets are those of the generation before.
+
+options, before or after the names:
   --keep-going   a refused change is skipped, and doesn't fail its transaction
 
 statuses: 0 all sets are the same and no change was refused, 1 sets differ or a change was refused,
-3 a script isn't in its grammar, 5 a script can't be read, 6 the standard output failed, 7 want of
+3 a script isn't in its grammar, 5 a script can't be read, 6 the standard output failed, 7 out of
 memory, 8 a script is too large
 ";
 

@@ -18,7 +18,7 @@ ghost use Rattle.input_files.specs.Noted.{IsNoteOn};
 
 use crate::fault::{FileFault, Flaw};
 use crate::script_told::tell_script;
-use crate::told::{tell_bad, tell_capture, tell_keys, tell_read_fault, tell_too_large};
+use crate::told::{tell_bad, tell_capture, tell_read_fault, tell_too_large};
 use fault_notes::TextKind;
 use key_file::read_keys;
 use pcap_keys::{CaptureError, Frames, Plan, read_capture, read_plan};
@@ -162,7 +162,7 @@ pub fn keys_of<'a, F: Shelf, N: Notes>(
         Ok(keys) => Ok(keys),
         Err(FormError::Bad { line, reason }) => {
             let found = key_file::bad_token(alloc, schema, bytes);
-            tell_keys(alloc, notes, schema, name, bytes, found);
+            tell_bad(alloc, notes, TextKind::Keys, schema, name, bytes, found);
             Err(FileFault::Bad(Flaw::Keys { line, reason }))
         }
         Err(FormError::Memory) => Err(FileFault::Memory),
@@ -198,7 +198,7 @@ pub fn rules_of<'a, F: Shelf, N: Notes>(
         Ok(rules) => Ok(rules),
         Err(FormError::Bad { line, reason }) => {
             let found = rule_chain::bad_token(alloc, schema, bytes);
-            tell_bad(alloc, notes, TextKind::Rules, name, bytes, found);
+            tell_bad(alloc, notes, TextKind::Rules, schema, name, bytes, found);
             Err(FileFault::Bad(Flaw::Rules { line, reason }))
         }
         Err(FormError::Memory) => Err(FileFault::Memory),
@@ -234,7 +234,7 @@ pub fn plan_of<'a, F: Shelf, N: Notes>(
         Ok(plan) => Ok(plan),
         Err(FormError::Bad { line, reason }) => {
             let found = pcap_keys::bad_token(alloc, schema, bytes);
-            tell_bad(alloc, notes, TextKind::Plan, name, bytes, found);
+            tell_bad(alloc, notes, TextKind::Plan, schema, name, bytes, found);
             Err(FileFault::Bad(Flaw::Plan { line, reason }))
         }
         Err(FormError::Memory) => Err(FileFault::Memory),

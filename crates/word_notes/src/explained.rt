@@ -154,10 +154,16 @@ pub(crate) fn explain(said: &mut Explained, fault: WordFault<'_>) -> Result<(), 
             b" can't come with these words",
             b"write it alone, or --help alone after a command",
         ),
+        WordFault::NoPage(word) => explain_extra(
+            said,
+            word,
+            b" has no page of its own",
+            b"write 'pipapo help' alone, or a command after it, as: pipapo help run",
+        ),
         WordFault::TooMuchHelp(word) => explain_extra(
             said,
             word,
-            b" is a word too many",
+            b" is an extra word",
             b"write one command after 'help'",
         ),
         WordFault::NotAnOption(verb, option) => explain_option(said, verb, option),
@@ -192,11 +198,11 @@ pub(crate) fn explain(said: &mut Explained, fault: WordFault<'_>) -> Result<(), 
             b"only one file can be the standard input",
         ),
         WordFault::TooMany(verb, word) => {
-            explain_extra(said, word, b" is a word too many", form_of(verb))
+            explain_extra(said, word, b" is an extra word", form_of(verb))
         }
         WordFault::Missing(verb, names) => explain_missing(said, verb, names),
         WordFault::Other => said.say(
-            b"these words are no command",
+            b"these words aren't a command",
             b"'pipapo help' explains the commands",
         ),
     }
