@@ -7,7 +7,7 @@ use Rattle.command_words.specs.declared.page.Page.{Page}
 use Rattle.command_words.specs.declared.page.Page.TheVariants.{Program, Command as On, Version}
 use Rattle.command_words.specs.GetWords.{Asked, asked, is_file_name, keep_going_word}
 use Rattle.command_words.specs.Fronts.{after_front}
-use Rattle.command_words.specs.Words.{AreWords, AreGetWords, AreArguments, AsksFor, Command, run, list, dump, drill, judge, capture, desk, get, IsCommand, verb_word, threads_word, threads_front, compare, stat}
+use Rattle.command_words.specs.Words.{AreWords, AreGetWords, AreArguments, AsksFor, Command, run, list, dump, drill, judge, capture, desk, get, IsCommand, verb_word, threads_word, threads_front, compare, stat, judge_capture}
 use Rattle.command_words.specs.WordForms.{verb_of}
 use Rattle.command_words.proofs.CommandWords.{leads, Leads, by_name, by_threads, by_joined, by_mark}
 
@@ -139,6 +139,7 @@ page-no-command words page (dump script g) asks h = no-page words (dump script g
 page-no-command words page (stat script g) asks h = no-page words (stat script g) (behind words (script ∷ []) Stat None g h) page asks
 page-no-command words page (drill seed count n) asks h = no-page words (drill seed count n) (behind words (h.1 ∷ h.2 ∷ []) Drill h.0 false h.3) page asks
 page-no-command words page (judge script rules keys n g) asks h = no-page words (judge script rules keys n g) (behind words (script ∷ rules ∷ keys ∷ []) Judge h.0 g h.1) page asks
+page-no-command words page (judge_capture script rules plan packets n g) asks h = no-page words (judge_capture script rules plan packets n g) (behind words (script ∷ rules ∷ plan ∷ packets ∷ []) Judge h.0 g h.1) page asks
 page-no-command words page (capture script plan packets n g) asks h = no-page words (capture script plan packets n g) (behind words (script ∷ plan ∷ packets ∷ []) Capture h.0 g h.1) page asks
 page-no-command words page (desk script g) asks h = no-page words (desk script g) (behind words (script ∷ []) Desk None g h) page asks
 page-no-command words page (compare first second g) asks h = no-page words (compare first second g) (behind words (first ∷ second ∷ []) Compare None g h.0) page asks

@@ -1,5 +1,5 @@
 -- How the words of a command are read: word by word by their shape, and then by the ids of their values.
-use Rattle.std.specs.Prelude.{◌≡◌, ◌≢◌, ℕ, ◌+◌, Bool, true, false, ◌==◌, ◌&&◌, not, List, fold, nat_le, nat_lt, if◌then◌else◌, codes, bytes_eq, decimal, is_some, Option, Some, None, slice_get, length, ◌≤◌, IfSome, IsTrue, option_map, map}
+use Rattle.std.specs.Prelude.{◌≡◌, ◌≢◌, ℕ, ◌+◌, Bool, true, false, ◌==◌, ◌&&◌, ◌||◌, not, List, fold, nat_le, nat_lt, if◌then◌else◌, codes, bytes_eq, decimal, is_some, Option, Some, None, slice_get, length, ◌≤◌, IfSome, IsTrue, option_map, map}
 use Rattle.std.specs.String.{string_bytes}
 use Rattle.std.specs.Bool.{then_some}
 use Rattle.std.specs.List.{count_by}
@@ -20,20 +20,33 @@ use Rattle.command_words.specs.declared.help.TheConstants.{PROGRAM, RUN, LIST, D
 use Rattle.command_words.specs.Fronts.{after_front}
 use Rattle.command_words.specs.Numbers.{number_within}
 use Rattle.command_words.specs.GetWords.{asked, is_file_name, keep_going_word}
-use Rattle.command_words.specs.Words.{Command, run, list, dump, drill, judge, capture, desk, get, IsCommand, is_stdin, threads_word, threads_front, last_seed, most_drill_elements, compare, stat}
+use Rattle.command_words.specs.Words.{Command, run, list, dump, drill, judge, judge_capture, capture, desk, get, IsCommand, is_stdin, threads_word, threads_front, last_seed, most_drill_elements, compare, stat}
 
--- How many names a command has. The words of `get` have a reading of their own, and no shape.
-abbrev pub name_count : Verb → ℕ
-name_count verbs.Run = 2
-name_count verbs.List = 1
-name_count verbs.Dump = 1
-name_count verbs.Stat = 1
-name_count verbs.Drill = 2
-name_count verbs.Judge = 3
-name_count verbs.Capture = 3
-name_count verbs.Desk = 1
-name_count verbs.Get = 1
-name_count verbs.Compare = 2
+-- The most names that a command has. The words of `get` have a reading of their own, and no shape.
+abbrev pub most_names : Verb → ℕ
+most_names verbs.Run = 2
+most_names verbs.List = 1
+most_names verbs.Dump = 1
+most_names verbs.Stat = 1
+most_names verbs.Drill = 2
+most_names verbs.Judge = 4
+most_names verbs.Capture = 3
+most_names verbs.Desk = 1
+most_names verbs.Get = 1
+most_names verbs.Compare = 2
+
+-- So many names are all that a command has. A `judge` has a key file, or a plan and a capture.
+abbrev pub has_all : Verb → ℕ → Bool
+has_all verbs.Run names = names == most_names verbs.Run
+has_all verbs.List names = names == most_names verbs.List
+has_all verbs.Dump names = names == most_names verbs.Dump
+has_all verbs.Stat names = names == most_names verbs.Stat
+has_all verbs.Drill names = names == most_names verbs.Drill
+has_all verbs.Judge names = (names == 3) || (names == 4)
+has_all verbs.Capture names = names == most_names verbs.Capture
+has_all verbs.Desk names = names == most_names verbs.Desk
+has_all verbs.Get names = names == most_names verbs.Get
+has_all verbs.Compare names = names == most_names verbs.Compare
 
 -- A command may have packet threads.
 abbrev pub takes_threads : Verb → Bool
@@ -79,7 +92,7 @@ is_name_of verbs.Get place word = false
 is_name_of verbs.Compare place word = is_file_name word
 
 abbrev pub takes_name : Verb → ℕ → List ℕ → Bool
-takes_name verb place word = nat_lt place (name_count verb) && is_name_of verb place word
+takes_name verb place word = nat_lt place (most_names verb) && is_name_of verb place word
 
 -- the shape with the number of packet threads
 abbrev pub with_threads : Shape → List ℕ → Option Shape
@@ -109,7 +122,7 @@ empty_shape = record { names = 0; threads = false; keep_going = false; waiting =
 
 abbrev pub is_whole_shape : Verb → Option Shape → Bool
 is_whole_shape verb None = false
-is_whole_shape verb (Some s) = not s.waiting && (s.names == name_count verb)
+is_whole_shape verb (Some s) = not s.waiting && has_all verb s.names
 
 -- The words after a command's word have its shape.
 abbrev pub has_shape : Verb → List (List ℕ) → Bool
@@ -143,6 +156,7 @@ verb_of (dump script keep_going) = verbs.Dump
 verb_of (stat script keep_going) = verbs.Stat
 verb_of (drill seed count threads) = verbs.Drill
 verb_of (judge script rules keys threads keep_going) = verbs.Judge
+verb_of (judge_capture script rules plan packets threads keep_going) = verbs.Judge
 verb_of (capture script plan packets threads keep_going) = verbs.Capture
 verb_of (desk script keep_going) = verbs.Desk
 verb_of (get script key moment keep_going) = verbs.Get
@@ -178,6 +192,7 @@ plain_task script tasks.List keep_going = list script keep_going
 plain_task script tasks.Dump keep_going = dump script keep_going
 plain_task script tasks.Stat keep_going = stat script keep_going
 plain_task script (tasks.Judge rules keys threads) keep_going = judge script rules.now keys.now threads keep_going
+plain_task script (tasks.JudgeCapture rules plan packets threads) keep_going = judge_capture script rules.now plan.now packets.now threads keep_going
 plain_task script (tasks.Capture plan packets threads) keep_going = capture script plan.now packets.now threads keep_going
 plain_task script tasks.Desk keep_going = desk script keep_going
 plain_task script (tasks.Get key moment) keep_going = get script (map string_bytes key.now) moment keep_going
@@ -187,9 +202,9 @@ plain (asked.Script script task keep_going) = plain_task script.now task keep_go
 plain (asked.Drill seed count threads) = drill seed count threads
 plain (asked.Compare first second keep_going) = compare first.now second.now keep_going
 
--- At most three names, and a word after `--threads` that doesn't begin with a dash.
+-- At most four names, and a word after `--threads` that doesn't begin with a dash.
 pub record ArePlain (names : List (List ℕ)) (threads : Option (List ℕ)) : Type 0 where
-  pub few : length names ≤ 3
+  pub few : length names ≤ 4
   pub no_dash : IfSome threads (λ word. IsTrue (is_file_name word))
 
 -- The values that were found by their ids are these arguments.
@@ -197,6 +212,7 @@ pub record HasFoundValues (found : Found) (names : List (List ℕ)) (threads : O
   pub first : first_value found (codes "first") ≡ slice_get names 0
   pub second : first_value found (codes "second") ≡ slice_get names 1
   pub third : first_value found (codes "third") ≡ slice_get names 2
+  pub fourth : first_value found (codes "fourth") ≡ slice_get names 3
   pub threads_are : first_value found (codes "threads") ≡ threads
   pub mark : one_text found (codes "keep-going") ≡ Some (if keep_going then codes "true" else codes "false")
 
@@ -205,5 +221,6 @@ pub record HasArguments (a : Arguments) (names : List (List ℕ)) (threads : Opt
   pub first : option_map (λ w. w.now) a.first ≡ slice_get names 0
   pub second : option_map (λ w. w.now) a.second ≡ slice_get names 1
   pub third : option_map (λ w. w.now) a.third ≡ slice_get names 2
+  pub fourth : option_map (λ w. w.now) a.fourth ≡ slice_get names 3
   pub threads_are : option_map (λ w. w.now) a.threads ≡ threads
   pub mark : a.keep_going ≡ keep_going

@@ -75,6 +75,7 @@ pub data Command : Type 0 where
   stat : (script : List ℕ) (keep_going : Bool) → Command
   drill : (seed count threads : ℕ) → Command
   judge : (script rules keys : List ℕ) (threads : ℕ) (keep_going : Bool) → Command
+  judge_capture : (script rules plan packets : List ℕ) (threads : ℕ) (keep_going : Bool) → Command
   capture : (script plan packets : List ℕ) (threads : ℕ) (keep_going : Bool) → Command
   desk : (script : List ℕ) (keep_going : Bool) → Command
   get : (script : List ℕ) (key : List (List ℕ)) (moment : Option ℕ) (keep_going : Bool) → Command
@@ -108,6 +109,7 @@ IsCommand words (stat script keep_going) = AreWords words (codes "stat") (script
 IsCommand words (drill seed count n) = (threads : Option (List ℕ)) × (seed_word : List ℕ) × (count_word : List ℕ)
     × AreWords words (codes "drill") (seed_word ∷ count_word ∷ []) threads false × IsNumber 0 last_seed seed_word seed × IsNumber 1 most_drill_elements count_word count × AreThreads threads n
 IsCommand words (judge script rules keys n keep_going) = ArePacketWords words (codes "judge") (script ∷ rules ∷ keys ∷ []) n keep_going
+IsCommand words (judge_capture script rules plan packets n keep_going) = ArePacketWords words (codes "judge") (script ∷ rules ∷ plan ∷ packets ∷ []) n keep_going
 IsCommand words (capture script plan packets n keep_going) = ArePacketWords words (codes "capture") (script ∷ plan ∷ packets ∷ []) n keep_going
 IsCommand words (desk script keep_going) = AreWords words (codes "desk") (script ∷ []) None keep_going
 IsCommand words (compare first second keep_going) = AreFileWords words (codes "compare") (first ∷ second ∷ []) keep_going
@@ -126,7 +128,7 @@ pub record IsNoCommand (words : List (List ℕ)) : Type 0 where
 
 -- The words are a command of one of these sorts: a run of a script beside a key file, a listing of a
 -- script, a dump of its tables or their figures; a drill; a run whose packets a rules file judges, or whose packets a
--- plan takes from a capture; or a script by several control threads; or a question for a key; or a comparison of two scripts.
+-- plan takes from a capture, or both; or a script by several control threads; or a question for a key; or a comparison of two scripts.
 abbrev pub IsRunCommand : List (List ℕ) → List ℕ → List ℕ → ℕ → Bool → Type 0
 IsRunCommand words script keys threads keep_going = IsCommand words (run script keys threads keep_going)
 
@@ -144,6 +146,9 @@ IsDrillCommand words seed count threads = IsCommand words (drill seed count thre
 
 abbrev pub IsJudgeCommand : List (List ℕ) → List ℕ → List ℕ → List ℕ → ℕ → Bool → Type 0
 IsJudgeCommand words script rules keys threads keep_going = IsCommand words (judge script rules keys threads keep_going)
+
+abbrev pub IsJudgeCaptureCommand : List (List ℕ) → List ℕ → List ℕ → List ℕ → List ℕ → ℕ → Bool → Type 0
+IsJudgeCaptureCommand words script rules plan packets threads keep_going = IsCommand words (judge_capture script rules plan packets threads keep_going)
 
 abbrev pub IsCaptureCommand : List (List ℕ) → List ℕ → List ℕ → List ℕ → ℕ → Bool → Type 0
 IsCaptureCommand words script plan packets threads keep_going = IsCommand words (capture script plan packets threads keep_going)
@@ -165,6 +170,7 @@ file_names (dump script keep_going) = script ∷ []
 file_names (stat script keep_going) = script ∷ []
 file_names (drill seed count threads) = []
 file_names (judge script rules keys threads keep_going) = script ∷ rules ∷ keys ∷ []
+file_names (judge_capture script rules plan packets threads keep_going) = script ∷ rules ∷ plan ∷ packets ∷ []
 file_names (capture script plan packets threads keep_going) = script ∷ plan ∷ packets ∷ []
 file_names (desk script keep_going) = script ∷ []
 file_names (get script key moment keep_going) = script ∷ []

@@ -12,6 +12,7 @@ usage: pipapo run SCRIPT KEYS [--threads N] [--keep-going]
        pipapo dump SCRIPT [--keep-going]
        pipapo drill SEED COUNT [--threads N]
        pipapo judge SCRIPT RULES KEYS [--threads N] [--keep-going]
+       pipapo judge SCRIPT RULES PLAN PCAP [--threads N] [--keep-going]
        pipapo capture SCRIPT PLAN PCAP [--threads N] [--keep-going]
        pipapo desk SCRIPT [--keep-going]
        pipapo get [--at MOMENT] [--keep-going] SCRIPT KEY ..
@@ -27,7 +28,7 @@ commands:
     stat     runs SCRIPT, and prints how large its sets and their tables are
   to run a script:
     run      runs SCRIPT beside the packets of KEYS, and writes the transcript
-    judge    as run, but each packet is judged by the chains of RULES
+    judge    as run or capture, but each packet is judged by the chains of RULES
     capture  as run, but the packets are those that PLAN takes from the capture PCAP
     desk     runs the sections of SCRIPT by several control threads, and lists the result
     drill    runs a workload drawn from SEED, and writes one line on it
@@ -139,18 +140,20 @@ statuses: 0 done, 6 the standard output failed, 7 out of memory
 /// The page of `judge`.
 pub const JUDGE: &str = "\
 usage: pipapo judge SCRIPT RULES KEYS [--threads N] [--keep-going]
+       pipapo judge SCRIPT RULES PLAN PCAP [--threads N] [--keep-going]
 
-Runs SCRIPT beside the packets of the key file KEYS, and writes the transcript, in which each
-packet has the rule of the rules file RULES that decides on it, or RULES' policy. One of the
-three names may be -, the standard input.
+Runs SCRIPT beside packets, and writes the transcript, in which each packet has the rule of the
+rules file RULES that decides on it, or RULES' policy. The packets are those of the key file
+KEYS, or those that PLAN takes from the capture PCAP, as in capture. One of the names may be -,
+the standard input.
 
 options, in any order among the names:
   --threads N    packet threads beside the control: 1 to 16, and else 1
   --keep-going   a refused change is skipped, and doesn't fail its transaction
 
 statuses: 0 done, 1 done with a refused change, 3 SCRIPT isn't in its grammar, 4 KEYS isn't,
-9 RULES isn't, 5 a file can't be read, 6 the standard output failed, 7 out of memory, 8 a file
-is too large
+9 RULES isn't, 11 PLAN isn't, 10 PCAP isn't in its form, 5 a file can't be read, 6 the standard
+output failed, 7 out of memory, 8 a file is too large
 ";
 
 /// The page of `capture`.
@@ -260,5 +263,5 @@ options, before or after the name:
   --keep-going   a refused change is skipped, and doesn't fail its transaction
 
 statuses: 0 done, 1 done with a refused change, 3 SCRIPT isn't in its grammar, 5 it can't be
-read, 6 the standard output failed, 7 want of memory, 8 SCRIPT is too large
+read, 6 the standard output failed, 7 out of memory, 8 SCRIPT is too large
 ";

@@ -7,7 +7,7 @@ use Rattle.set_script.proofs.ScriptWhole.{script_single}
 use Rattle.key_file.specs.KeysText.{IsKeysText}
 use Rattle.rule_chain.specs.RulesText.{IsRulesText}
 use Rattle.pcap_keys.specs.PlansText.{IsPlanText}
-use Rattle.command_words.specs.Words.{Command, run, list, dump, drill, judge, capture as capture_command, desk, get, compare, stat}
+use Rattle.command_words.specs.Words.{Command, run, list, dump, drill, judge, capture as capture_command, desk, get, compare, stat, judge_capture}
 use Rattle.input_files.specs.declared.fault.Flaw.{Flaw}
 use Rattle.input_files.specs.declared.fault.Flaw.TheVariants as flaws
 use Rattle.input_files.specs.Inputs.{Input, FileForm, script, second, keys, rules, plan, capture, inputs, form_of, IsOf, IsFlawed, ReadsAs}
@@ -135,6 +135,7 @@ first-is-script c a i later e = go c a e where
   go (get s k m g) a e = head-is _ _ a refl e
   go (compare f s g) a e = head-is _ _ a refl e
   go (judge s r k n g) a e = head-is _ _ a refl e
+  go (judge_capture s r p f n g) a e = head-is _ _ a refl e
   go (capture_command s p f n g) a e = head-is _ _ a refl e
   go (drill s k n) [] e = absurd (cc e)
   go (drill s k n) (x ∷ a) e = absurd (cc e)

@@ -57,6 +57,16 @@ pub enum Work<'a> {
         keep_going: bool,
     },
     /// A run of a script beside the packets that a plan takes from a capture's frames. So many packet
+    /// threads look them up, and chains of rules judge them.
+    JudgeCapture {
+        script: Script,
+        chains: Chains,
+        plan: Plan,
+        frames: Frames,
+        threads: u32,
+        keep_going: bool,
+    },
+    /// A run of a script beside the packets that a plan takes from a capture's frames. So many packet
     /// threads look them up.
     Capture {
         script: Script,
@@ -178,6 +188,32 @@ pub fn work_of<'a, F: Shelf, N: Notes>(
                     match capture_of(alloc, shelf, notes, packets) {
                         Ok(frames) => Ok(Work::Capture {
                             script,
+                            plan,
+                            frames,
+                            threads,
+                            keep_going,
+                        }),
+                        Err(fault) => Err(fault),
+                    }
+                }
+                Task::JudgeCapture {
+                    rules,
+                    plan,
+                    packets,
+                    threads,
+                } => {
+                    let chains = match rules_of(alloc, shelf, notes, &script.schema, rules) {
+                        Ok(chains) => chains,
+                        Err(fault) => return Err(fault),
+                    };
+                    let plan = match plan_of(alloc, shelf, notes, &script.schema, plan) {
+                        Ok(plan) => plan,
+                        Err(fault) => return Err(fault),
+                    };
+                    match capture_of(alloc, shelf, notes, packets) {
+                        Ok(frames) => Ok(Work::JudgeCapture {
+                            script,
+                            chains,
                             plan,
                             frames,
                             threads,

@@ -43,6 +43,32 @@ fn told_task<'a>(
     )
 }
 
+/// The same with four names.
+fn told_four<'a>(
+    alloc: Global,
+    verb: &'a [u8],
+    names: &[&'a str; 4],
+    threads: u32,
+    keep_going: bool,
+) -> Result<Vec<u8>, Memory> {
+    line_of(
+        alloc,
+        &[
+            Piece::Word(verb),
+            Piece::Word(names[0].as_bytes()),
+            Piece::Word(b" "),
+            Piece::Word(names[1].as_bytes()),
+            Piece::Word(b" "),
+            Piece::Word(names[2].as_bytes()),
+            Piece::Word(b" "),
+            Piece::Word(names[3].as_bytes()),
+            Piece::Word(b" "),
+            Piece::Number(u64::from(threads)),
+            Piece::Word(if keep_going { b" true" } else { b" false" }),
+        ],
+    )
+}
+
 /// A `get`: the script, how many words the key has, its last word, and the moment.
 fn told_key<'a>(
     alloc: Global,
@@ -95,6 +121,18 @@ fn told_script(
             alloc,
             b"judge ",
             &[script, rules, keys],
+            threads,
+            keep_going,
+        ),
+        Task::JudgeCapture {
+            rules,
+            plan,
+            packets,
+            threads,
+        } => told_four(
+            alloc,
+            b"judge ",
+            &[script, rules, plan, packets],
             threads,
             keep_going,
         ),
@@ -208,7 +246,8 @@ const NO_COMMANDS: &[u8] = b"\
     drill a 1|no command~\
     drill 1 2 --keep-going|no command~\
     judge a b|no command~\
-    judge a b c d|no command~\
+    judge a b c d e|no command~\
+    judge a - c -|no command~\
     judge a - -|no command~\
     judge - b -|no command~\
     judge a b --threads c|no command~\
@@ -271,6 +310,8 @@ const COMMANDS: &[u8] = b"\
     drill 0 1 --threads=4|drill 0 1 4~\
     judge a b c|judge a b c 1 false~\
     judge a --threads 3 - --keep-going c|judge a - c 3 true~\
+    judge a b c d|judge a b c d 1 false~\
+    judge a --threads=3 b --keep-going c -|judge a b c - 3 true~\
     capture a b -|capture a b - 1 false~\
     capture --keep-going a b c --threads 16|capture a b c 16 true~\
     desk a|desk a   0 false~\
@@ -326,7 +367,7 @@ const PAGES: &[u8] = b"\
 
 #[test]
 fn words_of_a_command(rt: HostRuntime) {
-    assert_told(&rt, rt.alloc(), NO_COMMANDS, 83, asked);
-    assert_told(&rt, rt.alloc(), COMMANDS, 31, asked);
+    assert_told(&rt, rt.alloc(), NO_COMMANDS, 84, asked);
+    assert_told(&rt, rt.alloc(), COMMANDS, 33, asked);
     assert_told(&rt, rt.alloc(), PAGES, 31, asked);
 }

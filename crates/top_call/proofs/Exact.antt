@@ -32,7 +32,7 @@ use Rattle.top_call.specs.Answers.{Ends, EndsDuly, written, cut, memory, IsDue, 
 use Rattle.top_call.specs.Exactly.{HasTurn, IsExact, IsStatus, Completes, DeliversText, DeliversRun, DeliversJudgement, DeliversDesk, DeliversAnswer, DeliversComparison, HasScript, RanOut}
 use Rattle.top_call.specs.Promises.{Promises, Goes}
 use Rattle.top_call.proofs.Noting.{no-note, page-quiet}
-use Rattle.top_call.proofs.Endings.{does, page-told, transcribes, judges, captures, lists, dumps, weaves, answers-keys, drills, tells-page, compares, counts}
+use Rattle.top_call.proofs.Endings.{does, page-told, transcribes, judges, captures, lists, dumps, weaves, answers-keys, drills, tells-page, compares, counts, judges-captures}
 use Rattle.top_call.proofs.Completed.{completes, file-given, given-script, tells-read-fault, tells-flaw, tells-too-many, tells-bad-key, shelf-moved, sink-moved}
 
 -- A file came to its turn, and the shelf shows its text.
@@ -240,6 +240,7 @@ module _ (c : Call) (ends : EndsDuly c) (quiet : IsQuiet c) where
     done_run = λ script keys n g s packets is_run hs hk. of-run n (mode_of g) s packets (done.run script keys n g s packets is_run hs hk);
     done_judge = λ script rules keys n g s r packets is_judge hs hr hk. of-judgement n (mode_of g) s r packets (done.judge script rules keys n g s r packets is_judge hs hr hk);
     done_capture = λ script plan packets n g s taken is_capture hs hc. of-run n (mode_of g) s (taken ∷ []) (done.capture script plan packets n g s taken is_capture hs hc);
+    done_judge_capture = λ script rules plan packets n g s r taken is_judge hs hr hc. of-judgement n (mode_of g) s r (taken ∷ []) (done.judge_capture script rules plan packets n g s r taken is_judge hs hr hc);
     done_list = λ script g s is_list hs. of-text (mode_of g) s _ (done.list script g s is_list hs);
     done_dump = λ script g s is_dump hs. of-text (mode_of g) s _ (done.dump script g s is_dump hs);
     done_stat = λ script g s is_stat hs. of-text (mode_of g) s _ (done.stat script g s is_stat hs);
@@ -261,6 +262,7 @@ promises c g = record {
   run = λ e. transcribes c g.ends e;
   judge = λ e. judges c g.ends e;
   capture = λ e. captures c g.ends e;
+  judge_capture = λ e. judges-captures c g.ends e;
   list = λ e. lists c g.ends e;
   dump = λ e. dumps c g.ends e;
   stat = λ e. counts c g.ends e;

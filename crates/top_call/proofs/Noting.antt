@@ -68,6 +68,7 @@ script-named name tasks.Dump keep_going = (record { name = name; form = script }
 script-named name tasks.Stat keep_going = (record { name = name; form = script }, [], refl, refl)
 script-named name (tasks.Judge rules keys threads) keep_going = (record { name = name; form = script }, record { name = rules.now; form = rules_form } ∷ record { name = keys.now; form = keys_form } ∷ [], refl, refl)
 script-named name (tasks.Capture plan packets threads) keep_going = (record { name = name; form = script }, record { name = plan.now; form = plan_form } ∷ record { name = packets.now; form = capture_form } ∷ [], refl, refl)
+script-named name (tasks.JudgeCapture rules plan packets threads) keep_going = (record { name = name; form = script }, record { name = rules.now; form = rules_form } ∷ record { name = plan.now; form = plan_form } ∷ record { name = packets.now; form = capture_form } ∷ [], refl, refl)
 script-named name tasks.Desk keep_going = (record { name = name; form = script }, [], refl, refl)
 script-named name (tasks.Get key moment) keep_going = (record { name = name; form = script }, [], refl, refl)
 

@@ -28,7 +28,7 @@ use Rattle.key_answer.specs.Question.{IsKey, at_moment}
 use Rattle.compare_answer.specs.Compared.{GivesComparison}
 use Rattle.pip_base.specs.Whole.{size_limit}
 use Rattle.command_words.specs.declared.page.Page.{Page}
-use Rattle.command_words.specs.Words.{Command, IsCommand, AsksFor, IsNoCommand, IsRunCommand, IsListCommand, IsDumpCommand, IsDrillCommand, IsJudgeCommand, IsCaptureCommand, IsDeskCommand, IsGetCommand, IsCompareCommand, IsStatCommand}
+use Rattle.command_words.specs.Words.{Command, IsCommand, AsksFor, IsNoCommand, IsRunCommand, IsListCommand, IsDumpCommand, IsDrillCommand, IsJudgeCommand, IsCaptureCommand, IsDeskCommand, IsGetCommand, IsCompareCommand, IsStatCommand, IsJudgeCaptureCommand}
 use Rattle.input_files.specs.Inputs.{Input, inputs, IsOf}
 use Rattle.input_files.specs.Given.{Has, AreGiven}
 use Rattle.top_call.specs.Transcript.{AreRulesOf, most_sections}
@@ -85,6 +85,8 @@ pub record IsExact (c : Call) : Type 0 where
       → HasRules c.shelf.told rules s r → HasKeys c.shelf.told keys s packets → IsStatus (done_status (has_refusal (mode_of keep_going) s)) c
   pub done_capture : (script plan packets : List ℕ) (threads : ℕ) (keep_going : Bool) (s : Script) (taken : List Packet) → IsCaptureCommand c.words script plan packets threads keep_going → HasScript c.shelf.told script s
       → HasCaptured c.shelf.told plan packets s taken → IsStatus (done_status (has_refusal (mode_of keep_going) s)) c
+  pub done_judge_capture : (script rules plan packets : List ℕ) (threads : ℕ) (keep_going : Bool) (s : Script) (r : Rules) (taken : List Packet) → IsJudgeCaptureCommand c.words script rules plan packets threads keep_going → HasScript c.shelf.told script s
+      → HasRules c.shelf.told rules s r → HasCaptured c.shelf.told plan packets s taken → IsStatus (done_status (has_refusal (mode_of keep_going) s)) c
   pub done_list : (script : List ℕ) (keep_going : Bool) (s : Script) → IsListCommand c.words script keep_going → HasScript c.shelf.told script s → IsStatus (done_status (has_refusal (mode_of keep_going) s)) c
   pub done_dump : (script : List ℕ) (keep_going : Bool) (s : Script) → IsDumpCommand c.words script keep_going → HasScript c.shelf.told script s → IsStatus (done_status (has_refusal (mode_of keep_going) s)) c
   pub done_stat : (script : List ℕ) (keep_going : Bool) (s : Script) → IsStatCommand c.words script keep_going → HasScript c.shelf.told script s → IsStatus (done_status (has_refusal (mode_of keep_going) s)) c
@@ -150,6 +152,8 @@ pub record Completes (c : Call) : Type 0 where
       → HasRules c.shelf.told rules s r → HasKeys c.shelf.told keys s packets → DeliversJudgement threads (mode_of keep_going) s r packets c ⊎ RanOut c
   pub capture : (script plan packets : List ℕ) (threads : ℕ) (keep_going : Bool) (s : Script) (taken : List Packet) → IsCaptureCommand c.words script plan packets threads keep_going → HasScript c.shelf.told script s
       → HasCaptured c.shelf.told plan packets s taken → DeliversRun threads (mode_of keep_going) s (taken ∷ []) c ⊎ RanOut c
+  pub judge_capture : (script rules plan packets : List ℕ) (threads : ℕ) (keep_going : Bool) (s : Script) (r : Rules) (taken : List Packet) → IsJudgeCaptureCommand c.words script rules plan packets threads keep_going → HasScript c.shelf.told script s
+      → HasRules c.shelf.told rules s r → HasCaptured c.shelf.told plan packets s taken → DeliversJudgement threads (mode_of keep_going) s r (taken ∷ []) c ⊎ RanOut c
   pub list : (script : List ℕ) (keep_going : Bool) (s : Script) → IsListCommand c.words script keep_going → HasScript c.shelf.told script s → DeliversText (mode_of keep_going) s (listing_text (mode_of keep_going) s) c ⊎ RanOut c
   pub dump : (script : List ℕ) (keep_going : Bool) (s : Script) → IsDumpCommand c.words script keep_going → HasScript c.shelf.told script s → DeliversText (mode_of keep_going) s (tables_text (mode_of keep_going) s) c ⊎ RanOut c
   pub stat : (script : List ℕ) (keep_going : Bool) (s : Script) → IsStatCommand c.words script keep_going → HasScript c.shelf.told script s → DeliversText (mode_of keep_going) s (stat_text (mode_of keep_going) s) c ⊎ RanOut c

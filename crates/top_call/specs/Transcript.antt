@@ -24,7 +24,7 @@ use Rattle.script_run.specs.Listings.{listing_text, tables_text}
 use Rattle.stat_answer.specs.StatText.{stat_text}
 use Rattle.script_run.specs.Drill.{drill_text}
 use Rattle.desk_run.specs.DeskText.{IsDeskText}
-use Rattle.command_words.specs.Words.{Command, run, list, dump, drill, judge, capture, desk, get, compare, stat}
+use Rattle.command_words.specs.Words.{Command, run, list, dump, drill, judge, capture, desk, get, compare, stat, judge_capture}
 use Rattle.input_files.specs.declared.work.Work.{Work}
 use Rattle.input_files.specs.declared.work.Work.TheVariants as works
 
@@ -68,6 +68,19 @@ pub record IsJudgement (script_text rules_text keys_text : List ℕ) (threads : 
   pub keys_are : IsKeysText script.schema keys_text keys
   pub legal : AreLegal (IsJudged rules) script keys threads mode lines
   pub text : output ≡ run_text (judged_text rules) mode script keys lines
+  pub refusal : refused ≡ has_refusal mode script
+
+-- The same of the packets that a plan makes of a capture's frames.
+pub record IsJudgedCapture (script_text rules_text plan_text capture_text : List ℕ) (threads : ℕ) (mode : Mode) (refused : Bool) (output : List ℕ) : Type 0 where
+  pub script : Script
+  pub rules : Rules
+  pub packets : List Packet
+  pub lines : List Line
+  pub script_is : IsScriptText script_text script
+  pub rules_are : AreRulesOf script rules_text rules
+  pub captured : AreCaptured script.schema plan_text capture_text packets
+  pub legal : AreLegal (IsJudged rules) script (packets ∷ []) threads mode lines
+  pub text : output ≡ run_text (judged_text rules) mode script (packets ∷ []) lines
   pub refusal : refused ≡ has_refusal mode script
 
 -- The output is this text of the script that was read. It reports a refusal exactly if a change of the script is
@@ -125,6 +138,9 @@ IsOutput (drill seed count threads) told refused output = (refused ≡ false) ×
 IsOutput (judge script rules keys threads keep_going) told refused output =
     (script_text rules_text keys_text : List ℕ) → told script ≡ Some script_text → told rules ≡ Some rules_text → told keys ≡ Some keys_text
     → IsJudgement script_text rules_text keys_text threads (mode_of keep_going) refused output
+IsOutput (judge_capture script rules plan packets threads keep_going) told refused output =
+    (script_text rules_text plan_text capture_text : List ℕ) → told script ≡ Some script_text → told rules ≡ Some rules_text → told plan ≡ Some plan_text → told packets ≡ Some capture_text
+    → IsJudgedCapture script_text rules_text plan_text capture_text threads (mode_of keep_going) refused output
 IsOutput (capture script plan packets threads keep_going) told refused output =
     (script_text plan_text capture_text : List ℕ) → told script ≡ Some script_text → told plan ≡ Some plan_text → told packets ≡ Some capture_text
     → IsCaptured script_text plan_text capture_text threads (mode_of keep_going) refused output
@@ -154,6 +170,7 @@ HasFewClerks (works.Stat s keep_going) = Unit {0}
 HasFewClerks (works.Drill seed count threads) = Unit {0}
 HasFewClerks (works.Judge s chains packets threads keep_going) = Unit {0}
 HasFewClerks (works.Capture s plan frames threads keep_going) = Unit {0}
+HasFewClerks (works.JudgeCapture s chains plan frames threads keep_going) = Unit {0}
 HasFewClerks (works.Desk s keep_going) = length s.sections ≤ most_sections
 HasFewClerks (works.Get s key moment keep_going) = Unit {0}
 HasFewClerks (works.Compare a s b t keep_going) = Unit {0}
@@ -176,6 +193,8 @@ GivesText (works.Drill seed count threads) refused text = (text ≡ drill_text s
 GivesText (works.Capture s plan frames threads keep_going) refused text =
     HasTranscript s (planned_packets plan frames ∷ []) threads (mode_of keep_going) text × (refused ≡ has_refusal (mode_of keep_going) s)
 GivesText (works.Judge s chains packets threads keep_going) refused text = HasJudgement s chains packets threads (mode_of keep_going) text × (refused ≡ has_refusal (mode_of keep_going) s)
+GivesText (works.JudgeCapture s chains plan frames threads keep_going) refused text =
+    HasJudgement s chains (planned_packets plan frames ∷ []) threads (mode_of keep_going) text × (refused ≡ has_refusal (mode_of keep_going) s)
 GivesText (works.Desk s keep_going) refused text = IsDeskText s keep_going refused text × (length s.sections ≤ most_sections)
 GivesText (works.Get s key moment keep_going) refused text = GivesAnswer (mode_of keep_going) s (map string_bytes key.now) moment refused text
 GivesText (works.Compare a s b t keep_going) refused text = GivesComparison (mode_of keep_going) a.now s b.now t refused text
@@ -189,6 +208,7 @@ HasBadWords (works.Stat s keep_going) line reason = ⊥
 HasBadWords (works.Drill seed count threads) line reason = ⊥
 HasBadWords (works.Judge s chains packets threads keep_going) line reason = ⊥
 HasBadWords (works.Capture s plan frames threads keep_going) line reason = ⊥
+HasBadWords (works.JudgeCapture s chains plan frames threads keep_going) line reason = ⊥
 HasBadWords (works.Desk s keep_going) line reason = ⊥
 HasBadWords (works.Get s key moment keep_going) line reason = IsBadKey s.schema (map string_bytes key.now) line reason
 HasBadWords (works.Compare a s b t keep_going) line reason = ⊥

@@ -144,6 +144,8 @@ fn carry_out<R: Threads + Wait + Sync, F: Shelf, K: Sink, N: Notes, G: Gate>(
 ///   SEED. It writes a summary of one line.
 /// - `judge SCRIPT RULES KEYS [--threads N] [--keep-going]` runs a script while the chains of a rules file
 ///   decide on the packets of a key file. It writes the transcript with the deciding rules.
+/// - `judge SCRIPT RULES PLAN PCAP [--threads N] [--keep-going]` does the same for the packets that a plan takes
+///   from a capture.
 /// - `capture SCRIPT PLAN PCAP [--threads N] [--keep-going]` runs a script beside the packets that a plan
 ///   takes from a capture, and writes the transcript.
 /// - `desk SCRIPT [--keep-going]` runs the first section of a script, and then each of the others by a

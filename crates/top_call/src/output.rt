@@ -84,6 +84,17 @@ pub fn output_of<R: Threads + Wait + Sync, G: Gate>(
             threads,
             keep_going,
         } => Ok(judged(rt, alloc, script, chains, &keys, keep_going, threads, gate)?),
+        Work::JudgeCapture {
+            script,
+            chains,
+            plan,
+            frames,
+            threads,
+            keep_going,
+        } => {
+            let packets = captured(alloc, &plan, &frames)?;
+            Ok(judged(rt, alloc, script, chains, &packets, keep_going, threads, gate)?)
+        }
         Work::Desk { script, keep_going } => {
             Ok(desk(rt, alloc, script, keep_going, &QuietBell, gate)?)
         }
