@@ -149,6 +149,7 @@ impl Verb {
             Verb::Run
             | Verb::List
             | Verb::Dump
+            | Verb::Stat
             | Verb::Drill
             | Verb::Capture
             | Verb::Desk
