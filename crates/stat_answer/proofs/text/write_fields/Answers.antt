@@ -19,6 +19,6 @@ fields-preserved c =
       bytes =
           ap (λ n. n + c.from-bytes.result) c.fields.invariant.bytes
           ∙ ap (λ n. _ + n) (c.from-bytes.ensures ∙ ap (λ (x : FieldFigures). x.bytes) c.figures_at-figures.ensures)
-          ∙ sym (sum_by-map-range_with_len_more (λ (x : FieldFigures). x.bytes) (field_figures kinds es) 0 f f refl);
+          ∙ sym (sum_by-map-range_with_len_more (λ (x : FieldFigures). x.bytes) (field_figures kinds es) 0 f f (omega arith));
       small = omega (arith, c.from-bytes.ensures, c.from-bytes.type_inv, c.fields.invariant.small);
     }
