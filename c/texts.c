@@ -8,7 +8,7 @@ const char *pipapo_strerror(uint32_t error) {
     case PIPAPO_OK: return "success";
     case PIPAPO_MEMORY: return "out of memory";
     case PIPAPO_NOTHING: return "the handle is empty";
-    case PIPAPO_HANDLE: return "the handle is of the other kind";
+    case PIPAPO_HANDLE: return "the handle is of another kind";
     case PIPAPO_SCHEMA: return "a set needs 1 to 16 fields of known kinds, and a known family";
     case PIPAPO_READERS: return "1 to 16 readers are needed";
     case PIPAPO_SET: return "there is no set of this number";
@@ -18,7 +18,9 @@ const char *pipapo_strerror(uint32_t error) {
     case PIPAPO_NUMBERS: return "there are no numbers for further generations";
     case PIPAPO_SCRIPT: return "the text isn't a script";
     case PIPAPO_CHANGE: return "a change of the script is refused";
-    case PIPAPO_ROOM: return "the text is longer than the buffer";
+    case PIPAPO_ROOM: return "there isn't enough room for the result";
+    case PIPAPO_PLACE: return "there is no element at this place";
+    case PIPAPO_NOTE: return "the note's generation isn't there";
     case PIPAPO_OVERLAP: return "a live element is in the way";
     case PIPAPO_EXISTS: return "a live element has the same intervals";
     case PIPAPO_FULL: return "the set is full";

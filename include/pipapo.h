@@ -32,14 +32,15 @@
  *
  * RETURN VALUES. Each call returns PIPAPO_OK (0), or the reason why it did nothing. If several reasons apply, it is the first
  * one that the call's comment names. A refused call changes nothing that a handle holds. It writes nothing but the `answer` of
- * a change, the `fault` of a start by a script, and after ROOM the text's length.
+ * a change, the `fault` of a start by a script, and after ROOM the length of a text, or the lengths of an element.
  *
- * THREADS. The control and each reader may be in a thread of their own. No call waits for another thread. One handle is for
- * one call at a time. A handle may go to another thread through a lock, the start or end of a thread, or a sequentially
- * consistent atomic. Different handles need no order.
+ * THREADS. The control, each reader and each set's elements may be in a thread of their own. No call waits for another
+ * thread. One handle is for one call at a time. A handle may go to another thread through a lock, the start or end of a
+ * thread, or a sequentially consistent atomic. Different handles need no order.
  *
- * MEMORY. Only the two starts, the changes, pipapo_commit and the listings allocate, by malloc and realloc. The control and each
- * reader take 768 KiB for the rows of a lookup, and the control takes the sets. The control frees a generation's memory.
+ * MEMORY. Only the two starts, the changes, pipapo_commit, the listings and pipapo_elements_of allocate, by malloc and realloc.
+ * The control and each reader take 768 KiB for the rows of a lookup, and the control takes the sets. The control frees a
+ * generation's memory, except for what a pipapo_elements still holds.
  *
  * THE CALLER MUST SEE TO THIS, since no call can test it. Otherwise the behaviour is undefined:
  *   - No pointer is null, also if its count is 0. Each points to as much memory as its count says.
@@ -75,9 +76,10 @@ extern "C" {
 #define PIPAPO_CHECK_RESULT
 #endif
 
-/* A handle holds a control or a reader; its pointer is null if it holds nothing. Pass its address. */
+/* A handle holds a control, a reader or the elements of a set; its pointer is null if it holds nothing. Pass its address. */
 typedef struct { void *at; } pipapo_control;
 typedef struct { void *at; } pipapo_reader;
+typedef struct { void *at; } pipapo_elements;
 #define PIPAPO_EMPTY { NULL }
 
 /* What a field is, as nft(8) names it. */
@@ -110,6 +112,20 @@ typedef struct {
     uint8_t name[64];   /* the set's name, alike */
 } pipapo_set;
 
+/* A set as it was declared. */
+typedef struct {
+    uint32_t kinds[16]; /* an enum pipapo_kind for each field, and zeros */
+    uint32_t fields;    /* how many there are */
+    uint32_t family;    /* an enum pipapo_family */
+    uint32_t interval;  /* 1 with `flags interval`, or 0; as for pipapo_list */
+    uint32_t timed;     /* 1 with `flags timeout`, or 0; as for pipapo_list */
+    uint32_t disjoint;  /* 1 with `flags disjoint`, or 0 */
+    uint32_t size;      /* at most so many elements; 0: any number */
+    uint64_t timeout;   /* the life of a script's element that names none, in milliseconds; 0: it doesn't expire */
+    uint8_t table[128]; /* the table's name, and zeros */
+    uint8_t name[128];  /* the set's name, and zeros */
+} pipapo_declared;
+
 /* Why pipapo_start_script starts nothing, and the place in the script. Lines and columns count from 1, and a column counts bytes.
  * A field that doesn't apply is 0. */
 typedef struct {
@@ -136,6 +152,14 @@ enum pipapo_reason {
     PIPAPO_REASON_STATEMENT = 10 /* none of these: another word or mark is wanted */
 };
 
+/* An element of a set, without its bounds and its comment. */
+typedef struct {
+    uint64_t id;             /* the number in the order of insertion */
+    uint64_t expiry;         /* the moment from which on it is expired, or PIPAPO_NEVER */
+    uint64_t bounds_length;  /* how many bytes its bounds have; the same for all elements of a set */
+    uint64_t comment_length; /* how many bytes its comment has */
+} pipapo_element;
+
 /* What a change answers. */
 typedef struct {
     uint64_t id;      /* the element's id; after PIPAPO_OVERLAP and PIPAPO_EXISTS the id of the element in the way; else 0 */
@@ -156,7 +180,7 @@ enum pipapo_error {
     PIPAPO_OK = 0,
     PIPAPO_MEMORY = 1,      /* out of memory */
     PIPAPO_NOTHING = 2,     /* the handle holds nothing: it is empty or freed */
-    PIPAPO_HANDLE = 3,      /* a reader where a control is wanted, or the other way round */
+    PIPAPO_HANDLE = 3,      /* a handle of another kind is wanted */
     PIPAPO_SCHEMA = 4,      /* a set has no fields, or more than 16, or a number that is no kind or no family; or too many sets */
     PIPAPO_READERS = 5,     /* not 1 to 16 readers */
     PIPAPO_SET = 6,         /* there is no set of this number */
@@ -166,7 +190,9 @@ enum pipapo_error {
     PIPAPO_NUMBERS = 10,    /* there are no numbers for further generations */
     PIPAPO_SCRIPT = 11,     /* pipapo_start_script: the text isn't a script */
     PIPAPO_CHANGE = 12,     /* pipapo_start_script: a change of the script is refused */
-    PIPAPO_ROOM = 13,       /* pipapo_list_into: the text is longer than the buffer */
+    PIPAPO_ROOM = 13,       /* a text or an element is longer than its buffer, or a set than a pipapo_declared */
+    PIPAPO_PLACE = 14,      /* pipapo_element_at: there is no element at this place */
+    PIPAPO_NOTE = 15,       /* pipapo_meet, pipapo_hear: the note's generation isn't there */
     PIPAPO_OVERLAP = 16,    /* a live element is in the way */
     PIPAPO_EXISTS = 17,     /* pipapo_create: a live element has the same intervals */
     PIPAPO_FULL = 18,       /* the set has as many elements as it may have */
@@ -198,9 +224,9 @@ PIPAPO_NONNULL PIPAPO_CHECK_RESULT
 uint32_t pipapo_start_script(const char *text, size_t length, pipapo_control *control, pipapo_reader *readers,
                              size_t reader_count, pipapo_script_fault *fault);
 
-/* Frees what a pipapo_control or a pipapo_reader holds, and leaves the handle empty. An empty handle stays empty. The order
- * in which handles are freed doesn't matter: readers may outlive their control. A reader that is freed while it holds a
- * generation keeps that generation's slot, and blocks nobody. */
+/* Frees what a handle of any kind holds, and leaves the handle empty. An empty handle stays empty. The order in which handles
+ * are freed doesn't matter: readers and elements may outlive their control. A reader that is freed while it holds a generation
+ * keeps that generation's slot, and blocks nobody. */
 PIPAPO_NONNULL
 void pipapo_free(void *handle);
 
@@ -255,6 +281,34 @@ uint32_t pipapo_abort(pipapo_control *control);
 PIPAPO_NONNULL PIPAPO_CHECK_RESULT
 uint32_t pipapo_number(pipapo_control *control, uint64_t *generation);
 
+/* `declared` gets what a set was declared as, by a struct or by a script. The sets have the numbers 0, 1, .. up to the first one
+ * for which the answer is SET.
+ * Errors: NOTHING, HANDLE, SET; ROOM if the struct has no room for the set, which no start makes. `declared` is then as it was.
+ * Allocates nothing. */
+PIPAPO_NONNULL PIPAPO_CHECK_RESULT
+uint32_t pipapo_describe(pipapo_control *control, uint32_t set, pipapo_declared *declared);
+
+/* Puts the elements of a set of the last generation into a handle, in the order of insertion. `count` gets how many there are:
+ * their places are 0 to `count` - 1. They stay as they are, whatever the control changes, commits or frees. What the handle held
+ * before is freed.
+ * Errors: NOTHING, HANDLE, SET, MEMORY; `elements` and `count` are then as they were.
+ * Cost: a pointer for each 512 elements, since the memory is shared with the generation. If elements left the set, a copy of it. */
+PIPAPO_NONNULL PIPAPO_CHECK_RESULT
+uint32_t pipapo_elements_of(pipapo_control *control, uint32_t set, pipapo_elements *elements, uint64_t *count);
+
+/* Writes one element: its bounds, as pipapo_insert takes them, to the `bounds_size` bytes at `bounds`; its comment, without a zero
+ * byte, to the `comment_size` bytes at `comment`; the rest to `element`. 512 bytes are enough for all bounds. A comment of a script
+ * has at most 128 bytes.
+ *
+ *     for (uint64_t place = 0; place < count; ++place)
+ *         if (!pipapo_element_at(&elements, place, bounds, sizeof bounds, comment, sizeof comment, &element)) ..
+ *
+ * Errors: NOTHING, HANDLE; PLACE if `place` is `count` or greater; ROOM if a buffer is too short. After ROOM `element` has the
+ * lengths; else it is as it was. The buffers are as they were. Cost: the bytes. Allocates nothing. */
+PIPAPO_NONNULL PIPAPO_CHECK_RESULT
+uint32_t pipapo_element_at(pipapo_elements *elements, uint64_t place, void *bounds, size_t bounds_size, char *comment,
+                           size_t comment_size, pipapo_element *element);
+
 /* Writes the last generation as a script of nft(8), as the program's `list` does: its tables, its sets and their elements. An
  * element that expires has the time from `now` to its expiry. `text` gets a pointer to the text, and `length` the number of its
  * bytes. A zero byte follows them. pipapo_free_text frees the text.
@@ -303,6 +357,28 @@ uint32_t pipapo_lookup(pipapo_reader *reader, uint32_t set, const void *key, siz
 PIPAPO_NONNULL PIPAPO_CHECK_RESULT
 uint32_t pipapo_lookup_many(pipapo_reader *reader, uint32_t set, const void *keys, size_t length, uint64_t now,
                             uint64_t *answers, size_t count, uint64_t *generation);
+
+/* Notes pass on from thread to thread what is committed. A note is the number of a generation, which pipapo_commit and
+ * pipapo_enter write, too. Hand it over as you would hand over a handle (THREADS).
+ *
+ * `note` gets the number of the last generation that a pipapo_control committed, or that a pipapo_reader has seen. A reader that
+ * holds no generation looks first at the published one, by two atomic additions.
+ * Errors: NOTHING; HANDLE, if the handle is of elements. `note` is then as it was. Allocates nothing. */
+PIPAPO_NONNULL PIPAPO_CHECK_RESULT
+uint32_t pipapo_note(void *handle, uint64_t *note);
+
+/* The reader meets a note: from now on it enters no generation before the note's. A reader that holds no generation looks at the
+ * published one, by two atomic additions.
+ * Errors: NOTHING, HANDLE; NOTE if the generation that it holds, or else the published one, comes before the note's. So a reader
+ * that holds an older generation leaves it first. If it holds none, the note is of another start, or came without order between
+ * the threads. Allocates nothing. */
+PIPAPO_NONNULL PIPAPO_CHECK_RESULT
+uint32_t pipapo_meet(pipapo_reader *reader, uint64_t note);
+
+/* The control hears a note of a reader: PIPAPO_OK if it has committed the note's generation.
+ * Errors: NOTHING, HANDLE; NOTE if it hasn't. Then the note is of another start. Allocates nothing. */
+PIPAPO_NONNULL PIPAPO_CHECK_RESULT
+uint32_t pipapo_hear(pipapo_control *control, uint64_t note);
 
 /* One line that explains an enum pipapo_error, without a newline. Never null; the text is static. */
 const char *pipapo_strerror(uint32_t error);

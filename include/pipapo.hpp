@@ -64,11 +64,35 @@ public:
         return pipapo_lookup(get(), set, &key, sizeof key, now, &id);
     }
 
+    [[nodiscard]] std::uint32_t note(std::uint64_t &note) noexcept { return pipapo_note(get(), &note); }
+    [[nodiscard]] std::uint32_t meet(std::uint64_t note) noexcept { return pipapo_meet(get(), note); }
+
     template <typename Key>
     [[nodiscard]] std::uint32_t lookup_many(std::uint32_t set, const Key *keys, std::size_t count, std::uint64_t now,
                                             std::uint64_t *answers, std::uint64_t &generation) noexcept {
         static_assert(alignof(Key) == 1, "a key is made of bytes");
         return pipapo_lookup_many(get(), set, keys, count * sizeof *keys, now, answers, count, &generation);
+    }
+};
+
+/// The elements of a set of one generation. Each call answers an enum pipapo_error.
+class Elements : public Handle<pipapo_elements> {
+public:
+    /// `low` and `high` get two keys. It throws std::bad_alloc if the string has no memory.
+    template <typename Key>
+    [[nodiscard]] std::uint32_t at(std::uint64_t place, Key &low, Key &high, std::string &comment, pipapo_element &element) {
+        static_assert(alignof(Key) == 1, "a key is made of bytes");
+        Key bounds[2];
+        std::uint32_t error = pipapo_element_at(get(), place, bounds, sizeof bounds, comment.data(), comment.size(), &element);
+        if (error == PIPAPO_ROOM && element.bounds_length <= sizeof bounds) {
+            comment.resize(static_cast<std::size_t>(element.comment_length));
+            error = pipapo_element_at(get(), place, bounds, sizeof bounds, comment.data(), comment.size(), &element);
+        }
+        if (error != PIPAPO_OK) return error;
+        comment.resize(static_cast<std::size_t>(element.comment_length));
+        low = bounds[0];
+        high = bounds[1];
+        return error;
     }
 };
 
@@ -134,6 +158,18 @@ public:
     [[nodiscard]] std::uint32_t abort() noexcept { return pipapo_abort(get()); }
 
     [[nodiscard]] std::uint32_t number(std::uint64_t &generation) noexcept { return pipapo_number(get(), &generation); }
+
+    [[nodiscard]] std::uint32_t note(std::uint64_t &note) noexcept { return pipapo_note(get(), &note); }
+    [[nodiscard]] std::uint32_t hear(std::uint64_t note) noexcept { return pipapo_hear(get(), note); }
+
+    [[nodiscard]] std::uint32_t describe(std::uint32_t set, pipapo_declared &declared) noexcept {
+        return pipapo_describe(get(), set, &declared);
+    }
+
+    /// The elements of a set of the last generation. What the handle held is freed.
+    [[nodiscard]] std::uint32_t elements(std::uint32_t set, Elements &elements, std::uint64_t &count) noexcept {
+        return pipapo_elements_of(get(), set, elements.get(), &count);
+    }
 
     /// The last generation as a script. It throws std::bad_alloc if the string has no memory.
     [[nodiscard]] std::uint32_t list(std::string &text, std::uint64_t now = 0) {

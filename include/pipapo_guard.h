@@ -111,6 +111,42 @@ static inline uint32_t pipapo_checked_number(pipapo_control *control, uint64_t *
     PIPAPO_GUARDED(control, pipapo_number, (control, generation));
 }
 
+static inline uint32_t pipapo_checked_describe(pipapo_control *control, uint32_t set, pipapo_declared *declared) {
+    PIPAPO_GUARDED(control, pipapo_describe, (control, set, declared));
+}
+
+static inline uint32_t pipapo_checked_elements_of(pipapo_control *control, uint32_t set, pipapo_elements *elements,
+                                                  uint64_t *count) {
+    void *at = control->at, *old = elements->at;
+    pipapo_guard_begin("pipapo_elements_of", at);
+    pipapo_guard_begin("pipapo_elements_of", old);
+    uint32_t error = pipapo_elements_of(control, set, elements, count);
+    pipapo_guard_end(at);
+    pipapo_guard_end(old);
+    if (error == PIPAPO_OK) {
+        pipapo_guard_gone(old);
+        pipapo_guard_made(elements->at);
+    }
+    return error;
+}
+
+static inline uint32_t pipapo_checked_element_at(pipapo_elements *elements, uint64_t place, void *bounds, size_t bounds_size,
+                                                 char *comment, size_t comment_size, pipapo_element *element) {
+    PIPAPO_GUARDED(elements, pipapo_element_at, (elements, place, bounds, bounds_size, comment, comment_size, element));
+}
+
+static inline uint32_t pipapo_checked_note(void *handle, uint64_t *note) {
+    PIPAPO_GUARDED((pipapo_control *)handle, pipapo_note, (handle, note));
+}
+
+static inline uint32_t pipapo_checked_meet(pipapo_reader *reader, uint64_t note) {
+    PIPAPO_GUARDED(reader, pipapo_meet, (reader, note));
+}
+
+static inline uint32_t pipapo_checked_hear(pipapo_control *control, uint64_t note) {
+    PIPAPO_GUARDED(control, pipapo_hear, (control, note));
+}
+
 static inline uint32_t pipapo_checked_list(pipapo_control *control, uint64_t now, char **text, size_t *length) {
     PIPAPO_GUARDED(control, pipapo_list, (control, now, text, length));
 }
@@ -153,6 +189,12 @@ static inline uint32_t pipapo_checked_lookup_many(pipapo_reader *reader, uint32_
 #define pipapo_commit pipapo_checked_commit
 #define pipapo_abort pipapo_checked_abort
 #define pipapo_number pipapo_checked_number
+#define pipapo_describe pipapo_checked_describe
+#define pipapo_elements_of pipapo_checked_elements_of
+#define pipapo_element_at pipapo_checked_element_at
+#define pipapo_note pipapo_checked_note
+#define pipapo_meet pipapo_checked_meet
+#define pipapo_hear pipapo_checked_hear
 #define pipapo_list pipapo_checked_list
 #define pipapo_list_into pipapo_checked_list_into
 #define pipapo_enter pipapo_checked_enter

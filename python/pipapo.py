@@ -22,14 +22,14 @@ import ctypes
 import enum
 import ipaddress
 import os
-from collections.abc import Iterable, Sequence
+from collections.abc import Iterable, Iterator, Sequence
 from dataclasses import dataclass
 from types import TracebackType
 from typing import Union
 
 __all__ = [
-    "Answer", "Control", "Error", "Kind", "Outcome", "PipapoError", "Reader", "Reason", "Receipt", "ScriptError", "Set",
-    "Transaction", "Value",
+    "Answer", "Control", "Element", "Error", "Family", "Kind", "Outcome", "PipapoError", "Reader", "Reason", "Receipt",
+    "ScriptError", "Set", "Transaction", "Value",
 ]
 
 Value = Union[int, str, bytes]
@@ -74,6 +74,17 @@ class Kind(enum.IntEnum):
         return int(text, 0)
 
 
+class Family(enum.IntEnum):
+    """The family of a table, as nft(8) names it."""
+
+    IP = 0
+    IP6 = 1
+    INET = 2
+    ARP = 3
+    BRIDGE = 4
+    NETDEV = 5
+
+
 class Outcome(enum.IntEnum):
     """What a change did."""
 
@@ -101,6 +112,8 @@ class Error(enum.IntEnum):
     SCRIPT = 11
     CHANGE = 12
     ROOM = 13
+    PLACE = 14
+    NOTE = 15
     OVERLAP = 16
     EXISTS = 17
     FULL = 18
@@ -170,12 +183,27 @@ class ScriptError(PipapoError):
 
 @dataclass(frozen=True)
 class Set:
-    """A set to be made: the kind of each field, at most how many elements (0: any number), and whether an element that
-    shares a key with a live one is refused."""
+    """A set: the kind of each field, at most how many elements (0: any number), and whether an element that shares a key with a
+    live one is refused. The family and the names of the table and the set are for listings alone."""
 
     kinds: Sequence[Kind]
     size: int = 0
     disjoint: bool = False
+    family: Family = Family.IP
+    table: str = ""
+    name: str = ""
+
+
+@dataclass(frozen=True)
+class Element:
+    """An element of a generation: its id, its bounds, the moment from which on it is expired (None: never), and its comment.
+    The values of `low` and `high` are bytes in network byte order."""
+
+    id: int
+    low: tuple[bytes, ...]
+    high: tuple[bytes, ...]
+    expiry: int | None
+    comment: bytes
 
 
 class _Handle(ctypes.Structure):
@@ -192,6 +220,20 @@ class _Set(ctypes.Structure):
         ("table", ctypes.c_uint8 * 64),
         ("name", ctypes.c_uint8 * 64),
     ]
+
+
+class _Declared(ctypes.Structure):
+    _fields_ = [
+        ("kinds", ctypes.c_uint32 * 16),
+        *((name, ctypes.c_uint32) for name in ("fields", "family", "interval", "timed", "disjoint", "size")),
+        ("timeout", ctypes.c_uint64),
+        ("table", ctypes.c_uint8 * 128),
+        ("name", ctypes.c_uint8 * 128),
+    ]
+
+
+class _Element(ctypes.Structure):
+    _fields_ = [(name, ctypes.c_uint64) for name in ("id", "expiry", "bounds_length", "comment_length")]
 
 
 class _Answer(ctypes.Structure):
@@ -220,6 +262,12 @@ def _load() -> ctypes.CDLL:
         "commit": [handle, number, out, out],
         "abort": [handle],
         "number": [handle, out],
+        "describe": [handle, index, ctypes.POINTER(_Declared)],
+        "elements_of": [handle, index, handle, out],
+        "element_at": [handle, number, ctypes.c_char_p, size, ctypes.c_char_p, size, ctypes.POINTER(_Element)],
+        "note": [handle, out],
+        "meet": [handle, number],
+        "hear": [handle, number],
         "list": [handle, number, ctypes.POINTER(ctypes.c_void_p), ctypes.POINTER(size)],
         "enter": [handle, out],
         "leave": [handle],
@@ -252,17 +300,34 @@ def _must(error: int, answer: _Answer | None = None) -> None:
         raise PipapoError(Error(error), answer.id if answer else 0, answer.field if answer else 0)
 
 
+def _note(handle: _Handle) -> int:
+    number = ctypes.c_uint64()
+    _must(_library.pipapo_note(handle, number))
+    return number.value
+
+
 class _Shape:
     """The kinds of all sets."""
 
     def __init__(self, kinds: Iterable[Sequence[Kind]]) -> None:
         self._kinds = [tuple(one) for one in kinds]
 
-    def pack(self, set: int, values: Iterable[Value]) -> bytes:
-        values = list(values)
+    def of(self, set: int) -> tuple[Kind, ...]:
         if not 0 <= set < len(self._kinds):
             raise PipapoError(Error.SET)
-        kinds = self._kinds[set]
+        return self._kinds[set]
+
+    def unpack(self, set: int, key: bytes) -> tuple[bytes, ...]:
+        """The values of a key."""
+        values, at = [], 0
+        for kind in self.of(set):
+            values.append(key[at : at + kind.width])
+            at += kind.width
+        return tuple(values)
+
+    def pack(self, set: int, values: Iterable[Value]) -> bytes:
+        values = list(values)
+        kinds = self.of(set)
         if len(values) != len(kinds):
             raise PipapoError(Error.LENGTH)
         return b"".join(kind.pack(value) for kind, value in zip(kinds, values))
@@ -304,6 +369,15 @@ class Reader:
         row = b"".join(packed)
         _must(_library.pipapo_lookup_many(self._handle, set, row, len(row), now, found, len(packed), number))
         return [None if one == _LARGEST else one for one in found[: len(packed)]], number.value
+
+    def note(self) -> int:
+        """A note of what this reader has seen: the number of a generation. If it holds none, it looks at the published one."""
+        return _note(self._handle)
+
+    def meet(self, note: int) -> None:
+        """From now on this reader enters no generation before the note's. Raises PipapoError (Error.NOTE) if the generation that
+        it holds, or else the published one, comes before it."""
+        _must(_library.pipapo_meet(self._handle, note))
 
     def close(self) -> None:
         """Frees the reader. A closed reader stays closed."""
@@ -355,6 +429,13 @@ class Transaction:
             self._control.abort()
 
 
+def _name(name: str) -> bytes:
+    encoded = name.encode()
+    if len(encoded) > 64:
+        raise PipapoError(Error.ROOM)
+    return encoded.ljust(64, b"\0")
+
+
 class Control:
     """Changes sets, and commits generations of them. `readers` are 1 to 16. As a context manager it closes itself and its
     readers."""
@@ -365,32 +446,83 @@ class Control:
             if len(one.kinds) > 16:
                 raise PipapoError(Error.SCHEMA)
             shape.kinds[: len(one.kinds)] = [int(kind) for kind in one.kinds]
-            shape.fields, shape.size, shape.disjoint = len(one.kinds), one.size, one.disjoint
+            shape.fields, shape.size, shape.disjoint, shape.family = len(one.kinds), one.size, one.disjoint, one.family
+            shape.table[:], shape.name[:] = _name(one.table), _name(one.name)
         self._shape, self._handle = _Shape(one.kinds for one in sets), _Handle()
         handles = (_Handle * max(1, readers))()
         _must(_library.pipapo_start(shapes, len(sets), self._handle, handles, readers))
         self._seat(handles)
 
     @classmethod
-    def from_script(cls, text: str | bytes, kinds: Sequence[Sequence[Kind]], readers: int = 1) -> Control:
-        """A control of the sets that a script of nft(8) declares. It has done all sections of the script. `kinds` are those of
-        the sets' fields, in the order of the script; values are packed by them.
+    def from_script(cls, text: str | bytes, readers: int = 1) -> Control:
+        """A control of the sets that a script of nft(8) declares, in the order of the script. It has done all sections of the
+        script.
 
         >>> rules = "add set ip t ports { type inet_service ; flags interval ; }\\nadd element ip t ports { 80-443 }\\n"
-        >>> with Control.from_script(rules, [[Kind.SERVICE]]) as control:
-        ...     control.number, control.readers[0].lookup(0, [443])
-        (1, 0)
+        >>> with Control.from_script(rules) as control:
+        ...     control.number, control.readers[0].lookup(0, [443]), control.sets[0].name
+        (1, 0, 'ports')
 
         Raises ScriptError if the text isn't a script, or if one of its changes is refused."""
         control, script, fault = cls.__new__(cls), text.encode() if isinstance(text, str) else text, _ScriptFault()
-        control._shape, control._handle = _Shape(kinds), _Handle()
+        control._handle = _Handle()
         handles = (_Handle * max(1, readers))()
         error = _library.pipapo_start_script(script, len(script), control._handle, handles, readers, fault)
         if error in (Error.SCRIPT, Error.CHANGE):
             raise ScriptError(Error(error), fault)
         _must(error)
+        control._shape = _Shape(one.kinds for one in control.sets)
         control._seat(handles)
         return control
+
+    @property
+    def sets(self) -> list[Set]:
+        """The declared sets. Set i of this list is number i in every call."""
+        found: list[Set] = []
+        one = _Declared()
+        while (error := _library.pipapo_describe(self._handle, len(found), one)) != Error.SET:
+            _must(error)
+            kinds = [Kind(kind) for kind in one.kinds[: one.fields]]
+            table, name = (bytes(row).partition(b"\0")[0].decode() for row in (one.table, one.name))
+            found.append(Set(kinds, one.size, one.disjoint != 0, Family(one.family), table, name))
+        return found
+
+    def elements(self, set: int) -> Iterator[Element]:
+        """The elements of a set of the last generation, in the order of insertion. Later changes and commits don't change them.
+
+        >>> with Control([Set([Kind.SERVICE])]) as control:
+        ...     with control.transaction() as change:
+        ...         added = change.insert(0, [80], [443], comment="web")
+        ...     [(one.id, one.low, one.high, one.comment) for one in control.elements(0)]
+        [(0, (b'\\x00P',), (b'\\x01\\xbb',), b'web')]
+        """
+        held, count = _Handle(), ctypes.c_uint64()
+        _must(_library.pipapo_elements_of(self._handle, set, held, count))
+        try:
+            for place in range(count.value):
+                yield self._element(held, set, place)
+        finally:
+            _library.pipapo_free(held)
+
+    def _element(self, held: _Handle, set: int, place: int) -> Element:
+        bounds, comment, element = ctypes.create_string_buffer(512), ctypes.create_string_buffer(128), _Element()
+        error = _library.pipapo_element_at(held, place, bounds, 512, comment, 128, element)
+        if error == Error.ROOM:
+            comment = ctypes.create_string_buffer(element.comment_length)
+            error = _library.pipapo_element_at(held, place, bounds, 512, comment, len(comment), element)
+        _must(error)
+        half = element.bounds_length // 2
+        low, high = (self._shape.unpack(set, bounds.raw[at : at + half]) for at in (0, half))
+        expiry = None if element.expiry == _LARGEST else element.expiry
+        return Element(element.id, low, high, expiry, comment.raw[: element.comment_length])
+
+    def note(self) -> int:
+        """A note of what this control committed: the number of its last generation."""
+        return _note(self._handle)
+
+    def hear(self, note: int) -> None:
+        """Raises PipapoError (Error.NOTE) if this control hasn't committed the generation of a reader's note."""
+        _must(_library.pipapo_hear(self._handle, note))
 
     def _seat(self, handles: ctypes.Array[_Handle]) -> None:
         # each reader's handle keeps the array alive

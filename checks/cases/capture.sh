@@ -1,7 +1,8 @@
 # Captures of every form against a reader in Python that shares no code with the program (checks/models/captures.py): both
 # orders of bytes, all units of time and link types, tags, fragments, headers with options, IPv6 and its extension headers, and
 # files cut at each byte. For pcapng also several sections and interfaces, each snapshot length, and files with one byte changed.
-# If Wireshark's tools are installed, the facts of their captures are those that tshark prints, frame by frame.
+# Some are also judged by rules. If Wireshark's tools are installed, the facts of their captures are those that tshark prints,
+# frame by frame.
 . "$(dirname "$0")/../preamble.sh"
 needs python3
 needs_program

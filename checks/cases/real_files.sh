@@ -15,7 +15,7 @@ expect() { # STATUS LINE WORDS..
         bad=1
     fi
 }
-usage='pipapo: usage: run SCRIPT KEYS [--threads N] [--keep-going] | list SCRIPT [--keep-going] | dump SCRIPT [--keep-going] | drill SEED COUNT [--threads N] | judge SCRIPT RULES KEYS [--threads N] [--keep-going] | capture SCRIPT PLAN PCAP [--threads N] [--keep-going] | desk SCRIPT [--keep-going] | get [--at MOMENT] [--keep-going] SCRIPT KEY .. | compare SCRIPT1 SCRIPT2 [--keep-going] | sets RULESET'
+usage='pipapo: usage: run SCRIPT KEYS [--threads N] [--keep-going] | list SCRIPT [--keep-going] | dump SCRIPT [--keep-going] | drill SEED COUNT [--threads N] | judge SCRIPT RULES KEYS [--threads N] [--keep-going] | judge SCRIPT RULES PLAN PCAP [--threads N] [--keep-going] | capture SCRIPT PLAN PCAP [--threads N] [--keep-going] | desk SCRIPT [--keep-going] | get [--at MOMENT] [--keep-going] SCRIPT KEY .. | compare SCRIPT1 SCRIPT2 [--keep-going] | stat SCRIPT [--keep-going] | sets RULESET'
 expect 5 'pipapo: read fault: missing.nft' run missing.nft packets.keys
 expect 5 'pipapo: read fault: missing.keys' run allow.nft missing.keys
 expect 5 'pipapo: read fault: a-folder' run a-folder packets.keys

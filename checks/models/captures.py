@@ -363,7 +363,20 @@ def plan_text(plan):
     return "".join(f"t s{number} {' . '.join(line)}\n" for number, line in enumerate(plan))
 
 
-def wanted_output(plan, keys, left_out=0):
+def rules_text(plan):
+    """A rule for each set, which accepts what is in it."""
+    return "chain all {\n" + "".join(f"in t s{number} accept\n" for number, _ in enumerate(plan)) + "}\npolicy drop\n"
+
+
+def found_element(number, place):
+    return f"element {place}" if place >= 0 else "none"
+
+
+def found_rule(number, place):
+    return f"rule {number} accept" if place >= 0 else "policy drop"
+
+
+def wanted_output(plan, keys, left_out=0, found=found_element):
     places = {}
     for number, _, key in keys:
         mine = places.setdefault(number, {})
@@ -374,6 +387,5 @@ def wanted_output(plan, keys, left_out=0):
     generation = len(lines)
     for packet, (number, _, key) in enumerate(keys):
         place = places[number][key] - left_out
-        found = f"element {place}" if place >= 0 else "none"
-        lines.append(f"packet {packet} thread 0 generation {generation} {found}")
+        lines.append(f"packet {packet} thread 0 generation {generation} {found(number, place)}")
     return "".join(line + "\n" for line in lines)

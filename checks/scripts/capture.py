@@ -1,7 +1,7 @@
 #!/usr/bin/env python3
 """Writes captures, runs the program's `capture` on them, and judges what it writes by a reader of its own.
 
-    capture.py run PROGRAM [SEED]      captures of every form, and every fault at every byte
+    capture.py run PROGRAM [SEED]      captures of every form, and every fault at every byte; a part of them also by `judge`
     capture.py tshark PROGRAM          captures of Wireshark's tools, whose facts tshark prints
     capture.py self-test               the reader gives the facts of packets that were taken apart by hand
     capture.py write SEED FILE         writes that capture
@@ -24,8 +24,8 @@ import time
 
 from captures import AUTHENTICATION, COOKED, COOKED_TWO, DCCP, DESTINATION, ETHERNET, EXTENSIONS, FRAGMENT, HOP_BY_HOP, IPV4
 from captures import IPV6, LINKS, MAGIC, PLANS, PORTED, RAW, ROUTING, SCTP, STATISTICS, TCP, UDP, UDP_LITE, Fault, block, cooked
-from captures import cooked_two, enhanced, ethernet, extension, facts, header, interface, ipv4, ipv6, option, packets, plan_text
-from captures import ports, read, record, script_of, section, simple, wanted_output
+from captures import cooked_two, enhanced, ethernet, extension, facts, found_rule, header, interface, ipv4, ipv6, option, packets
+from captures import plan_text, ports, read, record, rules_text, script_of, section, simple, wanted_output
 
 # ---- runs
 
@@ -41,10 +41,10 @@ class Judge:
             out.write(data if isinstance(data, bytes) else data.encode())
         return path
 
-    def run(self, what, plan, script, data, wanted, status, options=()):
-        words = [self.program, "capture", self.put("script", script), self.put("plan", plan_text(plan)),
-                 self.put("capture", data), *options]
-        ran = subprocess.run(words, capture_output=True, check=False)
+    def run(self, what, plan, script, data, wanted, status, rules=None):
+        names = [self.put("script", script), self.put("plan", plan_text(plan)), self.put("capture", data)]
+        words = ["capture", *names] if rules is None else ["judge", names[0], self.put("rules", rules), *names[1:]]
+        ran = subprocess.run([self.program, *words], capture_output=True, check=False)
         self.runs += 1
         if (ran.stdout.decode(), ran.returncode) != (wanted, status):
             self.bad += 1
@@ -60,6 +60,12 @@ class Judge:
             self.run(what, plan, script_of(plan, []), data, f"pipapo: capture byte {byte}: {reason}\n", 10)
             return
         self.run(what, plan, script_of(plan, keys, left_out), data, wanted_output(plan, keys, left_out), 0)
+
+    def judge(self, what, plan, data, left_out):
+        """The same by a rule for each set."""
+        keys = list(packets(plan, read(data)))
+        wanted = wanted_output(plan, keys, left_out, found_rule)
+        self.run(f"{what}, judged", plan, script_of(plan, keys, left_out), data, wanted, 0, rules_text(plan))
 
     def end(self, what):
         print(f"checks/scripts/capture.py: {self.runs} runs of {what}, {self.bad} bad")
@@ -135,6 +141,7 @@ def all_forms(judge, rng):
                     data = some_capture(rng, order, unit, link)
                     judge.capture(what, plan, data)
                     judge.capture(what + " some keys missing", plan, data, left_out=2)
+                    judge.judge(what, plan, data, left_out=2)
 
 
 def all_cuts(judge, rng):
@@ -192,7 +199,9 @@ def some_sections(rng, order):
 def all_sections(judge, rng):
     for order in "<>":
         for plan in PLANS:
-            judge.capture(f"sections {order} plan {plan}", plan, some_sections(rng, order))
+            data = some_sections(rng, order)
+            judge.capture(f"sections {order} plan {plan}", plan, data)
+            judge.judge(f"sections {order} plan {plan}", plan, data, left_out=1)
     # each snapshot length, with as many bytes as it lets through
     packet = ipv4(1, 2, UDP, ports(9, 80))
     for order in "<>":

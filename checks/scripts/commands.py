@@ -37,6 +37,14 @@ def form(command):
     return " ".join([command.word, *parts])
 
 
+def by_word(commands):
+    """The forms of each command, by its word."""
+    groups = {}
+    for command in commands:
+        groups.setdefault(command.word, []).append(command)
+    return groups
+
+
 def flags(command):
     return sorted(option.split()[0] for option in command.options)
 
@@ -107,7 +115,7 @@ def program_faults(program, commands):
     if of_help[:len(forms)] != forms:
         yield "help has other forms"
     described = re.findall(r"^    ([a-z]+) +\S", help_text.partition("\ncommands:\n")[2].partition("\n\n")[0], re.M)
-    if sorted(described) != sorted(command.word for command in commands):
+    if sorted(described) != sorted(by_word(commands)):
         yield "help describes other commands"
     said = subprocess.run([program], capture_output=True, text=True).stderr
     if sorted(re.split(", | and ", said.partition("the commands are ")[2].strip())) != sorted([*described, "help"]):
@@ -115,15 +123,15 @@ def program_faults(program, commands):
     of_statuses = re.findall(r"^  (\d+) ", help_text.partition("\nstatuses:\n")[2], re.M)
     if sorted(map(int, of_statuses)) != joined_statuses(commands):
         yield "help has other statuses"
-    for command in commands:
-        page = written(program, "help", command.word)
-        if f"usage: pipapo {form(command)}\n" not in page:
-            yield f"help {command.word} has another form"
-        if statuses_of(page) != sorted(command.statuses):
-            yield f"help {command.word} has the statuses {statuses_of(page)}"
+    for word, group in by_word(commands).items():
+        page = written(program, "help", word)
+        if re.findall(r"^(?:usage:|      ) pipapo (.*)$", page, re.M) != [form(command) for command in group]:
+            yield f"help {word} has other forms"
+        if statuses_of(page) != sorted({number for command in group for number in command.statuses}):
+            yield f"help {word} has the statuses {statuses_of(page)}"
         described = sorted(re.findall(r"^  (--[a-z-]+)", page, re.M))
-        if described != flags(command):
-            yield f"help {command.word} describes the options {described}"
+        if described != flags(group[0]):
+            yield f"help {word} describes the options {described}"
 
 
 def example_faults(program):
@@ -158,9 +166,9 @@ def document_faults(commands):
     rows = {cell: " ".join(rest) for cell, *rest in table(read("README.md"), "Command")}
     named = [re.fullmatch(r"`pipapo ([a-z]+) ([^`]*)`", cell) for cell in rows]
     found = {match[1]: match for match in named if match and match[1] != "help"}
-    if sorted(found) != sorted(command.word for command in commands):
+    if sorted(found) != sorted(by_word(commands)):
         yield f"README.md's table has the commands {' '.join(found)}"
-    for command in commands:
+    for command, *_ in by_word(commands).values():
         match = found.get(command.word)
         if match and match[2].partition(" [")[0] != command.names:
             yield f"README.md's table has the names {match[2]} of {command.word}"
@@ -191,7 +199,7 @@ def flags_by_fish(text, word):
 
 
 def completion_faults(commands):
-    words = [command.word for command in commands]
+    words = list(by_word(commands))
     texts = {shell: read(name) for shell, name in SHELLS.items()}
     offered = {
         "bash": re.search(r'-W "([a-z ]+) help --help --version -V"', texts["bash"]),

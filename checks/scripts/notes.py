@@ -90,7 +90,7 @@ def cases(shown):
         ("moment.nft", 2, 4, "'9' is before the last moment, 10", "moment"),
         ("set.nft", 3, 18, "'q' isn't a set that is declared before this place", "set"),
         ("number.nft", 1, 43, "'0' isn't a size", "number"),
-        ("statement.nft", 2, 1, "'drop' begins no statement", "statement"),
+        ("statement.nft", 2, 1, "'drop' can't begin a statement", "statement"),
     ]:
         yield ["list", name], placed(name, line, column, said), f"pipapo: script line {line}: {why}", 3
     yield [*run, "bad.keys"], placed("bad.keys", 2, 11, "'.' begins one more field, and the set has 1 field"), "pipapo: keys line 2: statement", 4
@@ -108,19 +108,24 @@ def cases(shown):
     # other files in a text's place
     for name, said in [
         ("gzip.nft", "this is a file that gzip has packed: unpack it first"),
-        ("pcap.nft", "this is a capture of packets (pcap), and no text"),
-        ("pcapng.nft", "this is a capture of packets (pcapng), and no text"),
+        ("pcap.nft", "this is a capture of packets: the script is named first, then the plan, and then the capture"),
+        ("pcapng.nft", "this is a capture of packets: the script is named first, then the plan, and then the capture"),
         ("mark.nft", "the text begins with a byte order mark of UTF-8: leave its three bytes out"),
         ("json.nft", "this is a listing in JSON, as nft -j prints it: list the sets without -j"),
         ("utf16.nft", "this is a text in UTF-16: write it in ASCII"),
     ]:
         yield ["list", name], re.compile(rf"{re.escape(name)}:[0-9]+:[0-9]+: {re.escape(said)}\n"), None, 3
-    yield ["run", "good.keys", "good.nft"], "good.keys:1:1: this looks like a key file: the script is named first, and then the key file\n", None, 3
-    yield ["list", "good.plan"], "good.plan:1:1: this looks like a plan: the script is named first, then the plan, and then the capture\n", None, 3
+    yield ["run", "good.keys", "good.nft"], "good.keys:1:1: this looks like a key file, and a script is expected here: 'run' and 'judge' take a key file after it\n", None, 3
+    yield ["get", "good.keys", "ip", "t", "p", "80"], "good.keys:1:1: this looks like a key file, and a script is expected here: 'run' and 'judge' take a key file after it\n", None, 3
+    yield ["compare", "good.nft", "good.keys"], "good.keys:1:1: this looks like a key file, and a script is expected here: 'run' and 'judge' take a key file after it\n", None, 3
+    yield ["list", "good.rules"], "good.rules:1:1: this looks like a rules file, and a script is expected here: 'judge' takes a rules file after it\n", None, 3
+    yield [*run, "link.pcap"], "link.pcap:1:1: this is a capture of packets, and no key file: 'pipapo capture SCRIPT PLAN PCAP' looks its packets up\n", None, 4
+    yield ["list", "good.plan"], "good.plan:1:1: this looks like a plan, and a script is expected here: 'capture' takes a plan after it\n", None, 3
     yield [*run, "good.plan"], "good.plan:1:8: this looks like a plan, which only 'capture' takes\n", None, 4
     yield [*run, "good.nft"], re.compile("good.nft:1:[0-9]+: this looks like a script: the script is named first, and then the key file\n"), None, 4
     yield [*run, "good.rules"], re.compile("good.rules:1:[0-9]+: this looks like a rules file: .*\n"), None, 4
     yield ["judge", "good.nft", "good.keys", "good.rules"], re.compile("good.keys:1:1: this looks like a key file: .*\n"), None, 9
+    yield ["capture", "good.nft", "good.keys", "link.pcap"], "good.keys:1:8: this looks like a key file: the script is named first, then the plan, and then the capture\n", None, 11
     yield ["capture", "good.nft", "good.nft", "link.pcap"], re.compile("good.nft:1:[0-9]+: this looks like a script: .*\n"), None, 11
     # captures
     for name, byte, said, why in [
@@ -146,8 +151,8 @@ def cases(shown):
     yield ["list", "long.nft"], re.compile(r"long.nft:2:[0-9]+: 'here' doesn't fit field 1 \(inet_service\): it isn't a port\n\.\..{100}here.{40}\.\.\n {102}\^{4}\n(help: .*\n)?"), None, 3
     # refused changes
     yield ["list", "exists.nft"], "exists.nft:3:25: 80 exists already (line 2)\n" + failed.replace("overlap.nft", "exists.nft"), None, 1
-    yield ["run", "missing.nft", "good.keys"], "missing.nft:2:25: 81 is no element of the set\n", None, 1
-    many = "".join(f"many.nft:{line}:25: {line - 1} is no element of the set\n" for line in range(2, 22))
+    yield ["run", "missing.nft", "good.keys"], "missing.nft:2:25: 81 isn't in the set\n", None, 1
+    many = "".join(f"many.nft:{line}:25: {line - 1} isn't in the set\n" for line in range(2, 22))
     yield ["run", "many.nft", "good.keys", "--keep-going"], many + "many.nft: 5 more changes are refused\n", None, 1
     yield ["list", "twenty.nft", "--keep-going"], many.replace("many.nft", "twenty.nft"), None, 1
     yield ["list", "one_more.nft", "--keep-going"], many.replace("many.nft", "one_more.nft") + "one_more.nft: 1 more change is refused\n", None, 1

@@ -21,12 +21,28 @@ static void wrong_handles(void) {
     start(&control, &reader, 1);
     flows bounds = flows_of(NET, NET + 255, 80, 443);
     flow key = flow_of(NET, 80);
-    pipapo_control *controls[2] = {&empty, (pipapo_control *)&reader};
-    pipapo_reader *readers[2] = {&nobody, (pipapo_reader *)&control};
-    const uint32_t wanted[2] = {PIPAPO_NOTHING, PIPAPO_HANDLE};
-    for (int i = 0; i < 2; ++i) {
+    pipapo_elements elements = PIPAPO_EMPTY, none = PIPAPO_EMPTY, got = PIPAPO_EMPTY;
+    uint64_t count = 77;
+    CHECK(pipapo_elements_of(&control, 0, &elements, &count) == PIPAPO_OK && count == 0);
+    pipapo_control *controls[3] = {&empty, (pipapo_control *)&reader, (pipapo_control *)&elements};
+    pipapo_reader *readers[3] = {&nobody, (pipapo_reader *)&control, (pipapo_reader *)&elements};
+    pipapo_elements *sets[3] = {&none, (pipapo_elements *)&control, (pipapo_elements *)&reader};
+    const uint32_t wanted[3] = {PIPAPO_NOTHING, PIPAPO_HANDLE, PIPAPO_HANDLE};
+    for (int i = 0; i < 3; ++i) {
         pipapo_answer answer = {77, 77, 77};
         uint64_t number = 77, other = 77;
+        char *text = NULL, bytes[512] = "?", comment[8] = "?";
+        size_t length = 77;
+        pipapo_declared shape = {.fields = 77};
+        pipapo_element element = {77, 77, 77, 77};
+        CHECK(pipapo_describe(controls[i], 0, &shape) == wanted[i] && shape.fields == 77);
+        CHECK(pipapo_elements_of(controls[i], 0, &got, &number) == wanted[i] && got.at == NULL);
+        CHECK(pipapo_element_at(sets[i], 0, bytes, sizeof bytes, comment, sizeof comment, &element) == wanted[i]);
+        CHECK(element.id == 77 && element.bounds_length == 77 && bytes[0] == '?' && comment[0] == '?');
+        CHECK(pipapo_hear(controls[i], 0) == wanted[i]);
+        CHECK(pipapo_meet(readers[i], 0) == wanted[i]);
+        CHECK(pipapo_list(controls[i], 0, &text, &length) == wanted[i] && text == NULL && length == 77);
+        CHECK(pipapo_list_into(controls[i], 0, bytes, sizeof bytes, &number) == wanted[i]);
         CHECK(pipapo_insert(controls[i], 0, &bounds, sizeof bounds, PIPAPO_NEVER, "", 0, 0, &answer) == wanted[i]);
         CHECK(answer.id == 0 && answer.field == 0 && answer.outcome == PIPAPO_REFUSED);
         CHECK(pipapo_create(controls[i], 0, &bounds, sizeof bounds, PIPAPO_NEVER, "", 0, 0, &answer) == wanted[i]);
@@ -43,7 +59,11 @@ static void wrong_handles(void) {
         CHECK(pipapo_lookup_many(readers[i], 0, &key, sizeof key, 0, &number, 1, &other) == wanted[i]);
         CHECK(number == 77 && other == 77);
     }
-    CHECK(control.at != NULL && reader.at != NULL && empty.at == NULL && nobody.at == NULL);
+    uint64_t note = 77;
+    CHECK(pipapo_note(&empty, &note) == PIPAPO_NOTHING && pipapo_note(&elements, &note) == PIPAPO_HANDLE && note == 77);
+    CHECK(control.at != NULL && reader.at != NULL && elements.at != NULL && empty.at == NULL && nobody.at == NULL);
+    pipapo_free(&elements);
+    CHECK(elements.at == NULL);
     pipapo_free(&empty);
     pipapo_free(&control);
     pipapo_free(&reader);
@@ -217,6 +237,165 @@ static void listings(void) {
     pipapo_free_text(text);
     pipapo_free(&control);
     pipapo_free(&reader);
+}
+
+/* What sets were declared as, by structs and by a script. */
+static void descriptions(void) {
+    static const char rules[] =
+        "add set ip6 nat hosts { type ipv6_addr ; timeout 90s ; }\n"
+        "add set netdev t frames { type ether_addr . inet_proto . mark ; flags interval,disjoint ; size 9 ; }\n";
+    pipapo_control control = PIPAPO_EMPTY;
+    pipapo_reader reader = PIPAPO_EMPTY;
+    pipapo_script_fault fault;
+    pipapo_set made[2] = {
+        {.kinds = {PIPAPO_IPV4, PIPAPO_SERVICE}, .fields = 2, .family = PIPAPO_FAMILY_BRIDGE, .table = "t", .name = "flows"},
+        {.kinds = {PIPAPO_IPV6}, .fields = 1, .size = 2, .disjoint = 7, .family = PIPAPO_FAMILY_ARP},
+    };
+    pipapo_declared wanted[4] = {
+        {.kinds = {PIPAPO_IPV4, PIPAPO_SERVICE}, .fields = 2, .family = PIPAPO_FAMILY_BRIDGE, .interval = 1, .timed = 1,
+         .table = "t", .name = "flows"},
+        {.kinds = {PIPAPO_IPV6}, .fields = 1, .size = 2, .disjoint = 1, .interval = 1, .timed = 1, .family = PIPAPO_FAMILY_ARP},
+        {.kinds = {PIPAPO_IPV6}, .fields = 1, .family = PIPAPO_FAMILY_IP6, .timed = 1, .timeout = 90000, .table = "nat",
+         .name = "hosts"},
+        {.kinds = {PIPAPO_ETHER, PIPAPO_PROTO, PIPAPO_MARK}, .fields = 3, .family = PIPAPO_FAMILY_NETDEV, .interval = 1,
+         .disjoint = 1, .size = 9, .table = "t", .name = "frames"},
+    };
+    pipapo_declared declared;
+    /* a name that no zero byte ends */
+    memset(made[1].table, 'q', sizeof made[1].table);
+    memset(wanted[1].table, 'q', sizeof made[1].table);
+    for (uint32_t i = 0; i < 4; ++i) {
+        if (i == 0) CHECK(pipapo_start(made, 2, &control, &reader, 1) == PIPAPO_OK);
+        if (i == 2) CHECK(pipapo_start_script(rules, strlen(rules), &control, &reader, 1, &fault) == PIPAPO_OK);
+        memset(&declared, 0x77, sizeof declared);
+        CHECK(pipapo_describe(&control, i % 2, &declared) == PIPAPO_OK);
+        CHECK(memcmp(&declared, &wanted[i], sizeof declared) == 0);
+    }
+    memset(&declared, 0x77, sizeof declared);
+    CHECK(pipapo_describe(&control, 2, &declared) == PIPAPO_SET && declared.fields == 0x77777777);
+
+    /* the longest name of a script has 127 bytes */
+    char longest[300], name[128] = {0};
+    memset(name, 'n', 127);
+    int bytes = snprintf(longest, sizeof longest, "add set ip t %s { type mark ; }\n", name);
+    CHECK(pipapo_start_script(longest, (size_t)bytes, &control, &reader, 1, &fault) == PIPAPO_OK);
+    CHECK(pipapo_describe(&control, 0, &declared) == PIPAPO_OK && memcmp(declared.name, name, 128) == 0);
+    pipapo_free(&control);
+    pipapo_free(&reader);
+}
+
+/* The elements of generations, in the order of insertion, also of one from which some left. */
+static void walks(void) {
+    pipapo_control control = PIPAPO_EMPTY;
+    pipapo_reader reader = PIPAPO_EMPTY;
+    pipapo_elements first = PIPAPO_EMPTY, held = PIPAPO_EMPTY;
+    pipapo_answer answer;
+    pipapo_element element;
+    uint64_t generation, purged, count = 77;
+    flows bounds;
+    char comment[8];
+    start(&control, &reader, 1);
+    for (uint32_t i = 0; i < 1000; ++i) {
+        flows one = flows_of(NET + 4 * i, NET + 4 * i + i % 4, (uint16_t)i, (uint16_t)(2 * i));
+        char text[16];
+        int size = snprintf(text, sizeof text, "%u", i);
+        uint64_t expiry = i % 5 == 0 ? 1000 + i : PIPAPO_NEVER;
+        CHECK(pipapo_insert(&control, 0, &one, sizeof one, expiry, text, (size_t)size, 0, &answer) == PIPAPO_OK);
+    }
+    /* what is open isn't there */
+    CHECK(pipapo_elements_of(&control, 0, &first, &count) == PIPAPO_OK && count == 0);
+    CHECK(pipapo_element_at(&first, 0, &bounds, sizeof bounds, comment, sizeof comment, &element) == PIPAPO_PLACE);
+    CHECK(pipapo_commit(&control, 0, &generation, &purged) == PIPAPO_OK && purged == 0);
+    CHECK(pipapo_elements_of(&control, 0, &first, &count) == PIPAPO_OK && count == 1000);
+
+    /* 200 expire, three of the others are deleted: one at the front, one in the middle, one at the end */
+    for (uint32_t i = 1; i < 1000; i += 499) {
+        flows one = flows_of(NET + 4 * i, NET + 4 * i + i % 4, (uint16_t)i, (uint16_t)(2 * i));
+        CHECK(pipapo_delete(&control, 0, &one, sizeof one, 0, &answer) == PIPAPO_OK && answer.id == i);
+    }
+    CHECK(pipapo_commit(&control, 2000, &generation, &purged) == PIPAPO_OK && purged == 199);
+    CHECK(pipapo_elements_of(&control, 0, &held, &count) == PIPAPO_OK && count == 798);
+    uint64_t place = 0;
+    for (uint32_t i = 0; i < 1000; ++i) {
+        flows one = flows_of(NET + 4 * i, NET + 4 * i + i % 4, (uint16_t)i, (uint16_t)(2 * i));
+        char text[16];
+        int size = snprintf(text, sizeof text, "%u", i);
+        /* the older generation's are as they were */
+        CHECK(pipapo_element_at(&first, i, &bounds, sizeof bounds, comment, sizeof comment, &element) == PIPAPO_OK);
+        CHECK(element.id == i && element.expiry == (i % 5 == 0 ? 1000 + i : PIPAPO_NEVER));
+        CHECK(memcmp(&bounds, &one, sizeof one) == 0);
+        if (i % 5 == 0 || i % 499 == 1) continue;
+        memset(comment, '?', sizeof comment);
+        CHECK(pipapo_element_at(&held, place++, &bounds, sizeof bounds, comment, sizeof comment, &element) == PIPAPO_OK);
+        CHECK(element.id == i && element.expiry == PIPAPO_NEVER && memcmp(&bounds, &one, sizeof one) == 0);
+        CHECK(element.bounds_length == sizeof bounds && element.comment_length == (uint64_t)size);
+        CHECK(memcmp(comment, text, (size_t)size) == 0 && comment[size] == '?');
+    }
+    CHECK(place == 798);
+    CHECK(pipapo_element_at(&held, place, &bounds, sizeof bounds, comment, sizeof comment, &element) == PIPAPO_PLACE);
+
+    /* buffers that are too short, exactly long enough, and longer */
+    memset(&bounds, 0x77, sizeof bounds);
+    memset(comment, '?', sizeof comment);
+    flows untouched = bounds;
+    static const struct { size_t bounds, comment; uint32_t wanted; } rooms[] = {
+        {11, 3, PIPAPO_ROOM}, {12, 2, PIPAPO_ROOM}, {0, 0, PIPAPO_ROOM}, {12, 3, PIPAPO_OK},
+    };
+    for (size_t i = 0; i < sizeof rooms / sizeof *rooms; ++i) {
+        memset(&element, 0x77, sizeof element);
+        CHECK(pipapo_element_at(&first, 999, &bounds, rooms[i].bounds, comment, rooms[i].comment, &element) == rooms[i].wanted);
+        CHECK(element.id == 999 && element.bounds_length == 12 && element.comment_length == 3);
+        if (rooms[i].wanted) CHECK(memcmp(&bounds, &untouched, sizeof bounds) == 0 && comment[0] == '?');
+    }
+    CHECK(memcmp(comment, "999?", 4) == 0);
+    char wide[40];
+    memset(wide, '?', sizeof wide);
+    CHECK(pipapo_element_at(&first, 999, wide, sizeof wide, comment, sizeof comment, &element) == PIPAPO_OK);
+    CHECK(memcmp(wide, &bounds, sizeof bounds) == 0 && wide[12] == '?' && wide[39] == '?');
+
+    /* a refusal leaves what a handle holds, and elements outlive their control */
+    void *at = held.at;
+    count = 77;
+    CHECK(pipapo_elements_of(&control, 2, &held, &count) == PIPAPO_SET && held.at == at && count == 77);
+    CHECK(pipapo_elements_of(&control, 1, &held, &count) == PIPAPO_OK && count == 0);
+    pipapo_free(&control);
+    pipapo_free(&reader);
+    CHECK(pipapo_element_at(&first, 1, &bounds, sizeof bounds, comment, sizeof comment, &element) == PIPAPO_OK && element.id == 1);
+    pipapo_free(&first);
+    pipapo_free(&held);
+    CHECK(pipapo_element_at(&first, 1, &bounds, sizeof bounds, comment, sizeof comment, &element) == PIPAPO_NOTHING);
+}
+
+static void notes(void) {
+    pipapo_control control = PIPAPO_EMPTY;
+    pipapo_reader readers[2] = {PIPAPO_EMPTY, PIPAPO_EMPTY};
+    uint64_t generation, purged, note = 77;
+    start(&control, readers, 2);
+    CHECK(pipapo_note(&control, &note) == PIPAPO_OK && note == 0);
+    CHECK(pipapo_enter(&readers[0], &generation) == PIPAPO_OK && generation == 0);
+    CHECK(pipapo_commit(&control, 0, &generation, &purged) == PIPAPO_OK);
+    CHECK(pipapo_commit(&control, 0, &generation, &purged) == PIPAPO_OK && generation == 2);
+    CHECK(pipapo_note(&control, &note) == PIPAPO_OK && note == 2);
+
+    /* a reader that holds an older generation leaves it first */
+    CHECK(pipapo_meet(&readers[0], 0) == PIPAPO_OK);
+    CHECK(pipapo_meet(&readers[0], note) == PIPAPO_NOTE);
+    CHECK(pipapo_generation(&readers[0], &generation) == PIPAPO_OK && generation == 0);
+    CHECK(pipapo_note(&readers[0], &generation) == PIPAPO_OK && generation == 0);
+    CHECK(pipapo_leave(&readers[0]) == PIPAPO_OK);
+    CHECK(pipapo_meet(&readers[0], note) == PIPAPO_OK);
+    CHECK(pipapo_enter(&readers[0], &generation) == PIPAPO_OK && generation == 2);
+
+    /* one that holds none looks at the published one, and holds none */
+    CHECK(pipapo_note(&readers[1], &note) == PIPAPO_OK && note == 2);
+    CHECK(pipapo_meet(&readers[1], 2) == PIPAPO_OK && pipapo_meet(&readers[1], 3) == PIPAPO_NOTE);
+    CHECK(pipapo_leave(&readers[1]) == PIPAPO_TURN);
+    CHECK(pipapo_hear(&control, note) == PIPAPO_OK && pipapo_hear(&control, 0) == PIPAPO_OK);
+    CHECK(pipapo_hear(&control, 3) == PIPAPO_NOTE && pipapo_hear(&control, UINT64_MAX) == PIPAPO_NOTE);
+    pipapo_free(&control);
+    CHECK(pipapo_note(&readers[1], &note) == PIPAPO_OK && note == 2);
+    pipapo_free(&readers[0]);
+    pipapo_free(&readers[1]);
 }
 
 static void changes(void) {
@@ -449,6 +628,9 @@ int main(void) {
     refused_starts();
     scripts();
     listings();
+    descriptions();
+    walks();
+    notes();
     changes();
     limits();
     every_kind();

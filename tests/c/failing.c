@@ -86,17 +86,32 @@ static int run(long n) {
     }
     TRY(pipapo_commit(&control, 5, &generation, &purged));
     expect(generation == 5 && purged == 14, "the fifth commit purges 14 elements");
+    pipapo_elements elements = PIPAPO_EMPTY;
+    TRY(pipapo_elements_of(&control, 0, &elements, &count));
+    expect(count == 24, "24 elements stay");
     long before = left, at_first = blocks;
+    pipapo_element element;
+    pipapo_declared shape;
+    flows bounds;
+    char comment[8];
+    for (uint64_t i = 0; i < count; ++i)
+        TRY(pipapo_element_at(&elements, i, &bounds, sizeof bounds, comment, sizeof comment, &element));
+    expect(element.id == 38, "the last element has its id");
+    TRY(pipapo_describe(&control, 1, &shape));
+    TRY(pipapo_note(&readers[0], &id));
+    TRY(pipapo_meet(&readers[1], id));
+    TRY(pipapo_hear(&control, id));
     for (uint32_t i = 0; i < 40; ++i) {
         TRY(lookup_flow(&readers[i % 2], 0, flow_of((i << 8) + 7, (uint16_t)(i + 3)), 5, &id));
         expect(id == (i % 3 && i != 20 && i != 22 ? i : PIPAPO_NONE), "a lookup finds its element");
     }
-    expect(left == before && blocks == at_first, "a lookup allocates nothing");
+    expect(left == before && blocks == at_first, "a lookup, an element, a description and a note allocate nothing");
     int all = left != -1;
     left = -1;
     pipapo_free(&control);
     pipapo_free(&readers[0]);
     pipapo_free(&readers[1]);
+    pipapo_free(&elements);
     expect(blocks == 0, "every block is freed");
     return all;
 }

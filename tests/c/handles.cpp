@@ -39,6 +39,21 @@ int main() {
     CHECK(control.commit(0, generation, purged) == PIPAPO_OK && generation == 1 && purged == 0);
     CHECK(control.number(generation) == PIPAPO_OK && generation == 1);
 
+    pipapo::Elements elements;
+    pipapo_element element{};
+    pipapo_declared shape{};
+    Flow from{}, to{};
+    std::string comment = "?";
+    std::uint64_t note = 77;
+    CHECK(control.elements(0, elements, count) == PIPAPO_OK && count == 1);
+    CHECK(elements.at(0, from, to, comment, element) == PIPAPO_OK && element.id == 0 && comment.empty());
+    CHECK(from.port[1] == 80 && to.address[3] == 255 && elements.at(1, from, to, comment, element) == PIPAPO_PLACE);
+    pipapo::Elements walk = std::move(elements);
+    CHECK(walk.at(0, from, to, comment, element) == PIPAPO_OK && elements.at(0, from, to, comment, element) == PIPAPO_NOTHING);
+    CHECK(control.describe(0, shape) == PIPAPO_OK && shape.fields == 2 && shape.kinds[1] == PIPAPO_SERVICE);
+    CHECK(control.note(note) == PIPAPO_OK && note == 1 && readers[1].meet(note) == PIPAPO_OK);
+    CHECK(readers[1].meet(2) == PIPAPO_NOTE && readers[1].note(note) == PIPAPO_OK && control.hear(note) == PIPAPO_OK);
+
     pipapo::Reader reader = std::move(readers[0]);
     CHECK(reader && !readers[0]);
     readers[0] = std::move(reader);
@@ -60,6 +75,14 @@ int main() {
     CHECK(readers[1].lookup(0, keys[0], 0, id) == PIPAPO_OK && id == 0);
     CHECK(control.start_script("add set\nip", readers, fault) == PIPAPO_SCRIPT && fault.line == 1 && fault.column == 8);
     CHECK(readers[1].lookup(0, keys[0], 0, id) == PIPAPO_OK && id == 0);
+
+    CHECK(control.start_script("add set ip t s { type ipv4_addr . inet_service ; }\n"
+                               "add element ip t s { 192.0.2.7 . 99 comment \"a comment that is longer\" }\n",
+                               readers, fault) == PIPAPO_OK);
+    CHECK(control.elements(0, walk, count) == PIPAPO_OK && walk.at(0, from, to, comment, element) == PIPAPO_OK);
+    CHECK(comment == "a comment that is longer");
+    CHECK(control.start_script("add set ip t s { type ipv4_addr . inet_service ; }\nadd element ip t s { 192.0.2.7 . 99 }\n",
+                               readers, fault) == PIPAPO_OK);
 
     std::string text = "?";
     CHECK(control.list(text) == PIPAPO_OK);

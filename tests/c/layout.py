@@ -14,9 +14,11 @@ from pathlib import Path
 # the C names of the structs that cross
 STRUCTS = {
     "SetShape": ["pipapo_set"],
+    "DeclaredSet": ["pipapo_declared"],
     "Answer": ["pipapo_answer"],
     "ScriptFault": ["pipapo_script_fault"],
-    "Handle": ["pipapo_control", "pipapo_reader"],
+    "ElementShape": ["pipapo_element"],
+    "Handle": ["pipapo_control", "pipapo_reader", "pipapo_elements"],
 }
 # what a handle points to, of which C sees nothing
 HIDDEN = {"Opaque"}
@@ -26,7 +28,8 @@ IN_C = {"pipapo_free_text", "pipapo_list", "pipapo_strerror", "pipapo_strreason"
 
 
 def handle_type(name: str) -> str:
-    return {"control": "pipapo_control", "reader": "pipapo_reader", "readers": "pipapo_reader", "handle": "void"}[name]
+    singular = name.removesuffix("s") if name == "readers" else name
+    return "void" if name == "handle" else f"pipapo_{singular}"
 
 
 def bytes_type(name: str) -> str:

@@ -12,6 +12,7 @@ enum { READERS = 16 };
 static pipapo_control control = PIPAPO_EMPTY;
 static double seconds_wanted = 1;
 static int ended; /* by __atomic */
+static uint64_t note; /* the number of the last generation, by __atomic */
 
 static double seconds(void) {
     struct timespec now;
@@ -37,6 +38,9 @@ static void *read_on(void *at) {
     seat *seat_at = at;
     uint64_t seen = 0, generation, id, ids[3];
     while (!__atomic_load_n(&ended, __ATOMIC_SEQ_CST)) {
+        uint64_t met = __atomic_load_n(&note, __ATOMIC_SEQ_CST);
+        EXPECT(pipapo_meet(&seat_at->reader, met) == PIPAPO_OK);
+        seen = met > seen ? met : seen;
         EXPECT(pipapo_enter(&seat_at->reader, &generation) == PIPAPO_OK);
         EXPECT(generation >= seen);
         seat_at->changes += generation != seen;
@@ -62,6 +66,27 @@ static void *read_on(void *at) {
     return NULL;
 }
 
+/* The elements of a generation, which another thread walks while the control goes on. */
+typedef struct {
+    pthread_t thread;
+    pipapo_elements elements;
+    uint64_t generation, failures;
+} walk;
+
+static void *walk_on(void *at) {
+    walk *seat_at = at;
+    pipapo_element element;
+    flows bounds;
+    char none;
+    for (int i = 0; i < 1000; ++i) {
+        EXPECT(pipapo_element_at(&seat_at->elements, 0, &bounds, sizeof bounds, &none, 0, &element) == PIPAPO_OK);
+        flow low = flow_of(0, (uint16_t)seat_at->generation);
+        EXPECT(element.id == seat_at->generation - 1 && memcmp(&bounds.low, &low, sizeof low) == 0);
+        EXPECT(pipapo_element_at(&seat_at->elements, 1, &bounds, sizeof bounds, &none, 0, &element) == PIPAPO_PLACE);
+    }
+    return NULL;
+}
+
 int main(int argc, char **argv) {
     pipapo_set set = {.kinds = {PIPAPO_IPV4, PIPAPO_SERVICE}, .fields = 2};
     pipapo_reader readers[READERS] = {PIPAPO_EMPTY};
@@ -76,7 +101,8 @@ int main(int argc, char **argv) {
         if (pthread_create(&seats[i].thread, NULL, read_on, &seats[i])) return 2;
     }
     double end = seconds() + seconds_wanted;
-    uint64_t commits = 0;
+    uint64_t commits = 0, count;
+    walk walker = {.generation = 0};
     for (; seconds() < end && !failures; ++commits) {
         uint16_t old_port = (uint16_t)commits, new_port = (uint16_t)(commits + 1);
         flows old_bounds = flows_of(0, 0xffffffff, old_port, old_port);
@@ -84,8 +110,17 @@ int main(int argc, char **argv) {
         CHECK(insert_flows(&control, 0, flows_of(0, 0xffffffff, new_port, new_port), PIPAPO_NEVER, 0, &answer) == PIPAPO_OK);
         CHECK(answer.id == commits);
         CHECK(pipapo_commit(&control, 0, &generation, &purged) == PIPAPO_OK && generation == commits + 1);
+        __atomic_store_n(&note, generation, __ATOMIC_SEQ_CST);
+        if (commits % 256) continue;
+        if (commits) pthread_join(walker.thread, NULL);
+        walker.generation = generation;
+        CHECK(pipapo_elements_of(&control, 0, &walker.elements, &count) == PIPAPO_OK && count == 1);
+        if (pthread_create(&walker.thread, NULL, walk_on, &walker)) return 2;
     }
     __atomic_store_n(&ended, 1, __ATOMIC_SEQ_CST);
+    if (commits) pthread_join(walker.thread, NULL);
+    pipapo_free(&walker.elements);
+    failures += (int)walker.failures;
     unsigned long lookups = 0, changes = 0;
     for (int i = 0; i < READERS; ++i) {
         pthread_join(seats[i].thread, NULL);

@@ -13,7 +13,7 @@ import threading
 import unittest
 
 import pipapo
-from pipapo import Control, Error, Kind, Outcome, PipapoError, Reason, Receipt, Set
+from pipapo import Control, Element, Error, Family, Kind, Outcome, PipapoError, Reason, Receipt, Set
 
 FLOWS = [Set([Kind.IPV4, Kind.SERVICE])]
 
@@ -85,19 +85,21 @@ def test_scripts():
         "add set inet t flows { type ipv4_addr . inet_service ; flags interval ; }\n"
         "add element inet t flows { 192.0.2.0/24 . 80-443 }\n"
     )
-    kinds = [[Kind.IPV4], [Kind.IPV4, Kind.SERVICE]]
-    with Control.from_script(rules, kinds, readers=2) as control:
+    with Control.from_script(rules, readers=2) as control:
+        hosts, flows = control.sets
+        assert (hosts.kinds, hosts.family, hosts.table, hosts.name) == ([Kind.IPV4], Family.INET, "t", "hosts")
+        assert (flows.kinds, flows.size, flows.disjoint) == ([Kind.IPV4, Kind.SERVICE], 0, False)
         assert control.number == 1 and len(control.readers) == 2
         assert control.readers[1].lookup(1, ["192.0.2.7", 443]) == 0
         assert control.readers[1].lookup(0, ["192.0.2.7"]) is None
         assert control.insert(0, ["192.0.2.7"]).outcome == Outcome.NEW
-    bad = refusal(Control.from_script, rules.replace("80-443", "443-80"), kinds)
+    bad = refusal(Control.from_script, rules.replace("80-443", "443-80"))
     assert (bad.error, bad.line, bad.column, bad.reason) == (Error.SCRIPT, 3, 43, Reason.VALUE)
     assert str(bad) == "3:43: a value or an interval is wanted here"
-    refused = refusal(Control.from_script, rules + "add element inet t flows { 192.0.2.1 . 80 }\n", kinds)
+    refused = refusal(Control.from_script, rules + "add element inet t flows { 192.0.2.1 . 80 }\n")
     assert (refused.error, refused.line, refused.set, refused.cause, refused.id) == (Error.CHANGE, 4, 1, Error.OVERLAP, 0)
     assert str(refused) == "4: a live element is in the way"
-    assert refusal(Control.from_script, rules, kinds, readers=17).error == Error.READERS
+    assert refusal(Control.from_script, rules, readers=17).error == Error.READERS
 
 
 def test_listings():
@@ -108,9 +110,50 @@ def test_listings():
         listed = control.list()
         assert b'\t\ttype mark\n\t\tflags interval,timeout\n\t\telements = { 0x00000005 comment "five" }\n' in listed
     rules = b"table ip t {\n\tset s {\n\t\ttype mark\n\t\telements = { 0x00000005,\n\t\t\t     0x00000007 }\n\t}\n}\n"
-    with Control.from_script(rules, [[Kind.MARK]]) as control:
+    with Control.from_script(rules) as control:
         assert control.list() == rules
     assert refusal(control.list).error == Error.NOTHING
+
+
+def test_sets_are_told_as_they_were_made():
+    made = [
+        Set([Kind.IPV4, Kind.SERVICE], 9, True, Family.BRIDGE, "t", "flows"),
+        Set([Kind.IPV6]),
+    ]
+    with Control(made) as control:
+        assert control.sets == made
+    assert refusal(Control, [Set([Kind.MARK], name="n" * 65)]).error == Error.ROOM
+    assert Control([]).sets == []
+
+
+def test_elements_are_walked():
+    with Control([Set([Kind.IPV4, Kind.SERVICE])]) as control:
+        control.insert(0, ["192.0.2.0", 80], ["192.0.2.255", 443], expiry=1000, comment="web")
+        control.insert(0, ["192.0.3.1", 22], comment="c" * 300)
+        assert list(control.elements(0)) == []
+        control.commit()
+        walk = control.elements(0)
+        first = next(walk)
+        assert first == Element(0, (b"\xc0\0\2\0", b"\0P"), (b"\xc0\0\2\xff", b"\x01\xbb"), 1000, b"web")
+        assert control.insert(0, first.low, first.high).outcome == Outcome.ALREADY
+        control.flush(0)
+        control.commit()
+        assert [(one.id, one.expiry, len(one.comment)) for one in walk] == [(1, None, 300)]
+        assert list(control.elements(0)) == [] and refusal(list, control.elements(1)).error == Error.SET
+
+
+def test_notes():
+    with Control(FLOWS, readers=2) as control:
+        first, second = control.readers
+        first.enter()
+        control.commit()
+        assert control.note() == 1 and first.note() == 0
+        assert refusal(first.meet, 1).error == Error.NOTE
+        first.leave()
+        first.meet(control.note())
+        assert first.enter() == 1 and second.note() == 1
+        control.hear(second.note())
+        assert refusal(control.hear, 2).error == Error.NOTE and refusal(second.meet, 2).error == Error.NOTE
 
 
 def test_values():
@@ -137,7 +180,8 @@ def test_elements_expire():
 def test_random_calls_agree_with_a_list():
     """The set is compared with a list that is searched from its front."""
     random.seed(56)
-    with Control([Set([Kind.SERVICE, Kind.PROTO])]) as control:
+    kinds = [Kind.SERVICE, Kind.PROTO]
+    with Control([Set(kinds)]) as control:
         elements = []
         for step in range(400):
             low = [random.randrange(40), random.randrange(6)]
@@ -153,6 +197,9 @@ def test_random_calls_agree_with_a_list():
                 assert control.delete(0, gone[1], gone[2]).id == gone[0]
             if step % 20 == 19:
                 control.commit()
+                assert [(one.id, one.low, one.high) for one in control.elements(0)] == [
+                    (i, *(tuple(kind.pack(value) for kind, value in zip(kinds, key)) for key in (low, high))) for i, low, high in elements
+                ]
                 keys = [[a, b] for a in range(45) for b in range(8)]
                 wanted = [next((i for i, low, high in elements if all(l <= v <= h for l, v, h in zip(low, key, high))), None) for key in keys]
                 assert control.readers[0].lookup_many(0, keys) == (wanted, control.number)

@@ -8,3 +8,5 @@ pub mod Refused
 pub mod Listed
 pub mod Started
 pub mod Tested
+pub mod Described
+pub mod Walked

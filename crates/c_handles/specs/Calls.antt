@@ -18,7 +18,7 @@ use Rattle.packed_values.specs.Packed.{values_in, parts_in, packed_length, IsBou
 use Rattle.c_handles.specs.Codes.{id_of, added_as, created_as, removed_as, destroyed_as}
 use Rattle.c_handles.specs.declared.answer.Answer.{Answer}
 use Rattle.c_handles.specs.declared.object.Object.{Object}
-use Rattle.c_handles.specs.declared.object.Object.TheVariants.{Control, Reader}
+use Rattle.c_handles.specs.declared.object.Object.TheVariants.{Control, Reader, Elements}
 use Rattle.c_handles.specs.declared.place.Place.{Place}
 use Rattle.c_handles.specs.declared.place.Place.TheVariants.{Out, In, Nowhere}
 
@@ -32,6 +32,7 @@ seen_at Nowhere = []
 abbrev pub seen_of : Object → List Generation
 seen_of (Control c) = []
 seen_of (Reader s) = seen_at s.place
+seen_of (Elements e) = []
 
 -- what the reader of a handle has seen
 abbrev pub seen_by : Option Object → List Generation
@@ -42,6 +43,7 @@ seen_by (Some x) = seen_of x
 abbrev pub kinds_of : Object → List (List Kind)
 kinds_of (Control c) = []
 kinds_of (Reader s) = s.kinds
+kinds_of (Elements e) = []
 
 abbrev pub kinds_by : Option Object → List (List Kind)
 kinds_by None = []
@@ -128,7 +130,9 @@ abbrev pub Inserts : Object → ℕ → List ℕ → ℕ → List ℕ → ℕ �
 Inserts (Control old) set bounds expiry comment now (Control new) added =
     IsChange (λ s t. IsAnswer (add s (element_in old.schema set bounds expiry comment) now) (Ok added) s t) old.work set new.work × (new ≡ record old { work = new.work }) × IsElement old set bounds
 Inserts (Control old) set bounds expiry comment now (Reader s) added = ⊥
+Inserts (Control old) set bounds expiry comment now (Elements e) added = ⊥
 Inserts (Reader s) set bounds expiry comment now new added = ⊥
+Inserts (Elements e) set bounds expiry comment now new added = ⊥
 
 abbrev pub HasInserted : Option Object → ℕ → List ℕ → ℕ → List ℕ → ℕ → Option Object → Answer → Type 0
 HasInserted (Some old) set bounds expiry comment now (Some new) answer = (added : Added) × (answer ≡ added_as added) × Inserts old set bounds expiry comment now new added
@@ -140,7 +144,9 @@ abbrev pub Creates : Object → ℕ → List ℕ → ℕ → List ℕ → ℕ �
 Creates (Control old) set bounds expiry comment now (Control new) id =
     IsChange (λ s t. IsCreation (add s (element_in old.schema set bounds expiry comment) now) (Ok id) s t) old.work set new.work × (new ≡ record old { work = new.work }) × IsElement old set bounds
 Creates (Control old) set bounds expiry comment now (Reader s) id = ⊥
+Creates (Control old) set bounds expiry comment now (Elements e) id = ⊥
 Creates (Reader s) set bounds expiry comment now new id = ⊥
+Creates (Elements e) set bounds expiry comment now new id = ⊥
 
 abbrev pub HasCreated : Option Object → ℕ → List ℕ → ℕ → List ℕ → ℕ → Option Object → Answer → Type 0
 HasCreated (Some old) set bounds expiry comment now (Some new) answer = (id : ℕ) × (answer ≡ created_as id) × Creates old set bounds expiry comment now new id
@@ -152,7 +158,9 @@ abbrev pub Deletes : Object → ℕ → List ℕ → ℕ → Object → ℕ → 
 Deletes (Control old) set bounds now (Control new) id =
     IsChange (λ s t. IsRemoval (removed s (parts_in (kinds_at old.schema set) bounds) now) (Ok id) s t) old.work set new.work × (new ≡ record old { work = new.work }) × IsElement old set bounds
 Deletes (Control old) set bounds now (Reader s) id = ⊥
+Deletes (Control old) set bounds now (Elements e) id = ⊥
 Deletes (Reader s) set bounds now new id = ⊥
+Deletes (Elements e) set bounds now new id = ⊥
 
 abbrev pub HasDeleted : Option Object → ℕ → List ℕ → ℕ → Option Object → Answer → Type 0
 HasDeleted (Some old) set bounds now (Some new) answer = (id : ℕ) × (answer ≡ removed_as id) × Deletes old set bounds now new id
@@ -164,7 +172,9 @@ abbrev pub Destroys : Object → ℕ → List ℕ → ℕ → Object → Option 
 Destroys (Control old) set bounds now (Control new) id =
     IsChange (λ s t. IsDestruction (removed s (parts_in (kinds_at old.schema set) bounds) now) (Ok id) s t) old.work set new.work × (new ≡ record old { work = new.work }) × IsElement old set bounds
 Destroys (Control old) set bounds now (Reader s) id = ⊥
+Destroys (Control old) set bounds now (Elements e) id = ⊥
 Destroys (Reader s) set bounds now new id = ⊥
+Destroys (Elements e) set bounds now new id = ⊥
 
 abbrev pub HasDestroyed : Option Object → ℕ → List ℕ → ℕ → Option Object → Answer → Type 0
 HasDestroyed (Some old) set bounds now (Some new) answer = (id : Option ℕ) × (answer ≡ destroyed_as id) × Destroys old set bounds now new id
@@ -175,7 +185,9 @@ HasDestroyed None set bounds now new answer = ⊥
 abbrev pub Flushes : Object → ℕ → Object → ℕ → Type 0
 Flushes (Control old) set (Control new) count = IsChange (λ s t. IsFlush (Ok count) s t) old.work set new.work × (new ≡ record old { work = new.work })
 Flushes (Control old) set (Reader s) count = ⊥
+Flushes (Control old) set (Elements e) count = ⊥
 Flushes (Reader s) set new count = ⊥
+Flushes (Elements e) set new count = ⊥
 
 abbrev pub HasFlushed : Option Object → ℕ → Option Object → ℕ → Type 0
 HasFlushed (Some old) set (Some new) count = Flushes old set new count
@@ -186,7 +198,9 @@ HasFlushed None set new count = ⊥
 abbrev pub Commits : Object → ℕ → Object → Receipt → Type 0
 Commits (Control old) now (Control new) receipt = IsCommit old now new receipt
 Commits (Control old) now (Reader s) receipt = ⊥
+Commits (Control old) now (Elements e) receipt = ⊥
 Commits (Reader s) now new receipt = ⊥
+Commits (Elements e) now new receipt = ⊥
 
 abbrev pub HasCommitted : Option Object → ℕ → Option Object → Receipt → Type 0
 HasCommitted (Some old) now (Some new) receipt = Commits old now new receipt
@@ -197,7 +211,9 @@ HasCommitted None now new receipt = ⊥
 abbrev pub Aborts : Object → Object → Type 0
 Aborts (Control old) (Control new) = new ≡ record old { work = opened old.work.base }
 Aborts (Control old) (Reader s) = ⊥
+Aborts (Control old) (Elements e) = ⊥
 Aborts (Reader s) new = ⊥
+Aborts (Elements e) new = ⊥
 
 abbrev pub HasAborted : Option Object → Option Object → Type 0
 HasAborted (Some old) (Some new) = Aborts old new
@@ -208,6 +224,7 @@ HasAborted None new = ⊥
 abbrev pub IsNumber : Object → ℕ → Type 0
 IsNumber (Control c) number = number ≡ c.work.base.number
 IsNumber (Reader s) number = ⊥
+IsNumber (Elements e) number = ⊥
 
 abbrev pub HasNumber : Option Object → ℕ → Type 0
 HasNumber (Some x) number = IsNumber x number

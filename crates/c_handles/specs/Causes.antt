@@ -14,7 +14,7 @@ use Rattle.c_handles.specs.declared.answer.Answer.{Answer}
 use Rattle.c_handles.specs.declared.fault.Fault.{Fault}
 use Rattle.c_handles.specs.declared.fault.Fault.TheVariants.{Memory, Empty, Handle, Set, Length, Interval, Turn, Numbers, Refused}
 use Rattle.c_handles.specs.declared.object.Object.{Object}
-use Rattle.c_handles.specs.declared.object.Object.TheVariants.{Control, Reader}
+use Rattle.c_handles.specs.declared.object.Object.TheVariants.{Control, Reader, Elements}
 use Rattle.c_handles.specs.declared.place.Place.{Place}
 use Rattle.c_handles.specs.declared.place.Place.TheVariants.{Out, In, Nowhere}
 
@@ -49,36 +49,43 @@ RefusesChange refusal c set bounds fault = RefusesBounds c set bounds fault
 abbrev pub RefusesInsertion : ℕ → List ℕ → ℕ → List ℕ → ℕ → Object → Fault → Type 0
 RefusesInsertion set bounds expiry comment now (Control c) fault = RefusesChange (λ s. (as_added (add s (element_in c.schema set bounds expiry comment) now)).0) c set bounds fault
 RefusesInsertion set bounds expiry comment now (Reader s) fault = fault ≡ Handle
+RefusesInsertion set bounds expiry comment now (Elements e) fault = fault ≡ Handle
 
 abbrev pub RefusesCreation : ℕ → List ℕ → ℕ → List ℕ → ℕ → Object → Fault → Type 0
 RefusesCreation set bounds expiry comment now (Control c) fault = RefusesChange (λ s. (as_created s (add s (element_in c.schema set bounds expiry comment) now)).0) c set bounds fault
 RefusesCreation set bounds expiry comment now (Reader s) fault = fault ≡ Handle
+RefusesCreation set bounds expiry comment now (Elements e) fault = fault ≡ Handle
 
 abbrev pub RefusesDeletion : ℕ → List ℕ → ℕ → Object → Fault → Type 0
 RefusesDeletion set bounds now (Control c) fault = RefusesChange (λ s. (as_deleted s (removed s (parts_in (kinds_at c.schema set) bounds) now)).0) c set bounds fault
 RefusesDeletion set bounds now (Reader s) fault = fault ≡ Handle
+RefusesDeletion set bounds now (Elements e) fault = fault ≡ Handle
 
 -- No set refuses a destruction.
 abbrev pub RefusesDestruction : ℕ → List ℕ → Object → Fault → Type 0
 RefusesDestruction set bounds (Control c) fault = RefusesBounds c set bounds fault
 RefusesDestruction set bounds (Reader s) fault = fault ≡ Handle
+RefusesDestruction set bounds (Elements e) fault = fault ≡ Handle
 
 abbrev pub RefusesFlush : ℕ → Object → Fault → Type 0
 RefusesFlush set (Control c) Set = length c.schema ≤ set
 RefusesFlush set (Control c) Memory = set < length c.schema
 RefusesFlush set (Control c) other = ⊥
 RefusesFlush set (Reader s) fault = fault ≡ Handle
+RefusesFlush set (Elements e) fault = fault ≡ Handle
 
 abbrev pub RefusesCommit : Object → Fault → Type 0
 RefusesCommit (Control c) Numbers = 2 ^ 63 ≤ c.work.base.number
 RefusesCommit (Control c) Memory = c.work.base.number < 2 ^ 63
 RefusesCommit (Control c) other = ⊥
 RefusesCommit (Reader s) fault = fault ≡ Handle
+RefusesCommit (Elements e) fault = fault ≡ Handle
 
 -- An abort, and the number of the last generation: only a reader's handle is refused.
 abbrev pub RefusesReaders : Object → Fault → Type 0
 RefusesReaders (Control c) fault = ⊥
 RefusesReaders (Reader s) fault = fault ≡ Handle
+RefusesReaders (Elements e) fault = fault ≡ Handle
 
 abbrev pub IsNotOut : Place → Type 0
 IsNotOut (Out r) = ⊥
@@ -94,11 +101,13 @@ IsNotIn Nowhere = Unit {0}
 abbrev pub RefusesEntry : Object → Fault → Type 0
 RefusesEntry (Control c) fault = fault ≡ Handle
 RefusesEntry (Reader s) fault = (fault ≡ Turn) × IsNotOut s.place
+RefusesEntry (Elements e) fault = fault ≡ Handle
 
 -- What a reader does with its generation is refused if it holds none.
 abbrev pub RefusesHolder : Object → Fault → Type 0
 RefusesHolder (Control c) fault = fault ≡ Handle
 RefusesHolder (Reader s) fault = (fault ≡ Turn) × IsNotIn s.place
+RefusesHolder (Elements e) fault = fault ≡ Handle
 
 -- Why a reader doesn't look up bytes, of which there must be so many for the set's kinds: there is no such set; there are
 -- too few or too many; the reader isn't there.
@@ -112,8 +121,10 @@ RefusesKeys wanted set bytes s other = ⊥
 abbrev pub RefusesLookup : ℕ → ℕ → Object → Fault → Type 0
 RefusesLookup set bytes (Control c) fault = fault ≡ Handle
 RefusesLookup set bytes (Reader s) fault = RefusesKeys (λ kinds. packed_length kinds) set bytes s fault
+RefusesLookup set bytes (Elements e) fault = fault ≡ Handle
 
 -- Why a reader doesn't look up so many keys of so many bytes together.
 abbrev pub RefusesLookups : ℕ → ℕ → ℕ → Object → Fault → Type 0
 RefusesLookups set count bytes (Control c) fault = fault ≡ Handle
 RefusesLookups set count bytes (Reader s) fault = RefusesKeys (λ kinds. count * packed_length kinds) set bytes s fault
+RefusesLookups set count bytes (Elements e) fault = fault ≡ Handle

@@ -8,7 +8,7 @@ use Rattle.pipapo_image.specs.declared.answers.ChangeError.{ChangeError}
 use Rattle.pipapo_image.specs.declared.answers.ChangeError.TheVariants as errors
 use Rattle.c_handles.specs.declared.answer.Answer.{Answer}
 use Rattle.c_handles.specs.declared.fault.Fault.{Fault}
-use Rattle.c_handles.specs.declared.fault.Fault.TheVariants.{Memory, Empty, Handle, Schema, Readers, Set, Length, Interval, Turn, Numbers, Script, Change, Room, Refused}
+use Rattle.c_handles.specs.declared.fault.Fault.TheVariants.{Memory, Empty, Handle, Schema, Readers, Set, Length, Interval, Turn, Numbers, Script, Change, Room, Place, Note, Refused}
 
 -- the id of what a lookup found, or the largest number
 abbrev pub id_of : Option Found → ℕ
@@ -49,6 +49,8 @@ code_of Numbers = 10
 code_of Script = 11
 code_of Change = 12
 code_of Room = 13
+code_of Place = 14
+code_of Note = 15
 code_of (Refused (Overlap id)) = 16
 code_of (Refused (Exists id)) = 17
 code_of (Refused Full) = 18

@@ -9,3 +9,6 @@ pub mod StartCauses
 pub mod ScriptCodes
 pub mod Scripting
 pub mod Listing
+pub mod Elements
+pub mod Notes
+pub mod Describing

@@ -5,18 +5,20 @@ use Rattle.c_handles.specs.Codes.{code_of}
 use Rattle.c_handles.specs.declared.fault.Fault.{Fault}
 use Rattle.c_handles.specs.declared.fault.Fault.TheVariants.{Memory, Empty, Handle, Room}
 use Rattle.c_handles.specs.declared.object.Object.{Object}
-use Rattle.c_handles.specs.declared.object.Object.TheVariants.{Control, Reader}
+use Rattle.c_handles.specs.declared.object.Object.TheVariants.{Control, Reader, Elements}
 
 -- The text is the last generation of a control as a script, at a moment.
 abbrev pub IsListing : Object → ℕ → List ℕ → Type 0
 IsListing (Control c) now text = text ≡ list_text c.schema c.work.base.sets now
 IsListing (Reader s) now text = ⊥
+IsListing (Elements e) now text = ⊥
 
 -- Only memory is wanted for a control's listing.
 abbrev pub RefusesListing : Object → Fault → Type 0
 RefusesListing (Control c) Memory = Unit {0}
 RefusesListing (Control c) other = ⊥
 RefusesListing (Reader s) fault = fault ≡ Handle
+RefusesListing (Elements e) fault = fault ≡ Handle
 
 -- The listing was written over the front of a buffer, and this is its length.
 abbrev pub HasListed : Option Object → ℕ → List ℕ → List ℕ → ℕ → Type 0

@@ -12,7 +12,7 @@ use Rattle.c_handles.specs.StartCauses.{IsReaderCount, IsNoReaderCount}
 use Rattle.c_handles.specs.declared.fault.Fault.TheVariants.{Readers}
 use Rattle.c_handles.specs.declared.script_fault.ScriptFault.{ScriptFault}
 use Rattle.c_handles.specs.declared.object.Object.{Object}
-use Rattle.c_handles.specs.declared.object.Object.TheVariants.{Control, Reader}
+use Rattle.c_handles.specs.declared.object.Object.TheVariants.{Control, Reader, Elements}
 
 -- A control did the script that a text means. Each of these handles holds one of its readers, which has seen all that is
 -- committed, and it has no others.
@@ -26,6 +26,7 @@ pub record IsScripted (text : List ℕ) (c : Steering) (readers : List (Option O
 abbrev pub HasScripted : List ℕ → Option Object → List (Option Object) → Type 0
 HasScripted text (Some (Control c)) readers = IsScripted text c readers
 HasScripted text (Some (Reader s)) readers = ⊥
+HasScripted text (Some (Elements e)) readers = ⊥
 HasScripted text None readers = ⊥
 
 -- A start by a text was refused, with this number and this place: there are too few or too many readers, or the text starts

@@ -8,7 +8,7 @@ use Rattle.c_handles.specs.Shapes.{described}
 use Rattle.c_handles.specs.declared.shapes.SetShape.{SetShape}
 use Rattle.c_handles.specs.declared.place.Place.TheVariants.{Out}
 use Rattle.c_handles.specs.declared.object.Object.{Object}
-use Rattle.c_handles.specs.declared.object.Object.TheVariants.{Control, Reader}
+use Rattle.c_handles.specs.declared.object.Object.TheVariants.{Control, Reader, Elements}
 
 -- A reader looks up in these sets.
 abbrev pub IsOf : List SetDecl → ReaderView → Type 0
@@ -39,4 +39,5 @@ pub record IsStart (shapes : List SetShape) (c : Steering) (readers : List (Opti
 abbrev pub HasStarted : List SetShape → Option Object → List (Option Object) → Type 0
 HasStarted shapes (Some (Control c)) readers = IsStart shapes c readers
 HasStarted shapes (Some (Reader s)) readers = ⊥
+HasStarted shapes (Some (Elements e)) readers = ⊥
 HasStarted shapes None readers = ⊥

@@ -112,7 +112,7 @@ pub(crate) fn insert(
 {
     match object {
         Object::Control(control) => insert_in(alloc, control, set, bounds, expiry, comment, now),
-        Object::Reader(_) => Err(Fault::Handle),
+        Object::Reader(_) | Object::Elements(_) => Err(Fault::Handle),
     }
 }
 
@@ -156,7 +156,7 @@ pub(crate) fn create(
 {
     match object {
         Object::Control(control) => create_in(alloc, control, set, bounds, expiry, comment, now),
-        Object::Reader(_) => Err(Fault::Handle),
+        Object::Reader(_) | Object::Elements(_) => Err(Fault::Handle),
     }
 }
 
@@ -196,7 +196,7 @@ pub(crate) fn delete(
 {
     match object {
         Object::Control(control) => delete_in(alloc, control, set, bounds, now),
-        Object::Reader(_) => Err(Fault::Handle),
+        Object::Reader(_) | Object::Elements(_) => Err(Fault::Handle),
     }
 }
 
@@ -236,7 +236,7 @@ pub(crate) fn destroy(
 {
     match object {
         Object::Control(control) => destroy_in(alloc, control, set, bounds, now),
-        Object::Reader(_) => Err(Fault::Handle),
+        Object::Reader(_) | Object::Elements(_) => Err(Fault::Handle),
     }
 }
 
@@ -257,7 +257,7 @@ pub(crate) fn flush(object: &mut Object, set: u32) -> Result<u64, Fault>
                 Err(_) => Err(Fault::Memory),
             }
         }
-        Object::Reader(_) => Err(Fault::Handle),
+        Object::Reader(_) | Object::Elements(_) => Err(Fault::Handle),
     }
 }
 
@@ -277,7 +277,7 @@ pub(crate) fn commit(object: &mut Object, now: u64) -> Result<Receipt, Fault>
                 Err(_) => Err(Fault::Memory),
             }
         }
-        Object::Reader(_) => Err(Fault::Handle),
+        Object::Reader(_) | Object::Elements(_) => Err(Fault::Handle),
     }
 }
 
@@ -292,7 +292,7 @@ pub(crate) fn abort(object: &mut Object) -> Result<(), Fault>
             control.abort();
             Ok(())
         }
-        Object::Reader(_) => Err(Fault::Handle),
+        Object::Reader(_) | Object::Elements(_) => Err(Fault::Handle),
     }
 }
 
@@ -303,6 +303,6 @@ pub(crate) fn number(object: &Object) -> Result<u64, Fault>
 {
     match object {
         Object::Control(control) => Ok(control.number()),
-        Object::Reader(_) => Err(Fault::Handle),
+        Object::Reader(_) | Object::Elements(_) => Err(Fault::Handle),
     }
 }

@@ -12,7 +12,7 @@ pub const DONE: u32 = 0;
 /// Why a call did nothing.
 #[derive(Clone, Copy)]
 pub enum Fault {
-    /// Want of memory.
+    /// Out of memory.
     Memory,
     /// The handle holds nothing.
     Empty,
@@ -38,6 +38,10 @@ pub enum Fault {
     Change,
     /// The buffer has no room for the text.
     Room,
+    /// There is no element at this place.
+    Place,
+    /// The generation of a note isn't there yet.
+    Note,
     /// The change was refused.
     Refused(Why),
 }
@@ -64,6 +68,8 @@ impl Fault {
             Fault::Script => 11,
             Fault::Change => 12,
             Fault::Room => 13,
+            Fault::Place => 14,
+            Fault::Note => 15,
             Fault::Refused(why) => match why {
                 Why::Overlap { id: _ } => 16,
                 Why::Exists { id: _ } => 17,

@@ -3,6 +3,7 @@ ghost use Rattle.std.specs.Prelude.{◌≡◌, ◌<◌, ◌≤◌, ◌++◌, len
 ghost use Rattle.c_handles.specs.Listing.{IsListing, RefusesListing, HasListed, IsRefusedListing};
 
 use crate::fault::{DONE, Fault};
+use crate::front::write_front;
 use crate::handle::Handle;
 use crate::object::Object;
 use gen_publish::Control;
@@ -28,16 +29,8 @@ fn listing(alloc: Global, object: &Object, now: u64) -> Result<Vec<u8>, Fault>
 {
     match object {
         Object::Control(control) => text_of(alloc, control, now),
-        Object::Reader(_) => Err(Fault::Handle),
+        Object::Reader(_) | Object::Elements(_) => Err(Fault::Handle),
     }
-}
-
-/// Writes bytes over the front of a buffer.
-fn write_front(buffer: &mut [u8], bytes: &[u8])
-    requires { length bytes.now ≤ length buffer.old }
-    ensures { buffer.new ≡ bytes.now ++ drop (length bytes.now) buffer.old }
-{
-    buffer[..bytes.len()].copy_from_slice(bytes);
 }
 
 /// Writes the control's last generation as a script over the front of a buffer. An element that expires has the time from

@@ -5,16 +5,18 @@ ghost use Rattle.c_handles.specs.Calls.{HasEntered, HasFound, HasFoundAll, HasGe
 ghost use Rattle.c_handles.specs.Causes.{RefusesEntry, RefusesHolder, RefusesLookup, RefusesLookups};
 ghost use Rattle.c_handles.specs.Codes.{id_of};
 
+use crate::elements::Elements;
 use crate::fault::Fault;
 use crate::seat::Seat;
 use gen_publish::Control;
 use set_model::Found;
 
-/// A control, or a reader.
+/// A control, a reader, or the elements of a set.
 #[derive(Drop)]
 pub enum Object {
     Control(Control),
     Reader(Seat),
+    Elements(Elements),
 }
 
 /// The id that C gets: the largest number if nothing is found.
@@ -36,7 +38,7 @@ impl Object {
         ensures err { OnErr result (self.new ≡ self.old) }
     {
         match self {
-            Object::Control(_) => Err(Fault::Handle),
+            Object::Control(_) | Object::Elements(_) => Err(Fault::Handle),
             Object::Reader(seat) => seat.enter(),
         }
     }
@@ -49,7 +51,7 @@ impl Object {
         ensures err { OnErr result (self.new ≡ self.old) }
     {
         match self {
-            Object::Control(_) => Err(Fault::Handle),
+            Object::Control(_) | Object::Elements(_) => Err(Fault::Handle),
             Object::Reader(seat) => seat.leave(),
         }
     }
@@ -60,7 +62,7 @@ impl Object {
         ensures refused { IfErr result (RefusesHolder self.now) }
     {
         match self {
-            Object::Control(_) => Err(Fault::Handle),
+            Object::Control(_) | Object::Elements(_) => Err(Fault::Handle),
             Object::Reader(seat) => seat.generation(),
         }
     }
@@ -75,7 +77,7 @@ impl Object {
         ensures kinds { kinds_of self.new ≡ kinds_of self.old }
     {
         match self {
-            Object::Control(_) => Err(Fault::Handle),
+            Object::Control(_) | Object::Elements(_) => Err(Fault::Handle),
             Object::Reader(seat) => seat.lookup(set, key, now),
         }
     }
@@ -96,7 +98,7 @@ impl Object {
         ensures kinds { kinds_of self.new ≡ kinds_of self.old }
     {
         match self {
-            Object::Control(_) => Err(Fault::Handle),
+            Object::Control(_) | Object::Elements(_) => Err(Fault::Handle),
             Object::Reader(seat) => seat.lookup_all(set, keys, now, ids),
         }
     }

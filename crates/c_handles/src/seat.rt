@@ -6,6 +6,7 @@ ghost use Rattle.gen_publish.specs.Publish.{declared_kinds};
 ghost use Rattle.packed_values.specs.Packed.{packed_length};
 ghost use Rattle.c_handles.specs.Seats.{IsDeclaredAt, IsSeated, Stays, WentIn, WentOut};
 ghost use Rattle.c_handles.specs.Calls.{AreFound, HasEntered, HasFound, HasFoundAll, HasGeneration, TakesKey, TakesKeys, seen_at, kinds_in};
+ghost use Rattle.c_handles.specs.Notes.{HasLooked, HasSeenUpTo, RefusesMeeting};
 ghost use Rattle.c_handles.specs.Causes.{IsNotIn, IsNotOut, RefusesKeys};
 
 use crate::fault::Fault;
@@ -223,6 +224,46 @@ impl Seat {
             Place::Out(_) => Err(Fault::Turn),
             Place::Nowhere => Err(Fault::Turn),
         }
+    }
+
+    /// The number of the last generation that the reader has seen. If it holds none, it looks at the published one first.
+    pub(crate) fn look(&mut self) -> Result<u64, Fault>
+        ensures ok { IfOk result (HasGeneration (seen_at self.new.place)) }
+        ensures looked { HasLooked self.old self.new }
+        ensures refused { IfErr result (λ fault. (fault ≡ Fault.Turn) × (self.old.place ≡ Place.Nowhere)) }
+        ensures err { OnErr result (self.new ≡ self.old) }
+    {
+        match replace(&mut self.place, Place::Nowhere) {
+            Place::In(held) => {
+                let number = held.generation();
+                self.place = Place::In(held);
+                Ok(number)
+            }
+            Place::Out(reader) => {
+                let held = reader.enter();
+                let number = held.generation();
+                self.place = Place::Out(held.leave());
+                Ok(number)
+            }
+            Place::Nowhere => Err(Fault::Turn),
+        }
+    }
+
+    /// Whether the last generation that the reader has seen is that of a note, or a later one. If it holds none, it looks at the
+    /// published one first.
+    pub(crate) fn meet(&mut self, note: u64) -> Result<(), Fault>
+        ensures ok { OnOk result (HasSeenUpTo note (seen_at self.new.place)) }
+        ensures looked { HasLooked self.old self.new }
+        ensures refused { IfErr result (RefusesMeeting note self.old self.new) }
+    {
+        let last = match self.look() {
+            Ok(last) => last,
+            Err(fault) => return Err(fault),
+        };
+        if last < note {
+            return Err(Fault::Note);
+        }
+        Ok(())
     }
 
     /// Looks a key up in the held generation, or in the published one.

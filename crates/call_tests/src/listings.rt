@@ -1,4 +1,4 @@
-//! Worked examples of `list`, `dump` and `drill`.
+//! Worked examples of `list`, `dump`, `stat` and `drill`.
 use crate::calls::{Case, LIST, RUN, check_all};
 use std::test::Fail;
 
@@ -182,7 +182,7 @@ fn listings(rt: HostRuntime) -> Result<(), Fail> {
     check_all(&rt, rt.alloc(), &LISTED)
 }
 
-const OUTPUTS: [Case; 9] = [
+const OUTPUTS: [Case; 11] = [
     // refusals in each command
     Case {
         words: &RUN,
@@ -251,6 +251,36 @@ const OUTPUTS: [Case; 9] = [
                  end 0\n\
                  end 1\n",
         status: 0,
+    },
+    // the figures of two elements
+    Case {
+        words: &["stat", "a.nft"],
+        script: TWO_ELEMENTS,
+        keys: "",
+        output: "# commit generation 1 purged 0\n\
+                 set ip filter s elements 2 expired 0 expiring 0 next none\n\
+                 field 0 width 8 rules 3 bytes 8192\n\
+                 field 1 width 8 rules 2 bytes 4096\n\
+                 total bytes 12288\n",
+        status: 0,
+    },
+    // one element without an expiry, one that expired, two that expire later, and a change that was refused
+    Case {
+        words: &["stat", "--keep-going", "a.nft"],
+        script: "add set ip t p { type inet_service ; flags interval, timeout ; }\n\
+                 add element ip t p { 1-6, 80 timeout 10s, 443 timeout 1h, 8080 timeout 5m }\n\
+                 commit\n\
+                 at 60000\n\
+                 delete element ip t p { 9 }\n\
+                 abort\n",
+        keys: "",
+        output: "# commit generation 1 purged 0\n\
+                 # line 5 refused missing ip t p\n\
+                 # abort generation 1\n\
+                 set ip t p elements 4 expired 1 expiring 2 next 4m\n\
+                 field 0 width 8 rules 7 bytes 4096\n\
+                 total bytes 4096\n",
+        status: 1,
     },
     // a drill
     Case {

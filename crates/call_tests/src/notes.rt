@@ -34,7 +34,7 @@ const CALLS: [Noted; 9] = [
     Noted {
         words: &["run", "keys", "a.nft"],
         files: &[("a.nft", PORTS), ("keys", b"ip t p 80\n")],
-        notes: b"keys:1:1: this looks like a key file: the script is named first, and then the key file\n",
+        notes: b"keys:1:1: this looks like a key file, and a script is expected here: 'run' and 'judge' take a key file after it\n",
         output: b"pipapo: script line 1: statement\n",
         status: 3,
     },

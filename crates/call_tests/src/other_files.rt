@@ -68,3 +68,55 @@ fn rules(rt: HostRuntime) -> Result<(), Fail> {
     }
     Ok(())
 }
+
+#[test]
+fn captures_by_rules(rt: HostRuntime) -> Result<(), Fail> {
+    let calls: [(&[u8], &[u8], usize, &[u8], u8); 5] = [
+        (
+            b"chain main { in ip filter s drop }\npolicy accept\n",
+            PLAN,
+            68,
+            b"commit generation 1 purged 0\npacket 0 thread 0 generation 1 rule 0 drop\n",
+            0,
+        ),
+        (
+            b"chain main { out ip filter s drop }\npolicy accept\n",
+            PLAN,
+            68,
+            b"commit generation 1 purged 0\npacket 0 thread 0 generation 1 policy accept\n",
+            0,
+        ),
+        (
+            b"policy\n",
+            b"",
+            0,
+            b"pipapo: rules line 1: statement\n",
+            9,
+        ),
+        (
+            b"chain main { }\npolicy drop\n",
+            b"ip filter s dport . ip_saddr\n",
+            67,
+            b"pipapo: plan line 1: type\n",
+            11,
+        ),
+        (
+            b"chain main { }\npolicy drop\n",
+            PLAN,
+            67,
+            b"pipapo: capture byte 24: cut\n",
+            10,
+        ),
+    ];
+    for (rules, plan, end, output, status) in calls {
+        let files: [File<'_>; 4] = [
+            ("a.nft", SETS),
+            ("rules", rules),
+            ("plan", plan),
+            ("pcap", front(&UDP, end)),
+        ];
+        let words = ["judge", "a.nft", "rules", "plan", "pcap"];
+        check(&rt, rt.alloc(), &words, &files, output, status)?;
+    }
+    Ok(())
+}

@@ -7,7 +7,7 @@ use Rattle.clap.proofs.OnLiterals.{clap_on_literals}
 use Rattle.command_words.specs.WordForms.{ArePlain}
 use Rattle.command_words.specs.GetWords.{is_file_name, keep_going_word}
 use Rattle.command_words.specs.Words.{threads_word, threads_front, AreArguments, no_words, name_and, threads_and, threads_with, mark_and, AreWords}
-use Rattle.command_words.proofs.ClapValues.{program, rules, simple, first, second, third, between, waiting-for, taken, counted, joined, marked, is_of, any-found, held_rows, Finds, Plain, name-step, first-taken, second-taken, third-taken, threads-step, count-step, joined-step, mark-step, first-held, second-held, third-held, threads-held, joined-held, mark-held, nothing-found, walk-holds}
+use Rattle.command_words.proofs.ClapValues.{program, rules, simple, first, second, third, fourth, between, waiting-for, taken, counted, joined, marked, is_of, any-found, held_rows, Finds, Plain, name-step, first-taken, second-taken, third-taken, fourth-taken, threads-step, count-step, joined-step, mark-step, first-held, second-held, third-held, fourth-held, threads-held, joined-held, mark-held, nothing-found, walk-holds}
 
 abbrev shape : Shape
 shape = (built program).top
@@ -34,7 +34,7 @@ name-passes (b ∷ c ∷ bs) h position e = go (b == 45) refl e where
   go true eq f = absurd (true≢false (sym f))
   go false eq f = rw (eq, eq) refl
 
--- at each of the three positions, none of which takes a second word.
+-- at each of the four positions, none of which takes a second word.
 begun : (pending settles : Bool) → settles ≡ true → (pending && false || settles) ≡ true
 begun true settles e = e
 begun false settles e = e
@@ -47,6 +47,9 @@ second-passes h s = begun (is_pending (with_index 2 (filled second)) h.pending) 
 
 third-passes : (h : Held) → Settles h → step_passes shape 3 h value ≡ true
 third-passes h s = begun (is_pending (with_index 3 (filled third)) h.pending) (settle_passes rules false h) s
+
+fourth-passes : (h : Held) → Settles h → step_passes shape 4 h value ≡ true
+fourth-passes h s = begun (is_pending (with_index 4 (filled fourth)) h.pending) (settle_passes rules false h) s
 
 -- So does `--threads`, and the word after it whatever is held.
 threads-passes : (h : Held) (position : ℕ) → Settles h → turn_passes shape [] (between h position) threads_word ≡ true
@@ -84,6 +87,9 @@ second-settles h w none = rw none refl
 third-settles : (h : Held) (w : Text) → has_row (codes "third") (held_rows h) ≡ false → Settles (taken (codes "third") h w)
 third-settles h w none = rw none refl
 
+fourth-settles : (h : Held) (w : Text) → has_row (codes "fourth") (held_rows h) ≡ false → Settles (taken (codes "fourth") h w)
+fourth-settles h w none = rw none refl
+
 threads-settle : (h : Held) (w : Text) → has_row (codes "threads") (held_rows h) ≡ false → Settles (counted h w)
 threads-settle h w none = rw none refl
 
@@ -102,7 +108,7 @@ onward p q w ws is passes rest = record {
 
 -- Arguments pass, after others that are held.
 through : (ws names : List Text) (threads : Option Text) (goes : Bool) → AreArguments ws names threads goes → (before : List Text) (t : Option Text) (g : Bool) (h : Held)
-    → length before + length names ≤ 3 → Plain threads → (is_some threads ≡ true → t ≡ None) → (goes ≡ true → g ≡ false) → Finds (held_rows h) before t g → Settles h
+    → length before + length names ≤ 4 → Plain threads → (is_some threads ≡ true → t ≡ None) → (goes ≡ true → g ≡ false) → Finds (held_rows h) before t g → Settles h
     → Passes (between h (1 + length before)) ws
 unfolding walk_passes
 through ws names threads goes no_words before t g h few plain once mark f s = record { walks = refl; settles = s }
@@ -118,7 +124,11 @@ through ws names threads goes (name_and {word = word} {rest = rest} {names = mor
     let next = third-settles h word (no-row (codes "third") (held_rows h) f.third_is) in
     onward (between h 3) (between (taken (codes "third") h word) 4) word rest (name-step word h 3 e ∙ third-taken h word) (name-passes word h 3 e ∙ third-passes h s)
     (through rest more threads goes a (u ∷ v ∷ word ∷ []) t g (taken (codes "third") h word) (omega (arith, few)) plain once mark (third-held h t g u v word f) next)
-through ws names threads goes (name_and e a) (u ∷ v ∷ w ∷ before) t g h few plain once mark f s = absurd (omega (arith, few))
+through ws names threads goes (name_and {word = word} {rest = rest} {names = more} e a) (z ∷ u ∷ v ∷ []) t g h few plain once mark f s =
+    let next = fourth-settles h word (no-row (codes "fourth") (held_rows h) f.fourth_is) in
+    onward (between h 4) (between (taken (codes "fourth") h word) 5) word rest (name-step word h 4 e ∙ fourth-taken h word) (name-passes word h 4 e ∙ fourth-passes h s)
+    (through rest more threads goes a (z ∷ u ∷ v ∷ word ∷ []) t g (taken (codes "fourth") h word) (omega (arith, few)) plain once mark (fourth-held h t g z u v word f) next)
+through ws names threads goes (name_and e a) (z ∷ u ∷ v ∷ w ∷ before) t g h few plain once mark f s = absurd (omega (arith, few))
 through ws names threads goes (threads_and {count = count} {rest = rest} a) before None g h few plain once mark f s =
     let next = threads-settle h count (no-row (codes "threads") (held_rows h) f.threads_are) in
     onward (between h (1 + length before)) (waiting-for h (1 + length before)) threads_word (count ∷ rest) (threads-step h (1 + length before)) (threads-passes h (1 + length before) s)

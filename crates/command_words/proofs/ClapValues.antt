@@ -25,6 +25,9 @@ second = new_rule (codes "second")
 abbrev pub third : Rule
 third = new_rule (codes "third")
 
+abbrev pub fourth : Rule
+fourth = new_rule (codes "fourth")
+
 abbrev pub threads_rule : Rule
 threads_rule = record (new_rule (codes "threads")) { long = Some (codes "threads") }
 
@@ -32,7 +35,7 @@ abbrev pub keep_going_rule : Rule
 keep_going_rule = record (new_rule (codes "keep-going")) { long = Some (codes "keep-going"); action = Some SetTrue }
 
 abbrev pub program : App
-program = with_rule (with_rule (with_rule (with_rule (with_rule (on_top (λ s. record s { disable_help_flag = true }) (new_app (codes "pipapo"))) first) second) third) threads_rule) keep_going_rule
+program = with_rule (with_rule (with_rule (with_rule (with_rule (with_rule (on_top (λ s. record s { disable_help_flag = true }) (new_app (codes "pipapo"))) first) second) third) fourth) threads_rule) keep_going_rule
 
 abbrev pub rules : List Rule
 rules = (built program).top.rules
@@ -84,14 +87,14 @@ count-step (b ∷ c ∷ bs) h position e = go (b == 45) refl e where
 
 -- `--threads=` and its value are one word.
 abbrev pub joined : Held → Text → Held
-joined h w = reacted rules (with_index 4 (filled threads_rule)) (w ∷ []) h
+joined h w = reacted rules (with_index 5 (filled threads_rule)) (w ∷ []) h
 
 pub joined-step : (w : Text) (h : Held) (position : ℕ) → walked rules [] (between h position) (threads_front ++ w) ≡ between (joined h w) position
 unfolding clap_on_literals
 joined-step w h position = refl
 
 abbrev pub marked : Held → Held
-marked h = reacted rules (with_index 4 (filled keep_going_rule)) [] h
+marked h = reacted rules (with_index 5 (filled keep_going_rule)) [] h
 
 pub mark-step : (h : Held) (position : ℕ) → walked rules [] (between h position) keep_going_word ≡ between (marked h) position
 unfolding clap_on_literals
@@ -151,6 +154,7 @@ pub record Finds (rows : List Row) (names : List Text) (threads : Option Text) (
   pub first_is : find (is_of (codes "first")) rows ≡ option_map (name_row first) (slice_get names 0)
   pub second_is : find (is_of (codes "second")) rows ≡ option_map (name_row second) (slice_get names 1)
   pub third_is : find (is_of (codes "third")) rows ≡ option_map (name_row third) (slice_get names 2)
+  pub fourth_is : find (is_of (codes "fourth")) rows ≡ option_map (name_row fourth) (slice_get names 3)
   pub threads_are : find (is_of (codes "threads")) rows ≡ option_map (name_row threads_rule) threads
   pub mark_is : find (is_of (codes "keep-going")) rows ≡ mark_found keep_going
 
@@ -179,6 +183,12 @@ third-taken h w = go (is_pending (with_index 3 (filled third)) h.pending) where
   go true = refl
   go false = refl
 
+pub fourth-taken : (h : Held) (w : Text) → to_positional rules (arg_by_index rules 4) w (between h 4) h ≡ between (taken (codes "fourth") h w) 5
+fourth-taken h w = go (is_pending (with_index 4 (filled fourth)) h.pending) where
+  go : (b : Bool) → between (pushed (codes "fourth") w (cond (b && false) h (settled rules h))) 5 ≡ between (taken (codes "fourth") h w) 5
+  go true = refl
+  go false = refl
+
 -- The rows with one argument more.
 module _ (rows : List Row) where
   finds-first : (w : Text) (threads : Option Text) (goes : Bool) → Finds rows [] threads goes → Finds (rows ++ name_row first w ∷ []) (w ∷ []) threads goes
@@ -186,6 +196,7 @@ module _ (rows : List Row) where
     first_is = found-new _ rows _ f.first_is refl;
     second_is = found-old _ rows _ refl ∙ f.second_is;
     third_is = found-old _ rows _ refl ∙ f.third_is;
+    fourth_is = found-old _ rows _ refl ∙ f.fourth_is;
     threads_are = found-old _ rows _ refl ∙ f.threads_are;
     mark_is = found-old _ rows _ refl ∙ f.mark_is;
   }
@@ -195,6 +206,7 @@ module _ (rows : List Row) where
     first_is = found-old _ rows _ refl ∙ f.first_is;
     second_is = found-new _ rows _ f.second_is refl;
     third_is = found-old _ rows _ refl ∙ f.third_is;
+    fourth_is = found-old _ rows _ refl ∙ f.fourth_is;
     threads_are = found-old _ rows _ refl ∙ f.threads_are;
     mark_is = found-old _ rows _ refl ∙ f.mark_is;
   }
@@ -204,6 +216,17 @@ module _ (rows : List Row) where
     first_is = found-old _ rows _ refl ∙ f.first_is;
     second_is = found-old _ rows _ refl ∙ f.second_is;
     third_is = found-new _ rows _ f.third_is refl;
+    fourth_is = found-old _ rows _ refl ∙ f.fourth_is;
+    threads_are = found-old _ rows _ refl ∙ f.threads_are;
+    mark_is = found-old _ rows _ refl ∙ f.mark_is;
+  }
+
+  finds-fourth : (t u v w : Text) (threads : Option Text) (goes : Bool) → Finds rows (t ∷ u ∷ v ∷ []) threads goes → Finds (rows ++ name_row fourth w ∷ []) (t ∷ u ∷ v ∷ w ∷ []) threads goes
+  finds-fourth t u v w threads goes f = record {
+    first_is = found-old _ rows _ refl ∙ f.first_is;
+    second_is = found-old _ rows _ refl ∙ f.second_is;
+    third_is = found-old _ rows _ refl ∙ f.third_is;
+    fourth_is = found-new _ rows _ f.fourth_is refl;
     threads_are = found-old _ rows _ refl ∙ f.threads_are;
     mark_is = found-old _ rows _ refl ∙ f.mark_is;
   }
@@ -213,6 +236,7 @@ module _ (rows : List Row) where
     first_is = found-old _ rows _ refl ∙ f.first_is;
     second_is = found-old _ rows _ refl ∙ f.second_is;
     third_is = found-old _ rows _ refl ∙ f.third_is;
+    fourth_is = found-old _ rows _ refl ∙ f.fourth_is;
     threads_are = found-new _ rows _ f.threads_are refl;
     mark_is = found-old _ rows _ refl ∙ f.mark_is;
   }
@@ -222,6 +246,7 @@ module _ (rows : List Row) where
     first_is = found-old _ rows _ refl ∙ f.first_is;
     second_is = found-old _ rows _ refl ∙ f.second_is;
     third_is = found-old _ rows _ refl ∙ f.third_is;
+    fourth_is = found-old _ rows _ refl ∙ f.fourth_is;
     threads_are = found-old _ rows _ refl ∙ f.threads_are;
     mark_is = found-new _ rows _ f.mark_is refl;
   }
@@ -239,6 +264,9 @@ module _ (h : Held) (t : Option Text) (g : Bool) where
 
   pub third-held : (u v w : Text) → Finds (held_rows h) (u ∷ v ∷ []) t g → Finds (held_rows (taken (codes "third") h w)) (u ∷ v ∷ w ∷ []) t g
   third-held u v w f = finds-of _ _ (u ∷ v ∷ w ∷ []) t g (first-use (codes "third") (reading_by (filled third)) CommandLine (w ∷ []) (held_rows h) f.third_is) (finds-third (held_rows h) u v w t g f)
+
+  pub fourth-held : (s u v w : Text) → Finds (held_rows h) (s ∷ u ∷ v ∷ []) t g → Finds (held_rows (taken (codes "fourth") h w)) (s ∷ u ∷ v ∷ w ∷ []) t g
+  fourth-held s u v w f = finds-of _ _ (s ∷ u ∷ v ∷ w ∷ []) t g (first-use (codes "fourth") (reading_by (filled fourth)) CommandLine (w ∷ []) (held_rows h) f.fourth_is) (finds-fourth (held_rows h) s u v w t g f)
 
 pub threads-held : (h : Held) (names : List Text) (w : Text) (g : Bool) → Finds (held_rows h) names None g → Finds (held_rows (counted h w)) names (Some w) g
 threads-held h names w g f = finds-of _ _ names (Some w) g (first-use (codes "threads") (reading_by (filled threads_rule)) CommandLine (w ∷ []) (held_rows h) f.threads_are) (finds-threads (held_rows h) names w g f)
@@ -277,7 +305,7 @@ onward rest names threads goes p q same h = subst (λ (at : Walk). Holds (fold (
 
 -- The walk over arguments holds them, after those that it held before.
 through : (ws names : List Text) (threads : Option Text) (goes : Bool) → AreArguments ws names threads goes → (before : List Text) (t : Option Text) (g : Bool) (h : Held)
-    → length before + length names ≤ 3 → Plain threads → (is_some threads ≡ true → t ≡ None) → (goes ≡ true → g ≡ false) → Finds (held_rows h) before t g
+    → length before + length names ≤ 4 → Plain threads → (is_some threads ≡ true → t ≡ None) → (goes ≡ true → g ≡ false) → Finds (held_rows h) before t g
     → Holds (fold (walked rules []) (between h (1 + length before)) ws) (before ++ names) (either t threads) (g || goes)
 through ws names threads goes no_words before t g h few plain once mark f = record {
   held = h;
@@ -294,7 +322,10 @@ through ws names threads goes (name_and {word = word} {rest = rest} {names = mor
 through ws names threads goes (name_and {word = word} {rest = rest} {names = more} e a) (u ∷ v ∷ []) t g h few plain once mark f =
     onward rest (u ∷ v ∷ word ∷ more) (either t threads) (g || goes) _ (between (taken (codes "third") h word) 4) (name-step word h 3 e ∙ third-taken h word)
     (through rest more threads goes a (u ∷ v ∷ word ∷ []) t g (taken (codes "third") h word) (omega (arith, few)) plain once mark (third-held h t g u v word f))
-through ws names threads goes (name_and e a) (u ∷ v ∷ w ∷ before) t g h few plain once mark f = absurd (omega (arith, few))
+through ws names threads goes (name_and {word = word} {rest = rest} {names = more} e a) (s ∷ u ∷ v ∷ []) t g h few plain once mark f =
+    onward rest (s ∷ u ∷ v ∷ word ∷ more) (either t threads) (g || goes) _ (between (taken (codes "fourth") h word) 5) (name-step word h 4 e ∙ fourth-taken h word)
+    (through rest more threads goes a (s ∷ u ∷ v ∷ word ∷ []) t g (taken (codes "fourth") h word) (omega (arith, few)) plain once mark (fourth-held h t g s u v word f))
+through ws names threads goes (name_and e a) (s ∷ u ∷ v ∷ w ∷ before) t g h few plain once mark f = absurd (omega (arith, few))
 through ws names threads goes (threads_and {count = count} {rest = rest} a) before None g h few plain once mark f =
     onward rest (before ++ names) (Some count) (g || goes) _ (between (counted h count) (1 + length before)) (ap (λ (at : Walk). walked rules [] at count) (threads-step h (1 + length before)) ∙ count-step count h (1 + length before) plain)
     (through rest names None goes a before (Some count) g (counted h count) few tt (λ e. absurd (true≢false (sym e))) mark (threads-held h before count g f))
@@ -313,6 +344,7 @@ record GivesRows (rows : List Row) (names : List Text) (threads : Option Text) (
   first_is : first_of (codes "first") rows ≡ slice_get names 0
   second_is : first_of (codes "second") rows ≡ slice_get names 1
   third_is : first_of (codes "third") rows ≡ slice_get names 2
+  fourth_is : first_of (codes "fourth") rows ≡ slice_get names 3
   threads_are : first_of (codes "threads") rows ≡ threads
   mark_is : one_of (codes "keep-going") rows ≡ Some (cond goes (codes "true") (codes "false"))
 
@@ -339,6 +371,7 @@ with-default rows names threads goes f = go goes f (any-found (is_of (codes "kee
         first_is = ap (option_and_then (λ (r : Row). slice_get r.values 0)) f.first_is ∙ value-of first (slice_get names 0);
         second_is = ap (option_and_then (λ (r : Row). slice_get r.values 0)) f.second_is ∙ value-of second (slice_get names 1);
         third_is = ap (option_and_then (λ (r : Row). slice_get r.values 0)) f.third_is ∙ value-of third (slice_get names 2);
+        fourth_is = ap (option_and_then (λ (r : Row). slice_get r.values 0)) f.fourth_is ∙ value-of fourth (slice_get names 3);
         threads_are = ap (option_and_then (λ (r : Row). slice_get r.values 0)) f.threads_are ∙ value-of threads_rule threads;
         mark_is = ap (option_and_then row_text) f.mark_is;
       })
@@ -349,6 +382,7 @@ with-default rows names threads goes f = go goes f (any-found (is_of (codes "kee
         first_is = ap (option_and_then (λ (r : Row). slice_get r.values 0)) (found-old _ rows default_row refl ∙ f.first_is) ∙ value-of first (slice_get names 0);
         second_is = ap (option_and_then (λ (r : Row). slice_get r.values 0)) (found-old _ rows default_row refl ∙ f.second_is) ∙ value-of second (slice_get names 1);
         third_is = ap (option_and_then (λ (r : Row). slice_get r.values 0)) (found-old _ rows default_row refl ∙ f.third_is) ∙ value-of third (slice_get names 2);
+        fourth_is = ap (option_and_then (λ (r : Row). slice_get r.values 0)) (found-old _ rows default_row refl ∙ f.fourth_is) ∙ value-of fourth (slice_get names 3);
         threads_are = ap (option_and_then (λ (r : Row). slice_get r.values 0)) (found-old _ rows default_row refl ∙ f.threads_are) ∙ value-of threads_rule threads;
         mark_is = ap (option_and_then row_text) (found-new _ rows default_row f.mark_is refl);
       })
@@ -358,11 +392,12 @@ ends h names threads goes f =
     let one = no-default (has_row (codes "first") (held_rows h)) (held_rows h) in
     let two = no-default (has_row (codes "second") (held_rows h)) (held_rows h) in
     let three = no-default (has_row (codes "third") (held_rows h)) (held_rows h) in
-    let four = no-default (has_row (codes "threads") (held_rows h)) (held_rows h) in
-    rw (one, two, three, four) (with-default (held_rows h) names threads goes f)
+    let four = no-default (has_row (codes "fourth") (held_rows h)) (held_rows h) in
+    let five = no-default (has_row (codes "threads") (held_rows h)) (held_rows h) in
+    rw (one, two, three, four, five) (with-default (held_rows h) names threads goes f)
 
 pub nothing-found : Finds [] [] None false
-nothing-found = record { first_is = refl; second_is = refl; third_is = refl; threads_are = refl; mark_is = refl }
+nothing-found = record { first_is = refl; second_is = refl; third_is = refl; fourth_is = refl; threads_are = refl; mark_is = refl }
 
 -- The walk over the arguments of a command's words holds them.
 pub walk-holds : (words : List Text) (word : Text) (names : List Text) (threads : Option Text) (goes : Bool) → ArePlain names threads → (said : AreWords words word names threads goes)
@@ -378,6 +413,7 @@ gives-values words word names threads goes m matches said plain =
       first = first_value-rows (found_of m) (codes "first") ∙ given.first_is;
       second = first_value-rows (found_of m) (codes "second") ∙ given.second_is;
       third = first_value-rows (found_of m) (codes "third") ∙ given.third_is;
+      fourth = first_value-rows (found_of m) (codes "fourth") ∙ given.fourth_is;
       threads_are = first_value-rows (found_of m) (codes "threads") ∙ given.threads_are;
       mark = one_text-rows (found_of m) (codes "keep-going") ∙ given.mark_is;
     }

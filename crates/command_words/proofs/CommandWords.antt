@@ -1,6 +1,6 @@
 -- The shape of a command's words, and that the words are one command at most.
-use Rattle.std.proofs.Common.{◌≡◌, refl, sym, ◌∙◌, ap, subst, ℕ, suc, ◌+◌, ◌<◌, ◌≤◌, ◌^◌, Bool, true, false, not, cond, ◌&&◌, List, [], ◌∷◌, ◌++◌, length, fold, map, drop, codes, decimal, Option, Some, None, Result, Ok, is_some, arith, true≢false, ne_eqb, get_or, le-leb, leb-true, eqb-true, eq-eqb}
-use Rattle.std.specs.Prelude.{nat_le, nat_lt, bytes_eq, ◌==◌, IfSome}
+use Rattle.std.proofs.Common.{◌≡◌, refl, sym, ◌∙◌, ap, subst, ℕ, suc, ◌+◌, ◌<◌, ◌≤◌, ◌^◌, Bool, true, false, not, cond, ◌&&◌, ◌||◌, List, [], ◌∷◌, ◌++◌, length, fold, map, drop, codes, decimal, Option, Some, None, Result, Ok, is_some, arith, true≢false, ne_eqb, get_or, le-leb, leb-true, eqb-true, inl, inr}
+use Rattle.std.specs.Prelude.{◌⊎◌, nat_le, nat_lt, bytes_eq, ◌==◌, IfSome}
 use Rattle.std.specs.Bool.{then_some}
 use Rattle.std.specs.List.{count_by}
 use Rattle.std.specs.Str.Parse.{digits_value, ParsesUnsigned}
@@ -10,13 +10,13 @@ use Rattle.std.proofs.lemmas.List.Sums.{sum_by-cons}
 use Rattle.std.proofs.lemmas.Slice.Eq.{bytes_eq-Decides}
 use Rattle.std.proofs.lemmas.Str.Parse.{digit_at}
 use Rattle.command_words.specs.declared.shape.Verb.{Verb}
-use Rattle.command_words.specs.declared.shape.Verb.TheVariants.{Run, List as Lists, Dump, Drill, Judge, Capture, Desk, Get, Compare, Sets}
+use Rattle.command_words.specs.declared.shape.Verb.TheVariants.{Run, List as Lists, Dump, Drill, Judge, Capture, Desk, Get, Compare, Stat, Sets}
 use Rattle.command_words.specs.declared.shape.Shape.{Shape}
 use Rattle.command_words.specs.GetWords.{Asked, asked, is_file_name, keep_going_word}
-use Rattle.command_words.specs.Words.{stdin_name, is_stdin, verb_word, IsNumber, AreThreads, AreWords, ArePacketWords, Command, run, list, dump, drill, judge, capture, desk, get, IsCommand, AreArguments, no_words, name_and, threads_and, threads_with, mark_and, threads_word, threads_front, last_seed, most_drill_elements, AreFileWords, compare, sets_of}
+use Rattle.command_words.specs.Words.{stdin_name, is_stdin, verb_word, IsNumber, AreThreads, AreWords, ArePacketWords, Command, run, list, dump, drill, judge, capture, desk, get, stat, IsCommand, AreArguments, no_words, name_and, threads_and, threads_with, mark_and, threads_word, threads_front, last_seed, most_drill_elements, AreFileWords, compare, judge_capture, sets_of}
 use Rattle.command_words.specs.Fronts.{after_front}
 use Rattle.command_words.specs.Numbers.{number_within}
-use Rattle.command_words.specs.WordForms.{verb_of, name_count, is_whole_shape, empty_shape, stdin_once, fits, accepts, HasVerb, takes_name, takes_threads, takes_mark, with_threads, with_joined, with_argument, with_word, shape_after}
+use Rattle.command_words.specs.WordForms.{verb_of, most_names, has_all, is_whole_shape, empty_shape, stdin_once, fits, accepts, HasVerb, takes_name, takes_threads, takes_mark, with_threads, with_joined, with_argument, with_word, shape_after}
 use Rattle.command_words.proofs.FrontLaws.{front-behind, front-found}
 
 both : (a b : Bool) → (a && b) ≡ true → (a ≡ true) × (b ≡ true)
@@ -154,6 +154,7 @@ name-of-command : (verb : Verb) (place : ℕ) (word : List ℕ) → takes_name v
 name-of-command Run place word e = (both _ _ e).1
 name-of-command Lists place word e = (both _ _ e).1
 name-of-command Dump place word e = (both _ _ e).1
+name-of-command Stat place word e = (both _ _ e).1
 name-of-command Judge place word e = (both _ _ e).1
 name-of-command Capture place word e = (both _ _ e).1
 name-of-command Desk place word e = (both _ _ e).1
@@ -355,7 +356,7 @@ one-once a = go (is_stdin a) refl where
 numbers-once : (low high k m : ℕ) (a b : List ℕ) (x y : ℕ) → high < 2 ^ 64 → m < 2 ^ 64 → IsNumber low high a x → IsNumber k m b y → stdin_once (a ∷ b ∷ []) ≡ true
 numbers-once low high k m a b x y small little h j = rw (number-no-stdin low high a x small h, number-no-stdin k m b y little j) refl
 
--- A list, a dump and a desk have no packet threads, and a drill no mark.
+-- A list, a dump, a stat and a desk have no packet threads, and a drill no mark.
 no-threads : (verb : Verb) (threads : Option (List ℕ)) → takes_threads verb ≡ false → ThreadsFit verb false threads → threads ≡ None
 no-threads verb None e h = refl
 no-threads verb (Some word) e h = absurd (true≢false (sym h.0 ∙ e))
@@ -363,6 +364,25 @@ no-threads verb (Some word) e h = absurd (true≢false (sym h.0 ∙ e))
 no-mark : (verb : Verb) (keep_going : Bool) → takes_mark verb ≡ false → MarkFits verb false keep_going → keep_going ≡ false
 no-mark verb true e h = absurd (true≢false (sym (h refl).0 ∙ e))
 no-mark verb false e h = refl
+
+-- A number of names that is all of a command's: one number, or two of a `judge`.
+abbrev IsAll : Verb → ℕ → Type 0
+IsAll Judge n = (n ≡ 3) ⊎ (n ≡ 4)
+IsAll verb n = n ≡ most_names verb
+
+all-of : (verb : Verb) (n : ℕ) → has_all verb n ≡ true → IsAll verb n
+all-of Run n e = eqb-true _ _ e
+all-of Lists n e = eqb-true _ _ e
+all-of Dump n e = eqb-true _ _ e
+all-of Drill n e = eqb-true _ _ e
+all-of Capture n e = eqb-true _ _ e
+all-of Desk n e = eqb-true _ _ e
+all-of Get n e = eqb-true _ _ e
+all-of Compare n e = eqb-true _ _ e
+all-of Judge n e = go (n == 3) refl e where
+  go : (t : Bool) → (n == 3) ≡ t → (t || (n == 4)) ≡ true → (n ≡ 3) ⊎ (n ≡ 4)
+  go true is f = inl (eqb-true _ _ is)
+  go false is f = inr (eqb-true _ _ f)
 
 module _ (rest : List (List ℕ)) (threads : Option (List ℕ)) (keep_going : Bool) where
   said : (first : List ℕ) (names : List (List ℕ)) → AreArguments rest names threads keep_going → AreWords (first ∷ rest) first names threads keep_going
@@ -380,10 +400,11 @@ module _ (rest : List (List ℕ)) (threads : Option (List ℕ)) (keep_going : Bo
   lone-words verb names none a ts = subst (λ (o : Option (List ℕ)). AreWords (verb_word verb ∷ rest) (verb_word verb) names o keep_going) (no-threads verb threads none ts) (said (verb_word verb) names a)
 
   -- the command of arguments that fit a verb
-  by-verb : (verb : Verb) (names : List (List ℕ)) → AreArguments rest names threads keep_going → NamesFit verb 0 names → ThreadsFit verb false threads → MarkFits verb false keep_going → length names ≡ name_count verb → stdin_once rest ≡ true → HasVerb (verb_word verb ∷ rest) verb
+  by-verb : (verb : Verb) (names : List (List ℕ)) → AreArguments rest names threads keep_going → NamesFit verb 0 names → ThreadsFit verb false threads → MarkFits verb false keep_going → IsAll verb (length names) → stdin_once rest ≡ true → HasVerb (verb_word verb ∷ rest) verb
   by-verb Run (script ∷ keys ∷ []) a ns ts gs count once = let k = packet-words Run (script ∷ keys ∷ []) a ts once in (run script keys k.0 keep_going, k.1, refl)
   by-verb Lists (script ∷ []) a ns ts gs count once = (list script keep_going, lone-words Lists (script ∷ []) refl a ts, refl)
   by-verb Dump (script ∷ []) a ns ts gs count once = (dump script keep_going, lone-words Dump (script ∷ []) refl a ts, refl)
+  by-verb Stat (script ∷ []) a ns ts gs count once = (stat script keep_going, lone-words Stat (script ∷ []) refl a ts, refl)
   by-verb Desk (script ∷ []) a ns ts gs count once = (desk script keep_going, lone-words Desk (script ∷ []) refl a ts, refl)
   by-verb Drill (seed ∷ count ∷ []) a ns ts gs _ once =
       let s = number-of 0 last_seed seed ns.0 in
@@ -391,6 +412,7 @@ module _ (rest : List (List ℕ)) (threads : Option (List ℕ)) (keep_going : Bo
       let n = count-of threads Drill false ts in
       (drill s.0 c.0 n.0, (threads, seed, count, subst (λ (b : Bool). AreWords (codes "drill" ∷ rest) (codes "drill") (seed ∷ count ∷ []) threads b) (no-mark Drill keep_going refl gs) (said (codes "drill") (seed ∷ count ∷ []) a), s.1, c.1, n.1), refl)
   by-verb Judge (script ∷ rules ∷ keys ∷ []) a ns ts gs count once = let k = packet-words Judge (script ∷ rules ∷ keys ∷ []) a ts once in (judge script rules keys k.0 keep_going, k.1, refl)
+  by-verb Judge (script ∷ rules ∷ plan ∷ packets ∷ []) a ns ts gs count once = let k = packet-words Judge (script ∷ rules ∷ plan ∷ packets ∷ []) a ts once in (judge_capture script rules plan packets k.0 keep_going, k.1, refl)
   by-verb Capture (script ∷ plan ∷ packets ∷ []) a ns ts gs count once = let k = packet-words Capture (script ∷ plan ∷ packets ∷ []) a ts once in (capture script plan packets k.0 keep_going, k.1, refl)
   by-verb Compare (first ∷ second ∷ []) a ns ts gs count once =
       let names = first ∷ second ∷ [] in
@@ -400,6 +422,8 @@ module _ (rest : List (List ℕ)) (threads : Option (List ℕ)) (keep_going : Bo
   by-verb Sets (file ∷ []) a ns ts gs count once =
       (sets_of file, subst (λ (b : Bool). AreWords (codes "sets" ∷ rest) (codes "sets") (file ∷ []) None b) (no-mark Sets keep_going refl gs) (lone-words Sets (file ∷ []) refl a ts), refl)
   by-verb Get (word ∷ names) a ns ts gs count once = absurd (no-name (nat_lt 0 1) ns.0)
+  by-verb Judge names a ns ts gs (inl count) once = absurd (omega (arith, count))
+  by-verb Judge names a ns ts gs (inr count) once = absurd (omega (arith, count))
   by-verb verb names a ns ts gs count once = absurd (omega (arith, count))
 
 -- Words of a command's shape are a command.
@@ -410,13 +434,14 @@ shape-command verb rest h = go (fold (shape_after verb) (Some empty_shape) rest)
   go (Some s) e w =
       let k = both _ _ w in
       let r = read verb s (is-false s.waiting k.0) 0 false false rest e in
-      by-verb rest r.threads r.keep_going verb r.names r.arguments r.names_fit r.threads_fit r.mark_fits (let c = r.count in let d = eqb-true s.names (name_count verb) k.1 in omega (arith, c, d)) (both _ _ h).1
+      by-verb rest r.threads r.keep_going verb r.names r.arguments r.names_fit r.threads_fit r.mark_fits (all-of verb (length r.names) (ap (has_all verb) (let c = r.count in let same : length r.names ≡ s.names = omega (arith, c) in same) ∙ k.1)) (both _ _ h).1
 
 -- Each command but `get` accepts the words that fit it.
 pub accepts-shape : (verb : Verb) → (verb ≡ Get → ⊥) → (rest : List (List ℕ)) → accepts verb rest ≡ fits verb rest
 accepts-shape Run other rest = refl
 accepts-shape Lists other rest = refl
 accepts-shape Dump other rest = refl
+accepts-shape Stat other rest = refl
 accepts-shape Drill other rest = refl
 accepts-shape Judge other rest = refl
 accepts-shape Capture other rest = refl
@@ -437,6 +462,7 @@ pub command-of-shape : (verb : Verb) (rest : List (List ℕ)) → accepts verb r
 command-of-shape Run rest h = shape-command Run rest h
 command-of-shape Lists rest h = shape-command Lists rest h
 command-of-shape Dump rest h = shape-command Dump rest h
+command-of-shape Stat rest h = shape-command Stat rest h
 command-of-shape Drill rest h = shape-command Drill rest h
 command-of-shape Judge rest h = shape-command Judge rest h
 command-of-shape Capture rest h = shape-command Capture rest h
@@ -455,14 +481,14 @@ threads-fit verb (Some word) n takes h = (takes, refl, writes 1 16 word n (omega
 
 module _ (word : List ℕ) (ws names : List (List ℕ)) (threads : Option (List ℕ)) (keep_going : Bool) (verb : Verb) (a : AreWords (word ∷ ws) (verb_word verb) names threads keep_going) where
   -- A command's arguments have its shape.
-  shaped : NamesFit verb 0 names → ThreadsFit verb false threads → MarkFits verb false keep_going → length names ≡ name_count verb → NoStdin threads → stdin_once names ≡ true → (word ≡ verb_word verb) × (fits verb ws ≡ true)
+  shaped : NamesFit verb 0 names → ThreadsFit verb false threads → MarkFits verb false keep_going → has_all verb (length names) ≡ true → NoStdin threads → stdin_once names ≡ true → (word ≡ verb_word verb) × (fits verb ws ≡ true)
   shaped ns ts gs count plain once =
       let first : word ≡ verb_word verb = cc a.words_are in
       let behind : a.rest ≡ ws = cc a.words_are in
       let given = subst (λ (w : List (List ℕ)). AreArguments w names threads keep_going) behind a.arguments in
       let r = goes-through verb ws names threads keep_going given 0 false false ns ts gs in
-      let all : r.0.names ≡ name_count verb = (let c = r.3 in omega (arith, c, count)) in
-      (first, and-true _ _ (ap (is_whole_shape verb) r.1 ∙ and-true _ _ (not-false r.0.waiting r.2) (eq-eqb _ _ all)) (ap (λ n. nat_le n 1) (stdin-of-arguments ws names threads keep_going given plain) ∙ once))
+      let all : r.0.names ≡ length names = (let c = r.3 in omega (arith, c)) in
+      (first, and-true _ _ (ap (is_whole_shape verb) r.1 ∙ and-true _ _ (not-false r.0.waiting r.2) (ap (has_all verb) all ∙ count)) (ap (λ n. nat_le n 1) (stdin-of-arguments ws names threads keep_going given plain) ∙ once))
 
 abbrev AllNames : List (List ℕ) → Type 0
 AllNames [] = Unit {0}
@@ -480,12 +506,12 @@ names-of : {words names : List (List ℕ)} {first : List ℕ} {threads : Option 
 names-of {names = names} {threads = threads} {keep_going = keep_going} a = all-names a.rest names threads keep_going a.arguments
 
 -- The words of a command have its shape, with packet threads and without.
-packet-shape : (word : List ℕ) (ws names : List (List ℕ)) (n : ℕ) (keep_going : Bool) (verb : Verb) → takes_threads verb ≡ true → takes_mark verb ≡ true → (AllNames names → NamesFit verb 0 names) → length names ≡ name_count verb
+packet-shape : (word : List ℕ) (ws names : List (List ℕ)) (n : ℕ) (keep_going : Bool) (verb : Verb) → takes_threads verb ≡ true → takes_mark verb ≡ true → (AllNames names → NamesFit verb 0 names) → has_all verb (length names) ≡ true
     → ArePacketWords (word ∷ ws) (verb_word verb) names n keep_going → (word ≡ verb_word verb) × (fits verb ws ≡ true)
 packet-shape word ws names n keep_going verb threads mark fit count h =
     shaped word ws names h.0 keep_going verb h.1 (fit (names-of h.1)) (threads-fit verb h.0 n threads h.2) (λ _. (mark, refl)) count (threads-no-stdin h.0 n h.2) (le-leb _ _ h.3)
 
-lone-shape : (word : List ℕ) (ws : List (List ℕ)) (script : List ℕ) (keep_going : Bool) (verb : Verb) → takes_mark verb ≡ true → (AllNames (script ∷ []) → NamesFit verb 0 (script ∷ [])) → 1 ≡ name_count verb
+lone-shape : (word : List ℕ) (ws : List (List ℕ)) (script : List ℕ) (keep_going : Bool) (verb : Verb) → takes_mark verb ≡ true → (AllNames (script ∷ []) → NamesFit verb 0 (script ∷ [])) → has_all verb 1 ≡ true
     → AreWords (word ∷ ws) (verb_word verb) (script ∷ []) None keep_going → (word ≡ verb_word verb) × (fits verb ws ≡ true)
 lone-shape word ws script keep_going verb mark fit count h = shaped word ws (script ∷ []) None keep_going verb h (fit (names-of h)) tt (λ _. (mark, refl)) count tt (one-once script)
 
@@ -494,8 +520,10 @@ pub shape-of-command : (word : List ℕ) (ws : List (List ℕ)) (c : Command) �
 shape-of-command word ws (run script keys n keep_going) h = packet-shape word ws (script ∷ keys ∷ []) n keep_going Run refl refl (λ all. all) refl h
 shape-of-command word ws (list script keep_going) h = lone-shape word ws script keep_going Lists refl (λ all. all) refl h
 shape-of-command word ws (dump script keep_going) h = lone-shape word ws script keep_going Dump refl (λ all. all) refl h
+shape-of-command word ws (stat script keep_going) h = lone-shape word ws script keep_going Stat refl (λ all. all) refl h
 shape-of-command word ws (drill seed count n) h = shaped word ws _ h.0 false Drill h.3 (writes 0 last_seed h.1 seed (omega arith) h.4, (writes 1 most_drill_elements h.2 count (omega arith) h.5, tt)) (threads-fit Drill h.0 n refl h.6) (λ e. absurd (true≢false (sym e))) refl (threads-no-stdin h.0 n h.6) (numbers-once 0 last_seed 1 most_drill_elements h.1 h.2 seed count (omega arith) (omega arith) h.4 h.5)
 shape-of-command word ws (judge script rules keys n keep_going) h = packet-shape word ws (script ∷ rules ∷ keys ∷ []) n keep_going Judge refl refl (λ all. all) refl h
+shape-of-command word ws (judge_capture script rules plan packets n keep_going) h = packet-shape word ws (script ∷ rules ∷ plan ∷ packets ∷ []) n keep_going Judge refl refl (λ all. all) refl h
 shape-of-command word ws (capture script plan packets n keep_going) h = packet-shape word ws (script ∷ plan ∷ packets ∷ []) n keep_going Capture refl refl (λ all. all) refl h
 shape-of-command word ws (desk script keep_going) h = lone-shape word ws script keep_going Desk refl (λ all. all) refl h
 shape-of-command word ws (compare first second keep_going) h = shaped word ws (first ∷ second ∷ []) None keep_going Compare h.0 (names-of h.0) tt (λ _. (refl, refl)) refl tt (le-leb _ _ h.1)
@@ -573,13 +601,14 @@ same-threads (Some v) (Some w) m n e h k = same-number 1 16 v w m n (omega arith
 -- the verb of a word
 verb_named : List ℕ → Verb
 verb_named word = cond (bytes_eq word (codes "run")) Run (cond (bytes_eq word (codes "list")) Lists (cond (bytes_eq word (codes "dump")) Dump (cond (bytes_eq word (codes "drill")) Drill
-    (cond (bytes_eq word (codes "judge")) Judge (cond (bytes_eq word (codes "capture")) Capture (cond (bytes_eq word (codes "desk")) Desk (cond (bytes_eq word (codes "compare")) Compare (cond (bytes_eq word (codes "sets")) Sets Get))))))))
+    (cond (bytes_eq word (codes "judge")) Judge (cond (bytes_eq word (codes "capture")) Capture (cond (bytes_eq word (codes "desk")) Desk (cond (bytes_eq word (codes "compare")) Compare (cond (bytes_eq word (codes "stat")) Stat (cond (bytes_eq word (codes "sets")) Sets Get)))))))))
 
 named-verb : (verb : Verb) → verb_named (verb_word verb) ≡ verb
 unfolding verb_named
 named-verb Run = refl
 named-verb Lists = refl
 named-verb Dump = refl
+named-verb Stat = refl
 named-verb Drill = refl
 named-verb Judge = refl
 named-verb Capture = refl
@@ -592,8 +621,10 @@ pub first-word : (words : List (List ℕ)) (c : Command) → IsCommand words c �
 first-word words (run script keys n g) h = (h.1.rest, h.1.words_are)
 first-word words (list script g) h = (h.rest, h.words_are)
 first-word words (dump script g) h = (h.rest, h.words_are)
+first-word words (stat script g) h = (h.rest, h.words_are)
 first-word words (drill seed count n) h = (h.3.rest, h.3.words_are)
 first-word words (judge script rules keys n g) h = (h.1.rest, h.1.words_are)
+first-word words (judge_capture script rules plan packets n g) h = (h.1.rest, h.1.words_are)
 first-word words (capture script plan packets n g) h = (h.1.rest, h.1.words_are)
 first-word words (desk script g) h = (h.rest, h.words_are)
 first-word words (get script key moment g) h = (h.rest, h.words_are)
@@ -623,6 +654,15 @@ one-command words c d h j = one c d verb h j where
       let rules : f ≡ f' = cc r.0 in
       let keys : k ≡ k' = cc r.0 in
       cc (script, rules, keys, r.1, r.2)
+  one (judge_capture s f l p n g) (judge_capture s' f' l' p' n' g') e h j =
+      let r = same-packet-words words _ _ _ _ n n' g g' h j in
+      let script : s ≡ s' = cc r.0 in
+      let rules : f ≡ f' = cc r.0 in
+      let plan : l ≡ l' = cc r.0 in
+      let packets : p ≡ p' = cc r.0 in
+      cc (script, rules, plan, packets, r.1, r.2)
+  one (judge s f k n g) (judge_capture s' f' l' p' n' g') e h j = absurd (let r = same-packet-words words _ _ _ _ n n' g g' h j in let names = r.0 in cc names)
+  one (judge_capture s f l p n g) (judge s' f' k' n' g') e h j = absurd (let r = same-packet-words words _ _ _ _ n n' g g' h j in let names = r.0 in cc names)
   one (capture s l p n g) (capture s' l' p' n' g') e h j =
       let r = same-packet-words words _ _ _ _ n n' g g' h j in
       let script : s ≡ s' = cc r.0 in
@@ -631,6 +671,7 @@ one-command words c d h j = one c d verb h j where
       cc (script, plan, packets, r.1, r.2)
   one (list s g) (list s' g') e h j = let r = same-words words _ _ _ _ _ _ _ _ h j in let script : s ≡ s' = cc r.1 in cc (script, r.3)
   one (dump s g) (dump s' g') e h j = let r = same-words words _ _ _ _ _ _ _ _ h j in let script : s ≡ s' = cc r.1 in cc (script, r.3)
+  one (stat s g) (stat s' g') e h j = let r = same-words words _ _ _ _ _ _ _ _ h j in let script : s ≡ s' = cc r.1 in cc (script, r.3)
   one (desk s g) (desk s' g') e h j = let r = same-words words _ _ _ _ _ _ _ _ h j in let script : s ≡ s' = cc r.1 in cc (script, r.3)
   one (sets_of s) (sets_of s') e h j = let r = same-words words _ _ _ _ _ _ _ _ h j in let file : s ≡ s' = cc r.1 in cc file
   one (compare s k g) (compare s' k' g') e h j =

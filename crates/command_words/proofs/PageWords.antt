@@ -2,12 +2,12 @@
 use Rattle.std.proofs.Common.{◌≡◌, refl, sym, ◌∙◌, ap, subst, ℕ, Bool, false, cond, ◌||◌, List, [], ◌∷◌, ◌++◌, codes, Option, Some, None, true≢false, inl, inr}
 use Rattle.std.specs.Prelude.{bytes_eq, option_map, if◌then◌else◌}
 use Rattle.command_words.specs.declared.shape.Verb.{Verb}
-use Rattle.command_words.specs.declared.shape.Verb.TheVariants.{Run, List as Lists, Dump, Drill, Judge, Capture, Desk, Get, Compare, Sets}
+use Rattle.command_words.specs.declared.shape.Verb.TheVariants.{Run, List as Lists, Dump, Drill, Judge, Capture, Desk, Get, Compare, Stat, Sets}
 use Rattle.command_words.specs.declared.page.Page.{Page}
 use Rattle.command_words.specs.declared.page.Page.TheVariants.{Program, Command as On, Version}
 use Rattle.command_words.specs.GetWords.{Asked, asked, is_file_name, keep_going_word}
 use Rattle.command_words.specs.Fronts.{after_front}
-use Rattle.command_words.specs.Words.{AreWords, AreGetWords, AreArguments, AsksFor, Command, run, list, dump, drill, judge, capture, desk, get, IsCommand, verb_word, threads_word, threads_front, compare, sets_of}
+use Rattle.command_words.specs.Words.{AreWords, AreGetWords, AreArguments, AsksFor, Command, run, list, dump, drill, judge, capture, desk, get, IsCommand, verb_word, threads_word, threads_front, compare, stat, judge_capture, sets_of}
 use Rattle.command_words.specs.WordForms.{verb_of}
 use Rattle.command_words.proofs.CommandWords.{leads, Leads, by_name, by_threads, by_joined, by_mark}
 
@@ -15,13 +15,14 @@ use Rattle.command_words.proofs.CommandWords.{leads, Leads, by_name, by_threads,
 named : List ℕ → Option Verb
 named word = cond (bytes_eq word (codes "run")) (Some Run) (cond (bytes_eq word (codes "list")) (Some Lists) (cond (bytes_eq word (codes "dump")) (Some Dump) (cond (bytes_eq word (codes "drill")) (Some Drill)
     (cond (bytes_eq word (codes "judge")) (Some Judge) (cond (bytes_eq word (codes "capture")) (Some Capture) (cond (bytes_eq word (codes "desk")) (Some Desk) (cond (bytes_eq word (codes "get")) (Some Get)
-    (cond (bytes_eq word (codes "compare")) (Some Compare) (cond (bytes_eq word (codes "sets")) (Some Sets) None)))))))))
+    (cond (bytes_eq word (codes "compare")) (Some Compare) (cond (bytes_eq word (codes "stat")) (Some Stat) (cond (bytes_eq word (codes "sets")) (Some Sets) None))))))))))
 
 named-verb : (verb : Verb) → named (verb_word verb) ≡ Some verb
 unfolding named
 named-verb Run = refl
 named-verb Lists = refl
 named-verb Dump = refl
+named-verb Stat = refl
 named-verb Drill = refl
 named-verb Judge = refl
 named-verb Capture = refl
@@ -37,6 +38,7 @@ no-help : (verb : Verb) → bytes_eq (verb_word verb) (codes "help") ≡ false
 no-help Run = refl
 no-help Lists = refl
 no-help Dump = refl
+no-help Stat = refl
 no-help Drill = refl
 no-help Judge = refl
 no-help Capture = refl
@@ -136,8 +138,10 @@ pub page-no-command : (words : List (List ℕ)) (page : Page) (c : Command) → 
 page-no-command words page (run script keys n g) asks h = no-page words (run script keys n g) (behind words (script ∷ keys ∷ []) Run h.0 g h.1) page asks
 page-no-command words page (list script g) asks h = no-page words (list script g) (behind words (script ∷ []) Lists None g h) page asks
 page-no-command words page (dump script g) asks h = no-page words (dump script g) (behind words (script ∷ []) Dump None g h) page asks
+page-no-command words page (stat script g) asks h = no-page words (stat script g) (behind words (script ∷ []) Stat None g h) page asks
 page-no-command words page (drill seed count n) asks h = no-page words (drill seed count n) (behind words (h.1 ∷ h.2 ∷ []) Drill h.0 false h.3) page asks
 page-no-command words page (judge script rules keys n g) asks h = no-page words (judge script rules keys n g) (behind words (script ∷ rules ∷ keys ∷ []) Judge h.0 g h.1) page asks
+page-no-command words page (judge_capture script rules plan packets n g) asks h = no-page words (judge_capture script rules plan packets n g) (behind words (script ∷ rules ∷ plan ∷ packets ∷ []) Judge h.0 g h.1) page asks
 page-no-command words page (capture script plan packets n g) asks h = no-page words (capture script plan packets n g) (behind words (script ∷ plan ∷ packets ∷ []) Capture h.0 g h.1) page asks
 page-no-command words page (desk script g) asks h = no-page words (desk script g) (behind words (script ∷ []) Desk None g h) page asks
 page-no-command words page (compare first second g) asks h = no-page words (compare first second g) (behind words (first ∷ second ∷ []) Compare None g h.0) page asks

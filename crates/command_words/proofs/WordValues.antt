@@ -1,12 +1,12 @@
 -- The command of the arguments that were found.
-use Rattle.std.proofs.Common.{◌≡◌, refl, ◌≤◌, sym, ◌∙◌, ap, subst, ℕ, Bool, false, true, cond, List, [], ◌∷◌, length, codes, slice_get, Option, Some, None, option_map, arith, rules}
-use Rattle.std.specs.Prelude.{IfSome, IsSome}
+use Rattle.std.proofs.Common.{◌≡◌, refl, ◌≤◌, sym, ◌∙◌, ap, subst, ℕ, Bool, false, true, cond, List, [], ◌∷◌, length, codes, slice_get, Option, Some, None, option_map, arith, rules, inl, inr}
+use Rattle.std.specs.Prelude.{◌⊎◌, IfSome, IsSome}
 use Rattle.std.specs.Borrow.{Bor}
 use Rattle.command_words.specs.declared.words.Arguments.{Arguments}
 use Rattle.command_words.specs.declared.shape.Verb.{Verb}
-use Rattle.command_words.specs.declared.shape.Verb.TheVariants.{Run, List as Lists, Dump, Drill, Judge, Capture, Desk, Get, Compare, Sets}
+use Rattle.command_words.specs.declared.shape.Verb.TheVariants.{Run, List as Lists, Dump, Drill, Judge, Capture, Desk, Get, Compare, Stat, Sets}
 use Rattle.command_words.specs.GetWords.{is_file_name}
-use Rattle.command_words.specs.Words.{NameStdinOnce, Command, run, list, dump, drill, judge, capture, desk, get, compare, sets_of, IsCommand, AreWords, ArePacketWords, AreFileWords, AreThreads, IsNumber, last_seed, most_drill_elements}
+use Rattle.command_words.specs.Words.{NameStdinOnce, Command, run, list, dump, drill, judge, capture, desk, get, compare, stat, IsCommand, AreWords, ArePacketWords, AreFileWords, AreThreads, IsNumber, last_seed, most_drill_elements, judge_capture, sets_of}
 use Rattle.command_words.specs.WordForms.{HasVerb, HasShape, HasArguments, ArePlain, verb_of}
 use Rattle.command_words.proofs.CommandWords.{number-is-name}
 
@@ -24,7 +24,7 @@ pub record HavePlainArguments (words : List (List ℕ)) : Type 0 where
   pub plain : ArePlain names threads
 
 module _ (words : List (List ℕ)) where
-  some-arguments : (word : List ℕ) (names : List (List ℕ)) (threads : Option (List ℕ)) (goes : Bool) (n : ℕ) → length names ≤ 3 → AreThreads threads n → AreWords words word names threads goes → HavePlainArguments words
+  some-arguments : (word : List ℕ) (names : List (List ℕ)) (threads : Option (List ℕ)) (goes : Bool) (n : ℕ) → length names ≤ 4 → AreThreads threads n → AreWords words word names threads goes → HavePlainArguments words
   some-arguments word names threads goes n few threads_are said = record {
     word = word;
     names = names;
@@ -37,9 +37,11 @@ module _ (words : List (List ℕ)) where
   arguments-of-command : (c : Command) → HasShape (verb_of c) → IsCommand words c → HavePlainArguments words
   arguments-of-command (run script keys n goes) shape h = some-arguments (codes "run") (script ∷ keys ∷ []) h.0 goes n (omega arith) h.2 h.1
   arguments-of-command (judge script rules keys n goes) shape h = some-arguments (codes "judge") (script ∷ rules ∷ keys ∷ []) h.0 goes n (omega arith) h.2 h.1
+  arguments-of-command (judge_capture script rules plan file n goes) shape h = some-arguments (codes "judge") (script ∷ rules ∷ plan ∷ file ∷ []) h.0 goes n (omega arith) h.2 h.1
   arguments-of-command (capture script plan file n goes) shape h = some-arguments (codes "capture") (script ∷ plan ∷ file ∷ []) h.0 goes n (omega arith) h.2 h.1
   arguments-of-command (list script goes) shape h = some-arguments (codes "list") (script ∷ []) None goes 1 (omega arith) refl h
   arguments-of-command (dump script goes) shape h = some-arguments (codes "dump") (script ∷ []) None goes 1 (omega arith) refl h
+  arguments-of-command (stat script goes) shape h = some-arguments (codes "stat") (script ∷ []) None goes 1 (omega arith) refl h
   arguments-of-command (desk script goes) shape h = some-arguments (codes "desk") (script ∷ []) None goes 1 (omega arith) refl h
   arguments-of-command (drill seed elements n) shape h = some-arguments (codes "drill") (h.1 ∷ h.2 ∷ []) h.0 false n (omega arith) h.6 h.3
   arguments-of-command (compare first second goes) shape h = some-arguments (codes "compare") (first ∷ second ∷ []) None goes 1 (omega arith) refl h.0
@@ -63,6 +65,7 @@ pub record IsPacketOf (words : List (List ℕ)) (a : Arguments) (word : List ℕ
   pub first : text_of a.first ≡ slice_get names 0
   pub second : text_of a.second ≡ slice_get names 1
   pub third : text_of a.third ≡ slice_get names 2
+  pub fourth : text_of a.fourth ≡ slice_get names 3
   pub threads_are : AreThreads (text_of a.threads) count
   pub said : AreWords words word names (text_of a.threads) a.keep_going
   pub once : NameStdinOnce names
@@ -106,12 +109,20 @@ IsPairOf words a word = (script : List ℕ) × (other : List ℕ) × IsPacketOf 
 abbrev pub IsTripleOf : List (List ℕ) → Arguments → List ℕ → Type 0
 IsTripleOf words a word = (script : List ℕ) × (other : List ℕ) × (last : List ℕ) × IsPacketOf words a word (script ∷ other ∷ last ∷ [])
 
+-- with four names, and of a `judge`: its fourth name is there if it has four
+abbrev pub IsFourOf : List (List ℕ) → Arguments → List ℕ → Type 0
+IsFourOf words a word = (script : List ℕ) × (other : List ℕ) × (next : List ℕ) × (last : List ℕ) × IsPacketOf words a word (script ∷ other ∷ next ∷ last ∷ [])
+
+abbrev pub IsJudgeOf : List (List ℕ) → Arguments → Type 0
+IsJudgeOf words a = IsTripleOf words a (codes "judge") ⊎ IsFourOf words a (codes "judge")
+
 abbrev Of : List (List ℕ) → Arguments → Verb → Type 0
 Of words a Run = IsPairOf words a (codes "run")
 Of words a Lists = IsAloneOf words a (codes "list")
 Of words a Dump = IsAloneOf words a (codes "dump")
+Of words a Stat = IsAloneOf words a (codes "stat")
 Of words a Drill = IsDrillOf words a
-Of words a Judge = IsTripleOf words a (codes "judge")
+Of words a Judge = IsJudgeOf words a
 Of words a Capture = IsTripleOf words a (codes "capture")
 Of words a Desk = IsAloneOf words a (codes "desk")
 Of words a Get = ⊥
@@ -130,13 +141,14 @@ module _ (words : List (List ℕ)) (a : Arguments) (given : (word : List ℕ) (n
       let k = given word (script ∷ []) None goes h (record { few = omega arith; no_dash = tt }) in
       record { script = script; first = k.first; said = with-mark word (script ∷ []) None goes k.mark h }
 
-  packets : (word : List ℕ) (names : List (List ℕ)) (n : ℕ) (goes : Bool) → length names ≤ 3 → ArePacketWords words word names n goes → IsPacketOf words a word names
+  packets : (word : List ℕ) (names : List (List ℕ)) (n : ℕ) (goes : Bool) → length names ≤ 4 → ArePacketWords words word names n goes → IsPacketOf words a word names
   packets word names n goes few h =
       let k = given word names h.0 goes h.1 (record { few = few; no_dash = plain-threads h.0 n h.2 }) in record {
         count = n;
         first = k.first;
         second = k.second;
         third = k.third;
+        fourth = k.fourth;
         threads_are = subst (λ (o : Option (List ℕ)). AreThreads o n) (sym k.threads_are) h.2;
         said = with-threads word names h.0 a.keep_going k.threads_are (with-mark word names h.0 goes k.mark h.1);
         once = h.3;
@@ -150,10 +162,12 @@ module _ (words : List (List ℕ)) (a : Arguments) (given : (word : List ℕ) (n
 
   of-command : (c : Command) → HasShape (verb_of c) → IsCommand words c → Of words a (verb_of c)
   of-command (run script keys n goes) shape h = (script, keys, packets (codes "run") (script ∷ keys ∷ []) n goes (omega arith) h)
-  of-command (judge script rules keys n goes) shape h = (script, rules, keys, packets (codes "judge") (script ∷ rules ∷ keys ∷ []) n goes (omega arith) h)
+  of-command (judge script rules keys n goes) shape h = inl (script, rules, keys, packets (codes "judge") (script ∷ rules ∷ keys ∷ []) n goes (omega arith) h)
+  of-command (judge_capture script rules plan file n goes) shape h = inr (script, rules, plan, file, packets (codes "judge") (script ∷ rules ∷ plan ∷ file ∷ []) n goes (omega arith) h)
   of-command (capture script plan file n goes) shape h = (script, plan, file, packets (codes "capture") (script ∷ plan ∷ file ∷ []) n goes (omega arith) h)
   of-command (list script goes) shape h = alone (codes "list") script goes h
   of-command (dump script goes) shape h = alone (codes "dump") script goes h
+  of-command (stat script goes) shape h = alone (codes "stat") script goes h
   of-command (desk script goes) shape h = alone (codes "desk") script goes h
   of-command (drill seed elements n) shape h =
       let k = given (codes "drill") (h.1 ∷ h.2 ∷ []) h.0 false h.3 (record { few = omega arith; no_dash = plain-threads h.0 n h.6 }) in record {
@@ -193,8 +207,10 @@ module _ (words : List (List ℕ)) (a : Arguments) where
   has-first Run of = there a.first of.0 of.2.first
   has-first Lists of = there a.first of.script of.first
   has-first Dump of = there a.first of.script of.first
+  has-first Stat of = there a.first of.script of.first
   has-first Drill of = there a.first of.seed_word of.first
-  has-first Judge of = there a.first of.0 of.3.first
+  has-first Judge (inl of) = there a.first of.0 of.3.first
+  has-first Judge (inr of) = there a.first of.0 of.4.first
   has-first Capture of = there a.first of.0 of.3.first
   has-first Desk of = there a.first of.script of.first
   has-first Get of = absurd of
@@ -209,6 +225,19 @@ module _ (words : List (List ℕ)) (a : Arguments) where
 
   pub triple-third : (word : List ℕ) → IsTripleOf words a word → IsSome a.third
   triple-third word of = there a.third of.2 of.3.third
+
+  -- A `judge` has a second and a third name, and how many packet threads is there.
+  pub judge-second : IsJudgeOf words a → IsSome a.second
+  judge-second (inl of) = there a.second of.1 of.3.second
+  judge-second (inr of) = there a.second of.1 of.4.second
+
+  pub judge-third : IsJudgeOf words a → IsSome a.third
+  judge-third (inl of) = there a.third of.2 of.3.third
+  judge-third (inr of) = there a.third of.2 of.4.third
+
+  pub judge-threads : IsJudgeOf words a → (n : ℕ) × AreThreads (text_of a.threads) n
+  judge-threads (inl of) = (of.3.count, of.3.threads_are)
+  judge-threads (inr of) = (of.4.count, of.4.threads_are)
 
   pub files-second : (word : List ℕ) → IsFilesOf words a word → IsSome a.second
   files-second word of = there a.second of.other of.second
@@ -251,6 +280,21 @@ module _ (words : List (List ℕ)) (a : Arguments) where
           let other = found-is a.second second of.1 second_is of.3.second in
           let last = found-is a.third third of.2 third_is of.3.third in
           is-packet word n (of.0 ∷ of.1 ∷ of.2 ∷ []) (first.now ∷ second.now ∷ third.now ∷ []) (cc (script, other, last)) threads_are of.3
+
+      -- The names of a `judge`: with a fourth, and without one.
+      module _ (n : ℕ) (third : Bor (List ℕ)) (third_is : a.third ≡ Some third) (threads_are : AreThreads (text_of a.threads) n) where
+        pub is-judge : a.fourth ≡ None → IsJudgeOf words a → ArePacketWords words (codes "judge") (first.now ∷ second.now ∷ third.now ∷ []) n a.keep_going
+        is-judge none (inl of) = is-triple (codes "judge") n third third_is threads_are of
+        is-judge none (inr of) = absurd (let there : text_of a.fourth ≡ Some of.3 = of.4.fourth in cc (ap text_of none, there))
+
+        pub is-judge-capture : (fourth : Bor (List ℕ)) → a.fourth ≡ Some fourth → IsJudgeOf words a → ArePacketWords words (codes "judge") (first.now ∷ second.now ∷ third.now ∷ fourth.now ∷ []) n a.keep_going
+        is-judge-capture fourth some (inl of) = absurd (let none : text_of a.fourth ≡ None = of.3.fourth in cc (ap text_of some, none))
+        is-judge-capture fourth some (inr of) =
+            let script = found-is a.first first of.0 first_is of.4.first in
+            let other = found-is a.second second of.1 second_is of.4.second in
+            let next = found-is a.third third of.2 third_is of.4.third in
+            let last = found-is a.fourth fourth of.3 some of.4.fourth in
+            is-packet (codes "judge") n (of.0 ∷ of.1 ∷ of.2 ∷ of.3 ∷ []) (first.now ∷ second.now ∷ third.now ∷ fourth.now ∷ []) (cc (script, other, next, last)) threads_are of.4
 
       pub is-count : (of : IsDrillOf words a) → (n : ℕ) × IsNumber 1 most_drill_elements second.now n
       is-count of = (of.elements, subst (λ (w : List ℕ). IsNumber 1 most_drill_elements w of.elements) (found-is a.second second of.count_word second_is of.second) of.elements_are)

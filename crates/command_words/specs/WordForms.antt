@@ -1,5 +1,5 @@
 -- How the words of a command are read: word by word by their shape, and then by the ids of their values.
-use Rattle.std.specs.Prelude.{◌≡◌, ◌≢◌, ℕ, ◌+◌, Bool, true, false, ◌==◌, ◌&&◌, not, List, fold, nat_le, nat_lt, if◌then◌else◌, codes, bytes_eq, decimal, is_some, Option, Some, None, slice_get, length, ◌≤◌, IfSome, IsTrue, option_map, map}
+use Rattle.std.specs.Prelude.{◌≡◌, ◌≢◌, ℕ, ◌+◌, Bool, true, false, ◌==◌, ◌&&◌, ◌||◌, not, List, fold, nat_le, nat_lt, if◌then◌else◌, codes, bytes_eq, decimal, is_some, Option, Some, None, slice_get, length, ◌≤◌, IfSome, IsTrue, option_map, map}
 use Rattle.std.specs.String.{string_bytes}
 use Rattle.std.specs.Bool.{then_some}
 use Rattle.std.specs.List.{count_by}
@@ -16,30 +16,46 @@ use Rattle.command_words.specs.declared.words.Command.{Command as Asked}
 use Rattle.command_words.specs.declared.words.Command.TheVariants as asked
 use Rattle.command_words.specs.declared.page.Page.{Page}
 use Rattle.command_words.specs.declared.page.Page.TheVariants as pages
-use Rattle.command_words.specs.declared.help.TheConstants.{PROGRAM, RUN, LIST, DUMP, DRILL, JUDGE, CAPTURE, DESK, GET, VERSION, COMPARE, SETS}
+use Rattle.command_words.specs.declared.help.TheConstants.{PROGRAM, RUN, LIST, DUMP, DRILL, JUDGE, CAPTURE, DESK, GET, VERSION, COMPARE, STAT, SETS}
 use Rattle.command_words.specs.Fronts.{after_front}
 use Rattle.command_words.specs.Numbers.{number_within}
 use Rattle.command_words.specs.GetWords.{asked, is_file_name, keep_going_word}
-use Rattle.command_words.specs.Words.{Command, run, list, dump, drill, judge, capture, desk, get, IsCommand, is_stdin, threads_word, threads_front, last_seed, most_drill_elements, compare, sets_of}
+use Rattle.command_words.specs.Words.{Command, run, list, dump, drill, judge, judge_capture, capture, desk, get, IsCommand, is_stdin, threads_word, threads_front, last_seed, most_drill_elements, compare, stat, sets_of}
 
--- How many names a command has. The words of `get` have a reading of their own, and no shape.
-abbrev pub name_count : Verb → ℕ
-name_count verbs.Run = 2
-name_count verbs.List = 1
-name_count verbs.Dump = 1
-name_count verbs.Drill = 2
-name_count verbs.Judge = 3
-name_count verbs.Capture = 3
-name_count verbs.Desk = 1
-name_count verbs.Get = 1
-name_count verbs.Compare = 2
-name_count verbs.Sets = 1
+-- The most names that a command has. The words of `get` have a reading of their own, and no shape.
+abbrev pub most_names : Verb → ℕ
+most_names verbs.Run = 2
+most_names verbs.List = 1
+most_names verbs.Dump = 1
+most_names verbs.Stat = 1
+most_names verbs.Drill = 2
+most_names verbs.Judge = 4
+most_names verbs.Capture = 3
+most_names verbs.Desk = 1
+most_names verbs.Get = 1
+most_names verbs.Compare = 2
+most_names verbs.Sets = 1
+
+-- So many names are all that a command has. A `judge` has a key file, or a plan and a capture.
+abbrev pub has_all : Verb → ℕ → Bool
+has_all verbs.Run names = names == most_names verbs.Run
+has_all verbs.List names = names == most_names verbs.List
+has_all verbs.Dump names = names == most_names verbs.Dump
+has_all verbs.Stat names = names == most_names verbs.Stat
+has_all verbs.Drill names = names == most_names verbs.Drill
+has_all verbs.Judge names = (names == 3) || (names == 4)
+has_all verbs.Capture names = names == most_names verbs.Capture
+has_all verbs.Desk names = names == most_names verbs.Desk
+has_all verbs.Get names = names == most_names verbs.Get
+has_all verbs.Compare names = names == most_names verbs.Compare
+has_all verbs.Sets names = names == most_names verbs.Sets
 
 -- A command may have packet threads.
 abbrev pub takes_threads : Verb → Bool
 takes_threads verbs.Run = true
 takes_threads verbs.List = false
 takes_threads verbs.Dump = false
+takes_threads verbs.Stat = false
 takes_threads verbs.Drill = true
 takes_threads verbs.Judge = true
 takes_threads verbs.Capture = true
@@ -53,6 +69,7 @@ abbrev pub takes_mark : Verb → Bool
 takes_mark verbs.Run = true
 takes_mark verbs.List = true
 takes_mark verbs.Dump = true
+takes_mark verbs.Stat = true
 takes_mark verbs.Drill = false
 takes_mark verbs.Judge = true
 takes_mark verbs.Capture = true
@@ -70,6 +87,7 @@ abbrev pub is_name_of : Verb → ℕ → List ℕ → Bool
 is_name_of verbs.Run place word = is_file_name word
 is_name_of verbs.List place word = is_file_name word
 is_name_of verbs.Dump place word = is_file_name word
+is_name_of verbs.Stat place word = is_file_name word
 is_name_of verbs.Drill place word = is_some (drill_number place word)
 is_name_of verbs.Judge place word = is_file_name word
 is_name_of verbs.Capture place word = is_file_name word
@@ -79,7 +97,7 @@ is_name_of verbs.Compare place word = is_file_name word
 is_name_of verbs.Sets place word = is_file_name word
 
 abbrev pub takes_name : Verb → ℕ → List ℕ → Bool
-takes_name verb place word = nat_lt place (name_count verb) && is_name_of verb place word
+takes_name verb place word = nat_lt place (most_names verb) && is_name_of verb place word
 
 -- the shape with the number of packet threads
 abbrev pub with_threads : Shape → List ℕ → Option Shape
@@ -109,7 +127,7 @@ empty_shape = record { names = 0; threads = false; keep_going = false; waiting =
 
 abbrev pub is_whole_shape : Verb → Option Shape → Bool
 is_whole_shape verb None = false
-is_whole_shape verb (Some s) = not s.waiting && (s.names == name_count verb)
+is_whole_shape verb (Some s) = not s.waiting && has_all verb s.names
 
 -- The words after a command's word have its shape.
 abbrev pub has_shape : Verb → List (List ℕ) → Bool
@@ -128,6 +146,7 @@ abbrev pub accepts : Verb → List (List ℕ) → Bool
 accepts verbs.Run rest = fits verbs.Run rest
 accepts verbs.List rest = fits verbs.List rest
 accepts verbs.Dump rest = fits verbs.Dump rest
+accepts verbs.Stat rest = fits verbs.Stat rest
 accepts verbs.Drill rest = fits verbs.Drill rest
 accepts verbs.Judge rest = fits verbs.Judge rest
 accepts verbs.Capture rest = fits verbs.Capture rest
@@ -140,8 +159,10 @@ abbrev pub verb_of : Command → Verb
 verb_of (run script keys threads keep_going) = verbs.Run
 verb_of (list script keep_going) = verbs.List
 verb_of (dump script keep_going) = verbs.Dump
+verb_of (stat script keep_going) = verbs.Stat
 verb_of (drill seed count threads) = verbs.Drill
 verb_of (judge script rules keys threads keep_going) = verbs.Judge
+verb_of (judge_capture script rules plan packets threads keep_going) = verbs.Judge
 verb_of (capture script plan packets threads keep_going) = verbs.Capture
 verb_of (desk script keep_going) = verbs.Desk
 verb_of (get script key moment keep_going) = verbs.Get
@@ -162,6 +183,7 @@ page_text pages.Program = PROGRAM.now
 page_text (pages.Command verbs.Run) = RUN.now
 page_text (pages.Command verbs.List) = LIST.now
 page_text (pages.Command verbs.Dump) = DUMP.now
+page_text (pages.Command verbs.Stat) = STAT.now
 page_text (pages.Command verbs.Drill) = DRILL.now
 page_text (pages.Command verbs.Judge) = JUDGE.now
 page_text (pages.Command verbs.Capture) = CAPTURE.now
@@ -176,7 +198,9 @@ abbrev pub plain_task : List ℕ → Task → Bool → Command
 plain_task script (tasks.Run keys threads) keep_going = run script keys.now threads keep_going
 plain_task script tasks.List keep_going = list script keep_going
 plain_task script tasks.Dump keep_going = dump script keep_going
+plain_task script tasks.Stat keep_going = stat script keep_going
 plain_task script (tasks.Judge rules keys threads) keep_going = judge script rules.now keys.now threads keep_going
+plain_task script (tasks.JudgeCapture rules plan packets threads) keep_going = judge_capture script rules.now plan.now packets.now threads keep_going
 plain_task script (tasks.Capture plan packets threads) keep_going = capture script plan.now packets.now threads keep_going
 plain_task script tasks.Desk keep_going = desk script keep_going
 plain_task script (tasks.Get key moment) keep_going = get script (map string_bytes key.now) moment keep_going
@@ -187,9 +211,9 @@ plain (asked.Drill seed count threads) = drill seed count threads
 plain (asked.Compare first second keep_going) = compare first.now second.now keep_going
 plain (asked.Sets file) = sets_of file.now
 
--- At most three names, and a word after `--threads` that doesn't begin with a dash.
+-- At most four names, and a word after `--threads` that doesn't begin with a dash.
 pub record ArePlain (names : List (List ℕ)) (threads : Option (List ℕ)) : Type 0 where
-  pub few : length names ≤ 3
+  pub few : length names ≤ 4
   pub no_dash : IfSome threads (λ word. IsTrue (is_file_name word))
 
 -- The values that were found by their ids are these arguments.
@@ -197,6 +221,7 @@ pub record HasFoundValues (found : Found) (names : List (List ℕ)) (threads : O
   pub first : first_value found (codes "first") ≡ slice_get names 0
   pub second : first_value found (codes "second") ≡ slice_get names 1
   pub third : first_value found (codes "third") ≡ slice_get names 2
+  pub fourth : first_value found (codes "fourth") ≡ slice_get names 3
   pub threads_are : first_value found (codes "threads") ≡ threads
   pub mark : one_text found (codes "keep-going") ≡ Some (if keep_going then codes "true" else codes "false")
 
@@ -205,5 +230,6 @@ pub record HasArguments (a : Arguments) (names : List (List ℕ)) (threads : Opt
   pub first : option_map (λ w. w.now) a.first ≡ slice_get names 0
   pub second : option_map (λ w. w.now) a.second ≡ slice_get names 1
   pub third : option_map (λ w. w.now) a.third ≡ slice_get names 2
+  pub fourth : option_map (λ w. w.now) a.fourth ≡ slice_get names 3
   pub threads_are : option_map (λ w. w.now) a.threads ≡ threads
   pub mark : a.keep_going ≡ keep_going

@@ -19,6 +19,7 @@ abbrev pub verb_word : Verb → List ℕ
 verb_word verbs.Run = codes "run"
 verb_word verbs.List = codes "list"
 verb_word verbs.Dump = codes "dump"
+verb_word verbs.Stat = codes "stat"
 verb_word verbs.Drill = codes "drill"
 verb_word verbs.Judge = codes "judge"
 verb_word verbs.Capture = codes "capture"
@@ -72,8 +73,10 @@ pub data Command : Type 0 where
   run : (script keys : List ℕ) (threads : ℕ) (keep_going : Bool) → Command
   list : (script : List ℕ) (keep_going : Bool) → Command
   dump : (script : List ℕ) (keep_going : Bool) → Command
+  stat : (script : List ℕ) (keep_going : Bool) → Command
   drill : (seed count threads : ℕ) → Command
   judge : (script rules keys : List ℕ) (threads : ℕ) (keep_going : Bool) → Command
+  judge_capture : (script rules plan packets : List ℕ) (threads : ℕ) (keep_going : Bool) → Command
   capture : (script plan packets : List ℕ) (threads : ℕ) (keep_going : Bool) → Command
   desk : (script : List ℕ) (keep_going : Bool) → Command
   get : (script : List ℕ) (key : List (List ℕ)) (moment : Option ℕ) (keep_going : Bool) → Command
@@ -104,9 +107,11 @@ abbrev pub IsCommand : List (List ℕ) → Command → Type 0
 IsCommand words (run script keys n keep_going) = ArePacketWords words (codes "run") (script ∷ keys ∷ []) n keep_going
 IsCommand words (list script keep_going) = AreWords words (codes "list") (script ∷ []) None keep_going
 IsCommand words (dump script keep_going) = AreWords words (codes "dump") (script ∷ []) None keep_going
+IsCommand words (stat script keep_going) = AreWords words (codes "stat") (script ∷ []) None keep_going
 IsCommand words (drill seed count n) = (threads : Option (List ℕ)) × (seed_word : List ℕ) × (count_word : List ℕ)
     × AreWords words (codes "drill") (seed_word ∷ count_word ∷ []) threads false × IsNumber 0 last_seed seed_word seed × IsNumber 1 most_drill_elements count_word count × AreThreads threads n
 IsCommand words (judge script rules keys n keep_going) = ArePacketWords words (codes "judge") (script ∷ rules ∷ keys ∷ []) n keep_going
+IsCommand words (judge_capture script rules plan packets n keep_going) = ArePacketWords words (codes "judge") (script ∷ rules ∷ plan ∷ packets ∷ []) n keep_going
 IsCommand words (capture script plan packets n keep_going) = ArePacketWords words (codes "capture") (script ∷ plan ∷ packets ∷ []) n keep_going
 IsCommand words (desk script keep_going) = AreWords words (codes "desk") (script ∷ []) None keep_going
 IsCommand words (compare first second keep_going) = AreFileWords words (codes "compare") (first ∷ second ∷ []) keep_going
@@ -125,8 +130,9 @@ pub record IsNoCommand (words : List (List ℕ)) : Type 0 where
   pub no_page : (page : Page) → AsksFor words page → ⊥
 
 -- The words are a command of one of these sorts: a run of a script beside a key file, a listing of a
--- script, or a dump of its tables; a drill; a run whose packets a rules file judges, or whose packets a
--- plan takes from a capture; or a script by several control threads; or a question for a key; or a comparison of two scripts; or the sets of a ruleset.
+-- script, a dump of its tables or their figures; a drill; a run whose packets a rules file judges, or whose packets a
+-- plan takes from a capture, or both; or a script by several control threads; or a question for a key; or a comparison of two scripts; or the sets of a
+-- ruleset.
 abbrev pub IsRunCommand : List (List ℕ) → List ℕ → List ℕ → ℕ → Bool → Type 0
 IsRunCommand words script keys threads keep_going = IsCommand words (run script keys threads keep_going)
 
@@ -136,11 +142,17 @@ IsListCommand words script keep_going = IsCommand words (list script keep_going)
 abbrev pub IsDumpCommand : List (List ℕ) → List ℕ → Bool → Type 0
 IsDumpCommand words script keep_going = IsCommand words (dump script keep_going)
 
+abbrev pub IsStatCommand : List (List ℕ) → List ℕ → Bool → Type 0
+IsStatCommand words script keep_going = IsCommand words (stat script keep_going)
+
 abbrev pub IsDrillCommand : List (List ℕ) → ℕ → ℕ → ℕ → Type 0
 IsDrillCommand words seed count threads = IsCommand words (drill seed count threads)
 
 abbrev pub IsJudgeCommand : List (List ℕ) → List ℕ → List ℕ → List ℕ → ℕ → Bool → Type 0
 IsJudgeCommand words script rules keys threads keep_going = IsCommand words (judge script rules keys threads keep_going)
+
+abbrev pub IsJudgeCaptureCommand : List (List ℕ) → List ℕ → List ℕ → List ℕ → List ℕ → ℕ → Bool → Type 0
+IsJudgeCaptureCommand words script rules plan packets threads keep_going = IsCommand words (judge_capture script rules plan packets threads keep_going)
 
 abbrev pub IsCaptureCommand : List (List ℕ) → List ℕ → List ℕ → List ℕ → ℕ → Bool → Type 0
 IsCaptureCommand words script plan packets threads keep_going = IsCommand words (capture script plan packets threads keep_going)
@@ -162,8 +174,10 @@ abbrev pub file_names : Command → List (List ℕ)
 file_names (run script keys threads keep_going) = script ∷ keys ∷ []
 file_names (list script keep_going) = script ∷ []
 file_names (dump script keep_going) = script ∷ []
+file_names (stat script keep_going) = script ∷ []
 file_names (drill seed count threads) = []
 file_names (judge script rules keys threads keep_going) = script ∷ rules ∷ keys ∷ []
+file_names (judge_capture script rules plan packets threads keep_going) = script ∷ rules ∷ plan ∷ packets ∷ []
 file_names (capture script plan packets threads keep_going) = script ∷ plan ∷ packets ∷ []
 file_names (desk script keep_going) = script ∷ []
 file_names (get script key moment keep_going) = script ∷ []

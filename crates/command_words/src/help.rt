@@ -12,21 +12,24 @@ usage: pipapo run SCRIPT KEYS [--threads N] [--keep-going]
        pipapo dump SCRIPT [--keep-going]
        pipapo drill SEED COUNT [--threads N]
        pipapo judge SCRIPT RULES KEYS [--threads N] [--keep-going]
+       pipapo judge SCRIPT RULES PLAN PCAP [--threads N] [--keep-going]
        pipapo capture SCRIPT PLAN PCAP [--threads N] [--keep-going]
        pipapo desk SCRIPT [--keep-going]
        pipapo get [--at MOMENT] [--keep-going] SCRIPT KEY ..
        pipapo compare SCRIPT1 SCRIPT2 [--keep-going]
+       pipapo stat SCRIPT [--keep-going]
        pipapo sets RULESET
        pipapo help [COMMAND], pipapo [COMMAND] --help, pipapo [COMMAND] -h
        pipapo --version, pipapo -V
 
 commands:
-  to ask about keys:
+  to ask about sets:
     get      runs SCRIPT, and prints the element that holds a key, with the line that added it
     compare  runs two scripts, and prints for each set whether they decide alike on every key
+    stat     runs SCRIPT, and prints how large its sets and their tables are
   to run a script:
     run      runs SCRIPT beside the packets of KEYS, and writes the transcript
-    judge    as run, but each packet is judged by the chains of RULES
+    judge    as run or capture, but each packet is judged by the chains of RULES
     capture  as run, but the packets are those that PLAN takes from the capture PCAP
     desk     runs the sections of SCRIPT by several control threads, and lists the result
     drill    runs a workload drawn from SEED, and writes one line on it
@@ -55,7 +58,7 @@ statuses:
   4   the key file isn't in its grammar
   5   a file can't be opened or read
   6   the standard output failed
-  7   want of memory
+  7   out of memory
   8   a file has more than 67,108,864 bytes
   9   the rules file isn't in its grammar
   10  the capture isn't in its form
@@ -93,7 +96,7 @@ options, in any order among the names:
   --keep-going   a refused change is skipped, and doesn't fail its transaction
 
 statuses: 0 done, 1 done with a refused change, 3 SCRIPT isn't in its grammar, 4 KEYS isn't,
-5 a file can't be read, 6 the standard output failed, 7 want of memory, 8 a file is too large
+5 a file can't be read, 6 the standard output failed, 7 out of memory, 8 a file is too large
 ";
 
 /// The page of `list`.
@@ -107,7 +110,7 @@ options, before or after the name:
   --keep-going   a refused change is skipped, and doesn't fail its transaction
 
 statuses: 0 done, 1 done with a refused change, 3 SCRIPT isn't in its grammar, 5 it can't be
-read, 6 the standard output failed, 7 want of memory, 8 SCRIPT is too large
+read, 6 the standard output failed, 7 out of memory, 8 SCRIPT is too large
 ";
 
 /// The page of `dump`.
@@ -121,7 +124,7 @@ options, before or after the name:
   --keep-going   a refused change is skipped, and doesn't fail its transaction
 
 statuses: 0 done, 1 done with a refused change, 3 SCRIPT isn't in its grammar, 5 it can't be
-read, 6 the standard output failed, 7 want of memory, 8 SCRIPT is too large
+read, 6 the standard output failed, 7 out of memory, 8 SCRIPT is too large
 ";
 
 /// The page of `drill`.
@@ -134,24 +137,26 @@ looks the packets up, and writes one line on it: the same for every number of th
 options, in any order among the numbers:
   --threads N    packet threads: 1 to 16, and else 1
 
-statuses: 0 done, 6 the standard output failed, 7 want of memory
+statuses: 0 done, 6 the standard output failed, 7 out of memory
 ";
 
 /// The page of `judge`.
 pub const JUDGE: &str = "\
 usage: pipapo judge SCRIPT RULES KEYS [--threads N] [--keep-going]
+       pipapo judge SCRIPT RULES PLAN PCAP [--threads N] [--keep-going]
 
-Runs SCRIPT beside the packets of the key file KEYS, and writes the transcript, in which each
-packet has the rule of the rules file RULES that decides on it, or RULES' policy. One of the
-three names may be -, the standard input.
+Runs SCRIPT beside packets, and writes the transcript, in which each packet has the rule of the
+rules file RULES that decides on it, or RULES' policy. The packets are those of the key file
+KEYS, or those that PLAN takes from the capture PCAP, as in capture. One of the names may be -,
+the standard input.
 
 options, in any order among the names:
   --threads N    packet threads beside the control: 1 to 16, and else 1
   --keep-going   a refused change is skipped, and doesn't fail its transaction
 
 statuses: 0 done, 1 done with a refused change, 3 SCRIPT isn't in its grammar, 4 KEYS isn't,
-9 RULES isn't, 5 a file can't be read, 6 the standard output failed, 7 want of memory, 8 a file
-is too large
+9 RULES isn't, 11 PLAN isn't, 10 PCAP isn't in its form, 5 a file can't be read, 6 the standard
+output failed, 7 out of memory, 8 a file is too large
 ";
 
 /// The page of `capture`.
@@ -168,7 +173,7 @@ options, in any order among the names:
   --keep-going   a refused change is skipped, and doesn't fail its transaction
 
 statuses: 0 done, 1 done with a refused change, 3 SCRIPT isn't in its grammar, 11 PLAN isn't,
-10 PCAP isn't in its form, 5 a file can't be read, 6 the standard output failed, 7 want of
+10 PCAP isn't in its form, 5 a file can't be read, 6 the standard output failed, 7 out of
 memory, 8 a file is too large
 ";
 
@@ -187,7 +192,7 @@ options, before or after the name:
   --keep-going   a refused change is skipped, and doesn't fail its transaction
 
 statuses: 0 done, 1 done with a refused change, 3 SCRIPT isn't in its grammar, 12 it has more
-than 17 sections, 5 it can't be read, 6 the standard output failed, 7 want of memory, 8 SCRIPT
+than 17 sections, 5 it can't be read, 6 the standard output failed, 7 out of memory, 8 SCRIPT
 is too large
 ";
 
@@ -207,7 +212,7 @@ options, before SCRIPT:
 
 statuses: 0 an element holds the key and no change was refused, 1 no element does or a change
 was refused, 3 SCRIPT isn't in its grammar, 13 the words are no key, 5 SCRIPT can't be read, 6 the
-standard output failed, 7 want of memory, 8 SCRIPT is too large
+standard output failed, 7 out of memory, 8 SCRIPT is too large
 ";
 
 /// The page of `compare`.
@@ -221,12 +226,47 @@ holds it and its line. If each has a key that the other lacks, there are two lin
 sets that only one script has. Refused changes come first, as comments. One script may be -, the
 standard input.
 
-options, before or behind the names:
+An element that expires after its script's last moment still counts. A change of a transaction
+that fails doesn't: its script's sets are those of the generation before.
+
+options, before or after the names:
   --keep-going   a refused change is skipped, and doesn't fail its transaction
 
 statuses: 0 all sets are the same and no change was refused, 1 sets differ or a change was refused,
-3 a script isn't in its grammar, 5 a script can't be read, 6 the standard output failed, 7 want of
+3 a script isn't in its grammar, 5 a script can't be read, 6 the standard output failed, 7 out of
 memory, 8 a script is too large
+";
+
+/// The page of `stat`.
+pub const STAT: &str = "\
+usage: pipapo stat SCRIPT [--keep-going]
+
+Runs SCRIPT, and writes what became of its transactions as comments, and then the figures of the
+last generation. Each set has a line with its elements at the script's last moment: how many there
+are, how many of them are expired and will leave with a commit, how many expire later, and the time
+until the next of these does. Each field has a line with the bits of a group of its table, its rules
+and the bytes of its buckets. The bytes of all fields of the set come last. SCRIPT may be -, the
+standard input.
+
+An example, to be pasted into a shell:
+
+  echo 'add set ip t s { type ipv4_addr . inet_service; flags interval; }
+  add element ip t s { 10.0.0.5 . 1024, 192.168.1.0-192.168.2.1 . 2048 }' > s.nft
+  pipapo stat s.nft
+
+It prints:
+
+  # commit generation 1 purged 0
+  set ip t s elements 2 expired 0 expiring 0 next none
+  field 0 width 8 rules 3 bytes 8192
+  field 1 width 8 rules 2 bytes 4096
+  total bytes 12288
+
+options, before or after the name:
+  --keep-going   a refused change is skipped, and doesn't fail its transaction
+
+statuses: 0 done, 1 done with a refused change, 3 SCRIPT isn't in its grammar, 5 it can't be
+read, 6 the standard output failed, 7 out of memory, 8 SCRIPT is too large
 ";
 
 /// The page of `sets`.
@@ -248,6 +288,6 @@ An example, to be pasted into a shell:
   pipapo get sets.nft inet filter blocked 192.0.2.7
 
 statuses: 0 all sets were written, 1 a set was left out, 3 a brace isn't closed or a set isn't in its
-grammar, 5 RULESET can't be read, 6 the standard output failed, 7 want of memory, 8 RULESET is too
+grammar, 5 RULESET can't be read, 6 the standard output failed, 7 out of memory, 8 RULESET is too
 large
 ";

@@ -4,7 +4,7 @@ ghost use Rattle.command_words.specs.Words.{AsksFor};
 ghost use Rattle.command_words.specs.WordForms.{page_text};
 
 use crate::help::{
-    CAPTURE, COMPARE, DESK, DRILL, DUMP, GET, JUDGE, LIST, PROGRAM, RUN, SETS, VERSION,
+    CAPTURE, COMPARE, DESK, DRILL, DUMP, GET, JUDGE, LIST, PROGRAM, RUN, SETS, STAT, VERSION,
 };
 use crate::shape::Verb;
 
@@ -29,6 +29,7 @@ impl Page {
             Page::Command(Verb::Run) => RUN,
             Page::Command(Verb::List) => LIST,
             Page::Command(Verb::Dump) => DUMP,
+            Page::Command(Verb::Stat) => STAT,
             Page::Command(Verb::Drill) => DRILL,
             Page::Command(Verb::Judge) => JUDGE,
             Page::Command(Verb::Capture) => CAPTURE,

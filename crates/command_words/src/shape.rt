@@ -4,7 +4,7 @@ ghost use Rattle.command_words.specs.GetWords.{is_file_name as name_test};
 ghost use Rattle.command_words.specs.Words.{IsCommand, verb_word};
 ghost use Rattle.command_words.specs.Fronts.{after_front};
 ghost use Rattle.command_words.specs.Numbers.{number_within};
-ghost use Rattle.command_words.specs.WordForms.{HasVerb, accepts, has_shape as shape_test, drill_number as number_at, takes_threads as threads_test, takes_mark as mark_test, takes_name as name_fits, name_count as count_of_names, with_word as next_shape, with_threads as counted_shape, with_joined as joined_shape, with_argument as argument_shape, empty_shape as begun_shape, stdin_once as names_once};
+ghost use Rattle.command_words.specs.WordForms.{HasVerb, accepts, has_shape as shape_test, drill_number as number_at, takes_threads as threads_test, takes_mark as mark_test, takes_name as name_fits, most_names as count_of_names, has_all as are_all_names, with_word as next_shape, with_threads as counted_shape, with_joined as joined_shape, with_argument as argument_shape, empty_shape as begun_shape, stdin_once as names_once};
 
 use crate::asked::asked_by;
 use itoa::Buffer;
@@ -36,7 +36,8 @@ pub enum Verb {
     Dump,
     /// It runs a generated script beside generated packets.
     Drill,
-    /// It runs a script beside a key file, whose packets a rules file judges.
+    /// It runs a script beside packets that a rules file judges: those of a key file, or those that a plan
+    /// takes from a capture.
     Judge,
     /// It runs a script beside the packets that a plan takes from a capture.
     Capture,
@@ -46,6 +47,8 @@ pub enum Verb {
     Get,
     /// It compares two scripts at their last generations.
     Compare,
+    /// It counts what a script's last generation has.
+    Stat,
     /// It writes the sets of a ruleset as a script.
     Sets,
 }
@@ -116,6 +119,7 @@ impl Verb {
             "run" => Some(Verb::Run),
             "list" => Some(Verb::List),
             "dump" => Some(Verb::Dump),
+            "stat" => Some(Verb::Stat),
             "drill" => Some(Verb::Drill),
             "judge" => Some(Verb::Judge),
             "capture" => Some(Verb::Capture),
@@ -127,14 +131,34 @@ impl Verb {
         }
     }
 
-    /// How many names follow the command's word.
-    fn name_count(self) -> usize
+    /// The most names that follow the command's word.
+    fn most_names(self) -> usize
         ensures { result ≡ count_of_names self }
     {
         match self {
-            Verb::List | Verb::Dump | Verb::Desk | Verb::Get | Verb::Sets => 1,
+            Verb::List | Verb::Dump | Verb::Stat | Verb::Desk | Verb::Get | Verb::Sets => 1,
             Verb::Run | Verb::Drill | Verb::Compare => 2,
-            Verb::Judge | Verb::Capture => 3,
+            Verb::Capture => 3,
+            Verb::Judge => 4,
+        }
+    }
+
+    /// Whether so many names are all of a command's. A `judge` has a key file, or a plan and a capture.
+    fn has_all(self, names: usize) -> bool
+        ensures { result ≡ are_all_names self names }
+    {
+        match self {
+            Verb::Judge => names == 3 || names == 4,
+            Verb::Run
+            | Verb::List
+            | Verb::Dump
+            | Verb::Stat
+            | Verb::Drill
+            | Verb::Capture
+            | Verb::Desk
+            | Verb::Get
+            | Verb::Compare
+            | Verb::Sets => names == self.most_names(),
         }
     }
 
@@ -143,9 +167,13 @@ impl Verb {
     {
         match self {
             Verb::Run | Verb::Drill | Verb::Judge | Verb::Capture => true,
-            Verb::List | Verb::Dump | Verb::Desk | Verb::Get | Verb::Compare | Verb::Sets => {
-                false
-            }
+            Verb::List
+            | Verb::Dump
+            | Verb::Stat
+            | Verb::Desk
+            | Verb::Get
+            | Verb::Compare
+            | Verb::Sets => false,
         }
     }
 
@@ -162,7 +190,7 @@ impl Verb {
     fn takes_name(self, place: usize, word: &str) -> bool
         ensures { result ≡ name_fits self place word.now }
     {
-        place < self.name_count()
+        place < self.most_names()
             && match self {
                 Verb::Drill => drill_number(place, word).is_some(),
                 Verb::Get => false,
@@ -261,7 +289,7 @@ fn has_shape(verb: Verb, words: &[String]) -> bool
             None => return false,
         }
     }
-    !shape.waiting && shape.names == verb.name_count()
+    !shape.waiting && verb.has_all(shape.names)
 }
 
 /// Whether words name the standard input at most once.

@@ -27,11 +27,21 @@ pub enum Task<'a> {
     List,
     /// The tables of the last generation.
     Dump,
+    /// The figures of the last generation.
+    Stat,
     /// A run beside the packets of a key file, which a rules file judges. Both are given by their
     /// names. So many packet threads look up.
     Judge {
         rules: &'a str,
         keys: &'a str,
+        threads: u32,
+    },
+    /// A run beside the packets that a plan takes from a capture, which a rules file judges. All are
+    /// given by their names. So many packet threads look up.
+    JudgeCapture {
+        rules: &'a str,
+        plan: &'a str,
+        packets: &'a str,
         threads: u32,
     },
     /// A run beside the packets that a plan takes from a capture. Both are given by their names. So
@@ -108,6 +118,7 @@ fn values_of<'a>(alloc: Global, words: &'a [String]) -> Result<ArgMatches<'a>, E
     let first = Arg::new(alloc, "first");
     let second = Arg::new(alloc, "second");
     let third = Arg::new(alloc, "third");
+    let fourth = Arg::new(alloc, "fourth");
     let threads = Arg::new(alloc, "threads").long("threads");
     let keep_going = Arg::new(alloc, "keep-going")
         .long("keep-going")
@@ -117,6 +128,7 @@ fn values_of<'a>(alloc: Global, words: &'a [String]) -> Result<ArgMatches<'a>, E
         .arg(first)?
         .arg(second)?
         .arg(third)?
+        .arg(fourth)?
         .arg(threads)?
         .arg(keep_going)?
         .try_get_matches_from(words)
@@ -149,6 +161,7 @@ struct Arguments<'a> {
     first: Option<&'a str>,
     second: Option<&'a str>,
     third: Option<&'a str>,
+    fourth: Option<&'a str>,
     threads: Option<&'a str>,
     keep_going: bool,
 }
@@ -163,6 +176,7 @@ fn arguments_of<'a>(alloc: Global, words: &'a [String]) -> Result<Arguments<'a>,
             first: values.get_str("first"),
             second: values.get_str("second"),
             third: values.get_str("third"),
+            fourth: values.get_str("fourth"),
             threads: values.get_str("threads"),
             keep_going: values.get_flag("keep-going"),
         }),
@@ -185,6 +199,7 @@ fn command_with<'a>(
         first,
         second,
         third,
+        fourth,
         threads,
         keep_going,
     } = arguments_of(alloc, words)?;
@@ -208,15 +223,37 @@ fn command_with<'a>(
             task: Task::Dump,
             keep_going,
         }),
-        Verb::Judge => Ok(Command::Script {
+        Verb::Stat => Ok(Command::Script {
             script: first,
-            task: Task::Judge {
-                rules: second.unwrap(),
-                keys: third.unwrap(),
-                threads: thread_count(threads),
-            },
+            task: Task::Stat,
             keep_going,
         }),
+        Verb::Judge => {
+            let rules = second.unwrap();
+            let third = third.unwrap();
+            let threads = thread_count(threads);
+            match fourth {
+                None => Ok(Command::Script {
+                    script: first,
+                    task: Task::Judge {
+                        rules,
+                        keys: third,
+                        threads,
+                    },
+                    keep_going,
+                }),
+                Some(packets) => Ok(Command::Script {
+                    script: first,
+                    task: Task::JudgeCapture {
+                        rules,
+                        plan: third,
+                        packets,
+                        threads,
+                    },
+                    keep_going,
+                }),
+            }
+        }
         Verb::Capture => Ok(Command::Script {
             script: first,
             task: Task::Capture {

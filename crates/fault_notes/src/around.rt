@@ -1,6 +1,6 @@
 //! Finds what surrounds a token of a script: its braces, its statement, its set, and the words before it.
-use crate::content::is_family;
-use crate::refused::SetWords;
+use crate::content::{is_family, without_blanks_behind};
+use crate::refused::{SetWords, is_same};
 use crate::words::{bytes_of, is_separator, item_of, word_at};
 use set_model::Memory;
 use token_forms::{Token, Tokens};
@@ -69,10 +69,6 @@ pub(crate) fn set_named(statement: &[u8], number: u64) -> SetWords<'_> {
             name: second,
         }
     }
-}
-
-fn is_same(words: SetWords<'_>, others: SetWords<'_>) -> bool {
-    words.family == others.family && words.table == others.table && words.name == others.name
 }
 
 impl<'a> SetText<'a> {
@@ -257,6 +253,18 @@ impl<'a> Around<'a> {
             _ if is_in_list => self,
             _ => self.separated(),
         }
+    }
+
+    /// The bytes from a place up to the end of its statement, item or element: a `,`, `;`, `}` or line feed.
+    pub(crate) fn rest_from(&self, at: u64) -> &'a [u8] {
+        let rest = self.text.get(at as usize..).unwrap_or(b"");
+        let end = rest
+            .iter()
+            .position(|byte| matches!(*byte, b',' | b';' | b'}' | b'\n'));
+        without_blanks_behind(match end {
+            Some(end) => &rest[..end],
+            None => rest,
+        })
     }
 
     /// The line of the innermost open `{`.

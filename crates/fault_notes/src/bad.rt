@@ -5,15 +5,17 @@ ghost use Rattle.fault_notes.specs.Shown.{Begins, place_text};
 use crate::around::{Level, around_of};
 use crate::content::{foreign, swapped};
 use crate::explained::{Explained, Fault};
-use crate::help::{TextKind, explain_plainly};
+use crate::help::{TextKind, explain_plainly, explain_reference, explain_slashes, is_slashes};
 use crate::keys::{KeyFault, explain_key, type_item};
 use crate::note::Note;
 use crate::rest::is_caused;
-use crate::sets::explain_set;
+use crate::sets::{explain_set, explain_unknown};
 use crate::source::{Cut, cut_at};
-use crate::syntax::{explain_syntax, explain_text_end, explain_type};
-use crate::values::{explain_key_value, explain_moment, explain_value};
-use crate::words::count_of;
+use crate::syntax::{
+    explain_left_out, explain_open, explain_syntax, explain_text_end, explain_type, is_in_open,
+};
+use crate::times::explain_time;
+use crate::values::{explain_moment, explain_value};
 use set_model::{Memory, Schema};
 use std::alloc::Global;
 use token_forms::{BadToken, Reason};
@@ -33,6 +35,20 @@ fn token_note(alloc: Global, bad: BadToken, cut: Cut<'_>) -> Result<Note, Memory
 
 /// Explains the bad token of a script.
 fn explain_in_script(said: &mut Explained, fault: Fault<'_>, reason: Reason) -> Result<(), Memory> {
+    let is_name = fault.around.level == Level::Statement && !fault.around.part.is_empty();
+    match reason {
+        Reason::Character if is_name && fault.token.first() == Some(&b'@') => {
+            explain_reference(said)
+        }
+        Reason::Character | Reason::End => explain_by_reason(said, fault, reason),
+        _ if is_slashes(fault.token) => explain_slashes(said),
+        _ if is_in_open(fault) => explain_open(said, fault),
+        _ => explain_by_reason(said, fault, reason),
+    }
+}
+
+/// Explains the bad token of a script by its reason.
+fn explain_by_reason(said: &mut Explained, fault: Fault<'_>, reason: Reason) -> Result<(), Memory> {
     match reason {
         Reason::Value => explain_value(said, fault),
         Reason::Statement => explain_syntax(said, fault),
@@ -40,6 +56,8 @@ fn explain_in_script(said: &mut Explained, fault: Fault<'_>, reason: Reason) -> 
         Reason::Set => explain_set(said, fault),
         Reason::TypeWord => explain_type(said, fault),
         Reason::Moment => explain_moment(said, fault),
+        Reason::Time => explain_time(said, fault.token),
+        Reason::LeftOut => explain_left_out(said, fault),
         _ => explain_plainly(said, TextKind::Script, reason, fault.token),
     }
 }
@@ -94,53 +112,63 @@ fn said_of_script(alloc: Global, text: &[u8], bad: BadToken) -> Result<Note, Mem
     said_at(alloc, text, bad, cut_at(text, bad))
 }
 
-/// What a note says after the place of the bad token of another text.
-fn said_of_other(
-    alloc: Global,
-    kind: TextKind,
-    text: &[u8],
-    bad: BadToken,
-) -> Result<Note, Memory> {
-    let cut = cut_at(text, bad);
-    if let Some(what) = swapped(kind, cut.line) {
-        return told_as(alloc, what);
-    }
-    let mut said = Explained::new(alloc);
-    match bad.reason {
-        Reason::Value => explain_key_value(&mut said, b"", count_of(cut.front, b"."), cut.token)?,
-        reason => explain_plainly(&mut said, kind, reason, cut.token)?,
-    }
-    with_source(alloc, &said, bad, cut)
-}
-
-/// What a note says after the place of a key file's bad token.
-fn said_of_keys(
-    alloc: Global,
+/// Explains a bad token of a key file's line.
+fn explain_in_keys(
+    said: &mut Explained,
     schema: &Schema,
-    text: &[u8],
     bad: BadToken,
-) -> Result<Note, Memory> {
-    let cut = cut_at(text, bad);
-    if let Some(what) = foreign(text).or(swapped(TextKind::Keys, cut.line)) {
-        return told_as(alloc, what);
-    }
-    let type_item = type_item(alloc, schema, cut.line)?;
+    cut: Cut<'_>,
+) -> Result<(), Memory> {
+    let type_item = type_item(said.alloc, schema, cut.line)?;
     let fault = KeyFault {
         before: cut.front,
         token: cut.token,
         reason: bad.reason,
     };
+    explain_key(said, schema, type_item.as_slice(), fault)
+}
+
+/// Explains a bad token of a rules file or a plan.
+fn explain_beside(
+    said: &mut Explained,
+    kind: TextKind,
+    schema: &Schema,
+    reason: Reason,
+    token: &[u8],
+) -> Result<(), Memory> {
+    match reason {
+        Reason::Set => explain_unknown(said, schema, token),
+        Reason::Character if token.first() == Some(&b'@') => explain_reference(said),
+        _ if is_slashes(token) => explain_slashes(said),
+        _ => explain_plainly(said, kind, reason, token),
+    }
+}
+
+/// What a note says after the place of the bad token of a text beside a script that declares these sets.
+fn said_of_other(
+    alloc: Global,
+    kind: TextKind,
+    schema: &Schema,
+    text: &[u8],
+    bad: BadToken,
+) -> Result<Note, Memory> {
+    let cut = cut_at(text, bad);
+    if let Some(what) = foreign(kind, text).or(swapped(kind, cut.line)) {
+        return told_as(alloc, what);
+    }
     let mut said = Explained::new(alloc);
-    explain_key(&mut said, type_item.as_slice(), fault)?;
+    match kind {
+        TextKind::Keys => explain_in_keys(&mut said, schema, bad, cut)?,
+        _ => explain_beside(&mut said, kind, schema, bad.reason, cut.token)?,
+    }
     with_source(alloc, &said, bad, cut)
 }
 
-/// What a note says after the place of a bad token.
-fn said(alloc: Global, kind: TextKind, text: &[u8], bad: BadToken) -> Result<Note, Memory> {
-    match (foreign(text), kind) {
-        (Some(what), _) => told_as(alloc, what),
-        (None, TextKind::Script) => said_of_script(alloc, text, bad),
-        (None, _) => said_of_other(alloc, kind, text, bad),
+/// What a note says after the place of a script's bad token.
+fn said(alloc: Global, text: &[u8], bad: BadToken) -> Result<Note, Memory> {
+    match foreign(TextKind::Script, text) {
+        Some(what) => told_as(alloc, what),
+        None => said_of_script(alloc, text, bad),
     }
 }
 
@@ -154,8 +182,26 @@ fn placed_note(alloc: Global, name: &str, bad: BadToken, behind: &Note) -> Resul
     Ok(note)
 }
 
-/// The note on a text that isn't in its grammar: `NAME:LINE:COLUMN: what is wrong`, the line of the
-/// text with carets under the bad token, and what could come there or what to do.
+/// The note on a script that isn't in its grammar: `NAME:LINE:COLUMN: what is wrong`, the line of the
+/// script with carets under the bad token, and what could come there or what to do.
+///
+/// # Errors
+///
+/// `Memory` if memory runs out.
+pub fn bad_script_note(
+    alloc: Global,
+    name: &str,
+    text: &[u8],
+    bad: BadToken,
+) -> Result<Note, Memory>
+    ensures place { IfOk result (λ note. Begins (place_text name.now bad.line bad.column) note.bytes.items) }
+{
+    let behind = said(alloc, text, bad)?;
+    placed_note(alloc, name, bad, &behind)
+}
+
+/// The note on a key file, a rules file or a plan that isn't in its grammar, as [`bad_script_note`]. It names the sets
+/// that the script declares, and the number and the type of a field.
 ///
 /// # Errors
 ///
@@ -163,24 +209,6 @@ fn placed_note(alloc: Global, name: &str, bad: BadToken, behind: &Note) -> Resul
 pub fn bad_text_note(
     alloc: Global,
     kind: TextKind,
-    name: &str,
-    text: &[u8],
-    bad: BadToken,
-) -> Result<Note, Memory>
-    ensures place { IfOk result (λ note. Begins (place_text name.now bad.line bad.column) note.bytes.items) }
-{
-    let behind = said(alloc, kind, text, bad)?;
-    placed_note(alloc, name, bad, &behind)
-}
-
-/// The note on a key file that isn't in its grammar, as [`bad_text_note`]. It names the number and the type of
-/// the field in the set of the line.
-///
-/// # Errors
-///
-/// `Memory` if memory runs out.
-pub fn bad_keys_note(
-    alloc: Global,
     schema: &Schema,
     name: &str,
     text: &[u8],
@@ -188,7 +216,7 @@ pub fn bad_keys_note(
 ) -> Result<Note, Memory>
     ensures place { IfOk result (λ note. Begins (place_text name.now bad.line bad.column) note.bytes.items) }
 {
-    let behind = said_of_keys(alloc, schema, text, bad)?;
+    let behind = said_of_other(alloc, kind, schema, text, bad)?;
     placed_note(alloc, name, bad, &behind)
 }
 
@@ -203,7 +231,7 @@ pub fn is_other_kind(alloc: Global, text: &[u8], bad: BadToken) -> Result<bool, 
     let around = around_of(text, bad.at, &mut sets)?;
     let is_swapped = around.level == Level::Statement
         && swapped(TextKind::Script, cut_at(text, bad).line).is_some();
-    Ok(is_swapped || foreign(text).is_some())
+    Ok(is_swapped || foreign(TextKind::Script, text).is_some())
 }
 
 /// The note on a further bad token of a script, after the statements before it that were refused. `rest` is

@@ -27,7 +27,7 @@ fn by_magic(file: &[u8]) -> &'static [u8] {
         [a, b, c, d, ..] if is_of_text(&[*a, *b, *c, *d]) =>
             b"this looks like a text: the script is named first, then the plan, and then the capture",
         [] => b"the file is empty",
-        _ => b"this is no capture in pcap or pcapng",
+        _ => b"this isn't a capture in pcap or pcapng",
     }
 }
 

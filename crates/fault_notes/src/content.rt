@@ -2,16 +2,24 @@
 use crate::help::{SELECTORS, TextKind};
 use crate::words::{is_one_of, last_word};
 
+/// What to do with a capture that was given in the place of a text.
+fn for_capture(kind: TextKind) -> &'static [u8] {
+    match kind {
+        TextKind::Keys =>
+            b"this is a capture of packets, and no key file: 'pipapo capture SCRIPT PLAN PCAP' looks its packets up",
+        TextKind::Rules => b"this is a capture of packets, and no rules file",
+        TextKind::Script | TextKind::Plan =>
+            b"this is a capture of packets: the script is named first, then the plan, and then the capture",
+    }
+}
+
 /// What a file is that is no text of this program, by its first bytes.
-pub(crate) fn foreign(text: &[u8]) -> Option<&'static [u8]> {
+pub(crate) fn foreign(kind: TextKind, text: &[u8]) -> Option<&'static [u8]> {
     if text.starts_with(b"\x1f\x8b") {
         return Some(b"this is a file that gzip has packed: unpack it first");
     }
-    if text.starts_with(b"\x0a\x0d\x0d\x0a") {
-        return Some(b"this is a capture of packets (pcapng), and no text");
-    }
-    if is_pcap(text) {
-        return Some(b"this is a capture of packets (pcap), and no text");
+    if text.starts_with(b"\x0a\x0d\x0d\x0a") || is_pcap(text) {
+        return Some(for_capture(kind));
     }
     if text.starts_with(b"\xef\xbb\xbf") {
         return Some(b"the text begins with a byte order mark of UTF-8: leave its three bytes out");
@@ -61,6 +69,14 @@ pub(crate) fn without_blanks(text: &[u8]) -> &[u8] {
     }
 }
 
+/// The bytes before the blanks at the end.
+pub(crate) fn without_blanks_behind(text: &[u8]) -> &[u8] {
+    match text.iter().rposition(|b| !is_blank(*b)) {
+        Some(i) => &text[..i + 1],
+        None => &[],
+    }
+}
+
 /// The bytes before the first blank.
 fn first_word(line: &[u8]) -> &[u8] {
     match line.iter().position(|b| is_blank(*b)) {
@@ -96,12 +112,19 @@ pub(crate) fn swapped(kind: TextKind, line: &[u8]) -> Option<&'static [u8]> {
     match kind {
         TextKind::Script if is_plan => {
             Some(
-                b"this looks like a plan: the script is named first, then the plan, and then the capture",
+                b"this looks like a plan, and a script is expected here: 'capture' takes a plan after it",
+            )
+        }
+        TextKind::Script if begins_a_rules_file(word) => {
+            Some(
+                b"this looks like a rules file, and a script is expected here: 'judge' takes a rules file after it",
             )
         }
         TextKind::Keys if is_plan => Some(b"this looks like a plan, which only 'capture' takes"),
         TextKind::Script if is_family(word) => {
-            Some(b"this looks like a key file: the script is named first, and then the key file")
+            Some(
+                b"this looks like a key file, and a script is expected here: 'run' and 'judge' take a key file after it",
+            )
         }
         TextKind::Keys if begins_a_statement(word) => {
             Some(b"this looks like a script: the script is named first, and then the key file")
@@ -119,6 +142,11 @@ pub(crate) fn swapped(kind: TextKind, line: &[u8]) -> Option<&'static [u8]> {
         TextKind::Rules if begins_a_statement(word) => {
             Some(
                 b"this looks like a script: the script is named first, then the rules file, and then the key file",
+            )
+        }
+        TextKind::Plan if is_family(word) && matches!(last_word(line), [b'0'..=b'9', ..]) => {
+            Some(
+                b"this looks like a key file: the script is named first, then the plan, and then the capture",
             )
         }
         TextKind::Plan if begins_a_statement(word) => {

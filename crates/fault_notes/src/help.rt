@@ -38,9 +38,9 @@ pub(crate) const TIME: &[u8] =
 /// How a set's size is written.
 pub(crate) const SIZE: &[u8] = b"write a number from 1 to 4294967295";
 
-const NO_CHAINS: &[u8] = b"remove chains and rules: a script has sets alone";
+const NO_CHAINS: &[u8] = b"remove chains and rules: a script has only sets and their elements";
 
-const NO_MAPS: &[u8] = b"remove maps and flowtables: a script has sets alone";
+const NO_MAPS: &[u8] = b"remove maps and flowtables: a script has only sets and their elements";
 
 const NO_COUNTERS: &[u8] = b"remove it: elements have no counters, quotas and limits";
 
@@ -49,11 +49,7 @@ const NO_VARIABLES: &[u8] = b"write the values themselves: there are no variable
 const NO_FLAG: &[u8] = b"remove the flag: the flags are interval, timeout and disjoint";
 
 /// Words that nft(8) reads and this program doesn't, and what to do about each.
-const LEFT_OUT: [(&[u8], &[u8]); 16] = [
-    (
-        b"*",
-        b"write all values as a prefix or a range, as 0.0.0.0/0",
-    ),
+const LEFT_OUT: [(&[u8], &[u8]); 15] = [
     (b"chain", NO_CHAINS),
     (b"rule", NO_CHAINS),
     (b"map", NO_MAPS),
@@ -77,23 +73,29 @@ const LEFT_OUT: [(&[u8], &[u8]); 16] = [
     (b"dynamic", NO_FLAG),
 ];
 
-/// What to do about a word that nft(8) reads and this program doesn't.
+/// What to do about a word that nft(8) reads and this program doesn't. Every other such word is `*` here.
 fn for_left_out(word: &[u8]) -> &'static [u8] {
     for (other, help) in &LEFT_OUT {
         if *other == word {
             return *help;
         }
     }
-    b"write 'add set' to declare a set, or 'flush set' to remove its elements"
+    b"write all values as a prefix or a range, as 0.0.0.0/0"
 }
 
 /// What to do about a token that begins with this byte, which begins no word and no string.
 fn for_character(first: Option<&u8>) -> &'static [u8] {
     match first {
         Some(b'"') => b"end the string with '\"' in its line, after at most 128 bytes",
-        Some(b'$' | b'@') =>
-            b"write the values themselves: there are no variables, and no references to sets",
+        Some(b'$') => b"write the values themselves: there are no variables",
+        Some(b'@') => b"write the values themselves: there are no references to sets",
         Some(b'\'') => b"write strings between '\"'",
+        Some(b'[' | b']' | b'(' | b')') =>
+            b"leave the brackets out: a range is written as 80-90, and a list as { 80, 90 }",
+        Some(b'!' | b'<' | b'>') =>
+            b"write the values that the set holds: there is no negation and no comparison",
+        Some(b'|' | b'&' | b'^' | b'+') => b"write the value itself: there are no operators",
+        Some(b'\\') => b"end the line right after it, or leave it out",
         Some(128..=255) => b"write ASCII: other characters may be in strings and comments only",
         _ => b"words have letters, digits and '_', '.', '/', ':', '-'; a comment begins with '#'",
     }
@@ -147,6 +149,24 @@ fn explain_line(said: &mut Explained, kind: TextKind, word: &[u8]) -> Result<(),
         ),
         _ => said.say(b" can't come here", for_statement(kind)),
     }
+}
+
+/// Explains a `@` in front of a set's name.
+pub(crate) fn explain_reference(said: &mut Explained) -> Result<(), Memory> {
+    said.say(
+        b" is an unexpected character",
+        b"write the set's name without '@'",
+    )
+}
+
+/// Explains a token that begins a comment in other languages.
+pub(crate) fn explain_slashes(said: &mut Explained) -> Result<(), Memory> {
+    said.say(b" doesn't begin a comment", b"begin a comment with '#'")
+}
+
+/// Whether a token begins a comment in other languages.
+pub(crate) fn is_slashes(token: &[u8]) -> bool {
+    token == b"/".as_slice() || token.starts_with(b"//")
 }
 
 /// Explains a bad token by its reason.

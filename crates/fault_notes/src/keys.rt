@@ -2,12 +2,13 @@
 use crate::around::set_named;
 use crate::content::is_family;
 use crate::explained::Explained;
-use crate::help::{TextKind, explain_plainly};
-use crate::refused::SetWords;
+use crate::help::{TextKind, explain_plainly, explain_reference, explain_slashes, is_slashes};
+use crate::refused::{is_same, words_of};
+use crate::sets::explain_unknown;
 use crate::syntax::explain_fields;
 use crate::values::{explain_key_value, word_of};
 use crate::words::{count_of, kind_at, last_word, word_at};
-use set_model::{Family, Kind, Memory, Schema, SetDecl};
+use set_model::{Kind, Memory, Schema};
 use std::alloc::Global;
 use text_pieces::{Piece, append_pieces};
 use token_forms::Reason;
@@ -20,24 +21,6 @@ pub(crate) struct KeyFault<'a> {
     /// Its bytes. A line feed and the end of the text have none.
     pub(crate) token: &'a [u8],
     pub(crate) reason: Reason,
-}
-
-fn family_word(family: Family) -> &'static [u8] {
-    match family {
-        Family::Ip => b"ip",
-        Family::Ip6 => b"ip6",
-        Family::Inet => b"inet",
-        Family::Arp => b"arp",
-        Family::Bridge => b"bridge",
-        Family::Netdev => b"netdev",
-    }
-}
-
-/// Whether a set has this family, table and name.
-fn is_named(set: &SetDecl, words: SetWords<'_>) -> bool {
-    family_word(set.family) == words.family
-        && set.table.as_slice() == words.table
-        && set.name.as_slice() == words.name
 }
 
 /// The item `type` of a set that is declared, as a script has it.
@@ -61,7 +44,7 @@ fn type_item_of(alloc: Global, kinds: &[Kind]) -> Result<Vec<u8>, Memory> {
 pub(crate) fn type_item(alloc: Global, schema: &Schema, line: &[u8]) -> Result<Vec<u8>, Memory> {
     let words = set_named(line, 0);
     for set in schema.as_slice() {
-        if is_named(set, words) {
+        if is_same(words_of(set), words) {
             return type_item_of(alloc, set.kinds.as_slice());
         }
     }
@@ -101,13 +84,27 @@ fn explain_place(
         b"" if is_known && has_more => {
             explain_fields(said, b" ends the key after ", fields, type_item)
         }
+        b"" => explain_plainly(said, TextKind::Keys, fault.reason, fault.token),
+        _ if is_known && has_more => {
+            said.say(b" can't follow a value", b"write ' . ' between fields")
+        }
+        _ if is_known => said.say(
+            b" can't follow the last field",
+            b"write each key in a line of its own",
+        ),
         _ => explain_plainly(said, TextKind::Keys, fault.reason, fault.token),
     }
+}
+
+/// Whether a token is at the place of a word of its set's name.
+fn is_in_name(before: &[u8]) -> bool {
+    word_at(before, name_count(before).saturating_sub(1)).is_empty()
 }
 
 /// Explains a bad token of a key file, by the types of its line's set.
 pub(crate) fn explain_key(
     said: &mut Explained,
+    schema: &Schema,
     type_item: &[u8],
     fault: KeyFault<'_>,
 ) -> Result<(), Memory> {
@@ -116,6 +113,15 @@ pub(crate) fn explain_key(
             let number = count_of(fault.before, b".");
             explain_key_value(said, type_item, number, fault.token)
         }
+        Reason::Set => explain_unknown(said, schema, fault.token),
+        Reason::Character if fault.token.first() == Some(&b'@') && is_in_name(fault.before) => {
+            explain_reference(said)
+        }
+        Reason::LeftOut if fault.token == b"*".as_slice() => said.say(
+            b" isn't a value",
+            b"write one value: a packet has one in each field",
+        ),
+        Reason::Statement if is_slashes(fault.token) => explain_slashes(said),
         Reason::Statement | Reason::End => explain_place(said, type_item, fault),
         reason => explain_plainly(said, TextKind::Keys, reason, fault.token),
     }

@@ -10,7 +10,7 @@
 //!     help: write a number from 0 to 65535
 //!
 //! One walk over the tokens before a script's bad token finds what surrounds it: the braces, the
-//! statement, the element so far, and the sets that are declared ([`bad_text_note`]). In the example it
+//! statement, the element so far, and the sets that are declared ([`bad_script_note`]). In the example it
 //! finds the set `ip t p`, its type `inet_service`, and that the token is for field 1. A misspelt word is
 //! compared with the words that may come there. At most a third of its letters may differ: so `intervall`
 //! gives `did you mean 'interval'?`.
@@ -45,11 +45,12 @@ mod rest;
 mod sets;
 mod source;
 mod syntax;
+mod times;
 mod told;
 mod values;
 mod words;
 
-pub use bad::{bad_keys_note, bad_text_note, further_note, is_other_kind};
+pub use bad::{bad_script_note, bad_text_note, further_note, is_other_kind};
 pub use captures::capture_note;
 pub use explained::Explained;
 pub use files::{explained_note, read_fault_note, too_large_note, too_many_clerks_note};

@@ -55,7 +55,7 @@ fn alone(why: Why) -> &'static [u8] {
         Why::Exists { .. } => b" exists already",
         Why::Full => b" doesn't fit: the set has as many elements as it may have",
         Why::RulesFull { .. } => b" doesn't fit: a field would have more than 1048576 rules",
-        Why::Missing => b" is no element of the set",
+        Why::Missing => b" isn't in the set",
     }
 }
 

@@ -2,9 +2,10 @@
 use crate::around::{Level, SetText, set_named};
 use crate::explained::{Explained, Fault};
 use crate::near::nearest;
-use crate::refused::SetWords;
+use crate::refused::{SetWords, words_of};
 use crate::words::word_at;
-use set_model::Memory;
+use set_model::{Memory, Schema};
+use std::alloc::Global;
 use text_pieces::Piece;
 
 /// How many sets are named in a note.
@@ -79,14 +80,11 @@ impl Explained {
         )
     }
 
-    /// Adds the first of the sets that are declared.
-    fn add_sets(&mut self, sets: &[SetText<'_>]) -> Result<(), Memory> {
-        let mut front: &[u8] = b"the sets declared before are ";
-        if sets.is_empty() {
-            return self.help.say(b"declare the set first: add set [FAMILY] TABLE SET { type .. }");
-        }
+    /// Adds the first of these sets, after words.
+    fn add_sets<'x>(&mut self, words: &'x [u8], sets: &[SetWords<'x>]) -> Result<(), Memory> {
+        let mut front = words;
         for set in sets.iter().take(MOST_NAMED) {
-            match self.add_set(front, set.words, b"") {
+            match self.add_set(front, *set, b"") {
                 Ok(()) => front = b", ",
                 Err(_) => return Err(Memory),
             }
@@ -100,17 +98,19 @@ impl Explained {
 }
 
 /// The first declared set that was probably meant: one of the same name, or of a similar one.
-fn meant<'a>(said: &Explained, fault: Fault<'a>) -> Result<Option<SetWords<'a>>, Memory> {
-    if let Some(place) = fault
-        .sets
-        .iter()
-        .position(|set| set.words.name == fault.token)
-    {
-        return Ok(fault.sets.get(place).map(|set| set.words));
+fn meant<'a>(
+    alloc: Global,
+    name: &[u8],
+    sets: &[SetWords<'a>],
+) -> Result<Option<SetWords<'a>>, Memory> {
+    for set in sets {
+        if set.name == name {
+            return Ok(Some(*set));
+        }
     }
-    for set in fault.sets {
-        match nearest(said.alloc, fault.token, &[set.words.name]) {
-            Ok(Some(_)) => return Ok(Some(set.words)),
+    for set in sets {
+        match nearest(alloc, name, &[set.name]) {
+            Ok(Some(_)) => return Ok(Some(*set)),
             Ok(None) => {}
             Err(_) => return Err(Memory),
         }
@@ -118,14 +118,63 @@ fn meant<'a>(said: &Explained, fault: Fault<'a>) -> Result<Option<SetWords<'a>>,
     Ok(None)
 }
 
+/// Says which of these sets was probably meant by a name, or else which there are.
+fn suggest_set<'x>(
+    said: &mut Explained,
+    name: &[u8],
+    words: &'x [u8],
+    sets: &[SetWords<'x>],
+) -> Result<(), Memory> {
+    match meant(said.alloc, name, sets)? {
+        Some(set) => said.add_set(b"did you mean '", set, b"'?"),
+        None => said.add_sets(words, sets),
+    }
+}
+
+/// The names of sets of a script.
+fn names_of<'a>(alloc: Global, sets: &[SetText<'a>]) -> Result<Vec<SetWords<'a>>, Memory> {
+    let names = sets.iter().map(|set| set.words).collect(alloc)?;
+    Ok(names)
+}
+
 /// Explains the name of a set that isn't declared.
 fn explain_used(said: &mut Explained, fault: Fault<'_>) -> Result<(), Memory> {
     said.wrong
         .say(b" isn't a set that is declared before this place")?;
-    match meant(said, fault)? {
-        Some(set) => said.add_set(b"did you mean '", set, b"'?"),
-        None => said.add_sets(fault.sets),
+    if fault.sets.is_empty() {
+        return said.help.say(b"declare the set first: add set [FAMILY] TABLE SET { type .. }");
     }
+    let names = names_of(said.alloc, fault.sets)?;
+    suggest_set(
+        said,
+        fault.token,
+        b"the sets declared before are ",
+        names.as_slice(),
+    )
+}
+
+/// The names of the sets that a script declares.
+fn declared_names(alloc: Global, schema: &Schema) -> Result<Vec<SetWords<'_>>, Memory> {
+    let names = schema
+        .as_slice()
+        .iter()
+        .map(|set| words_of(set))
+        .collect(alloc)?;
+    Ok(names)
+}
+
+/// Explains the name of a set that the script doesn't declare, in a text beside the script.
+pub(crate) fn explain_unknown(
+    said: &mut Explained,
+    schema: &Schema,
+    name: &[u8],
+) -> Result<(), Memory> {
+    said.wrong.say(b" isn't a set of the script")?;
+    let names = declared_names(said.alloc, schema)?;
+    if names.is_empty() {
+        return said.help.say(b"the script declares no set");
+    }
+    suggest_set(said, name, b"the script's sets are ", names.as_slice())
 }
 
 /// Explains a word at the place of a set's name.

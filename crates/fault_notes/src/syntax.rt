@@ -1,12 +1,14 @@
 //! Explains a token that can't come at its place of a script: what may come there.
 use crate::around::{Level, set_named};
 use crate::explained::{Explained, Fault};
-use crate::help::{SIZE, TIME};
+use crate::help::{SIZE, TIME, TextKind, explain_plainly};
 use crate::source::shortened;
-use crate::values::{explain_quoted, types_of};
+use crate::times::{explain_time, explain_unit, is_apart};
+use crate::values::{explain_all, explain_quoted, types_of};
 use crate::words::{count_of, is_one_of, kind_at, last_word, word_at};
 use set_model::Memory;
 use text_pieces::Piece;
+use token_forms::Reason;
 
 /// The words that begin a statement.
 const STATEMENTS: [&[u8]; 10] = [
@@ -40,6 +42,24 @@ const TYPES: [&[u8]; 6] = [
     b"mark",
 ];
 
+/// Words that are taken for types, and the types that are meant.
+const OTHER_TYPES: [(&[u8], &[u8]); 14] = [
+    (b"inet_port", b"inet_service"),
+    (b"port", b"inet_service"),
+    (b"service", b"inet_service"),
+    (b"tcp_port", b"inet_service"),
+    (b"udp_port", b"inet_service"),
+    (b"proto", b"inet_proto"),
+    (b"protocol", b"inet_proto"),
+    (b"ip", b"ipv4_addr"),
+    (b"ip_addr", b"ipv4_addr"),
+    (b"ip6", b"ipv6_addr"),
+    (b"ip6_addr", b"ipv6_addr"),
+    (b"mac", b"ether_addr"),
+    (b"mac_addr", b"ether_addr"),
+    (b"lladdr", b"ether_addr"),
+];
+
 const TABLE_NAME: &[u8] = b"a table is named by [FAMILY] TABLE; a name begins with a letter or '_'";
 
 const SET_NAME: &[u8] = b"a set is named by [FAMILY] TABLE SET; a name begins with a letter or '_'";
@@ -56,13 +76,13 @@ fn explain_end(said: &mut Explained, help: &[u8]) -> Result<(), Memory> {
 /// Explains the first token of a statement.
 fn explain_first(said: &mut Explained, fault: Fault<'_>) -> Result<(), Memory> {
     match fault.token {
-        b"set" => said.say(b" begins no statement", b"write 'add' before it"),
+        b"set" => said.say(b" can't begin a statement", b"write 'add' before it"),
         b"element" => said.say(
-            b" begins no statement",
+            b" can't begin a statement",
             b"write 'add', 'create', 'delete' or 'destroy' before it",
         ),
         word => said.suggest(
-            b" begins no statement",
+            b" can't begin a statement",
             word,
             &STATEMENTS,
             b"a statement begins with add, create, delete, destroy, flush, table, at, commit, abort or round",
@@ -141,10 +161,68 @@ fn explain_place(said: &mut Explained, fault: Fault<'_>) -> Result<(), Memory> {
     }
     match word_at(part, 0) {
         b"flush" => explain_end(said, END_STATEMENT),
+        _ if word_at(part, 1) == b"element".as_slice() => said.say(
+            b" can't follow the set's name",
+            b"write the elements in braces after it, as: { 80, 443 }",
+        ),
         _ => said.say(
             b" can't follow the set's name",
             b"write '{' after the set's name",
         ),
+    }
+}
+
+/// Explains a token that nft(8) reads here and this program doesn't.
+pub(crate) fn explain_left_out(said: &mut Explained, fault: Fault<'_>) -> Result<(), Memory> {
+    let verb = word_at(fault.around.part, 0);
+    match fault.token {
+        b"*" => explain_all(said, fault),
+        b"set" if verb == b"create".as_slice() => {
+            said.say(
+                b" can't follow 'create'",
+                b"write 'add set' to declare a set",
+            )
+        }
+        b"table" if verb == b"create".as_slice() => said.say(
+            b" can't follow 'create'",
+            b"write 'add table' to declare a table",
+        ),
+        b"set" => said.say(
+            b" can't be deleted",
+            b"write 'flush set' to remove the set's elements",
+        ),
+        b"table" => said.say(
+            b" can't be deleted",
+            b"write 'flush set' for each set, to remove its elements",
+        ),
+        word => explain_plainly(said, TextKind::Script, Reason::LeftOut, word),
+    }
+}
+
+/// Explains a word that begins a statement and comes within braces, which are still open.
+pub(crate) fn explain_open(said: &mut Explained, fault: Fault<'_>) -> Result<(), Memory> {
+    said.tell(
+        &[Piece::Word(match fault.around.level {
+            Level::Elements => b" can't come in a list",
+            Level::Set => b" can't come in a set",
+            _ => b" can't come in a table",
+        })],
+        &[
+            Piece::Word(b"close the '{' of line "),
+            Piece::Number(fault.around.open_line()),
+            Piece::Word(b" with '}' first"),
+        ],
+    )
+}
+
+/// Whether a word begins a statement or a set, and comes in a set or a list.
+pub(crate) fn is_in_open(fault: Fault<'_>) -> bool {
+    let begins = is_one_of(fault.token, &STATEMENTS) || fault.token == b"set".as_slice();
+    match fault.around.level {
+        Level::Elements => begins,
+        Level::Set => begins && fault.around.part.is_empty(),
+        Level::Table => { fault.around.part.is_empty() && is_one_of(fault.token, &STATEMENTS[2..]) }
+        Level::Statement => false,
     }
 }
 
@@ -171,6 +249,14 @@ fn explain_in_statement(said: &mut Explained, fault: Fault<'_>) -> Result<(), Me
 fn explain_in_table(said: &mut Explained, fault: Fault<'_>) -> Result<(), Memory> {
     let part = fault.around.part;
     match word_at(part, 0) {
+        b"" if is_one_of(fault.token, &[b"add", b"create"]) => said.tell(
+            &[Piece::Word(b" can't come in a table")],
+            &[
+                Piece::Word(b"write 'set' alone, or close the '{' of line "),
+                Piece::Number(fault.around.open_line()),
+                Piece::Word(b" with '}' first"),
+            ],
+        ),
         b"" => said.suggest(
             b" can't come in a table",
             fault.token,
@@ -226,7 +312,19 @@ fn explain_in_item(said: &mut Explained, fault: Fault<'_>) -> Result<(), Memory>
     let part = fault.around.part;
     let word = fault.token;
     let last = last_word(part);
+    if is_apart(part, word) {
+        return explain_unit(said, last, word);
+    }
     match word_at(part, 0) {
+        b"flags" if last == b"timeout".as_slice() && matches!(word, [b'0'..=b'9', ..]) => {
+            said.tell(
+                &[Piece::Word(b" can't follow a flag")],
+                &[
+                    Piece::Word(b"write the time as an item of its own: flags timeout; timeout "),
+                    Piece::Word(shortened(word)),
+                ],
+            )
+        }
         b"type" if last == b"type".as_slice() || last == b".".as_slice() => said.say(
             b" isn't a type",
             b"a type is expected, as ipv4_addr",
@@ -259,9 +357,9 @@ fn explain_in_item(said: &mut Explained, fault: Fault<'_>) -> Result<(), Memory>
             &[b"performance", b"memory"],
             b"the policies are performance and memory",
         ),
-        b"comment" if last == b"comment".as_slice() => explain_comment(said, word),
+        b"comment" if last == b"comment".as_slice() => explain_comment(said, fault),
         b"timeout" | b"gc-interval" if is_one_of(last, &[b"timeout", b"gc-interval"]) => {
-            said.say(b" isn't a time", TIME)
+            explain_time(said, word)
         }
         b"size" if last == b"size".as_slice() => said.say(b" isn't a size", SIZE),
         b"elements" if last == b"elements".as_slice() => said.say(
@@ -277,8 +375,8 @@ fn explain_in_item(said: &mut Explained, fault: Fault<'_>) -> Result<(), Memory>
 }
 
 /// Explains a token in the place of a comment's string.
-fn explain_comment(said: &mut Explained, word: &[u8]) -> Result<(), Memory> {
-    if is_one_of(word, &[b"", b",", b";", b"}"]) {
+fn explain_comment(said: &mut Explained, fault: Fault<'_>) -> Result<(), Memory> {
+    if is_one_of(fault.token, &[b"", b",", b";", b"}"]) {
         return said.say(
             b" can't follow 'comment'",
             b"write the comment in quotes, as: comment \"web\"",
@@ -288,7 +386,7 @@ fn explain_comment(said: &mut Explained, word: &[u8]) -> Result<(), Memory> {
         &[Piece::Word(b" isn't in quotes")],
         &[
             Piece::Word(b"quote the comment: comment \""),
-            Piece::Word(shortened(word)),
+            Piece::Word(shortened(fault.around.rest_from(fault.at))),
             Piece::Word(b"\""),
         ],
     )
@@ -302,7 +400,15 @@ fn explain_no_value(said: &mut Explained, fault: Fault<'_>) -> Result<(), Memory
             b" has no element before it",
             b"write one ',' between elements",
         ),
-        _ => said.say(b" isn't an element", b"an element or '}' is expected"),
+        b"{" if fault.around.part.is_empty() => said.say(
+            b" begins a list in a list",
+            b"write one pair of braces around all elements, as: { 80, 443 }",
+        ),
+        b"{" => said.say(
+            b" begins a list in an element",
+            b"write an element for each value, as: 192.0.2.1 . 80, 192.0.2.1 . 443",
+        ),
+        _ => said.say(b" isn't an element", b"write an element or '}' here"),
     }
 }
 
@@ -343,10 +449,13 @@ fn explain_behind(said: &mut Explained, fault: Fault<'_>) -> Result<(), Memory> 
     let word = fault.token;
     let last = last_word(fault.around.part);
     if last == b"comment".as_slice() {
-        return explain_comment(said, word);
+        return explain_comment(said, fault);
     }
     if is_one_of(last, &OPTIONS) {
-        return said.say(b" isn't a time", TIME);
+        return explain_time(said, word);
+    }
+    if is_apart(fault.around.part, word) {
+        return explain_unit(said, last, word);
     }
     match word {
         [b'-', ..] => said.say(
@@ -446,9 +555,21 @@ pub(crate) fn explain_type(said: &mut Explained, fault: Fault<'_>) -> Result<(),
             b"a key has 16 fields and 64 bytes at most: ipv6_addr takes 16 of them, ether_addr 8, each other type 4",
         );
     }
+    if fault.token.contains(&b'.') {
+        return said.say(
+            b" isn't a type",
+            b"write '.' with blanks around it between types, as: ipv4_addr . inet_service",
+        );
+    }
+    let mut meant = fault.token;
+    for (other, kind) in &OTHER_TYPES {
+        if *other == fault.token {
+            meant = *kind;
+        }
+    }
     said.suggest(
         b" isn't a supported type",
-        fault.token,
+        meant,
         &TYPES,
         b"the types are ipv4_addr, ipv6_addr, ether_addr, inet_proto, inet_service and mark",
     )

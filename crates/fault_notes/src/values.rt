@@ -2,7 +2,7 @@
 use crate::content::without_blanks;
 use crate::explained::{Explained, Fault};
 use crate::source::{first_of, shortened};
-use crate::words::{count_of, kind_at};
+use crate::words::{count_of, is_number, kind_at};
 use addr_text::{read_interval, read_number, read_value};
 use set_model::{Kind, Memory};
 use text_pieces::Piece;
@@ -31,6 +31,8 @@ enum WrongValue<'a> {
     LongPrefix(&'a [u8]),
     /// A `/` isn't followed by a number.
     NoPrefix(&'a [u8]),
+    /// A netmask follows the `/` after this address: its bits.
+    Netmask(&'a [u8], &'a [u8], u64),
     /// A range's first value is greater than its second.
     Reversed(&'a [u8], &'a [u8]),
     /// A range has a `:` in place of `-` between these values.
@@ -148,10 +150,6 @@ fn last_of(kind: Kind) -> &'static [u8] {
     }
 }
 
-fn is_number(word: &[u8]) -> bool {
-    !word.is_empty() && word.iter().all(|byte| byte.is_ascii_digit())
-}
-
 /// The word before its first `-` or `/`, and the rest.
 fn first_end(word: &[u8]) -> (&[u8], &[u8]) {
     match word.iter().position(|byte| *byte == b'-' || *byte == b'/') {
@@ -210,6 +208,34 @@ fn colon_between(kind: Kind, word: &[u8]) -> Option<(&[u8], &[u8])> {
     }
 }
 
+/// How many bits a netmask has, as 24 for 255.255.255.0.
+fn mask_bits(word: &[u8]) -> Option<u64> {
+    let Ok(mask) = read_value(Kind::Ipv4, word) else {
+        return None;
+    };
+    if mask > 4_294_967_295 {
+        return None;
+    }
+    let mask = mask as u32;
+    let ones = mask.count_ones();
+    if ones.saturating_add(mask.trailing_zeros()) == 32 {
+        Some(u64::from(ones))
+    } else {
+        None
+    }
+}
+
+/// What is wrong with what follows the `/` after an address.
+fn wrong_prefix<'a>(kind: Kind, low: &'a [u8], digits: &'a [u8]) -> WrongValue<'a> {
+    if is_number(digits) {
+        return WrongValue::LongPrefix(digits);
+    }
+    match mask_bits(digits) {
+        Some(bits) if kind == Kind::Ipv4 => WrongValue::Netmask(low, digits, bits),
+        _ => WrongValue::NoPrefix(digits),
+    }
+}
+
 /// What is wrong with a word that is no interval of a kind.
 fn wrong_interval(kind: Kind, word: &[u8]) -> WrongValue<'_> {
     if let Some((low, high)) = colon_between(kind, word) {
@@ -223,8 +249,7 @@ fn wrong_interval(kind: Kind, word: &[u8]) -> WrongValue<'_> {
         };
     }
     match rest {
-        [b'/', digits @ ..] if is_number(digits) => WrongValue::LongPrefix(digits),
-        [b'/', digits @ ..] => WrongValue::NoPrefix(digits),
+        [b'/', digits @ ..] => wrong_prefix(kind, low, digits),
         [b'-', high @ ..] if read_value(kind, high).is_ok() => WrongValue::Reversed(low, high),
         [b'-', high @ ..] => wrong_end(kind, high),
         _ => WrongValue::NoValue(word),
@@ -330,6 +355,15 @@ impl Explained {
                 &[
                     Piece::Word(b"write a prefix from /0 to /"),
                     Piece::Number(u64::from(kind.bits())),
+                ],
+            ),
+            WrongValue::Netmask(low, mask, bits) => self.tell(
+                &[Piece::Word(shortened(mask)), Piece::Word(b" is a netmask")],
+                &[
+                    Piece::Word(b"write the prefix length: "),
+                    Piece::Word(shortened(low)),
+                    Piece::Word(b"/"),
+                    Piece::Number(bits),
                 ],
             ),
             WrongValue::Reversed(low, high) => self.tell(
@@ -507,6 +541,29 @@ pub(crate) fn explain_key_value(
             said.misfit(field)?;
             said.wrong_value(field, wrong)
         }
+    }
+}
+
+/// All values of a kind, as an interval.
+fn all_of(kind: Kind) -> &'static [u8] {
+    match kind {
+        Kind::Ipv4 => b"write all addresses as 0.0.0.0/0",
+        Kind::Ipv6 => b"write all addresses as ::/0",
+        Kind::Ether => b"write all addresses as 00:00:00:00:00:00-ff:ff:ff:ff:ff:ff",
+        Kind::Proto => b"write all protocols as 0-255",
+        Kind::Service => b"write all ports as 0-65535",
+        Kind::Mark => b"write all marks as 0-4294967295",
+    }
+}
+
+/// Explains a `*` at the place of a value.
+pub(crate) fn explain_all(said: &mut Explained, fault: Fault<'_>) -> Result<(), Memory> {
+    match field_at(fault) {
+        Some(field) => said.say(b" isn't supported", all_of(field.kind)),
+        None => said.say(
+            b" isn't supported",
+            b"write all values as a prefix or a range, as 0.0.0.0/0",
+        ),
     }
 }
 

@@ -28,20 +28,33 @@ pub(crate) fn word_at(text: &[u8], number: u64) -> &[u8] {
     b""
 }
 
-/// The last token of a text that is no line feed.
-pub(crate) fn last_word(text: &[u8]) -> &[u8] {
-    let mut last = Token {
+/// The last two tokens of a text that are no line feeds. A token that is missing is empty.
+pub(crate) fn last_words(text: &[u8]) -> (&[u8], &[u8]) {
+    let none = Token {
         kind: TokenKind::End,
         line: 1,
         from: 0,
         to: 0,
     };
+    let mut before = none;
+    let mut last = none;
     for token in Tokens::new(text) {
         if !matches!(token.kind, TokenKind::Break | TokenKind::End) {
+            before = last;
             last = token;
         }
     }
-    bytes_of(text, last)
+    (bytes_of(text, before), bytes_of(text, last))
+}
+
+/// The last token of a text that is no line feed.
+pub(crate) fn last_word(text: &[u8]) -> &[u8] {
+    last_words(text).1
+}
+
+/// Whether a word is a number in decimal.
+pub(crate) fn is_number(word: &[u8]) -> bool {
+    !word.is_empty() && word.iter().all(|byte| byte.is_ascii_digit())
 }
 
 /// How often a word is in a text.

@@ -10,7 +10,7 @@ use Rattle.ruleset_sets.proofs.KeptLaws.{kept_script}
 use Rattle.key_file.specs.KeysText.{IsKeysText}
 use Rattle.rule_chain.specs.RulesText.{IsRulesText}
 use Rattle.pcap_keys.specs.PlansText.{IsPlanText}
-use Rattle.command_words.specs.Words.{Command, run, list, dump, drill, judge, capture as capture_command, desk, get, compare, sets_of}
+use Rattle.command_words.specs.Words.{Command, run, list, dump, drill, judge, capture as capture_command, desk, get, compare, stat, judge_capture, sets_of}
 use Rattle.input_files.specs.declared.fault.Flaw.{Flaw}
 use Rattle.input_files.specs.declared.fault.Flaw.TheVariants as flaws
 use Rattle.input_files.specs.Inputs.{Input, FileForm, script, second, rules_of_nft, keys, rules, plan, capture, inputs, form_of, IsOf, IsFlawed, ReadsAs}
@@ -150,6 +150,7 @@ first-is-script c a i later e = go c a e where
   go (run s k n g) a e = head-is _ _ a refl e
   go (list s g) a e = head-is _ _ a refl e
   go (dump s g) a e = head-is _ _ a refl e
+  go (stat s g) a e = head-is _ _ a refl e
   go (desk s g) a e = head-is _ _ a refl e
   go (get s k m g) a e = head-is _ _ a refl e
   go (compare f s g) a e = head-is _ _ a refl e
@@ -157,6 +158,7 @@ first-is-script c a i later e = go c a e where
   go (sets_of f) (x ∷ []) e = absurd (cc e)
   go (sets_of f) (x ∷ y ∷ a) e = absurd (cc e)
   go (judge s r k n g) a e = head-is _ _ a refl e
+  go (judge_capture s r p f n g) a e = head-is _ _ a refl e
   go (capture_command s p f n g) a e = head-is _ _ a refl e
   go (drill s k n) [] e = absurd (cc e)
   go (drill s k n) (x ∷ a) e = absurd (cc e)

@@ -20,7 +20,7 @@ use Rattle.pcap_keys.specs.PlansText.{IsPlanText, IsBadPlan}
 use Rattle.pip_base.specs.Causes.{Rose}
 use Rattle.pip_base.specs.Picks.{AsksOnce}
 use Rattle.pip_base.specs.Whole.{size_limit}
-use Rattle.command_words.specs.Words.{Command, run, list, dump, drill, judge, capture as capture_command, desk, get, compare, sets_of}
+use Rattle.command_words.specs.Words.{Command, run, list, dump, drill, judge, capture as capture_command, desk, get, compare, stat, judge_capture, sets_of}
 use Rattle.input_files.specs.declared.fault.Flaw.{Flaw}
 use Rattle.input_files.specs.declared.fault.Flaw.TheVariants as flaws
 use Rattle.input_files.specs.declared.fault.FileFault.{FileFault}
@@ -49,8 +49,10 @@ abbrev pub inputs : Command → List Input
 inputs (run s k threads keep_going) = record { name = s; form = script } ∷ record { name = k; form = keys } ∷ []
 inputs (list s keep_going) = record { name = s; form = script } ∷ []
 inputs (dump s keep_going) = record { name = s; form = script } ∷ []
+inputs (stat s keep_going) = record { name = s; form = script } ∷ []
 inputs (drill seed count threads) = []
 inputs (judge s r k threads keep_going) = record { name = s; form = script } ∷ record { name = r; form = rules } ∷ record { name = k; form = keys } ∷ []
+inputs (judge_capture s r p c threads keep_going) = record { name = s; form = script } ∷ record { name = r; form = rules } ∷ record { name = p; form = plan } ∷ record { name = c; form = capture } ∷ []
 inputs (capture_command s p c threads keep_going) = record { name = s; form = script } ∷ record { name = p; form = plan } ∷ record { name = c; form = capture } ∷ []
 inputs (desk s keep_going) = record { name = s; form = script } ∷ []
 inputs (get s key moment keep_going) = record { name = s; form = script } ∷ []

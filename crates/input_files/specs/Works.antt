@@ -11,7 +11,7 @@ use Rattle.rule_chain.specs.RulesText.{IsRulesText}
 use Rattle.pcap_keys.specs.CapturedPackets.{IsCapture}
 use Rattle.pcap_keys.specs.Fitting.{HasValues, IsPlanned}
 use Rattle.pcap_keys.specs.PlansText.{IsPlanText}
-use Rattle.command_words.specs.Words.{Command, run, list, dump, drill, judge, capture, desk, get, compare, sets_of}
+use Rattle.command_words.specs.Words.{Command, run, list, dump, drill, judge, capture, desk, get, compare, stat, judge_capture, sets_of}
 use Rattle.input_files.specs.declared.work.Work.{Work}
 use Rattle.input_files.specs.declared.work.Work.TheVariants as works
 use Rattle.input_files.specs.Inputs.{ReadsAs}
@@ -29,10 +29,14 @@ IsWork told c (works.Run script keys threads keep_going) =
     (s : List ℕ) × (k : List ℕ) × (c ≡ run s k threads keep_going) × ReadsAs told s (λ text. IsScriptText text script) × ReadsAs told k (λ text. IsKeysText script.schema text keys)
 IsWork told c (works.List script keep_going) = (s : List ℕ) × (c ≡ list s keep_going) × ReadsAs told s (λ text. IsScriptText text script)
 IsWork told c (works.Dump script keep_going) = (s : List ℕ) × (c ≡ dump s keep_going) × ReadsAs told s (λ text. IsScriptText text script)
+IsWork told c (works.Stat script keep_going) = (s : List ℕ) × (c ≡ stat s keep_going) × ReadsAs told s (λ text. IsScriptText text script)
 IsWork told c (works.Drill seed count threads) = c ≡ drill seed count threads
 IsWork told c (works.Judge script chains keys threads keep_going) =
     (s : List ℕ) × (r : List ℕ) × (k : List ℕ) × (c ≡ judge s r k threads keep_going) × ReadsAs told s (λ text. IsScriptText text script)
     × ReadsAs told r (λ text. IsRulesText script.schema text (chains.chains, chains.accept)) × ReadsAs told k (λ text. IsKeysText script.schema text keys)
+IsWork told c (works.JudgeCapture script chains plan frames threads keep_going) =
+    (s : List ℕ) × (r : List ℕ) × (p : List ℕ) × (f : List ℕ) × (c ≡ judge_capture s r p f threads keep_going) × ReadsAs told s (λ text. IsScriptText text script)
+    × ReadsAs told r (λ text. IsRulesText script.schema text (chains.chains, chains.accept)) × ReadsAs told p (λ text. IsPlanText script.schema text plan) × ReadsAs told f (λ text. IsCapture text frames)
 IsWork told c (works.Capture script plan frames threads keep_going) =
     (s : List ℕ) × (p : List ℕ) × (f : List ℕ) × (c ≡ capture s p f threads keep_going) × ReadsAs told s (λ text. IsScriptText text script)
     × ReadsAs told p (λ text. IsPlanText script.schema text plan) × ReadsAs told f (λ text. IsCapture text frames)
@@ -50,8 +54,10 @@ abbrev pub IsDoable : Work → Type 0
 IsDoable (works.Run script keys threads keep_going) = IsRunnable script × All (All (IsFitting script.schema)) keys × FewThreads threads
 IsDoable (works.List script keep_going) = IsRunnable script
 IsDoable (works.Dump script keep_going) = IsRunnable script
+IsDoable (works.Stat script keep_going) = IsRunnable script
 IsDoable (works.Drill seed count threads) = FewThreads threads
 IsDoable (works.Judge script chains keys threads keep_going) = IsRunnable script × (chains.schema ≡ script.schema) × All (All (IsFitting script.schema)) keys × FewThreads threads
+IsDoable (works.JudgeCapture script chains plan frames threads keep_going) = IsRunnable script × (chains.schema ≡ script.schema) × All (IsPlanned script.schema) plan × All HasValues frames × FewThreads threads
 IsDoable (works.Capture script plan frames threads keep_going) = IsRunnable script × All (IsPlanned script.schema) plan × All HasValues frames × FewThreads threads
 IsDoable (works.Desk script keep_going) = IsRunnable script
 IsDoable (works.Get script key moment keep_going) = IsRunnable script

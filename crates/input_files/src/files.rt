@@ -18,7 +18,7 @@ ghost use Rattle.input_files.specs.Noted.{IsNoteOn};
 
 use crate::fault::{FileFault, Flaw};
 use crate::script_told::tell_script;
-use crate::told::{tell_bad, tell_capture, tell_keys, tell_read_fault, tell_too_large};
+use crate::told::{tell_bad, tell_capture, tell_read_fault, tell_too_large};
 use fault_notes::TextKind;
 use key_file::read_keys;
 use pcap_keys::{CaptureError, Frames, Plan, read_capture, read_plan};
@@ -36,7 +36,7 @@ pub fn text_of<'a, F: Shelf, N: Notes>(
     notes: &mut N,
     name: &'a str,
 ) -> Result<Vec<u8>, FileFault<'a>>
-    requires { length (F.asked shelf.old) ≤ 2 }
+    requires { length (F.asked shelf.old) ≤ 3 }
     ensures bytes { IfOk result (λ all. (text : List ℕ) → F.told shelf.old name.now ≡ Some text → all.items ≡ text) }
     ensures limit { IfOk result (λ all. length all.items ≤ size_limit) }
     ensures quiet { OnOk result ((F.asked shelf.new ≡ F.asked shelf.old ++ name.now ∷ []) × (F.faults shelf.new ≡ F.faults shelf.old)) }
@@ -69,7 +69,7 @@ pub fn script_of<'a, F: Shelf, N: Notes>(
     kept: &mut Vec<u8>,
     name: &'a str,
 ) -> Result<Script, FileFault<'a>>
-    requires { length (F.asked shelf.old) ≤ 2 }
+    requires { length (F.asked shelf.old) ≤ 3 }
     ensures runnable { IfOk result IsRunnable }
     ensures read { IfOk result (λ script. ReadsAs (F.told shelf.old) name.now (λ text. IsScriptText text script)) }
     ensures quiet { OnOk result ((F.asked shelf.new ≡ F.asked shelf.old ++ name.now ∷ []) × (F.faults shelf.new ≡ F.faults shelf.old)) }
@@ -115,7 +115,7 @@ pub fn second_script_of<'a, F: Shelf, N: Notes>(
     notes: &mut N,
     name: &'a str,
 ) -> Result<Script, FileFault<'a>>
-    requires { length (F.asked shelf.old) ≤ 2 }
+    requires { length (F.asked shelf.old) ≤ 3 }
     ensures runnable { IfOk result IsRunnable }
     ensures read { IfOk result (λ script. ReadsAs (F.told shelf.old) name.now (λ text. IsScriptText text script)) }
     ensures quiet { OnOk result ((F.asked shelf.new ≡ F.asked shelf.old ++ name.now ∷ []) × (F.faults shelf.new ≡ F.faults shelf.old)) }
@@ -141,7 +141,7 @@ pub fn keys_of<'a, F: Shelf, N: Notes>(
     schema: &Schema,
     name: &'a str,
 ) -> Result<Keys, FileFault<'a>>
-    requires asked { length (F.asked shelf.old) ≤ 2 }
+    requires asked { length (F.asked shelf.old) ≤ 3 }
     requires sets { length schema.now ≤ most_sets }
     ensures fits { IfOk result (All (All (IsFitting schema.now))) }
     ensures read { IfOk result (λ keys. ReadsAs (F.told shelf.old) name.now (λ text. IsKeysText schema.now text keys)) }
@@ -162,7 +162,7 @@ pub fn keys_of<'a, F: Shelf, N: Notes>(
         Ok(keys) => Ok(keys),
         Err(FormError::Bad { line, reason }) => {
             let found = key_file::bad_token(alloc, schema, bytes);
-            tell_keys(alloc, notes, schema, name, bytes, found);
+            tell_bad(alloc, notes, TextKind::Keys, schema, name, bytes, found);
             Err(FileFault::Bad(Flaw::Keys { line, reason }))
         }
         Err(FormError::Memory) => Err(FileFault::Memory),
@@ -177,7 +177,7 @@ pub fn rules_of<'a, F: Shelf, N: Notes>(
     schema: &Schema,
     name: &'a str,
 ) -> Result<Chains, FileFault<'a>>
-    requires asked { length (F.asked shelf.old) ≤ 2 }
+    requires asked { length (F.asked shelf.old) ≤ 3 }
     requires sets { length schema.now ≤ most_sets }
     ensures schema { IfOk result (λ c. c.schema ≡ schema.now) }
     ensures read { IfOk result (λ c. ReadsAs (F.told shelf.old) name.now (λ text. IsRulesText schema.now text (c.chains, c.accept))) }
@@ -198,7 +198,7 @@ pub fn rules_of<'a, F: Shelf, N: Notes>(
         Ok(rules) => Ok(rules),
         Err(FormError::Bad { line, reason }) => {
             let found = rule_chain::bad_token(alloc, schema, bytes);
-            tell_bad(alloc, notes, TextKind::Rules, name, bytes, found);
+            tell_bad(alloc, notes, TextKind::Rules, schema, name, bytes, found);
             Err(FileFault::Bad(Flaw::Rules { line, reason }))
         }
         Err(FormError::Memory) => Err(FileFault::Memory),
@@ -213,7 +213,7 @@ pub fn plan_of<'a, F: Shelf, N: Notes>(
     schema: &Schema,
     name: &'a str,
 ) -> Result<Plan, FileFault<'a>>
-    requires asked { length (F.asked shelf.old) ≤ 2 }
+    requires asked { length (F.asked shelf.old) ≤ 3 }
     requires sets { length schema.now ≤ most_sets }
     ensures fits { IfOk result (All (IsPlanned schema.now)) }
     ensures read { IfOk result (λ plan. ReadsAs (F.told shelf.old) name.now (λ text. IsPlanText schema.now text plan)) }
@@ -234,7 +234,7 @@ pub fn plan_of<'a, F: Shelf, N: Notes>(
         Ok(plan) => Ok(plan),
         Err(FormError::Bad { line, reason }) => {
             let found = pcap_keys::bad_token(alloc, schema, bytes);
-            tell_bad(alloc, notes, TextKind::Plan, name, bytes, found);
+            tell_bad(alloc, notes, TextKind::Plan, schema, name, bytes, found);
             Err(FileFault::Bad(Flaw::Plan { line, reason }))
         }
         Err(FormError::Memory) => Err(FileFault::Memory),
@@ -248,7 +248,7 @@ pub fn capture_of<'a, F: Shelf, N: Notes>(
     notes: &mut N,
     name: &'a str,
 ) -> Result<Frames, FileFault<'a>>
-    requires { length (F.asked shelf.old) ≤ 2 }
+    requires { length (F.asked shelf.old) ≤ 3 }
     ensures values { IfOk result (All HasValues) }
     ensures read { IfOk result (λ frames. ReadsAs (F.told shelf.old) name.now (λ text. captured text ≡ Ok frames)) }
     ensures quiet { OnOk result ((F.asked shelf.new ≡ F.asked shelf.old ++ name.now ∷ []) × (F.faults shelf.new ≡ F.faults shelf.old)) }

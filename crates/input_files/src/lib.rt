@@ -10,8 +10,9 @@
 //!     line 1 of packets.keys has a bad token      Bad: Keys, line 1
 //!     both are accepted                           the work: a script and its packets
 //!
-//! A script comes first, and after it a key file, or a rules file and a key file, or a plan and a
-//! capture, or a second script. A ruleset comes alone. [`FileFault`] says why a file fails. A note about it goes to the person at the terminal.
+//! A script comes first, and after it a key file, or a plan and a capture, or a second script. A rules file may
+//! come before the key file or the plan. A ruleset comes alone. [`FileFault`] says why a file fails. A note about it goes to the person at
+//! the terminal.
 //!
 //! **Definitions:** `specs/Inputs.antt` lists the files of each command and the form of each.
 //! `Reads.antt` says how far they were read, `Given.antt` and `Works.antt` what their texts mean, and

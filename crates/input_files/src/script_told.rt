@@ -4,7 +4,7 @@ ghost use Rattle.fault_notes.specs.Told.{MayTell};
 ghost use Rattle.input_files.specs.Noted.{AreFurther, IsScriptNote, IsScriptNoted};
 
 use fault_notes::{
-    Note, TextKind, bad_text_note, further_note, is_other_kind, tell_note, without_statement,
+    Note, bad_script_note, further_note, is_other_kind, tell_note, without_statement,
 };
 use pip_base::Notes;
 use set_model::Memory;
@@ -54,7 +54,7 @@ fn further(
 fn script_note(alloc: Global, name: &str, text: &[u8], bad: BadToken) -> Result<Note, Memory>
     ensures { IfOk result (λ note. IsScriptNote name.now text.now bad note.bytes.items) }
 {
-    let mut note = bad_text_note(alloc, TextKind::Script, name, text, bad)?;
+    let mut note = bad_script_note(alloc, name, text, bad)?;
     if text.len() > MOST_READ_AGAIN {
         return Ok(note);
     }

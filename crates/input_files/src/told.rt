@@ -4,8 +4,7 @@ ghost use Rattle.fault_notes.specs.Told.{MayTell};
 ghost use Rattle.input_files.specs.Noted.{IsPlacedBy};
 
 use fault_notes::{
-    TextKind, bad_keys_note, bad_text_note, capture_note, read_fault_note, tell_note,
-    too_large_note,
+    TextKind, bad_text_note, capture_note, read_fault_note, tell_note, too_large_note,
 };
 use pcap_keys::CaptureReason;
 use pip_base::{FaultKind, Notes};
@@ -13,26 +12,11 @@ use set_model::{Memory, Schema};
 use std::alloc::Global;
 use token_forms::BadToken;
 
-/// Prints where a text isn't in its grammar, by its bad token, if that was found.
+/// Prints where a text beside a script isn't in its grammar under the script's sets, by its bad token, if that was found.
 pub fn tell_bad<N: Notes>(
     alloc: Global,
     notes: &mut N,
     kind: TextKind,
-    name: &str,
-    text: &[u8],
-    found: Result<Option<BadToken>, Memory>,
-)
-    ensures { MayTell (IsPlacedBy found name.now) (N.told notes.old) (N.told notes.new) }
-{
-    if let Ok(Some(bad)) = found {
-        tell_note(notes, bad_text_note(alloc, kind, name, text, bad));
-    }
-}
-
-/// Prints where a key file isn't in its grammar under a script's sets, by its bad token, if that was found.
-pub fn tell_keys<N: Notes>(
-    alloc: Global,
-    notes: &mut N,
     schema: &Schema,
     name: &str,
     text: &[u8],
@@ -41,7 +25,7 @@ pub fn tell_keys<N: Notes>(
     ensures { MayTell (IsPlacedBy found name.now) (N.told notes.old) (N.told notes.new) }
 {
     if let Ok(Some(bad)) = found {
-        tell_note(notes, bad_keys_note(alloc, schema, name, text, bad));
+        tell_note(notes, bad_text_note(alloc, kind, schema, name, text, bad));
     }
 }
 

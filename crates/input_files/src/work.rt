@@ -38,6 +38,11 @@ pub enum Work<'a> {
         script: Script,
         keep_going: bool,
     },
+    /// The figures of the last generation.
+    Stat {
+        script: Script,
+        keep_going: bool,
+    },
     /// A generated run of so many elements and packets. So many packet threads look the packets up.
     Drill {
         seed: u64,
@@ -50,6 +55,16 @@ pub enum Work<'a> {
         script: Script,
         chains: Chains,
         keys: Keys,
+        threads: u32,
+        keep_going: bool,
+    },
+    /// A run of a script beside the packets that a plan takes from a capture's frames. So many packet
+    /// threads look them up, and chains of rules judge them.
+    JudgeCapture {
+        script: Script,
+        chains: Chains,
+        plan: Plan,
+        frames: Frames,
         threads: u32,
         keep_going: bool,
     },
@@ -143,6 +158,7 @@ pub fn work_of<'a, F: Shelf, N: Notes>(
                 },
                 Task::List => Ok(Work::List { script, keep_going }),
                 Task::Dump => Ok(Work::Dump { script, keep_going }),
+                Task::Stat => Ok(Work::Stat { script, keep_going }),
                 Task::Desk => Ok(Work::Desk { script, keep_going }),
                 Task::Get { key, moment } => Ok(Work::Get {
                     script,
@@ -182,6 +198,32 @@ pub fn work_of<'a, F: Shelf, N: Notes>(
                     match capture_of(alloc, shelf, notes, packets) {
                         Ok(frames) => Ok(Work::Capture {
                             script,
+                            plan,
+                            frames,
+                            threads,
+                            keep_going,
+                        }),
+                        Err(fault) => Err(fault),
+                    }
+                }
+                Task::JudgeCapture {
+                    rules,
+                    plan,
+                    packets,
+                    threads,
+                } => {
+                    let chains = match rules_of(alloc, shelf, notes, &script.schema, rules) {
+                        Ok(chains) => chains,
+                        Err(fault) => return Err(fault),
+                    };
+                    let plan = match plan_of(alloc, shelf, notes, &script.schema, plan) {
+                        Ok(plan) => plan,
+                        Err(fault) => return Err(fault),
+                    };
+                    match capture_of(alloc, shelf, notes, packets) {
+                        Ok(frames) => Ok(Work::JudgeCapture {
+                            script,
+                            chains,
                             plan,
                             frames,
                             threads,

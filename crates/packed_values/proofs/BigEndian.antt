@@ -7,7 +7,7 @@ use Rattle.std.specs.Int.{w16, w32, from_be_bytes}
 use Rattle.addr_text.specs.Numbers.{big_endian}
 
 -- bytes after a number
-after : (n : ℕ) (bytes : List ℕ) → fold (λ n digit. n * 256 + digit) n bytes ≡ n * 256 ^ length bytes + big_endian 256 bytes
+pub after : (n : ℕ) (bytes : List ℕ) → fold (λ n digit. n * 256 + digit) n bytes ≡ n * 256 ^ length bytes + big_endian 256 bytes
 after n [] = omega arith
 after n (byte ∷ bytes) =
     let p : ℕ = 256 ^ length bytes in

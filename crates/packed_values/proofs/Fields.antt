@@ -45,7 +45,7 @@ fewer_bytes kinds i kind rest others inside is e h =
     omega (arith, h, ap packed_length here, ap length e, length-drop (width_of kind) rest)
 
 -- so many bytes write a number of so many bits
-power : (kind : Kind) → 256 ^ width_of kind ≡ 2 ^ bits_of kind
+pub power : (kind : Kind) → 256 ^ width_of kind ≡ 2 ^ bits_of kind
 power Ipv4 = refl
 power Ipv6 = refl
 power Ether = refl

@@ -1,10 +1,11 @@
 -- The values that bytes stand for: field after field, each in network byte order.
-use Rattle.std.specs.Prelude.{◌≡◌, ◌≢◌, ℕ, ◌+◌, ◌*◌, ◌/◌, Bool, false, nat_le, List, [], ◌∷◌, length, take, drop}
+use Rattle.std.specs.Prelude.{◌≡◌, ◌≢◌, ℕ, ◌+◌, ◌*◌, ◌/◌, Bool, false, nat_le, List, [], ◌∷◌, ◌++◌, length, take, drop}
 use Rattle.std.specs.List.{list_all}
 use Rattle.set_model.specs.declared.kind.Kind.{Kind}
 use Rattle.set_model.specs.declared.kind.Kind.TheVariants.{Ipv4, Ipv6, Ether, Proto, Service, Mark}
 use Rattle.set_model.specs.declared.kind.Interval.{Interval}
 use Rattle.addr_text.specs.Numbers.{big_endian}
+use Rattle.byteorder.specs.Endian.{big_bytes}
 use Rattle.packed_values.specs.declared.unpack.PartsError.{PartsError}
 use Rattle.packed_values.specs.declared.unpack.PartsError.TheVariants.{Length, Falls, Memory}
 
@@ -37,6 +38,15 @@ intervals_in (kind ∷ kinds) lows highs =
 -- the intervals of an element: its low values are the first half of the bytes, its high values the other half
 abbrev pub parts_in : List Kind → List ℕ → List Interval
 parts_in kinds bounds = intervals_in kinds (take (length bounds / 2) bounds) (drop (length bounds / 2) bounds)
+
+-- the bytes of the low values of intervals, and of the high values
+abbrev pub lows_of : List Kind → List Interval → List ℕ
+lows_of (kind ∷ kinds) (part ∷ parts) = big_bytes (width_of kind) part.low ++ lows_of kinds parts
+lows_of kinds parts = []
+
+abbrev pub highs_of : List Kind → List Interval → List ℕ
+highs_of (kind ∷ kinds) (part ∷ parts) = big_bytes (width_of kind) part.high ++ highs_of kinds parts
+highs_of kinds parts = []
 
 -- so many bytes are the bounds of one element: two keys
 abbrev pub IsBounds : List Kind → List ℕ → Type 0

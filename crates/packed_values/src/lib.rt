@@ -5,7 +5,9 @@
 
 mod kind_width;
 mod numbers;
+mod pack;
 mod unpack;
 
 pub use kind_width::width;
+pub use pack::write_bounds;
 pub use unpack::{PartsError, has_length, key_length, read_key, read_parts};

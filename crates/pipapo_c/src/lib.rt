@@ -11,11 +11,14 @@ ghost use Rattle.c_handles.specs.Starting.{HasStarted};
 ghost use Rattle.c_handles.specs.StartCauses.{IsRefusedStart};
 ghost use Rattle.c_handles.specs.Scripting.{HasScripted, IsRefusedText};
 ghost use Rattle.c_handles.specs.Listing.{HasListed, IsRefusedListing};
+ghost use Rattle.c_handles.specs.Describing.{HasDescribed, RefusesDescription};
+ghost use Rattle.c_handles.specs.Elements.{HasElement, HasElements, RefusesElement, RefusesElements};
+ghost use Rattle.c_handles.specs.Notes.{HasHeard, HasMet, HasNoted, IsRefusedMeeting, RefusesHearing, RefusesNote};
 ghost use Rattle.c_handles.specs.Seats.{Stays, WentIn, WentOut};
 ghost use Rattle.c_handles.specs.Causes.{IsRefusal, IsRefusedChange, RefusesInsertion, RefusesCreation, RefusesDeletion, RefusesDestruction, RefusesFlush, RefusesCommit, RefusesReaders, RefusesEntry, RefusesHolder, RefusesLookup, RefusesLookups};
 ghost use Rattle.c_handles.specs.Calls.{HasInserted, HasCreated, HasDeleted, HasDestroyed, HasFlushed, HasCommitted, HasAborted, HasNumber, HasEntered, HasFound, HasFoundAll, HasGeneration, HasMoved, TakesKey, TakesKeys, seen_by, kinds_in, kinds_by};
 
-use c_handles::{Answer, Handle, ScriptFault, SetShape};
+use c_handles::{Answer, DeclaredSet, ElementShape, Handle, ScriptFault, SetShape};
 use std::alloc::Global;
 
 #[unsafe(no_mangle)]
@@ -170,6 +173,54 @@ pub extern "C" fn pipapo_number(alloc: Global, control: &mut Handle, generation:
 }
 
 #[unsafe(no_mangle)]
+pub extern "C" fn pipapo_describe(
+    alloc: Global,
+    control: &mut Handle,
+    set: u32,
+    declared: &mut DeclaredSet,
+) -> u32
+    ensures same { control.new.held ≡ control.old.held }
+    ensures done { result ≡ 0 → HasDescribed control.old.held set declared.new }
+    ensures unchanged { 0 < result → declared.new ≡ declared.old }
+    ensures refused { 0 < result → IsRefusal (RefusesDescription set) control.old.held result }
+{
+    c_handles::describe(alloc, control, set, declared)
+}
+
+#[unsafe(no_mangle)]
+pub extern "C" fn pipapo_elements_of(
+    alloc: Global,
+    control: &mut Handle,
+    set: u32,
+    elements: &mut Handle,
+    count: &mut u64,
+) -> u32
+    ensures same { control.new.held ≡ control.old.held }
+    ensures done { result ≡ 0 → HasElements control.old.held set elements.new.held count.new }
+    ensures unchanged { 0 < result → (elements.new.held ≡ elements.old.held) × (count.new ≡ count.old) }
+    ensures refused { 0 < result → IsRefusal (RefusesElements set) control.old.held result }
+{
+    c_handles::elements_of(alloc, control, set, elements, count)
+}
+
+#[unsafe(no_mangle)]
+pub extern "C" fn pipapo_element_at(
+    alloc: Global,
+    elements: &mut Handle,
+    place: u64,
+    bounds: &mut [u8],
+    comment: &mut [u8],
+    element: &mut ElementShape,
+) -> u32
+    ensures same { elements.new.held ≡ elements.old.held }
+    ensures done { result ≡ 0 → HasElement elements.old.held place bounds.old bounds.new comment.old comment.new element.new }
+    ensures unchanged { 0 < result → (bounds.new ≡ bounds.old) × (comment.new ≡ comment.old) }
+    ensures refused { 0 < result → IsRefusal (RefusesElement place (length bounds.old) (length comment.old) element.new) elements.old.held result }
+{
+    c_handles::element_at(alloc, elements, place, bounds, comment, element)
+}
+
+#[unsafe(no_mangle)]
 pub extern "C" fn pipapo_list_into(
     alloc: Global,
     control: &mut Handle,
@@ -249,4 +300,30 @@ pub extern "C" fn pipapo_lookup_many(
     ensures refused { 0 < result → IsRefusal (RefusesLookups set (length ids.old) (length keys.now)) reader.old.held result }
 {
     c_handles::lookup_many(alloc, reader, set, keys, now, ids, generation)
+}
+
+#[unsafe(no_mangle)]
+pub extern "C" fn pipapo_note(alloc: Global, handle: &mut Handle, note: &mut u64) -> u32
+    ensures done { result ≡ 0 → HasNoted handle.old.held handle.new.held note.new }
+    ensures unchanged { 0 < result → (handle.new.held ≡ handle.old.held) × (note.new ≡ note.old) }
+    ensures refused { 0 < result → IsRefusal RefusesNote handle.old.held result }
+{
+    c_handles::note(alloc, handle, note)
+}
+
+#[unsafe(no_mangle)]
+pub extern "C" fn pipapo_meet(alloc: Global, reader: &mut Handle, note: u64) -> u32
+    ensures done { result ≡ 0 → HasMet note reader.old.held reader.new.held }
+    ensures refused { 0 < result → IsRefusedMeeting note reader.old.held reader.new.held result }
+{
+    c_handles::meet(alloc, reader, note)
+}
+
+#[unsafe(no_mangle)]
+pub extern "C" fn pipapo_hear(alloc: Global, control: &mut Handle, note: u64) -> u32
+    ensures same { control.new.held ≡ control.old.held }
+    ensures done { result ≡ 0 → HasHeard note control.old.held }
+    ensures refused { 0 < result → IsRefusal (RefusesHearing note) control.old.held result }
+{
+    c_handles::hear(alloc, control, note)
 }

@@ -1,8 +1,9 @@
 //! Notes for a person: on bad tokens, captures, files and refused changes.
 use crate::cases::{assert_told, cut, joined, number};
 use fault_notes::{
-    BadToken, CaptureReason, Note, RefusedChange, RefusedChanges, TextKind, bad_text_note,
-    capture_note, read_fault_note, refusals_note, too_large_note, too_many_clerks_note,
+    BadToken, CaptureReason, Note, RefusedChange, RefusedChanges, TextKind, bad_script_note,
+    bad_text_note, capture_note, read_fault_note, refusals_note, too_large_note,
+    too_many_clerks_note,
 };
 use pip_base::FaultKind;
 use set_model::{Memory, Script, Why};
@@ -21,7 +22,6 @@ fn told_note(alloc: Global, note: Result<Note, Memory>) -> Result<Vec<u8>, Memor
 
 fn kind_of(letter: &[u8]) -> TextKind {
     match letter {
-        b"s" => TextKind::Script,
         b"k" => TextKind::Keys,
         b"r" => TextKind::Rules,
         _ => TextKind::Plan,
@@ -61,14 +61,28 @@ fn bad_token_of(words: &[u8]) -> BadToken {
     }
 }
 
+/// The sets of the script beside a key file, a rules file or a plan.
+const DECLARED: &[u8] =
+    b"add set ip t s { type ipv4_addr; }\nadd set inet f allowed { type ipv4_addr . inet_service; }\n";
+
+/// The note on the bad token of a text beside `DECLARED`.
+fn note_beside(alloc: Global, kind: &[u8], text: &[u8], bad: BadToken) -> Result<Note, Memory> {
+    match read_script(alloc, DECLARED) {
+        Ok(script) => bad_text_note(alloc, kind_of(kind), &script.schema, "x", text, bad),
+        Err(_) => Err(Memory),
+    }
+}
+
 /// The note on a text's bad token. Before the text are its kind, as s for a script, and the bad token.
 fn told_bad(alloc: Global, case: &[u8]) -> Result<Vec<u8>, Memory> {
     let (front, text) = cut(case, b';');
     let (kind, bad) = cut(front, b' ');
-    told_note(
-        alloc,
-        bad_text_note(alloc, kind_of(kind), "x", text, bad_token_of(bad)),
-    )
+    let bad = bad_token_of(bad);
+    let note = match kind {
+        b"s" => bad_script_note(alloc, "x", text, bad),
+        _ => note_beside(alloc, kind, text, bad),
+    };
+    told_note(alloc, note)
 }
 
 fn capture_reason_of(word: &[u8]) -> CaptureReason {
@@ -172,26 +186,26 @@ const SCRIPTS_AND_KEYS: &[u8] = b"\
     k 3 1 1 4 statement;t s\n|x:1:4: the end of the line can't come here\nt s\n   ^\nhelp: write a line [FAMILY] TABLE SET VALUE . VALUE .., with one value for each field, or 'at' MOMENT, or 'round'\n~\
     k 2 1 1 3 character;t\x1b\xc3 s\n|x:1:3: '\\xc3' is an unexpected character\nt\\x1b\\xc3 s\n     ^^^^\nhelp: write ASCII: other characters may be in strings and comments only\n~\
     s 53 1 2 18 set;add set ip t s { type ipv4_addr ; }\nadd element ip t q { 10.0.0.1 }\n|x:2:18: 'q' isn't a set that is declared before this place\nadd element ip t q { 10.0.0.1 }\n                 ^\nhelp: the sets declared before are ip t s\n~\
-    s 0 2 1 1 statement;ip t s 10.0.0.1\n|x:1:1: this looks like a key file: the script is named first, and then the key file\n~\
-    s 0 2 1 1 statement;ip t s ip_saddr . dport\n|x:1:1: this looks like a plan: the script is named first, then the plan, and then the capture\n~\
+    s 0 2 1 1 statement;ip t s 10.0.0.1\n|x:1:1: this looks like a key file, and a script is expected here: 'run' and 'judge' take a key file after it\n~\
+    s 0 2 1 1 statement;ip t s ip_saddr . dport\n|x:1:1: this looks like a plan, and a script is expected here: 'capture' takes a plan after it\n~\
     s 0 1 1 1 statement;{\"nftables\": []}\n|x:1:1: this is a listing in JSON, as nft -j prints it: list the sets without -j\n~\
     k 0 3 1 1 set;add table ip t\n|x:1:1: this looks like a script: the script is named first, and then the key file\n~\
     s 0 1 1 1 character;\x1f\x8b\x08\x00|x:1:1: this is a file that gzip has packed: unpack it first\n~\
-    k 0 1 1 1 character;\xd4\xc3\xb2\xa1\x02\x00|x:1:1: this is a capture of packets (pcap), and no text\n~\
-    k 4 1 3 1 character;\n\r\r\n\x1c|x:3:1: this is a capture of packets (pcapng), and no text\n~\
+    k 0 1 1 1 character;\xd4\xc3\xb2\xa1\x02\x00|x:1:1: this is a capture of packets, and no key file: 'pipapo capture SCRIPT PLAN PCAP' looks its packets up\n~\
+    k 4 1 3 1 character;\n\r\r\n\x1c|x:3:1: this is a capture of packets, and no key file: 'pipapo capture SCRIPT PLAN PCAP' looks its packets up\n~\
     s 0 1 1 1 character;\xef\xbb\xbfadd table t\n|x:1:1: the text begins with a byte order mark of UTF-8: leave its three bytes out\n~\
     s 0 1 1 1 character;\xff\xfea\x00|x:1:1: this is a text in UTF-16: write it in ASCII\n~\
 ";
 
 /// Bad tokens of rules files and plans.
 const RULES_AND_PLANS: &[u8] = b"\
-    r 18 1 1 19 set;chain a { in ip t q drop }\npolicy drop\n|x:1:19: 'q' isn't a set of the script\nchain a { in ip t q drop }\n                  ^\nhelp: name a set that the script declares, by [FAMILY] TABLE SET\n~\
+    r 18 1 1 19 set;chain a { in ip t q drop }\npolicy drop\n|x:1:19: 'q' isn't a set of the script\nchain a { in ip t q drop }\n                  ^\nhelp: the script's sets are ip t s, inet f allowed\n~\
     r 17 0 2 1 end;chain a { drop }\n|x:2:1: the end of the text comes too early\n\n^\nhelp: close each '{', and write 'policy accept' or 'policy drop' at the end\n~\
     r 0 3 1 1 statement;add set ip t s { }\n|x:1:1: this looks like a script: the script is named first, then the rules file, and then the key file\n~\
     k 7 4 1 8 set;policy drop\n|x:1:8: this looks like a rules file: it is named after the script, and then the key file\n~\
     p 7 5 1 8 type;ip t s dport\n|x:1:8: 'dport' doesn't fit the type of this field\nip t s dport\n       ^^^^^\nhelp: ipv4_addr takes ip_saddr or ip_daddr, ipv6_addr ip6_saddr or ip6_daddr, ether_addr ether_saddr or ether_daddr, inet_proto proto, inet_service sport or dport\n~\
     p 16 1 1 17 statement;ip t s ip_saddr ;\n|x:1:17: ';' can't come here\nip t s ip_saddr ;\n                ^\nhelp: write at most 4 lines [FAMILY] TABLE SET SELECTOR . SELECTOR .., with one selector for each field\n~\
-    p 0 1 1 1 character;\xd4\xc3\xb2\xa1\x02\x00|x:1:1: this is a capture of packets (pcap), and no text\n~\
+    p 0 1 1 1 character;\xd4\xc3\xb2\xa1\x02\x00|x:1:1: this is a capture of packets: the script is named first, then the plan, and then the capture\n~\
 ";
 
 // link types in both orders of bytes: 105 is 802.11, and the last two are in pcapng
@@ -205,7 +219,7 @@ const CAPTURES: &[u8] = b"\
     4 version;\xd4\xc3\xb2\xa1\x02\0\x03\0\0\0\0\0\0\0\0\0\0\0\x04\0\x01\0\0\0|c: byte 4: its version isn't 2.4\n~\
     20 link type;\xd4\xc3\xb2\xa1\x02\0\x04\0\0\0\0\0\0\0\0\0\0\0\x04\0\x69\0\0\0|c: byte 20: its link type is 105: Ethernet (1), raw IP (12, 14, 101, 228, 229) and Linux cooked capture (113, 276) are supported\n~\
     20 link type;\xa1\xb2\xc3\xd4\0\x02\0\x04\0\0\0\0\0\0\0\0\0\x04\0\0\0\0\x01\x15|c: byte 20: its link type is 277: Ethernet (1), raw IP (12, 14, 101, 228, 229) and Linux cooked capture (113, 276) are supported\n~\
-    0 magic;\0\0\0\0|c: byte 0: this is no capture in pcap or pcapng\n~\
+    0 magic;\0\0\0\0|c: byte 0: this isn't a capture in pcap or pcapng\n~\
     8 magic;\x0a\x0d\x0d\x0a|c: byte 8: the magic of this section header isn't 0x1a2b3c4d in either byte order\n~\
     12 version;\x0a\x0d\x0d\x0a|c: byte 12: the version of this section isn't 1.0\n~\
     28 cut;\x0a\x0d\x0d\x0a|c: byte 28: the block that begins here isn't there as a whole: the first 28 bytes are a capture\n~\
@@ -230,7 +244,7 @@ const REFUSALS: &[u8] = b"\
     overlap 6 1 ended|x.nft:6:3: 10.0.1.128/25 overlaps 10.0.1.0/24 (line 5)\n~\
     full 6 0 ended|~\
     full 6 1 failed|x.nft:6:3: 10.0.1.128/25 doesn't fit: the set has as many elements as it may have\nx.nft: the last transaction failed, so this shows the generation before it\n~\
-    missing 6 2 ended|x.nft:6:1: an element of this line is no element of the set\nx.nft:6:1: an element of this line is no element of the set\n~\
+    missing 6 2 ended|x.nft:6:1: an element of this line isn't in the set\nx.nft:6:1: an element of this line isn't in the set\n~\
 ";
 
 #[test]

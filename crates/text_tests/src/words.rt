@@ -43,6 +43,32 @@ fn told_task<'a>(
     )
 }
 
+/// The same with four names.
+fn told_four<'a>(
+    alloc: Global,
+    verb: &'a [u8],
+    names: &[&'a str; 4],
+    threads: u32,
+    keep_going: bool,
+) -> Result<Vec<u8>, Memory> {
+    line_of(
+        alloc,
+        &[
+            Piece::Word(verb),
+            Piece::Word(names[0].as_bytes()),
+            Piece::Word(b" "),
+            Piece::Word(names[1].as_bytes()),
+            Piece::Word(b" "),
+            Piece::Word(names[2].as_bytes()),
+            Piece::Word(b" "),
+            Piece::Word(names[3].as_bytes()),
+            Piece::Word(b" "),
+            Piece::Number(u64::from(threads)),
+            Piece::Word(if keep_going { b" true" } else { b" false" }),
+        ],
+    )
+}
+
 /// A `get`: the script, how many words the key has, its last word, and the moment.
 fn told_key<'a>(
     alloc: Global,
@@ -84,6 +110,7 @@ fn told_script(
         }
         Task::List => told_task(alloc, b"list ", &[script, "", ""], 0, keep_going),
         Task::Dump => told_task(alloc, b"dump ", &[script, "", ""], 0, keep_going),
+        Task::Stat => told_task(alloc, b"stat ", &[script, "", ""], 0, keep_going),
         Task::Desk => told_task(alloc, b"desk ", &[script, "", ""], 0, keep_going),
         Task::Get { key, moment } => told_key(alloc, script, key, moment, keep_going),
         Task::Judge {
@@ -94,6 +121,18 @@ fn told_script(
             alloc,
             b"judge ",
             &[script, rules, keys],
+            threads,
+            keep_going,
+        ),
+        Task::JudgeCapture {
+            rules,
+            plan,
+            packets,
+            threads,
+        } => told_four(
+            alloc,
+            b"judge ",
+            &[script, rules, plan, packets],
             threads,
             keep_going,
         ),
@@ -195,6 +234,9 @@ const NO_COMMANDS: &[u8] = b"\
     dump --|no command~\
     dump a --keep|no command~\
     dump a --threads 1|no command~\
+    stat|no command~\
+    stat a b|no command~\
+    stat a --threads 1|no command~\
     drill 1|no command~\
     drill - 1|no command~\
     drill 1 2 3|no command~\
@@ -205,7 +247,8 @@ const NO_COMMANDS: &[u8] = b"\
     drill a 1|no command~\
     drill 1 2 --keep-going|no command~\
     judge a b|no command~\
-    judge a b c d|no command~\
+    judge a b c d e|no command~\
+    judge a - c -|no command~\
     judge a - -|no command~\
     judge - b -|no command~\
     judge a b --threads c|no command~\
@@ -265,11 +308,15 @@ const COMMANDS: &[u8] = b"\
     list -|list -   0 false~\
     dump d --keep-going|dump d   0 true~\
     dump --keep-going -|dump -   0 true~\
+    stat stat|stat stat   0 false~\
+    stat --keep-going -|stat -   0 true~\
     drill 18446744073709551615 20000|drill 18446744073709551615 20000 1~\
     drill 0 --threads 4 1|drill 0 1 4~\
     drill 0 1 --threads=4|drill 0 1 4~\
     judge a b c|judge a b c 1 false~\
     judge a --threads 3 - --keep-going c|judge a - c 3 true~\
+    judge a b c d|judge a b c d 1 false~\
+    judge a --threads=3 b --keep-going c -|judge a b c - 3 true~\
     capture a b -|capture a b - 1 false~\
     capture --keep-going a b c --threads 16|capture a b c 16 true~\
     desk a|desk a   0 false~\
@@ -303,6 +350,9 @@ const PAGES: &[u8] = b"\
     help dump|usage: pipapo dump SCRIPT [--keep-going]~\
     dump --help|usage: pipapo dump SCRIPT [--keep-going]~\
     dump -h|usage: pipapo dump SCRIPT [--keep-going]~\
+    help stat|usage: pipapo stat SCRIPT [--keep-going]~\
+    stat --help|usage: pipapo stat SCRIPT [--keep-going]~\
+    stat -h|usage: pipapo stat SCRIPT [--keep-going]~\
     help drill|usage: pipapo drill SEED COUNT [--threads N]~\
     drill --help|usage: pipapo drill SEED COUNT [--threads N]~\
     drill -h|usage: pipapo drill SEED COUNT [--threads N]~\
@@ -326,7 +376,7 @@ const PAGES: &[u8] = b"\
 
 #[test]
 fn words_of_a_command(rt: HostRuntime) {
-    assert_told(&rt, rt.alloc(), NO_COMMANDS, 83, asked);
-    assert_told(&rt, rt.alloc(), COMMANDS, 31, asked);
+    assert_told(&rt, rt.alloc(), NO_COMMANDS, 84, asked);
+    assert_told(&rt, rt.alloc(), COMMANDS, 33, asked);
     assert_told(&rt, rt.alloc(), PAGES, 31, asked);
 }

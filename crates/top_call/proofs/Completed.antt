@@ -27,8 +27,9 @@ use Rattle.key_answer.specs.Answer.{GivesAnswer, get_text, has_no_answer}
 use Rattle.compare_answer.specs.Compared.{GivesComparison}
 use Rattle.key_answer.specs.Question.{IsKey, IsBadKey, key_text, at_moment}
 use Rattle.script_run.specs.Listings.{listing_text, tables_text}
+use Rattle.stat_answer.specs.StatText.{stat_text}
 use Rattle.desk_run.specs.DeskText.{IsDeskText}
-use Rattle.command_words.specs.Words.{Command, IsCommand, run, list, dump, drill, judge, capture, desk, get, compare, sets_of}
+use Rattle.command_words.specs.Words.{Command, IsCommand, run, list, dump, drill, judge, capture, desk, get, compare, stat, judge_capture, sets_of}
 use Rattle.command_words.proofs.CommandWords.{one-command}
 use Rattle.command_words.proofs.PageWords.{page-no-command}
 use Rattle.input_files.specs.declared.fault.FileFault.{FileFault}
@@ -40,7 +41,7 @@ use Rattle.input_files.specs.Given.{Has, AreGiven}
 use Rattle.input_files.proofs.Turns.{given-one, given-front, given-refuses}
 use Rattle.top_call.specs.declared.fault.Fault.{Fault}
 use Rattle.top_call.specs.declared.fault.Fault.TheVariants.{Usage, File, TooManyClerks, BadKey, Memory}
-use Rattle.top_call.specs.Transcript.{IsTranscript, IsJudgement, AreRulesOf, IsCaptured, IsTextOf, IsWovenOf, most_sections, IsAnswerOf, IsComparisonOf, AreSetsIn, leaves_any}
+use Rattle.top_call.specs.Transcript.{IsTranscript, IsJudgement, IsJudgedCapture, AreRulesOf, IsCaptured, IsTextOf, IsWovenOf, most_sections, IsAnswerOf, IsComparisonOf, AreSetsIn, leaves_any}
 use Rattle.top_call.specs.Calls.{Call, IsQuiet}
 use Rattle.top_call.specs.Causes.{IsCause, no_command, of_file, too_many, bad_key, no_memory}
 use Rattle.top_call.specs.Lines.{done_status, form_status, file_status, file_line, status_of, fault_line}
@@ -380,6 +381,23 @@ module _ (c : Call) (ends : EndsDuly c) (quiet : IsQuiet c) where
       let is_text : w.text ≡ transcript_text mode s (taken ∷ []) t.lines = t.text ∙ ap (λ (x : Script). transcript_text mode x (t.packets ∷ []) t.lines) one ∙ ap (λ (k : List Packet). transcript_text mode s (k ∷ []) t.lines) other in
       record { lines = t.lines; legal = is_legal; delivers = record { written = subst (λ (o : List ℕ). Appends c.taken_before c.taken_now o) is_text w.appends; status = w.status ∙ ap done_status (t.refusal ∙ ap (has_refusal mode) one) } }
 
+  -- what the chains decide on the packets that the plan takes from the capture
+  same-judged-capture : (n : ℕ) (mode : Mode) (script rules_name plan_name capture_name : List ℕ) (s : Script) (r : Rules) (taken : List Packet) (hs : HasScript c.shelf.told script s) (hr : HasRules c.shelf.told rules_name s r) (hc : HasCaptured c.shelf.told plan_name capture_name s taken) (w : HasWritten c)
+      → IsJudgedCapture hs.text hr.text hc.plan.text hc.capture.text n mode w.refused w.text → DeliversJudgement n mode s r (taken ∷ []) c
+  same-judged-capture n mode script rules_name plan_name capture_name s r taken hs hr hc w t =
+      let one : t.script ≡ s = script_single hs.text t.script s t.script_is hs.holds in
+      let their_rules : AreRulesOf s hr.text t.rules = subst (λ (x : Script). AreRulesOf x hr.text t.rules) one t.rules_are in
+      let by : t.rules ≡ r = one-rules s hr.text t.rules r their_rules hr.holds in
+      let theirs : AreCaptured s.schema hc.plan.text hc.capture.text t.packets = subst (λ (x : Script). AreCaptured x.schema hc.plan.text hc.capture.text t.packets) one t.captured in
+      let mine : AreCaptured s.schema hc.plan.text hc.capture.text taken = record { plan = hc.lines; frames = hc.frames; is_plan = hc.plan.holds; is_capture = hc.capture.holds; made = hc.made } in
+      let other : t.packets ≡ taken = one_capture s.schema hc.plan.text hc.capture.text t.packets taken theirs mine in
+      let of_script : AreLegal (IsJudged t.rules) s (t.packets ∷ []) n mode t.lines = subst (λ (x : Script). AreLegal (IsJudged t.rules) x (t.packets ∷ []) n mode t.lines) one t.legal in
+      let of_packets : AreLegal (IsJudged t.rules) s (taken ∷ []) n mode t.lines = subst (λ (k : List Packet). AreLegal (IsJudged t.rules) s (k ∷ []) n mode t.lines) other of_script in
+      let is_legal : AreLegal (IsJudged r) s (taken ∷ []) n mode t.lines = subst (λ (x : Rules). AreLegal (IsJudged x) s (taken ∷ []) n mode t.lines) by of_packets in
+      let is_text : w.text ≡ run_text (judged_text r) mode s (taken ∷ []) t.lines =
+      t.text ∙ ap (λ (x : Script). run_text (judged_text t.rules) mode x (t.packets ∷ []) t.lines) one ∙ ap (λ (k : List Packet). run_text (judged_text t.rules) mode s (k ∷ []) t.lines) other ∙ ap (λ (x : Rules). run_text (judged_text x) mode s (taken ∷ []) t.lines) by in
+      record { lines = t.lines; legal = is_legal; delivers = record { written = subst (λ (o : List ℕ). Appends c.taken_before c.taken_now o) is_text w.appends; status = w.status ∙ ap done_status (t.refusal ∙ ap (has_refusal mode) one) } }
+
   -- a text of the script that was read
   same-script : (text : Mode → Script → List ℕ) (mode : Mode) (script : List ℕ) (s : Script) (hs : HasScript c.shelf.told script s) (w : HasWritten c) → IsTextOf text hs.text mode w.refused w.text → DeliversText mode s (text mode s) c
   same-script text mode script s hs w t =
@@ -453,6 +471,10 @@ module _ (c : Call) (ends : EndsDuly c) (quiet : IsQuiet c) where
         or-ran-out (DeliversRun n (mode_of g) s (taken ∷ []) c)
         (λ w. same-capture n (mode_of g) script plan packets s taken hs hc w (does c.words c.shelf (capture script plan packets n g) w.refused w.text is_capture w.has hs.text hc.plan.text hc.capture.text hs.is_told hc.plan.is_told hc.capture.is_told))
         (ended (capture script plan packets n g) s.schema is_capture (given-script c.shelf.told script s hs, (given-plan c.shelf.told plan packets s taken hc, (given-capture c.shelf.told plan packets s taken hc, tt))) (λ name k t e. absurd (cc e)) (λ name key m k t l r e. absurd (cc e)));
+    judge_capture = λ script rules plan packets n g s r taken is_judge hs hr hc.
+        or-ran-out (DeliversJudgement n (mode_of g) s r (taken ∷ []) c)
+        (λ w. same-judged-capture n (mode_of g) script rules plan packets s r taken hs hr hc w (does c.words c.shelf (judge_capture script rules plan packets n g) w.refused w.text is_judge w.has hs.text hr.text hc.plan.text hc.capture.text hs.is_told hr.is_told hc.plan.is_told hc.capture.is_told))
+        (ended (judge_capture script rules plan packets n g) s.schema is_judge (given-script c.shelf.told script s hs, (given-rules c.shelf.told rules s r hr, (given-plan c.shelf.told plan packets s taken hc, (given-capture c.shelf.told plan packets s taken hc, tt)))) (λ name k t e. absurd (cc e)) (λ name key m k t l r e. absurd (cc e)));
     list = λ script g s is_list hs.
         or-ran-out (DeliversText (mode_of g) s (listing_text (mode_of g) s) c)
         (λ w. same-script listing_text (mode_of g) script s hs w (does c.words c.shelf (list script g) w.refused w.text is_list w.has hs.text hs.is_told))
@@ -461,6 +483,10 @@ module _ (c : Call) (ends : EndsDuly c) (quiet : IsQuiet c) where
         or-ran-out (DeliversText (mode_of g) s (tables_text (mode_of g) s) c)
         (λ w. same-script tables_text (mode_of g) script s hs w (does c.words c.shelf (dump script g) w.refused w.text is_dump w.has hs.text hs.is_told))
         (ended (dump script g) s.schema is_dump (given-script c.shelf.told script s hs, tt) (λ name k t e. absurd (cc e)) (λ name key m k t l r e. absurd (cc e)));
+    stat = λ script g s is_stat hs.
+        or-ran-out (DeliversText (mode_of g) s (stat_text (mode_of g) s) c)
+        (λ w. same-script stat_text (mode_of g) script s hs w (does c.words c.shelf (stat script g) w.refused w.text is_stat w.has hs.text hs.is_told))
+        (ended (stat script g) s.schema is_stat (given-script c.shelf.told script s hs, tt) (λ name k t e. absurd (cc e)) (λ name key m k t l r e. absurd (cc e)));
     desk = λ script g s is_desk hs few.
         or-ran-out (DeliversDesk s g c)
         (λ w. same-desk script g s hs w (does c.words c.shelf (desk script g) w.refused w.text is_desk w.has hs.text hs.is_told))

@@ -6,7 +6,7 @@ use Rattle.set_model.specs.Control.{mode_of}
 use Rattle.script_run.specs.Drill.{drill_text}
 use Rattle.command_words.specs.declared.page.Page.{Page}
 use Rattle.command_words.specs.WordForms.{page_text}
-use Rattle.command_words.specs.Words.{Command, run, list, dump, drill, judge, capture, desk, get, compare, IsCommand, AsksFor, IsDrillCommand, sets_of}
+use Rattle.command_words.specs.Words.{Command, run, list, dump, drill, judge, capture, desk, get, compare, stat, IsCommand, AsksFor, IsDrillCommand, judge_capture, sets_of}
 use Rattle.command_words.proofs.CommandWords.{one-command}
 use Rattle.command_words.proofs.PageWords.{page-no-command, one-page}
 use Rattle.input_files.specs.declared.fault.FileFault.{FileFault}
@@ -16,11 +16,11 @@ use Rattle.input_files.specs.Inputs.{FileForm, form_of}
 use Rattle.input_files.specs.Reads.{Shelved}
 use Rattle.top_call.specs.declared.fault.Fault.{Fault}
 use Rattle.top_call.specs.declared.fault.Fault.TheVariants.{Usage, File, TooManyClerks, BadKey, Memory}
-use Rattle.top_call.specs.Transcript.{IsOutput, IsTranscript, IsJudgement, IsCaptured, IsListing, IsTables, IsWovenOf, IsAnswerOf, IsComparisonOf, AreSetsIn}
+use Rattle.top_call.specs.Transcript.{IsOutput, IsTranscript, IsJudgement, IsCaptured, IsListing, IsTables, IsWovenOf, IsAnswerOf, IsComparisonOf, IsStat, IsJudgedCapture, AreSetsIn}
 use Rattle.top_call.specs.Calls.{Call}
 use Rattle.top_call.specs.Causes.{IsCause, no_command, of_file, too_many, bad_key, no_memory}
 use Rattle.top_call.specs.Lines.{done_status, form_status, file_status, status_of, fault_line}
-use Rattle.top_call.specs.Answers.{Ends, EndsDuly, written, cut, memory, IsDue, output, page, refusal, IsExactly, HasOutput, IsComplete, Writes, Transcribes, Judges, Captures, Lists, Dumps, Weaves, AnswersKeys, Compares, WritesSets, Drills, Delivers, TellsPage}
+use Rattle.top_call.specs.Answers.{Ends, EndsDuly, written, cut, memory, IsDue, output, page, refusal, IsExactly, HasOutput, IsComplete, Writes, Transcribes, Judges, Captures, Lists, Dumps, Counts, Weaves, AnswersKeys, Compares, Drills, Delivers, TellsPage, JudgesCaptures, WritesSets}
 
 -- an output's status is 0 or 1, and a fault's status is greater
 pub done-small : (refused : Bool) → done_status refused ≤ 1
@@ -131,6 +131,12 @@ module _ (c : Call) where
       let w = of-command ends e d is_capture in
       writes (IsCaptured script_text plan_text capture_text threads (mode_of keep_going)) w (does c.words c.shelf d w.refused w.text is_capture w.has script_text plan_text capture_text at at_plan at_capture)
 
+  pub judges-captures : EndsDuly c → IsComplete c.status → JudgesCaptures c
+  judges-captures ends e script rules plan packets script_text rules_text plan_text capture_text threads keep_going is_judge at at_rules at_plan at_capture =
+      let d = judge_capture script rules plan packets threads keep_going in
+      let w = of-command ends e d is_judge in
+      writes (IsJudgedCapture script_text rules_text plan_text capture_text threads (mode_of keep_going)) w (does c.words c.shelf d w.refused w.text is_judge w.has script_text rules_text plan_text capture_text at at_rules at_plan at_capture)
+
   pub lists : EndsDuly c → IsComplete c.status → Lists c
   lists ends e script script_text keep_going is_list at =
       let w = of-command ends e (list script keep_going) is_list in
@@ -140,6 +146,11 @@ module _ (c : Call) where
   dumps ends e script script_text keep_going is_dump at =
       let w = of-command ends e (dump script keep_going) is_dump in
       writes (IsTables script_text (mode_of keep_going)) w (does c.words c.shelf (dump script keep_going) w.refused w.text is_dump w.has script_text at)
+
+  pub counts : EndsDuly c → IsComplete c.status → Counts c
+  counts ends e script script_text keep_going is_stat at =
+      let w = of-command ends e (stat script keep_going) is_stat in
+      writes (IsStat script_text (mode_of keep_going)) w (does c.words c.shelf (stat script keep_going) w.refused w.text is_stat w.has script_text at)
 
   pub weaves : EndsDuly c → IsComplete c.status → Weaves c
   weaves ends e script script_text keep_going is_desk at =

@@ -32,7 +32,7 @@ use Rattle.top_call.specs.Answers.{Ends, EndsDuly, written, cut, memory, IsDue, 
 use Rattle.top_call.specs.Exactly.{HasTurn, IsExact, IsStatus, Completes, DeliversText, DeliversRun, DeliversJudgement, DeliversDesk, DeliversAnswer, DeliversComparison, DeliversSets, HasScript, RanOut}
 use Rattle.top_call.specs.Promises.{Promises, Goes}
 use Rattle.top_call.proofs.Noting.{no-note, page-quiet}
-use Rattle.top_call.proofs.Endings.{does, page-told, transcribes, judges, captures, lists, dumps, weaves, answers-keys, drills, tells-page, compares, writes-sets}
+use Rattle.top_call.proofs.Endings.{does, page-told, transcribes, judges, captures, lists, dumps, weaves, answers-keys, drills, tells-page, compares, counts, judges-captures, writes-sets}
 use Rattle.top_call.proofs.Completed.{completes, file-given, given-script, tells-read-fault, tells-flaw, tells-too-many, tells-bad-key, shelf-moved, sink-moved}
 
 -- A file came to its turn, and the shelf shows its text.
@@ -244,8 +244,10 @@ module _ (c : Call) (ends : EndsDuly c) (quiet : IsQuiet c) where
     done_run = λ script keys n g s packets is_run hs hk. of-run n (mode_of g) s packets (done.run script keys n g s packets is_run hs hk);
     done_judge = λ script rules keys n g s r packets is_judge hs hr hk. of-judgement n (mode_of g) s r packets (done.judge script rules keys n g s r packets is_judge hs hr hk);
     done_capture = λ script plan packets n g s taken is_capture hs hc. of-run n (mode_of g) s (taken ∷ []) (done.capture script plan packets n g s taken is_capture hs hc);
+    done_judge_capture = λ script rules plan packets n g s r taken is_judge hs hr hc. of-judgement n (mode_of g) s r (taken ∷ []) (done.judge_capture script rules plan packets n g s r taken is_judge hs hr hc);
     done_list = λ script g s is_list hs. of-text (mode_of g) s _ (done.list script g s is_list hs);
     done_dump = λ script g s is_dump hs. of-text (mode_of g) s _ (done.dump script g s is_dump hs);
+    done_stat = λ script g s is_stat hs. of-text (mode_of g) s _ (done.stat script g s is_stat hs);
     too_many = λ script g s is_desk hs many. ends-many c.words c.shelf quiet.shelf script g s is_desk hs many c.taken_before c.taken_now c.faults_before c.faults_now c.status ends quiet.sink;
     done_desk = λ script g s is_desk hs few. of-desk s g (done.desk script g s is_desk hs few);
     bad_key = λ script key moment g s is_get hs no_key. ends-key c.words c.shelf quiet.shelf script key moment g s is_get hs no_key c.taken_before c.taken_now c.faults_before c.faults_now c.status ends quiet.sink;
@@ -265,8 +267,10 @@ promises c g = record {
   run = λ e. transcribes c g.ends e;
   judge = λ e. judges c g.ends e;
   capture = λ e. captures c g.ends e;
+  judge_capture = λ e. judges-captures c g.ends e;
   list = λ e. lists c g.ends e;
   dump = λ e. dumps c g.ends e;
+  stat = λ e. counts c g.ends e;
   desk = λ e. weaves c g.ends e;
   get = λ e. answers-keys c g.ends e;
   compare = λ e. compares c g.ends e;

@@ -65,9 +65,11 @@ no-key words shelf c (works.Get s key moment g) line reason is_c has_read is_wor
 no-key words shelf c (works.Run s packets threads g) line reason is_c has_read is_work bad = absurd bad
 no-key words shelf c (works.List s g) line reason is_c has_read is_work bad = absurd bad
 no-key words shelf c (works.Dump s g) line reason is_c has_read is_work bad = absurd bad
+no-key words shelf c (works.Stat s g) line reason is_c has_read is_work bad = absurd bad
 no-key words shelf c (works.Drill seed count threads) line reason is_c has_read is_work bad = absurd bad
 no-key words shelf c (works.Judge s chains packets threads g) line reason is_c has_read is_work bad = absurd bad
 no-key words shelf c (works.Capture s plan frames threads g) line reason is_c has_read is_work bad = absurd bad
+no-key words shelf c (works.JudgeCapture s chains plan frames threads g) line reason is_c has_read is_work bad = absurd bad
 no-key words shelf c (works.Compare a s b t g) line reason is_c has_read is_work bad = absurd bad
 no-key words shelf c (works.Sets f whole sieved) line reason is_c has_read is_work bad = absurd bad
 no-key words shelf c (works.Desk s g) line reason is_c has_read is_work bad = absurd bad

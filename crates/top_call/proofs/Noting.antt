@@ -69,8 +69,10 @@ pub script-named : (name : List ℕ) (task : Task) (keep_going : Bool) → Names
 script-named name (tasks.Run keys threads) keep_going = (record { name = name; form = script }, record { name = keys.now; form = keys_form } ∷ [], refl, refl)
 script-named name tasks.List keep_going = (record { name = name; form = script }, [], refl, refl)
 script-named name tasks.Dump keep_going = (record { name = name; form = script }, [], refl, refl)
+script-named name tasks.Stat keep_going = (record { name = name; form = script }, [], refl, refl)
 script-named name (tasks.Judge rules keys threads) keep_going = (record { name = name; form = script }, record { name = rules.now; form = rules_form } ∷ record { name = keys.now; form = keys_form } ∷ [], refl, refl)
 script-named name (tasks.Capture plan packets threads) keep_going = (record { name = name; form = script }, record { name = plan.now; form = plan_form } ∷ record { name = packets.now; form = capture_form } ∷ [], refl, refl)
+script-named name (tasks.JudgeCapture rules plan packets threads) keep_going = (record { name = name; form = script }, record { name = rules.now; form = rules_form } ∷ record { name = plan.now; form = plan_form } ∷ record { name = packets.now; form = capture_form } ∷ [], refl, refl)
 script-named name tasks.Desk keep_going = (record { name = name; form = script }, [], refl, refl)
 script-named name (tasks.Get key moment) keep_going = (record { name = name; form = script }, [], refl, refl)
 

@@ -36,6 +36,7 @@ is-output told c (works.Run s packets n g) refused text w h = subst (λ (x : Com
 })
 is-output told c (works.List s g) refused text w h = subst (λ (x : Command). IsOutput x told refused text) (sym w.1) (λ script_text at. record { script = s; script_is = (w.2 script_text at).1; text_is = h.0; refusal = h.1 })
 is-output told c (works.Dump s g) refused text w h = subst (λ (x : Command). IsOutput x told refused text) (sym w.1) (λ script_text at. record { script = s; script_is = (w.2 script_text at).1; text_is = h.0; refusal = h.1 })
+is-output told c (works.Stat s g) refused text w h = subst (λ (x : Command). IsOutput x told refused text) (sym w.1) (λ script_text at. record { script = s; script_is = (w.2 script_text at).1; text_is = h.0; refusal = h.1 })
 is-output told c (works.Capture s plan frames n g) refused text w h = subst (λ (x : Command). IsOutput x told refused text) (sym w.3) (λ script_text plan_text capture_text at at_plan at_capture. record {
   script = s;
   packets = planned_packets plan frames;
@@ -58,6 +59,18 @@ is-output told c (works.Judge s chains packets n g) refused text w h = subst (λ
   text = h.0.text_is;
   refusal = h.1;
 })
+is-output told c (works.JudgeCapture s chains plan frames n g) refused text w h = subst (λ (x : Command). IsOutput x told refused text) (sym w.4) (λ script_text rules_text plan_text capture_text at at_rules at_plan at_capture. record {
+  script = s;
+  rules = record { schema = chains.schema; chains = chains.chains; accept = chains.accept };
+  packets = planned_packets plan frames;
+  lines = h.0.lines;
+  script_is = (w.5 script_text at).1;
+  rules_are = record { over = h.0.over; is_text = (w.6 rules_text at_rules).1 };
+  captured = record { plan = plan; frames = frames; is_plan = (w.7 plan_text at_plan).1; is_capture = (w.8 capture_text at_capture).1; made = refl };
+  legal = h.0.legal;
+  text = h.0.text_is;
+  refusal = h.1;
+})
 is-output told c (works.Desk s g) refused text w h = subst (λ (x : Command). IsOutput x told refused text) (sym w.1) (λ script_text at. record { script = s; script_is = (w.2 script_text at).1; few = h.1; is_desk = h.0 })
 is-output told c (works.Get s key moment g) refused text w h = subst (λ (x : Command). IsOutput x told refused text) (sym w.1) (λ script_text at. record { script = s; script_is = (w.2 script_text at).1; gives = h })
 is-output told c (works.Compare a s b t g) refused text w h = subst (λ (x : Command). IsOutput x told refused text) (sym w.0) (λ first_text second_text at at_second. record { script = s; other = t; script_is = (w.1 first_text at).1; other_is = (w.2 second_text at_second).1; gives = h })
@@ -69,8 +82,10 @@ pub are-refused : (told : List ℕ → Option (List ℕ)) (c : Command) (w : Wor
 are-refused told c (works.Run s packets n g) out w h = subst (λ (x : Command). AreRefused x told out.refused out.text.items out.refusals.items out.failed) (sym w.2) (λ text at. (s, (w.3 text at).1, h.0.refusals_are, h.1))
 are-refused told c (works.List s g) out w h = subst (λ (x : Command). AreRefused x told out.refused out.text.items out.refusals.items out.failed) (sym w.1) (λ text at. (s, (w.2 text at).1, h.0.refusals_are, h.1))
 are-refused told c (works.Dump s g) out w h = subst (λ (x : Command). AreRefused x told out.refused out.text.items out.refusals.items out.failed) (sym w.1) (λ text at. (s, (w.2 text at).1, h.0.refusals_are, h.1))
+are-refused told c (works.Stat s g) out w h = subst (λ (x : Command). AreRefused x told out.refused out.text.items out.refusals.items out.failed) (sym w.1) (λ text at. (s, (w.2 text at).1, h.0.refusals_are, h.1))
 are-refused told c (works.Capture s plan frames n g) out w h = subst (λ (x : Command). AreRefused x told out.refused out.text.items out.refusals.items out.failed) (sym w.3) (λ text at. (s, (w.4 text at).1, h.0.refusals_are, h.1))
 are-refused told c (works.Judge s chains packets n g) out w h = subst (λ (x : Command). AreRefused x told out.refused out.text.items out.refusals.items out.failed) (sym w.3) (λ text at. (s, (w.4 text at).1, h.0.refusals_are, h.1))
+are-refused told c (works.JudgeCapture s chains plan frames n g) out w h = subst (λ (x : Command). AreRefused x told out.refused out.text.items out.refusals.items out.failed) (sym w.4) (λ text at. (s, (w.5 text at).1, h.0.refusals_are, h.1))
 are-refused told c (works.Desk s g) out w h = subst (λ (x : Command). AreRefused x told out.refused out.text.items out.refusals.items out.failed) (sym w.1) (λ text at. (s, (w.2 text at).1, h.desk, h.refusals_are, h.failed_is))
 are-refused told c (works.Get s key moment g) out w h = subst (λ (x : Command). AreRefused x told out.refused out.text.items out.refusals.items out.failed) (sym w.1) (λ text at. (s, (w.2 text at).1, h.0.refusals_are, h.1))
 are-refused told c (works.Compare a s b t g) out w h = subst (λ (x : Command). AreRefused x told out.refused out.text.items out.refusals.items out.failed) (sym w.0) h

@@ -8,13 +8,13 @@ use Rattle.token_forms.specs.declared.token.Reason.{Reason}
 use Rattle.script_run.specs.Drill.{drill_text}
 use Rattle.command_words.specs.declared.page.Page.{Page}
 use Rattle.command_words.specs.WordForms.{page_text}
-use Rattle.command_words.specs.Words.{Command, IsCommand, AsksFor, IsRunCommand, IsListCommand, IsDumpCommand, IsDrillCommand, IsJudgeCommand, IsCaptureCommand, IsDeskCommand, IsGetCommand, IsCompareCommand, IsSetsCommand}
+use Rattle.command_words.specs.Words.{Command, IsCommand, AsksFor, IsRunCommand, IsListCommand, IsDumpCommand, IsDrillCommand, IsJudgeCommand, IsCaptureCommand, IsDeskCommand, IsGetCommand, IsCompareCommand, IsStatCommand, IsJudgeCaptureCommand, IsSetsCommand}
 use Rattle.input_files.specs.declared.fault.Flaw.{Flaw}
 use Rattle.input_files.specs.declared.fault.FileFault.TheVariants.{Bad}
 use Rattle.input_files.specs.Inputs.{form_of}
 use Rattle.input_files.specs.Reads.{Shelved, HasRead, StopsAt}
 use Rattle.top_call.specs.declared.fault.Fault.{Fault}
-use Rattle.top_call.specs.Transcript.{IsOutput, IsTranscript, IsJudgement, IsCaptured, IsListing, IsTables, IsWovenOf, IsAnswerOf, IsComparisonOf, AreSetsIn}
+use Rattle.top_call.specs.Transcript.{IsOutput, IsTranscript, IsJudgement, IsCaptured, IsListing, IsTables, IsWovenOf, IsAnswerOf, IsComparisonOf, IsStat, IsJudgedCapture, AreSetsIn}
 use Rattle.top_call.specs.Calls.{Call}
 use Rattle.top_call.specs.Causes.{IsCause, HasManySections, HasNoKey}
 use Rattle.top_call.specs.Lines.{done_status, form_status, status_of, fault_line, flaw_line, read_fault_line, too_many_line, bad_key_line}
@@ -82,6 +82,13 @@ Captures c =
     → c.shelf.told script ≡ Some script_text → c.shelf.told plan ≡ Some plan_text → c.shelf.told packets ≡ Some capture_text
     → Writes (IsCaptured script_text plan_text capture_text threads (mode_of keep_going)) c
 
+-- The same of both: chains judge the packets that the plan takes from the capture.
+abbrev pub JudgesCaptures : Call → Type 0
+JudgesCaptures c =
+    (script rules plan packets script_text rules_text plan_text capture_text : List ℕ) (threads : ℕ) (keep_going : Bool) → IsJudgeCaptureCommand c.words script rules plan packets threads keep_going
+    → c.shelf.told script ≡ Some script_text → c.shelf.told rules ≡ Some rules_text → c.shelf.told plan ≡ Some plan_text → c.shelf.told packets ≡ Some capture_text
+    → Writes (IsJudgedCapture script_text rules_text plan_text capture_text threads (mode_of keep_going)) c
+
 -- The same of a listing: the sink took what the script's control reported, and then the listing of the script.
 abbrev pub Lists : Call → Type 0
 Lists c = (script script_text : List ℕ) (keep_going : Bool) → IsListCommand c.words script keep_going → c.shelf.told script ≡ Some script_text → Writes (IsListing script_text (mode_of keep_going)) c
@@ -89,6 +96,10 @@ Lists c = (script script_text : List ℕ) (keep_going : Bool) → IsListCommand 
 -- The same of a dump: the sink took what the script's control reported, and then the tables of the script's sets.
 abbrev pub Dumps : Call → Type 0
 Dumps c = (script script_text : List ℕ) (keep_going : Bool) → IsDumpCommand c.words script keep_going → c.shelf.told script ≡ Some script_text → Writes (IsTables script_text (mode_of keep_going)) c
+
+-- The same of a `stat`: the sink took what the script's control reported, and then the figures of the script's sets.
+abbrev pub Counts : Call → Type 0
+Counts c = (script script_text : List ℕ) (keep_going : Bool) → IsStatCommand c.words script keep_going → c.shelf.told script ≡ Some script_text → Writes (IsStat script_text (mode_of keep_going)) c
 
 -- The same of a desk. The sink took the reports of the script's first section. The reports of each transaction of the
 -- other sections' control threads follow, in the order of the transactions, and then their last generation.

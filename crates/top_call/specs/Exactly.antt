@@ -22,6 +22,7 @@ use Rattle.pcap_keys.specs.CapturedPackets.{IsCapture}
 use Rattle.pcap_keys.specs.Planned.{packets as planned_packets}
 use Rattle.pcap_keys.specs.PlansText.{IsPlanText}
 use Rattle.script_run.specs.Listings.{listing_text, tables_text}
+use Rattle.stat_answer.specs.StatText.{stat_text}
 use Rattle.script_run.specs.Drill.{drill_text}
 use Rattle.desk_run.specs.DeskText.{IsDeskText}
 use Rattle.key_answer.specs.Answer.{get_text, has_no_answer}
@@ -29,7 +30,7 @@ use Rattle.key_answer.specs.Question.{IsKey, at_moment}
 use Rattle.compare_answer.specs.Compared.{GivesComparison}
 use Rattle.pip_base.specs.Whole.{size_limit}
 use Rattle.command_words.specs.declared.page.Page.{Page}
-use Rattle.command_words.specs.Words.{Command, IsCommand, AsksFor, IsNoCommand, IsRunCommand, IsListCommand, IsDumpCommand, IsDrillCommand, IsJudgeCommand, IsCaptureCommand, IsDeskCommand, IsGetCommand, IsCompareCommand, IsSetsCommand}
+use Rattle.command_words.specs.Words.{Command, IsCommand, AsksFor, IsNoCommand, IsRunCommand, IsListCommand, IsDumpCommand, IsDrillCommand, IsJudgeCommand, IsCaptureCommand, IsDeskCommand, IsGetCommand, IsCompareCommand, IsStatCommand, IsJudgeCaptureCommand, IsSetsCommand}
 use Rattle.input_files.specs.Inputs.{Input, inputs, IsOf}
 use Rattle.input_files.specs.Given.{Has, AreGiven}
 use Rattle.top_call.specs.Transcript.{AreRulesOf, most_sections, leaves_any}
@@ -90,8 +91,11 @@ pub record IsExact (c : Call) : Type 0 where
       → HasRules c.shelf.told rules s r → HasKeys c.shelf.told keys s packets → IsStatus (done_status (has_refusal (mode_of keep_going) s)) c
   pub done_capture : (script plan packets : List ℕ) (threads : ℕ) (keep_going : Bool) (s : Script) (taken : List Packet) → IsCaptureCommand c.words script plan packets threads keep_going → HasScript c.shelf.told script s
       → HasCaptured c.shelf.told plan packets s taken → IsStatus (done_status (has_refusal (mode_of keep_going) s)) c
+  pub done_judge_capture : (script rules plan packets : List ℕ) (threads : ℕ) (keep_going : Bool) (s : Script) (r : Rules) (taken : List Packet) → IsJudgeCaptureCommand c.words script rules plan packets threads keep_going → HasScript c.shelf.told script s
+      → HasRules c.shelf.told rules s r → HasCaptured c.shelf.told plan packets s taken → IsStatus (done_status (has_refusal (mode_of keep_going) s)) c
   pub done_list : (script : List ℕ) (keep_going : Bool) (s : Script) → IsListCommand c.words script keep_going → HasScript c.shelf.told script s → IsStatus (done_status (has_refusal (mode_of keep_going) s)) c
   pub done_dump : (script : List ℕ) (keep_going : Bool) (s : Script) → IsDumpCommand c.words script keep_going → HasScript c.shelf.told script s → IsStatus (done_status (has_refusal (mode_of keep_going) s)) c
+  pub done_stat : (script : List ℕ) (keep_going : Bool) (s : Script) → IsStatCommand c.words script keep_going → HasScript c.shelf.told script s → IsStatus (done_status (has_refusal (mode_of keep_going) s)) c
   pub too_many : (script : List ℕ) (keep_going : Bool) (s : Script) → IsDeskCommand c.words script keep_going → HasScript c.shelf.told script s → most_sections < length s.sections → IsStatus 12 c
   pub done_desk : (script : List ℕ) (keep_going : Bool) (s : Script) → IsDeskCommand c.words script keep_going → HasScript c.shelf.told script s → length s.sections ≤ most_sections → (refused : Bool) × IsStatus (done_status refused) c
   pub bad_key : (script : List ℕ) (key : List (List ℕ)) (moment : Option ℕ) (keep_going : Bool) (s : Script) → IsGetCommand c.words script key moment keep_going → HasScript c.shelf.told script s
@@ -164,8 +168,11 @@ pub record Completes (c : Call) : Type 0 where
       → HasRules c.shelf.told rules s r → HasKeys c.shelf.told keys s packets → DeliversJudgement threads (mode_of keep_going) s r packets c ⊎ RanOut c
   pub capture : (script plan packets : List ℕ) (threads : ℕ) (keep_going : Bool) (s : Script) (taken : List Packet) → IsCaptureCommand c.words script plan packets threads keep_going → HasScript c.shelf.told script s
       → HasCaptured c.shelf.told plan packets s taken → DeliversRun threads (mode_of keep_going) s (taken ∷ []) c ⊎ RanOut c
+  pub judge_capture : (script rules plan packets : List ℕ) (threads : ℕ) (keep_going : Bool) (s : Script) (r : Rules) (taken : List Packet) → IsJudgeCaptureCommand c.words script rules plan packets threads keep_going → HasScript c.shelf.told script s
+      → HasRules c.shelf.told rules s r → HasCaptured c.shelf.told plan packets s taken → DeliversJudgement threads (mode_of keep_going) s r (taken ∷ []) c ⊎ RanOut c
   pub list : (script : List ℕ) (keep_going : Bool) (s : Script) → IsListCommand c.words script keep_going → HasScript c.shelf.told script s → DeliversText (mode_of keep_going) s (listing_text (mode_of keep_going) s) c ⊎ RanOut c
   pub dump : (script : List ℕ) (keep_going : Bool) (s : Script) → IsDumpCommand c.words script keep_going → HasScript c.shelf.told script s → DeliversText (mode_of keep_going) s (tables_text (mode_of keep_going) s) c ⊎ RanOut c
+  pub stat : (script : List ℕ) (keep_going : Bool) (s : Script) → IsStatCommand c.words script keep_going → HasScript c.shelf.told script s → DeliversText (mode_of keep_going) s (stat_text (mode_of keep_going) s) c ⊎ RanOut c
   pub desk : (script : List ℕ) (keep_going : Bool) (s : Script) → IsDeskCommand c.words script keep_going → HasScript c.shelf.told script s → length s.sections ≤ most_sections → DeliversDesk s keep_going c ⊎ RanOut c
   pub get : (script : List ℕ) (key : List (List ℕ)) (moment : Option ℕ) (keep_going : Bool) (s : Script) (p : Packet) → IsGetCommand c.words script key moment keep_going → HasScript c.shelf.told script s → IsKey s.schema key p
       → DeliversAnswer (mode_of keep_going) s (at_moment moment s p) c ⊎ RanOut c

@@ -50,7 +50,7 @@ status_of (BadKey line reason) = 13
 status_of Memory = 7
 
 abbrev pub usage_line : List ℕ
-usage_line = codes "pipapo: usage: run SCRIPT KEYS [--threads N] [--keep-going] | list SCRIPT [--keep-going] | dump SCRIPT [--keep-going] | drill SEED COUNT [--threads N] | judge SCRIPT RULES KEYS [--threads N] [--keep-going] | capture SCRIPT PLAN PCAP [--threads N] [--keep-going] | desk SCRIPT [--keep-going] | get [--at MOMENT] [--keep-going] SCRIPT KEY .. | compare SCRIPT1 SCRIPT2 [--keep-going] | sets RULESET\n"
+usage_line = codes "pipapo: usage: run SCRIPT KEYS [--threads N] [--keep-going] | list SCRIPT [--keep-going] | dump SCRIPT [--keep-going] | drill SEED COUNT [--threads N] | judge SCRIPT RULES KEYS [--threads N] [--keep-going] | judge SCRIPT RULES PLAN PCAP [--threads N] [--keep-going] | capture SCRIPT PLAN PCAP [--threads N] [--keep-going] | desk SCRIPT [--keep-going] | get [--at MOMENT] [--keep-going] SCRIPT KEY .. | compare SCRIPT1 SCRIPT2 [--keep-going] | stat SCRIPT [--keep-going] | sets RULESET\n"
 
 -- a line that ends with a name
 abbrev pub named_line : List ℕ → List ℕ → List ℕ

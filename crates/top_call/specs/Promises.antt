@@ -7,7 +7,7 @@ use Rattle.input_files.specs.Inputs.{FileForm}
 use Rattle.top_call.specs.Calls.{Call, IsQuiet}
 use Rattle.top_call.specs.Lines.{form_status}
 use Rattle.top_call.specs.Names.{AsksInOrder, AsksForAll}
-use Rattle.top_call.specs.Answers.{EndsDuly, IsComplete, Transcribes, Judges, Captures, Lists, Dumps, Weaves, AnswersKeys, Compares, WritesSets, Drills, TellsPage, TellsReadFault, TellsFlaw, TellsTooMany, TellsBadKey}
+use Rattle.top_call.specs.Answers.{EndsDuly, IsComplete, Transcribes, Judges, Captures, Lists, Dumps, Weaves, AnswersKeys, Compares, Counts, Drills, TellsPage, TellsReadFault, TellsFlaw, TellsTooMany, TellsBadKey, JudgesCaptures, WritesSets}
 use Rattle.top_call.specs.Exactly.{IsExact, Completes}
 use Rattle.top_call.specs.Noted.{IsNoted}
 
@@ -28,12 +28,14 @@ pub record Promises (c : Call) : Type 0 where
   pub complete : IsQuiet c → Completes c
   -- With status 0 or 1 the sink took the text of a legal transcript. The status is 1 exactly if a change is refused.
   pub run : IsComplete c.status → Transcribes c
-  -- The same holds if chains judge the packets, and of the packets of a capture.
+  -- The same holds if chains judge the packets, of the packets of a capture, and of both.
   pub judge : IsComplete c.status → Judges c
   pub capture : IsComplete c.status → Captures c
-  -- In the same way the sink took the listing of the last generation, or its tables.
+  pub judge_capture : IsComplete c.status → JudgesCaptures c
+  -- In the same way the sink took the listing of the last generation, its tables, or its figures.
   pub list : IsComplete c.status → Lists c
   pub dump : IsComplete c.status → Dumps c
+  pub stat : IsComplete c.status → Counts c
   -- Of a desk the sink took the text of a log. The log is woven of the script's sections, and replays to the listed
   -- generation. The status is 1 exactly if that text reports a refusal.
   pub desk : IsComplete c.status → Weaves c

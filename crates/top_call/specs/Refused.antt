@@ -7,7 +7,7 @@ use Rattle.script_laws.specs.declared.output.Output.{Output}
 use Rattle.script_laws.specs.declared.refusals.Refusal.{Refusal}
 use Rattle.script_laws.specs.Reports.{IsReportOn, ends_failed, has_failed, refusals_of}
 use Rattle.desk_run.specs.DeskText.{IsDeskOutput, IsDeskText, all_told, desk_refusals}
-use Rattle.command_words.specs.Words.{Command, run, list, dump, drill, judge, capture, desk, get, compare, sets_of}
+use Rattle.command_words.specs.Words.{Command, run, list, dump, drill, judge, capture, desk, get, compare, stat, judge_capture, sets_of}
 use Rattle.set_model.specs.declared.memory.Memory.{Memory}
 use Rattle.pip_base.specs.Notes.{Tells}
 use Rattle.fault_notes.specs.declared.refused.RefusedChange.{RefusedChange}
@@ -33,8 +33,10 @@ abbrev pub AreRefused : Command → (List ℕ → Option (List ℕ)) → Bool �
 AreRefused (run script keys threads keep_going) told refused output refusals failed = (text : List ℕ) → told script ≡ Some text → AreRefusedAlone shows_all text (mode_of keep_going) refusals failed
 AreRefused (list script keep_going) told refused output refusals failed = (text : List ℕ) → told script ≡ Some text → AreRefusedAlone ends_failed text (mode_of keep_going) refusals failed
 AreRefused (dump script keep_going) told refused output refusals failed = (text : List ℕ) → told script ≡ Some text → AreRefusedAlone ends_failed text (mode_of keep_going) refusals failed
+AreRefused (stat script keep_going) told refused output refusals failed = (text : List ℕ) → told script ≡ Some text → AreRefusedAlone ends_failed text (mode_of keep_going) refusals failed
 AreRefused (drill seed count threads) told refused output refusals failed = Unit {0}
 AreRefused (judge script rules keys threads keep_going) told refused output refusals failed = (text : List ℕ) → told script ≡ Some text → AreRefusedAlone shows_all text (mode_of keep_going) refusals failed
+AreRefused (judge_capture script rules plan packets threads keep_going) told refused output refusals failed = (text : List ℕ) → told script ≡ Some text → AreRefusedAlone shows_all text (mode_of keep_going) refusals failed
 AreRefused (capture script plan packets threads keep_going) told refused output refusals failed = (text : List ℕ) → told script ≡ Some text → AreRefusedAlone shows_all text (mode_of keep_going) refusals failed
 AreRefused (desk script keep_going) told refused output refusals failed =
     (text : List ℕ) → told script ≡ Some text → (s : Script) × IsScriptText text s × (d : IsDeskText s keep_going refused output) × (refusals ≡ desk_refusals keep_going s d.log) × (failed ≡ has_failed (all_told keep_going s d.log))
@@ -47,9 +49,11 @@ abbrev pub GivesRefusals : Work → Output → Type 0
 GivesRefusals (works.Run s packets threads keep_going) out = IsReportOn (mode_of keep_going) s out × (out.failed ≡ false)
 GivesRefusals (works.List s keep_going) out = IsReportOn (mode_of keep_going) s out × (out.failed ≡ ends_failed (mode_of keep_going) s)
 GivesRefusals (works.Dump s keep_going) out = IsReportOn (mode_of keep_going) s out × (out.failed ≡ ends_failed (mode_of keep_going) s)
+GivesRefusals (works.Stat s keep_going) out = IsReportOn (mode_of keep_going) s out × (out.failed ≡ ends_failed (mode_of keep_going) s)
 GivesRefusals (works.Drill seed count threads) out = Unit {0}
 GivesRefusals (works.Capture s plan frames threads keep_going) out = IsReportOn (mode_of keep_going) s out × (out.failed ≡ false)
 GivesRefusals (works.Judge s chains packets threads keep_going) out = IsReportOn (mode_of keep_going) s out × (out.failed ≡ false)
+GivesRefusals (works.JudgeCapture s chains plan frames threads keep_going) out = IsReportOn (mode_of keep_going) s out × (out.failed ≡ false)
 GivesRefusals (works.Desk s keep_going) out = IsDeskOutput s keep_going out
 GivesRefusals (works.Get s key moment keep_going) out = IsReportOn (mode_of keep_going) s out × (out.failed ≡ false)
 GivesRefusals (works.Sets f whole sieved) out = (out.refusals.items ≡ []) × (out.failed ≡ false)

@@ -24,9 +24,10 @@ use Rattle.key_file.specs.KeysText.{IsKeysText}
 use Rattle.pcap_keys.specs.Planned.{packets as planned_packets}
 use Rattle.pcap_keys.specs.CapturedPackets.{AreCaptured}
 use Rattle.script_run.specs.Listings.{listing_text, tables_text}
+use Rattle.stat_answer.specs.StatText.{stat_text}
 use Rattle.script_run.specs.Drill.{drill_text}
 use Rattle.desk_run.specs.DeskText.{IsDeskText}
-use Rattle.command_words.specs.Words.{Command, run, list, dump, drill, judge, capture, desk, get, compare, sets_of}
+use Rattle.command_words.specs.Words.{Command, run, list, dump, drill, judge, capture, desk, get, compare, stat, judge_capture, sets_of}
 use Rattle.input_files.specs.declared.work.Work.{Work}
 use Rattle.input_files.specs.declared.work.Work.TheVariants as works
 
@@ -72,6 +73,19 @@ pub record IsJudgement (script_text rules_text keys_text : List ℕ) (threads : 
   pub text : output ≡ run_text (judged_text rules) mode script keys lines
   pub refusal : refused ≡ has_refusal mode script
 
+-- The same of the packets that a plan makes of a capture's frames.
+pub record IsJudgedCapture (script_text rules_text plan_text capture_text : List ℕ) (threads : ℕ) (mode : Mode) (refused : Bool) (output : List ℕ) : Type 0 where
+  pub script : Script
+  pub rules : Rules
+  pub packets : List Packet
+  pub lines : List Line
+  pub script_is : IsScriptText script_text script
+  pub rules_are : AreRulesOf script rules_text rules
+  pub captured : AreCaptured script.schema plan_text capture_text packets
+  pub legal : AreLegal (IsJudged rules) script (packets ∷ []) threads mode lines
+  pub text : output ≡ run_text (judged_text rules) mode script (packets ∷ []) lines
+  pub refusal : refused ≡ has_refusal mode script
+
 -- The output is this text of the script that was read. It reports a refusal exactly if a change of the script is
 -- refused.
 pub record IsTextOf (text : Mode → Script → List ℕ) (script_text : List ℕ) (mode : Mode) (refused : Bool) (output : List ℕ) : Type 0 where
@@ -86,6 +100,10 @@ IsListing = IsTextOf listing_text
 
 abbrev pub IsTables : List ℕ → Mode → Bool → List ℕ → Type 0
 IsTables = IsTextOf tables_text
+
+-- the figures of the last generation
+abbrev pub IsStat : List ℕ → Mode → Bool → List ℕ → Type 0
+IsStat = IsTextOf stat_text
 
 -- the most sections of a desk's script: the first, and one for each of sixteen control threads
 abbrev pub most_sections : ℕ
@@ -130,10 +148,14 @@ abbrev pub IsOutput : Command → (List ℕ → Option (List ℕ)) → Bool → 
 IsOutput (run script keys threads keep_going) told refused output = (script_text keys_text : List ℕ) → told script ≡ Some script_text → told keys ≡ Some keys_text → IsTranscript script_text keys_text threads (mode_of keep_going) refused output
 IsOutput (list script keep_going) told refused output = (script_text : List ℕ) → told script ≡ Some script_text → IsListing script_text (mode_of keep_going) refused output
 IsOutput (dump script keep_going) told refused output = (script_text : List ℕ) → told script ≡ Some script_text → IsTables script_text (mode_of keep_going) refused output
+IsOutput (stat script keep_going) told refused output = (script_text : List ℕ) → told script ≡ Some script_text → IsStat script_text (mode_of keep_going) refused output
 IsOutput (drill seed count threads) told refused output = (refused ≡ false) × (output ≡ drill_text seed count)
 IsOutput (judge script rules keys threads keep_going) told refused output =
     (script_text rules_text keys_text : List ℕ) → told script ≡ Some script_text → told rules ≡ Some rules_text → told keys ≡ Some keys_text
     → IsJudgement script_text rules_text keys_text threads (mode_of keep_going) refused output
+IsOutput (judge_capture script rules plan packets threads keep_going) told refused output =
+    (script_text rules_text plan_text capture_text : List ℕ) → told script ≡ Some script_text → told rules ≡ Some rules_text → told plan ≡ Some plan_text → told packets ≡ Some capture_text
+    → IsJudgedCapture script_text rules_text plan_text capture_text threads (mode_of keep_going) refused output
 IsOutput (capture script plan packets threads keep_going) told refused output =
     (script_text plan_text capture_text : List ℕ) → told script ≡ Some script_text → told plan ≡ Some plan_text → told packets ≡ Some capture_text
     → IsCaptured script_text plan_text capture_text threads (mode_of keep_going) refused output
@@ -160,9 +182,11 @@ abbrev pub HasFewClerks : Work → Type 0
 HasFewClerks (works.Run s packets threads keep_going) = Unit {0}
 HasFewClerks (works.List s keep_going) = Unit {0}
 HasFewClerks (works.Dump s keep_going) = Unit {0}
+HasFewClerks (works.Stat s keep_going) = Unit {0}
 HasFewClerks (works.Drill seed count threads) = Unit {0}
 HasFewClerks (works.Judge s chains packets threads keep_going) = Unit {0}
 HasFewClerks (works.Capture s plan frames threads keep_going) = Unit {0}
+HasFewClerks (works.JudgeCapture s chains plan frames threads keep_going) = Unit {0}
 HasFewClerks (works.Desk s keep_going) = length s.sections ≤ most_sections
 HasFewClerks (works.Get s key moment keep_going) = Unit {0}
 HasFewClerks (works.Compare a s b t keep_going) = Unit {0}
@@ -181,10 +205,13 @@ abbrev pub GivesText : Work → Bool → List ℕ → Type 0
 GivesText (works.Run s packets threads keep_going) refused text = HasTranscript s packets threads (mode_of keep_going) text × (refused ≡ has_refusal (mode_of keep_going) s)
 GivesText (works.List s keep_going) refused text = (text ≡ listing_text (mode_of keep_going) s) × (refused ≡ has_refusal (mode_of keep_going) s)
 GivesText (works.Dump s keep_going) refused text = (text ≡ tables_text (mode_of keep_going) s) × (refused ≡ has_refusal (mode_of keep_going) s)
+GivesText (works.Stat s keep_going) refused text = (text ≡ stat_text (mode_of keep_going) s) × (refused ≡ has_refusal (mode_of keep_going) s)
 GivesText (works.Drill seed count threads) refused text = (text ≡ drill_text seed count) × (refused ≡ false)
 GivesText (works.Capture s plan frames threads keep_going) refused text =
     HasTranscript s (planned_packets plan frames ∷ []) threads (mode_of keep_going) text × (refused ≡ has_refusal (mode_of keep_going) s)
 GivesText (works.Judge s chains packets threads keep_going) refused text = HasJudgement s chains packets threads (mode_of keep_going) text × (refused ≡ has_refusal (mode_of keep_going) s)
+GivesText (works.JudgeCapture s chains plan frames threads keep_going) refused text =
+    HasJudgement s chains (planned_packets plan frames ∷ []) threads (mode_of keep_going) text × (refused ≡ has_refusal (mode_of keep_going) s)
 GivesText (works.Desk s keep_going) refused text = IsDeskText s keep_going refused text × (length s.sections ≤ most_sections)
 GivesText (works.Get s key moment keep_going) refused text = GivesAnswer (mode_of keep_going) s (map string_bytes key.now) moment refused text
 GivesText (works.Sets f whole sieved) refused text = (text ≡ sieved.text.items) × (refused ≡ list_any (λ s. leaves_out s.why) sieved.skips)
@@ -195,9 +222,11 @@ abbrev pub HasBadWords : Work → ℕ → Reason → Type 0
 HasBadWords (works.Run s packets threads keep_going) line reason = ⊥
 HasBadWords (works.List s keep_going) line reason = ⊥
 HasBadWords (works.Dump s keep_going) line reason = ⊥
+HasBadWords (works.Stat s keep_going) line reason = ⊥
 HasBadWords (works.Drill seed count threads) line reason = ⊥
 HasBadWords (works.Judge s chains packets threads keep_going) line reason = ⊥
 HasBadWords (works.Capture s plan frames threads keep_going) line reason = ⊥
+HasBadWords (works.JudgeCapture s chains plan frames threads keep_going) line reason = ⊥
 HasBadWords (works.Desk s keep_going) line reason = ⊥
 HasBadWords (works.Get s key moment keep_going) line reason = IsBadKey s.schema (map string_bytes key.now) line reason
 HasBadWords (works.Compare a s b t keep_going) line reason = ⊥
@@ -208,8 +237,10 @@ abbrev pub MakesOutput : Work → Type 0
 MakesOutput (works.Run s packets threads keep_going) = Unit {0}
 MakesOutput (works.List s keep_going) = Unit {0}
 MakesOutput (works.Dump s keep_going) = Unit {0}
+MakesOutput (works.Stat s keep_going) = Unit {0}
 MakesOutput (works.Drill seed count threads) = Unit {0}
 MakesOutput (works.Judge s chains packets threads keep_going) = Unit {0}
+MakesOutput (works.JudgeCapture s chains plan frames threads keep_going) = Unit {0}
 MakesOutput (works.Capture s plan frames threads keep_going) = Unit {0}
 MakesOutput (works.Desk s keep_going) = Unit {0}
 MakesOutput (works.Get s key moment keep_going) = Unit {0}

@@ -147,6 +147,8 @@ fn carry_out<R: Threads + Wait + Sync, F: Shelf, K: Sink, N: Notes, G: Gate>(
 ///   SEED. It writes a summary of one line.
 /// - `judge SCRIPT RULES KEYS [--threads N] [--keep-going]` runs a script while the chains of a rules file
 ///   decide on the packets of a key file. It writes the transcript with the deciding rules.
+/// - `judge SCRIPT RULES PLAN PCAP [--threads N] [--keep-going]` does the same for the packets that a plan takes
+///   from a capture.
 /// - `capture SCRIPT PLAN PCAP [--threads N] [--keep-going]` runs a script beside the packets that a plan
 ///   takes from a capture, and writes the transcript.
 /// - `desk SCRIPT [--keep-going]` runs the first section of a script, and then each of the others by a
@@ -156,6 +158,8 @@ fn carry_out<R: Threads + Wait + Sync, F: Shelf, K: Sink, N: Notes, G: Gate>(
 ///   the last generation that holds the key, with the line that added it, or `none`. Its options come in either order.
 /// - `compare SCRIPT1 SCRIPT2 [--keep-going]` runs two scripts, and writes for each set whether both decide alike on every
 ///   key, with the least key on which they don't.
+/// - `stat SCRIPT [--keep-going]` runs a script, and writes how many elements its last generation has, when they expire, and how
+///   large their tables are.
 ///
 /// - `sets RULESET` writes the sets of a ruleset as a script. `notes` gets a note on what isn't kept.
 ///

@@ -19,6 +19,7 @@ use packet_pool::Gate;
 use pcap_keys::{Frames, Plan, keys_of};
 use script_run::{Output, drill, dump, judged, listing, transcript};
 use set_model::{Keys, Memory};
+use stat_answer::stat;
 use std::alloc::Global;
 use std::sync::Wait;
 use std::thread::Threads;
@@ -61,6 +62,7 @@ pub fn output_of<R: Threads + Wait + Sync, G: Gate>(
         } => Ok(transcript(rt, alloc, script, &keys, keep_going, threads, gate)?),
         Work::List { script, keep_going } => Ok(listing(alloc, script, keep_going, gate)?),
         Work::Dump { script, keep_going } => Ok(dump(alloc, script, keep_going, gate)?),
+        Work::Stat { script, keep_going } => Ok(stat(alloc, script, keep_going, gate)?),
         Work::Drill {
             seed,
             count,
@@ -83,6 +85,17 @@ pub fn output_of<R: Threads + Wait + Sync, G: Gate>(
             threads,
             keep_going,
         } => Ok(judged(rt, alloc, script, chains, &keys, keep_going, threads, gate)?),
+        Work::JudgeCapture {
+            script,
+            chains,
+            plan,
+            frames,
+            threads,
+            keep_going,
+        } => {
+            let packets = captured(alloc, &plan, &frames)?;
+            Ok(judged(rt, alloc, script, chains, &packets, keep_going, threads, gate)?)
+        }
         Work::Desk { script, keep_going } => {
             Ok(desk(rt, alloc, script, keep_going, &QuietBell, gate)?)
         }

@@ -7,12 +7,13 @@ use set_model::Memory;
 use text_pieces::Piece;
 
 /// The words at the place of a command.
-const COMMANDS: [&[u8]; 10] = [
-    b"get", b"compare", b"run", b"judge", b"capture", b"desk", b"drill", b"list", b"dump", b"help",
+const COMMANDS: [&[u8]; 12] = [
+    b"get", b"compare", b"stat", b"run", b"judge", b"capture", b"desk", b"drill", b"list", b"dump", b"sets",
+    b"help",
 ];
 
 const COMMANDS_ARE: &[u8] =
-    b"the commands are get, compare, run, judge, capture, desk, drill, list, dump and help";
+    b"the commands are get, compare, stat, run, judge, capture, desk, drill, list, dump, sets and help";
 
 /// The options of all commands.
 const OPTIONS: [&[u8]; 3] = [b"--threads", b"--keep-going", b"--at"];
@@ -154,10 +155,16 @@ pub(crate) fn explain(said: &mut Explained, fault: WordFault<'_>) -> Result<(), 
             b" can't come with these words",
             b"write it alone, or --help alone after a command",
         ),
+        WordFault::NoPage(word) => explain_extra(
+            said,
+            word,
+            b" has no page of its own",
+            b"write 'pipapo help' alone, or a command after it, as: pipapo help run",
+        ),
         WordFault::TooMuchHelp(word) => explain_extra(
             said,
             word,
-            b" is a word too many",
+            b" is an extra word",
             b"write one command after 'help'",
         ),
         WordFault::NotAnOption(verb, option) => explain_option(said, verb, option),
@@ -192,11 +199,11 @@ pub(crate) fn explain(said: &mut Explained, fault: WordFault<'_>) -> Result<(), 
             b"only one file can be the standard input",
         ),
         WordFault::TooMany(verb, word) => {
-            explain_extra(said, word, b" is a word too many", form_of(verb))
+            explain_extra(said, word, b" is an extra word", form_of(verb))
         }
         WordFault::Missing(verb, names) => explain_missing(said, verb, names),
         WordFault::Other => said.say(
-            b"these words are no command",
+            b"these words aren't a command",
             b"'pipapo help' explains the commands",
         ),
     }

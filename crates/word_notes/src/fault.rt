@@ -44,6 +44,8 @@ pub(crate) enum WordFault<'a> {
     OptionFirst(&'a str),
     /// This word asks for a page, and comes with others.
     NotAlone(&'a str),
+    /// This word after `help` is `help` again, or asks for a page.
+    NoPage(&'a str),
     /// More than one word comes after `help`: the second one.
     TooMuchHelp(&'a str),
     /// A word with a dash is no option of the command.
@@ -73,6 +75,9 @@ pub(crate) enum WordFault<'a> {
 /// What is wrong with the words after `help`.
 fn fault_of_help(rest: &[String]) -> WordFault<'_> {
     match rest {
+        [word, ..] if word.as_str() == "help" || asks_for_page(word.as_str()) => {
+            WordFault::NoPage(word.as_str())
+        }
         [word, ..] if Verb::of_word(word.as_str()).is_none() => {
             WordFault::NotACommand(word.as_str())
         }

@@ -19,10 +19,10 @@ fn is_name(word: &[u8]) -> bool {
         .all(|byte| byte.is_ascii_uppercase() || byte.is_ascii_digit())
 }
 
-/// The name at a place of a command's words, from 0.
-pub(crate) fn name_at(verb: Verb, place: usize) -> Option<&'static [u8]> {
+/// The name at a place of a form, from 0.
+fn name_in(form: &'static [u8], place: usize) -> Option<&'static [u8]> {
     let mut seen = 0usize;
-    for word in form_of(verb).split(|byte| *byte == b' ') {
+    for word in form.split(|byte| *byte == b' ') {
         if is_name(word) {
             if seen == place {
                 return Some(word);
@@ -31,6 +31,24 @@ pub(crate) fn name_at(verb: Verb, place: usize) -> Option<&'static [u8]> {
         }
     }
     None
+}
+
+/// The name at a place of a command's words, from 0. Of a command with several forms it is the first one's.
+pub(crate) fn name_at(verb: Verb, place: usize) -> Option<&'static [u8]> {
+    name_in(form_of(verb), place)
+}
+
+/// Whether a command's words may have a name at a place, in one of its forms.
+pub(crate) fn may_name(verb: Verb, place: usize) -> bool {
+    for line in Page::Command(verb).text().as_bytes().split(|byte| *byte == b'\n') {
+        if line.is_empty() {
+            return false;
+        }
+        if name_in(line, place).is_some() {
+            return true;
+        }
+    }
+    false
 }
 
 /// Whether a command takes an option.

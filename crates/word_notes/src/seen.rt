@@ -1,6 +1,6 @@
 //! What was seen of a command's words so far.
 use crate::fault::{NumberOf, WordFault};
-use crate::form::{name_at, takes};
+use crate::form::{may_name, name_at, takes};
 use command_words::Verb;
 
 /// What was seen after a command's word.
@@ -120,15 +120,15 @@ impl Seen {
             return Ok(more);
         }
         match name_at(self.verb, self.names) {
-            None => Err(WordFault::TooMany(self.verb, word)),
+            None if !may_name(self.verb, self.names) => Err(WordFault::TooMany(self.verb, word)),
             Some(b"SEED") if !NumberOf::Seed.is_written(word) => {
                 Err(WordFault::BadNumber(NumberOf::Seed, word))
             }
             Some(b"COUNT") if !NumberOf::Count.is_written(word) => {
                 Err(WordFault::BadNumber(NumberOf::Count, word))
             }
-            Some(_) if is_stdin && self.has_stdin => Err(WordFault::StdinTwice),
-            Some(_) => Ok(more),
+            _ if is_stdin && self.has_stdin => Err(WordFault::StdinTwice),
+            _ => Ok(more),
         }
     }
 

@@ -12,7 +12,8 @@ returns-in-Ok c word names threads goes said plain =
       first = c.get_str.ensures ∙ v.first;
       second = c.get_str-in-Ok.ensures ∙ v.second;
       third = c.get_str-in-Ok-2.ensures ∙ v.third;
-      threads_are = c.get_str-in-Ok-3.ensures ∙ v.threads_are;
+      fourth = c.get_str-in-Ok-3.ensures ∙ v.fourth;
+      threads_are = c.get_str-in-Ok-4.ensures ∙ v.threads_are;
       mark = flag-is c.get_flag.result goes (one_text (found_of c.in-Ok.values) (codes "keep-going")) c.get_flag.ensures.value c.get_flag.ensures.other v.mark;
     }
 

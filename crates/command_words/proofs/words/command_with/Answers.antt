@@ -1,7 +1,7 @@
 use Rattle.std.proofs.Common.{refl, map, codes}
 use Rattle.std.specs.String.{string_bytes}
 use Rattle.command_words.specs.declared.shape.Verb.TheVariants as verbs
-use Rattle.command_words.proofs.WordValues.{of-verb, has-first, pair-second, triple-second, triple-third, drill-second, files-second, is-alone, is-ruleset, is-pair, is-files, is-triple, is-seed, is-count, is-drill}
+use Rattle.command_words.proofs.WordValues.{of-verb, has-first, pair-second, triple-second, triple-third, judge-second, judge-third, judge-threads, drill-second, files-second, is-alone, is-pair, is-files, is-triple, is-judge, is-judge-capture, is-seed, is-count, is-drill, is-ruleset}
 use Rattle.command_words.proofs.words.command_with.Goals as goal
 
 pub unwrap-first-requires : goal.unwrap-first-requires
@@ -18,18 +18,23 @@ returns-in-Run c =
     is-pair (map string_bytes c.args.words.now) c.in_ok-first.field-0 c.unwrap-first.result c.unwrap-first.ensures c.unwrap.result c.unwrap.ensures (codes "run") c.thread_count.result c.thread_count.ensures
     (of-verb (map string_bytes c.args.words.now) c.in_ok-first.field-0 c.in_ok-first.ensures c.args.verb verbs.Run c.in-Run.is c.requires.shape c.requires.words)
 
-pub unwrap-requires-in-Judge : goal.unwrap-requires-in-Judge
-unwrap-requires-in-Judge c = triple-second (map string_bytes c.args.words.now) c.in_ok-first.field-0 (codes "judge") (of-verb (map string_bytes c.args.words.now) c.in_ok-first.field-0 c.in_ok-first.ensures c.args.verb verbs.Judge c.in-Judge.is c.requires.shape c.requires.words)
+pub unwrap-rules-requires : goal.unwrap-rules-requires
+unwrap-rules-requires c = judge-second (map string_bytes c.args.words.now) c.in_ok-first.field-0 (of-verb (map string_bytes c.args.words.now) c.in_ok-first.field-0 c.in_ok-first.ensures c.args.verb verbs.Judge c.in-Judge.is c.requires.shape c.requires.words)
 
-pub unwrap-requires-in-Judge-2 : goal.unwrap-requires-in-Judge-2
-unwrap-requires-in-Judge-2 c = triple-third (map string_bytes c.args.words.now) c.in_ok-first.field-0 (codes "judge") (of-verb (map string_bytes c.args.words.now) c.in_ok-first.field-0 c.in_ok-first.ensures c.args.verb verbs.Judge c.in-Judge.is c.requires.shape c.requires.words)
+pub unwrap-third-requires : goal.unwrap-third-requires
+unwrap-third-requires c = judge-third (map string_bytes c.args.words.now) c.in_ok-first.field-0 (of-verb (map string_bytes c.args.words.now) c.in_ok-first.field-0 c.in_ok-first.ensures c.args.verb verbs.Judge c.in-Judge.is c.requires.shape c.requires.words)
 
-pub thread_count-requires-in-Judge : goal.thread_count-requires-in-Judge
-thread_count-requires-in-Judge c = let of = of-verb (map string_bytes c.args.words.now) c.in_ok-first.field-0 c.in_ok-first.ensures c.args.verb verbs.Judge c.in-Judge.is c.requires.shape c.requires.words in (of.3.count, of.3.threads_are)
+pub thread_count-threads-requires : goal.thread_count-threads-requires
+thread_count-threads-requires c = judge-threads (map string_bytes c.args.words.now) c.in_ok-first.field-0 (of-verb (map string_bytes c.args.words.now) c.in_ok-first.field-0 c.in_ok-first.ensures c.args.verb verbs.Judge c.in-Judge.is c.requires.shape c.requires.words)
 
-pub returns-in-Judge : goal.returns-in-Judge
-returns-in-Judge c =
-    is-triple (map string_bytes c.args.words.now) c.in_ok-first.field-0 c.unwrap-first.result c.unwrap-first.ensures c.unwrap-in-Judge.result c.unwrap-in-Judge.ensures (codes "judge") c.thread_count-in-Judge.result c.unwrap-in-Judge-2.result c.unwrap-in-Judge-2.ensures c.thread_count-in-Judge.ensures
+pub returns-in-None : goal.returns-in-None
+returns-in-None c =
+    is-judge (map string_bytes c.args.words.now) c.in_ok-first.field-0 c.unwrap-first.result c.unwrap-first.ensures c.unwrap-rules.result c.unwrap-rules.ensures c.thread_count-threads.result c.unwrap-third.result c.unwrap-third.ensures c.thread_count-threads.ensures c.in-None.is
+    (of-verb (map string_bytes c.args.words.now) c.in_ok-first.field-0 c.in_ok-first.ensures c.args.verb verbs.Judge c.in-Judge.is c.requires.shape c.requires.words)
+
+pub returns-in-Some : goal.returns-in-Some
+returns-in-Some c =
+    is-judge-capture (map string_bytes c.args.words.now) c.in_ok-first.field-0 c.unwrap-first.result c.unwrap-first.ensures c.unwrap-rules.result c.unwrap-rules.ensures c.thread_count-threads.result c.unwrap-third.result c.unwrap-third.ensures c.thread_count-threads.ensures c.in-Some.packets c.in-Some.is
     (of-verb (map string_bytes c.args.words.now) c.in_ok-first.field-0 c.in_ok-first.ensures c.args.verb verbs.Judge c.in-Judge.is c.requires.shape c.requires.words)
 
 pub unwrap-requires-in-Capture : goal.unwrap-requires-in-Capture
@@ -77,6 +82,11 @@ pub returns-in-Dump : goal.returns-in-Dump
 returns-in-Dump c =
     is-alone (map string_bytes c.args.words.now) c.in_ok-first.field-0 c.unwrap-first.result c.unwrap-first.ensures (codes "dump")
     (of-verb (map string_bytes c.args.words.now) c.in_ok-first.field-0 c.in_ok-first.ensures c.args.verb verbs.Dump c.in-Dump.is c.requires.shape c.requires.words)
+
+pub returns-in-Stat : goal.returns-in-Stat
+returns-in-Stat c =
+    is-alone (map string_bytes c.args.words.now) c.in_ok-first.field-0 c.unwrap-first.result c.unwrap-first.ensures (codes "stat")
+    (of-verb (map string_bytes c.args.words.now) c.in_ok-first.field-0 c.in_ok-first.ensures c.args.verb verbs.Stat c.in-Stat.is c.requires.shape c.requires.words)
 
 pub returns-in-Desk : goal.returns-in-Desk
 returns-in-Desk c =

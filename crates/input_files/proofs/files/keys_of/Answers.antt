@@ -21,4 +21,4 @@ returns-in-Err-clause-noted g c = c.in-Err.ensures.noted c.args.schema.now
 
 pub returns-in-Err-Bad-clause-noted : goal.returns-in-Err-Bad-clause-noted
 returns-in-Err-Bad-clause-noted g c =
-    bad-note (key_file c.args.schema.now) text_tokens (g.F.Shelf.told c.args.shelf.now) c.args.name.now c.in-Ok.text.items c.as_slice-bytes.result.now c.bad_token-found.result _ _ _ c.in-Ok.ensures.bytes c.as_slice-bytes.ensures.value c.bad_token-found.ensures c.in-Ok.ensures.silent c.tell_keys.ensures
+    bad-note (key_file c.args.schema.now) text_tokens (g.F.Shelf.told c.args.shelf.now) c.args.name.now c.in-Ok.text.items c.as_slice-bytes.result.now c.bad_token-found.result _ _ _ c.in-Ok.ensures.bytes c.as_slice-bytes.ensures.value c.bad_token-found.ensures c.in-Ok.ensures.silent c.tell_bad.ensures

@@ -35,6 +35,12 @@ returns-in-Dump-clause-all g c =
     (up-to-more (record { name = c.in-Script.script.now; form = script }) (up-to-none (g.F.Shelf.told c.args.shelf.now) (g.F.Shelf.asked c.args.shelf.now) (g.F.Shelf.faults c.args.shelf.now) (g.F.Shelf.is_picked c.args.shelf.now) (g.F.Shelf.left c.args.shelf.now) c.in-Ok.script.schema c.requires.nothing)
     (as-script (g.F.Shelf.told c.args.shelf.now) c.in-Script.script.now c.in-Ok.script c.in-Ok.ensures.read) c.in-Ok.ensures.quiet c.in-Ok.ensures.whole c.in-Ok.ensures.kept c.in-Ok.ensures.told)
 
+pub returns-in-Stat-clause-all : goal.returns-in-Stat-clause-all
+returns-in-Stat-clause-all g c =
+    has-read (plain c.args.command) (ap (λ x. inputs (plain x)) c.in-Script.is ∙ ap (λ t. inputs (plain (asked.Script c.in-Script.script t c.in-Script.keep_going))) c.in-Stat.is)
+    (up-to-more (record { name = c.in-Script.script.now; form = script }) (up-to-none (g.F.Shelf.told c.args.shelf.now) (g.F.Shelf.asked c.args.shelf.now) (g.F.Shelf.faults c.args.shelf.now) (g.F.Shelf.is_picked c.args.shelf.now) (g.F.Shelf.left c.args.shelf.now) c.in-Ok.script.schema c.requires.nothing)
+    (as-script (g.F.Shelf.told c.args.shelf.now) c.in-Script.script.now c.in-Ok.script c.in-Ok.ensures.read) c.in-Ok.ensures.quiet c.in-Ok.ensures.whole c.in-Ok.ensures.kept c.in-Ok.ensures.told)
+
 pub returns-in-Desk-clause-all : goal.returns-in-Desk-clause-all
 returns-in-Desk-clause-all g c =
     has-read (plain c.args.command) (ap (λ x. inputs (plain x)) c.in-Script.is ∙ ap (λ t. inputs (plain (asked.Script c.in-Script.script t c.in-Script.keep_going))) c.in-Desk.is)
@@ -82,12 +88,42 @@ returns-in-Ok-capture_of-clause-all g c =
     (as-plan (g.F.Shelf.told c.script_of.new.shelf) c.in-Capture.plan.now c.in-Ok.script.schema c.in-Ok-plan_of.plan c.in-Ok-plan_of.ensures.read) c.in-Ok-plan_of.ensures.quiet c.in-Ok-plan_of.ensures.whole c.in-Ok-plan_of.ensures.kept c.in-Ok-plan_of.ensures.told)
     (as-capture (g.F.Shelf.told c.plan_of.new.shelf) c.in-Capture.packets.now c.in-Ok.script.schema c.in-Ok-capture_of.frames c.in-Ok-capture_of.ensures.read) c.in-Ok-capture_of.ensures.quiet c.in-Ok-capture_of.ensures.whole c.in-Ok-capture_of.ensures.kept c.in-Ok-capture_of.ensures.told)
 
-pub returns-in-Script-clause-stops : goal.returns-in-Script-clause-stops
-returns-in-Script-clause-stops g c =
+pub returns-in-Capture-clause-stops : goal.returns-in-Capture-clause-stops
+returns-in-Capture-clause-stops g c =
     stops (plain c.args.command) (record { name = c.in-Capture.packets.now; form = capture }) [] c.in-Err-capture_of.fault (ap (λ x. inputs (plain x)) c.in-Script.is ∙ ap (λ t. inputs (plain (asked.Script c.in-Script.script t c.in-Script.keep_going))) c.in-Capture.is)
     (up-to-more (record { name = c.in-Capture.plan.now; form = plan }) (up-to-more (record { name = c.in-Script.script.now; form = script }) (up-to-none (g.F.Shelf.told c.args.shelf.now) (g.F.Shelf.asked c.args.shelf.now) (g.F.Shelf.faults c.args.shelf.now) (g.F.Shelf.is_picked c.args.shelf.now) (g.F.Shelf.left c.args.shelf.now) c.in-Ok.script.schema c.requires.nothing)
     (as-script (g.F.Shelf.told c.args.shelf.now) c.in-Script.script.now c.in-Ok.script c.in-Ok.ensures.read) c.in-Ok.ensures.quiet c.in-Ok.ensures.whole c.in-Ok.ensures.kept c.in-Ok.ensures.told)
     (as-plan (g.F.Shelf.told c.script_of.new.shelf) c.in-Capture.plan.now c.in-Ok.script.schema c.in-Ok-plan_of.plan c.in-Ok-plan_of.ensures.read) c.in-Ok-plan_of.ensures.quiet c.in-Ok-plan_of.ensures.whole c.in-Ok-plan_of.ensures.kept c.in-Ok-plan_of.ensures.told) c.in-Err-capture_of.ensures.kept (c.in-Err-capture_of.ensures.cause c.in-Ok.script.schema) (c.in-Ok-plan_of.ensures.silent ∙ c.in-Ok.ensures.silent) (c.in-Err-capture_of.ensures.noted c.in-Ok.script.schema)
+
+pub returns-in-Err-rules_of-2-clause-stops : goal.returns-in-Err-rules_of-2-clause-stops
+returns-in-Err-rules_of-2-clause-stops g c =
+    stops (plain c.args.command) (record { name = c.in-JudgeCapture.rules.now; form = rules }) (record { name = c.in-JudgeCapture.plan.now; form = plan } ∷ record { name = c.in-JudgeCapture.packets.now; form = capture } ∷ []) c.in-Err-rules_of-2.fault (ap (λ x. inputs (plain x)) c.in-Script.is ∙ ap (λ t. inputs (plain (asked.Script c.in-Script.script t c.in-Script.keep_going))) c.in-JudgeCapture.is)
+    (up-to-more (record { name = c.in-Script.script.now; form = script }) (up-to-none (g.F.Shelf.told c.args.shelf.now) (g.F.Shelf.asked c.args.shelf.now) (g.F.Shelf.faults c.args.shelf.now) (g.F.Shelf.is_picked c.args.shelf.now) (g.F.Shelf.left c.args.shelf.now) c.in-Ok.script.schema c.requires.nothing)
+    (as-script (g.F.Shelf.told c.args.shelf.now) c.in-Script.script.now c.in-Ok.script c.in-Ok.ensures.read) c.in-Ok.ensures.quiet c.in-Ok.ensures.whole c.in-Ok.ensures.kept c.in-Ok.ensures.told) c.in-Err-rules_of-2.ensures.kept c.in-Err-rules_of-2.ensures.cause c.in-Ok.ensures.silent c.in-Err-rules_of-2.ensures.noted
+
+pub returns-in-Err-plan_of-2-clause-stops : goal.returns-in-Err-plan_of-2-clause-stops
+returns-in-Err-plan_of-2-clause-stops g c =
+    stops (plain c.args.command) (record { name = c.in-JudgeCapture.plan.now; form = plan }) (record { name = c.in-JudgeCapture.packets.now; form = capture } ∷ []) c.in-Err-plan_of-2.fault (ap (λ x. inputs (plain x)) c.in-Script.is ∙ ap (λ t. inputs (plain (asked.Script c.in-Script.script t c.in-Script.keep_going))) c.in-JudgeCapture.is)
+    (up-to-more (record { name = c.in-JudgeCapture.rules.now; form = rules }) (up-to-more (record { name = c.in-Script.script.now; form = script }) (up-to-none (g.F.Shelf.told c.args.shelf.now) (g.F.Shelf.asked c.args.shelf.now) (g.F.Shelf.faults c.args.shelf.now) (g.F.Shelf.is_picked c.args.shelf.now) (g.F.Shelf.left c.args.shelf.now) c.in-Ok.script.schema c.requires.nothing)
+    (as-script (g.F.Shelf.told c.args.shelf.now) c.in-Script.script.now c.in-Ok.script c.in-Ok.ensures.read) c.in-Ok.ensures.quiet c.in-Ok.ensures.whole c.in-Ok.ensures.kept c.in-Ok.ensures.told)
+    (as-rules (g.F.Shelf.told c.script_of.new.shelf) c.in-JudgeCapture.rules.now c.in-Ok.script.schema (c.in-Ok-rules_of-2.chains.chains, c.in-Ok-rules_of-2.chains.accept) c.in-Ok-rules_of-2.ensures.read) c.in-Ok-rules_of-2.ensures.quiet c.in-Ok-rules_of-2.ensures.whole c.in-Ok-rules_of-2.ensures.kept c.in-Ok-rules_of-2.ensures.told) c.in-Err-plan_of-2.ensures.kept c.in-Err-plan_of-2.ensures.cause (c.in-Ok-rules_of-2.ensures.silent ∙ c.in-Ok.ensures.silent) c.in-Err-plan_of-2.ensures.noted
+
+pub returns-in-Ok-capture_of-2-clause-all : goal.returns-in-Ok-capture_of-2-clause-all
+returns-in-Ok-capture_of-2-clause-all g c =
+    has-read (plain c.args.command) (ap (λ x. inputs (plain x)) c.in-Script.is ∙ ap (λ t. inputs (plain (asked.Script c.in-Script.script t c.in-Script.keep_going))) c.in-JudgeCapture.is)
+    (up-to-more (record { name = c.in-JudgeCapture.packets.now; form = capture }) (up-to-more (record { name = c.in-JudgeCapture.plan.now; form = plan }) (up-to-more (record { name = c.in-JudgeCapture.rules.now; form = rules }) (up-to-more (record { name = c.in-Script.script.now; form = script }) (up-to-none (g.F.Shelf.told c.args.shelf.now) (g.F.Shelf.asked c.args.shelf.now) (g.F.Shelf.faults c.args.shelf.now) (g.F.Shelf.is_picked c.args.shelf.now) (g.F.Shelf.left c.args.shelf.now) c.in-Ok.script.schema c.requires.nothing)
+    (as-script (g.F.Shelf.told c.args.shelf.now) c.in-Script.script.now c.in-Ok.script c.in-Ok.ensures.read) c.in-Ok.ensures.quiet c.in-Ok.ensures.whole c.in-Ok.ensures.kept c.in-Ok.ensures.told)
+    (as-rules (g.F.Shelf.told c.script_of.new.shelf) c.in-JudgeCapture.rules.now c.in-Ok.script.schema (c.in-Ok-rules_of-2.chains.chains, c.in-Ok-rules_of-2.chains.accept) c.in-Ok-rules_of-2.ensures.read) c.in-Ok-rules_of-2.ensures.quiet c.in-Ok-rules_of-2.ensures.whole c.in-Ok-rules_of-2.ensures.kept c.in-Ok-rules_of-2.ensures.told)
+    (as-plan (g.F.Shelf.told c.rules_of-in-JudgeCapture.new.shelf) c.in-JudgeCapture.plan.now c.in-Ok.script.schema c.in-Ok-plan_of-2.plan c.in-Ok-plan_of-2.ensures.read) c.in-Ok-plan_of-2.ensures.quiet c.in-Ok-plan_of-2.ensures.whole c.in-Ok-plan_of-2.ensures.kept c.in-Ok-plan_of-2.ensures.told)
+    (as-capture (g.F.Shelf.told c.plan_of-in-JudgeCapture.new.shelf) c.in-JudgeCapture.packets.now c.in-Ok.script.schema c.in-Ok-capture_of-2.frames c.in-Ok-capture_of-2.ensures.read) c.in-Ok-capture_of-2.ensures.quiet c.in-Ok-capture_of-2.ensures.whole c.in-Ok-capture_of-2.ensures.kept c.in-Ok-capture_of-2.ensures.told)
+
+pub returns-in-Script-clause-stops : goal.returns-in-Script-clause-stops
+returns-in-Script-clause-stops g c =
+    stops (plain c.args.command) (record { name = c.in-JudgeCapture.packets.now; form = capture }) [] c.in-Err-capture_of-2.fault (ap (λ x. inputs (plain x)) c.in-Script.is ∙ ap (λ t. inputs (plain (asked.Script c.in-Script.script t c.in-Script.keep_going))) c.in-JudgeCapture.is)
+    (up-to-more (record { name = c.in-JudgeCapture.plan.now; form = plan }) (up-to-more (record { name = c.in-JudgeCapture.rules.now; form = rules }) (up-to-more (record { name = c.in-Script.script.now; form = script }) (up-to-none (g.F.Shelf.told c.args.shelf.now) (g.F.Shelf.asked c.args.shelf.now) (g.F.Shelf.faults c.args.shelf.now) (g.F.Shelf.is_picked c.args.shelf.now) (g.F.Shelf.left c.args.shelf.now) c.in-Ok.script.schema c.requires.nothing)
+    (as-script (g.F.Shelf.told c.args.shelf.now) c.in-Script.script.now c.in-Ok.script c.in-Ok.ensures.read) c.in-Ok.ensures.quiet c.in-Ok.ensures.whole c.in-Ok.ensures.kept c.in-Ok.ensures.told)
+    (as-rules (g.F.Shelf.told c.script_of.new.shelf) c.in-JudgeCapture.rules.now c.in-Ok.script.schema (c.in-Ok-rules_of-2.chains.chains, c.in-Ok-rules_of-2.chains.accept) c.in-Ok-rules_of-2.ensures.read) c.in-Ok-rules_of-2.ensures.quiet c.in-Ok-rules_of-2.ensures.whole c.in-Ok-rules_of-2.ensures.kept c.in-Ok-rules_of-2.ensures.told)
+    (as-plan (g.F.Shelf.told c.rules_of-in-JudgeCapture.new.shelf) c.in-JudgeCapture.plan.now c.in-Ok.script.schema c.in-Ok-plan_of-2.plan c.in-Ok-plan_of-2.ensures.read) c.in-Ok-plan_of-2.ensures.quiet c.in-Ok-plan_of-2.ensures.whole c.in-Ok-plan_of-2.ensures.kept c.in-Ok-plan_of-2.ensures.told) c.in-Err-capture_of-2.ensures.kept (c.in-Err-capture_of-2.ensures.cause c.in-Ok.script.schema) (c.in-Ok-plan_of-2.ensures.silent ∙ c.in-Ok-rules_of-2.ensures.silent ∙ c.in-Ok.ensures.silent) (c.in-Err-capture_of-2.ensures.noted c.in-Ok.script.schema)
 
 pub returns-in-Drill-clause-all : goal.returns-in-Drill-clause-all
 returns-in-Drill-clause-all g c =

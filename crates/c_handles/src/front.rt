@@ -1,0 +1,9 @@
+ghost use Rattle.std.specs.Prelude.{◌≡◌, ◌≤◌, ◌++◌, length, drop};
+
+/// Writes bytes over the front of a buffer.
+pub(crate) fn write_front(buffer: &mut [u8], bytes: &[u8])
+    requires { length bytes.now ≤ length buffer.old }
+    ensures { buffer.new ≡ bytes.now ++ drop (length bytes.now) buffer.old }
+{
+    buffer[..bytes.len()].copy_from_slice(bytes);
+}

@@ -1,0 +1,3 @@
+mod Worked
+mod FigureLaws
+mod FieldLaws
