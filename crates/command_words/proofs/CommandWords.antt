@@ -374,6 +374,7 @@ all-of : (verb : Verb) (n : ℕ) → has_all verb n ≡ true → IsAll verb n
 all-of Run n e = eqb-true _ _ e
 all-of Lists n e = eqb-true _ _ e
 all-of Dump n e = eqb-true _ _ e
+all-of Stat n e = eqb-true _ _ e
 all-of Drill n e = eqb-true _ _ e
 all-of Capture n e = eqb-true _ _ e
 all-of Desk n e = eqb-true _ _ e
