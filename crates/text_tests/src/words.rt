@@ -367,7 +367,7 @@ const PAGES: &[u8] = b"\
 
 #[test]
 fn words_of_a_command(rt: HostRuntime) {
-    assert_told(&rt, rt.alloc(), NO_COMMANDS, 84, asked);
-    assert_told(&rt, rt.alloc(), COMMANDS, 33, asked);
+    assert_told(&rt, rt.alloc(), NO_COMMANDS, 87, asked);
+    assert_told(&rt, rt.alloc(), COMMANDS, 35, asked);
     assert_told(&rt, rt.alloc(), PAGES, 31, asked);
 }
