@@ -5,6 +5,17 @@
 needs gcc g++ ar nm rt python3
 tests=$top/tests/c
 made=$room/library
+# The program, the header, the changes and the packages have one version.
+program_version=$(sed -n 's/^pub const VERSION: &str = "pipapo \(.*\)\\n";$/\1/p' crates/command_words/src/help.rt)
+{
+    sed -n 's/^#define PIPAPO_VERSION_[A-Z]* \([0-9]*\)$/\1/p' include/pipapo.h | paste -sd.
+    sed -n 's/^## \([0-9.]*\)$/\1/p' CHANGELOG.md | head -n 1
+    sed -n '1s/.*(\(.*\)).*/\1/p' packaging/debian/changelog
+} | while read -r version; do
+    [ "$version" = "$program_version" ] || echo "$version"
+done >"$room/versions"
+[ ! -s "$room/versions" ] || complain "the program's version is $program_version, and others are $(paste -sd' ' "$room/versions")"
+
 # (the first time it proves the exports, which takes some minutes if the crates below are proved)
 c/build "$made" /usr >"$room/log" 2>&1 || {
     complain "the library isn't built"

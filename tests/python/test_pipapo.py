@@ -29,7 +29,7 @@ def refusal(call, *arguments, **named):
 
 def test_example():
     assert doctest.testmod(pipapo).failed == 0
-    assert pipapo.version() == (0, 1, 0)
+    assert pipapo.version() == (0, 2, 0)
 
 
 def test_changes_are_seen_after_the_commit():
