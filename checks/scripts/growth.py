@@ -196,7 +196,7 @@ ROWS = [
     ("replacements of the first element of a full set, one commit each", replacements, 2000, 0),
     ("replacements in the middle of elements of many rules", many_rules, 200, 0),
     ("destructions of missing addresses inside blocks that are there", missing_inside, 2000, 0),
-    ("additions of elements that each key matches in the first field", all_in_one_field, 2000, 0),
+    ("additions of elements that each key matches in the first field", all_in_one_field, 1000, 0),
 ]
 
 

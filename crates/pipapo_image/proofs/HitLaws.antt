@@ -34,12 +34,12 @@ record IsPassed (test : Block → Bool) (bs : List Block) : Type 0 where
 
 some-passes : (test : Block → Bool) (bs : List Block) → list_any test bs ≡ true → IsPassed test bs
 some-passes test [] h = absurd (cc h)
-some-passes test (b ∷ bs) h = go (test b) refl where
-  go : (t : Bool) → test b ≡ t → IsPassed test (b ∷ bs)
-  go true e = record { at = 0; within = omega arith; passes = λ m d on. ap (λ x. x && test b) on ∙ e }
-  go false e =
+some-passes test (b ∷ bs) h = go (test b) refl (λ rest. some-passes test bs rest) where
+  go : (t : Bool) → test b ≡ t → (list_any test bs ≡ true → IsPassed test bs) → IsPassed test (b ∷ bs)
+  go true e later = record { at = 0; within = omega arith; passes = λ m d on. ap (λ x. x && test b) on ∙ e }
+  go false e later =
       let rest : list_any test bs ≡ true = sym (ap (λ t. t || list_any test bs) e) ∙ h in
-      let p = some-passes test bs rest in
+      let p = later rest in
       let w = p.within in
       record { at = suc p.at; within = omega arith; passes = λ m d on. p.passes m d on }
 
