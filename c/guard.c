@@ -1,4 +1,4 @@
-/* The state words of pipapo_checked.h: one for each control and reader that lives. */
+/* The state words of pipapo_guard.h: one for each control and reader that lives. */
 #include <stdatomic.h>
 #include <stddef.h>
 #include <stdio.h>
