@@ -194,7 +194,7 @@ def completion_faults(commands):
     words = [command.word for command in commands]
     texts = {shell: read(name) for shell, name in SHELLS.items()}
     offered = {
-        "bash": re.search(r'-W "([a-z ]+) help --help --version"', texts["bash"]),
+        "bash": re.search(r'-W "([a-z ]+) help --help --version -V"', texts["bash"]),
         "zsh": re.search(r"command:\(([a-z ]+)\)", texts["zsh"]),
         "fish": re.search(r"^set -l commands ([a-z ]+) help$", texts["fish"], re.M),
     }

@@ -9,7 +9,7 @@ _pipapo() {
     fi
     COMPREPLY=()
     if [ "$COMP_CWORD" -eq 1 ]; then
-        mapfile -t COMPREPLY < <(compgen -W "run list dump drill judge capture desk get compare help --help --version" -- "$word")
+        mapfile -t COMPREPLY < <(compgen -W "run list dump drill judge capture desk get compare help --help --version -V" -- "$word")
     elif [ "$command" = help ]; then
         mapfile -t COMPREPLY < <(compgen -W "run list dump drill judge capture desk get compare" -- "$word")
     elif [ "$before" = --threads ]; then

@@ -1,0 +1,5 @@
+pub mod RelistedLaws
+pub mod GrowingLaws
+pub mod RisingLaws
+pub mod TextLaws
+mod Worked
