@@ -380,6 +380,7 @@ all-of Capture n e = eqb-true _ _ e
 all-of Desk n e = eqb-true _ _ e
 all-of Get n e = eqb-true _ _ e
 all-of Compare n e = eqb-true _ _ e
+all-of Sets n e = eqb-true _ _ e
 all-of Judge n e = go (n == 3) refl e where
   go : (t : Bool) → (n == 3) ≡ t → (t || (n == 4)) ≡ true → (n ≡ 3) ⊎ (n ≡ 4)
   go true is f = inl (eqb-true _ _ is)
