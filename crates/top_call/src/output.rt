@@ -94,7 +94,9 @@ pub fn output_of<R: Threads + Wait + Sync, G: Gate>(
             keep_going,
         } => {
             let packets = captured(alloc, &plan, &frames)?;
-            Ok(judged(rt, alloc, script, chains, &packets, keep_going, threads, gate)?)
+            Ok(judged(
+                rt, alloc, script, chains, &packets, keep_going, threads, gate,
+            )?)
         }
         Work::Desk { script, keep_going } => {
             Ok(desk(rt, alloc, script, keep_going, &QuietBell, gate)?)
