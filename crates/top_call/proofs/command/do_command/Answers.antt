@@ -14,7 +14,7 @@ returns-in-Ok-output_of g c words is_command =
     let out = c.in-Ok-output_of.output in
     goes-output _ (plain c.args.command) is_command c.in-Ok.ensures.all out.refused out.text.items
     (is-output (g.F.Shelf.told c.args.shelf.now) (plain c.args.command) c.in-Ok.work out.refused out.text.items c.in-Ok.ensures.work c.in-Ok-output_of.ensures.text)
-    (rw (c.done_status.ensures, c.as_slice.ensures.value) at c.deliver-status.ensures)
+    (rw (c.done_status.ensures, c.as_slice-in-Ok-output_of.ensures.value) at c.deliver-status.ensures)
     out.refusals.items out.failed (are-refused (g.F.Shelf.told c.args.shelf.now) (plain c.args.command) c.in-Ok.work out c.in-Ok.ensures.work c.in-Ok-output_of.ensures.refusals)
     _ c.in-Ok.ensures.silent (changes-may (plain c.args.command) out _ _ c.tell_refusals.result c.tell_refusals.ensures)
 
