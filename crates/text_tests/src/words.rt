@@ -376,7 +376,7 @@ const PAGES: &[u8] = b"\
 
 #[test]
 fn words_of_a_command(rt: HostRuntime) {
-    assert_told(&rt, rt.alloc(), NO_COMMANDS, 84, asked);
-    assert_told(&rt, rt.alloc(), COMMANDS, 33, asked);
+    assert_told(&rt, rt.alloc(), NO_COMMANDS, 91, asked);
+    assert_told(&rt, rt.alloc(), COMMANDS, 37, asked);
     assert_told(&rt, rt.alloc(), PAGES, 31, asked);
 }
