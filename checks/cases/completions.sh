@@ -26,8 +26,8 @@ offers() { # SHELL FILE WORDS ..
 }
 
 sed '/^#/d' docs/commands.tsv | tail -n +2 >"$room/table"
-cut -f 1 "$room/table" | sort >"$room/commands"
-{ cat "$room/commands"; printf '%s\n' help --help --version; } | sort >"$room/first_of_bash"
+cut -f 1 "$room/table" | sort -u >"$room/commands"
+{ cat "$room/commands"; printf '%s\n' help --help --version -V; } | sort >"$room/first_of_bash"
 { cat "$room/commands"; echo help; } | sort >"$room/first_of_fish"
 if has bash; then
     offers bash "$room/first_of_bash" ''

@@ -134,6 +134,25 @@ def replacements(count):
         yield "commit"
 
 
+def missing_inside(count):
+    """So many blocks of addresses, and as many destructions of a single address in one of them that isn't there by itself."""
+    yield "add set ip t s { type ipv4_addr ; flags interval ; }"
+    for n in range(count):
+        yield f"add element ip t s {{ {10 + (n >> 16)}.{n >> 8 & 255}.{n & 255}.0/24 }}"
+    yield "commit"
+    for n in range(count):
+        yield f"destroy element ip t s {{ {10 + (n >> 16)}.{n >> 8 & 255}.{n & 255}.5 }}"
+    yield "commit"
+
+
+def all_in_one_field(count):
+    """So many elements that each key matches in the first field."""
+    yield "add set ip t s { type ipv4_addr . ipv4_addr ; flags interval ; }"
+    for n in range(count):
+        yield f"add element ip t s {{ 0.0.0.0/0 . 10.{n >> 16 & 255}.{n >> 8 & 255}.{n & 255} }}"
+    yield "commit"
+
+
 def many_rules(count):
     """So many elements of 254 rules each, and a hundred commits that replace one in the middle."""
     yield "add set ip6 t s { type ipv6_addr ; flags interval ; }"
@@ -176,6 +195,8 @@ ROWS = [
     ("short elements in one statement", short_elements, 500000, 0),
     ("replacements of the first element of a full set, one commit each", replacements, 2000, 0),
     ("replacements in the middle of elements of many rules", many_rules, 200, 0),
+    ("destructions of missing addresses inside blocks that are there", missing_inside, 2000, 0),
+    ("additions of elements that each key matches in the first field", all_in_one_field, 1000, 0),
 ]
 
 

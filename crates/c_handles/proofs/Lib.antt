@@ -9,4 +9,3 @@ pub mod Listed
 pub mod Started
 pub mod Tested
 pub mod Described
-pub mod Walked

@@ -1,5 +1,5 @@
 -- The declared sets as structs of C (pipapo.h, pipapo_declared).
-use Rattle.std.specs.Prelude.{◌≡◌, ◌≤◌, ℕ, Bool, true, false, not, ◌&&◌, nat_eq, nat_lt, nat_le, List, length, map, take, Option, Some, None, if◌then◌else◌, slice_get}
+use Rattle.std.specs.Prelude.{◌≡◌, ◌≤◌, ℕ, Bool, true, false, not, ◌&&◌, nat_eq, nat_lt, nat_le, List, length, map, take, Option, Some, None, slice_get}
 use Rattle.std.specs.List.{list_all}
 use Rattle.set_model.specs.declared.script.SetDecl.{SetDecl}
 use Rattle.c_handles.specs.Shapes.{kind_numbered, family_numbered, name_in, most_of}

@@ -1,5 +1,6 @@
 //! The declared sets as structs of C.
-ghost use Rattle.std.specs.Prelude.{◌≡◌, ◌<◌, ◌≤◌, true, length, map, take, Some, IfOk, IfErr};
+ghost use Rattle.std.specs.Prelude.{◌≡◌, ◌<◌, ◌≤◌, true, not, nat_eq, length, map, take, Some, IfOk, IfErr};
+ghost use Rattle.std.specs.List.{list_all};
 ghost use Rattle.c_handles.specs.Causes.{IsRefusal};
 ghost use Rattle.c_handles.specs.Shapes.{kind_numbered, family_numbered, name_in, most_of};
 ghost use Rattle.c_handles.specs.Describing.{HasDescribed, RefusesDescription, declared_by, can_declare, takes_name as the_name_test, takes_number as the_number_test};
@@ -51,14 +52,17 @@ fn kind_numbers(kinds: &[Kind]) -> [u32; 16]
     numbers
 }
 
+fn has_no_zero(name: &[u8]) -> bool
+    ensures { result ≡ list_all (λ byte. not (nat_eq byte 0)) name.now }
+{
+    name.iter().all(|byte| *byte != 0)
+}
+
 /// Whether the struct has room for a name.
 fn takes_name(name: &[u8]) -> bool
     ensures { result ≡ the_name_test name.now }
 {
-    if 128 < name.len() {
-        return false;
-    }
-    name.iter().all(|byte| *byte != 0)
+    name.len() <= 128 && has_no_zero(name)
 }
 
 /// A name, and zeros after it.

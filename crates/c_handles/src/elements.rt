@@ -106,6 +106,7 @@ impl Elements {
 /// The elements of a set of a control's last generation.
 fn elements_in(alloc: Global, control: &Control, set: u32) -> Result<Elements, Fault>
     ensures ok { IfOk result (λ elements. slice_get control.now.work.base.sets set ≡ Some elements) }
+    ensures declared { OnOk result (set < length control.now.schema) }
     ensures refused { IfErr result (RefusesElements set (Object.Control control.now)) }
 {
     control.known();

@@ -86,13 +86,7 @@ fn captures_by_rules(rt: HostRuntime) -> Result<(), Fail> {
             b"commit generation 1 purged 0\npacket 0 thread 0 generation 1 policy accept\n",
             0,
         ),
-        (
-            b"policy\n",
-            b"",
-            0,
-            b"pipapo: rules line 1: statement\n",
-            9,
-        ),
+        (b"policy\n", b"", 0, b"pipapo: rules line 1: statement\n", 9),
         (
             b"chain main { }\npolicy drop\n",
             b"ip filter s dport . ip_saddr\n",

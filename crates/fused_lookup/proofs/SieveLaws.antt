@@ -2,11 +2,10 @@
 use Rattle.std.proofs.Common.{◌≡◌, refl, sym, ◌∙◌, ap, ℕ, zero, suc, ◌+◌, ◌-◌, ◌*◌, ◌/◌, ◌%◌, ◌^◌, ◌<◌, ◌≤◌, ◌⊎◌, inl, inr, Bool, true, false, ◌&&◌, List, length, subst, arith}
 use Rattle.std.specs.Prelude.{slice_index, replicate}
 use Rattle.std.proofs.lemmas.Bool.{cases_lt, lt-ltb}
-use Rattle.std.proofs.lemmas.Nat.{le-div}
 use Rattle.std.proofs.lemmas.List.{get_or_past, length-replicate}
-use Rattle.std.proofs.Math.Bool.{and_comm, and_assoc}
+use Rattle.std.proofs.Math.Bool.{and-true, and_comm, and_assoc}
 use Rattle.bit_rows.specs.Row.{Row, at, bit}
-use Rattle.bit_rows.proofs.Bits.{bit-ones}
+use Rattle.bit_rows.proofs.Bits.{bit-ones, bit-zero}
 use Rattle.field_groups.specs.Groups.{IsWidth, every}
 use Rattle.field_groups.specs.LastFour.{IsGroupPlace, AreLastFour}
 use Rattle.field_groups.specs.declared.places.LastFour.{LastFour}
@@ -15,17 +14,14 @@ use Rattle.set_model.specs.Blocks.{holds_value}
 use Rattle.lookup_table.specs.declared.table.FieldTable.{FieldTable}
 use Rattle.lookup_table.specs.Table.{block_at, bucket_at, cell}
 use Rattle.lookup_table.specs.Lines.{IsPage}
-use Rattle.lookup_table.specs.Rules.{Stands, place_of}
+use Rattle.lookup_table.specs.Rules.{Stands, place_of, is_rule_set}
 use Rattle.lookup_table.proofs.RowsLaws.{cell-is, All-bucket}
 use Rattle.lookup_table.proofs.MatchLaws.{held-by-buckets}
+use Rattle.lookup_table.proofs.WordLaws.{some-group}
 use Rattle.set_tables.specs.Rows.{matched}
 use Rattle.fused_lookup.specs.Words.{IsWordOf}
-use Rattle.fused_lookup.specs.Sieve.{is_rule_set, HaveLines, in_all, KeepsWhereSet, NoneHolds}
+use Rattle.fused_lookup.specs.Sieve.{HaveLines, in_all, NoneHolds}
 use Rattle.fused_lookup.proofs.MatchLaws.{left-at, length-left, word-left, ones-left}
-
--- a field has a group
-pub some-group : (width bits : ℕ) → IsWidth width bits → 1 ≤ bits / width
-some-group width bits w = le-div 1 bits width (omega (arith, w.four)) (omega (arith, w.some, w.eight))
 
 -- a bucket's place is among the rows
 among : (t : FieldTable) (value g place : ℕ) → IsGroupPlace t.width t.bits value g place → place < length t.buckets.rows
@@ -119,9 +115,14 @@ in-groups t value buckets words blocks i k are page stands small h r =
 and-fails : (a b : Bool) → a ≡ false → (a && b) ≡ false
 and-fails a b e = ap (λ x. x && b) e
 
--- what the groups before the last four leave
-pub rest-left : (t : FieldTable) (value i left word n : ℕ) → KeepsWhereSet t value n i left word → n ≡ t.bits / t.width - 4 → (k : ℕ) → k < 64 → bit word k ≡ (bit left k && every (is_rule_set t value (64 * i + k)) (t.bits / t.width - 4))
-rest-left t value i left word n keeps is k h = keeps k h ∙ ap (λ m. bit left k && every (is_rule_set t value (64 * i + k)) m) is
+-- a word of which nothing is left, and one whose field has no other groups
+pub none-left : (t : FieldTable) (value i left : ℕ) → left ≡ 0 → (k : ℕ) → k < 64 → bit left k ≡ (bit left k && every (is_rule_set t value (64 * i + k)) (t.bits / t.width - 4))
+none-left t value i left none k h =
+    let off : bit left k ≡ false = ap (λ x. bit x k) none ∙ bit-zero k in
+    off ∙ sym (and-fails (bit left k) (every (is_rule_set t value (64 * i + k)) (t.bits / t.width - 4)) off)
+
+pub no-rest : (t : FieldTable) (value i left : ℕ) → t.bits / t.width - 4 ≡ 0 → (k : ℕ) → k < 64 → bit left k ≡ (bit left k && every (is_rule_set t value (64 * i + k)) (t.bits / t.width - 4))
+no-rest t value i left none k h = sym (ap (λ m. bit left k && every (is_rule_set t value (64 * i + k)) m) none ∙ and-true (bit left k))
 
 -- a word of the rules that hold the value
 pub word-held : (t : FieldTable) (value : ℕ) (buckets : LastFour) (words : List ℕ) (blocks : List Block) (i left word : ℕ) → AreLastFour t.width t.bits value buckets → IsPage t.buckets.rows (i / 8) words → Stands t blocks → value < 2 ^ t.bits

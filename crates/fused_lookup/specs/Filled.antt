@@ -1,5 +1,5 @@
 -- The next field's row during the walk through a field's rules.
-use Rattle.std.specs.Prelude.{◌≡◌, ℕ, ◌+◌, ◌*◌, ◌≤◌, Bool, true, false, List, length, take, replicate}
+use Rattle.std.specs.Prelude.{◌≡◌, ℕ, ◌+◌, ◌*◌, ◌<◌, ◌≤◌, Bool, true, false, List, length, take, replicate, get_or}
 use Rattle.std.specs.List.{zip, list_any}
 use Rattle.bit_rows.specs.Row.{at}
 use Rattle.set_model.specs.declared.block.Block.{Block}
@@ -12,6 +12,14 @@ use Rattle.fused_lookup.specs.Words.{IsWordOf, IsLeft}
 -- nothing is set
 pub record IsClear (bits : List Bool) : Type 0 where
   pub places : (i : ℕ) → at bits i ≡ false
+
+-- A rule's span begins in the span of the rule before it, or right after it, and ends no earlier.
+-- So neighbouring rules lead to one run of rules. This is so in tables of elements: the spans of an
+-- element are the same, and the next element's begin after them.
+pub record AreChained (spans : List Span) : Type 0 where
+  pub low : (r : ℕ) (s : Span) → r + 1 < length spans → (get_or spans r s).first ≤ (get_or spans (r + 1) s).first
+  pub near : (r : ℕ) (s : Span) → r + 1 < length spans → (get_or spans (r + 1) s).first ≤ (get_or spans r s).first + (get_or spans r s).count
+  pub high : (r : ℕ) (s : Span) → r + 1 < length spans → (get_or spans r s).first + (get_or spans r s).count ≤ (get_or spans (r + 1) s).first + (get_or spans (r + 1) s).count
 
 -- The span of some matched rule among the first n holds rule r of the next field.
 abbrev pub reached_by : List Span → List Bool → ℕ → ℕ → Bool

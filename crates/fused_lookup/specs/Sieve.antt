@@ -9,10 +9,6 @@ use Rattle.lookup_table.specs.Table.{cell, block_at}
 use Rattle.lookup_table.specs.Rules.{Stands, place_of}
 use Rattle.field_groups.specs.declared.places.LastFour.{LastFour}
 
--- Rule r is set in the bucket of the value's group g.
-abbrev pub is_rule_set : FieldTable → ℕ → ℕ → ℕ → Bool
-is_rule_set t value r g = cell t.buckets.rows (place_of t g value) r
-
 -- Each of four buckets has its line of eight in a page of n words.
 pub record HaveLines (n : ℕ) (buckets : LastFour) : Type 0 where
   pub four : buckets.fourth * 8 + 8 ≤ n
@@ -25,10 +21,6 @@ abbrev pub in_all : List ℕ → LastFour → ℕ → ℕ → Bool
 in_all words buckets w k =
     ((bit (slice_index words (buckets.fourth * 8 + w)) k && bit (slice_index words (buckets.third * 8 + w)) k) && bit (slice_index words (buckets.second * 8 + w)) k)
     && bit (slice_index words (buckets.last * 8 + w)) k
-
--- A bit of word i stays set exactly if its rule is also set in the buckets of the first n groups.
-abbrev pub KeepsWhereSet : FieldTable → ℕ → ℕ → ℕ → ℕ → ℕ → Type 0
-KeepsWhereSet t value n i old new = (k : ℕ) → k < 64 → bit new k ≡ (bit old k && every (is_rule_set t value (64 * i + k)) n)
 
 -- No rule of the words from `from` up to `to` holds the value.
 abbrev pub NoneHolds : FieldTable → ℕ → ℕ → ℕ → Type 0

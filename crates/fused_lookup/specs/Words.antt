@@ -20,3 +20,9 @@ pub record IsNextBit (word from k : ℕ) : Type 0 where
   pub within : k < 64
   pub set : bit word k ≡ true
   pub least : (j : ℕ) → from ≤ j → j < k → bit word j ≡ false
+
+-- the end of a run of set bits that begins with bit `from`
+pub record IsRunEnd (word from end : ℕ) : Type 0 where
+  pub some : from < end
+  pub within : end ≤ 64
+  pub set : (k : ℕ) → from ≤ k → k < end → bit word k ≡ true

@@ -1,6 +1,6 @@
-ghost use Rattle.std.specs.Prelude.{◌≡◌, ℕ, ◌≤◌, ◌<◌, false, MatchOption};
+ghost use Rattle.std.specs.Prelude.{◌≡◌, ℕ, ◌≤◌, ◌<◌, true, false, MatchOption};
 ghost use Rattle.bit_rows.specs.Row.{bit};
-ghost use Rattle.fused_lookup.specs.Words.{IsNextBit};
+ghost use Rattle.fused_lookup.specs.Words.{IsNextBit, IsRunEnd};
 
 /// The least set bit of a word that is not below `from`, if there is one.
 #[inline(always)]
@@ -16,4 +16,17 @@ pub(crate) fn next_bit(word: u64, from: u32) -> Option<u32>
         return None;
     }
     Some(from + left.trailing_zeros())
+}
+
+/// The end of the run of set bits that begins with bit `from`.
+#[inline(always)]
+pub(crate) fn run_end(word: u64, from: u32) -> u32
+    requires within { from < 64 }
+    requires set { bit word from ≡ true }
+    ensures { IsRunEnd word from result }
+{
+    match next_bit(!word, from) {
+        Some(end) => end,
+        None => 64,
+    }
 }

@@ -1,6 +1,6 @@
 ghost use Rattle.std.specs.Prelude.{◌≡◌, ◌+◌, ◌*◌, ◌^◌, ◌<◌, ◌≤◌, true, replicate, length, All};
 ghost use Rattle.set_model.specs.Blocks.{holds_value};
-ghost use Rattle.fused_lookup.specs.Filled.{Refills, RefillsWords, IsClear};
+ghost use Rattle.fused_lookup.specs.Filled.{AreChained, Refills, RefillsWords, IsClear};
 ghost use Rattle.fused_lookup.specs.Led.{Leads, LeadsWords};
 ghost use Rattle.fused_lookup.specs.Probe.{IsProbe};
 ghost use Rattle.fused_lookup.specs.Window.{IsWindow};
@@ -26,6 +26,7 @@ pub fn refill_from_first(
     requires value { value < 2 ^ table.now.bits }
     requires rules { length spans.now.items ≡ table.now.rules }
     requires inside { All (λ s. s.first + s.count ≤ length next.old.bits) spans.now.items }
+    requires chained { AreChained spans.now.items }
     requires clear { IsClear next.old.bits }
     ensures refilled { Refills table.now spans.now.items (λ rule. holds_value rule value) (replicate table.now.rules true) next.new.bits }
     ensures window { IsWindow next.new.bits result }
@@ -61,6 +62,7 @@ fn refill_pages(
     requires probe { IsProbe table.now probe }
     requires rules { length spans.now.items ≡ table.now.rules }
     requires inside { All (λ s. s.first + s.count ≤ length next.old.bits) spans.now.items }
+    requires chained { AreChained spans.now.items }
     requires top { 262144 * q < table.now.rules }
     requires window { IsWindow next.old.bits window }
     ensures filled { RefillsWords table.now spans.now.items (λ rule. holds_value rule probe.value) (64 * (64 * q)) (64 * (64 * (q + 1))) next.old.bits next.new.bits }
@@ -92,6 +94,7 @@ fn refill_page(
     requires probe { IsProbe table.now probe }
     requires rules { length spans.now.items ≡ table.now.rules }
     requires inside { All (λ s. s.first + s.count ≤ length next.old.bits) spans.now.items }
+    requires chained { AreChained spans.now.items }
     requires page { 4096 * p < table.now.rules }
     requires window { IsWindow next.old.bits window }
     ensures filled { RefillsWords table.now spans.now.items (λ rule. holds_value rule probe.value) (64 * p) (64 * (p + 1)) next.old.bits next.new.bits }

@@ -1,6 +1,6 @@
 ghost use Rattle.std.specs.Prelude.{◌≡◌, ◌+◌, ◌^◌, ◌<◌, ◌≤◌, length, All};
 ghost use Rattle.set_model.specs.Blocks.{holds_value};
-ghost use Rattle.fused_lookup.specs.Filled.{Refills, IsClear};
+ghost use Rattle.fused_lookup.specs.Filled.{AreChained, Refills, IsClear};
 ghost use Rattle.fused_lookup.specs.Led.{Leads};
 ghost use Rattle.fused_lookup.specs.Window.{IsWindow};
 
@@ -26,6 +26,7 @@ pub fn refill_from(
     requires rules { length spans.now.items ≡ table.now.rules }
     requires room { table.now.rules ≤ length row.old.bits }
     requires inside { All (λ s. s.first + s.count ≤ length next.old.bits) spans.now.items }
+    requires chained { AreChained spans.now.items }
     requires window { IsWindow row.old.bits window }
     requires clear { IsClear next.old.bits }
     ensures refilled { Refills table.now spans.now.items (λ rule. holds_value rule value) row.old.bits next.new.bits }

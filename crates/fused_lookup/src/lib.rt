@@ -16,6 +16,11 @@
 //! block k and each 64th block after it. The walk takes each word out of the row, and so leaves the
 //! row clear for the field after the next.
 //!
+//! Neighbouring rules lead to neighbouring rules: those of one element to the same span, and those of
+//! the next element to the span after it. So a run of ones in a word is one run in the next row. Say
+//! that all 64 rules of a word are left, and that rule 0 has the span from 10, 2 rules, and rule 63
+//! the span from 100, 3 rules. Then the word sets rules 10 to 102 in one step.
+//!
 //! The buckets of a value's last four groups are ANDed first, since they tell most rules apart. If
 //! no rule of the word is left, the other groups aren't looked up.
 //!

@@ -1,10 +1,10 @@
 ghost use Rattle.std.specs.Prelude.{◌≡◌, ◌+◌, ◌^◌, ◌<◌, ◌≤◌, length, All};
 ghost use Rattle.set_model.specs.Blocks.{holds_value};
 ghost use Rattle.fused_lookup.specs.Words.{IsWithinRules};
-ghost use Rattle.fused_lookup.specs.Filled.{FillsWord, RefillsWord};
+ghost use Rattle.fused_lookup.specs.Filled.{AreChained, FillsWord, RefillsWord};
 ghost use Rattle.fused_lookup.specs.Window.{IsWindow};
 
-use crate::bits::next_bit;
+use crate::bits::{next_bit, run_end};
 use crate::window::Window;
 use bit_rows::BitRow;
 use lookup_table::FieldTable;
@@ -22,6 +22,7 @@ pub(crate) fn refill_word(
 ) -> Window
     requires rules { IsWithinRules (length spans.now.items) i word }
     requires inside { All (λ s. s.first + s.count ≤ length next.old.bits) spans.now.items }
+    requires chained { AreChained spans.now.items }
     requires window { IsWindow next.old.bits window }
     ensures filled { FillsWord spans.now.items i word next.old.bits next.new.bits }
     ensures window { IsWindow next.new.bits result }
@@ -35,11 +36,16 @@ pub(crate) fn refill_word(
     let word_spans = spans.word(i);
     let mut window = window;
     let mut from = 0;
-    'rules: while let Some(k) = next_bit(word, from) {
-        let span = word_spans[k as usize];
-        next.set_range(span.first, span.count);
-        window = window.widened(span.first, span.count);
-        from = k + 1;
+    'runs: while let Some(k) = next_bit(word, from) {
+        // Neighbouring rules lead to one run of rules: to those from the first one's to the last
+        // one's. So a word of matched rules costs one step.
+        let end = run_end(word, k);
+        let first = word_spans[k as usize].first;
+        let last = word_spans[end as usize - 1];
+        let count = last.first + last.count - first;
+        next.set_range(first, count);
+        window = window.widened(first, count);
+        from = end;
     }
     window
 }
@@ -59,6 +65,7 @@ pub(crate) fn refill_on(
     requires value { value < 2 ^ table.now.bits }
     requires rules { length spans.now.items ≡ table.now.rules }
     requires inside { All (λ s. s.first + s.count ≤ length next.old.bits) spans.now.items }
+    requires chained { AreChained spans.now.items }
     requires window { IsWindow next.old.bits window }
     ensures filled { RefillsWord table.now spans.now.items (λ rule. holds_value rule value) i left next.old.bits next.new.bits }
     ensures window { IsWindow next.new.bits result }

@@ -3,7 +3,7 @@ ghost use Rattle.bit_rows.specs.Row.{bit};
 ghost use Rattle.set_model.specs.Blocks.{holds_value};
 ghost use Rattle.lookup_table.specs.Rules.{KeepsBitsWhere};
 ghost use Rattle.fused_lookup.specs.Probe.{IsProbe};
-ghost use Rattle.fused_lookup.specs.Sieve.{HaveLines, in_all, KeepsWhereSet};
+ghost use Rattle.fused_lookup.specs.Sieve.{HaveLines, in_all};
 ghost use Rattle.lookup_table.specs.Lines.{IsPage};
 
 use crate::probe::Probe;
@@ -25,24 +25,6 @@ fn left_at(words: &[u64], buckets: LastFour, w: usize) -> u64
     fourth & third & second & last
 }
 
-/// What the first `n` groups leave of word `i`, which is in this page.
-#[inline(always)]
-fn match_rest(table: &FieldTable, words: &[u64], value: u128, n: u32, i: u32, word: u64) -> u64
-    requires groups { n ≤ table.now.bits / table.now.width }
-    requires value { value < 2 ^ table.now.bits }
-    requires words { IsPage table.now.buckets.rows (i / 8) words.now }
-    ensures { KeepsWhereSet table.now value n i word result }
-{
-    let mut left = word;
-    'groups: for g in 0..n {
-        if left == 0 {
-            return 0;
-        }
-        left &= words[table.place(value, g) * 8 + i as usize % 8];
-    }
-    left
-}
-
 /// Word `i` of the rules that hold the value.
 #[inline(always)]
 pub(crate) fn match_at(table: &FieldTable, probe: Probe, i: u32) -> u64
@@ -53,5 +35,8 @@ pub(crate) fn match_at(table: &FieldTable, probe: Probe, i: u32) -> u64
 {
     let words = table.page(i);
     let left = left_at(words, probe.buckets, i as usize % 8);
-    match_rest(table, words, probe.value, probe.buckets.rest, i, left)
+    if left == 0 || probe.buckets.rest == 0 {
+        return left;
+    }
+    table.match_before::<4>(words, probe.value, i, left)
 }

@@ -52,9 +52,9 @@ pub ruleset-note : (told : List ℕ → Option (List ℕ)) (name all slice kept 
 ruleset-note told name all slice kept bytes found before mid now known same is_kept is_bytes is_bad silent tells =
     subst (λ (b : Option (List ℕ)). MayTell (λ text. (bs : List ℕ) → told name ≡ Some bs → HoldsOfKept bs (λ kept. NamesBadTokens kept name text)) b now) silent
     (tells-as (IsScriptNoted found name bytes) (λ text. (bs : List ℕ) → told name ≡ Some bs → HoldsOfKept bs (λ kept. NamesBadTokens kept name text)) mid now (λ text noted bs at.
-        let bad : NamesBadTokens bytes name text = record { bad = noted.bad; is_bad = subst (λ (r : Result (Option BadToken) NoMemory). IfOk r (IsBadTokenAmong script_form (text_tokens bytes) bytes)) noted.is_found is_bad; says = noted.says } in
-        let here : HoldsOfKept slice (λ kept. NamesBadTokens kept name text) = record { kept = kept; is_kept = is_kept; holds = subst (λ (t : List ℕ). NamesBadTokens t name text) is_bytes bad } in
-        subst (λ (t : List ℕ). HoldsOfKept t (λ kept. NamesBadTokens kept name text)) (same ∙ known bs at) here) tells)
+    let bad : NamesBadTokens bytes name text = record { bad = noted.bad; is_bad = subst (λ (r : Result (Option BadToken) NoMemory). IfOk r (IsBadTokenAmong script_form (text_tokens bytes) bytes)) noted.is_found is_bad; says = noted.says } in
+    let here : HoldsOfKept slice (λ kept. NamesBadTokens kept name text) = record { kept = kept; is_kept = is_kept; holds = subst (λ (t : List ℕ). NamesBadTokens t name text) is_bytes bad } in
+    subst (λ (t : List ℕ). HoldsOfKept t (λ kept. NamesBadTokens kept name text)) (same ∙ known bs at) here) tells)
 
 -- One more note on what is left of a script.
 pub one-further : (name : List ℕ) (most less : ℕ) (rest left note more all : List ℕ) (bad : BadToken) → most ≡ suc less → ((from : ℕ) × (to : ℕ) × (left ≡ blanked from to rest)) → IsBadToken script_form (text_tokens left) left bad

@@ -1,6 +1,7 @@
 -- A word of rules at a time.
 use Rattle.std.proofs.Common.{◌≡◌, sym, ◌∙◌, ap, ℕ, suc, ◌+◌, ◌*◌, ◌/◌, ◌^◌, ◌<◌, ◌≤◌, Bool, false, ◌&&◌, List, length, arith, Some, slice_get, bit_and}
 use Rattle.std.proofs.lemmas.List.{get_or_past}
+use Rattle.std.proofs.lemmas.Nat.{le-div}
 use Rattle.std.proofs.Math.Bool.{and-true, and-false, and_assoc}
 use Rattle.set_model.specs.declared.block.Block.{Block}
 use Rattle.set_model.specs.Blocks.{holds_value}
@@ -11,6 +12,10 @@ use Rattle.field_groups.proofs.RangeTests.{every-fails}
 use Rattle.lookup_table.specs.Table.{bucket_place, cell, block_at, StandsFor}
 use Rattle.lookup_table.proofs.RowsLaws.{cell-read}
 use Rattle.lookup_table.proofs.MatchLaws.{set_in, set-in-all}
+
+-- a field has a group
+pub some-group : (width bits : ℕ) → IsWidth width bits → 1 ≤ bits / width
+some-group width bits w = le-div 1 bits width (omega (arith, w.four)) (omega (arith, w.some, w.eight))
 
 -- the word after the first n groups; after at least one group no bit past the last rule is set
 pub record WordMatched (width bits value n i rules : ℕ) (buckets : List Row) (word left : ℕ) : Type 0 where

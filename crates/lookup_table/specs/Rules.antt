@@ -1,13 +1,13 @@
 -- What contracts say of a table, of its changes and of a row of its rules.
-use Rattle.std.specs.Prelude.{◌≡◌, ℕ, ◌+◌, ◌*◌, ◌/◌, ◌<◌, ◌≤◌, Bool, true, ◌&&◌, List, ◌++◌, get_or}
+use Rattle.std.specs.Prelude.{◌≡◌, ℕ, ◌+◌, ◌*◌, ◌/◌, ◌<◌, ◌≤◌, Bool, true, false, ◌&&◌, List, ◌++◌, get_or}
 use Rattle.set_model.specs.declared.block.Block.{Block}
 use Rattle.set_model.specs.Runs.{without_run}
 use Rattle.bit_rows.specs.Row.{Row, at, bit}
 use Rattle.shared_pages.specs.Paged.{owns_of}
-use Rattle.field_groups.specs.Groups.{group}
+use Rattle.field_groups.specs.Groups.{group, every}
 use Rattle.lookup_table.specs.declared.table.FieldTable.{FieldTable}
 use Rattle.lookup_table.specs.Lines.{OwnsNoPage}
-use Rattle.lookup_table.specs.Table.{StandsFor, bucket_place, block_at}
+use Rattle.lookup_table.specs.Table.{StandsFor, bucket_place, cell, block_at}
 
 -- the table represents these blocks, one per rule
 abbrev pub Stands : FieldTable → List Block → Type 0
@@ -53,6 +53,16 @@ DropsRules old new first n = (blocks : List Block) → Stands old blocks → Sta
 -- the place of the bucket of a value's group g
 abbrev pub place_of : FieldTable → ℕ → ℕ → ℕ
 place_of t g value = bucket_place t.width g (group t.width t.bits g value)
+
+-- Rule r is set in the bucket of the value's group g.
+abbrev pub is_rule_set : FieldTable → ℕ → ℕ → ℕ → Bool
+is_rule_set t value r g = cell t.buckets.rows (place_of t g value) r
+
+-- A bit of word i stays set exactly if its rule is also set in the buckets of the first n groups.
+-- If there is such a group, no bit past the last rule is set.
+pub record IsSieved (t : FieldTable) (value n i old new : ℕ) : Type 0 where
+  pub kept : (k : ℕ) → k < 64 → bit new k ≡ (bit old k && every (is_rule_set t value (64 * i + k)) n)
+  pub past : 0 < n → (k : ℕ) → k < 64 → t.rules ≤ 64 * i + k → bit new k ≡ false
 
 -- Bit r of the row stays set exactly if the test passes for rule r's block.
 abbrev pub KeepsWhere : FieldTable → (Block → Bool) → Row → Row → Type 0

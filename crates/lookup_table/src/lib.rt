@@ -23,6 +23,9 @@
 //! A lookup of 192.168.1.5 ANDs one bucket per group: `111 & 110 & 110 & 010 & 011 = 010`. So rule
 //! 1 alone holds the address (`FieldTable::match_into`).
 //!
+//! `match_word` does the same for a word of 64 rules. It has a function for each size that a field
+//! has, in which the places of the groups in a value are constants.
+//!
 //! A table takes groups of eight bits if it then has at most 2 MiB, and else groups of four
 //! (`width_for`).
 //!
@@ -40,6 +43,7 @@
 mod laws;
 mod lines;
 mod marks;
+mod sized;
 mod summary;
 mod table;
 mod tops;

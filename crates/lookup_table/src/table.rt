@@ -65,7 +65,7 @@ impl FieldTable {
     ghost use Rattle.shared_pages.specs.Paged.{owns_of};
     ghost use Rattle.lookup_table.specs.Table.{rooms_of, bucket_bits};
     ghost use Rattle.lookup_table.specs.Lines.{IsPage};
-    ghost use Rattle.lookup_table.specs.Rules.{Stands, IsOwn, IsAsOwn, IsShared, IsSameField, KeepsRules, AppendsRules, DropsRules, KeepsWhere, KeepsBitsWhere, place_of};
+    ghost use Rattle.lookup_table.specs.Rules.{Stands, IsOwn, IsAsOwn, IsShared, IsSameField, KeepsRules, AppendsRules, DropsRules, KeepsWhere, place_of};
     ghost use Rattle.lookup_table.specs.Rows.{IsJoined, IsWide, halves_start, halves_step};
     ghost use Rattle.lookup_table.specs.Candidates.{LeavesNone};
 
@@ -120,8 +120,22 @@ impl FieldTable {
         ensures place { result ≡ place_of self.now g value }
         ensures within { result < length self.now.buckets.rows }
     {
-        let v = group_value(value, self.width, self.bits, g);
-        ((g as usize) << self.width) + v as usize
+        self.place_in(self.width, self.bits, value, g)
+    }
+
+    /// The place of the bucket of the value's group `g`. The caller brings the table's width and
+    /// bits, which the compiler then knows.
+    #[inline(always)]
+    pub(crate) fn place_in(&self, width: u32, bits: u32, value: u128, g: u32) -> usize
+        requires width { width ≡ self.now.width }
+        requires bits { bits ≡ self.now.bits }
+        requires group { g < self.now.bits / self.now.width }
+        requires value { value < 2 ^ self.now.bits }
+        ensures place { result ≡ place_of self.now g value }
+        ensures within { result < length self.now.buckets.rows }
+    {
+        let v = group_value(value, width, bits, g);
+        ((g as usize) << width) + v as usize
     }
 
     /// The page with word `i` of each bucket: a line of eight words for each.
@@ -345,27 +359,6 @@ impl FieldTable {
             Some(top) => pages & candidates(top.as_slice(), value, self.bits, lines),
             None => pages,
         }
-    }
-
-    /// Those bits of `word` whose rule's block holds the value. Bit 0 is rule `64 * i`. Bits past
-    /// the last rule are 0.
-    pub fn match_word(&self, value: u128, i: u32, word: u64) -> u64
-        requires { value < 2 ^ self.now.bits }
-        ensures held { KeepsBitsWhere self.now (λ rule. holds_value rule value) i word result }
-        ensures past { (k : ℕ) → k < 64 → self.now.rules ≤ 64 * i + k → bit result k ≡ false }
-    {
-        if i >= self.rules.div_ceil(64) {
-            return 0;
-        }
-        let words = self.page(i);
-        let mut left = word;
-        'groups: for g in 0..self.groups() {
-            if left == 0 {
-                return 0;
-            }
-            left &= words[self.place(value, g) * 8 + i as usize % 8];
-        }
-        left
     }
 
     /// Clears bit `r` of the row unless rule `r`'s block and this block share a value.

@@ -24,30 +24,6 @@ pub field-rules : (kinds : List Kind) (es : List Element) (index : Index) (f : �
     → length (field_rules kinds f es) ≡ (get_or index.fields f t).rules
 field-rules kinds es index f t i h = (i.fields.each f Ipv4 t h).stands.one_each
 
-pub image-shaped : (kinds : List Kind) (es : List Element) (index : Index) → IsImage kinds es index → IsShapedIndex index
-image-shaped kinds es index i =
-    let n = i.tables.fields.one_each in
-    let m = i.tables.maps.one_fewer in
-    record {
-      walk = record {
-        one_fewer = m ∙ sym n;
-        few = λ f t h. let l : f < length kinds = omega arith in subst (λ z. z ≤ rules_limit) (field-rules kinds es index f t i.tables l) (i.few_rules f l);
-        one_each = λ f t d h.
-            let l : f < length kinds = omega arith in
-            ap length (i.tables.maps.each f d h) ∙ length-spans (split kinds f) (split kinds (suc f)) 0 es ∙ field-rules kinds es index f t i.tables l;
-        inside = λ f t d h.
-            let l : f + 1 < length kinds = omega arith in
-            let e = field-rules kinds es index (f + 1) t i.tables l in
-            let a : length (field_rules kinds (suc f) es) ≡ (get_or index.fields (f + 1) t).rules = ap (λ z. length (field_rules kinds z es)) (sym (add-one f)) ∙ e in
-            subst (λ z. All (λ s. s.first + s.count ≤ (get_or index.fields (f + 1) t).rules) z) (sym (i.tables.maps.each f d h))
-            (spans-inside (split kinds f) (split kinds (suc f)) 0 (get_or index.fields (f + 1) t).rules es (omega arith));
-      };
-      one_end_each = λ t.
-          let l : length kinds - 1 < length kinds = omega (arith, i.some) in
-          ap length i.tables.ends ∙ length-ends (split kinds (length kinds - 1)) 0 es ∙ field-rules kinds es index (length kinds - 1) t i.tables l
-          ∙ ap (λ z. (get_or index.fields (z - 1) t).rules) (sym n);
-    }
-
 pub from-equal : (m n : ℕ) → (m == n) ≡ true → n ≡ m
 from-equal m n h = grind (arith, nat_tests)
 

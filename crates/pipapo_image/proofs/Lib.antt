@@ -16,9 +16,11 @@ pub mod Renewal
 pub mod FusedLaws
 pub mod SpanLaws
 pub mod RunLaws
+pub mod ShapeLaws
 pub mod FewLaws
 pub mod Shrinking
 pub mod Purging
 pub mod Leaving
+pub mod HitLaws
 pub mod ExactLaws
 pub mod AcceptedLaws

@@ -26,7 +26,8 @@ use Rattle.pipapo_image.specs.Index.{IsIndexOf}
 use Rattle.pipapo_image.specs.Image.{IsImage}
 use Rattle.pipapo_image.specs.Index.Runs.{IsElementRun, AreRuns, run_at}
 use Rattle.pipapo_image.specs.Index.Shrink.{IsOtherWithout, AreOthersWithout, IsShrunk, OwnsRuns, IsDroppable, IsDropped}
-use Rattle.pipapo_image.proofs.ImageUse.{field-rules, image-shaped}
+use Rattle.pipapo_image.proofs.ImageUse.{field-rules}
+use Rattle.pipapo_image.proofs.ShapeLaws.{image-shaped}
 use Rattle.pipapo_image.proofs.Items.{a-table}
 use Rattle.pipapo_image.proofs.Renewal.{apart}
 use Rattle.pipapo_image.proofs.RunLaws.{run-count, run-within}

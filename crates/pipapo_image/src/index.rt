@@ -115,14 +115,22 @@ impl Index {
             → result ≡ position (answers key.now now) es }
     {
         let row = &mut scratch.row;
-        walk(
-            self.fields.as_slice(),
-            self.maps.as_slice(),
-            key.as_slice(),
-            row,
-            &mut scratch.next,
-        );
+        self.reach(key.as_slice(), row, &mut scratch.next);
         led(&self.ends, row, now)
+    }
+
+    /// Leaves in `row` the rules of the last field that the key leads to, by the textbook lookup.
+    pub(crate) fn reach(&self, key: &[u128], row: &mut BitRow, next: &mut BitRow)
+        requires shaped { IsShapedIndex self.now }
+        requires key { IsKeyOf self.now.fields key.now }
+        requires room { HasRoomForRules row.old }
+        requires next_room { HasRoomForRules next.old }
+        ensures row { (kinds : List OneKind) (es : List Element) → IsIndexOf kinds es self.now → row.new.bits ≡ row_of kinds es (key_tests key.now) (length kinds - 1) }
+        ensures length { length row.new.bits ≡ length self.now.ends.items }
+        ensures room { HasRoomForRules row.new }
+        ensures next_room { HasRoomForRules next.new }
+    {
+        walk(self.fields.as_slice(), self.maps.as_slice(), key, row, next);
     }
 }
 

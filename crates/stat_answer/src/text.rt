@@ -112,12 +112,7 @@ fn write_fields(image: &SetImage, out: &mut Vec<u8>) -> Result<u128, Memory>
 }
 
 /// Appends a set's figures.
-fn write_set(
-    set: &SetDecl,
-    image: &SetImage,
-    now: u64,
-    out: &mut Vec<u8>,
-) -> Result<(), Memory>
+fn write_set(set: &SetDecl, image: &SetImage, now: u64, out: &mut Vec<u8>) -> Result<(), Memory>
     ensures { OnOk result (out.new.items ≡ out.old.items ++ set_stat now (set.now, image.now)) }
 {
     write_set_line(set, image.elements(), now, out)?;

@@ -8,8 +8,8 @@ use text_pieces::Piece;
 
 /// The words at the place of a command.
 const COMMANDS: [&[u8]; 12] = [
-    b"get", b"compare", b"stat", b"run", b"judge", b"capture", b"desk", b"drill", b"list", b"dump", b"sets",
-    b"help",
+    b"get", b"compare", b"stat", b"run", b"judge", b"capture", b"desk", b"drill", b"list", b"dump",
+    b"sets", b"help",
 ];
 
 const COMMANDS_ARE: &[u8] =

@@ -40,7 +40,11 @@ pub(crate) fn name_at(verb: Verb, place: usize) -> Option<&'static [u8]> {
 
 /// Whether a command's words may have a name at a place, in one of its forms.
 pub(crate) fn may_name(verb: Verb, place: usize) -> bool {
-    for line in Page::Command(verb).text().as_bytes().split(|byte| *byte == b'\n') {
+    for line in Page::Command(verb)
+        .text()
+        .as_bytes()
+        .split(|byte| *byte == b'\n')
+    {
         if line.is_empty() {
             return false;
         }

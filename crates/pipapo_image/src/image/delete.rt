@@ -1,4 +1,7 @@
-ghost use Rattle.std.specs.Prelude.{◌≡◌, ℕ, ◌+◌, ◌<◌, false, length, OnErr, IfOk};
+ghost use Rattle.std.specs.Prelude.{◌≡◌, ◌-◌, ◌<◌, true, length, OnErr, IfOk};
+ghost use Rattle.set_model.specs.Key.{parts_fit, start_key};
+ghost use Rattle.set_tables.specs.Core.{row_of};
+ghost use Rattle.set_tables.specs.Search.{key_tests};
 ghost use Rattle.set_model.specs.SetState.{is_exactly, removed, element_at, without_at};
 ghost use Rattle.pipapo_image.specs.Image.Found.{exactly_found};
 ghost use Rattle.pipapo_image.specs.Image.Remove.{IsRemoval};
@@ -6,7 +9,9 @@ ghost use Rattle.pipapo_image.specs.Image.Steps.{IsExactPlace};
 
 use crate::answers::ChangeError;
 use crate::image::SetImage;
+use crate::image::keys::starts;
 use crate::index::scratch::Scratch;
+use bit_rows::BitRow;
 use set_model::{Found, Memory, Parts, Why, is_live, parts_fit};
 use std::alloc::Global;
 
@@ -53,23 +58,39 @@ impl SetImage {
         }
         match self.start_place(parts, now, scratch) {
             Some(i) if self.has_parts(i, parts) => Some(i),
-            Some(i) => self.exact_behind(i, parts, now),
+            Some(_) => self.exact_reached(parts, now, scratch),
             None => None,
         }
     }
 
-    /// The place of the first element that is live and has exactly these intervals, if no element
-    /// up to place `i` has them.
-    fn exact_behind(&self, i: u64, parts: &Parts, now: u64) -> Option<u64>
-        requires place { i < length self.now.elements }
-        requires none { (k : ℕ) → k < i + 1 → is_exactly parts.now now (element_at self.now k) ≡ false }
+    /// The same place, by all rules that the start key leads to. The set's other elements aren't
+    /// looked at.
+    fn exact_reached(&self, parts: &Parts, now: u64, scratch: &mut Scratch) -> Option<u64>
+        requires { parts_fit self.now.kinds parts.now ≡ true }
         ensures { IsExactPlace self.now parts.now now result }
     {
-        let _elements = self.elements.len();
-        'places: for k in i + 1..self.elements.len() {
-            if self.is_exactly_at(k, parts, now) {
-                return Some(k);
+        let _kinds = self.kinds.len();
+        let lows = starts(parts);
+        let row = &mut scratch.row;
+        self.index
+            .reach(&lows[..parts.len() as usize], row, &mut scratch.next);
+        self.exact_among(row, parts, now)
+    }
+
+    /// The same place, if these are the rules that the start key leads to.
+    fn exact_among(&self, row: &BitRow, parts: &Parts, now: u64) -> Option<u64>
+        requires fit { parts_fit self.now.kinds parts.now ≡ true }
+        requires row { row.now.bits ≡ row_of self.now.kinds self.now.elements (key_tests (start_key parts.now)) (length self.now.kinds - 1) }
+        ensures { IsExactPlace self.now parts.now now result }
+    {
+        let _rules = row.len();
+        let mut from = 0;
+        'rules: while let Some(r) = row.next_set(from) {
+            let place = self.index.ends.at(r).place;
+            if self.is_exactly_at(place, parts, now) {
+                return Some(place);
             }
+            from = r + 1;
         }
         None
     }

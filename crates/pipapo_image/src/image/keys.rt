@@ -7,7 +7,7 @@ use crate::index::scratch::Scratch;
 use set_model::Parts;
 
 /// The key with which intervals start, and then zeros.
-fn starts(parts: &Parts) -> [u128; 16]
+pub(crate) fn starts(parts: &Parts) -> [u128; 16]
     requires { length parts.now ≤ 16 }
     ensures { take (length parts.now) result ≡ start_key parts.now }
 {

@@ -1,12 +1,11 @@
-use Rattle.std.proofs.Common.{◌≡◌, subst, ◌∙◌, ap, ◌+◌, ◌*◌, ◌<◌, ◌≤◌, length, get_or, arith}
+use Rattle.std.proofs.Common.{◌≡◌, subst, ◌∙◌, ap, ◌+◌, ◌-◌, ◌*◌, ◌≤◌, length, get_or, arith}
 use Rattle.bit_rows.specs.Row.{bit, with_run}
 use Rattle.bit_rows.proofs.Bits.{bit-zero}
 use Rattle.bit_rows.proofs.Rows.{length-run}
-use Rattle.mapping_table.proofs.WordLaws.{word-within, word-read}
-use Rattle.fused_lookup.specs.Words.{IsNextBit}
+use Rattle.mapping_table.proofs.WordLaws.{word-within}
+use Rattle.fused_lookup.specs.Words.{IsNextBit, IsRunEnd}
 use Rattle.fused_lookup.specs.Filled.{IsFilled}
-use Rattle.fused_lookup.specs.Window.{IsWidened}
-use Rattle.fused_lookup.proofs.FillLaws.{no_span, filled-bit, filled-rest}
+use Rattle.fused_lookup.proofs.FillLaws.{no_span, run-spans, filled-bits, filled-rest}
 use Rattle.fused_lookup.proofs.WindowLaws.{window-run}
 use Rattle.fused_lookup.proofs.refill.refill_word.Goals as goal
 
@@ -18,42 +17,62 @@ returns-then-word-eq0-clause-filled c = λ row long is before.
 
 pub bounds-word_spans-k : goal.bounds-word_spans-k
 bounds-word_spans-k c =
-    let next : IsNextBit c.args.word c.rules.from c.in-Some.k = c.in-Some.ensures in
+    let next : IsNextBit c.args.word c.runs.from c.in-Some.k = c.in-Some.ensures in
     word-within c.args.spans.now.items c.word-word_spans.result.now c.args.i c.in-Some.k c.word-word_spans.ensures next.within (c.requires.rules.rule c.in-Some.k next.within next.set)
+
+pub bounds-word_spans-end : goal.bounds-word_spans-end
+bounds-word_spans-end c =
+    let next : IsNextBit c.args.word c.runs.from c.in-Some.k = c.in-Some.ensures in
+    let run : IsRunEnd c.args.word c.in-Some.k c.run_end-end.result = c.run_end-end.ensures in
+    let some = run.some in
+    let fits = run.within in
+    let set = run.set (c.run_end-end.result - 1) (omega arith) (omega arith) in
+    word-within c.args.spans.now.items c.word-word_spans.result.now c.args.i (c.run_end-end.result - 1) c.word-word_spans.ensures (omega arith) (c.requires.rules.rule (c.run_end-end.result - 1) (omega arith) set)
+
+pub overflow_add-count : goal.overflow_add-count
+overflow_add-count c =
+    let are = run-spans c.args.spans.now.items c.word-word_spans.result.now c.args.i c.args.word c.in-Some.k c.run_end-end.result c.requires.chained c.word-word_spans.ensures c.requires.rules c.run_end-end.ensures in
+    omega (arith, are.high, c.requires.inside (64 * c.args.i + (c.run_end-end.result - 1)) no_span are.inside)
+
+pub overflow_sub-count : goal.overflow_sub-count
+overflow_sub-count c =
+    let are = run-spans c.args.spans.now.items c.word-word_spans.result.now c.args.i c.args.word c.in-Some.k c.run_end-end.result c.requires.chained c.word-word_spans.ensures c.requires.rules c.run_end-end.ensures in
+    omega (arith, are.order)
 
 pub set_range-requires : goal.set_range-requires
 set_range-requires c =
-    let next : IsNextBit c.args.word c.rules.from c.in-Some.k = c.in-Some.ensures in
-    let here = c.requires.rules.rule c.in-Some.k next.within next.set in
-    let same = ap (λ s. s.first + s.count) (word-read c.args.spans.now.items c.word-word_spans.result.now c.args.i c.in-Some.k no_span c.word-word_spans.ensures next.within) in
-    omega (arith, c.requires.inside (64 * c.args.i + c.in-Some.k) no_span here, c.rules.invariant.len)
+    let are = run-spans c.args.spans.now.items c.word-word_spans.result.now c.args.i c.args.word c.in-Some.k c.run_end-end.result c.requires.chained c.word-word_spans.ensures c.requires.rules c.run_end-end.ensures in
+    omega (arith, are.high, are.order, c.requires.inside (64 * c.args.i + (c.run_end-end.result - 1)) no_span are.inside, c.runs.invariant.len)
 
 pub widened-window-requires : goal.widened-window-requires
 widened-window-requires c =
-    let next : IsNextBit c.args.word c.rules.from c.in-Some.k = c.in-Some.ensures in
-    let here = c.requires.rules.rule c.in-Some.k next.within next.set in
-    let same = ap (λ s. s.first + s.count) (word-read c.args.spans.now.items c.word-word_spans.result.now c.args.i c.in-Some.k no_span c.word-word_spans.ensures next.within) in
-    omega (arith, c.requires.inside (64 * c.args.i + c.in-Some.k) no_span here)
+    let are = run-spans c.args.spans.now.items c.word-word_spans.result.now c.args.i c.args.word c.in-Some.k c.run_end-end.result c.requires.chained c.word-word_spans.ensures c.requires.rules c.run_end-end.ensures in
+    omega (arith, are.high, are.order, c.requires.inside (64 * c.args.i + (c.run_end-end.result - 1)) no_span are.inside)
 
-pub rules-preserved : goal.rules-preserved
-rules-preserved c =
-    let next : IsNextBit c.args.word c.rules.from c.in-Some.k = c.in-Some.ensures in
-    let here : 64 * c.args.i + c.in-Some.k < length c.args.spans.now.items = c.requires.rules.rule c.in-Some.k next.within next.set in
-    let span = get_or c.args.spans.now.items (64 * c.args.i + c.in-Some.k) no_span in
-    let same : get_or c.word-word_spans.result.now c.in-Some.k no_span ≡ span =
-    word-read c.args.spans.now.items c.word-word_spans.result.now c.args.i c.in-Some.k no_span c.word-word_spans.ensures next.within in
-    let inside : span.first + span.count ≤ length c.rules.next.bits = omega (arith, c.requires.inside (64 * c.args.i + c.in-Some.k) no_span here, c.rules.invariant.len) in
-    let run : c.set_range.new.self.bits ≡ with_run c.rules.next.bits span.first span.count = c.set_range.ensures.bits ∙ ap (λ s. with_run c.rules.next.bits s.first s.count) same in
-    let kept : length c.set_range.new.self.bits ≡ length c.rules.next.bits = ap length run ∙ length-run c.rules.next.bits span.first span.count inside in
+pub runs-preserved : goal.runs-preserved
+runs-preserved c =
+    let spans = c.args.spans.now.items in
+    let k = c.in-Some.k in
+    let end = c.run_end-end.result in
+    let next : IsNextBit c.args.word c.runs.from k = c.in-Some.ensures in
+    let run : IsRunEnd c.args.word k end = c.run_end-end.ensures in
+    let are = run-spans spans c.word-word_spans.result.now c.args.i c.args.word k end c.requires.chained c.word-word_spans.ensures c.requires.rules run in
+    let first = (get_or c.word-word_spans.result.now k no_span).first in
+    let last = get_or c.word-word_spans.result.now (end - 1) no_span in
+    let count = last.first + last.count - first in
+    let inside : first + count ≤ length c.runs.next.bits = omega (arith, are.high, are.order, c.requires.inside (64 * c.args.i + (end - 1)) no_span are.inside, c.runs.invariant.len) in
+    let made : c.set_range.new.self.bits ≡ with_run c.runs.next.bits first count = c.set_range.ensures.bits in
+    let kept : length c.set_range.new.self.bits ≡ length c.runs.next.bits = ap length made ∙ length-run c.runs.next.bits first count inside in
     record {
-      low = omega (arith, next.within);
+      low = run.within;
       filled = λ row long is before.
-          filled-bit c.args.spans.now.items row c.args.i c.args.word c.rules.from c.in-Some.k c.rules.next.bits c.set_range.new.self.bits long is next here inside run (c.rules.invariant.filled row long is before);
-      window = window-run c.rules.next.bits c.set_range.new.self.bits c.rules.window c.widened-window.result span.first span.count inside run kept (subst (λ s. IsWidened c.rules.window s.first s.count c.widened-window.result) same c.widened-window.ensures) c.rules.invariant.window;
-      len = kept ∙ c.rules.invariant.len;
-      spare = c.set_range.ensures.spare ∙ c.rules.invariant.spare;
+          filled-bits spans row c.args.i c.args.word c.runs.from k end count c.runs.next.bits c.set_range.new.self.bits c.requires.chained long is next run are.inside
+          (omega (arith, are.low, are.high, are.order)) (omega (arith, are.high, are.order, inside)) (made ∙ ap (λ n. with_run c.runs.next.bits n count) are.low) (c.runs.invariant.filled row long is before);
+      window = window-run c.runs.next.bits c.set_range.new.self.bits c.runs.window c.widened-window.result first count inside made kept c.widened-window.ensures c.runs.invariant.window;
+      len = kept ∙ c.runs.invariant.len;
+      spare = c.set_range.ensures.spare ∙ c.runs.invariant.spare;
     }
 
 pub returns-clause-filled : goal.returns-clause-filled
 returns-clause-filled c = λ row long is before.
-    filled-rest c.args.spans.now.items row c.args.i c.args.word c.rules.from c.rules.next.bits long is c.rules.invariant.low c.in_default.ensures (c.rules.invariant.filled row long is before)
+    filled-rest c.args.spans.now.items row c.args.i c.args.word c.runs.from c.runs.next.bits long is c.runs.invariant.low c.in_default.ensures (c.runs.invariant.filled row long is before)

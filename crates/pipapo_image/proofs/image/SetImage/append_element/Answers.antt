@@ -7,7 +7,7 @@ use Rattle.pipapo_image.specs.Index.Built.{Built}
 use Rattle.pipapo_image.specs.Index.Grow.{IsOther}
 use Rattle.pipapo_image.specs.Index.Changes.{AreReady, IsAppended}
 use Rattle.pipapo_image.proofs.FewLaws.{few_elements}
-use Rattle.pipapo_image.proofs.ImageUse.{image-shaped}
+use Rattle.pipapo_image.proofs.ShapeLaws.{image-shaped}
 use Rattle.pipapo_image.proofs.ImageGrowth.{columns-of, image-kept, ready, growth}
 use Rattle.pipapo_image.proofs.image.SetImage.append_element.Goals as goal
 

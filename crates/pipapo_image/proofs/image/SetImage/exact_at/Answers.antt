@@ -1,7 +1,7 @@
 use Rattle.std.proofs.Common.{◌≡◌, sym, ◌∙◌, ap, subst, true, false}
 use Rattle.std.specs.Prelude.{All}
 use Rattle.set_model.specs.Key.{parts_fit}
-use Rattle.pipapo_image.proofs.ExactLaws.{exact-nowhere, exact-unfit, exact-first, none-up-to}
+use Rattle.pipapo_image.proofs.ExactLaws.{exact-nowhere, exact-unfit, exact-first}
 use Rattle.pipapo_image.proofs.image.SetImage.exact_at.Goals as goal
 
 pub returns-then-not-parts_fit : goal.returns-then-not-parts_fit
@@ -13,10 +13,8 @@ returns-then-not-parts_fit c =
 pub start_place-requires : goal.start_place-requires
 start_place-requires c = ap (λ s. parts_fit s.kinds c.args.parts.now) (sym c.self.view_is) ∙ sym c.if-not-parts_fit.ensures
 
-pub exact_behind-requires-clause-none : goal.exact_behind-requires-clause-none
-exact_behind-requires-clause-none c =
-    let fit : parts_fit c.args.self.now.kinds c.args.parts.now ≡ true = ap (λ s. parts_fit s.kinds c.args.parts.now) (sym c.self.view_is) ∙ sym c.if-not-parts_fit.ensures in
-    none-up-to c.args.self.now c.args.parts.now c.args.now c.in-Some.i fit (sym c.in-Some.is ∙ c.start_place.ensures.value) (sym c.has_parts.ensures ∙ c.if-has_parts.false)
+pub exact_reached-requires : goal.exact_reached-requires
+exact_reached-requires c = ap (λ s. parts_fit s.kinds c.args.parts.now) (sym c.self.view_is) ∙ sym c.if-not-parts_fit.ensures
 
 pub returns-in-Some : goal.returns-in-Some
 returns-in-Some c =

@@ -4,7 +4,7 @@ use Rattle.std.specs.Prelude.{find}
 use Rattle.std.specs.List.{range_with_len}
 use Rattle.pipapo_image.specs.Index.Built.{Built}
 use Rattle.pipapo_image.specs.Index.Grow.{IsColumn, counts, is_over}
-use Rattle.pipapo_image.proofs.ImageUse.{image-shaped}
+use Rattle.pipapo_image.proofs.ShapeLaws.{image-shaped}
 use Rattle.pipapo_image.proofs.ImageGrowth.{crowded-same}
 use Rattle.pipapo_image.proofs.image.SetImage.first_crowded.Goals as goal
 

@@ -1,6 +1,7 @@
 use Rattle.std.proofs.Common.{◌∙◌, ap}
 use Rattle.set_model.specs.Key.{key_fits, parts_fit}
-use Rattle.pipapo_image.proofs.ImageUse.{image-shaped, key-of}
+use Rattle.pipapo_image.proofs.ImageUse.{key-of}
+use Rattle.pipapo_image.proofs.ShapeLaws.{image-shaped}
 use Rattle.pipapo_image.proofs.SharingRows.{intervals-of}
 use Rattle.pipapo_image.proofs.image.SetImage.index.Goals as goal
 

@@ -1,7 +1,8 @@
 use Rattle.std.proofs.Common.{◌∙◌, ap}
 use Rattle.set_model.specs.Key.{key_fits}
 use Rattle.set_model.specs.SetState.{place}
-use Rattle.pipapo_image.proofs.ImageUse.{image-shaped, key-of, all-long}
+use Rattle.pipapo_image.proofs.ImageUse.{key-of, all-long}
+use Rattle.pipapo_image.proofs.ShapeLaws.{image-shaped}
 use Rattle.pipapo_image.proofs.Places.{is-place}
 use Rattle.pipapo_image.proofs.image.SetImage.plain_place.Goals as goal
 

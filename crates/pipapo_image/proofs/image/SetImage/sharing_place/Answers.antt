@@ -1,7 +1,7 @@
 use Rattle.std.proofs.Common.{◌∙◌, ap, ◌≡◌, true}
 use Rattle.set_model.specs.Key.{parts_fit}
 use Rattle.set_model.specs.SetState.{sharing_place}
-use Rattle.pipapo_image.proofs.ImageUse.{image-shaped}
+use Rattle.pipapo_image.proofs.ShapeLaws.{image-shaped}
 use Rattle.pipapo_image.proofs.Places.{is-sharing-place}
 use Rattle.pipapo_image.proofs.SharingRows.{intervals-of}
 use Rattle.pipapo_image.proofs.image.SetImage.sharing_place.Goals as goal

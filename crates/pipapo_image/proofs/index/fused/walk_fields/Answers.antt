@@ -4,6 +4,7 @@ use Rattle.set_tables.specs.Rows.{refilled}
 use Rattle.set_tables.specs.Core.{row_of}
 use Rattle.set_tables.specs.Tables.{field_spans}
 use Rattle.set_tables.specs.Search.{key_tests}
+use Rattle.fused_lookup.specs.Filled.{AreChained}
 use Rattle.fused_lookup.specs.Window.{IsWindow}
 use Rattle.pipapo_image.specs.Index.Room.{IsBlank}
 use Rattle.pipapo_image.proofs.Items.{field-stands, map-spans, field-count, key-within}
@@ -18,6 +19,7 @@ refill_from_first-window-requires c =
       rules = ap (λ z. length z.items) c.index-maps-0.is ∙ c.requires.shaped.one_each 0 c.index-fields-0.result c.index-maps-0.result c.requires.some
           ∙ field-count c.args.fields.now 0 c.index-fields-0.result c.index-fields-0.result some c.index-fields-0.is;
       inside = inside-limit c.args.fields.now c.args.maps.now 0 (length c.args.row.now.bits) c.index-maps-0.result c.index-maps-0.result.items c.requires.shaped c.requires.some c.index-maps-0.is refl c.requires.row.long;
+      chained = subst (λ z. AreChained z.items) (sym c.index-maps-0.is) (c.requires.shaped.chained 0 c.index-maps-0.result c.requires.some);
       clear = c.requires.row.clear;
     }
 
@@ -47,6 +49,7 @@ refill_from-window-requires c =
       rules = ap (λ z. length z.items) c.index-maps-f.is ∙ c.requires.shaped.one_each c.fields.f c.index-fields-f.result c.index-maps-f.result c.fields-test.true ∙ count;
       room = omega (arith, c.fields.invariant.long);
       inside = inside-limit c.args.fields.now c.args.maps.now c.fields.f (length c.fields.next.bits) c.index-maps-f.result c.index-maps-f.result.items c.requires.shaped c.fields-test.true c.index-maps-f.is refl c.fields.invariant.next.long;
+      chained = subst (λ z. AreChained z.items) (sym c.index-maps-f.is) (c.requires.shaped.chained c.fields.f c.index-maps-f.result c.fields-test.true);
       window = c.fields.invariant.window;
       clear = c.fields.invariant.next.clear;
     }
