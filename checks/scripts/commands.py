@@ -26,7 +26,7 @@ def listed():
     if lines[0].split("\t") != ["command", "names", "options", "statuses"]:
         sys.exit("docs/commands.tsv has other columns than expected")
     rows = [line.split("\t") for line in lines[1:]]
-    return [Command(word, names, list(filter(None, options.split(","))), [int(number) for number in statuses.split(",")])
+    return [Command(word, names, [option for option in options.split(",") if option], [int(number) for number in statuses.split(",")])
             for word, names, options, statuses in rows]
 
 
