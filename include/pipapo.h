@@ -117,8 +117,8 @@ typedef struct {
     uint32_t kinds[16]; /* an enum pipapo_kind for each field, and zeros */
     uint32_t fields;    /* how many there are */
     uint32_t family;    /* an enum pipapo_family */
-    uint32_t interval;  /* 1 with `flags interval`, or 0; as for pipapo_list */
-    uint32_t timed;     /* 1 with `flags timeout`, or 0; as for pipapo_list */
+    uint32_t interval;  /* 1 with `flags interval` and for a set of pipapo_start, or 0 */
+    uint32_t timed;     /* 1 with `flags timeout` and for a set of pipapo_start, or 0 */
     uint32_t disjoint;  /* 1 with `flags disjoint`, or 0 */
     uint32_t size;      /* at most so many elements; 0: any number */
     uint64_t timeout;   /* the life of a script's element that names none, in milliseconds; 0: it doesn't expire */
@@ -190,7 +190,7 @@ enum pipapo_error {
     PIPAPO_NUMBERS = 10,    /* there are no numbers for further generations */
     PIPAPO_SCRIPT = 11,     /* pipapo_start_script: the text isn't a script */
     PIPAPO_CHANGE = 12,     /* pipapo_start_script: a change of the script is refused */
-    PIPAPO_ROOM = 13,       /* a text or an element is longer than its buffer, or a set than a pipapo_declared */
+    PIPAPO_ROOM = 13,       /* a text or an element is longer than its buffer, or a set doesn't fit a pipapo_declared */
     PIPAPO_PLACE = 14,      /* pipapo_element_at: there is no element at this place */
     PIPAPO_NOTE = 15,       /* pipapo_meet, pipapo_hear: the note's generation isn't there */
     PIPAPO_OVERLAP = 16,    /* a live element is in the way */
@@ -281,9 +281,9 @@ uint32_t pipapo_abort(pipapo_control *control);
 PIPAPO_NONNULL PIPAPO_CHECK_RESULT
 uint32_t pipapo_number(pipapo_control *control, uint64_t *generation);
 
-/* `declared` gets what a set was declared as, by a struct or by a script. The sets have the numbers 0, 1, .. up to the first one
- * for which the answer is SET.
- * Errors: NOTHING, HANDLE, SET; ROOM if the struct has no room for the set, which no start makes. `declared` is then as it was.
+/* Writes to `declared` how a struct or a script declared a set. Sets have the numbers 0, 1, .. and the first number that no set
+ * has is refused as SET.
+ * Errors: NOTHING, HANDLE, SET; ROOM if the set doesn't fit the struct: no start makes such a set. `declared` is then as it was.
  * Allocates nothing. */
 PIPAPO_NONNULL PIPAPO_CHECK_RESULT
 uint32_t pipapo_describe(pipapo_control *control, uint32_t set, pipapo_declared *declared);
@@ -292,7 +292,7 @@ uint32_t pipapo_describe(pipapo_control *control, uint32_t set, pipapo_declared 
  * their places are 0 to `count` - 1. They stay as they are, whatever the control changes, commits or frees. What the handle held
  * before is freed.
  * Errors: NOTHING, HANDLE, SET, MEMORY; `elements` and `count` are then as they were.
- * Cost: a pointer for each 512 elements, since the memory is shared with the generation. If elements left the set, a copy of it. */
+ * Cost: a pointer for each 512 elements, since the memory is shared with the generation. If elements left the set, it is copied. */
 PIPAPO_NONNULL PIPAPO_CHECK_RESULT
 uint32_t pipapo_elements_of(pipapo_control *control, uint32_t set, pipapo_elements *elements, uint64_t *count);
 
@@ -303,8 +303,8 @@ uint32_t pipapo_elements_of(pipapo_control *control, uint32_t set, pipapo_elemen
  *     for (uint64_t place = 0; place < count; ++place)
  *         if (!pipapo_element_at(&elements, place, bounds, sizeof bounds, comment, sizeof comment, &element)) ..
  *
- * Errors: NOTHING, HANDLE; PLACE if `place` is `count` or greater; ROOM if a buffer is too short. After ROOM `element` has the
- * lengths; else it is as it was. The buffers are as they were. Cost: the bytes. Allocates nothing. */
+ * Errors: NOTHING, HANDLE; PLACE if `place` is `count` or greater; ROOM if a buffer is too short. The buffers are then as they
+ * were. `element` has the lengths after ROOM, and else is as it was. Cost: the bytes. Allocates nothing. */
 PIPAPO_NONNULL PIPAPO_CHECK_RESULT
 uint32_t pipapo_element_at(pipapo_elements *elements, uint64_t place, void *bounds, size_t bounds_size, char *comment,
                            size_t comment_size, pipapo_element *element);
@@ -358,7 +358,7 @@ PIPAPO_NONNULL PIPAPO_CHECK_RESULT
 uint32_t pipapo_lookup_many(pipapo_reader *reader, uint32_t set, const void *keys, size_t length, uint64_t now,
                             uint64_t *answers, size_t count, uint64_t *generation);
 
-/* Notes pass on from thread to thread what is committed. A note is the number of a generation, which pipapo_commit and
+/* By a note one thread informs another of a committed generation. A note is the generation's number, which pipapo_commit and
  * pipapo_enter write, too. Hand it over as you would hand over a handle (THREADS).
  *
  * `note` gets the number of the last generation that a pipapo_control committed, or that a pipapo_reader has seen. A reader that
@@ -367,16 +367,16 @@ uint32_t pipapo_lookup_many(pipapo_reader *reader, uint32_t set, const void *key
 PIPAPO_NONNULL PIPAPO_CHECK_RESULT
 uint32_t pipapo_note(void *handle, uint64_t *note);
 
-/* The reader meets a note: from now on it enters no generation before the note's. A reader that holds no generation looks at the
- * published one, by two atomic additions.
- * Errors: NOTHING, HANDLE; NOTE if the generation that it holds, or else the published one, comes before the note's. So a reader
- * that holds an older generation leaves it first. If it holds none, the note is of another start, or came without order between
- * the threads. Allocates nothing. */
+/* The reader meets a note: from now on it enters no generation older than the note's. A reader that holds no generation looks at
+ * the published one, by two atomic additions.
+ * Errors: NOTHING, HANDLE; NOTE if the generation that it holds, or else the published one, is older than the note's. So a reader
+ * that holds an older generation has to leave it first. If the reader holds none, NOTE means that the note is of another start, or
+ * came without order between the threads. Allocates nothing. */
 PIPAPO_NONNULL PIPAPO_CHECK_RESULT
 uint32_t pipapo_meet(pipapo_reader *reader, uint64_t note);
 
-/* The control hears a note of a reader: PIPAPO_OK if it has committed the note's generation.
- * Errors: NOTHING, HANDLE; NOTE if it hasn't. Then the note is of another start. Allocates nothing. */
+/* The control hears a note of a reader: PIPAPO_OK if the control has committed the note's generation.
+ * Errors: NOTHING, HANDLE; NOTE if it hasn't committed it. Then the note is of another start. Allocates nothing. */
 PIPAPO_NONNULL PIPAPO_CHECK_RESULT
 uint32_t pipapo_hear(pipapo_control *control, uint64_t note);
 
