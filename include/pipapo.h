@@ -31,8 +31,9 @@
  * MOMENTS are milliseconds since any start that the program chooses. An element that expires at moment m is live before m.
  *
  * RETURN VALUES. Each call returns PIPAPO_OK (0), or the reason why it did nothing. If several reasons apply, it is the first
- * one that the call's comment names. A refused call changes nothing that a handle holds. It writes nothing but the `answer` of
- * a change, the `fault` of a start by a script, and after ROOM the length of a text, or the lengths of an element.
+ * one that the call's comment names. A refused call changes nothing that a handle holds, but a reader may have seen a newer
+ * generation after a refused pipapo_meet. It writes nothing but the `answer` of a change, the `fault` of a start by a script, and
+ * after ROOM the length of a text, or the lengths of an element.
  *
  * THREADS. The control, each reader and each set's elements may be in a thread of their own. No call waits for another
  * thread. One handle is for one call at a time. A handle may go to another thread through a lock, the start or end of a
