@@ -28,7 +28,11 @@
  * protocol 1, a port 2, a mark 4. The host's byte order never matters. An element's bounds are two keys, one directly after
  * the other: the low values of all fields, then the high values. An interval includes both its bounds.
  *
- * MOMENTS are milliseconds since any start that the program chooses. An element that expires at moment m is live before m.
+ * MOMENTS are milliseconds since any start that the program chooses. An element that expires at moment m is live before m. A
+ * call may have an earlier moment than the call before it.
+ *
+ * IDS. Each set counts its elements from 0 in the order of insertion, and an element keeps its id. A refused change takes no id. A
+ * deletion, a flush or an expiry gives none back. After an abort the next elements get the ids of those that it took back.
  *
  * RETURN VALUES. Each call returns PIPAPO_OK (0), or the reason why it did nothing. If several reasons apply, it is the first
  * one that the call's comment names. A refused call changes nothing that a handle holds, but a reader may have seen a newer
@@ -40,8 +44,8 @@
  * thread, or a sequentially consistent atomic. Different handles need no order.
  *
  * MEMORY. Only the two starts, the changes, pipapo_commit, the listings and pipapo_elements_of allocate, by malloc and realloc.
- * The control and each reader take 768 KiB for the rows of a lookup, and the control takes the sets. The control frees a
- * generation's memory, except for what a pipapo_elements still holds.
+ * The control and each reader take 768 KiB for the rows of a lookup, and the control takes the sets. Commits free the memory of
+ * older generations, and the last freed handle of a start frees the rest. A pipapo_elements keeps its set until it is freed.
  *
  * THE CALLER MUST SEE TO THIS, since no call can test it. Otherwise the behaviour is undefined:
  *   - No pointer is null, also if its count is 0. Each points to as much memory as its count says.
@@ -77,7 +81,8 @@ extern "C" {
 #define PIPAPO_CHECK_RESULT
 #endif
 
-/* A handle holds a control, a reader or the elements of a set; its pointer is null if it holds nothing. Pass its address. */
+/* A handle holds a control, a reader or the elements of a set; its pointer is null if it holds nothing. Pass its address.
+ * An array of readers begins as `pipapo_reader readers[4] = {PIPAPO_EMPTY};`: then all of them are empty. */
 typedef struct { void *at; } pipapo_control;
 typedef struct { void *at; } pipapo_reader;
 typedef struct { void *at; } pipapo_elements;
@@ -227,7 +232,8 @@ uint32_t pipapo_start_script(const char *text, size_t length, pipapo_control *co
 
 /* Frees what a handle of any kind holds, and leaves the handle empty. An empty handle stays empty. The order in which handles
  * are freed doesn't matter: readers and elements may outlive their control. A reader that is freed while it holds a generation
- * keeps that generation's slot, and blocks nobody. */
+ * keeps that generation's slot, and blocks nobody.
+ * Cost: the handle's own memory is freed; with the last handle of a start, all that its generations still have. */
 PIPAPO_NONNULL
 void pipapo_free(void *handle);
 
@@ -247,7 +253,8 @@ PIPAPO_NONNULL PIPAPO_CHECK_RESULT
 uint32_t pipapo_insert(pipapo_control *control, uint32_t set, const void *bounds, size_t length, uint64_t expiry,
                        const char *comment, size_t comment_length, uint64_t now, pipapo_answer *answer);
 
-/* As pipapo_insert, but refused if a live element has the same intervals. Errors: EXISTS with its id, then as pipapo_insert. */
+/* As pipapo_insert, but refused if a live element has the same intervals. Errors: EXISTS with its id, then as pipapo_insert.
+ * Cost: as pipapo_insert. */
 PIPAPO_NONNULL PIPAPO_CHECK_RESULT
 uint32_t pipapo_create(pipapo_control *control, uint32_t set, const void *bounds, size_t length, uint64_t expiry,
                        const char *comment, size_t comment_length, uint64_t now, pipapo_answer *answer);
@@ -258,12 +265,14 @@ PIPAPO_NONNULL PIPAPO_CHECK_RESULT
 uint32_t pipapo_delete(pipapo_control *control, uint32_t set, const void *bounds, size_t length, uint64_t now,
                        pipapo_answer *answer);
 
-/* As pipapo_delete, but PIPAPO_OK with PIPAPO_ABSENT if there is no such element. */
+/* As pipapo_delete, but PIPAPO_OK with PIPAPO_ABSENT if there is no such element. Cost: as pipapo_delete. */
 PIPAPO_NONNULL PIPAPO_CHECK_RESULT
 uint32_t pipapo_destroy(pipapo_control *control, uint32_t set, const void *bounds, size_t length, uint64_t now,
                         pipapo_answer *answer);
 
-/* Removes all elements of an open set; `count` gets how many there were. Ids go on. Errors: NOTHING, HANDLE, SET, MEMORY. */
+/* Removes all elements of an open set; `count` gets how many there were. Ids go on. Errors: NOTHING, HANDLE, SET, MEMORY.
+ * Cost: a new empty set, or nothing if the set is empty. What this transaction changed in the set is freed. If it changed a set
+ * that elements have left, the others are counted. */
 PIPAPO_NONNULL PIPAPO_CHECK_RESULT
 uint32_t pipapo_flush(pipapo_control *control, uint32_t set, uint64_t *count);
 
@@ -274,28 +283,31 @@ uint32_t pipapo_flush(pipapo_control *control, uint32_t set, uint64_t *count);
 PIPAPO_NONNULL PIPAPO_CHECK_RESULT
 uint32_t pipapo_commit(pipapo_control *control, uint64_t now, uint64_t *generation, uint64_t *purged);
 
-/* Takes all changes since the last commit back. Errors: NOTHING, HANDLE. Allocates nothing. */
+/* Takes all changes since the last commit back. Errors: NOTHING, HANDLE.
+ * Cost: a pointer for each set, and freeing what was changed. Allocates nothing. */
 PIPAPO_NONNULL PIPAPO_CHECK_RESULT
 uint32_t pipapo_abort(pipapo_control *control);
 
-/* The number of the last generation. Errors: NOTHING, HANDLE. */
+/* The number of the last generation. Errors: NOTHING, HANDLE. Cost: constant. Allocates nothing. */
 PIPAPO_NONNULL PIPAPO_CHECK_RESULT
 uint32_t pipapo_number(pipapo_control *control, uint64_t *generation);
 
 /* Writes to `declared` how a struct or a script declared a set. Sets have the numbers 0, 1, .. and the first number that no set
  * has is refused as SET.
  * Errors: NOTHING, HANDLE, SET; ROOM if the set doesn't fit the struct: no start makes such a set. `declared` is then as it was.
- * Allocates nothing. */
+ * Cost: the struct's bytes. Allocates nothing. */
 PIPAPO_NONNULL PIPAPO_CHECK_RESULT
 uint32_t pipapo_describe(pipapo_control *control, uint32_t set, pipapo_declared *declared);
 
-/* Puts the elements of a set of the last generation into a handle, in the order of insertion. `count` gets how many there are:
- * their places are 0 to `count` - 1. They stay as they are, whatever the control changes, commits or frees. What the handle held
- * before is freed.
- * Errors: NOTHING, HANDLE, SET, MEMORY; `elements` and `count` are then as they were.
- * Cost: a pointer for each 512 elements, since the memory is shared with the generation. If elements left the set, it is copied. */
+/* Puts the elements of a set into a handle, in the order of insertion. `handle` is a pipapo_control or a pipapo_reader. The set is
+ * of the control's last generation, or of the generation that the reader holds. `count` gets how many elements there are: their
+ * places are 0 to `count` - 1. They stay as they are, whatever the control changes, commits or frees, and after the reader leaves
+ * the generation. What `elements` held before is freed.
+ * Errors: NOTHING; HANDLE, if `handle` is a handle of elements; TURN, if the reader holds no generation; SET, MEMORY. `elements`
+ * and `count` are then as they were.
+ * Cost: one small allocation. The set is shared and not copied, so its memory stays until `elements` is freed. */
 PIPAPO_NONNULL PIPAPO_CHECK_RESULT
-uint32_t pipapo_elements_of(pipapo_control *control, uint32_t set, pipapo_elements *elements, uint64_t *count);
+uint32_t pipapo_elements_of(void *handle, uint32_t set, pipapo_elements *elements, uint64_t *count);
 
 /* Writes one element: its bounds, as pipapo_insert takes them, to the `bounds_size` bytes at `bounds`; its comment, without a zero
  * byte, to the `comment_size` bytes at `comment`; the rest to `element`. 512 bytes are enough for all bounds. A comment of a script
@@ -305,7 +317,9 @@ uint32_t pipapo_elements_of(pipapo_control *control, uint32_t set, pipapo_elemen
  *         if (!pipapo_element_at(&elements, place, bounds, sizeof bounds, comment, sizeof comment, &element)) ..
  *
  * Errors: NOTHING, HANDLE; PLACE if `place` is `count` or greater; ROOM if a buffer is too short. The buffers are then as they
- * were. `element` has the lengths after ROOM, and else is as it was. Cost: the bytes. Allocates nothing. */
+ * were. `element` has the lengths after ROOM, and else is as it was.
+ * Cost: the bytes. If elements left the set, a call also searches, unless it follows the call for the place before. The time of
+ * this search grows with the logarithm of the set's size. Allocates nothing. */
 PIPAPO_NONNULL PIPAPO_CHECK_RESULT
 uint32_t pipapo_element_at(pipapo_elements *elements, uint64_t place, void *bounds, size_t bounds_size, char *comment,
                            size_t comment_size, pipapo_element *element);
@@ -335,11 +349,11 @@ uint32_t pipapo_list_into(pipapo_control *control, uint64_t now, char *text, siz
 PIPAPO_NONNULL PIPAPO_CHECK_RESULT
 uint32_t pipapo_enter(pipapo_reader *reader, uint64_t *generation);
 
-/* Lets the generation go. Errors: NOTHING, HANDLE, TURN. Cost: one atomic addition. */
+/* Lets the generation go. Errors: NOTHING, HANDLE, TURN. Cost: one atomic addition. Allocates nothing. */
 PIPAPO_NONNULL PIPAPO_CHECK_RESULT
 uint32_t pipapo_leave(pipapo_reader *reader);
 
-/* The number of the generation that the reader holds. Errors: NOTHING, HANDLE, TURN. */
+/* The number of the generation that the reader holds. Errors: NOTHING, HANDLE, TURN. Cost: constant. Allocates nothing. */
 PIPAPO_NONNULL PIPAPO_CHECK_RESULT
 uint32_t pipapo_generation(pipapo_reader *reader, uint64_t *generation);
 
@@ -354,7 +368,7 @@ uint32_t pipapo_lookup(pipapo_reader *reader, uint32_t set, const void *key, siz
  * and `length` is their bytes together. `answers` gets the id of each key's element, or PIPAPO_NONE; `generation` the
  * generation's number.
  * Errors: as pipapo_lookup (LENGTH if `length` isn't that of `count` keys); `answers` and `generation` are then as they were.
- * Allocates nothing. */
+ * Cost: the lookups, and two atomic additions if the reader holds no generation. Allocates nothing. */
 PIPAPO_NONNULL PIPAPO_CHECK_RESULT
 uint32_t pipapo_lookup_many(pipapo_reader *reader, uint32_t set, const void *keys, size_t length, uint64_t now,
                             uint64_t *answers, size_t count, uint64_t *generation);
@@ -364,7 +378,7 @@ uint32_t pipapo_lookup_many(pipapo_reader *reader, uint32_t set, const void *key
  *
  * `note` gets the number of the last generation that a pipapo_control committed, or that a pipapo_reader has seen. A reader that
  * holds no generation looks first at the published one, by two atomic additions.
- * Errors: NOTHING; HANDLE, if the handle is of elements. `note` is then as it was. Allocates nothing. */
+ * Errors: NOTHING; HANDLE, if the handle is of elements. `note` is then as it was. Cost: constant. Allocates nothing. */
 PIPAPO_NONNULL PIPAPO_CHECK_RESULT
 uint32_t pipapo_note(void *handle, uint64_t *note);
 
@@ -372,16 +386,19 @@ uint32_t pipapo_note(void *handle, uint64_t *note);
  * the published one, by two atomic additions.
  * Errors: NOTHING, HANDLE; NOTE if the generation that it holds, or else the published one, is older than the note's. So a reader
  * that holds an older generation has to leave it first. If the reader holds none, NOTE means that the note is of another start, or
- * came without order between the threads. Allocates nothing. */
+ * came without order between the threads.
+ * Cost: constant. Allocates nothing. */
 PIPAPO_NONNULL PIPAPO_CHECK_RESULT
 uint32_t pipapo_meet(pipapo_reader *reader, uint64_t note);
 
 /* The control hears a note of a reader: PIPAPO_OK if the control has committed the note's generation.
- * Errors: NOTHING, HANDLE; NOTE if it hasn't committed it. Then the note is of another start. Allocates nothing. */
+ * Errors: NOTHING, HANDLE; NOTE if it hasn't committed it. Then the note is of another start.
+ * Cost: constant. Allocates nothing. */
 PIPAPO_NONNULL PIPAPO_CHECK_RESULT
 uint32_t pipapo_hear(pipapo_control *control, uint64_t note);
 
-/* One line that explains an enum pipapo_error, without a newline. Never null; the text is static. */
+/* One line that explains an enum pipapo_error, without a newline. Never null; the text is static. This call and the next two may
+ * be made in any thread, also at once. */
 const char *pipapo_strerror(uint32_t error);
 
 /* The same for an enum pipapo_reason. */

@@ -47,34 +47,6 @@ private:
     Raw raw_{nullptr};
 };
 
-/// A reader. Each call answers an enum pipapo_error.
-class Reader : public Handle<pipapo_reader> {
-public:
-    [[nodiscard]] std::uint32_t enter(std::uint64_t &generation) noexcept { return pipapo_enter(get(), &generation); }
-    [[nodiscard]] std::uint32_t leave() noexcept { return pipapo_leave(get()); }
-
-    [[nodiscard]] std::uint32_t generation(std::uint64_t &number) noexcept {
-        return pipapo_generation(get(), &number);
-    }
-
-    /// `key` is a type without padding that has the bytes of a key, as a struct of arrays of std::uint8_t.
-    template <typename Key>
-    [[nodiscard]] std::uint32_t lookup(std::uint32_t set, const Key &key, std::uint64_t now, std::uint64_t &id) noexcept {
-        static_assert(alignof(Key) == 1, "a key is made of bytes");
-        return pipapo_lookup(get(), set, &key, sizeof key, now, &id);
-    }
-
-    [[nodiscard]] std::uint32_t note(std::uint64_t &note) noexcept { return pipapo_note(get(), &note); }
-    [[nodiscard]] std::uint32_t meet(std::uint64_t note) noexcept { return pipapo_meet(get(), note); }
-
-    template <typename Key>
-    [[nodiscard]] std::uint32_t lookup_many(std::uint32_t set, const Key *keys, std::size_t count, std::uint64_t now,
-                                            std::uint64_t *answers, std::uint64_t &generation) noexcept {
-        static_assert(alignof(Key) == 1, "a key is made of bytes");
-        return pipapo_lookup_many(get(), set, keys, count * sizeof *keys, now, answers, count, &generation);
-    }
-};
-
 /// The elements of a set of one generation. Each call answers an enum pipapo_error.
 class Elements : public Handle<pipapo_elements> {
 public:
@@ -96,6 +68,39 @@ public:
     }
 };
 
+/// A reader. Each call answers an enum pipapo_error.
+class Reader : public Handle<pipapo_reader> {
+public:
+    [[nodiscard]] std::uint32_t enter(std::uint64_t &generation) noexcept { return pipapo_enter(get(), &generation); }
+    [[nodiscard]] std::uint32_t leave() noexcept { return pipapo_leave(get()); }
+
+    [[nodiscard]] std::uint32_t generation(std::uint64_t &number) noexcept {
+        return pipapo_generation(get(), &number);
+    }
+
+    /// `key` is a type without padding that has the bytes of a key, as a struct of arrays of std::uint8_t.
+    template <typename Key>
+    [[nodiscard]] std::uint32_t lookup(std::uint32_t set, const Key &key, std::uint64_t now, std::uint64_t &id) noexcept {
+        static_assert(alignof(Key) == 1, "a key is made of bytes");
+        return pipapo_lookup(get(), set, &key, sizeof key, now, &id);
+    }
+
+    /// The elements of a set of the generation that the reader holds. What `elements` held before is freed.
+    [[nodiscard]] std::uint32_t elements(std::uint32_t set, Elements &elements, std::uint64_t &count) noexcept {
+        return pipapo_elements_of(get(), set, elements.get(), &count);
+    }
+
+    [[nodiscard]] std::uint32_t note(std::uint64_t &note) noexcept { return pipapo_note(get(), &note); }
+    [[nodiscard]] std::uint32_t meet(std::uint64_t note) noexcept { return pipapo_meet(get(), note); }
+
+    template <typename Key>
+    [[nodiscard]] std::uint32_t lookup_many(std::uint32_t set, const Key *keys, std::size_t count, std::uint64_t now,
+                                            std::uint64_t *answers, std::uint64_t &generation) noexcept {
+        static_assert(alignof(Key) == 1, "a key is made of bytes");
+        return pipapo_lookup_many(get(), set, keys, count * sizeof *keys, now, answers, count, &generation);
+    }
+};
+
 /// A control. Each call answers an enum pipapo_error.
 class Control : public Handle<pipapo_control> {
 public:
@@ -111,24 +116,26 @@ public:
     [[nodiscard]] std::uint32_t start_script(std::string_view text, Reader (&readers)[Readers],
                                              pipapo_script_fault &fault) noexcept {
         pipapo_reader made[Readers] = {};
-        return hand_out(pipapo_start_script(text.data(), text.size(), get(), made, Readers, &fault), made, readers);
+        return hand_out(pipapo_start_script(bytes_of(text), text.size(), get(), made, Readers, &fault), made, readers);
     }
 
     /// `low` and `high` are two keys.
     template <typename Key>
     [[nodiscard]] std::uint32_t insert(std::uint32_t set, const Key &low, const Key &high, pipapo_answer &answer,
-                                       std::uint64_t now = 0, std::uint64_t expiry = PIPAPO_NEVER) noexcept {
+                                       std::uint64_t now = 0, std::uint64_t expiry = PIPAPO_NEVER,
+                                       std::string_view comment = {}) noexcept {
         const Key bounds[2] = {low, high};
         static_assert(alignof(Key) == 1, "a key is made of bytes");
-        return pipapo_insert(get(), set, bounds, sizeof bounds, expiry, "", 0, now, &answer);
+        return pipapo_insert(get(), set, bounds, sizeof bounds, expiry, bytes_of(comment), comment.size(), now, &answer);
     }
 
     template <typename Key>
     [[nodiscard]] std::uint32_t create(std::uint32_t set, const Key &low, const Key &high, pipapo_answer &answer,
-                                       std::uint64_t now = 0, std::uint64_t expiry = PIPAPO_NEVER) noexcept {
+                                       std::uint64_t now = 0, std::uint64_t expiry = PIPAPO_NEVER,
+                                       std::string_view comment = {}) noexcept {
         const Key bounds[2] = {low, high};
         static_assert(alignof(Key) == 1, "a key is made of bytes");
-        return pipapo_create(get(), set, bounds, sizeof bounds, expiry, "", 0, now, &answer);
+        return pipapo_create(get(), set, bounds, sizeof bounds, expiry, bytes_of(comment), comment.size(), now, &answer);
     }
 
     template <typename Key>
@@ -166,7 +173,7 @@ public:
         return pipapo_describe(get(), set, &declared);
     }
 
-    /// The elements of a set of the last generation. What the handle held is freed.
+    /// The elements of a set of the last generation. What `elements` held before is freed.
     [[nodiscard]] std::uint32_t elements(std::uint32_t set, Elements &elements, std::uint64_t &count) noexcept {
         return pipapo_elements_of(get(), set, elements.get(), &count);
     }
@@ -182,6 +189,9 @@ public:
     }
 
 private:
+    /// A pointer that isn't null, also to no bytes.
+    static const char *bytes_of(std::string_view text) noexcept { return text.empty() ? "" : text.data(); }
+
     /// Puts the readers of a start into their handles, and passes its answer on.
     template <std::size_t Readers>
     static std::uint32_t hand_out(std::uint32_t error, const pipapo_reader (&made)[Readers],

@@ -115,12 +115,11 @@ static inline uint32_t pipapo_checked_describe(pipapo_control *control, uint32_t
     PIPAPO_GUARDED(control, pipapo_describe, (control, set, declared));
 }
 
-static inline uint32_t pipapo_checked_elements_of(pipapo_control *control, uint32_t set, pipapo_elements *elements,
-                                                  uint64_t *count) {
-    void *at = control->at, *old = elements->at;
+static inline uint32_t pipapo_checked_elements_of(void *handle, uint32_t set, pipapo_elements *elements, uint64_t *count) {
+    void *at = ((pipapo_control *)handle)->at, *old = elements->at;
     pipapo_guard_begin("pipapo_elements_of", at);
     pipapo_guard_begin("pipapo_elements_of", old);
-    uint32_t error = pipapo_elements_of(control, set, elements, count);
+    uint32_t error = pipapo_elements_of(handle, set, elements, count);
     pipapo_guard_end(at);
     pipapo_guard_end(old);
     if (error == PIPAPO_OK) {

@@ -11,7 +11,8 @@ per field and returns the id of the earliest inserted element that is live and w
     (0, None)
 
 Values are numbers, texts of addresses ("192.0.2.7", "2001:db8::1", "02:00:00:00:00:05"), or bytes in network byte order.
-Moments are milliseconds. Each handle is for one thread at a time.
+Moments are milliseconds. Each handle is for one thread at a time. A control or a reader that isn't closed is freed with its
+object. A number that no call of C can take, such as a negative moment, is a ValueError.
 
 The library is found by the environment variable PIPAPO_LIBRARY, or else as libpipapo.so.0.
 """
@@ -25,10 +26,10 @@ import os
 from collections.abc import Iterable, Iterator, Sequence
 from dataclasses import dataclass
 from types import TracebackType
-from typing import Union
+from typing import List, Union
 
 __all__ = [
-    "Answer", "Control", "Element", "Error", "Family", "Kind", "Outcome", "PipapoError", "Reader", "Reason", "Receipt",
+    "Answer", "Control", "Element", "Elements", "Error", "Family", "Kind", "Outcome", "PipapoError", "Reader", "Reason", "Receipt",
     "ScriptError", "Set", "Transaction", "Value",
 ]
 
@@ -289,6 +290,26 @@ def _load() -> ctypes.CDLL:
 _library = _load()
 
 
+class _Owned(_Handle):
+    """A handle that is freed with its object."""
+
+    _free = _library.pipapo_free
+
+    def __del__(self) -> None:
+        self._free(self)
+
+
+def _fitting(number: int, bits: int, what: str) -> int:
+    """The number, if it has so many bits. The calls of C would take others modulo 2 to the power `bits`."""
+    if not 0 <= number < 2**bits:
+        raise ValueError(f"{number} is no {what}")
+    return number
+
+
+def _moment(now: int) -> int:
+    return _fitting(now, 64, "moment")
+
+
 def version() -> tuple[int, int, int]:
     """The version of the library that runs."""
     number = _library.pipapo_version()
@@ -333,10 +354,41 @@ class _Shape:
         return b"".join(kind.pack(value) for kind, value in zip(kinds, values))
 
 
+class Elements(Iterator[Element]):
+    """The elements of a set of one generation, in the order of insertion. Later changes and commits don't change them. The reader
+    that holds this generation may leave."""
+
+    def __init__(self, shape: _Shape, handle: _Handle, set: int) -> None:
+        shape.of(set)
+        self._shape, self._set, self._held, self._next = shape, set, _Owned(), 0
+        count = ctypes.c_uint64()
+        _must(_library.pipapo_elements_of(handle, set, self._held, count))
+        self._count = count.value
+
+    def __next__(self) -> Element:
+        if self._next == self._count:
+            raise StopIteration
+        element = self._at(self._next)
+        self._next += 1
+        return element
+
+    def _at(self, place: int) -> Element:
+        bounds, comment, element = ctypes.create_string_buffer(512), ctypes.create_string_buffer(128), _Element()
+        error = _library.pipapo_element_at(self._held, place, bounds, 512, comment, 128, element)
+        if error == Error.ROOM:
+            comment = ctypes.create_string_buffer(element.comment_length)
+            error = _library.pipapo_element_at(self._held, place, bounds, 512, comment, len(comment), element)
+        _must(error)
+        half = element.bounds_length // 2
+        low, high = (self._shape.unpack(self._set, bounds.raw[at : at + half]) for at in (0, half))
+        expiry = None if element.expiry == _LARGEST else element.expiry
+        return Element(element.id, low, high, expiry, comment.raw[: element.comment_length])
+
+
 class Reader:
     """Looks keys up. As a context manager it holds one generation: `with reader as held: held.lookup(..)`."""
 
-    def __init__(self, shape: _Shape, handle: _Handle) -> None:
+    def __init__(self, shape: _Shape, handle: _Owned) -> None:
         self._shape, self._handle = shape, handle
 
     def enter(self) -> int:
@@ -359,7 +411,7 @@ class Reader:
     def lookup(self, set: int, key: Iterable[Value], now: int = 0) -> int | None:
         """The id of the earliest inserted element that is live at `now` and holds the key."""
         packed, found = self._shape.pack(set, key), ctypes.c_uint64()
-        _must(_library.pipapo_lookup(self._handle, set, packed, len(packed), now, found))
+        _must(_library.pipapo_lookup(self._handle, set, packed, len(packed), _moment(now), found))
         return None if found.value == _LARGEST else found.value
 
     def lookup_many(self, set: int, keys: Iterable[Iterable[Value]], now: int = 0) -> tuple[list[int | None], int]:
@@ -367,8 +419,13 @@ class Reader:
         packed = [self._shape.pack(set, key) for key in keys]
         found, number = (ctypes.c_uint64 * max(1, len(packed)))(), ctypes.c_uint64()
         row = b"".join(packed)
-        _must(_library.pipapo_lookup_many(self._handle, set, row, len(row), now, found, len(packed), number))
+        self._shape.of(set)
+        _must(_library.pipapo_lookup_many(self._handle, set, row, len(row), _moment(now), found, len(packed), number))
         return [None if one == _LARGEST else one for one in found[: len(packed)]], number.value
+
+    def elements(self, set: int) -> Elements:
+        """The elements of a set of the generation that the reader holds, in the order of insertion."""
+        return Elements(self._shape, self._handle, set)
 
     def note(self) -> int:
         """A note of what this reader has seen: the number of a generation. If it holds none, it looks at the published one."""
@@ -377,7 +434,7 @@ class Reader:
     def meet(self, note: int) -> None:
         """From now on this reader enters no generation before the note's. Raises PipapoError (Error.NOTE) if the generation that
         it holds, or else the published one, comes before it."""
-        _must(_library.pipapo_meet(self._handle, note))
+        _must(_library.pipapo_meet(self._handle, _fitting(note, 64, "note")))
 
     def close(self) -> None:
         """Frees the reader. A closed reader stays closed."""
@@ -393,7 +450,7 @@ class Reader:
 
 class Transaction:
     """The open changes of a control. As a context manager it commits at its end, or takes all changes back if an exception
-    ends it. `receipt` is then the commit's."""
+    ends it. `receipt` is then the commit's. If the commit itself is refused, the changes stay open."""
 
     def __init__(self, control: Control, now: int) -> None:
         self._control, self._now = control, now
@@ -431,9 +488,17 @@ class Transaction:
 
 def _name(name: str) -> bytes:
     encoded = name.encode()
+    if b"\0" in encoded:
+        raise ValueError("a name has no zero byte")
     if len(encoded) > 64:
         raise PipapoError(Error.ROOM)
     return encoded.ljust(64, b"\0")
+
+
+def _empty_handles(readers: int) -> ctypes.Array[_Handle]:
+    if not 1 <= readers <= 16:
+        raise PipapoError(Error.READERS)
+    return (_Handle * readers)()
 
 
 class Control:
@@ -441,15 +506,16 @@ class Control:
     readers."""
 
     def __init__(self, sets: Sequence[Set], readers: int = 1) -> None:
+        handles = _empty_handles(readers)
         shapes = (_Set * max(1, len(sets)))()
         for shape, one in zip(shapes, sets):
             if len(one.kinds) > 16:
                 raise PipapoError(Error.SCHEMA)
-            shape.kinds[: len(one.kinds)] = [int(kind) for kind in one.kinds]
-            shape.fields, shape.size, shape.disjoint, shape.family = len(one.kinds), one.size, one.disjoint, one.family
+            shape.kinds[: len(one.kinds)] = [int(Kind(kind)) for kind in one.kinds]
+            shape.fields, shape.size = len(one.kinds), _fitting(one.size, 32, "size")
+            shape.disjoint, shape.family = int(bool(one.disjoint)), int(Family(one.family))
             shape.table[:], shape.name[:] = _name(one.table), _name(one.name)
-        self._shape, self._handle = _Shape(one.kinds for one in sets), _Handle()
-        handles = (_Handle * max(1, readers))()
+        self._shape, self._handle = _Shape(one.kinds for one in sets), _Owned()
         _must(_library.pipapo_start(shapes, len(sets), self._handle, handles, readers))
         self._seat(handles)
 
@@ -465,8 +531,8 @@ class Control:
 
         Raises ScriptError if the text isn't a script, or if one of its changes is refused."""
         control, script, fault = cls.__new__(cls), text.encode() if isinstance(text, str) else text, _ScriptFault()
-        control._handle = _Handle()
-        handles = (_Handle * max(1, readers))()
+        control._handle = _Owned()
+        handles = _empty_handles(readers)
         error = _library.pipapo_start_script(script, len(script), control._handle, handles, readers, fault)
         if error in (Error.SCRIPT, Error.CHANGE):
             raise ScriptError(Error(error), fault)
@@ -476,7 +542,7 @@ class Control:
         return control
 
     @property
-    def sets(self) -> list[Set]:
+    def sets(self) -> List[Set]:
         """The declared sets. Set i of this list is number i in every call."""
         found: list[Set] = []
         one = _Declared()
@@ -487,8 +553,8 @@ class Control:
             found.append(Set(kinds, one.size, one.disjoint != 0, Family(one.family), table, name))
         return found
 
-    def elements(self, set: int) -> Iterator[Element]:
-        """The elements of a set of the last generation, in the order of insertion. Later changes and commits don't change them.
+    def elements(self, set: int) -> Elements:
+        """The elements of a set of the last generation, in the order of insertion.
 
         >>> with Control([Set([Kind.SERVICE])]) as control:
         ...     with control.transaction() as change:
@@ -496,25 +562,7 @@ class Control:
         ...     [(one.id, one.low, one.high, one.comment) for one in control.elements(0)]
         [(0, (b'\\x00P',), (b'\\x01\\xbb',), b'web')]
         """
-        held, count = _Handle(), ctypes.c_uint64()
-        _must(_library.pipapo_elements_of(self._handle, set, held, count))
-        try:
-            for place in range(count.value):
-                yield self._element(held, set, place)
-        finally:
-            _library.pipapo_free(held)
-
-    def _element(self, held: _Handle, set: int, place: int) -> Element:
-        bounds, comment, element = ctypes.create_string_buffer(512), ctypes.create_string_buffer(128), _Element()
-        error = _library.pipapo_element_at(held, place, bounds, 512, comment, 128, element)
-        if error == Error.ROOM:
-            comment = ctypes.create_string_buffer(element.comment_length)
-            error = _library.pipapo_element_at(held, place, bounds, 512, comment, len(comment), element)
-        _must(error)
-        half = element.bounds_length // 2
-        low, high = (self._shape.unpack(set, bounds.raw[at : at + half]) for at in (0, half))
-        expiry = None if element.expiry == _LARGEST else element.expiry
-        return Element(element.id, low, high, expiry, comment.raw[: element.comment_length])
+        return Elements(self._shape, self._handle, set)
 
     def note(self) -> int:
         """A note of what this control committed: the number of its last generation."""
@@ -522,11 +570,11 @@ class Control:
 
     def hear(self, note: int) -> None:
         """Raises PipapoError (Error.NOTE) if this control hasn't committed the generation of a reader's note."""
-        _must(_library.pipapo_hear(self._handle, note))
+        _must(_library.pipapo_hear(self._handle, _fitting(note, 64, "note")))
 
     def _seat(self, handles: ctypes.Array[_Handle]) -> None:
-        # each reader's handle keeps the array alive
-        self.readers = [Reader(self._shape, handle) for handle in handles]
+        # what the array holds moves into the readers
+        self.readers = [Reader(self._shape, _Owned(handle.at)) for handle in handles]
 
     def _bounds(self, set: int, low: Iterable[Value], high: Iterable[Value] | None) -> bytes:
         packed = self._shape.pack(set, low)
@@ -534,14 +582,14 @@ class Control:
 
     def _add(self, call: str, set: int, bounds: bytes, expiry: int | None, comment: str, now: int) -> Answer:
         text, answer = comment.encode(), _Answer()
-        moment = _LARGEST if expiry is None else expiry
+        end = _LARGEST if expiry is None else _moment(expiry)
         export = getattr(_library, call)
-        _must(export(self._handle, set, bounds, len(bounds), moment, text, len(text), now, answer), answer)
+        _must(export(self._handle, set, bounds, len(bounds), end, text, len(text), _moment(now), answer), answer)
         return Answer(answer.id, Outcome(answer.outcome))
 
     def _remove(self, call: str, set: int, bounds: bytes, now: int) -> Answer:
         answer = _Answer()
-        _must(getattr(_library, call)(self._handle, set, bounds, len(bounds), now, answer), answer)
+        _must(getattr(_library, call)(self._handle, set, bounds, len(bounds), _moment(now), answer), answer)
         return Answer(answer.id, Outcome(answer.outcome))
 
     def insert(self, set: int, low: Iterable[Value], high: Iterable[Value] | None = None, *, expiry: int | None = None, comment: str = "", now: int = 0) -> Answer:
@@ -562,6 +610,7 @@ class Control:
 
     def flush(self, set: int) -> int:
         """Removes all elements of a set, and returns how many there were."""
+        self._shape.of(set)
         count = ctypes.c_uint64()
         _must(_library.pipapo_flush(self._handle, set, count))
         return count.value
@@ -569,7 +618,7 @@ class Control:
     def commit(self, now: int = 0) -> Receipt:
         """Publishes the open sets as the next generation, without the elements that are expired at `now`."""
         number, purged = ctypes.c_uint64(), ctypes.c_uint64()
-        _must(_library.pipapo_commit(self._handle, now, number, purged))
+        _must(_library.pipapo_commit(self._handle, _moment(now), number, purged))
         return Receipt(number.value, purged.value)
 
     def abort(self) -> None:
@@ -586,7 +635,7 @@ class Control:
     def list(self, now: int = 0) -> bytes:
         """The last generation as a script of nft(8). An element that expires has the time from `now` to its expiry."""
         text, length = ctypes.c_void_p(), ctypes.c_size_t()
-        _must(_library.pipapo_list(self._handle, now, text, length))
+        _must(_library.pipapo_list(self._handle, _moment(now), text, length))
         try:
             return ctypes.string_at(text.value or 0, length.value)
         finally:

@@ -1,9 +1,10 @@
-# Each folder of examples/ is a run of the program: `words` has its words, one a line, and `transcript` what it must
-# write. `status` has the wanted status if that isn't 0. What `run` writes with `--threads`, and what `desk` writes, depends
+# Each folder of examples/ that has `words` is a run of the program: `words` has its words, one a line, and `transcript` what it
+# must write. `status` has the wanted status if that isn't 0. What `run` writes with `--threads`, and what `desk` writes, depends
 # on how the threads are scheduled: any legal transcript will do, and `transcript` has one.
 . "$(dirname "$0")/../preamble.sh"
 needs_program
-for folder in examples/*/; do
+for words in examples/*/words; do
+    folder=$(dirname "$words")
     words=$(tr '\n' ' ' <"$folder/words")
     wanted=0
     [ -f "$folder/status" ] && wanted=$(cat "$folder/status")

@@ -34,9 +34,9 @@ cmp -s examples/allow/transcript "$room/written" || complain "the installed prog
 cmp -s docs/pipapo.1 "$place/share/man/man1/pipapo.1" || complain "another manual page is installed"
 if has pkg-config; then
     # shellcheck disable=SC2046
-    cc -std=c11 -O2 -pthread -o "$room/classify" c/examples/classify.c $(PKG_CONFIG_SYSROOT_DIR=$room/stage \
+    cc -std=c11 -O2 -pthread -o "$room/classify" examples/c/classify.c $(PKG_CONFIG_SYSROOT_DIR=$room/stage \
         PKG_CONFIG_LIBDIR=$place/lib/pkgconfig pkg-config --cflags --libs pipapo) &&
-        LD_LIBRARY_PATH=$place/lib "$room/classify" c/examples/allow.nft examples/capture/six.pcap 10 >"$room/counts" ||
+        LD_LIBRARY_PATH=$place/lib "$room/classify" examples/c/allow.nft examples/capture/six.pcap 10 >"$room/counts" ||
         complain "no program builds and runs with the installed library"
 else
     skip_part "a program with the installed library, since pkg-config isn't installed"

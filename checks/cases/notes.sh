@@ -5,6 +5,10 @@ needs python3
 needs_program
 python3 checks/scripts/notes.py "$program" docs/formats.md || exit 1
 
+# The note on words that are no command comes after the usage line, which is long.
+"$program" run a >"$room/both" 2>&1
+[ "$(sed -n '1s/: run .*//p; 2p' "$room/both")" = "$(printf 'pipapo: usage\npipapo: KEYS is missing')" ] || complain "the note on the words isn't last"
+
 # On a terminal it shows its progress and erases it. The output is the same.
 on_terminal() { # PATTERN WORDS ..
     python3 checks/scripts/terminal.py "$program" "$room" "$@" || exit 1

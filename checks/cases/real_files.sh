@@ -15,7 +15,7 @@ expect() { # STATUS LINE WORDS..
         bad=1
     fi
 }
-usage='pipapo: usage: run SCRIPT KEYS [--threads N] [--keep-going] | list SCRIPT [--keep-going] | dump SCRIPT [--keep-going] | drill SEED COUNT [--threads N] | judge SCRIPT RULES KEYS [--threads N] [--keep-going] | judge SCRIPT RULES PLAN PCAP [--threads N] [--keep-going] | capture SCRIPT PLAN PCAP [--threads N] [--keep-going] | desk SCRIPT [--keep-going] | get [--at MOMENT] [--keep-going] SCRIPT KEY .. | compare SCRIPT1 SCRIPT2 [--keep-going] | stat SCRIPT [--keep-going] | sets RULESET'
+usage='pipapo: usage: run SCRIPT KEYS [--threads N] [--keep-going] [--sets] | list SCRIPT [--keep-going] [--sets] | dump SCRIPT [--keep-going] [--sets] | drill SEED COUNT [--threads N] | judge SCRIPT RULES KEYS [--threads N] [--keep-going] [--sets] | judge SCRIPT RULES PLAN PCAP [--threads N] [--keep-going] [--sets] | capture SCRIPT PLAN PCAP [--threads N] [--keep-going] [--sets] | desk SCRIPT [--keep-going] [--sets] | get [--at MOMENT] [--keep-going] [--sets] SCRIPT [FAMILY] TABLE SET VALUE . VALUE .. | explain SCRIPT KEYS [--keep-going] [--sets] | compare SCRIPT1 SCRIPT2 [--keep-going] [--sets] | stat SCRIPT [--keep-going] [--sets] | sets RULESET'
 expect 5 'pipapo: read fault: missing.nft' run missing.nft packets.keys
 expect 5 'pipapo: read fault: missing.keys' run allow.nft missing.keys
 expect 5 'pipapo: read fault: a-folder' run a-folder packets.keys
@@ -115,10 +115,9 @@ timeout --preserve-status -s INT 1 "$program" list held >written
 interrupted=$?
 kill $sleeps 2>/dev/null
 [ $interrupted -eq 130 ] && [ ! -s written ] || { echo "interrupted: status $interrupted, $(wc -c <written) bytes"; bad=1; }
-"$program" run allow.nft packets.keys >&-
-closed=$?
-"$program" run allow.nft packets.keys >/dev/full
-full=$?
-[ "$closed" -eq 6 ] || { echo "a closed standard output: status $closed"; bad=1; }
-[ "$full" -eq 6 ] || { echo "a full standard output: status $full"; bad=1; }
+# a standard output that fails, and what the standard error then says
+"$program" run allow.nft packets.keys 2>told >&-
+[ "$? $(cat told)" = "6 pipapo: the standard output failed: it can't be written" ] || { echo "a closed standard output: $(cat told)"; bad=1; }
+"$program" run allow.nft packets.keys 2>told >/dev/full
+[ "$? $(cat told)" = "6 pipapo: the standard output failed: No space left on device" ] || { echo "a full standard output: $(cat told)"; bad=1; }
 finish

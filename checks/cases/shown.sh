@@ -1,5 +1,5 @@
 # The examples that README.md and examples/README.md show are the files of examples/, whole. examples/README.md has a part
-# for each folder with its command. A part without a file's text is only a pointer.
+# for each folder that has `words`, with its command. A part without a file's text is only a pointer.
 . "$(dirname "$0")/../preamble.sh"
 
 # Whether the text of a file is in a page, indented by four blanks, with blanks for its tabs.
@@ -13,10 +13,11 @@ for file in list.nft packets.keys transcript; do
 done
 grep -qx '    ./pipapo run examples/ranges/list.nft examples/ranges/packets.keys' README.md || complain "README.md hasn't the command"
 
-for folder in examples/*/; do
+for words in examples/*/words; do
+    folder=$(dirname "$words")/
     name=$(basename "$folder")
     awk -v name="$name" '/^## / { on = $2 == name; next } on' examples/README.md >"$room/part"
-    words=$(tr '\n' ' ' <"$folder/words")
+    words=$(tr '\n' ' ' <"$words")
     grep -qF "\`../../pipapo ${words% }\`" "$room/part" || complain "examples/README.md has no part on $name, or another command"
     grep -q '^    ' "$room/part" || continue
     for file in "$folder"*; do

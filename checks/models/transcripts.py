@@ -120,7 +120,7 @@ class Front:
 
 
 Declared = namedtuple("Declared", "kinds size life disjoint")
-Change = namedtuple("Change", "line set verb parts expiry now")
+Change = namedtuple("Change", "line set verb parts expiry now comment", defaults=[None])
 Flush = namedtuple("Flush", "line set")
 Commit = namedtuple("Commit", "now")
 Abort = namedtuple("Abort", "")
@@ -241,7 +241,7 @@ class Script:
             front.skip(BREAKS)
             told[option] = front.take().text
             front.skip(BREAKS)
-        self.step(Change(line, place, verb, tuple(parts), self.expiry(told, declared), self.now))
+        self.step(Change(line, place, verb, tuple(parts), self.expiry(told, declared), self.now, told.get("comment")))
 
     def expiry(self, told, declared):
         if "expires" in told:

@@ -134,17 +134,17 @@ def program_faults(program, commands):
             yield f"help {word} describes the options {described}"
 
 
-def example_faults(program):
-    """The example of `help run`, pasted into a shell, prints what the page says."""
-    lines = written(program, "help", "run").partition("\nAn example")[2].partition("\n\n")[2]
+def example_faults(program, word):
+    """The example of a command's help, pasted into a shell, prints what the page says."""
+    lines = written(program, "help", word).partition("\nAn example")[2].partition("\n\n")[2]
     pasted, _, rest = lines.partition("\n\n")
     shown = rest.partition("\n\n")[2].partition("\n\n")[0]
     with tempfile.TemporaryDirectory() as room:
         os.symlink(os.path.abspath(program), os.path.join(room, "pipapo"))
         found = {**os.environ, "PATH": room + os.pathsep + os.environ["PATH"]}
         done = subprocess.run(["sh"], input=pasted, capture_output=True, text=True, cwd=room, env=found)
-    if [line.strip() for line in shown.splitlines()] != done.stdout.splitlines() or not done.stdout:
-        yield f"the example of help run prints {done.stdout}{done.stderr}"
+    if [line.removeprefix("  ") for line in shown.splitlines()] != done.stdout.splitlines() or not done.stdout:
+        yield f"the example of help {word} prints {done.stdout}{done.stderr}"
 
 
 def page_faults(commands):
@@ -170,7 +170,7 @@ def document_faults(commands):
         yield f"README.md's table has the commands {' '.join(found)}"
     for command, *_ in by_word(commands).values():
         match = found.get(command.word)
-        if match and match[2].partition(" [")[0] != command.names:
+        if match and match[2].partition(" [--")[0] != command.names:
             yield f"README.md's table has the names {match[2]} of {command.word}"
         if match and set(flags_in(match[0] + rows[match[0]])) - set(flags(command)):
             yield f"README.md's table has other options of {command.word}"
@@ -222,7 +222,8 @@ def completion_faults(commands):
 
 def main():
     commands = listed()
-    faults = [*program_faults(sys.argv[1], commands), *example_faults(sys.argv[1]), *page_faults(commands), *document_faults(commands),
+    examples = [fault for word in ("run", "explain", "stat") for fault in example_faults(sys.argv[1], word)]
+    faults = [*program_faults(sys.argv[1], commands), *examples, *page_faults(commands), *document_faults(commands),
               *completion_faults(commands)]
     for fault in faults:
         print(f"commands: unlike docs/commands.tsv: {fault}")

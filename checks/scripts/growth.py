@@ -5,6 +5,7 @@ Each row of the table is one kind of script. It grows too fast where the process
 n, each the least of a few runs. What seems to grow too fast is measured again, twice at most, since on a busy machine one of the
 two may be far off. No absolute time is looked at.
 """
+import dataclasses
 import os
 import resource
 import subprocess
@@ -15,6 +16,11 @@ MOST, TIMES, RUNS, TRIES = 8, 4, 3, 3
 
 
 # ---- scripts
+
+def address(n):
+    """The address of this number."""
+    return f"10.{n >> 16 & 255}.{n >> 8 & 255}.{n & 255}"
+
 
 def addresses(flags, count):
     """A set of so many elements, committed."""
@@ -171,32 +177,88 @@ def short_elements(count):
     yield "add set ip t p { type inet_service ; }"
     yield "add element ip t p { " + ",".join(["1"] * count) + " }"
 
+def changes_taken_back(count):
+    """So many elements, and a change of the set and an abort for each of them."""
+    yield from addresses("", count)
+    for n in range(count):
+        yield f"add element ip t s {{ 11.{n >> 16 & 255}.{n >> 8 & 255}.{n & 255} . 1 }}"
+        yield "abort"
 
-def packets_behind(count):
-    """So many packets that all of these elements hold, at a moment when they are expired."""
+
+def disjoint_ranges(count):
+    """So many ranges of addresses and ports in a set whose elements share no key."""
+    yield "add set ip t s { type ipv4_addr . inet_service ; flags interval,disjoint ; }"
+    for n in range(count):
+        yield f"add element ip t s {{ 10.{n >> 12 & 255}.{n >> 4 & 255}.{n % 16 * 16}-10.{n >> 12 & 255}.{n >> 4 & 255}.{n % 16 * 16 + 9} . 1000-2000 }}"
+    yield "commit"
+
+
+def rounds(count):
+    """So many rounds, each of one commit."""
+    yield "add set ip t p { type inet_service ; }"
+    for n in range(count):
+        yield f"{'delete' if n % 2 else 'add'} element ip t p {{ 80 }}"
+        yield "commit"
+        yield "round"
+
+
+def control_threads(count):
+    """Sixteen control threads with so many transactions of one addition in all."""
+    yield "add set ip t s { type ipv4_addr ; }"
+    for n in range(count):
+        if n % (count // 16) == 0:
+            yield "round"
+        yield f"add element ip t s {{ {address(n)} }}"
+        yield "commit"
+
+
+def thousand_packets(count):
+    """A thousand packets that all of these elements hold, at a moment when they are expired."""
     yield "at 5000"
-    for _ in range(count):
+    for _ in range(1000):
         yield "ip t p 30000"
 
 
+def packet_each_round(count):
+    """So many rounds, each of one packet."""
+    for _ in range(count):
+        yield "ip t p 80"
+        yield "round"
+
+
+@dataclasses.dataclass
+class Row:
+    """What a script does, the script's lines by a number, the smaller number, and the lines of the key file by the number."""
+
+    name: str
+    script: object
+    count: int
+    keys: object = None
+    command: str = "run"
+    threads: int = 1
+
+
 ROWS = [
-    # what a script does, its lines by a number, the smaller number, and how many packets there are behind it
-    ("commits beside elements without lives", without_lives, 50000, 0),
-    ("commits beside elements whose lives are far off", lives_far_off, 50000, 0),
-    ("flushes of an empty set", empty_flushes, 50000, 0),
-    ("commits that purge one of the elements each", purges, 5000, 0),
-    ("commits each of which deletes the first of the elements", deleted_in_turn, 2000, 0),
-    ("commits each of which purges the first of the elements", purged_in_turn, 2000, 0),
-    ("commits each of which purges one of the elements, here and there", purged_here_and_there, 2000, 0),
-    ("additions with a short life, one commit each", short_lives, 5000, 0),
-    ("deletions of all elements, the first first", deletions, 10000, 0),
-    ("destructions of missing elements", missing, 20000, 0),
-    ("a thousand packets that expired elements hold", expired, 7000, 1000),
-    ("short elements in one statement", short_elements, 500000, 0),
-    ("replacements of the first element of a full set, one commit each", replacements, 2000, 0),
-    ("replacements in the middle of elements of many rules", many_rules, 200, 0),
-    ("destructions of missing addresses inside blocks that are there", missing_inside, 2000, 0),
-    ("additions of elements that each key matches in the first field", all_in_one_field, 1000, 0),
+    Row("commits beside elements without lives", without_lives, 50000),
+    Row("commits beside elements whose lives are far off", lives_far_off, 50000),
+    Row("flushes of an empty set", empty_flushes, 50000),
+    Row("commits that purge one of the elements each", purges, 5000),
+    Row("commits each of which deletes the first of the elements", deleted_in_turn, 2000),
+    Row("commits each of which purges the first of the elements", purged_in_turn, 2000),
+    Row("commits each of which purges one of the elements, here and there", purged_here_and_there, 2000),
+    Row("additions with a short life, one commit each", short_lives, 5000),
+    Row("deletions of all elements, the first first", deletions, 10000),
+    Row("destructions of missing elements", missing, 20000),
+    Row("destructions of missing addresses inside blocks that are there", missing_inside, 2000),
+    Row("changes that are taken back", changes_taken_back, 10000),
+    Row("a thousand packets that expired elements hold", expired, 7000, thousand_packets),
+    Row("short elements in one statement", short_elements, 500000),
+    Row("replacements of the first element of a full set, one commit each", replacements, 2000),
+    Row("replacements in the middle of elements of many rules", many_rules, 200),
+    Row("additions of elements that each key matches in the first field", all_in_one_field, 1000),
+    Row("additions of ranges that share no key", disjoint_ranges, 2000),
+    Row("rounds of one packet on sixteen threads", rounds, 5000, packet_each_round, threads=16),
+    Row("transactions of sixteen control threads", control_threads, 1600, command="desk"),
 ]
 
 
@@ -212,20 +274,26 @@ def spent(program, words):
     return after.ru_utime + after.ru_stime - before.ru_utime - before.ru_stime
 
 
-def least(program, folder, lines, packets):
-    """The least processor time of a few runs of a script with so many packets."""
-    script, keys = os.path.join(folder, "script"), os.path.join(folder, "keys")
-    with open(script, "w") as file:
+def write_lines(name, lines):
+    with open(name, "w") as file:
         file.writelines(line + "\n" for line in lines)
-    with open(keys, "w") as file:
-        file.writelines(line + "\n" for line in packets_behind(packets) if packets)
-    return min(spent(program, ["run", script, keys]) for _ in range(RUNS))
 
 
-def growth(program, folder, maker, count, packets):
+def least(program, folder, row, count):
+    """The least processor time of a few runs of the row's script for this number."""
+    script, keys = os.path.join(folder, "script"), os.path.join(folder, "keys")
+    write_lines(script, row.script(count))
+    words = [row.command, script]
+    if row.command == "run":
+        write_lines(keys, row.keys(count) if row.keys else [])
+        words += [keys, "--threads", str(row.threads)]
+    return min(spent(program, words) for _ in range(RUNS))
+
+
+def growth(program, folder, row):
     """How many times as long 4n take as n. What seems too much is measured again."""
     for _ in range(TRIES):
-        more, less = (least(program, folder, maker(times * count), packets) for times in (TIMES, 1))
+        more, less = (least(program, folder, row, times * row.count) for times in (TIMES, 1))
         ratio = more / max(less, 0.001)
         if ratio <= MOST:
             break
@@ -236,11 +304,11 @@ def main():
     program = sys.argv[1]
     bad = 0
     with tempfile.TemporaryDirectory() as folder:
-        for name, maker, count, packets in ROWS:
-            ratio = growth(program, folder, maker, count, packets)
+        for row in ROWS:
+            ratio = growth(program, folder, row)
             grows = ratio > MOST
             bad += grows
-            print(f"{name}: {TIMES * count} take {ratio:.1f} times as long as {count}{', too many' if grows else ''}")
+            print(f"{row.name}: {TIMES * row.count} take {ratio:.1f} times as long as {row.count}{', too many' if grows else ''}")
     print(f"growth: {len(ROWS)} kinds, {bad} grow too fast")
     return bad > 0
 

@@ -83,6 +83,7 @@ RUNS = [
     ["get", "script", "ip t p 1500"],
     ["get", "--keep-going", "steps", "ip t p 9"],
     ["get", "script", "ip t p"],
+    ["explain", "--keep-going", "steps", "later"],
     ["desk", "desk"],
     ["list", "missing"],
     ["no", "command"],

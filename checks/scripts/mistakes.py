@@ -33,6 +33,9 @@ END_STATEMENT = "end the statement before it, with ';' or a new line"
 END_ITEM = "end the item before it, with ';' or a new line"
 TABLE_NAME = "a table is named by [FAMILY] TABLE; a name begins with a letter or '_'"
 SET_NAME = "a set is named by [FAMILY] TABLE SET; a name begins with a letter or '_'"
+ALONE_LINE = "and write ';' without '\\', as: add set ip t p { type mark; }"
+NO_QUOTES = "leave out the quotes: only comments have them"
+ENDS = "ends with the set's name: write ';' or a new line after it"
 TIME = "write seconds, as 90, or parts from days to milliseconds, as 1d2h3m4s500ms"
 
 # script, line, column, what is wrong, what to do, and how nft 1.0.6 begins what it says of the script
@@ -82,6 +85,8 @@ MISTAKES = [
     (add("p", "10 -20"), 2, 25, "'-20' can't have blanks around it", "write a range without blanks, as 10-20", "taken"),
     (add("a", "10.0.0.0 /8 . 80"), 2, 31, "'/8' can't have blanks around it", "write a prefix without blanks, as 10.0.0.0/8", "taken"),
     (add("a", "10.0.0.1 : 80"), 2, 31, "':' can't come between fields", "write ' . ' between fields", "set is not a map"),
+    (add("a", "10.0.0.1 . 80 : accept"), 2, 36, "':' makes a map of the set", "remove it and the value after it: there are no maps", "set is not a map"),
+    (add("a", "10.0.0.1 80"), 2, 31, "'80' can't follow a value", "write ' . ' between fields", "syntax error, unexpected number, expecting comma or '}'"),
     (add("p", "80 comment web"), 2, 33, "'web' isn't in quotes", 'quote the comment: comment "web"', "taken"),
     (add("p", "80 timeout 5s"), 2, 25, "'timeout' needs a set with the flag timeout", "declare the set with 'flags timeout'", "Could not process rule: Invalid argument"),
     (add("l", "6 . 1 timeout 5s timeout 6s"), 2, 39, "'timeout' is given twice", "leave one of the two out", "taken"),
@@ -90,6 +95,10 @@ MISTAKES = [
     (add("l", "6 . 1 timeout"), 2, 36, "'}' isn't a time", TIME, "syntax error, unexpected '}', expecting string"),
     (add("p", "80 comment, 443"), 2, 32, "',' can't follow 'comment'", 'write the comment in quotes, as: comment "web"', "syntax error, unexpected comma, expecting string or quoted string or string with a trailing asterisk"),
     (add("p", "ssh-443"), 2, 22, "'ssh-443' doesn't fit field 1 (inet_service): a port is a number and not a name", "use 22 for 'ssh'", "Could not resolve"),
+    (add("p", "80..90"), 2, 22, "'80..90' doesn't fit field 1 (inet_service): a range has '-' between its ends", "write 80-90", "syntax error, unexpected string, expecting comma or '}'"),
+    (add("a", "any . 80"), 2, 22, "'any' isn't a value", "write all addresses as 0.0.0.0/0", "Could not resolve"),
+    (add("p", "all"), 2, 22, "'all' isn't a value", "write all ports as 0-65535", "syntax error, unexpected all"),
+    (add("a", "10.0.0.* . 80"), 2, 22, "'10.0.0.' doesn't fit field 1 (ipv4_addr): it isn't an IPv4 address", "write a network as a prefix, as 192.0.2.0/24", "syntax error, unexpected string with a trailing asterisk, expecting comma or '}'"),
     (add("p", "$ports"), 2, 22, "'$' is an unexpected character", "write the values themselves: there are no variables", "unknown identifier 'ports'"),
     (add("p", "@n"), 2, 22, "'@' is an unexpected character", "write the values themselves: there are no references to sets", "syntax error, unexpected @"),
     (SETS + "add element ip t @p { 80 }\n", 2, 18, "'@' is an unexpected character", "write the set's name without '@'", "syntax error, unexpected @, expecting string"),
@@ -151,7 +160,7 @@ MISTAKES = [
     (declare("type mark; auto-merge"), 2, 29, "'auto-merge' isn't supported", "remove it: intervals aren't merged, and one that overlaps is refused", "auto-merge only works with interval sets"),
     (declare("typeof ip saddr"), 2, 18, "'typeof' isn't supported", "write 'type' and the types themselves, as: type ipv4_addr . inet_service", "taken"),
     ("table ip t {\n\tset s {\n\t\ttype mark\n\t}\n", 5, 1, "the end of the text leaves the '{' of line 1 open", "write '}' after the last set of the table", "syntax error, unexpected end of file"),
-    ("table ip t {\n\tchain c {\n", 2, 2, "'chain' isn't supported", "remove chains and rules: a script has only sets and their elements", "syntax error, unexpected end of file"),
+    ("table ip t {\n\tchain c {\n", 2, 2, "'chain' isn't supported", "remove chains and rules, or read a whole ruleset with --sets: a script has only sets", "syntax error, unexpected end of file"),
     ("table ip t {\n\tste s {\n", 2, 2, "'ste' can't come in a table", "did you mean 'set'?", "syntax error, unexpected string"),
     ("table ip t {\n\tset a {\n\t\ttype mark\n\tset b {\n\t\ttype mark\n\t}\n}\n", 4, 2, "'set' can't come in a set", "close the '{' of line 2 with '}' first", "syntax error, unexpected set"),
     ("table ip t {\n\tset a {\n\t\ttype mark\n\t\telements = { 1, 2\n\t}\n\tset b {\n\t\ttype mark\n\t}\n}\n", 6, 2, "'set' can't come in a set", "close the '{' of line 2 with '}' first", "syntax error, unexpected set"),
@@ -160,6 +169,10 @@ MISTAKES = [
     ("table ip t {\n\tset s type mark\n", 2, 8, "'type' can't follow the set's name", "write '{' after the set's name", "syntax error, unexpected type, expecting '{'"),
     # statements
     ("drop everything\n", 1, 1, "'drop' can't begin a statement", STATEMENTS, "syntax error, unexpected drop"),
+    (SETS + "remove element ip t p { 80 }\n", 2, 1, "'remove' can't begin a statement", "did you mean 'delete'?", "syntax error, unexpected element, expecting string"),
+    (SETS + "insert element ip t p { 80 }\n", 2, 1, "'insert' can't begin a statement", "did you mean 'add'?", "syntax error, unexpected element, expecting rule"),
+    (SETS + "ADD element ip t p { 80 }\n", 2, 1, "'ADD' can't begin a statement", "did you mean 'add'?", "syntax error, unexpected element, expecting string"),
+    (SETS + "begin\nadd element ip t p { 80 }\n", 2, 1, "'begin' can't begin a statement", "leave it out: a transaction begins by itself, and ends with 'commit' or 'abort'", "syntax error, unexpected newline, expecting string"),
     ("comit\n", 1, 1, "'comit' can't begin a statement", "did you mean 'commit'?", "syntax error, unexpected newline, expecting string"),
     ("element ip t p { 80 }\n", 1, 1, "'element' can't begin a statement", "write 'add', 'create', 'delete' or 'destroy' before it", "No such file or directory"),
     ("set s { type mark; }\n", 1, 1, "'set' can't begin a statement", "write 'add' before it", "syntax error, unexpected '{', expecting string"),
@@ -178,7 +191,27 @@ MISTAKES = [
     ("table ip t\n", 1, 11, "the end of the line can't follow the table's name", "write '{' after it, or 'add table' before it", "taken"),
     ("add table ip t { }\n", 1, 16, "'{' can't follow 'add table'", "write 'table' in place of 'add table'", "taken"),
     ("add set ip t {\n", 1, 14, "'{' isn't the name of a set", SET_NAME, "syntax error, unexpected '{', expecting string"),
-    (SETS + "flush set ip t p p\n", 2, 18, "'p' can't follow here", END_STATEMENT, "syntax error, unexpected string, expecting end of file or newline or semicolon"),
+    (SETS + "flush set ip t p p\n", 2, 18, "'p' can't follow here", "'flush set' " + ENDS, "syntax error, unexpected string, expecting end of file or newline or semicolon"),
+    (SETS + "flush set ip t p { 80 }\n", 2, 18, "'{' can't follow here", "'flush set' removes all elements: write 'delete element' to remove some", "syntax error, unexpected '{', expecting end of file or newline or semicolon"),
+    ("add table ip t t\n", 1, 16, "'t' can't follow here", "'add table' ends with the table's name: write ';' or a new line after it", "syntax error, unexpected string, expecting end of file or newline or semicolon"),
+    (SETS + "ip t p 80\n", 2, 1, "'ip' can't begin a statement", "write 'add element' before it, or the line into a key file, which 'run' and 'judge' take after the script", "syntax error, unexpected newline"),
+    # lines of a shell
+    (SETS + "nft add element ip t p { 80 }\n", 2, 1, "'nft' can't begin a statement", "leave out 'nft', " + ALONE_LINE, "syntax error, unexpected add, expecting string"),
+    (SETS + "sudo nft add element ip t p { 80 }\n", 2, 1, "'sudo' can't begin a statement", "leave out all up to 'nft', " + ALONE_LINE, "syntax error, unexpected element, expecting @ or '$'"),
+    (SETS + "/usr/sbin/nft add element ip t p { 80 }\n", 2, 1, "'/usr/sbin/nft' can't begin a statement", "leave it out, " + ALONE_LINE, "syntax error, unexpected /"),
+    ("#!/bin/sh\necho web\n", 2, 1, "'echo' can't begin a statement", "leave out the lines of the shell: a script has only statements, without 'nft'", "syntax error, unexpected newline"),
+    ("add table ip t\nadd set ip t s { type mark\\; }\n", 2, 27, "'\\' is an unexpected character", "leave it out: only a shell needs it", "syntax error, unexpected junk, expecting newline or semicolon or ."),
+    (SETS + "add element ip t p \\{ 80 \\}\n", 2, 20, "'\\' is an unexpected character", "leave it out: only a shell needs it", "syntax error, unexpected junk, expecting '{' or '$'"),
+    (SETS + "add element ip t p { 80 } \\", 2, 27, "'\\' is an unexpected character", "leave it out: the text ends here", "syntax error, unexpected junk, expecting end of file or newline or semicolon"),
+    (SETS + "add element ip t p { 80 } \\\nadd element ip t p { 90 }\n", 3, 1, "'add' can't follow here", "leave out the '\\' at the end of the line before, which joins the two lines", "syntax error, unexpected add, expecting end of file or newline or semicolon"),
+    (SETS + "'add element ip t p { 80 }'\n", 2, 1, "''' is an unexpected character", 'leave it out: only comments are in quotes, as: comment "web"', "syntax error, unexpected junk"),
+    # quotes
+    (SETS + 'add element ip t p "{ 80 }"\n', 2, 20, "'\"{ 80 }\"' is a string, and can't come here", NO_QUOTES, "syntax error, unexpected quoted string, expecting '{' or '$'"),
+    (SETS + '"add element ip t p { 80 }"\n', 2, 1, "'\"add element ip t p { 80 }\"' is a string, and can't come here", NO_QUOTES, "syntax error, unexpected quoted string"),
+    (declare('type mark; elements = "{ 1 }"'), 2, 40, "'\"{ 1 }\"' is a string, and can't come here", NO_QUOTES, "syntax error, unexpected quoted string, expecting '{' or '$'"),
+    (add("a", '"192.0.2.1 . 80"'), 2, 22, "'\"192.0.2.1 . 80\"' is a string, and values are expected", "leave out the quotes, as: 192.0.2.1 . 80", "invalid data type, expected concatenation of (IPv4 address, internet network service)"),
+    (add("p", '"80"'), 2, 22, "'\"80\"' is a string, and a value is expected", "write the value without quotes", "taken"),
+    (add("p", '80 "web"'), 2, 25, "'\"web\"' can't follow an element", "write 'comment' before it, or leave it out", "syntax error, unexpected quoted string, expecting comma or '}'"),
     (SETS + "add element ip t p { 80 } commit\n", 2, 27, "'commit' can't follow here", END_STATEMENT, "syntax error, unexpected string, expecting end of file or newline or semicolon"),
     (SETS + "flush ruleset\n", 2, 7, "'ruleset' can't be flushed here", "'flush ruleset' can only be the first statement", "taken"),
     ("at 10\nat 9\n", 2, 4, "'9' is before the last moment, 10", "write a later moment: in a script moments never fall", "syntax error, unexpected number, expecting string"),
@@ -226,12 +259,36 @@ SEVERAL = [
             (3, 1, "'}' closes no '{'", "remove it, or add the '{' that is missing before it", True),
         ],
     ),
+    # a refused item of a set doesn't hide those after it
+    (
+        "add table ip t\nadd set ip t s { type inet_service; flags intervall; size 0; elements = { 80-90, web }; policy fast; }\nadd element ip t s { 70000 }\n",
+        [
+            (2, 43, "'intervall' isn't a flag", "did you mean 'interval'?", False),
+            (2, 59, "'0' isn't a size", "write a number from 1 to 4294967295", False),
+            (2, 75, "'80-90' is a range, and the set has single values", "declare the set with 'flags interval'", True),
+            (2, 96, "'fast' isn't a policy", "the policies are performance and memory", False),
+            (3, 22, "'70000' " + TOO_GREAT, PORT, False),
+        ],
+    ),
+    (
+        "table ip t {\n\tset s {\n\t\ttype mark\n\t\tauto-merge\n\t\telements = { 1 timeout 5s }\n\t}\n\tset r {\n\t\ttype mark\n\t\tflags timeoutt\n\t\telements = { 1 timeout 5s }\n\t}\n}\n",
+        [
+            (4, 3, "'auto-merge' isn't supported", "remove it: intervals aren't merged, and one that overlaps is refused", False),
+            (5, 18, "'timeout' needs a set with the flag timeout", "declare the set with 'flags timeout'", False),
+            (9, 9, "'timeoutt' isn't a flag", "did you mean 'timeout'?", False),
+            (10, 18, "'timeout' needs a set with the flag timeout", "declare the set with 'flags timeout'", True),
+        ],
+    ),
+    # without the type no other item can be read
+    ("add set ip t s { type port; size 0; }\n", [(1, 23, "'port' isn't a supported type", "did you mean 'inet_service'?", False)]),
     # ten at most
     (SETS + "add element ip t p { 70000 }\n" * 12, [(line, 22, "'70000' " + TOO_GREAT, PORT, False) for line in range(2, 12)]),
     # the rest of a script with an open brace is no statement of its own
     (SETS + "add element ip t p { 70000\nadd element ip t p { 70000 }\n", [(2, 22, "'70000' " + TOO_GREAT, PORT, False)]),
 ]
 
+KEY_FORM = "write the set and the values alone, as: ip filter allowed 192.0.2.1 . 80"
+NO_SET_NAME = "isn't the name of a set: a key has no words of a statement"
 ONE_VALUE = "write one value, and no range or prefix"
 
 # lines of a key file for SETS, the column of the bad token, what is wrong, and what to do
@@ -246,26 +303,85 @@ KEY_MISTAKES = [
     ("ip t v 10.0.0.1", 8, "'10.0.0.1' doesn't fit field 1 (ipv6_addr): it is an IPv4 address", IPV6),
     ("t l TCP . 1", 5, "'TCP' doesn't fit field 1 (inet_proto): it isn't a protocol", PROTO),
     ("ip t q 80", 6, "'q' isn't a set of the script", "the script's sets are ip t p, ip t a, ip t n, ip t v, ip t l, ip t e"),
+    ("p 80", 3, "'80' isn't a set of the script", "did you mean 'ip t p'?"),
     ("inet t p 80", 8, "'p' isn't a set of the script", "did you mean 'ip t p'?"),
     ("ip t @p 80", 6, "'@' is an unexpected character", "write the set's name without '@'"),
     ("ip t p @n", 8, "'@' is an unexpected character", "write the values themselves: there are no references to sets"),
     ("ip t p *", 8, "'*' isn't a value", "write one value: a packet has one in each field"),
     ("ip t a 10.0.0.1 80", 17, "'80' can't follow a value", "write ' . ' between fields"),
     ("ip t a 10.0.0.1, 80", 16, "',' can't follow a value", "write ' . ' between fields"),
-    ("ip t p 80 443", 11, "'443' can't follow the last field", "write each key in a line of its own"),
+    ("ip t p 80 443", 11, "'443' can't follow the last field", "write each key in a line of its own; the set's type is inet_service"),
+    ("ip t a", 7, "the end of the line ends the key after 0 fields", PAIR),
+    ("ip t p { 80 }", 8, "'{' can't come here: a key has no braces", KEY_FORM),
+    ("ip t p 80 }", 11, "'}' can't come here: a key has no braces", KEY_FORM),
+    ("add element ip t p { 80 }", 5, "'element' " + NO_SET_NAME, KEY_FORM),
+    ("create element ip t p { 80 }", 8, "'element' " + NO_SET_NAME, KEY_FORM),
+    ("get element ip t p { 80 }", 5, "'element' " + NO_SET_NAME, KEY_FORM),
+    ("element ip t p 80", 9, "'ip' " + NO_SET_NAME, KEY_FORM),
+    ("add ip t p 80", 5, "'ip' " + NO_SET_NAME, KEY_FORM),
+    ("set ip t p 80", 5, "'ip' " + NO_SET_NAME, KEY_FORM),
+    ('ip t a "10.0.0.1 . 80"', 8, "'\"10.0.0.1 . 80\"' is a string, and values are expected", "leave out the quotes, as: 192.0.2.1 . 80"),
+    ('ip t p "80"', 8, "'\"80\"' is a string, and a value is expected", "write the value without quotes"),
     ("ip t p 80 // web", 11, "'//' doesn't begin a comment", "begin a comment with '#'"),
     ("ip t a 10.0.0.0/255.0.0.0 . 80", 8, "'10.0.0.0/255.0.0.0' doesn't fit field 1 (ipv4_addr): 255.0.0.0 is a netmask", "write the prefix length: 10.0.0.0/8"),
     ("ip t e 02:00:5e:10:00", 8, "'02:00:5e:10:00' doesn't fit field 1 (ether_addr): it isn't an Ethernet address", ETHER),
 ]
 
-RUN = "usage: pipapo run SCRIPT KEYS [--threads N] [--keep-going]"
-LIST = "usage: pipapo list SCRIPT [--keep-going]"
-JUDGE = "usage: pipapo judge SCRIPT RULES KEYS [--threads N] [--keep-going]"
-CAPTURE = "usage: pipapo capture SCRIPT PLAN PCAP [--threads N] [--keep-going]"
+# the words of the key of a `get` on SETS, the column of the bad token, what is wrong, and what to do
+GET_MISTAKES = [
+    ("ip t p 70000", 8, "'70000' " + TOO_GREAT, PORT),
+    ("ip t p http", 8, "'http' doesn't fit field 1 (inet_service): a port is a number and not a name", "use 80"),
+    ("ip t a 10.0.0.1 80", 17, "'80' can't follow a value", "write ' . ' between fields"),
+    ("ip t a 10.0.0.1:80", 8, "'10.0.0.1:80' doesn't fit field 1 (ipv4_addr): it is two fields in one word", "write a '.' with blanks around it between fields, as 192.0.2.1 . 80"),
+    ("ip t a 80 . 10.0.0.1", 8, "'80' doesn't fit field 1 (ipv4_addr): it fits field 2 (inet_service)", PAIR),
+    ("ip t p 80-90", 8, "'80-90' is more than one value, and a packet has one in each field", ONE_VALUE),
+    ("ip t q 80", 6, "'q' isn't a set of the script", "the script's sets are ip t p, ip t a, ip t n, ip t v, ip t l, ip t e"),
+    ("p 80", 3, "'80' isn't a set of the script", "did you mean 'ip t p'?"),
+    ("ip t @p 80", 6, "'@' is an unexpected character", "write the set's name without '@'"),
+    ("ip t p { 80 }", 8, "'{' can't come here: a key has no braces", KEY_FORM),
+    ("add element ip t p { 80 }", 5, "'element' " + NO_SET_NAME, KEY_FORM),
+    ("element ip t p 80", 9, "'ip' " + NO_SET_NAME, KEY_FORM),
+    ("ip t a 10.0.0.1", 17, "the end of the text ends the key after 1 field", PAIR),
+    ("ip t a 10.0.0.1 . 80 . 90", 22, "'.' begins one more field, and the set has 2 fields", PAIR),
+    ("ip t p 80 443", 11, "'443' can't follow the last field", "write each key in a line of its own; the set's type is inet_service"),
+]
+
+RULES_FILE = "write 'chain NAME { RULES }', with rules such as 'in ip t s accept', and at the end 'policy accept' or 'policy drop'"
+FOR_RULESET = "write chains such as 'chain main { in ip t s accept }' and then 'policy drop'; --sets reads a ruleset as SCRIPT"
+RULE = "a rule is 0 to 4 tests such as 'in ip t s', and then accept, drop, return or jump CHAIN"
+MAIN = "chain main { in ip t p accept }\n"
+
+# rules files for SETS, the line and the column of the bad token, what is wrong, and what to do
+RULES_MISTAKES = [
+    ("table inet filter {\n\tchain input {\n\t}\n}\n", 1, 1, "'table' can't come here: this looks like a ruleset or a script", FOR_RULESET),
+    ("flush ruleset\n", 1, 1, "'flush' can't come here: this looks like a ruleset or a script", FOR_RULESET),
+    ("chain input { type filter hook input priority 0; policy drop; }\n", 1, 15, "'type' can't come here: this looks like a chain of a ruleset", FOR_RULESET),
+    ("policy drop\n", 1, 1, "'policy' can't come before the first chain", "write at least one chain before it, as: chain main { in ip t s accept }"),
+    (MAIN + "policy drop\npolicy accept\n", 3, 1, "'policy' can't come after the policy", "write one policy, and write it last"),
+    ("chain main { policy drop; }\n", 1, 14, "'policy' can't come in a chain", "write the policy after the last chain, in a line of its own"),
+    (MAIN[:-1] + " policy drop\n", 1, 33, "'policy' can't follow here", "write it in a line of its own"),
+    (MAIN + "policy reject\n", 2, 8, "'reject' isn't a policy", "write 'policy accept' or 'policy drop'"),
+    (MAIN + "policy\n", 2, 7, "the end of the line isn't a policy", "write 'policy accept' or 'policy drop'"),
+    (MAIN + "polizy drop\n", 2, 1, "'polizy' can't come here", "did you mean 'policy'?"),
+    (MAIN + "default drop\n", 2, 1, "'default' can't come here", RULES_FILE),
+    ("in ip t p accept\npolicy drop\n", 1, 1, "'in' can't come outside of a chain", "write rules in a chain, as: chain main { in ip t s accept }"),
+    ("chain main { in ip t p reject }\n", 1, 24, "'reject' can't come here", RULE),
+    ("chain main { in ip t p acept }\n", 1, 24, "'acept' can't come here", "did you mean 'accept'?"),
+    ("chain a { }\nchain b { }\nchain c { }\nchain d { }\nchain e { }\n", 5, 1, "'chain' is one chain too many", "a rules file has 4 chains at most"),
+]
+
+NO_PACKET = "key:1:1: the words name no packet\nhelp: write [FAMILY] TABLE SET VALUE . VALUE ..; a moment is given before the script, as --at MOMENT\n"
+
+RUN = "usage: pipapo run SCRIPT KEYS [--threads N] [--keep-going] [--sets]"
+LIST = "usage: pipapo list SCRIPT [--keep-going] [--sets]"
+JUDGE = "usage: pipapo judge SCRIPT RULES KEYS [--threads N] [--keep-going] [--sets]"
+CAPTURE = "usage: pipapo capture SCRIPT PLAN PCAP [--threads N] [--keep-going] [--sets]"
 DRILL = "usage: pipapo drill SEED COUNT [--threads N]"
-GET = "usage: pipapo get [--at MOMENT] [--keep-going] SCRIPT KEY .."
-COMMANDS = "the commands are get, compare, stat, run, judge, capture, desk, drill, list, dump, sets and help"
+GET = "usage: pipapo get [--at MOMENT] [--keep-going] [--sets] SCRIPT [FAMILY] TABLE SET VALUE . VALUE .."
+COMMANDS = "the commands are get, explain, compare, stat, run, judge, capture, desk, drill, list, dump, sets and help"
 ALONE = "write it alone, or --help alone after a command"
+FROM_NFT = "write the kernel's sets into a file, and list that: nft list ruleset > rules.nft; pipapo list --sets rules.nft"
+STATEMENT = "write the statement into the script's file, and then: pipapo list FILE"
 THREADS = "write a number from 1 to 16"
 MOMENTS = "write a number from 0 to 1000000000000000"
 TWICE = "leave one of the two out"
@@ -275,14 +391,31 @@ WORD_MISTAKES = [
     ("", "a command is missing", COMMANDS),
     ("lits a.nft", "'lits' isn't a command", "did you mean 'list'?"),
     ("rn a.nft b.keys", "'rn' isn't a command", "did you mean 'run'?"),
+    ("version", "'version' isn't a command", "did you mean '--version'?"),
     ("a.nft b.keys", "'a.nft' isn't a command", COMMANDS),
+    # words that nft 1.0.6 takes in its own way
+    ("list set ip filter allowed", "'list set' is a command of nft: here a script's file comes after 'list'", FROM_NFT),
+    ("list table ip filter", "'list table' is a command of nft: here a script's file comes after 'list'", FROM_NFT),
+    ("nft list ruleset", "'nft' isn't a command: pipapo reads files, and not the kernel's sets", FROM_NFT),
+    ("nft -f a.nft", "'-f' isn't an option: a file's name comes after a command", "to run a script and print its sets, write: pipapo list a.nft"),
+    ("-f a.nft", "'-f' isn't an option: a file's name comes after a command", "to run a script and print its sets, write: pipapo list a.nft"),
+    ("-c -f a.nft", "'-f' isn't an option: a file's name comes after a command", "to run a script and print its sets, write: pipapo list a.nft"),
+    ("--file", "'--file' isn't an option: a file's name comes after a command", "to run a script and print its sets, write: pipapo list FILE"),
+    ("add element ip t p { 80 }", "'add' begins a statement of a script, and isn't a command", STATEMENT),
+    ("flush ruleset", "'flush' begins a statement of a script, and isn't a command", STATEMENT),
     ("help rnu", "'rnu' isn't a command", "did you mean 'run'?"),
     ("help help", "'help' has no page of its own", "write 'pipapo help' alone, or a command after it, as: pipapo help run"),
     ("help --version", "'--version' has no page of its own", "write 'pipapo help' alone, or a command after it, as: pipapo help run"),
     ("help run list", "'list' is an extra word", "write one command after 'help'"),
     ("--version run", "'--version' can't come with these words", ALONE),
+    ("--version --sets", "'--version' can't come with these words", ALONE),
     ("run a b --help", "'--help' can't come with these words", ALONE),
-    ("--threads 4 run a b", "'--threads' comes before the command", "write the command first, as: pipapo run SCRIPT KEYS --threads 4"),
+    ("--threads 4 run a b", "'--threads' comes before the command", "write options after the command: pipapo run .. --threads 4"),
+    ("--sets run a b", "'--sets' comes before the command", "write options after the command: pipapo run .. --sets"),
+    ("--threads=4 drill 1 2", "'--threads=4' comes before the command", "write options after the command: pipapo drill .. --threads=4"),
+    ("--at 5 get a t s 1", "'--at' comes before the command", "write options after the command: pipapo get --at 5 .."),
+    ("--keep-going", "'--keep-going' comes before the command", "write options after the command: pipapo COMMAND .. --keep-going"),
+    ("--threads 4 list a", "'--threads' isn't an option of this command", LIST),
     ("--hlep", "'--hlep' isn't a command", "did you mean '--help'?"),
     ("run", "SCRIPT and KEYS are missing", RUN),
     ("run a", "KEYS is missing", RUN),
@@ -290,8 +423,8 @@ WORD_MISTAKES = [
     ("capture a b", "PCAP is missing", CAPTURE),
     ("drill 7", "COUNT is missing", DRILL),
     ("list --keep-going", "SCRIPT is missing", LIST),
-    ("get", "SCRIPT and KEY are missing", GET),
-    ("get --at 5 a", "KEY is missing", GET),
+    ("get", "SCRIPT, TABLE, SET and VALUE are missing", GET),
+    ("get --at 5 a", "TABLE, SET and VALUE are missing", GET),
     ("run a b c", "'c' is an extra word", RUN),
     ("run a b --threads 17", "'17' isn't a number of packet threads", THREADS),
     ("run a b --threads=0", "'0' isn't a number of packet threads", THREADS),
@@ -310,7 +443,17 @@ WORD_MISTAKES = [
     ("run a b --keep-going=yes", "'--keep-going' takes no value", "leave out the '=' and what follows it"),
     ("run a b --thread 4", "'--thread' isn't an option", "did you mean '--threads'?"),
     ("list a --keepgoing", "'--keepgoing' isn't an option", "did you mean '--keep-going'?"),
-    ("run a b -t 4", "'-t' isn't an option", RUN),
+    ("run a b -t 4", "'-t' isn't an option", "did you mean '--threads'?"),
+    ("list a -k", "'-k' isn't an option", "did you mean '--keep-going'?"),
+    ("compare a b -s", "'-s' isn't an option", "did you mean '--sets'?"),
+    ("get -a 5 a t s 1", "'-a' isn't an option", "did you mean '--at'?"),
+    ("run a b -n 4", "'-n' isn't an option", RUN),
+    ("list a -t 4", "'-t' isn't an option", LIST),
+    ("run --sets a --keys b", "'--keys' isn't an option: files come without options, in their order", RUN),
+    ("list -f a", "'-f' isn't an option: files come without options, in their order", LIST),
+    ("capture a --plan=b --pcap=c", "'--plan' isn't an option: files come without options, in their order", CAPTURE),
+    ("get --script a t s 1", "'--script' isn't an option: the script and the key come without options", GET),
+    ("drill --seed 7 --count 5", "'--seed' isn't an option: both numbers come without options", DRILL),
     ("list a --threads 4", "'--threads' isn't an option of this command", LIST),
     ("get --threads 4 a t", "'--threads' isn't an option of this command", GET),
 ]
@@ -326,6 +469,17 @@ def key_note(name, mistake):
     """The whole note on a line of a key file, which is its first one."""
     line, column, wrong, help_line = mistake
     return note(name, (line + "\n", 1, column, wrong, help_line, None))
+
+
+def rules_note(name, mistake):
+    """The whole note on a rules file."""
+    return note(name, (*mistake, None))
+
+
+def get_note(mistake):
+    """The whole note on the words of a `get`, which are shown with a blank after each."""
+    words, column, wrong, help_line = mistake
+    return note("key", (words + " ", 1, column, wrong, help_line, None))
 
 
 def word_note(mistake):

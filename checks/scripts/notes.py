@@ -10,7 +10,7 @@ import subprocess
 import sys
 import tempfile
 
-from mistakes import KEY_MISTAKES, MISTAKES, SETS, SEVERAL, WORD_MISTAKES, key_note, note, several_notes, word_note
+from mistakes import GET_MISTAKES, KEY_MISTAKES, MISTAKES, NO_PACKET, RULES_MISTAKES, SETS, SEVERAL, WORD_MISTAKES, get_note, key_note, note, rules_note, several_notes, word_note
 
 LARGE = 67_108_865
 
@@ -55,6 +55,12 @@ FILES = {
     "gzip.pcap": bytes.fromhex("1f8b080000000000"),
     "pcapng.pcap": bytes.fromhex("0a0d0d0a1c000000"),
     "exists.nft": PORTS + "add element ip t p { 80 }\ncreate element ip t p { 80 }\n",
+    # two refused elements in one line, each with an element of one line in its way
+    "one_line.nft": PORTS + "add element ip t p { 10-20, 30-40 }\nadd element ip t p { 5-12, 35-50 }\n",
+    # the first 10-20 is taken back, and its id is given again
+    "taken_back.nft": PORTS + "add element ip t p { 10-20 }\nabort\nadd element ip t p { 12-22 }\nadd element ip t p { 20-30 }\n",
+    # the same first field in two elements of the line
+    "fields.nft": "add set ip t a { type ipv4_addr . inet_service; flags interval; }\nadd element ip t a { 10.0.0.0/8 . 80 }\nadd element ip t a { 10.0.0.1 . 443, 10.0.0.1 . 80 }\n",
     "clerks.nft": PORTS + "round\n" * 17,
     "desk.nft": PORTS + "add element ip t p { 80 }\nround\ncreate element ip t p { 80 }\n",
     "missing.nft": PORTS + "delete element ip t p { 81 }\n",
@@ -66,6 +72,7 @@ FILES = {
 # each mistake in a script of its own
 FILES |= {f"mistake{number}.nft": mistake[0] for number, mistake in enumerate(MISTAKES)}
 FILES |= {f"several{number}.nft": script for number, (script, _) in enumerate(SEVERAL)}
+FILES |= {f"mistake{number}.rules": mistake[0] for number, mistake in enumerate(RULES_MISTAKES)}
 FILES |= {"sets.nft": SETS, **{f"mistake{number}.keys": mistake[0] + "\n" for number, mistake in enumerate(KEY_MISTAKES)}}
 
 USAGE = re.compile("pipapo: usage: ")
@@ -105,6 +112,13 @@ def cases(shown):
     for number, mistake in enumerate(KEY_MISTAKES):
         name = f"mistake{number}.keys"
         yield ["run", "sets.nft", name], key_note(name, mistake), re.compile(r"pipapo: keys line 1: .*\n"), 4
+    for number, mistake in enumerate(RULES_MISTAKES):
+        name = f"mistake{number}.rules"
+        yield ["judge", "sets.nft", name, "good.keys"], rules_note(name, mistake), re.compile(rf"pipapo: rules line {mistake[1]}: .*\n"), 9
+    for mistake in GET_MISTAKES:
+        yield ["get", "sets.nft", *mistake[0].split()], get_note(mistake), re.compile(r"pipapo: key line 1: .*\n"), 13
+    for words in ["at 5", "round", "#"]:
+        yield ["get", "sets.nft", *words.split()], NO_PACKET, "pipapo: key line 1: statement", 13
     # other files in a text's place
     for name, said in [
         ("gzip.nft", "this is a file that gzip has packed: unpack it first"),
@@ -151,6 +165,9 @@ def cases(shown):
     yield ["list", "long.nft"], re.compile(r"long.nft:2:[0-9]+: 'here' doesn't fit field 1 \(inet_service\): it isn't a port\n\.\..{100}here.{40}\.\.\n {102}\^{4}\n(help: .*\n)?"), None, 3
     # refused changes
     yield ["list", "exists.nft"], "exists.nft:3:25: 80 exists already (line 2)\n" + failed.replace("overlap.nft", "exists.nft"), None, 1
+    yield ["run", "one_line.nft", "good.keys", "--keep-going"], "one_line.nft:3:22: 5-12 overlaps 10-20 (line 2)\none_line.nft:3:28: 35-50 overlaps 30-40 (line 2)\n", None, 1
+    yield ["run", "taken_back.nft", "good.keys"], "taken_back.nft:5:22: 20-30 overlaps 12-22 (line 4)\n", None, 1
+    yield ["run", "fields.nft", "/dev/null"], "fields.nft:3:38: 10.0.0.1 . 80 overlaps 10.0.0.0/8 . 80 (line 2)\n", None, 1
     yield ["run", "missing.nft", "good.keys"], "missing.nft:2:25: 81 isn't in the set\n", None, 1
     many = "".join(f"many.nft:{line}:25: {line - 1} isn't in the set\n" for line in range(2, 22))
     yield ["run", "many.nft", "good.keys", "--keep-going"], many + "many.nft: 5 more changes are refused\n", None, 1
@@ -181,13 +198,26 @@ def is_same(wanted, text):
 
 
 def points(text, name):
-    """Whether a line of a file that is shown is its own, and the caret stands under the column that is told."""
+    """Whether a line of a file that is shown is its own, up to two dots, and the caret is under the column that is told."""
     told = re.match(rf"{re.escape(name)}:([0-9]+):([0-9]+): .*\n(.*)\n([ \t]*)\^", text)
     if told is None or "\\x" in text or "\n.." in text:
         return True
     lines = FILES[name].split("\n")
     line, column = int(told[1]), int(told[2])
-    return told[3] == lines[line - 1] and len(told[4]) == column - 1 and told[4] == re.sub(r"[^\t]", " ", lines[line - 1][: column - 1])
+    shown, whole = told[3], lines[line - 1]
+    is_own = shown == whole or (shown.endswith("..") and whole.startswith(shown[:-2]))
+    return is_own and len(told[4]) == column - 1 and told[4] == re.sub(r"[^\t]", " ", whole[: column - 1])
+
+
+def tells_full_output(program, folder):
+    """Whether a full standard output is told in the system's words, and one that nobody reads isn't."""
+    with open("/dev/full", "w") as full:
+        failed = subprocess.run([program, "list", "good.nft"], cwd=folder, stdout=full, stderr=subprocess.PIPE, stdin=subprocess.DEVNULL, timeout=60)
+    reader, writer = os.pipe()
+    os.close(reader)
+    unread = subprocess.run([program, "list", "good.nft"], cwd=folder, stdout=writer, stderr=subprocess.PIPE, stdin=subprocess.DEVNULL, timeout=60)
+    os.close(writer)
+    return (failed.returncode, failed.stderr, unread.stderr) == (6, b"pipapo: the standard output failed: No space left on device\n", b"")
 
 
 def run(program, words, folder, stderr, closed=False):
@@ -234,6 +264,9 @@ def main():
             if run(program, words, folder, None, closed=True)[:2] != got[:2]:
                 bad += 1
                 print(f"{' '.join(words)}: does something else where the standard error is closed")
+        if not tells_full_output(program, folder):
+            bad += 1
+            print("a full output isn't told in the system's words, or one that nobody reads is told")
     print(f"{count} calls told what they are to tell, or nothing" if not bad else f"{bad} of {count} calls told something else")
     sys.exit(1 if bad else 0)
 

@@ -312,7 +312,8 @@ def worked_examples():
     faults = []
     for name in sorted(os.listdir(EXAMPLES)):
         folder = os.path.join(EXAMPLES, name)
-        if not os.path.isdir(folder):
+        # a folder without words is no run of the program
+        if not os.path.exists(os.path.join(folder, "words")):
             continue
         with open(os.path.join(folder, "words")) as words, open(os.path.join(folder, "transcript")) as transcript:
             text = transcript.read()

@@ -9,16 +9,16 @@ _pipapo() {
     fi
     COMPREPLY=()
     if [ "$COMP_CWORD" -eq 1 ]; then
-        mapfile -t COMPREPLY < <(compgen -W "run list dump drill judge capture desk get compare stat sets help --help --version -V" -- "$word")
+        mapfile -t COMPREPLY < <(compgen -W "run list dump drill judge capture desk get explain compare stat sets help --help --version -V" -- "$word")
     elif [ "$command" = help ]; then
-        mapfile -t COMPREPLY < <(compgen -W "run list dump drill judge capture desk get compare stat sets" -- "$word")
+        mapfile -t COMPREPLY < <(compgen -W "run list dump drill judge capture desk get explain compare stat sets" -- "$word")
     elif [ "$before" = --threads ]; then
         mapfile -t COMPREPLY < <(compgen -W "$(seq 1 16)" -- "$word")
     elif [[ $word == -* ]]; then
         case $command in
-        run | judge | capture) mapfile -t COMPREPLY < <(compgen -W "--threads --keep-going --help" -- "$word") ;;
-        list | dump | desk | compare | stat) mapfile -t COMPREPLY < <(compgen -W "--keep-going --help" -- "$word") ;;
-        get) mapfile -t COMPREPLY < <(compgen -W "--at --keep-going --help" -- "$word") ;;
+        run | judge | capture) mapfile -t COMPREPLY < <(compgen -W "--threads --keep-going --sets --help" -- "$word") ;;
+        list | dump | desk | explain | compare | stat) mapfile -t COMPREPLY < <(compgen -W "--keep-going --sets --help" -- "$word") ;;
+        get) mapfile -t COMPREPLY < <(compgen -W "--at --keep-going --sets --help" -- "$word") ;;
         sets) mapfile -t COMPREPLY < <(compgen -W "--help" -- "$word") ;;
         drill) mapfile -t COMPREPLY < <(compgen -W "--threads --help" -- "$word") ;;
         esac

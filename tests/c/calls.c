@@ -36,7 +36,7 @@ static void wrong_handles(void) {
         pipapo_declared shape = {.fields = 77};
         pipapo_element element = {77, 77, 77, 77};
         CHECK(pipapo_describe(controls[i], 0, &shape) == wanted[i] && shape.fields == 77);
-        CHECK(pipapo_elements_of(controls[i], 0, &got, &number) == wanted[i] && got.at == NULL);
+        if (i != 1) CHECK(pipapo_elements_of(controls[i], 0, &got, &number) == wanted[i] && got.at == NULL);
         CHECK(pipapo_element_at(sets[i], 0, bytes, sizeof bytes, comment, sizeof comment, &element) == wanted[i]);
         CHECK(element.id == 77 && element.bounds_length == 77 && bytes[0] == '?' && comment[0] == '?');
         CHECK(pipapo_hear(controls[i], 0) == wanted[i]);
@@ -59,6 +59,7 @@ static void wrong_handles(void) {
         CHECK(pipapo_lookup_many(readers[i], 0, &key, sizeof key, 0, &number, 1, &other) == wanted[i]);
         CHECK(number == 77 && other == 77);
     }
+    CHECK(pipapo_elements_of(&reader, 0, &got, &count) == PIPAPO_TURN && got.at == NULL && count == 0);
     uint64_t note = 77;
     CHECK(pipapo_note(&empty, &note) == PIPAPO_NOTHING && pipapo_note(&elements, &note) == PIPAPO_HANDLE && note == 77);
     CHECK(control.at != NULL && reader.at != NULL && elements.at != NULL && empty.at == NULL && nobody.at == NULL);
@@ -147,6 +148,15 @@ static void scripts(void) {
         {"add set ip t s { type mark ;", PIPAPO_SCRIPT, {.line = 1, .column = 29, .reason = PIPAPO_REASON_END}},
         {"add set ip t s { type mark ; }\nadd element ip t s { many }\n", PIPAPO_SCRIPT,
          {.line = 2, .column = 22, .reason = PIPAPO_REASON_VALUE}},
+        {"add set ip t s { type mark ; }\nadd element ip t s { ? }\n", PIPAPO_SCRIPT,
+         {.line = 2, .column = 22, .reason = PIPAPO_REASON_CHARACTER}},
+        {"add set ip t s { type mark ; }\nadd element ip t s { * }\n", PIPAPO_SCRIPT,
+         {.line = 2, .column = 22, .reason = PIPAPO_REASON_LEFT_OUT}},
+        {"add set ip t s { type mark ; timeout often ; }\n", PIPAPO_SCRIPT,
+         {.line = 1, .column = 38, .reason = PIPAPO_REASON_TIME}},
+        {"add set ip t s { type mark ; size large ; }\n", PIPAPO_SCRIPT,
+         {.line = 1, .column = 35, .reason = PIPAPO_REASON_NUMBER}},
+        {"at noon\n", PIPAPO_SCRIPT, {.line = 1, .column = 4, .reason = PIPAPO_REASON_MOMENT}},
         {"add set ip t s { type mark ; flags interval ; }\nadd element ip t s { 5-9 }\n\nadd element ip t s { 7 }\n",
          PIPAPO_CHANGE, {.line = 4, .cause = PIPAPO_OVERLAP}},
         {"add set ip t r { type mark ; }\nadd set ip t s { type mark ; }\nadd element ip t s { 4, 5 }\ncreate element ip t s { 5 }\n",
@@ -364,6 +374,62 @@ static void walks(void) {
     pipapo_free(&first);
     pipapo_free(&held);
     CHECK(pipapo_element_at(&first, 1, &bounds, sizeof bounds, comment, sizeof comment, &element) == PIPAPO_NOTHING);
+}
+
+/* The ids of the elements of a handle, each at its place, and none after the last. */
+static void has_ids(pipapo_elements *elements, const uint64_t *ids, uint64_t count) {
+    pipapo_element element;
+    flows bounds;
+    char none;
+    for (uint64_t i = count; i-- > 0;)
+        CHECK(pipapo_element_at(elements, i, &bounds, sizeof bounds, &none, 0, &element) == PIPAPO_OK && element.id == ids[i]);
+    for (uint64_t i = 0; i < count; ++i)
+        CHECK(pipapo_element_at(elements, i, &bounds, sizeof bounds, &none, 0, &element) == PIPAPO_OK && element.id == ids[i]);
+    CHECK(pipapo_element_at(elements, count, &bounds, sizeof bounds, &none, 0, &element) == PIPAPO_PLACE);
+}
+
+/* The elements of the generation that a reader holds, whatever is committed meanwhile. Of six elements the second expires, and
+ * the fourth is deleted. */
+static void held_walks(void) {
+    static const uint64_t all[] = {0, 1, 2, 3, 4, 5}, stayed[] = {0, 2, 4, 5};
+    pipapo_control control = PIPAPO_EMPTY;
+    pipapo_reader readers[2] = {PIPAPO_EMPTY, PIPAPO_EMPTY};
+    pipapo_elements old = PIPAPO_EMPTY, new = PIPAPO_EMPTY;
+    pipapo_answer answer;
+    uint64_t generation, purged, count = 77;
+    start(&control, readers, 2);
+    CHECK(pipapo_enter(&readers[0], &generation) == PIPAPO_OK && generation == 0);
+    CHECK(pipapo_elements_of(&readers[0], 0, &old, &count) == PIPAPO_OK && count == 0);
+    for (uint32_t i = 0; i < 6; ++i)
+        CHECK(insert_flows(&control, 0, flows_of(i, i, 80, 80), i == 1 ? 1000 : PIPAPO_NEVER, 0, &answer) == PIPAPO_OK);
+    CHECK(pipapo_commit(&control, 0, &generation, &purged) == PIPAPO_OK && generation == 1);
+    CHECK(pipapo_elements_of(&readers[0], 0, &old, &count) == PIPAPO_OK && count == 0);
+    CHECK(pipapo_leave(&readers[0]) == PIPAPO_OK && pipapo_enter(&readers[0], &generation) == PIPAPO_OK);
+
+    flows fourth = flows_of(3, 3, 80, 80);
+    CHECK(pipapo_delete(&control, 0, &fourth, sizeof fourth, 0, &answer) == PIPAPO_OK);
+    CHECK(pipapo_commit(&control, 1000, &generation, &purged) == PIPAPO_OK && generation == 2 && purged == 1);
+    CHECK(pipapo_enter(&readers[1], &generation) == PIPAPO_OK && generation == 2);
+    CHECK(pipapo_elements_of(&readers[0], 0, &old, &count) == PIPAPO_OK && count == 6);
+    CHECK(pipapo_elements_of(&readers[1], 0, &new, &count) == PIPAPO_OK && count == 4);
+    has_ids(&old, all, 6);
+    has_ids(&new, stayed, 4);
+
+    /* a refusal leaves what the handle holds, and the elements outlive the generation, the reader and the control */
+    count = 77;
+    CHECK(pipapo_elements_of(&readers[0], 2, &old, &count) == PIPAPO_SET && count == 77);
+    CHECK(pipapo_leave(&readers[0]) == PIPAPO_OK);
+    CHECK(pipapo_elements_of(&readers[0], 0, &old, &count) == PIPAPO_TURN && count == 77);
+    CHECK(pipapo_elements_of(&readers[0], 2, &old, &count) == PIPAPO_TURN && count == 77);
+    CHECK(pipapo_flush(&control, 0, &count) == PIPAPO_OK && count == 4);
+    CHECK(pipapo_commit(&control, 1000, &generation, &purged) == PIPAPO_OK && generation == 3);
+    pipapo_free(&readers[0]);
+    pipapo_free(&readers[1]);
+    pipapo_free(&control);
+    has_ids(&old, all, 6);
+    has_ids(&new, stayed, 4);
+    pipapo_free(&old);
+    pipapo_free(&new);
 }
 
 static void notes(void) {
@@ -587,6 +653,8 @@ static void turns(void) {
         CHECK(pipapo_lookup_many(&readers[0], 0, keys, sizeof keys - 1, 0, ids, 4, &generation) == PIPAPO_LENGTH);
         CHECK(pipapo_lookup_many(&readers[0], 0, keys, sizeof keys, 0, ids, 3, &generation) == PIPAPO_LENGTH);
         CHECK(pipapo_lookup_many(&readers[0], 2, keys, sizeof keys, 0, ids, 4, &generation) == PIPAPO_SET);
+        /* so many keys have the bytes of four modulo 2 to the power 64; the count is tested before it is used */
+        CHECK(pipapo_lookup_many(&readers[0], 0, keys, sizeof keys, 0, ids, SIZE_MAX / 2 + 5, &generation) == PIPAPO_LENGTH);
         generation = 77;
         CHECK(pipapo_lookup_many(&readers[0], 0, keys, 0, 0, ids, 0, &generation) == PIPAPO_OK && generation == 1);
 
@@ -630,6 +698,7 @@ int main(void) {
     listings();
     descriptions();
     walks();
+    held_walks();
     notes();
     changes();
     limits();

@@ -89,6 +89,10 @@ static int run(long n) {
     pipapo_elements elements = PIPAPO_EMPTY;
     TRY(pipapo_elements_of(&control, 0, &elements, &count));
     expect(count == 24, "24 elements stay");
+    TRY(pipapo_enter(&readers[1], &generation));
+    TRY(pipapo_elements_of(&readers[1], 0, &elements, &count));
+    expect(generation == 5 && count == 24, "a reader's generation has the same elements");
+    TRY(pipapo_leave(&readers[1]));
     long before = left, at_first = blocks;
     pipapo_element element;
     pipapo_declared shape;

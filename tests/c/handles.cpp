@@ -63,7 +63,10 @@ int main() {
     CHECK(readers[0].generation(generation) == PIPAPO_OK && generation == 1);
     CHECK(readers[0].lookup(0, keys[0], 0, id) == PIPAPO_OK && id == 0);
     CHECK(readers[0].lookup_many(0, keys, 2, 0, ids, generation) == PIPAPO_OK && ids[0] == 0 && ids[1] == PIPAPO_NONE);
+    CHECK(readers[0].elements(0, walk, count) == PIPAPO_OK && count == 1);
     CHECK(readers[0].leave() == PIPAPO_OK);
+    CHECK(readers[0].elements(0, walk, count) == PIPAPO_TURN);
+    CHECK(walk.at(0, from, to, comment, element) == PIPAPO_OK && element.id == 0);
 
     CHECK(control.remove(0, low, high, answer) == PIPAPO_OK && answer.outcome == PIPAPO_REMOVED);
     CHECK(control.destroy(0, low, high, answer) == PIPAPO_OK && answer.outcome == PIPAPO_ABSENT);
@@ -81,6 +84,16 @@ int main() {
                                readers, fault) == PIPAPO_OK);
     CHECK(control.elements(0, walk, count) == PIPAPO_OK && walk.at(0, from, to, comment, element) == PIPAPO_OK);
     CHECK(comment == "a comment that is longer");
+    CHECK(control.start_script("add set ip t s { type ipv4_addr . inet_service ; }\nadd element ip t s { 192.0.2.7 . 99 }\n",
+                               readers, fault) == PIPAPO_OK);
+
+    CHECK(control.abort() == PIPAPO_OK && control.remove(0, keys[0], keys[0], answer) == PIPAPO_OK);
+    CHECK(control.create(0, low, high, answer, 0, 1000, "web") == PIPAPO_OK);
+    CHECK(control.insert(0, keys[1], keys[1], answer, 0, PIPAPO_NEVER, "other") == PIPAPO_OK);
+    CHECK(control.commit(0, generation, purged) == PIPAPO_OK && control.elements(0, walk, count) == PIPAPO_OK && count == 2);
+    CHECK(walk.at(0, from, to, comment, element) == PIPAPO_OK && comment == "web" && element.expiry == 1000);
+    CHECK(walk.at(1, from, to, comment, element) == PIPAPO_OK && comment == "other" && element.expiry == PIPAPO_NEVER);
+    CHECK(control.start_script({}, readers, fault) == PIPAPO_OK && readers[1].lookup(0, keys[0], 0, id) == PIPAPO_SET);
     CHECK(control.start_script("add set ip t s { type ipv4_addr . inet_service ; }\nadd element ip t s { 192.0.2.7 . 99 }\n",
                                readers, fault) == PIPAPO_OK);
 

@@ -36,7 +36,11 @@ typedef struct {
 
 static void *read_on(void *at) {
     seat *seat_at = at;
-    uint64_t seen = 0, generation, id, ids[3];
+    pipapo_elements elements = PIPAPO_EMPTY;
+    pipapo_element element;
+    flows bounds;
+    char none;
+    uint64_t seen = 0, generation, id, count, ids[3];
     while (!__atomic_load_n(&ended, __ATOMIC_SEQ_CST)) {
         uint64_t met = __atomic_load_n(&note, __ATOMIC_SEQ_CST);
         EXPECT(pipapo_meet(&seat_at->reader, met) == PIPAPO_OK);
@@ -54,7 +58,10 @@ static void *read_on(void *at) {
         EXPECT(pipapo_lookup_many(&seat_at->reader, 0, keys, sizeof keys, 0, ids, 3, &generation) == PIPAPO_OK);
         EXPECT(generation == seen && ids[0] == PIPAPO_NONE && ids[2] == PIPAPO_NONE);
         EXPECT(ids[1] == (seen ? seen - 1 : PIPAPO_NONE));
+        EXPECT(pipapo_elements_of(&seat_at->reader, 0, &elements, &count) == PIPAPO_OK && count == (seen ? 1 : 0));
         EXPECT(pipapo_leave(&seat_at->reader) == PIPAPO_OK);
+        uint32_t error = pipapo_element_at(&elements, 0, &bounds, sizeof bounds, &none, 0, &element);
+        EXPECT(error == (seen ? PIPAPO_OK : PIPAPO_PLACE) && (!seen || element.id == seen - 1));
         /* without a generation held, all keys of a call are of one */
         EXPECT(pipapo_lookup_many(&seat_at->reader, 0, keys, sizeof keys, 0, ids, 3, &generation) == PIPAPO_OK);
         EXPECT(generation >= seen);
@@ -63,6 +70,7 @@ static void *read_on(void *at) {
         seen = generation;
         seat_at->lookups += 9;
     }
+    pipapo_free(&elements);
     return NULL;
 }
 

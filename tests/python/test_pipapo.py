@@ -139,7 +139,27 @@ def test_elements_are_walked():
         control.flush(0)
         control.commit()
         assert [(one.id, one.expiry, len(one.comment)) for one in walk] == [(1, None, 300)]
-        assert list(control.elements(0)) == [] and refusal(list, control.elements(1)).error == Error.SET
+        assert list(control.elements(0)) == [] and refusal(control.elements, 1).error == Error.SET
+
+
+def test_elements_of_a_held_generation():
+    with Control(FLOWS) as control:
+        (reader,) = control.readers
+        assert refusal(reader.elements, 0).error == Error.TURN
+        for port in (80, 443, 8080):
+            control.insert(0, ["192.0.2.1", port], expiry=1000 if port == 443 else None)
+        control.commit()
+        with reader:
+            control.delete(0, ["192.0.2.1", 80])
+            assert control.commit(1000) == Receipt(2, 1)
+            old = reader.elements(0)
+            assert [one.id for one in reader.elements(0)] == [0, 1, 2] and [one.id for one in control.elements(0)] == [2]
+            assert refusal(reader.elements, 1).error == Error.SET
+        with reader:
+            assert [one.low for one in reader.elements(0)] == [(b"\xc0\0\2\1", b"\x1f\x90")]
+        control.flush(0)
+        control.commit()
+        assert [one.id for one in old] == [0, 1, 2]
 
 
 def test_notes():
@@ -166,6 +186,61 @@ def test_values():
         except ValueError:
             continue
         raise AssertionError(f"{value} was taken for a {kind.name}")
+
+
+def test_numbers_that_c_cannot_take():
+    """ctypes would take them modulo 2 to the power 32 or 64: the set 2**32 would be the set 0."""
+    with Control([Set([Kind.PROTO])]) as control:
+        (reader,) = control.readers
+        control.insert(0, [6])
+        control.commit()
+        for call in (control.flush, control.elements, lambda set: control.insert(set, [7]), lambda set: reader.lookup_many(set, [])):
+            for set in (2**32, -1, 1):
+                assert refusal(call, set).error == Error.SET
+        calls = [
+            lambda number: control.insert(0, [7], now=number),
+            lambda number: control.insert(0, [7], expiry=number),
+            lambda number: control.delete(0, [6], now=number),
+            lambda number: control.commit(number),
+            lambda number: control.list(number),
+            lambda number: control.hear(number),
+            lambda number: reader.meet(number),
+            lambda number: reader.lookup(0, [6], number),
+            lambda number: reader.lookup_many(0, [[6]], number),
+            lambda number: Control([Set([Kind.PROTO], size=number)]),
+        ]
+        for call in calls:
+            for number in (-1, 2**64):
+                try:
+                    call(number)
+                except ValueError:
+                    continue
+                raise AssertionError(f"{number} was taken")
+        assert refusal(Control, [], readers=-1).error == Error.READERS
+        assert control.number == 1 and reader.lookup(0, [6]) == 0 and reader.lookup(0, [7]) is None
+
+
+def memory():
+    """The bytes of memory that this process has from the system."""
+    with open("/proc/self/statm", encoding="ascii") as file:
+        return int(file.read().split()[0]) * os.sysconf("SC_PAGE_SIZE")
+
+
+def test_what_is_not_closed_is_freed():
+    control = Control(FLOWS, readers=2)
+    control.insert(0, ["192.0.2.1", 22])
+    control.commit()
+    reader, walk = control.readers[1], control.elements(0)
+    reader.enter()
+    del control
+    assert reader.lookup(0, ["192.0.2.1", 22]) == 0 and [one.id for one in walk] == [0]
+    reader.close()
+    assert refusal(reader.leave).error == Error.NOTHING
+    # a control with its reader takes 1.5 MiB
+    before = memory()
+    for _ in range(100):
+        Control(FLOWS)
+    assert memory() - before < 50 << 20
 
 
 def test_elements_expire():

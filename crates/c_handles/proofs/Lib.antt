@@ -1,6 +1,7 @@
 pub mod LooseSteps
 pub mod HandleSteps
 pub mod Found
+pub mod HeldSets
 pub mod WrittenOver
 pub mod Batch
 pub mod Kept

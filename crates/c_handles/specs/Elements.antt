@@ -1,28 +1,57 @@
--- The elements of a set in a handle of their own, and what C reads of each.
+-- The elements of a set of one generation in a handle of their own, and what C reads of each.
 use Rattle.std.specs.Prelude.{◌≡◌, ◌<◌, ◌≤◌, ◌⊎◌, ◌++◌, ◌*◌, ◌-◌, ◌^◌, ℕ, List, length, take, drop, Option, Some, None, slice_get}
 use Rattle.set_model.specs.declared.kind.Kind.{Kind}
 use Rattle.set_model.specs.declared.element.Element.{Element}
 use Rattle.set_model.specs.SetState.{State}
+use Rattle.set_model.specs.Control.{Generation}
+use Rattle.history_laws.specs.Histories.{EndsWith}
+use Rattle.gen_publish.specs.Publish.{ReaderView}
 use Rattle.packed_values.specs.Packed.{packed_length, parts_in}
-use Rattle.c_handles.specs.Codes.{code_of}
+use Rattle.c_handles.specs.declared.place.Place.{Place}
+use Rattle.c_handles.specs.declared.place.Place.TheVariants.{In}
 use Rattle.c_handles.specs.declared.element_shape.ElementShape.{ElementShape}
 use Rattle.c_handles.specs.declared.fault.Fault.{Fault}
-use Rattle.c_handles.specs.declared.fault.Fault.TheVariants.{Memory, Empty, Handle, Set, Room, Place}
+use Rattle.c_handles.specs.declared.fault.Fault.TheVariants.{Memory, Handle, Set, Turn, Room}
+use Rattle.c_handles.specs.declared.fault.Fault.TheVariants as faults
 use Rattle.c_handles.specs.declared.object.Object.{Object}
 use Rattle.c_handles.specs.declared.object.Object.TheVariants.{Control, Reader, Elements}
 
--- A handle got the elements of a set of a control's last generation, and this is how many there are.
-abbrev pub HasElements : Option Object → ℕ → Option Object → ℕ → Type 0
-HasElements (Some (Control c)) set (Some (Elements s)) count = (slice_get c.work.base.sets set ≡ Some s) × (count ≡ length s.elements)
-HasElements control set held count = ⊥
+-- The set of this number in the generation that a reader holds.
+abbrev pub IsHeldSet : ReaderView → ℕ → State → Type 0
+IsHeldSet h set s = (g : Generation) → EndsWith h.seen g → slice_get g.sets set ≡ Some s
 
--- Why a handle gets no elements: there is no such set, or what is asked is no control. Memory is wanted only for a set that is
+-- The same of a reader at a place, which may hold none.
+abbrev pub IsSetAt : Place → ℕ → State → Type 0
+IsSetAt (In h) set s = IsHeldSet h set s
+IsSetAt other set s = ⊥
+
+-- The set of this number in a control's last generation, or in the one that a reader holds.
+abbrev pub AreElementsOf : Object → ℕ → State → Type 0
+AreElementsOf (Control c) set s = slice_get c.work.base.sets set ≡ Some s
+AreElementsOf (Reader r) set s = IsSetAt r.place set s
+AreElementsOf (Elements e) set s = ⊥
+
+-- A handle got the elements of this set, and this is how many there are.
+abbrev pub HasElements : Option Object → ℕ → Option Object → ℕ → Type 0
+HasElements (Some x) set (Some (Elements s)) count = AreElementsOf x set s × (count ≡ length s.elements)
+HasElements from set held count = ⊥
+
+-- Why there are no elements of the set of a number, of so many sets: there is no such set. Memory is wanted only for a set that is
 -- there.
+abbrev pub RefusesSet : ℕ → ℕ → Fault → Type 0
+RefusesSet count set Set = count ≤ set
+RefusesSet count set Memory = set < count
+RefusesSet count set other = ⊥
+
+-- The same of a reader at a place: first, it has to hold a generation.
+abbrev pub RefusesHeldSet : Place → ℕ → Fault → Type 0
+RefusesHeldSet (In h) set fault = RefusesSet (length h.schema) set fault
+RefusesHeldSet other set fault = fault ≡ Turn
+
+-- Why a handle gets no elements: what is asked is no control and no reader, or the cause is one of these.
 abbrev pub RefusesElements : ℕ → Object → Fault → Type 0
-RefusesElements set (Control c) Set = length c.schema ≤ set
-RefusesElements set (Control c) Memory = set < length c.schema
-RefusesElements set (Control c) other = ⊥
-RefusesElements set (Reader s) fault = fault ≡ Handle
+RefusesElements set (Control c) fault = RefusesSet (length c.schema) set fault
+RefusesElements set (Reader s) fault = RefusesHeldSet s.place set fault
 RefusesElements set (Elements e) fault = fault ≡ Handle
 
 -- the number of an expiry: the largest if there is none
@@ -68,7 +97,7 @@ pub record IsTooLong (s : State) (place room comment_room : ℕ) (shape : Elemen
 
 -- Why no element is written: there is none at this place; a buffer has no room for it; or what is held is no set's elements.
 abbrev pub RefusesElement : ℕ → ℕ → ℕ → ElementShape → Object → Fault → Type 0
-RefusesElement place room comment_room shape (Elements s) Place = length s.elements ≤ place
+RefusesElement place room comment_room shape (Elements s) faults.Place = length s.elements ≤ place
 RefusesElement place room comment_room shape (Elements s) Room = IsTooLong s place room comment_room shape
 RefusesElement place room comment_room shape (Elements s) other = ⊥
 RefusesElement place room comment_room shape (Control c) fault = fault ≡ Handle

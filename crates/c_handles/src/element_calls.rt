@@ -10,25 +10,25 @@ use crate::handle::Handle;
 use crate::object::Object;
 use std::alloc::Global;
 
-/// Puts the elements of a set of the control's last generation into a handle. What that held ends. `count` gets how many there
-/// are.
+/// Puts the elements of a set of one generation into a handle: of a control's last generation, or of the one that a reader holds.
+/// What that handle held ends. `count` gets how many elements there are.
 pub fn elements_of(
     alloc: Global,
-    control: &mut Handle,
+    handle: &mut Handle,
     set: u32,
     elements: &mut Handle,
     count: &mut u64,
 ) -> u32
-    ensures same { control.new.held ≡ control.old.held }
-    ensures done { result ≡ 0 → HasElements control.old.held set elements.new.held count.new }
+    ensures same { handle.new.held ≡ handle.old.held }
+    ensures done { result ≡ 0 → HasElements handle.old.held set elements.new.held count.new }
     ensures unchanged { 0 < result → (elements.new.held ≡ elements.old.held) × (count.new ≡ count.old) }
-    ensures refused { 0 < result → IsRefusal (RefusesElements set) control.old.held result }
+    ensures refused { 0 < result → IsRefusal (RefusesElements set) handle.old.held result }
 {
-    let Some(boxed) = control.take(alloc) else {
+    let Some(boxed) = handle.take(alloc) else {
         return Fault::Empty.code();
     };
     let outcome = boxed_elements(alloc, &boxed, set);
-    control.put(boxed);
+    handle.put(boxed);
     match outcome {
         Ok((made, many)) => {
             elements.put(made);
@@ -54,10 +54,10 @@ pub fn element_at(
     ensures unchanged { 0 < result → (bounds.new ≡ bounds.old) × (comment.new ≡ comment.old) }
     ensures refused { 0 < result → IsRefusal (RefusesElement place (length bounds.old) (length comment.old) shape.new) elements.old.held result }
 {
-    let Some(boxed) = elements.take(alloc) else {
+    let Some(mut boxed) = elements.take(alloc) else {
         return Fault::Empty.code();
     };
-    let outcome = element_in(&boxed, place, bounds, comment, shape);
+    let outcome = element_in(&mut boxed, place, bounds, comment, shape);
     elements.put(boxed);
     match outcome {
         Ok(()) => DONE,
@@ -66,15 +66,16 @@ pub fn element_at(
 }
 
 fn element_in(
-    object: &Object,
+    object: &mut Object,
     place: u64,
     bounds: &mut [u8],
     comment: &mut [u8],
     shape: &mut ElementShape,
 ) -> Result<(), Fault>
-    ensures ok { OnOk result (HasElement (Some object.now) place bounds.old bounds.new comment.old comment.new shape.new) }
+    ensures same { object.new ≡ object.old }
+    ensures ok { OnOk result (HasElement (Some object.old) place bounds.old bounds.new comment.old comment.new shape.new) }
     ensures err { OnErr result ((bounds.new ≡ bounds.old) × (comment.new ≡ comment.old)) }
-    ensures refused { IfErr result (RefusesElement place (length bounds.old) (length comment.old) shape.new object.now) }
+    ensures refused { IfErr result (RefusesElement place (length bounds.old) (length comment.old) shape.new object.old) }
 {
     match object {
         Object::Elements(elements) => elements.write(place, bounds, comment, shape),

@@ -6,9 +6,11 @@ ghost use Rattle.gen_publish.specs.Publish.{declared_kinds};
 ghost use Rattle.packed_values.specs.Packed.{packed_length};
 ghost use Rattle.c_handles.specs.Seats.{IsDeclaredAt, IsSeated, Stays, WentIn, WentOut};
 ghost use Rattle.c_handles.specs.Calls.{AreFound, HasEntered, HasFound, HasFoundAll, HasGeneration, TakesKey, TakesKeys, seen_at, kinds_in};
+ghost use Rattle.c_handles.specs.Elements.{IsSetAt, RefusesHeldSet};
 ghost use Rattle.c_handles.specs.Notes.{HasLooked, HasSeenUpTo, RefusesMeeting};
 ghost use Rattle.c_handles.specs.Causes.{IsNotIn, IsNotOut, RefusesKeys};
 
+use crate::elements::Elements;
 use crate::fault::Fault;
 use crate::key_room::KeyRoom;
 use crate::place::Place;
@@ -221,6 +223,19 @@ impl Seat {
     {
         match &self.place {
             Place::In(held) => Ok(held.generation()),
+            Place::Out(_) => Err(Fault::Turn),
+            Place::Nowhere => Err(Fault::Turn),
+        }
+    }
+
+    /// The elements of a set of the held generation.
+    pub(crate) fn elements(&self, set: u32) -> Result<Elements, Fault>
+        ensures ok { IfOk result (IsSetAt self.now.place set) }
+        ensures declared { OnOk result (RefusesHeldSet self.now.place set Fault.Memory) }
+        ensures refused { IfErr result (RefusesHeldSet self.now.place set) }
+    {
+        match &self.place {
+            Place::In(held) => Elements::of_held(held, set),
             Place::Out(_) => Err(Fault::Turn),
             Place::Nowhere => Err(Fault::Turn),
         }

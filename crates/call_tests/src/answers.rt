@@ -1,4 +1,4 @@
-//! Worked examples of `get`.
+//! Worked examples of `get` and `explain`.
 use crate::calls::{Case, check_all};
 use std::test::Fail;
 
@@ -14,7 +14,7 @@ const WEB: &str =
      abort\n\
      add element ip filter allowed { 203.0.113.1 . 53 }\n";
 
-const CASES: [Case; 7] = [
+const CASES: [Case; 9] = [
     // both elements hold it, and the first was inserted earlier
     Case {
         words: &[
@@ -103,6 +103,47 @@ const CASES: [Case; 7] = [
         keys: "",
         output: "pipapo: key line 1: statement\n",
         status: 13,
+    },
+    // the answer and a later element; an element that has expired; the first of those that hold the most values
+    Case {
+        words: &["explain", "a.nft", "keys"],
+        script: WEB,
+        keys: "ip filter allowed 192.0.2.77 . 443\n\
+               ip filter allowed 192.0.9.9 . 443\n\
+               at 300000\n\
+               filter allowed 192.0.9.9 . 443\n\
+               filter allowed 203.0.113.1 . 80\n",
+        output: "ip filter allowed 192.0.2.77 . 443\n    \
+                 element 0: 192.0.2.0/24 . 80-443 comment \"web\" (line 3)\n    \
+                 also in element 1: 192.0.0.0/16 . 443 (line 4)\n\
+                 ip filter allowed 192.0.9.9 . 443\n    \
+                 element 1: 192.0.0.0/16 . 443 (line 4), 5m left\n\
+                 ip filter allowed 192.0.9.9 . 443\n    \
+                 no element\n    \
+                 expired: element 1: 192.0.0.0/16 . 443 (line 4), at 5m\n    \
+                 192.0.9.9 is in 0 of 2 elements, 443 in 1\n    \
+                 nearest: element 0: 192.0.2.0/24 . 80-443 (line 3), but for 192.0.9.9\n\
+                 ip filter allowed 203.0.113.1 . 80\n    \
+                 no element\n    \
+                 203.0.113.1 is in 1 of 2 elements, 80 in 1\n    \
+                 nearest: element 0: 192.0.2.0/24 . 80-443 (line 3), but for 203.0.113.1\n",
+        status: 1,
+    },
+    // the last generation of each section, and a set without elements
+    Case {
+        words: &["explain", "--keep-going", "a.nft", "keys"],
+        script: "add set ip t p { type inet_service ; flags interval ; elements = { 20-30 } }\n\
+                 round\n\
+                 flush set ip t p\n\
+                 round\n\
+                 add element ip t p { 25 }\n",
+        keys: "t p 25\nround\nt p 25\n",
+        output: "ip t p 25\n    \
+                 no element\n    \
+                 the set has no elements\n\
+                 ip t p 25\n    \
+                 element 1: 25 (line 5)\n",
+        status: 1,
     },
 ];
 

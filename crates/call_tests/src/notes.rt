@@ -7,6 +7,9 @@ const PORTS: &[u8] = b"add set ip t p { type inet_service ; }\n";
 const OVERLAP: &[u8] =
     b"table ip t {\n\tset s {\n\t\ttype ipv4_addr\n\t\tflags interval\n\t\telements = { 10.0.1.0/24,\n\t\t\t10.0.1.128/25 }\n\t}\n}\n";
 
+const TAKEN_BACK: &[u8] =
+    b"add set ip t p { type inet_service; flags interval; }\nadd element ip t p { 10-20 }\nabort\nadd element ip t p { 12-22 }\nadd element ip t p { 80, 20-30 }\n";
+
 const EIGHTEEN_SECTIONS: &[u8] =
     b"add set ip t p { type inet_service ; }\nround\nround\nround\nround\nround\nround\nround\nround\nround\nround\nround\nround\nround\nround\nround\nround\nround\n";
 
@@ -19,7 +22,7 @@ struct Noted {
     status: u8,
 }
 
-const CALLS: [Noted; 9] = [
+const CALLS: [Noted; 11] = [
     // the place of a bad token
     Noted {
         words: &["list", "a.nft"],
@@ -74,6 +77,22 @@ const CALLS: [Noted; 9] = [
         notes: b"a.nft:6:4: 10.0.1.128/25 overlaps 10.0.1.0/24 (line 5)\n",
         output: b"line 6 refused overlap ip t s element 0\ncommit generation 1 purged 0\n",
         status: 1,
+    },
+    // the element in the way by its id: the first 10-20 is taken back, and 12-22 of the same id is in the way of one element of line 5
+    Noted {
+        words: &["run", "a.nft", "keys", "--keep-going"],
+        files: &[("a.nft", TAKEN_BACK), ("keys", b"")],
+        notes: b"a.nft:5:26: 20-30 overlaps 12-22 (line 4)\n",
+        output: b"abort generation 0\nline 5 refused overlap ip t p element 0\ncommit generation 1 purged 0\n",
+        status: 1,
+    },
+    // words that are no key
+    Noted {
+        words: &["get", "a.nft", "t", "p", "http"],
+        files: &[("a.nft", PORTS)],
+        notes: b"key:1:5: 'http' doesn't fit field 1 (inet_service): a port is a number and not a name\nt p http \n    ^^^^\nhelp: use 80\n",
+        output: b"pipapo: key line 1: value\n",
+        status: 13,
     },
     // nothing, if all is well
     Noted {

@@ -116,3 +116,118 @@ fn sets_of_rulesets(rt: HostRuntime) -> Result<(), Fail> {
     }
     Ok(())
 }
+
+/// A ruleset with a chain, a map and a counter, and a set of which a command tells.
+const WEB: &str = "table inet filter {\n\
+    \tmap ports { type ipv4_addr : inet_service; }\n\
+    \tset open {\n\
+    \t\ttype inet_service\n\
+    \t\tcounter\n\
+    \t\telements = { 22 counter packets 5 bytes 6, 80 }\n\
+    \t}\n\
+    \tchain input {\n\
+    \t\ttcp dport @open accept\n\
+    \t}\n\
+    }\n";
+
+/// What isn't kept of it.
+const WEB_NOTES: &str = "r.nft:2:2: 'map ports' is skipped: it isn't a set\n\
+    r.nft:5:3: 'counter' is dropped: no verdict depends on it\n\
+    r.nft:8:2: 'chain input' is skipped: it isn't a set\n";
+
+/// A ruleset of the same set, and another one of it.
+const OTHER: &str = "table inet filter {\n\
+    \tset open {\n\
+    \t\ttype inet_service\n\
+    \t\telements = { 80 }\n\
+    \t}\n\
+    \tchain output { }\n\
+    }\n";
+
+/// What isn't kept of both.
+const BOTH_NOTES: &str = "r.nft:2:2: 'map ports' is skipped: it isn't a set\n\
+    r.nft:5:3: 'counter' is dropped: no verdict depends on it\n\
+    r.nft:8:2: 'chain input' is skipped: it isn't a set\n\
+    o.nft:6:2: 'chain output' is skipped: it isn't a set\n";
+
+/// Words over the rulesets under `r.nft` and `o.nft` and the key file under `keys`, the output, the note if it matters,
+/// and the status.
+struct Read {
+    words: &'static [&'static str],
+    output: &'static str,
+    notes: Option<&'static str>,
+    status: u8,
+}
+
+const READS: [Read; 6] = [
+    // the line is the ruleset's
+    Read {
+        words: &["get", "--sets", "r.nft", "inet filter open 80"],
+        output: "element 1: 80 (line 6)\n",
+        notes: Some(WEB_NOTES),
+        status: 0,
+    },
+    // the note comes with each status
+    Read {
+        words: &["get", "r.nft", "inet filter open 81", "--sets"],
+        output: "none\n",
+        notes: Some(WEB_NOTES),
+        status: 1,
+    },
+    // the key file is none of the rulesets
+    Read {
+        words: &["run", "r.nft", "--threads", "1", "--sets", "keys"],
+        output: "commit generation 1 purged 0\npacket 0 thread 0 generation 1 element 0\n",
+        notes: Some(WEB_NOTES),
+        status: 0,
+    },
+    // two rulesets, one note
+    Read {
+        words: &["compare", "--sets", "r.nft", "o.nft"],
+        output: "differs inet filter open: 22 is in element 0 of r.nft (line 6) and in no element of o.nft\n",
+        notes: Some(BOTH_NOTES),
+        status: 1,
+    },
+    // a key file that is none
+    Read {
+        words: &["run", "--sets", "r.nft", "o.nft"],
+        output: "pipapo: keys line 1: set\n",
+        notes: None,
+        status: 4,
+    },
+    // without the option
+    Read {
+        words: &["list", "r.nft"],
+        output: "pipapo: script line 2: left out\n",
+        notes: None,
+        status: 3,
+    },
+];
+
+/// The option given twice, at a command without scripts, and at a word that asks for a page.
+const NO_COMMANDS: [&[&str]; 3] = [
+    &["list", "--sets", "r.nft", "--sets"],
+    &["drill", "--sets", "1", "2"],
+    &["--version", "--sets"],
+];
+
+#[test]
+fn commands_on_rulesets(rt: HostRuntime) -> Result<(), Fail> {
+    let files: [File<'_>; 3] = [
+        ("r.nft", WEB.as_bytes()),
+        ("o.nft", OTHER.as_bytes()),
+        ("keys", b"inet filter open 22\n"),
+    ];
+    for read in &READS {
+        let output = read.output.as_bytes();
+        let wanted = match read.notes {
+            Some(notes) => Wanted::noted(notes.as_bytes(), output, read.status),
+            None => Wanted::output(output, read.status),
+        };
+        check_failing(&rt, rt.alloc(), read.words, &files, NOTHING, wanted)?;
+    }
+    for words in &NO_COMMANDS {
+        check_failing(&rt, rt.alloc(), words, &files, NOTHING, Wanted::status(2))?;
+    }
+    Ok(())
+}

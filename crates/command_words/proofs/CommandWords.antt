@@ -10,10 +10,10 @@ use Rattle.std.proofs.lemmas.List.Sums.{sum_by-cons}
 use Rattle.std.proofs.lemmas.Slice.Eq.{bytes_eq-Decides}
 use Rattle.std.proofs.lemmas.Str.Parse.{digit_at}
 use Rattle.command_words.specs.declared.shape.Verb.{Verb}
-use Rattle.command_words.specs.declared.shape.Verb.TheVariants.{Run, List as Lists, Dump, Drill, Judge, Capture, Desk, Get, Compare, Stat, Sets}
+use Rattle.command_words.specs.declared.shape.Verb.TheVariants.{Run, List as Lists, Dump, Drill, Judge, Capture, Desk, Get, Compare, Explain, Stat, Sets}
 use Rattle.command_words.specs.declared.shape.Shape.{Shape}
 use Rattle.command_words.specs.GetWords.{Asked, asked, is_file_name, keep_going_word}
-use Rattle.command_words.specs.Words.{stdin_name, is_stdin, verb_word, IsNumber, AreThreads, AreWords, ArePacketWords, Command, run, list, dump, drill, judge, capture, desk, get, stat, IsCommand, AreArguments, no_words, name_and, threads_and, threads_with, mark_and, threads_word, threads_front, last_seed, most_drill_elements, AreFileWords, compare, judge_capture, sets_of}
+use Rattle.command_words.specs.Words.{stdin_name, is_stdin, verb_word, IsNumber, AreThreads, AreWords, ArePacketWords, Command, run, list, dump, drill, judge, capture, desk, get, stat, IsCommand, AreArguments, no_words, name_and, threads_and, threads_with, mark_and, threads_word, threads_front, last_seed, most_drill_elements, AreFileWords, compare, explain, judge_capture, sets_of}
 use Rattle.command_words.specs.Fronts.{after_front}
 use Rattle.command_words.specs.Numbers.{number_within}
 use Rattle.command_words.specs.WordForms.{verb_of, most_names, has_all, is_whole_shape, empty_shape, stdin_once, fits, accepts, HasVerb, takes_name, takes_threads, takes_mark, with_threads, with_joined, with_argument, with_word, shape_after}
@@ -159,6 +159,7 @@ name-of-command Judge place word e = (both _ _ e).1
 name-of-command Capture place word e = (both _ _ e).1
 name-of-command Desk place word e = (both _ _ e).1
 name-of-command Compare place word e = (both _ _ e).1
+name-of-command Explain place word e = (both _ _ e).1
 name-of-command Sets place word e = (both _ _ e).1
 name-of-command Get place word e = absurd (no-name (nat_lt place 1) e)
 name-of-command Drill place word e = go (place == 0) (both _ _ e).1 where
@@ -356,7 +357,7 @@ one-once a = go (is_stdin a) refl where
 numbers-once : (low high k m : ℕ) (a b : List ℕ) (x y : ℕ) → high < 2 ^ 64 → m < 2 ^ 64 → IsNumber low high a x → IsNumber k m b y → stdin_once (a ∷ b ∷ []) ≡ true
 numbers-once low high k m a b x y small little h j = rw (number-no-stdin low high a x small h, number-no-stdin k m b y little j) refl
 
--- A list, a dump, a stat and a desk have no packet threads, and a drill no mark.
+-- A list, a dump, a stat, a desk, an explain and a comparison have no packet threads, and a drill no mark.
 no-threads : (verb : Verb) (threads : Option (List ℕ)) → takes_threads verb ≡ false → ThreadsFit verb false threads → threads ≡ None
 no-threads verb None e h = refl
 no-threads verb (Some word) e h = absurd (true≢false (sym h.0 ∙ e))
@@ -380,6 +381,7 @@ all-of Capture n e = eqb-true _ _ e
 all-of Desk n e = eqb-true _ _ e
 all-of Get n e = eqb-true _ _ e
 all-of Compare n e = eqb-true _ _ e
+all-of Explain n e = eqb-true _ _ e
 all-of Sets n e = eqb-true _ _ e
 all-of Judge n e = go (n == 3) refl e where
   go : (t : Bool) → (n == 3) ≡ t → (t || (n == 4)) ≡ true → (n ≡ 3) ⊎ (n ≡ 4)
@@ -401,6 +403,13 @@ module _ (rest : List (List ℕ)) (threads : Option (List ℕ)) (keep_going : Bo
   lone-words : (verb : Verb) (names : List (List ℕ)) → takes_threads verb ≡ false → AreArguments rest names threads keep_going → ThreadsFit verb false threads → AreWords (verb_word verb ∷ rest) (verb_word verb) names None keep_going
   lone-words verb names none a ts = subst (λ (o : Option (List ℕ)). AreWords (verb_word verb ∷ rest) (verb_word verb) names o keep_going) (no-threads verb threads none ts) (said (verb_word verb) names a)
 
+  -- arguments without, of more than one file
+  file-words : (verb : Verb) (names : List (List ℕ)) → takes_threads verb ≡ false → AreArguments rest names threads keep_going → ThreadsFit verb false threads → stdin_once rest ≡ true → AreFileWords (verb_word verb ∷ rest) (verb_word verb) names keep_going
+  file-words verb names none a ts once =
+      let no : threads ≡ None = no-threads verb threads none ts in
+      let same = stdin-of-arguments rest names threads keep_going a (subst (λ (o : Option (List ℕ)). NoStdin o) (sym no) tt) in
+      (lone-words verb names none a ts, leb-true _ _ (ap (λ k. nat_le k 1) (sym same) ∙ once))
+
   -- the command of arguments that fit a verb
   by-verb : (verb : Verb) (names : List (List ℕ)) → AreArguments rest names threads keep_going → NamesFit verb 0 names → ThreadsFit verb false threads → MarkFits verb false keep_going → IsAll verb (length names) → stdin_once rest ≡ true → HasVerb (verb_word verb ∷ rest) verb
   by-verb Run (script ∷ keys ∷ []) a ns ts gs count once = let k = packet-words Run (script ∷ keys ∷ []) a ts once in (run script keys k.0 keep_going, k.1, refl)
@@ -416,11 +425,8 @@ module _ (rest : List (List ℕ)) (threads : Option (List ℕ)) (keep_going : Bo
   by-verb Judge (script ∷ rules ∷ keys ∷ []) a ns ts gs count once = let k = packet-words Judge (script ∷ rules ∷ keys ∷ []) a ts once in (judge script rules keys k.0 keep_going, k.1, refl)
   by-verb Judge (script ∷ rules ∷ plan ∷ packets ∷ []) a ns ts gs count once = let k = packet-words Judge (script ∷ rules ∷ plan ∷ packets ∷ []) a ts once in (judge_capture script rules plan packets k.0 keep_going, k.1, refl)
   by-verb Capture (script ∷ plan ∷ packets ∷ []) a ns ts gs count once = let k = packet-words Capture (script ∷ plan ∷ packets ∷ []) a ts once in (capture script plan packets k.0 keep_going, k.1, refl)
-  by-verb Compare (first ∷ second ∷ []) a ns ts gs count once =
-      let names = first ∷ second ∷ [] in
-      let none : threads ≡ None = no-threads Compare threads refl ts in
-      let same = stdin-of-arguments rest names threads keep_going a (subst (λ (o : Option (List ℕ)). NoStdin o) (sym none) tt) in
-      (compare first second keep_going, (lone-words Compare names refl a ts, leb-true _ _ (ap (λ k. nat_le k 1) (sym same) ∙ once)), refl)
+  by-verb Compare (first ∷ second ∷ []) a ns ts gs count once = (compare first second keep_going, file-words Compare (first ∷ second ∷ []) refl a ts once, refl)
+  by-verb Explain (script ∷ keys ∷ []) a ns ts gs count once = (explain script keys keep_going, file-words Explain (script ∷ keys ∷ []) refl a ts once, refl)
   by-verb Sets (file ∷ []) a ns ts gs count once =
       (sets_of file, subst (λ (b : Bool). AreWords (codes "sets" ∷ rest) (codes "sets") (file ∷ []) None b) (no-mark Sets keep_going refl gs) (lone-words Sets (file ∷ []) refl a ts), refl)
   by-verb Get (word ∷ names) a ns ts gs count once = absurd (no-name (nat_lt 0 1) ns.0)
@@ -449,6 +455,7 @@ accepts-shape Judge other rest = refl
 accepts-shape Capture other rest = refl
 accepts-shape Desk other rest = refl
 accepts-shape Compare other rest = refl
+accepts-shape Explain other rest = refl
 accepts-shape Sets other rest = refl
 accepts-shape Get other rest = absurd (other refl)
 
@@ -470,6 +477,7 @@ command-of-shape Judge rest h = shape-command Judge rest h
 command-of-shape Capture rest h = shape-command Capture rest h
 command-of-shape Desk rest h = shape-command Desk rest h
 command-of-shape Compare rest h = shape-command Compare rest h
+command-of-shape Explain rest h = shape-command Explain rest h
 command-of-shape Sets rest h = shape-command Sets rest h
 command-of-shape Get rest h = get-command rest h
 
@@ -529,6 +537,7 @@ shape-of-command word ws (judge_capture script rules plan packets n keep_going) 
 shape-of-command word ws (capture script plan packets n keep_going) h = packet-shape word ws (script ∷ plan ∷ packets ∷ []) n keep_going Capture refl refl (λ all. all) refl h
 shape-of-command word ws (desk script keep_going) h = lone-shape word ws script keep_going Desk refl (λ all. all) refl h
 shape-of-command word ws (compare first second keep_going) h = shaped word ws (first ∷ second ∷ []) None keep_going Compare h.0 (names-of h.0) tt (λ _. (refl, refl)) refl tt (le-leb _ _ h.1)
+shape-of-command word ws (explain script keys keep_going) h = shaped word ws (script ∷ keys ∷ []) None keep_going Explain h.0 (names-of h.0) tt (λ _. (refl, refl)) refl tt (le-leb _ _ h.1)
 shape-of-command word ws (sets_of file) h = shaped word ws (file ∷ []) None false Sets h (names-of h) tt (λ e. absurd (true≢false (sym e))) refl tt (one-once file)
 shape-of-command word ws (get script key moment keep_going) h =
     let first : word ≡ codes "get" = cc h.words_are in
@@ -603,7 +612,7 @@ same-threads (Some v) (Some w) m n e h k = same-number 1 16 v w m n (omega arith
 -- the verb of a word
 verb_named : List ℕ → Verb
 verb_named word = cond (bytes_eq word (codes "run")) Run (cond (bytes_eq word (codes "list")) Lists (cond (bytes_eq word (codes "dump")) Dump (cond (bytes_eq word (codes "drill")) Drill
-    (cond (bytes_eq word (codes "judge")) Judge (cond (bytes_eq word (codes "capture")) Capture (cond (bytes_eq word (codes "desk")) Desk (cond (bytes_eq word (codes "compare")) Compare (cond (bytes_eq word (codes "stat")) Stat (cond (bytes_eq word (codes "sets")) Sets Get)))))))))
+    (cond (bytes_eq word (codes "judge")) Judge (cond (bytes_eq word (codes "capture")) Capture (cond (bytes_eq word (codes "desk")) Desk (cond (bytes_eq word (codes "compare")) Compare (cond (bytes_eq word (codes "stat")) Stat (cond (bytes_eq word (codes "sets")) Sets (cond (bytes_eq word (codes "explain")) Explain Get))))))))))
 
 named-verb : (verb : Verb) → verb_named (verb_word verb) ≡ verb
 unfolding verb_named
@@ -617,6 +626,7 @@ named-verb Capture = refl
 named-verb Desk = refl
 named-verb Get = refl
 named-verb Compare = refl
+named-verb Explain = refl
 named-verb Sets = refl
 
 pub first-word : (words : List (List ℕ)) (c : Command) → IsCommand words c → (rest : List (List ℕ)) × (words ≡ verb_word (verb_of c) ∷ rest)
@@ -631,6 +641,7 @@ first-word words (capture script plan packets n g) h = (h.1.rest, h.1.words_are)
 first-word words (desk script g) h = (h.rest, h.words_are)
 first-word words (get script key moment g) h = (h.rest, h.words_are)
 first-word words (compare first second g) h = (h.0.rest, h.0.words_are)
+first-word words (explain script keys g) h = (h.0.rest, h.0.words_are)
 first-word words (sets_of file) h = (h.rest, h.words_are)
 
 same-packet-words : (words : List (List ℕ)) (first other : List ℕ) (names ms : List (List ℕ)) (n m : ℕ) (keep_going g : Bool) → ArePacketWords words first names n keep_going → ArePacketWords words other ms m g → (names ≡ ms) × (n ≡ m) × (keep_going ≡ g)
@@ -681,6 +692,11 @@ one-command words c d h j = one c d verb h j where
       let first : s ≡ s' = cc r.1 in
       let second : k ≡ k' = cc r.1 in
       cc (first, second, r.3)
+  one (explain s k g) (explain s' k' g') e h j =
+      let r = same-words words _ _ _ _ _ _ _ _ h.0 j.0 in
+      let script : s ≡ s' = cc r.1 in
+      let keys : k ≡ k' = cc r.1 in
+      cc (script, keys, r.3)
   one (get s k m g) (get s' k' m' g') e h j =
       let words_are : codes "get" ∷ h.rest ≡ codes "get" ∷ j.rest = sym h.words_are ∙ j.words_are in
       let behind : h.rest ≡ j.rest = cc words_are in

@@ -6,3 +6,5 @@ mod WordValues
 pub mod PageWords
 mod AskedLaws
 mod Worked
+pub mod PageBounds
+mod FormLaws

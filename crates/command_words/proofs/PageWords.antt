@@ -2,12 +2,12 @@
 use Rattle.std.proofs.Common.{◌≡◌, refl, sym, ◌∙◌, ap, subst, ℕ, Bool, false, cond, ◌||◌, List, [], ◌∷◌, ◌++◌, codes, Option, Some, None, true≢false, inl, inr}
 use Rattle.std.specs.Prelude.{bytes_eq, option_map, if◌then◌else◌}
 use Rattle.command_words.specs.declared.shape.Verb.{Verb}
-use Rattle.command_words.specs.declared.shape.Verb.TheVariants.{Run, List as Lists, Dump, Drill, Judge, Capture, Desk, Get, Compare, Stat, Sets}
+use Rattle.command_words.specs.declared.shape.Verb.TheVariants.{Run, List as Lists, Dump, Drill, Judge, Capture, Desk, Get, Compare, Explain, Stat, Sets}
 use Rattle.command_words.specs.declared.page.Page.{Page}
 use Rattle.command_words.specs.declared.page.Page.TheVariants.{Program, Command as On, Version}
 use Rattle.command_words.specs.GetWords.{Asked, asked, is_file_name, keep_going_word}
 use Rattle.command_words.specs.Fronts.{after_front}
-use Rattle.command_words.specs.Words.{AreWords, AreGetWords, AreArguments, AsksFor, Command, run, list, dump, drill, judge, capture, desk, get, IsCommand, verb_word, threads_word, threads_front, compare, stat, judge_capture, sets_of}
+use Rattle.command_words.specs.Words.{AreWords, AreGetWords, AreArguments, AsksFor, Command, run, list, dump, drill, judge, capture, desk, get, IsCommand, verb_word, threads_word, threads_front, compare, explain, stat, judge_capture, sets_of}
 use Rattle.command_words.specs.WordForms.{verb_of}
 use Rattle.command_words.proofs.CommandWords.{leads, Leads, by_name, by_threads, by_joined, by_mark}
 
@@ -15,7 +15,8 @@ use Rattle.command_words.proofs.CommandWords.{leads, Leads, by_name, by_threads,
 named : List ℕ → Option Verb
 named word = cond (bytes_eq word (codes "run")) (Some Run) (cond (bytes_eq word (codes "list")) (Some Lists) (cond (bytes_eq word (codes "dump")) (Some Dump) (cond (bytes_eq word (codes "drill")) (Some Drill)
     (cond (bytes_eq word (codes "judge")) (Some Judge) (cond (bytes_eq word (codes "capture")) (Some Capture) (cond (bytes_eq word (codes "desk")) (Some Desk) (cond (bytes_eq word (codes "get")) (Some Get)
-    (cond (bytes_eq word (codes "compare")) (Some Compare) (cond (bytes_eq word (codes "stat")) (Some Stat) (cond (bytes_eq word (codes "sets")) (Some Sets) None))))))))))
+    (cond (bytes_eq word (codes "compare")) (Some Compare) (cond (bytes_eq word (codes "stat")) (Some Stat) (cond (bytes_eq word (codes "sets")) (Some Sets)
+    (cond (bytes_eq word (codes "explain")) (Some Explain) None)))))))))))
 
 named-verb : (verb : Verb) → named (verb_word verb) ≡ Some verb
 unfolding named
@@ -29,6 +30,7 @@ named-verb Capture = refl
 named-verb Desk = refl
 named-verb Get = refl
 named-verb Compare = refl
+named-verb Explain = refl
 named-verb Sets = refl
 
 no-verb : (verb : Verb) (word : List ℕ) → named word ≡ None → verb_word verb ≡ word → ⊥
@@ -45,6 +47,7 @@ no-help Capture = refl
 no-help Desk = refl
 no-help Get = refl
 no-help Compare = refl
+no-help Explain = refl
 no-help Sets = refl
 
 -- the page that words ask for, if they do
@@ -145,5 +148,6 @@ page-no-command words page (judge_capture script rules plan packets n g) asks h 
 page-no-command words page (capture script plan packets n g) asks h = no-page words (capture script plan packets n g) (behind words (script ∷ plan ∷ packets ∷ []) Capture h.0 g h.1) page asks
 page-no-command words page (desk script g) asks h = no-page words (desk script g) (behind words (script ∷ []) Desk None g h) page asks
 page-no-command words page (compare first second g) asks h = no-page words (compare first second g) (behind words (first ∷ second ∷ []) Compare None g h.0) page asks
+page-no-command words page (explain script keys g) asks h = no-page words (explain script keys g) (behind words (script ∷ keys ∷ []) Explain None g h.0) page asks
 page-no-command words page (sets_of file) asks h = no-page words (sets_of file) (behind words (file ∷ []) Sets None false h) page asks
 page-no-command words page (get script key moment g) asks h = no-page-of-get words (record { script = script; key = key; moment = moment; keep_going = g }) h page asks

@@ -4,9 +4,9 @@ use Rattle.std.specs.Prelude.{◌⊎◌, IfSome, IsSome}
 use Rattle.std.specs.Borrow.{Bor}
 use Rattle.command_words.specs.declared.words.Arguments.{Arguments}
 use Rattle.command_words.specs.declared.shape.Verb.{Verb}
-use Rattle.command_words.specs.declared.shape.Verb.TheVariants.{Run, List as Lists, Dump, Drill, Judge, Capture, Desk, Get, Compare, Stat, Sets}
+use Rattle.command_words.specs.declared.shape.Verb.TheVariants.{Run, List as Lists, Dump, Drill, Judge, Capture, Desk, Get, Compare, Explain, Stat, Sets}
 use Rattle.command_words.specs.GetWords.{is_file_name}
-use Rattle.command_words.specs.Words.{NameStdinOnce, Command, run, list, dump, drill, judge, capture, desk, get, compare, stat, IsCommand, AreWords, ArePacketWords, AreFileWords, AreThreads, IsNumber, last_seed, most_drill_elements, judge_capture, sets_of}
+use Rattle.command_words.specs.Words.{NameStdinOnce, Command, run, list, dump, drill, judge, capture, desk, get, compare, explain, stat, IsCommand, AreWords, ArePacketWords, AreFileWords, AreThreads, IsNumber, last_seed, most_drill_elements, judge_capture, sets_of}
 use Rattle.command_words.specs.WordForms.{HasVerb, HasShape, HasArguments, ArePlain, verb_of}
 use Rattle.command_words.proofs.CommandWords.{number-is-name}
 
@@ -45,6 +45,7 @@ module _ (words : List (List ℕ)) where
   arguments-of-command (desk script goes) shape h = some-arguments (codes "desk") (script ∷ []) None goes 1 (omega arith) refl h
   arguments-of-command (drill seed elements n) shape h = some-arguments (codes "drill") (h.1 ∷ h.2 ∷ []) h.0 false n (omega arith) h.6 h.3
   arguments-of-command (compare first second goes) shape h = some-arguments (codes "compare") (first ∷ second ∷ []) None goes 1 (omega arith) refl h.0
+  arguments-of-command (explain script keys goes) shape h = some-arguments (codes "explain") (script ∷ keys ∷ []) None goes 1 (omega arith) refl h.0
   arguments-of-command (sets_of file) shape h = some-arguments (codes "sets") (file ∷ []) None false 1 (omega arith) refl h
   arguments-of-command (get script key moment goes) shape h = absurd (shape refl)
 
@@ -127,6 +128,7 @@ Of words a Capture = IsTripleOf words a (codes "capture")
 Of words a Desk = IsAloneOf words a (codes "desk")
 Of words a Get = ⊥
 Of words a Compare = IsFilesOf words a (codes "compare")
+Of words a Explain = IsFilesOf words a (codes "explain")
 Of words a Sets = IsRulesetOf words a (codes "sets")
 
 module _ (words : List (List ℕ)) (a : Arguments) (given : (word : List ℕ) (names : List (List ℕ)) (threads : Option (List ℕ)) (keep_going : Bool) → AreWords words word names threads keep_going → ArePlain names threads → HasArguments a names threads keep_going) where
@@ -184,6 +186,7 @@ module _ (words : List (List ℕ)) (a : Arguments) (given : (word : List ℕ) (n
         said = with-threads (codes "drill") (h.1 ∷ h.2 ∷ []) h.0 false k.threads_are h.3;
       }
   of-command (compare first second goes) shape h = files (codes "compare") first second goes h
+  of-command (explain script keys goes) shape h = files (codes "explain") script keys goes h
   of-command (sets_of file) shape h =
       let k = given (codes "sets") (file ∷ []) None false h (record { few = omega arith; no_dash = tt }) in
       record { file = file; first = k.first; said = h }
@@ -215,6 +218,7 @@ module _ (words : List (List ℕ)) (a : Arguments) where
   has-first Desk of = there a.first of.script of.first
   has-first Get of = absurd of
   has-first Compare of = there a.first of.name of.first
+  has-first Explain of = there a.first of.name of.first
   has-first Sets of = there a.first of.file of.first
 
   pub pair-second : (word : List ℕ) → IsPairOf words a word → IsSome a.second

@@ -7,6 +7,8 @@ use Rattle.command_words.specs.Numbers.{number_within}
 use Rattle.command_words.specs.GetWords.{asked}
 use Rattle.command_words.specs.Words.{no_words, name_and, threads_with, IsCommand, run, AsksFor}
 use Rattle.command_words.specs.WordForms.{accepts}
+use Rattle.command_words.specs.declared.form.ScriptForm.TheVariants.{Script}
+use Rattle.command_words.specs.ScriptForms.{option_place, script_form, without_option}
 
 -- `run a b --threads=4` is a run of a beside b with 4 packet threads.
 four-threads : IsCommand (codes "run" ∷ codes "a" ∷ codes "b" ∷ codes "--threads=4" ∷ []) (run (codes "a") (codes "b") 4 false)
@@ -27,3 +29,19 @@ at-five = refl
 -- `-V` asks for the version.
 version-letter : AsksFor (codes "-V" ∷ []) Version
 version-letter = inr refl
+
+-- `list r --sets` is `list r` of a ruleset.
+sets-last : without_option (codes "list" ∷ codes "r" ∷ codes "--sets" ∷ []) ≡ codes "list" ∷ codes "r" ∷ []
+sets-last = refl
+
+-- `--threads` takes the next word, whatever that is. Then the option is the word after it.
+sets-after-value : option_place (codes "run" ∷ codes "--threads" ∷ codes "--sets" ∷ codes "--sets" ∷ []) ≡ Some 3
+sets-after-value = refl
+
+-- A drill has no scripts.
+no-sets-of-drill : script_form (codes "drill" ∷ codes "--sets" ∷ codes "1" ∷ codes "2" ∷ []) ≡ Script
+no-sets-of-drill = refl
+
+-- `--version --sets` keeps its words, and is no command.
+no-sets-of-version : without_option (codes "--version" ∷ codes "--sets" ∷ []) ≡ codes "--version" ∷ codes "--sets" ∷ []
+no-sets-of-version = refl

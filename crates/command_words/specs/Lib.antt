@@ -4,3 +4,5 @@ pub mod GetWords
 pub mod GetAsked
 pub mod Words
 pub mod WordForms
+pub mod Pages
+pub mod ScriptForms

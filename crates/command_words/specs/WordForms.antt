@@ -16,11 +16,11 @@ use Rattle.command_words.specs.declared.words.Command.{Command as Asked}
 use Rattle.command_words.specs.declared.words.Command.TheVariants as asked
 use Rattle.command_words.specs.declared.page.Page.{Page}
 use Rattle.command_words.specs.declared.page.Page.TheVariants as pages
-use Rattle.command_words.specs.declared.help.TheConstants.{PROGRAM, RUN, LIST, DUMP, DRILL, JUDGE, CAPTURE, DESK, GET, VERSION, COMPARE, STAT, SETS}
+use Rattle.command_words.specs.declared.help.TheConstants.{PROGRAM, RUN, LIST, DUMP, DRILL, JUDGE, CAPTURE, DESK, GET, VERSION, COMPARE, EXPLAIN, STAT, SETS}
 use Rattle.command_words.specs.Fronts.{after_front}
 use Rattle.command_words.specs.Numbers.{number_within}
 use Rattle.command_words.specs.GetWords.{asked, is_file_name, keep_going_word}
-use Rattle.command_words.specs.Words.{Command, run, list, dump, drill, judge, judge_capture, capture, desk, get, IsCommand, is_stdin, threads_word, threads_front, last_seed, most_drill_elements, compare, stat, sets_of}
+use Rattle.command_words.specs.Words.{Command, run, list, dump, drill, judge, judge_capture, capture, desk, get, IsCommand, is_stdin, threads_word, threads_front, last_seed, most_drill_elements, most_threads, compare, explain, stat, sets_of}
 
 -- The most names that a command has. The words of `get` have a reading of their own, and no shape.
 abbrev pub most_names : Verb → ℕ
@@ -34,6 +34,7 @@ most_names verbs.Capture = 3
 most_names verbs.Desk = 1
 most_names verbs.Get = 1
 most_names verbs.Compare = 2
+most_names verbs.Explain = 2
 most_names verbs.Sets = 1
 
 -- So many names are all that a command has. A `judge` has a key file, or a plan and a capture.
@@ -48,6 +49,7 @@ has_all verbs.Capture names = names == most_names verbs.Capture
 has_all verbs.Desk names = names == most_names verbs.Desk
 has_all verbs.Get names = names == most_names verbs.Get
 has_all verbs.Compare names = names == most_names verbs.Compare
+has_all verbs.Explain names = names == most_names verbs.Explain
 has_all verbs.Sets names = names == most_names verbs.Sets
 
 -- A command may have packet threads.
@@ -62,6 +64,7 @@ takes_threads verbs.Capture = true
 takes_threads verbs.Desk = false
 takes_threads verbs.Get = false
 takes_threads verbs.Compare = false
+takes_threads verbs.Explain = false
 takes_threads verbs.Sets = false
 
 -- A command may keep going after a refused change.
@@ -76,6 +79,7 @@ takes_mark verbs.Capture = true
 takes_mark verbs.Desk = true
 takes_mark verbs.Get = false
 takes_mark verbs.Compare = true
+takes_mark verbs.Explain = true
 takes_mark verbs.Sets = false
 
 -- the number at a place of a drill: first the seed, and then the number of elements
@@ -94,6 +98,7 @@ is_name_of verbs.Capture place word = is_file_name word
 is_name_of verbs.Desk place word = is_file_name word
 is_name_of verbs.Get place word = false
 is_name_of verbs.Compare place word = is_file_name word
+is_name_of verbs.Explain place word = is_file_name word
 is_name_of verbs.Sets place word = is_file_name word
 
 abbrev pub takes_name : Verb → ℕ → List ℕ → Bool
@@ -101,12 +106,12 @@ takes_name verb place word = nat_lt place (most_names verb) && is_name_of verb p
 
 -- the shape with the number of packet threads
 abbrev pub with_threads : Shape → List ℕ → Option Shape
-with_threads s word = then_some (is_some (number_within 1 16 word)) (record s { waiting = false })
+with_threads s word = then_some (is_some (number_within 1 most_threads word)) (record s { waiting = false })
 
 -- the shape with a word that begins with `--threads=`, whose number this is, or with a name
 abbrev pub with_joined : Verb → Shape → List ℕ → Option (List ℕ) → Option Shape
 with_joined verb s word None = then_some (takes_name verb s.names word) (record s { names = s.names + 1 })
-with_joined verb s word (Some count) = then_some ((takes_threads verb && not s.threads) && is_some (number_within 1 16 count)) (record s { threads = true })
+with_joined verb s word (Some count) = then_some ((takes_threads verb && not s.threads) && is_some (number_within 1 most_threads count)) (record s { threads = true })
 
 -- the shape with a word that is no such number
 abbrev pub with_argument : Verb → Shape → List ℕ → Option Shape
@@ -153,6 +158,7 @@ accepts verbs.Capture rest = fits verbs.Capture rest
 accepts verbs.Desk rest = fits verbs.Desk rest
 accepts verbs.Get rest = is_some (asked rest)
 accepts verbs.Compare rest = fits verbs.Compare rest
+accepts verbs.Explain rest = fits verbs.Explain rest
 accepts verbs.Sets rest = fits verbs.Sets rest
 
 abbrev pub verb_of : Command → Verb
@@ -167,6 +173,7 @@ verb_of (capture script plan packets threads keep_going) = verbs.Capture
 verb_of (desk script keep_going) = verbs.Desk
 verb_of (get script key moment keep_going) = verbs.Get
 verb_of (compare first second keep_going) = verbs.Compare
+verb_of (explain script keys keep_going) = verbs.Explain
 verb_of (sets_of file) = verbs.Sets
 
 -- A command whose words have a shape.
@@ -190,6 +197,7 @@ page_text (pages.Command verbs.Capture) = CAPTURE.now
 page_text (pages.Command verbs.Desk) = DESK.now
 page_text (pages.Command verbs.Get) = GET.now
 page_text (pages.Command verbs.Compare) = COMPARE.now
+page_text (pages.Command verbs.Explain) = EXPLAIN.now
 page_text (pages.Command verbs.Sets) = SETS.now
 page_text pages.Version = VERSION.now
 
@@ -204,6 +212,7 @@ plain_task script (tasks.JudgeCapture rules plan packets threads) keep_going = j
 plain_task script (tasks.Capture plan packets threads) keep_going = capture script plan.now packets.now threads keep_going
 plain_task script tasks.Desk keep_going = desk script keep_going
 plain_task script (tasks.Get key moment) keep_going = get script (map string_bytes key.now) moment keep_going
+plain_task script (tasks.Explain keys) keep_going = explain script keys.now keep_going
 
 abbrev pub plain : Asked → Command
 plain (asked.Script script task keep_going) = plain_task script.now task keep_going

@@ -26,6 +26,7 @@ verb_word verbs.Capture = codes "capture"
 verb_word verbs.Desk = codes "desk"
 verb_word verbs.Get = codes "get"
 verb_word verbs.Compare = codes "compare"
+verb_word verbs.Explain = codes "explain"
 verb_word verbs.Sets = codes "sets"
 
 abbrev pub threads_word : List ℕ
@@ -62,10 +63,14 @@ last_seed = 18446744073709551615
 abbrev pub most_drill_elements : ℕ
 most_drill_elements = 20000
 
+-- the most packet threads
+abbrev pub most_threads : ℕ
+most_threads = 16
+
 -- how many packet threads there are, 1 to 16; 1 without the option
 abbrev pub AreThreads : Option (List ℕ) → ℕ → Type 0
 AreThreads None n = n ≡ 1
-AreThreads (Some word) n = IsNumber 1 16 word n
+AreThreads (Some word) n = IsNumber 1 most_threads word n
 
 -- A command: the names of its files or the numbers of a drill, how many packet threads it has, and
 -- whether it keeps going after a refused change.
@@ -81,6 +86,7 @@ pub data Command : Type 0 where
   desk : (script : List ℕ) (keep_going : Bool) → Command
   get : (script : List ℕ) (key : List (List ℕ)) (moment : Option ℕ) (keep_going : Bool) → Command
   compare : (first second : List ℕ) (keep_going : Bool) → Command
+  explain : (script keys : List ℕ) (keep_going : Bool) → Command
   sets_of : (file : List ℕ) → Command
 
 -- At most one of the names is the standard input.
@@ -115,6 +121,7 @@ IsCommand words (judge_capture script rules plan packets n keep_going) = ArePack
 IsCommand words (capture script plan packets n keep_going) = ArePacketWords words (codes "capture") (script ∷ plan ∷ packets ∷ []) n keep_going
 IsCommand words (desk script keep_going) = AreWords words (codes "desk") (script ∷ []) None keep_going
 IsCommand words (compare first second keep_going) = AreFileWords words (codes "compare") (first ∷ second ∷ []) keep_going
+IsCommand words (explain script keys keep_going) = AreFileWords words (codes "explain") (script ∷ keys ∷ []) keep_going
 IsCommand words (sets_of file) = AreWords words (codes "sets") (file ∷ []) None false
 IsCommand words (get script key moment keep_going) = AreGetWords words (record { script = script; key = key; moment = moment; keep_going = keep_going })
 
@@ -131,8 +138,8 @@ pub record IsNoCommand (words : List (List ℕ)) : Type 0 where
 
 -- The words are a command of one of these sorts: a run of a script beside a key file, a listing of a
 -- script, a dump of its tables or their figures; a drill; a run whose packets a rules file judges, or whose packets a
--- plan takes from a capture, or both; or a script by several control threads; or a question for a key; or a comparison of two scripts; or the sets of a
--- ruleset.
+-- plan takes from a capture, or both; or a script by several control threads; or a question for a key; or an explanation of the
+-- answers to the packets of a key file; or a comparison of two scripts; or the sets of a ruleset.
 abbrev pub IsRunCommand : List (List ℕ) → List ℕ → List ℕ → ℕ → Bool → Type 0
 IsRunCommand words script keys threads keep_going = IsCommand words (run script keys threads keep_going)
 
@@ -166,6 +173,9 @@ IsGetCommand words script key moment keep_going = IsCommand words (get script ke
 abbrev pub IsCompareCommand : List (List ℕ) → List ℕ → List ℕ → Bool → Type 0
 IsCompareCommand words first second keep_going = IsCommand words (compare first second keep_going)
 
+abbrev pub IsExplainCommand : List (List ℕ) → List ℕ → List ℕ → Bool → Type 0
+IsExplainCommand words script keys keep_going = IsCommand words (explain script keys keep_going)
+
 abbrev pub IsSetsCommand : List (List ℕ) → List ℕ → Type 0
 IsSetsCommand words file = IsCommand words (sets_of file)
 
@@ -182,6 +192,7 @@ file_names (capture script plan packets threads keep_going) = script ∷ plan �
 file_names (desk script keep_going) = script ∷ []
 file_names (get script key moment keep_going) = script ∷ []
 file_names (compare first second keep_going) = first ∷ second ∷ []
+file_names (explain script keys keep_going) = script ∷ keys ∷ []
 file_names (sets_of file) = file ∷ []
 
 -- The first file of a command is its script.

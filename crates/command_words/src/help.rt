@@ -7,17 +7,18 @@ pub const VERSION: &str = "pipapo 0.2.0\n";
 pub const PROGRAM: &str = "\
 pipapo runs nftables set scripts and looks packets up in the sets.
 
-usage: pipapo run SCRIPT KEYS [--threads N] [--keep-going]
-       pipapo list SCRIPT [--keep-going]
-       pipapo dump SCRIPT [--keep-going]
+usage: pipapo run SCRIPT KEYS [--threads N] [--keep-going] [--sets]
+       pipapo list SCRIPT [--keep-going] [--sets]
+       pipapo dump SCRIPT [--keep-going] [--sets]
        pipapo drill SEED COUNT [--threads N]
-       pipapo judge SCRIPT RULES KEYS [--threads N] [--keep-going]
-       pipapo judge SCRIPT RULES PLAN PCAP [--threads N] [--keep-going]
-       pipapo capture SCRIPT PLAN PCAP [--threads N] [--keep-going]
-       pipapo desk SCRIPT [--keep-going]
-       pipapo get [--at MOMENT] [--keep-going] SCRIPT KEY ..
-       pipapo compare SCRIPT1 SCRIPT2 [--keep-going]
-       pipapo stat SCRIPT [--keep-going]
+       pipapo judge SCRIPT RULES KEYS [--threads N] [--keep-going] [--sets]
+       pipapo judge SCRIPT RULES PLAN PCAP [--threads N] [--keep-going] [--sets]
+       pipapo capture SCRIPT PLAN PCAP [--threads N] [--keep-going] [--sets]
+       pipapo desk SCRIPT [--keep-going] [--sets]
+       pipapo get [--at MOMENT] [--keep-going] [--sets] SCRIPT [FAMILY] TABLE SET VALUE . VALUE ..
+       pipapo explain SCRIPT KEYS [--keep-going] [--sets]
+       pipapo compare SCRIPT1 SCRIPT2 [--keep-going] [--sets]
+       pipapo stat SCRIPT [--keep-going] [--sets]
        pipapo sets RULESET
        pipapo help [COMMAND], pipapo [COMMAND] --help, pipapo [COMMAND] -h
        pipapo --version, pipapo -V
@@ -25,6 +26,7 @@ usage: pipapo run SCRIPT KEYS [--threads N] [--keep-going]
 commands:
   to ask about sets:
     get      runs SCRIPT, and prints the element that holds a key, with the line that added it
+    explain  runs SCRIPT, and prints which elements hold each packet's key, or come nearest
     compare  runs two scripts, and prints for each set whether they decide alike on every key
     stat     runs SCRIPT, and prints how large its sets and their tables are
   to run a script:
@@ -46,13 +48,14 @@ file for nft(8). One of them may be -, the standard input.
 options, in any order among the names:
   --threads N    packet threads beside the control: 1 to 16, and else 1
   --keep-going   a refused change is skipped, and doesn't fail its transaction
+  --sets         each script is a ruleset: its sets are read, and the rest is named
   --at MOMENT    the moment of a get, in milliseconds; the options of get come before SCRIPT
 A value may also follow its option in one word, as --threads=4.
 
 statuses:
   0   the whole output was written, and no change was refused
-  1   the whole output was written, and a change was refused, or a get found no element, or a
-      compare found a difference, or sets left a set out
+  1   the whole output was written, and a change was refused, or a get or an explain found no
+      element, or a compare found a difference, or sets left a set out
   2   the words are no command
   3   the script isn't in its grammar, or the sets of a ruleset aren't
   4   the key file isn't in its grammar
@@ -69,7 +72,7 @@ statuses:
 
 /// The page of `run`.
 pub const RUN: &str = "\
-usage: pipapo run SCRIPT KEYS [--threads N] [--keep-going]
+usage: pipapo run SCRIPT KEYS [--threads N] [--keep-going] [--sets]
 
 Runs SCRIPT beside the packets of the key file KEYS, and writes the transcript: what became
 of every transaction, each refused change with its line, and a verdict for each packet. One
@@ -94,6 +97,7 @@ purged is the number of elements that the commit left out because they had expir
 options, in any order among the names:
   --threads N    packet threads beside the control: 1 to 16, and else 1
   --keep-going   a refused change is skipped, and doesn't fail its transaction
+  --sets         each script is a ruleset: its sets are read, and the rest is named
 
 statuses: 0 done, 1 done with a refused change, 3 SCRIPT isn't in its grammar, 4 KEYS isn't,
 5 a file can't be read, 6 the standard output failed, 7 out of memory, 8 a file is too large
@@ -101,13 +105,14 @@ statuses: 0 done, 1 done with a refused change, 3 SCRIPT isn't in its grammar, 4
 
 /// The page of `list`.
 pub const LIST: &str = "\
-usage: pipapo list SCRIPT [--keep-going]
+usage: pipapo list SCRIPT [--keep-going] [--sets]
 
 Runs SCRIPT, and writes what became of its transactions as comments, and then the sets of the
 last generation as a script. SCRIPT may be -, the standard input.
 
 options, before or after the name:
   --keep-going   a refused change is skipped, and doesn't fail its transaction
+  --sets         each script is a ruleset: its sets are read, and the rest is named
 
 statuses: 0 done, 1 done with a refused change, 3 SCRIPT isn't in its grammar, 5 it can't be
 read, 6 the standard output failed, 7 out of memory, 8 SCRIPT is too large
@@ -115,13 +120,14 @@ read, 6 the standard output failed, 7 out of memory, 8 SCRIPT is too large
 
 /// The page of `dump`.
 pub const DUMP: &str = "\
-usage: pipapo dump SCRIPT [--keep-going]
+usage: pipapo dump SCRIPT [--keep-going] [--sets]
 
 Runs SCRIPT, and writes what became of its transactions as comments, and then the tables of
 the last generation: rows of bits, mappings and ends. SCRIPT may be -, the standard input.
 
 options, before or after the name:
   --keep-going   a refused change is skipped, and doesn't fail its transaction
+  --sets         each script is a ruleset: its sets are read, and the rest is named
 
 statuses: 0 done, 1 done with a refused change, 3 SCRIPT isn't in its grammar, 5 it can't be
 read, 6 the standard output failed, 7 out of memory, 8 SCRIPT is too large
@@ -142,8 +148,8 @@ statuses: 0 done, 6 the standard output failed, 7 out of memory
 
 /// The page of `judge`.
 pub const JUDGE: &str = "\
-usage: pipapo judge SCRIPT RULES KEYS [--threads N] [--keep-going]
-       pipapo judge SCRIPT RULES PLAN PCAP [--threads N] [--keep-going]
+usage: pipapo judge SCRIPT RULES KEYS [--threads N] [--keep-going] [--sets]
+       pipapo judge SCRIPT RULES PLAN PCAP [--threads N] [--keep-going] [--sets]
 
 Runs SCRIPT beside packets, and writes the transcript, in which each packet has the rule of the
 rules file RULES that decides on it, or RULES' policy. The packets are those of the key file
@@ -153,6 +159,7 @@ the standard input.
 options, in any order among the names:
   --threads N    packet threads beside the control: 1 to 16, and else 1
   --keep-going   a refused change is skipped, and doesn't fail its transaction
+  --sets         each script is a ruleset: its sets are read, and the rest is named
 
 statuses: 0 done, 1 done with a refused change, 3 SCRIPT isn't in its grammar, 4 KEYS isn't,
 9 RULES isn't, 11 PLAN isn't, 10 PCAP isn't in its form, 5 a file can't be read, 6 the standard
@@ -161,7 +168,7 @@ output failed, 7 out of memory, 8 a file is too large
 
 /// The page of `capture`.
 pub const CAPTURE: &str = "\
-usage: pipapo capture SCRIPT PLAN PCAP [--threads N] [--keep-going]
+usage: pipapo capture SCRIPT PLAN PCAP [--threads N] [--keep-going] [--sets]
 
 Runs SCRIPT beside packets of the capture PCAP, and writes the transcript. PCAP is a file of
 pcap or pcapng, with frames of Ethernet, raw IP or Linux's cooked capture; each line of PLAN
@@ -171,6 +178,7 @@ standard input.
 options, in any order among the names:
   --threads N    packet threads beside the control: 1 to 16, and else 1
   --keep-going   a refused change is skipped, and doesn't fail its transaction
+  --sets         each script is a ruleset: its sets are read, and the rest is named
 
 statuses: 0 done, 1 done with a refused change, 3 SCRIPT isn't in its grammar, 11 PLAN isn't,
 10 PCAP isn't in its form, 5 a file can't be read, 6 the standard output failed, 7 out of
@@ -179,7 +187,7 @@ memory, 8 a file is too large
 
 /// The page of `desk`.
 pub const DESK: &str = "\
-usage: pipapo desk SCRIPT [--keep-going]
+usage: pipapo desk SCRIPT [--keep-going] [--sets]
 
 Runs the first section of SCRIPT alone, and then each of the others, 16 at most, by a control
 thread of its own: all submit their transactions to one control, and one that was prepared
@@ -190,6 +198,7 @@ section. SCRIPT may be -, the standard input.
 
 options, before or after the name:
   --keep-going   a refused change is skipped, and doesn't fail its transaction
+  --sets         each script is a ruleset: its sets are read, and the rest is named
 
 statuses: 0 done, 1 done with a refused change, 3 SCRIPT isn't in its grammar, 12 it has more
 than 17 sections, 5 it can't be read, 6 the standard output failed, 7 out of memory, 8 SCRIPT
@@ -198,26 +207,71 @@ is too large
 
 /// The page of `get`.
 pub const GET: &str = "\
-usage: pipapo get [--at MOMENT] [--keep-going] SCRIPT KEY ..
+usage: pipapo get [--at MOMENT] [--keep-going] [--sets] SCRIPT [FAMILY] TABLE SET VALUE . VALUE ..
 
 Runs SCRIPT, and looks a key up in the last generation of its set. The words after SCRIPT are
-one line of a key file: [FAMILY] TABLE SET VALUE . VALUE .. They may be one word in quotes. Prints
-the earliest live element that holds the key, as list writes it, and the line that added it; or
-none. Refused changes come first, as comments. SCRIPT may be -, the standard input.
+one line of a key file, without braces. They may be one word in quotes. Prints the earliest live
+element that holds the key, as list writes it, and the line that added it; or none. Refused changes
+come first, as comments. SCRIPT may be -, the standard input.
+
+An example, for the set allowed of the table ip filter:
+
+  pipapo get allow.nft ip filter allowed 192.0.2.7 . 443
 
 options, before SCRIPT:
   --at MOMENT    the moment of the lookup in milliseconds, at most 1000000000000000; without it
                  the script's last moment
   --keep-going   a refused change is skipped, and doesn't fail its transaction
+  --sets         each script is a ruleset: its sets are read, and the rest is named
 
 statuses: 0 an element holds the key and no change was refused, 1 no element does or a change
 was refused, 3 SCRIPT isn't in its grammar, 13 the words are no key, 5 SCRIPT can't be read, 6 the
 standard output failed, 7 out of memory, 8 SCRIPT is too large
 ";
 
+/// The page of `explain`.
+pub const EXPLAIN: &str = "\
+usage: pipapo explain SCRIPT KEYS [--keep-going] [--sets]
+
+Runs SCRIPT, and explains the answer to each packet of the key file KEYS. A packet is looked up at
+its own moment, in the last generation of its section. The answer is the earliest live element that
+holds the key. Prints it with its line and the time until it expires. Then come the later elements
+that hold the key: the first eight, and how many more there are.
+
+If no live element holds the key, prints how many live elements hold each value of the key. Then
+comes the nearest element, the earliest of those that hold the most values, and the values that it
+doesn't hold. If an expired element holds the key, it is named with the moment of its expiry. Refused
+changes come before all packets, as comments. One of both names may be -, the standard input.
+
+An example, to be pasted into a shell:
+
+  echo 'add set ip t web { type ipv4_addr . inet_service; flags interval; }
+  add element ip t web { 192.0.2.0/24 . 80-443 }' > web.nft
+  echo 'ip t web 192.0.2.7 . 443
+  ip t web 192.0.2.7 . 22' > web.keys
+  pipapo explain web.nft web.keys
+
+It prints:
+
+  ip t web 192.0.2.7 . 443
+      element 0: 192.0.2.0/24 . 80-443 (line 2)
+  ip t web 192.0.2.7 . 22
+      no element
+      192.0.2.7 is in 1 of 1 element, 22 in 0
+      nearest: element 0: 192.0.2.0/24 . 80-443 (line 2), but for 22
+
+options, in any order among the names:
+  --keep-going   a refused change is skipped, and doesn't fail its transaction
+  --sets         each script is a ruleset: its sets are read, and the rest is named
+
+statuses: 0 each packet has an element and no change was refused, 1 a packet has none or a change
+was refused, 3 SCRIPT isn't in its grammar, 4 KEYS isn't, 5 a file can't be read, 6 the standard
+output failed, 7 out of memory, 8 a file is too large
+";
+
 /// The page of `compare`.
 pub const COMPARE: &str = "\
-usage: pipapo compare SCRIPT1 SCRIPT2 [--keep-going]
+usage: pipapo compare SCRIPT1 SCRIPT2 [--keep-going] [--sets]
 
 Runs both scripts, and compares their sets at their last generations and moments. Two sets of one
 family, table and name are the same if for each key both have an element or neither does. Prints a
@@ -229,8 +283,12 @@ standard input.
 An element that expires after its script's last moment still counts. A change of a transaction
 that fails doesn't: its script's sets are those of the generation before.
 
+Sets that --sets leaves out aren't compared, and don't change the status. The standard error names
+them.
+
 options, before or after the names:
   --keep-going   a refused change is skipped, and doesn't fail its transaction
+  --sets         each script is a ruleset: its sets are read, and the rest is named
 
 statuses: 0 all sets are the same and no change was refused, 1 sets differ or a change was refused,
 3 a script isn't in its grammar, 5 a script can't be read, 6 the standard output failed, 7 out of
@@ -239,7 +297,7 @@ memory, 8 a script is too large
 
 /// The page of `stat`.
 pub const STAT: &str = "\
-usage: pipapo stat SCRIPT [--keep-going]
+usage: pipapo stat SCRIPT [--keep-going] [--sets]
 
 Runs SCRIPT, and writes what became of its transactions as comments, and then the figures of the
 last generation. Each set has a line with its elements at the script's last moment: how many there
@@ -264,6 +322,7 @@ It prints:
 
 options, before or after the name:
   --keep-going   a refused change is skipped, and doesn't fail its transaction
+  --sets         each script is a ruleset: its sets are read, and the rest is named
 
 statuses: 0 done, 1 done with a refused change, 3 SCRIPT isn't in its grammar, 5 it can't be
 read, 6 the standard output failed, 7 out of memory, 8 SCRIPT is too large

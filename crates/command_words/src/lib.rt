@@ -10,12 +10,13 @@
 //!     get --at 500 allow.nft ip t p 10.0.0.5    a question for the key `ip t p 10.0.0.5` at moment 500
 //!     get allow.nft ip t p 10.0.0.5 --at 500    no command: an option comes after the script
 //!     run --threads=4 allow.nft packets.keys    the same as with `--threads 4`
+//!     run --sets rules.nft packets.keys         a run, whose script is what is kept of a ruleset
 //!     help run                                  the page of help on `run`
 //!     -V                                        the page of the version
 //!
 //! The first word is the command. Names and options follow in any order. The options of `get` come
 //! before the script, since all words after it are the key. [`command_of`] returns the
-//! command that the words are, or says that they are none. [`page_of`] returns the page of help that
+//! command that the words are, or says that they are none. Before that, [`take_form`] takes out the option `--sets`. [`page_of`] returns the page of help that
 //! they ask for, and [`Page::text`] its text. To refuse words takes no memory.
 //!
 //! **Definitions:** `specs/Words.antt` says which words are a command and which ask for help.
@@ -24,12 +25,14 @@
 #![tactic(auto)]
 
 mod asked;
+mod form;
 mod help;
 mod page;
 mod shape;
 mod words;
 
 pub use asked::LAST_MOMENT;
+pub use form::{ScriptForm, take_form};
 pub use page::{Page, page_of};
 pub use shape::{MOST_ELEMENTS, MOST_THREADS, Verb, number_of};
 pub use words::{Command, Task, WordsError, command_of};

@@ -1,10 +1,12 @@
 ghost use Rattle.std.specs.Prelude.{◌≡◌, ◌∷◌, [], List, map, None, IfSome};
 ghost use Rattle.std.specs.String.{string_bytes};
 ghost use Rattle.command_words.specs.Words.{AsksFor};
+ghost use Rattle.command_words.specs.Pages.{SaysBounds};
 ghost use Rattle.command_words.specs.WordForms.{page_text};
 
 use crate::help::{
-    CAPTURE, COMPARE, DESK, DRILL, DUMP, GET, JUDGE, LIST, PROGRAM, RUN, SETS, STAT, VERSION,
+    CAPTURE, COMPARE, DESK, DRILL, DUMP, EXPLAIN, GET, JUDGE, LIST, PROGRAM, RUN, SETS, STAT,
+    VERSION,
 };
 use crate::shape::Verb;
 
@@ -20,9 +22,11 @@ pub enum Page {
 }
 
 impl Page {
-    /// The text, whole lines of ASCII.
+    /// The text, whole lines of ASCII. It says the bounds of each number that its command takes.
+    #[tactic(auto, using(crate::proofs::PageBounds::page_bounds))]
     pub fn text(self) -> &'static str
-        ensures { result.now ≡ page_text self }
+        ensures text { result.now ≡ page_text self }
+        ensures bounds { SaysBounds self result.now }
     {
         match self {
             Page::Program => PROGRAM,
@@ -36,6 +40,7 @@ impl Page {
             Page::Command(Verb::Desk) => DESK,
             Page::Command(Verb::Get) => GET,
             Page::Command(Verb::Compare) => COMPARE,
+            Page::Command(Verb::Explain) => EXPLAIN,
             Page::Command(Verb::Sets) => SETS,
             Page::Version => VERSION,
         }

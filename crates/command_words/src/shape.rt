@@ -47,6 +47,8 @@ pub enum Verb {
     Get,
     /// It compares two scripts at their last generations.
     Compare,
+    /// It explains the answers to the packets of a key file.
+    Explain,
     /// It counts what a script's last generation has.
     Stat,
     /// It writes the sets of a ruleset as a script.
@@ -126,6 +128,7 @@ impl Verb {
             "desk" => Some(Verb::Desk),
             "get" => Some(Verb::Get),
             "compare" => Some(Verb::Compare),
+            "explain" => Some(Verb::Explain),
             "sets" => Some(Verb::Sets),
             _ => None,
         }
@@ -137,7 +140,7 @@ impl Verb {
     {
         match self {
             Verb::List | Verb::Dump | Verb::Stat | Verb::Desk | Verb::Get | Verb::Sets => 1,
-            Verb::Run | Verb::Drill | Verb::Compare => 2,
+            Verb::Run | Verb::Drill | Verb::Compare | Verb::Explain => 2,
             Verb::Capture => 3,
             Verb::Judge => 4,
         }
@@ -158,6 +161,7 @@ impl Verb {
             | Verb::Desk
             | Verb::Get
             | Verb::Compare
+            | Verb::Explain
             | Verb::Sets => names == self.most_names(),
         }
     }
@@ -173,6 +177,7 @@ impl Verb {
             | Verb::Desk
             | Verb::Get
             | Verb::Compare
+            | Verb::Explain
             | Verb::Sets => false,
         }
     }

@@ -60,6 +60,10 @@ pub enum Task<'a> {
         /// The moment in milliseconds. Without one it is the script's last.
         moment: Option<u64>,
     },
+    /// An explanation of the answers to the packets of the key file with this name.
+    Explain {
+        keys: &'a str,
+    },
 }
 
 /// A command.
@@ -274,6 +278,13 @@ fn command_with<'a>(
             second: second.unwrap(),
             keep_going,
         }),
+        Verb::Explain => Ok(Command::Script {
+            script: first,
+            task: Task::Explain {
+                keys: second.unwrap(),
+            },
+            keep_going,
+        }),
         Verb::Sets => Ok(Command::Sets { file: first }),
         Verb::Drill => Ok(Command::Drill {
             seed: written_number(first, 0, u64::MAX),
@@ -304,7 +315,7 @@ fn get_command(words: &[String]) -> Command<'_>
     }
 }
 
-/// The command of the words after the program's name.
+/// The command of the words after the program's name, without the option `--sets`.
 ///
 /// # Errors
 ///

@@ -1,9 +1,11 @@
 -- A control thread's way through its section, step by step.
 use Rattle.std.proofs.lemmas.Bool.Decides.{nat_tests}
-use Rattle.std.proofs.Common.{◌==◌, ◌≡◌, refl, sym, ◌∙◌, ap, subst, ℕ, zero, suc, ◌+◌, ◌-◌, ◌<◌, ◌≤◌, Bool, true, false, cond, List, [], ◌∷◌, ◌++◌, All, length, fold, take, get_or, flat_map, Some, slice_get, if◌then◌else◌, arith, append_assoc}
+use Rattle.std.proofs.Common.{◌==◌, ◌≡◌, refl, sym, ◌∙◌, ap, subst, ℕ, suc, ◌+◌, ◌-◌, ◌<◌, ◌≤◌, Bool, true, false, cond, List, [], ◌∷◌, ◌++◌, All, length, fold, take, drop, get_or, flat_map, Some, slice_get, if◌then◌else◌, arith, append_assoc, add-one}
+use Rattle.std.proofs.Math.Seq.{take-suc}
+use Rattle.std.proofs.lemmas.List.{drop-append-le, drop-take, length-take-le}
 use Rattle.std.proofs.lemmas.Grind.{flat_map-append}
 use Rattle.std.specs.List.{sum_by}
-use Rattle.std.proofs.lemmas.List.Sums.{fold-append, sum_by-append, sum_by-cons, sum_by-take-drop, sum_by_push}
+use Rattle.std.proofs.lemmas.List.Sums.{fold-append, sum_by-append, sum_by-cons, sum_by-take-drop}
 use Rattle.std.proofs.lemmas.List.Elements.{All-nil, All-push, All-get_or, filter-append}
 use mathlib.Core.List.{append-nil}
 use Rattle.set_model.specs.declared.report.Event.{Event}
@@ -143,3 +145,24 @@ submitted steps keep_going old mid new end before same turn did =
 
 pub fits_at : (schema : List SetDecl) (items steps : List Step) (i : ℕ) (step : Step) → items ≡ steps → i < length items → step ≡ get_or items i step → All (IsRunnableStep schema) steps → IsRunnableStep schema step
 fits_at schema items steps i step same within is all = rw is (All-get_or (IsRunnableStep schema) items i step within (subst (All (IsRunnableStep schema)) (sym same) all))
+
+-- ---- the open transaction as a part of the section
+
+pub next_steps : (section : List Step) (i : ℕ) (step : Step) → i < length section → step ≡ get_or section i step → take (i + 1) section ≡ take i section ++ step ∷ []
+next_steps section i step within is = rw add-one (take-suc section i step within ∙ ap (λ (y : Step). take i section ++ y ∷ []) (sym is))
+
+pub open_more : (section : List Step) (from i : ℕ) (step : Step) → from ≤ i → i < length section → step ≡ get_or section i step → drop from (take (i + 1) section) ≡ drop from (take i section) ++ step ∷ []
+open_more section from i step before within is =
+    let long : length (take i section) ≡ i = length-take-le i section (omega arith) in
+    ap (drop from) (next_steps section i step within is) ∙ drop-append-le from (take i section) (step ∷ []) (omega arith)
+
+-- the same as a part of the whole section
+pub open_slice : (section : List Step) (from i : ℕ) (step : Step) → from ≤ i → i < length section → step ≡ get_or section i step → take (i + 1 - from) (drop from section) ≡ drop from (take i section) ++ step ∷ []
+open_slice section from i step before within is =
+    let all : from + (i + 1 - from) ≡ i + 1 = omega arith in
+    sym (drop-take from (i + 1 - from) section) ∙ ap (λ n. drop from (take n section)) all ∙ open_more section from i step before within is
+
+pub none_after : (section : List Step) (i : ℕ) → drop (i + 1) (take (i + 1) section) ≡ []
+none_after section i =
+    let same : i + 1 ≡ (i + 1) + 0 = omega arith in
+    ap (λ n. drop (i + 1) (take n section)) same ∙ drop-take (i + 1) 0 section

@@ -1,5 +1,5 @@
 -- What one control thread does with its section, and what all of them do.
-use Rattle.std.specs.Prelude.{◌≡◌, ◌+◌, ◌<◌, ◌≤◌, ◌++◌, ◌-◌, ℕ, Bool, true, cond, List, [], ◌∷◌, All, Some, length, slice_get, if◌then◌else◌}
+use Rattle.std.specs.Prelude.{◌≡◌, ◌+◌, ◌<◌, ◌≤◌, ◌++◌, ◌-◌, ℕ, Bool, true, cond, List, [], ◌∷◌, All, Some, length, slice_get, take, drop, if◌then◌else◌}
 use Rattle.std.specs.List.{sum_by}
 use Rattle.history_laws.specs.Histories.{EndsWith}
 use Rattle.set_model.specs.declared.report.Event.{Event}
@@ -40,6 +40,12 @@ pub record HasGone (step : Step) (keep_going : Bool) (old new : Seated) (before 
   pub ones : All (IsOne keep_going) (entries_of old.number old.seen) → All (IsOne keep_going) (entries_of old.number new.seen)
   pub left : new.left + transactions (step ∷ []) ≡ old.left
   pub same : new ≡ record old { seen = new.seen; left = new.left }
+
+-- Step i of a section is logged or open. The open transaction began with step `from`, and now begins with
+-- step `next`.
+pub record HasGoneOn (section : List Step) (i from : ℕ) (keep_going : Bool) (old new : Seated) (next : ℕ) : Type 0 where
+  pub within : next ≤ i + 1
+  pub gone : (step : Step) → slice_get section i ≡ Some step → HasGone step keep_going old new (drop from (take i section)) (drop next (take (i + 1) section))
 
 -- A control thread has done its section: its entries of the log are the section's transactions, in their order.
 pub record HasDone (steps : List Step) (keep_going : Bool) (old new : Seated) : Type 0 where

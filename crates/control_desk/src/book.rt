@@ -9,7 +9,7 @@ use crate::entry::{Entry, Log};
 use crate::transaction::transact;
 use gen_publish::Control;
 use log_turns::Logged;
-use set_model::{Event, Memory, Steps};
+use set_model::{Event, Memory, Step, Steps};
 use set_space::Generation;
 use std::alloc::Global;
 use std::marker::Model;
@@ -89,6 +89,30 @@ impl Book {
     /// `Memory` if memory runs out. The book is as it was: nothing is logged or committed, and no
     /// change is open.
     pub fn apply(&mut self, clerk: u32, steps: &Steps, keep_going: bool) -> Result<Event, Memory>
+        requires transaction { IsTransaction steps.now }
+        requires fits { All (IsRunnableStep self.old.control.schema) steps.now }
+        requires number { self.old.control.work.base.number < 2 ^ 63 }
+        ensures ok { IfOk result (λ end. IsApplied clerk steps.now keep_going self.old self.new end) }
+        ensures number { OnOk result (self.new.control.work.base.number ≤ self.old.control.work.base.number + 1) }
+        ensures err { OnErr result (self.new ≡ self.old) }
+        ensures closed { IsClosed self.new.control }
+        ensures replays { Replays (take self.new.from self.new.control.committed) self.new.control.committed self.new.log }
+    {
+        self.apply_steps(clerk, steps.as_slice(), keep_going)
+    }
+
+    /// As `apply`, with the steps in a slice.
+    ///
+    /// # Errors
+    ///
+    /// `Memory` if memory runs out. The book is as it was: nothing is logged or committed, and no
+    /// change is open.
+    pub(crate) fn apply_steps(
+        &mut self,
+        clerk: u32,
+        steps: &[Step],
+        keep_going: bool,
+    ) -> Result<Event, Memory>
         requires transaction { IsTransaction steps.now }
         requires fits { All (IsRunnableStep self.old.control.schema) steps.now }
         requires number { self.old.control.work.base.number < 2 ^ 63 }

@@ -13,7 +13,7 @@ ghost use Rattle.control_desk.specs.Turns.{HadTurn, IsLogged, IsUnlogged, IsStal
 use crate::book::Book;
 use log_turns::board::{Board, Place};
 use log_turns::turn::{end_turn, take_turn};
-use set_model::{Event, Memory, Steps};
+use set_model::{Event, Memory, Step, Steps};
 use std::alloc::Global;
 use std::marker::Model;
 use std::sync::{Arc, Wait};
@@ -60,7 +60,7 @@ fn do_turn(
     book: &mut Book,
     clerk: u32,
     newest: u64,
-    steps: &Steps,
+    steps: &[Step],
     keep_going: bool,
 ) -> Result<Event, DeskError>
     requires transaction { IsTransaction steps.now }
@@ -75,7 +75,7 @@ fn do_turn(
     if newest < newer {
         return Err(DeskError::Stale { newer });
     }
-    match book.apply(clerk, steps, keep_going) {
+    match book.apply_steps(clerk, steps, keep_going) {
         Ok(end) => Ok(end),
         Err(Memory) => Err(DeskError::Memory),
     }
@@ -122,6 +122,28 @@ impl Clerk {
         &mut self,
         rt: &R,
         steps: &Steps,
+        keep_going: bool,
+    ) -> Result<Event, DeskError>
+        requires transaction { IsTransaction steps.now }
+        requires fits { All (IsRunnableStep self.old.schema) steps.now }
+        requires left { 0 < self.old.left }
+        ensures turn { HadTurn self.old self.new }
+        ensures ok { IfOk result (λ end. IsLogged steps.now keep_going self.old self.new end) }
+        ensures none { OnErr result (IsUnlogged self.old self.new) }
+        ensures stale { (newer : ℕ) → result ≡ Err (Stale newer) → IsStale newer self.old self.new }
+    {
+        self.submit_steps(rt, steps.as_slice(), keep_going)
+    }
+
+    /// As `submit`, with the steps in a slice.
+    ///
+    /// # Errors
+    ///
+    /// As of `submit`.
+    pub(crate) fn submit_steps<R: Wait>(
+        &mut self,
+        rt: &R,
+        steps: &[Step],
         keep_going: bool,
     ) -> Result<Event, DeskError>
         requires transaction { IsTransaction steps.now }

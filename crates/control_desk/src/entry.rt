@@ -75,6 +75,13 @@ impl Log {
         &self.entries[i as usize]
     }
 
+    /// The entries, in their order. The log is gone.
+    pub fn into_entries(self) -> Vec<Entry>
+        ensures { result.items ≡ self }
+    {
+        self.entries
+    }
+
     /// The entries, in their order.
     pub fn as_slice(&self) -> &[Entry]
         ensures { result.now ≡ self.now }

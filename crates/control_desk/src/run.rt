@@ -26,7 +26,6 @@ use std::thread::Threads;
 /// A control thread's part: it does its own section of these.
 fn work<R: Wait, B: Bell>(
     rt: &R,
-    alloc: Global,
     clerk: Clerk,
     sections: &Sections,
     keep_going: bool,
@@ -36,7 +35,7 @@ fn work<R: Wait, B: Bell>(
     ensures { IfOk result (HasDoneOf sections.now keep_going clerk) }
 {
     let steps = sections.at(u64::from(clerk.number()) - 1);
-    submit_all(rt, alloc, clerk, steps, keep_going, bell)
+    submit_all(rt, clerk, steps, keep_going, bell)
 }
 
 /// The control threads, if none of them ran out of memory.
@@ -107,7 +106,7 @@ pub fn run_clerks<R: Threads + Wait + Sync, B: Bell>(
     let run = |clerk: Clerk| -> Result<Clerk, Memory>
         requires { MayDoSection sections.now clerk }
         ensures { IfOk result (HasDoneOf sections.entry.now keep_going clerk) }
-    { work(rt, alloc, clerk, sections, keep_going, bell) };
+    { work(rt, clerk, sections, keep_going, bell) };
     let done = thread::map_vec(rt, clerks, &run)?;
     let clerks = all_done(alloc, done)?;
     Ok(close(rt, clerks))

@@ -74,6 +74,17 @@ fn end_transaction(control: &mut Control, failed: bool, end: &Step) -> Result<Ev
     }
 }
 
+/// Copies of steps, as a list.
+fn copies(alloc: Global, steps: &[Step]) -> Result<Steps, Memory>
+    ensures { IfOk result (λ copies. copies ≡ steps.now) }
+{
+    let mut copies = Steps::new(alloc);
+    for step in steps {
+        copies.push(step.copy(alloc)?)?;
+    }
+    Ok(copies)
+}
+
 /// Does a transaction of a control thread, logs it, and returns how it ended. It takes room for the
 /// entry before the transaction ends.
 ///
@@ -84,7 +95,7 @@ pub(crate) fn transact(
     control: &mut Control,
     log: &mut Log,
     clerk: u32,
-    steps: &Steps,
+    steps: &[Step],
     keep_going: bool,
 ) -> Result<Event, Memory>
     requires transaction { IsTransaction steps.now }
@@ -95,12 +106,11 @@ pub(crate) fn transact(
     ensures err { OnErr result ((log.new ≡ log.old) × (control.new.committed ≡ control.old.committed)) }
     ensures kept { OnErr result (IsSameStart control.old control.new) }
 {
-    let copy = steps.copy(log.alloc)?;
+    let copy = copies(log.alloc, steps)?;
     log.entries.reserve(1)?;
-    let all = steps.as_slice();
-    let count = all.len() - 1;
-    let (refused, failed) = try_changes(log.alloc, control, &all[..count], keep_going)?;
-    let end = end_transaction(control, failed, &all[count])?;
+    let count = steps.len() - 1;
+    let (refused, failed) = try_changes(log.alloc, control, &steps[..count], keep_going)?;
+    let end = end_transaction(control, failed, &steps[count])?;
     log.entries.push_reserved(Entry {
         clerk,
         steps: copy,

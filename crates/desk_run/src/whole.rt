@@ -17,7 +17,7 @@ use crate::running::run_later;
 use crate::text::write_log;
 use control_desk::{Bell, Entry, Log};
 use gen_publish::{Control, start};
-use packet_pool::{Gate, run_steps};
+use packet_pool::{Gate, count_commits, run_steps};
 use script_laws::{Output, Refusal, add_refusals, has_failed, has_numbers, tells_refusal};
 use set_model::{Duplicate, Events, Memory, Schema, Script, Sections, Steps};
 use set_report::{write_list, write_remarks};
@@ -54,7 +54,7 @@ fn run_first<G: Gate>(
     ensures rests { IfOk result (λ r. IsClosed r.0) }
 {
     let (mut control, _readers) = start(alloc, schema, 1)?;
-    if !has_numbers(&control, steps.len()) {
+    if !has_numbers(&control, count_commits(steps)) {
         return Err(Memory);
     }
     let told = run_steps(alloc, &mut control, steps, keep_going, gate)?;
@@ -114,13 +114,13 @@ fn any_failure(told: &Events, log: &Log) -> bool
 }
 
 /// The steps in the order in which they were done: the first section, and then the log's transactions.
-fn done_in_order(alloc: Global, first: Steps, log: &Log) -> Result<Sections, Memory>
-    ensures { IfOk result (λ done. done ≡ first ∷ map (λ e. e.steps) log.now) }
+fn done_in_order(alloc: Global, first: Steps, log: Log) -> Result<Sections, Memory>
+    ensures { IfOk result (λ done. done ≡ first ∷ map (λ e. e.steps) log) }
 {
     let mut done = Sections::new(alloc);
     done.push(first)?;
-    for entry in log.as_slice() {
-        done.push(entry.steps.copy(alloc)?)?;
+    for Entry { steps, .. } in log.into_entries() {
+        done.push(steps)?;
     }
     Ok(done)
 }
@@ -192,7 +192,7 @@ pub fn desk<R: Threads + Wait + Sync, B: Bell, G: Gate>(
     let (control, log) = run_later(rt, alloc, control, &sections, keep_going, &bell)?;
     let output = write_desk(alloc, &declared, &control, &told, &log, last)?;
     if output.refused {
-        let done = done_in_order(alloc, first, &log)?;
+        let done = done_in_order(alloc, first, log)?;
         let script = Script {
             schema: declared,
             sections: done,

@@ -1,3 +1,4 @@
 pub mod RefusalLaws
 pub mod ShownLaws
 pub mod ToldLaws
+pub mod SourceLaws

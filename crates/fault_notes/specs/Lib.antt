@@ -2,3 +2,5 @@ pub mod Refusals
 pub mod Shown
 pub mod Told
 pub mod Blanked
+pub mod Source
+pub mod OtherKind

@@ -36,3 +36,9 @@ name_text name = shown (name ++ codes ": ")
 pub record Begins (front text : List ℕ) : Type 0 where
   pub rest : List ℕ
   pub whole : text ≡ front ++ rest
+
+-- A text begins with a name and a place.
+pub record BeginsAtPlace (name text : List ℕ) : Type 0 where
+  pub line : ℕ
+  pub column : ℕ
+  pub begins : Begins (place_text name line column) text

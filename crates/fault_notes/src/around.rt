@@ -255,9 +255,19 @@ impl<'a> Around<'a> {
         }
     }
 
+    /// The bytes before a place.
+    pub(crate) fn before(&self, at: u64) -> &'a [u8] {
+        self.text.get(..at as usize).unwrap_or(b"")
+    }
+
+    /// The bytes from a place on.
+    pub(crate) fn behind(&self, at: u64) -> &'a [u8] {
+        self.text.get(at as usize..).unwrap_or(b"")
+    }
+
     /// The bytes from a place up to the end of its statement, item or element: a `,`, `;`, `}` or line feed.
     pub(crate) fn rest_from(&self, at: u64) -> &'a [u8] {
-        let rest = self.text.get(at as usize..).unwrap_or(b"");
+        let rest = self.behind(at);
         let end = rest
             .iter()
             .position(|byte| matches!(*byte, b',' | b';' | b'}' | b'\n'));

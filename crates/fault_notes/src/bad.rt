@@ -1,15 +1,20 @@
 //! The note on a text that isn't in its grammar.
-ghost use Rattle.std.specs.Prelude.{IfOk};
-ghost use Rattle.fault_notes.specs.Shown.{Begins, place_text};
+ghost use Rattle.std.specs.Prelude.{◌≡◌, ℕ, Bool, true, false, List, IfOk, OnOk, codes};
+ghost use Rattle.fault_notes.specs.declared.help.TextKind.TheVariants as kinds;
+ghost use Rattle.fault_notes.specs.OtherKind.{is_other_kind as is_of_other_kind};
+ghost use Rattle.fault_notes.specs.Shown.{Begins, BeginsAtPlace, place_text};
+ghost use Rattle.fault_notes.specs.Source.{IsSaid, IsSaidAt, both_lines, source_text};
 
 use crate::around::{Level, around_of};
-use crate::content::{foreign, swapped};
+use crate::content::{is_other_kind, other_kind};
 use crate::explained::{Explained, Fault};
 use crate::help::{TextKind, explain_plainly, explain_reference, explain_slashes, is_slashes};
 use crate::keys::{KeyFault, explain_key, type_item};
 use crate::note::Note;
 use crate::rest::is_caused;
+use crate::rules::explain_rules;
 use crate::sets::{explain_set, explain_unknown};
+use crate::shell::explain_backslash;
 use crate::source::{Cut, cut_at};
 use crate::syntax::{
     explain_left_out, explain_open, explain_syntax, explain_text_end, explain_type, is_in_open,
@@ -40,6 +45,7 @@ fn explain_in_script(said: &mut Explained, fault: Fault<'_>, reason: Reason) -> 
         Reason::Character if is_name && fault.token.first() == Some(&b'@') => {
             explain_reference(said)
         }
+        Reason::Character if fault.token == b"\\".as_slice() => explain_backslash(said, fault),
         Reason::Character | Reason::End => explain_by_reason(said, fault, reason),
         _ if is_slashes(fault.token) => explain_slashes(said),
         _ if is_in_open(fault) => explain_open(said, fault),
@@ -63,12 +69,9 @@ fn explain_by_reason(said: &mut Explained, fault: Fault<'_>, reason: Reason) -> 
 }
 
 /// What is wrong, the line with carets under the token, and what to do.
-fn with_source(
-    alloc: Global,
-    said: &Explained,
-    bad: BadToken,
-    cut: Cut<'_>,
-) -> Result<Note, Memory> {
+fn with_source(alloc: Global, said: &Explained, bad: BadToken, cut: Cut<'_>) -> Result<Note, Memory>
+    ensures { IfOk result (λ note. IsSaid (both_lines cut.entry.front.now cut.entry.token.now cut.entry.behind.now) note.bytes.items false) }
+{
     let mut note = token_note(alloc, bad, cut)?;
     note.join(&said.wrong)?;
     note.end_line()?;
@@ -80,7 +83,9 @@ fn with_source(
 }
 
 /// A note that says what kind of text this is instead.
-fn told_as(alloc: Global, what: &[u8]) -> Result<Note, Memory> {
+fn told_as(alloc: Global, what: &[u8]) -> Result<Note, Memory>
+    ensures { (lines : List ℕ) → IfOk result (λ note. IsSaid lines note.bytes.items true) }
+{
     let mut note = Note::new(alloc);
     note.say(what)?;
     note.end_line()?;
@@ -88,14 +93,11 @@ fn told_as(alloc: Global, what: &[u8]) -> Result<Note, Memory> {
 }
 
 /// What a note says after the place of a script's bad token. The token is in its line `cut`.
-fn said_at(alloc: Global, text: &[u8], bad: BadToken, cut: Cut<'_>) -> Result<Note, Memory> {
+fn said_at(alloc: Global, text: &[u8], bad: BadToken, cut: Cut<'_>) -> Result<Note, Memory>
+    ensures { IfOk result (λ note. IsSaid (both_lines cut.entry.front.now cut.entry.token.now cut.entry.behind.now) note.bytes.items false) }
+{
     let mut sets = Vec::new(alloc);
     let around = around_of(text, bad.at, &mut sets)?;
-    if around.level == Level::Statement {
-        if let Some(what) = swapped(TextKind::Script, cut.line) {
-            return told_as(alloc, what);
-        }
-    }
     let fault = Fault {
         at: bad.at,
         token: cut.token,
@@ -107,8 +109,10 @@ fn said_at(alloc: Global, text: &[u8], bad: BadToken, cut: Cut<'_>) -> Result<No
     with_source(alloc, &said, bad, cut)
 }
 
-/// What a note says after the place of a script's bad token.
-fn said_of_script(alloc: Global, text: &[u8], bad: BadToken) -> Result<Note, Memory> {
+/// What a note says after the place of the bad token of a script that is no text of another kind.
+fn said_of_script(alloc: Global, text: &[u8], bad: BadToken) -> Result<Note, Memory>
+    ensures { IfOk result (λ note. IsSaid (source_text text.now bad) note.bytes.items false) }
+{
     said_at(alloc, text, bad, cut_at(text, bad))
 }
 
@@ -121,6 +125,7 @@ fn explain_in_keys(
 ) -> Result<(), Memory> {
     let type_item = type_item(said.alloc, schema, cut.line)?;
     let fault = KeyFault {
+        line: cut.line,
         before: cut.front,
         token: cut.token,
         reason: bad.reason,
@@ -128,19 +133,55 @@ fn explain_in_keys(
     explain_key(said, schema, type_item.as_slice(), fault)
 }
 
-/// Explains a bad token of a rules file or a plan.
+/// Explains a bad token of a rules file or a plan, after these bytes.
 fn explain_beside(
     said: &mut Explained,
     kind: TextKind,
     schema: &Schema,
     reason: Reason,
+    before: &[u8],
     token: &[u8],
 ) -> Result<(), Memory> {
     match reason {
         Reason::Set => explain_unknown(said, schema, token),
         Reason::Character if token.first() == Some(&b'@') => explain_reference(said),
         _ if is_slashes(token) => explain_slashes(said),
+        Reason::Statement if kind == TextKind::Rules => explain_rules(said, before, token),
         _ => explain_plainly(said, kind, reason, token),
+    }
+}
+
+/// What a note says after the place of the bad token of a text beside a script that declares these sets. The
+/// text isn't of another kind.
+fn said_beside(
+    alloc: Global,
+    kind: TextKind,
+    schema: &Schema,
+    text: &[u8],
+    bad: BadToken,
+) -> Result<Note, Memory>
+    ensures { IfOk result (λ note. IsSaid (source_text text.now bad) note.bytes.items false) }
+{
+    let cut = cut_at(text, bad);
+    let mut said = Explained::new(alloc);
+    match kind {
+        TextKind::Keys => explain_in_keys(&mut said, schema, bad, cut)?,
+        _ => {
+            let before = text.get(..bad.at as usize).unwrap_or(b"");
+            explain_beside(&mut said, kind, schema, bad.reason, before, cut.token)?
+        }
+    }
+    with_source(alloc, &said, bad, cut)
+}
+
+/// What a note says after the place of a script's bad token.
+fn said_in_script(alloc: Global, text: &[u8], bad: BadToken) -> Result<Note, Memory>
+    ensures { IfOk result (λ note. IsSaid (source_text text.now bad) note.bytes.items (is_of_other_kind kinds.Script text.now bad)) }
+{
+    if is_other_kind(TextKind::Script, text, bad) {
+        told_as(alloc, other_kind(TextKind::Script, text, bad))
+    } else {
+        said_of_script(alloc, text, bad)
     }
 }
 
@@ -151,30 +192,20 @@ fn said_of_other(
     schema: &Schema,
     text: &[u8],
     bad: BadToken,
-) -> Result<Note, Memory> {
-    let cut = cut_at(text, bad);
-    if let Some(what) = foreign(kind, text).or(swapped(kind, cut.line)) {
-        return told_as(alloc, what);
-    }
-    let mut said = Explained::new(alloc);
-    match kind {
-        TextKind::Keys => explain_in_keys(&mut said, schema, bad, cut)?,
-        _ => explain_beside(&mut said, kind, schema, bad.reason, cut.token)?,
-    }
-    with_source(alloc, &said, bad, cut)
-}
-
-/// What a note says after the place of a script's bad token.
-fn said(alloc: Global, text: &[u8], bad: BadToken) -> Result<Note, Memory> {
-    match foreign(TextKind::Script, text) {
-        Some(what) => told_as(alloc, what),
-        None => said_of_script(alloc, text, bad),
+) -> Result<Note, Memory>
+    ensures { IfOk result (λ note. IsSaid (source_text text.now bad) note.bytes.items (is_of_other_kind kind text.now bad)) }
+{
+    if is_other_kind(kind, text, bad) {
+        told_as(alloc, other_kind(kind, text, bad))
+    } else {
+        said_beside(alloc, kind, schema, text, bad)
     }
 }
 
 /// A note that begins with the place of a bad token.
 fn placed_note(alloc: Global, name: &str, bad: BadToken, behind: &Note) -> Result<Note, Memory>
     ensures place { IfOk result (λ note. Begins (place_text name.now bad.line bad.column) note.bytes.items) }
+    ensures said { (lines : List ℕ) (is_other : Bool) → IsSaid lines behind.now.bytes.items is_other → IfOk result (λ note. IsSaidAt (place_text name.now bad.line bad.column) lines is_other note.bytes.items) }
 {
     let mut note = Note::new(alloc);
     note.place(name.as_bytes(), bad.line, bad.column)?;
@@ -195,8 +226,9 @@ pub fn bad_script_note(
     bad: BadToken,
 ) -> Result<Note, Memory>
     ensures place { IfOk result (λ note. Begins (place_text name.now bad.line bad.column) note.bytes.items) }
+    ensures source { IfOk result (λ note. IsSaidAt (place_text name.now bad.line bad.column) (source_text text.now bad) (is_of_other_kind kinds.Script text.now bad) note.bytes.items) }
 {
-    let behind = said(alloc, text, bad)?;
+    let behind = said_in_script(alloc, text, bad)?;
     placed_note(alloc, name, bad, &behind)
 }
 
@@ -215,23 +247,65 @@ pub fn bad_text_note(
     bad: BadToken,
 ) -> Result<Note, Memory>
     ensures place { IfOk result (λ note. Begins (place_text name.now bad.line bad.column) note.bytes.items) }
+    ensures source { IfOk result (λ note. IsSaidAt (place_text name.now bad.line bad.column) (source_text text.now bad) (is_of_other_kind kind text.now bad) note.bytes.items) }
 {
     let behind = said_of_other(alloc, kind, schema, text, bad)?;
     placed_note(alloc, name, bad, &behind)
 }
 
-/// Whether a script's first note says that the file is of another kind. Then the rest of it has no
-/// further errors of a script.
+/// Where a note on words begins if no single one of them is at fault.
+const AT_FRONT: BadToken = BadToken {
+    line: 1,
+    column: 1,
+    at: 0,
+    length: 0,
+    reason: Reason::Statement,
+};
+
+/// What a note says of words of a `get` that a key file could have, and that name no packet.
+fn said_of_no_packet(alloc: Global) -> Result<Note, Memory> {
+    let mut note = Note::new(alloc);
+    note.say(b"the words name no packet")?;
+    note.end_line()?;
+    note.say(
+        b"help: write [FAMILY] TABLE SET VALUE . VALUE ..; a moment is given before the script, as --at MOMENT",
+    )?;
+    note.end_line()?;
+    Ok(note)
+}
+
+/// The note on words of a `get` that are no key, as [`bad_text_note`] on a line of a key file that has these words. Its name is
+/// `key`. Without a bad token the words name no packet.
 ///
 /// # Errors
 ///
 /// `Memory` if memory runs out.
-pub fn is_other_kind(alloc: Global, text: &[u8], bad: BadToken) -> Result<bool, Memory> {
-    let mut sets = Vec::new(alloc);
-    let around = around_of(text, bad.at, &mut sets)?;
-    let is_swapped = around.level == Level::Statement
-        && swapped(TextKind::Script, cut_at(text, bad).line).is_some();
-    Ok(is_swapped || foreign(TextKind::Script, text).is_some())
+pub fn bad_key_note(
+    alloc: Global,
+    schema: &Schema,
+    words: &[u8],
+    found: Option<BadToken>,
+) -> Result<Note, Memory>
+    ensures place { IfOk result (λ note. BeginsAtPlace (codes "key") note.bytes.items) }
+{
+    match found {
+        Some(bad) => bad_text_note(alloc, TextKind::Keys, schema, "key", words, bad),
+        None => {
+            let behind = said_of_no_packet(alloc)?;
+            placed_note(alloc, "key", AT_FRONT, &behind)
+        }
+    }
+}
+
+/// Adds that an earlier error may be the cause, if it may.
+fn add_cause(note: &mut Note, is_caused: bool) -> Result<(), Memory>
+    ensures { (lines : List ℕ) → IsSaid lines note.old.bytes.items false → OnOk result (IsSaid lines note.new.bytes.items false) }
+{
+    if !is_caused {
+        return Ok(());
+    }
+    note.say(b"an earlier error may have caused this one")?;
+    note.end_line()
 }
 
 /// The note on a further bad token of a script, after the statements before it that were refused. `rest` is
@@ -249,12 +323,10 @@ pub fn further_note(
     bad: BadToken,
 ) -> Result<Note, Memory>
     ensures place { IfOk result (λ note. Begins (place_text name.now bad.line bad.column) note.bytes.items) }
+    ensures source { IfOk result (λ note. IsSaidAt (place_text name.now bad.line bad.column) (source_text text.now bad) false note.bytes.items) }
 {
     let cut = cut_at(text, bad);
     let mut behind = said_at(alloc, rest, bad, cut)?;
-    if is_caused(text, rest, bad, cut.token) {
-        behind.say(b"an earlier error may have caused this one")?;
-        behind.end_line()?;
-    }
+    add_cause(&mut behind, is_caused(text, rest, bad, cut.token))?;
     placed_note(alloc, name, bad, &behind)
 }

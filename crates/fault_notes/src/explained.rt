@@ -3,6 +3,7 @@ use crate::around::{Around, SetText, declared_as};
 use crate::near::nearest;
 use crate::note::Note;
 use crate::refused::SetWords;
+use crate::words::is_one_of;
 use set_model::Memory;
 use std::alloc::Global;
 use text_pieces::{Piece, append_pieces};
@@ -80,8 +81,20 @@ impl Explained {
         self.help.pieces(self.alloc, help)
     }
 
-    /// Says what is wrong, and which of these words was probably meant. If none is near, says what may
-    /// come there.
+    /// Says what is wrong, and which word was probably meant.
+    pub(crate) fn ask(&mut self, wrong: &[u8], meant: &[u8]) -> Result<(), Memory> {
+        self.tell(
+            &[Piece::Word(wrong)],
+            &[
+                Piece::Word(b"did you mean '"),
+                Piece::Word(meant),
+                Piece::Word(b"'?"),
+            ],
+        )
+    }
+
+    /// Says what is wrong, and which of these words was probably meant. If none is near, or if the word is
+    /// one of them, says what may come there.
     ///
     /// # Errors
     ///
@@ -93,15 +106,11 @@ impl Explained {
         words: &[&[u8]],
         help: &[u8],
     ) -> Result<(), Memory> {
+        if is_one_of(word, words) {
+            return self.say(wrong, help);
+        }
         match nearest(self.alloc, word, words)? {
-            Some(other) => self.tell(
-                &[Piece::Word(wrong)],
-                &[
-                    Piece::Word(b"did you mean '"),
-                    Piece::Word(other),
-                    Piece::Word(b"'?"),
-                ],
-            ),
+            Some(other) => self.ask(wrong, other),
             None => self.say(wrong, help),
         }
     }

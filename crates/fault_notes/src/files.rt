@@ -1,5 +1,5 @@
 //! The notes on a file that can't be read.
-ghost use Rattle.std.specs.Prelude.{IfOk};
+ghost use Rattle.std.specs.Prelude.{IfOk, codes};
 ghost use Rattle.fault_notes.specs.Shown.{Begins, name_text};
 
 use crate::explained::Explained;
@@ -51,8 +51,28 @@ fn reason_of(kind: FaultKind) -> &'static [u8] {
         FaultKind::NotFound => b"No such file or directory",
         FaultKind::IsDirectory => b"Is a directory",
         FaultKind::NotPermitted => b"Permission denied",
+        FaultKind::NoSpace => b"No space left on device",
+        FaultKind::Closed => b"Broken pipe",
         FaultKind::Other => b"it can't be read",
     }
+}
+
+/// The note on a standard output that took only a front of the output, or nothing: the system's reason.
+///
+/// # Errors
+///
+/// `Memory` if memory runs out.
+pub fn output_fault_note(alloc: Global, kind: FaultKind) -> Result<Note, Memory>
+    ensures name { IfOk result (λ note. Begins (name_text (codes "pipapo")) note.bytes.items) }
+{
+    let mut said = Note::new(alloc);
+    said.say(b"the standard output failed: ")?;
+    said.say(match kind {
+        FaultKind::Other => b"it can't be written",
+        kind => reason_of(kind),
+    })?;
+    said.end_line()?;
+    told_of(alloc, "pipapo", &said)
 }
 
 /// The note on a file that can't be opened or read: its name, and the system's reason.

@@ -26,11 +26,6 @@ pub(crate) const SELECTORS: [&[u8]; 9] = [
     b"dport",
 ];
 
-/// The words of a rules file that aren't names.
-const RULE_WORDS: [&[u8]; 8] = [
-    b"chain", b"policy", b"in", b"out", b"accept", b"drop", b"return", b"jump",
-];
-
 /// How a time is written.
 pub(crate) const TIME: &[u8] =
     b"write seconds, as 90, or parts from days to milliseconds, as 1d2h3m4s500ms";
@@ -38,11 +33,14 @@ pub(crate) const TIME: &[u8] =
 /// How a set's size is written.
 pub(crate) const SIZE: &[u8] = b"write a number from 1 to 4294967295";
 
-const NO_CHAINS: &[u8] = b"remove chains and rules: a script has only sets and their elements";
+const NO_CHAINS: &[u8] =
+    b"remove chains and rules, or read a whole ruleset with --sets: a script has only sets";
 
-const NO_MAPS: &[u8] = b"remove maps and flowtables: a script has only sets and their elements";
+const NO_MAPS: &[u8] =
+    b"remove maps and flowtables, or read a whole ruleset with --sets: a script has only sets";
 
-const NO_COUNTERS: &[u8] = b"remove it: elements have no counters, quotas and limits";
+const NO_COUNTERS: &[u8] =
+    b"remove it, or read a whole ruleset with --sets: elements have no counters, quotas and limits";
 
 const NO_VARIABLES: &[u8] = b"write the values themselves: there are no variables";
 
@@ -89,7 +87,7 @@ fn for_character(first: Option<&u8>) -> &'static [u8] {
         Some(b'"') => b"end the string with '\"' in its line, after at most 128 bytes",
         Some(b'$') => b"write the values themselves: there are no variables",
         Some(b'@') => b"write the values themselves: there are no references to sets",
-        Some(b'\'') => b"write strings between '\"'",
+        Some(b'\'') => b"leave it out: only comments are in quotes, as: comment \"web\"",
         Some(b'[' | b']' | b'(' | b')') =>
             b"leave the brackets out: a range is written as 80-90, and a list as { 80, 90 }",
         Some(b'!' | b'<' | b'>') =>
@@ -110,11 +108,14 @@ fn for_end(kind: TextKind) -> &'static [u8] {
     }
 }
 
+/// What a rules file is.
+pub(crate) const RULES_FILE: &[u8] =
+    b"write 'chain NAME { RULES }', with rules such as 'in ip t s accept', and at the end 'policy accept' or 'policy drop'";
+
 /// What a line or a statement is.
 fn for_statement(kind: TextKind) -> &'static [u8] {
     match kind {
-        TextKind::Rules =>
-            b"write 'chain NAME { RULES }', with rules such as 'in ip t s accept', and at the end 'policy accept' or 'policy drop'",
+        TextKind::Rules => RULES_FILE,
         TextKind::Plan =>
             b"write at most 4 lines [FAMILY] TABLE SET SELECTOR . SELECTOR .., with one selector for each field",
         _ =>
@@ -136,19 +137,6 @@ fn explain_selector(said: &mut Explained, word: &[u8]) -> Result<(), Memory> {
         &SELECTORS,
         b"the selectors are ip_saddr, ip_daddr, ip6_saddr, ip6_daddr, ether_saddr, ether_daddr, proto, sport and dport",
     )
-}
-
-/// Explains a token that can't come at its place in another text than a script.
-fn explain_line(said: &mut Explained, kind: TextKind, word: &[u8]) -> Result<(), Memory> {
-    match kind {
-        TextKind::Rules => said.suggest(
-            b" can't come here",
-            word,
-            &RULE_WORDS,
-            for_statement(kind),
-        ),
-        _ => said.say(b" can't come here", for_statement(kind)),
-    }
 }
 
 /// Explains a `@` in front of a set's name.
@@ -191,6 +179,6 @@ pub(crate) fn explain_plainly(
             b"name a set that the script declares, by [FAMILY] TABLE SET",
         ),
         Reason::Number => said.say(b" isn't a size", b"write a number from 1 to 4294967295"),
-        Reason::Value | Reason::Statement => explain_line(said, kind, token),
+        Reason::Value | Reason::Statement => said.say(b" can't come here", for_statement(kind)),
     }
 }

@@ -15,23 +15,25 @@
 //! compared with the words that may come there. At most a third of its letters may differ: so `intervall`
 //! gives `did you mean 'interval'?`.
 //!
-//! After the first bad token of a script the rest is read again, without the statement of that token
-//! ([`without_statement`], [`further_note`]). So one call shows several errors.
+//! After the first bad token of a script the rest is read again, without the statement of that token, or
+//! without the item of a set ([`without_statement`], [`further_note`]). So one call shows several errors.
 //!
 //! It is proved that a note on a file begins with its name, and with the place of the bad token or byte
-//! if there is one. A note on refused changes has a line for each of the first ones, with its place, and
-//! then how many more there are. Tests check the words after the places. A byte of a text or a name that
-//! isn't printable ASCII appears as its number, as `\x1b` does. So no file can move a terminal.
+//! if there is one. A note on a bad token shows its line with carets under it. Exactly if the text has the
+//! marks of another kind, the note says so instead ([`is_other_kind`]). A note on refused changes has a
+//! line for each of the first ones, with its place, and then how many more there are. Tests check the
+//! words. A byte of a text or a name that isn't printable ASCII appears as its number, as `\x1b` does. So
+//! no file can move a terminal.
 //!
 //! **Definitions:** `specs/Shown.antt` says how a byte is shown and how a note begins. `Refusals.antt`
-//! has the note on refused changes. `Told.antt` says that one note is printed, or nothing. **Theory:**
-//! docs/formats.md, "The standard error".
+//! has the note on refused changes. `Source.antt` has the line of a token and its carets, and
+//! `OtherKind.antt` the marks of another kind. `Told.antt` says that one note is printed, or nothing.
+//! **Theory:** docs/formats.md, "The standard error".
 #![tactic(auto)]
 
 mod around;
 mod bad;
 mod captures;
-mod changes;
 mod content;
 mod explained;
 mod files;
@@ -42,7 +44,9 @@ mod note;
 mod refusals;
 mod refused;
 mod rest;
+mod rules;
 mod sets;
+mod shell;
 mod source;
 mod syntax;
 mod times;
@@ -50,15 +54,18 @@ mod told;
 mod values;
 mod words;
 
-pub use bad::{bad_script_note, bad_text_note, further_note, is_other_kind};
+pub use bad::{bad_key_note, bad_script_note, bad_text_note, further_note};
 pub use captures::capture_note;
+pub use content::is_other_kind;
 pub use explained::Explained;
-pub use files::{explained_note, read_fault_note, too_large_note, too_many_clerks_note};
+pub use files::{
+    explained_note, output_fault_note, read_fault_note, too_large_note, too_many_clerks_note,
+};
 pub use help::TextKind;
 pub use note::Note;
 pub use pcap_keys::CaptureReason;
 pub use refusals::refusals_note;
-pub use refused::{RefusedChange, RefusedChanges};
+pub use refused::{Met, RefusedChange, RefusedChanges};
 pub use rest::without_statement;
 pub use token_forms::BadToken;
 pub use told::tell_note;

@@ -10,9 +10,18 @@ const LONGEST: usize = 40;
 /// How many letters of one word, at least three, begin another that is then near.
 const FRONT: usize = 3;
 
-/// How many letters differ. Two that were swapped count once, and so does a missing end.
+/// Whether two words differ in the case of letters alone.
+fn is_same_in_lower_case(word: &[u8], other: &[u8]) -> bool {
+    word.len() == other.len()
+        && word
+            .iter()
+            .zip(other)
+            .all(|(a, b)| a.to_ascii_lowercase() == b.to_ascii_lowercase())
+}
+
+/// How many letters differ. Two that were swapped count once, and so do a missing end and another case of letters.
 fn distance(alloc: Global, word: &[u8], other: &[u8]) -> Result<usize, Memory> {
-    if word.len() >= FRONT && other.starts_with(word) {
+    if word.len() >= FRONT && (other.starts_with(word) || is_same_in_lower_case(word, other)) {
         return Ok(1);
     }
     match (str::from_utf8(word), str::from_utf8(other)) {

@@ -13,7 +13,7 @@ pub struct Note {
     ghost quiet: { All IsNoteByte bytes.items },
 }
 
-fn is_printable(byte: u8) -> bool
+pub(crate) fn is_printable(byte: u8) -> bool
     ensures { result ≡ is_printable_byte byte }
 {
     32 <= byte && byte <= 126
@@ -55,7 +55,7 @@ impl Note {
     }
 
     /// Adds a byte, or its number if it isn't printable.
-    fn byte(&mut self, byte: u8) -> Result<(), Memory>
+    pub(crate) fn byte(&mut self, byte: u8) -> Result<(), Memory>
         ensures { OnOk result (self.new.bytes.items ≡ self.old.bytes.items ++ shown_byte byte) }
     {
         if is_printable(byte) {
@@ -124,7 +124,9 @@ impl Note {
     }
 
     /// Adds a tab.
-    pub(crate) fn tab(&mut self) -> Result<(), Memory> {
+    pub(crate) fn tab(&mut self) -> Result<(), Memory>
+        ensures { OnOk result (self.new.bytes.items ≡ self.old.bytes.items ++ 9 ∷ []) }
+    {
         self.append(b"\t")
     }
 

@@ -2,16 +2,57 @@
 ghost use Rattle.std.specs.Prelude.{◌≡◌, ◌++◌, List, ℕ, OnOk, IfOk};
 ghost use Rattle.fault_notes.specs.Refusals.{AreRefusalLines, IsRefusalLine, IsRefusalsNote, failure_text, more_words as words_on_more, rest_text};
 
-use crate::changes::{Change, spoken_of};
 use crate::note::Note;
-use crate::refused::{RefusedChange, RefusedChanges};
+use crate::refused::{Met, RefusedChange, RefusedChanges};
 use crate::source::last_line;
 use addr_text::{read_interval, write_interval};
-use set_model::{Interval, Kind, Memory, Script, Why, is_good};
+use set_model::{Interval, Kind, Memory, Script, Step, Why, is_good};
 use std::alloc::Global;
 use text_pieces::Piece::{Number, Word};
 use text_pieces::{append, append_pieces};
-use token_forms::{TokenKind, Tokens};
+use token_forms::{Token, TokenKind, Tokens};
+
+/// A change of an element: its line, and the element's intervals.
+#[derive(Clone, Copy)]
+struct Change<'a> {
+    line: u64,
+    set: u32,
+    parts: &'a [Interval],
+}
+
+/// A step as a change of an element.
+fn change_of(step: &Step) -> Option<Change<'_>> {
+    match step {
+        Step::Change {
+            line,
+            set,
+            element,
+            ..
+        } => Some(Change {
+            line: *line,
+            set: *set,
+            parts: element.parts.as_slice(),
+        }),
+        _ => None,
+    }
+}
+
+/// The change that a refusal is about, and the addition that made the element in its way. Neither is there if they are of
+/// another line or another set.
+fn spoken_of<'a>(
+    refused: RefusedChange,
+    met: Option<Met<'a>>,
+) -> (Option<Change<'a>>, Option<Change<'a>>) {
+    let Some(met) = met else {
+        return (None, None);
+    };
+    match change_of(met.change) {
+        Some(change) if change.line == refused.line && change.set == refused.set => {
+            (Some(change), met.older.and_then(|step| change_of(step)))
+        }
+        _ => (None, None),
+    }
+}
 
 /// Appends intervals, as a script has them.
 fn write_intervals(kinds: &[Kind], parts: &[Interval], out: &mut Vec<u8>) -> Result<(), Memory> {
@@ -26,26 +67,48 @@ fn write_intervals(kinds: &[Kind], parts: &[Interval], out: &mut Vec<u8>) -> Res
     Ok(())
 }
 
-/// The column of the first word in a line that means an interval.
-fn column_of(text: &[u8], line: u64, kind: Kind, part: Interval) -> Option<u64> {
+/// Whether a token is a word that means an interval.
+fn means(text: &[u8], token: Token, kind: Kind, part: Interval) -> bool {
+    match text.get(token.from as usize..token.to as usize) {
+        Some(word) => {
+            matches!(token.kind, TokenKind::Word) && read_interval(kind, word) == Ok(part)
+        }
+        None => false,
+    }
+}
+
+/// Whether the words from a token on, with `.` between them, mean these intervals.
+fn begins_at(text: &[u8], from: u64, kinds: &[Kind], parts: &[Interval]) -> bool {
+    let Some(rest) = text.get(from as usize..) else {
+        return false;
+    };
+    let mut tokens = Tokens::new(rest);
+    for (kind, part) in kinds.iter().zip(parts) {
+        match tokens.next() {
+            Some(token) if means(rest, token, *kind, *part) => {}
+            _ => return false,
+        }
+        let _ = tokens.next();
+    }
+    true
+}
+
+/// The column of the first element in a line that has these intervals.
+fn column_of(text: &[u8], line: u64, kinds: &[Kind], parts: &[Interval]) -> Option<u64> {
+    let (kind, part) = (*kinds.first()?, *parts.first()?);
     for token in Tokens::new(text) {
         if token.line > line {
             return None;
         }
-        if token.line == line && matches!(token.kind, TokenKind::Word) {
-            let word = text.get(token.from as usize..token.to as usize)?;
-            if read_interval(kind, word) == Ok(part) {
-                let before = last_line(text.get(..token.from as usize)?);
-                return Some((before.len() as u64).saturating_add(1));
-            }
+        if token.line == line
+            && means(text, token, kind, part)
+            && begins_at(text, token.from, kinds, parts)
+        {
+            let before = last_line(text.get(..token.from as usize)?);
+            return Some((before.len() as u64).saturating_add(1));
         }
     }
     None
-}
-
-/// The column of a change, if its first interval is found in its line.
-fn change_column(text: &[u8], kinds: &[Kind], change: Change<'_>) -> Option<u64> {
-    column_of(text, change.line, *kinds.first()?, *change.parts.first()?)
 }
 
 /// What a line says of a refused change if it doesn't name the element in the way.
@@ -77,28 +140,28 @@ fn write_older(
 
 /// Appends the words on a refused change, and returns its column. `text` is the script's.
 fn write_change(
-    alloc: Global,
     text: &[u8],
     script: &Script,
     refused: RefusedChange,
+    met: Option<Met<'_>>,
     out: &mut Vec<u8>,
 ) -> Result<u64, Memory> {
     let Some(decl) = script.schema.as_slice().get(refused.set as usize) else {
         return Ok(1);
     };
     let kinds = decl.kinds.as_slice();
-    let spoken = spoken_of(alloc, script, decl.disjoint, refused)?;
-    let column = match spoken.change {
+    let (change, older) = spoken_of(refused, met);
+    let column = match change {
         Some(change) => {
             write_intervals(kinds, change.parts, out)?;
-            change_column(text, kinds, change).unwrap_or(1)
+            column_of(text, change.line, kinds, change.parts).unwrap_or(1)
         }
         None => {
             append(b"an element of this line", out)?;
             1
         }
     };
-    match spoken.older {
+    match older {
         Some(older) => write_older(kinds, refused.why, older, out)?,
         None => append(alone(refused.why), out)?,
     }
@@ -128,15 +191,16 @@ fn add_change(
     text: &[u8],
     script: &Script,
     refused: RefusedChange,
+    met: Option<Met<'_>>,
 ) -> Result<(), Memory>
     ensures { OnOk result ((line : List ℕ) × IsRefusalLine name.now refused.line line × (note.new.bytes.items ≡ note.old.bytes.items ++ line)) }
 {
     let mut words = Vec::new(alloc);
-    let column = write_change(alloc, text, script, refused, &mut words)?;
+    let column = write_change(text, script, refused, met, &mut words)?;
     add_line(note, name, refused.line, column, words.as_slice())
 }
 
-/// Adds the lines on refused changes, in their order.
+/// Adds the lines on refused changes, in their order, each with what it met.
 fn add_changes(
     note: &mut Note,
     alloc: Global,
@@ -144,11 +208,22 @@ fn add_changes(
     text: &[u8],
     script: &Script,
     changes: &[RefusedChange],
+    met: &[Met<'_>],
 ) -> Result<(), Memory>
     ensures { OnOk result ((lines : List ℕ) × AreRefusalLines name.now changes.now lines × (note.new.bytes.items ≡ note.old.bytes.items ++ lines)) }
 {
+    let mut place = 0usize;
     for change in changes {
-        add_change(note, alloc, name, text, script, *change)?;
+        add_change(
+            note,
+            alloc,
+            name,
+            text,
+            script,
+            *change,
+            met.get(place).copied(),
+        )?;
+        place = place.saturating_add(1);
     }
     Ok(())
 }
@@ -193,8 +268,7 @@ fn add_failure(note: &mut Note, name: &[u8], failed: bool) -> Result<(), Memory>
 /// they were done.
 ///
 /// For each of the first changes it has a line with the change's place and element, and the element in its way with
-/// that one's line. Each element is there if no other can be meant. Then it says how many more changes are refused, and
-/// that the last transaction failed if it did.
+/// that one's line. Then it says how many more changes are refused, and that the last transaction failed if it did.
 ///
 /// # Errors
 ///
@@ -210,7 +284,15 @@ pub fn refusals_note(
 {
     let name = name.as_bytes();
     let mut note = Note::new(alloc);
-    add_changes(&mut note, alloc, name, text, script, changes.first)?;
+    add_changes(
+        &mut note,
+        alloc,
+        name,
+        text,
+        script,
+        changes.first,
+        changes.met,
+    )?;
     let more = changes.count.saturating_sub(changes.first.len() as u64);
     add_rest(&mut note, name, more)?;
     add_failure(&mut note, name, changes.failed)?;

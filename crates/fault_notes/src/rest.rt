@@ -1,8 +1,11 @@
-//! Blanks a refused statement out of a script, so that the rest can be read for further errors.
+//! Blanks a refused statement, or a refused item of a set, out of a script, so that the rest can be read for
+//! further errors.
 ghost use Rattle.std.specs.Prelude.{◌≡◌, ℕ, IfOk};
 ghost use Rattle.fault_notes.specs.Blanked.{blanked};
 
-use crate::words::{bytes_of, is_one_of, is_separator, word_at};
+use crate::content::begins_a_statement;
+use crate::values::is_range;
+use crate::words::{bytes_of, is_one_of, is_separator, item_of, word_at};
 use set_model::Memory;
 use std::alloc::Global;
 use token_forms::{BadToken, Reason, Tokens};
@@ -28,6 +31,85 @@ fn statement_at(text: &[u8], at: u64) -> (usize, usize) {
     (begin as usize, text.len())
 }
 
+/// How many braces are open around the items of a statement's sets. It is 0 if the statement declares none.
+fn item_depth(statement: &[u8]) -> u64 {
+    match word_at(statement, 0) {
+        b"table" => 2,
+        b"add" if word_at(statement, 1) == b"set".as_slice() => 1,
+        _ => 0,
+    }
+}
+
+/// An item of a set in a statement.
+#[derive(Clone, Copy)]
+struct Item<'a> {
+    /// The set's items before it.
+    before: &'a [u8],
+    bytes: &'a [u8],
+    from: usize,
+    to: usize,
+}
+
+/// The item of a set around a place of a statement.
+fn item_at(statement: &[u8], at: u64) -> Option<Item<'_>> {
+    let items = item_depth(statement);
+    let mut depth = 0u64;
+    let mut set = 0u64;
+    let mut begin = 0u64;
+    for token in Tokens::new(statement) {
+        let bytes = bytes_of(statement, token);
+        let is_brace = bytes == b"}".as_slice();
+        let ends = depth == items && (is_brace || is_separator(token.kind, bytes));
+        if token.from >= at && (depth < items || items == 0) {
+            return None;
+        }
+        if ends && token.from >= at {
+            return Some(Item {
+                before: statement.get(set as usize..begin as usize).unwrap_or(b""),
+                bytes: statement
+                    .get(begin as usize..token.from as usize)
+                    .unwrap_or(b""),
+                from: begin as usize,
+                to: token.from as usize,
+            });
+        }
+        if ends {
+            begin = token.to;
+        }
+        if is_brace {
+            depth = depth.saturating_sub(1);
+        } else if bytes == b"{".as_slice() {
+            depth = depth.saturating_add(1);
+            if depth == items {
+                set = token.to;
+                begin = token.to;
+            }
+        }
+    }
+    None
+}
+
+/// Whether the other items of a set can be read without this one. All of them need the type.
+fn is_apart(item: Item<'_>) -> bool {
+    let word = word_at(item.bytes, 0);
+    let begins = begins_a_statement(word) || is_one_of(word, &[b"", b"set", b"type"]);
+    !begins && !item_of(item.before, b"type").is_empty()
+}
+
+/// The part around a place of a script that is left out if the rest is read: the item of a set, if the set's
+/// other items can be read without it, or else the statement.
+fn refused_part(text: &[u8], at: u64) -> (usize, usize) {
+    let (from, to) = statement_at(text, at);
+    let statement = text.get(from..to).unwrap_or(b"");
+    match item_at(statement, at.saturating_sub(from as u64)) {
+        Some(item) if is_apart(item) => (
+            from.saturating_add(item.from),
+            from.saturating_add(item.to),
+        ),
+        _ => (from, to),
+    }
+}
+
 /// The text whose bytes from one place up to another are blanked out. Its line feeds stay.
 fn without_part(alloc: Global, text: &[u8], from: usize, to: usize) -> Result<Vec<u8>, Memory>
     ensures { IfOk result (λ rest. rest.items ≡ blanked from to text.now) }
@@ -44,8 +126,9 @@ fn without_part(alloc: Global, text: &[u8], from: usize, to: usize) -> Result<Ve
     Ok(rest)
 }
 
-/// The script without the statement around a place: the statement's bytes are blanked out, and its line
-/// feeds stay. So each other token keeps its place.
+/// The script without the statement around a place, or without the item of a set if the set's other items
+/// can be read without it. The bytes of this part are blanked out, and its line feeds stay. So each other
+/// token keeps its place.
 ///
 /// # Errors
 ///
@@ -53,14 +136,15 @@ fn without_part(alloc: Global, text: &[u8], from: usize, to: usize) -> Result<Ve
 pub fn without_statement(alloc: Global, text: &[u8], at: u64) -> Result<Vec<u8>, Memory>
     ensures { IfOk result (λ rest. (from : ℕ) × (to : ℕ) × (rest.items ≡ blanked from to text.now)) }
 {
-    let (from, to) = statement_at(text, at);
+    let (from, to) = refused_part(text, at);
     without_part(alloc, text, from, to)
 }
 
-/// Whether a word is among those of a script that are blanked out in the rest.
-fn is_blanked(text: &[u8], rest: &[u8], word: &[u8]) -> bool {
+/// Whether one of these words is among those of a script that are blanked out in the rest.
+fn is_blanked(text: &[u8], rest: &[u8], words: &[&[u8]]) -> bool {
     for token in Tokens::new(text) {
-        if bytes_of(text, token) == word && bytes_of(rest, token) != word {
+        let word = bytes_of(text, token);
+        if is_one_of(word, words) && bytes_of(rest, token) != word {
             return true;
         }
     }
@@ -75,10 +159,16 @@ fn is_first(text: &[u8], at: u64) -> bool {
 
 /// Whether an earlier error may have caused this one: the token names a set that a statement before it,
 /// which was refused, names, too. Or it is a `}` that closes nothing, or the `set` of a table that isn't
-/// open.
+/// open. Or it is a range or a time of a set whose flags may have been refused.
 pub(crate) fn is_caused(text: &[u8], rest: &[u8], bad: BadToken, token: &[u8]) -> bool {
     match bad.reason {
-        Reason::Set => is_blanked(text, rest, token),
+        Reason::Set => is_blanked(text, rest, &[token]),
+        Reason::Value if is_range(token) => {
+            is_blanked(text, rest, &[b"flags", b"flag", b"interval"])
+        }
+        Reason::Statement if is_one_of(token, &[b"timeout", b"expires"]) => {
+            is_blanked(text, rest, &[b"flags", b"flag", b"timeout"])
+        }
         Reason::Statement if is_one_of(token, &[b"}", b"set"]) => is_first(rest, bad.at),
         _ => false,
     }

@@ -1,7 +1,9 @@
 //! Explains a token that can't come at its place of a script: what may come there.
 use crate::around::{Level, set_named};
+use crate::content::is_family;
 use crate::explained::{Explained, Fault};
 use crate::help::{SIZE, TIME, TextKind, explain_plainly};
+use crate::shell::{explain_end, for_command, names_a_shell};
 use crate::source::shortened;
 use crate::times::{explain_time, explain_unit, is_apart};
 use crate::values::{explain_all, explain_quoted, types_of};
@@ -68,24 +70,38 @@ const END_STATEMENT: &[u8] = b"end the statement before it, with ';' or a new li
 
 const END_ITEM: &[u8] = b"end the item before it, with ';' or a new line";
 
-/// Explains a token before which the statement, the set or the item is whole.
-fn explain_end(said: &mut Explained, help: &[u8]) -> Result<(), Memory> {
-    said.say(b" can't follow here", help)
-}
-
 /// Explains the first token of a statement.
 fn explain_first(said: &mut Explained, fault: Fault<'_>) -> Result<(), Memory> {
+    if let Some(help) = for_command(fault.token) {
+        return said.say(b" can't begin a statement", help);
+    }
     match fault.token {
         b"set" => said.say(b" can't begin a statement", b"write 'add' before it"),
         b"element" => said.say(
             b" can't begin a statement",
             b"write 'add', 'create', 'delete' or 'destroy' before it",
         ),
+        b"remove" | b"rm" => said.say(b" can't begin a statement", b"did you mean 'delete'?"),
+        b"insert" | b"append" | b"new" => {
+            said.say(b" can't begin a statement", b"did you mean 'add'?")
+        }
+        b"begin" | b"start" => said.say(
+            b" can't begin a statement",
+            b"leave it out: a transaction begins by itself, and ends with 'commit' or 'abort'",
+        ),
+        word if is_family(word) => said.say(
+            b" can't begin a statement",
+            b"write 'add element' before it, or the line into a key file, which 'run' and 'judge' take after the script",
+        ),
         word => said.suggest(
             b" can't begin a statement",
             word,
             &STATEMENTS,
-            b"a statement begins with add, create, delete, destroy, flush, table, at, commit, abort or round",
+            if names_a_shell(fault.around.before(fault.at)) {
+                b"leave out the lines of the shell: a script has only statements, without 'nft'"
+            } else {
+                b"a statement begins with add, create, delete, destroy, flush, table, at, commit, abort or round"
+            },
         ),
     }
 }
@@ -115,7 +131,7 @@ fn explain_second(said: &mut Explained, fault: Fault<'_>) -> Result<(), Memory> 
             b"'at' is followed by a number of milliseconds",
         ),
         b"table" => said.say(b" isn't the name of a table", TABLE_NAME),
-        b"commit" | b"abort" | b"round" | b"}" => explain_end(said, END_STATEMENT),
+        b"commit" | b"abort" | b"round" | b"}" => explain_end(said, fault, END_STATEMENT),
         _ => said.suggest(
             b" can't be changed so",
             word,
@@ -132,7 +148,7 @@ fn explain_place(said: &mut Explained, fault: Fault<'_>) -> Result<(), Memory> {
     let is_table = word_at(part, 1) == b"table".as_slice();
     let place = set_named(part, if is_block { 1 } else { 2 });
     match word_at(part, 0) {
-        b"at" => return explain_end(said, END_STATEMENT),
+        b"at" => return explain_end(said, fault, END_STATEMENT),
         _ if place.table.is_empty() && (is_block || is_table) => {
             return said.say(b" isn't the name of a table", TABLE_NAME);
         }
@@ -148,7 +164,11 @@ fn explain_place(said: &mut Explained, fault: Fault<'_>) -> Result<(), Memory> {
         );
     }
     if is_table {
-        return explain_end(said, END_STATEMENT);
+        return explain_end(
+            said,
+            fault,
+            b"'add table' ends with the table's name: write ';' or a new line after it",
+        );
     }
     if is_block {
         return said.say(
@@ -160,7 +180,15 @@ fn explain_place(said: &mut Explained, fault: Fault<'_>) -> Result<(), Memory> {
         return said.say(b" isn't the name of a set", SET_NAME);
     }
     match word_at(part, 0) {
-        b"flush" => explain_end(said, END_STATEMENT),
+        b"flush" if fault.token == b"{".as_slice() => said.say(
+            b" can't follow here",
+            b"'flush set' removes all elements: write 'delete element' to remove some",
+        ),
+        b"flush" => explain_end(
+            said,
+            fault,
+            b"'flush set' ends with the set's name: write ';' or a new line after it",
+        ),
         _ if word_at(part, 1) == b"element".as_slice() => said.say(
             b" can't follow the set's name",
             b"write the elements in braces after it, as: { 80, 443 }",
@@ -237,7 +265,7 @@ fn explain_in_statement(said: &mut Explained, fault: Fault<'_>) -> Result<(), Me
         return explain_first(said, fault);
     }
     if word_at(fault.around.part, 0) == b"}".as_slice() {
-        return explain_end(said, END_STATEMENT);
+        return explain_end(said, fault, END_STATEMENT);
     }
     if word_at(fault.around.part, 1).is_empty() {
         return explain_second(said, fault);
@@ -263,7 +291,7 @@ fn explain_in_table(said: &mut Explained, fault: Fault<'_>) -> Result<(), Memory
             &[b"set"],
             b"a table's braces hold sets: set NAME { .. }",
         ),
-        b"}" => explain_end(said, END_STATEMENT),
+        b"}" => explain_end(said, fault, END_STATEMENT),
         _ if word_at(part, 1).is_empty() => said.say(
             b" isn't the name of a set",
             b"a name begins with a letter or '_'",
@@ -370,7 +398,7 @@ fn explain_in_item(said: &mut Explained, fault: Fault<'_>) -> Result<(), Memory>
             b" can't follow '='",
             b"write the elements in braces, as: elements = { 10.0.0.1, 10.0.0.2 }",
         ),
-        _ => explain_end(said, END_ITEM),
+        _ => explain_end(said, fault, END_ITEM),
     }
 }
 
@@ -444,8 +472,12 @@ fn explain_option(said: &mut Explained, fault: Fault<'_>) -> Result<(), Memory> 
     )
 }
 
-/// Explains a token after the values of an element.
-fn explain_behind(said: &mut Explained, fault: Fault<'_>) -> Result<(), Memory> {
+/// Explains a token after the values of an element, which may lack some fields.
+fn explain_behind(
+    said: &mut Explained,
+    fault: Fault<'_>,
+    lacks_fields: bool,
+) -> Result<(), Memory> {
     let word = fault.token;
     let last = last_word(fault.around.part);
     if last == b"comment".as_slice() {
@@ -466,12 +498,23 @@ fn explain_behind(said: &mut Explained, fault: Fault<'_>) -> Result<(), Memory> 
             b" can't have blanks around it",
             b"write a prefix without blanks, as 10.0.0.0/8",
         ),
-        b":" => said.say(b" can't come between fields", b"write ' . ' between fields"),
+        b":" if lacks_fields => {
+            said.say(b" can't come between fields", b"write ' . ' between fields")
+        }
+        b":" => said.say(
+            b" makes a map of the set",
+            b"remove it and the value after it: there are no maps",
+        ),
         b";" => said.say(
             b" can't come in a list",
             b"',' or '}' is expected after an element",
         ),
         _ if is_one_of(word, &OPTIONS) => explain_option(said, fault),
+        _ if lacks_fields => said.say(b" can't follow a value", b"write ' . ' between fields"),
+        [b'"', ..] => said.say(
+            b" can't follow an element",
+            b"write 'comment' before it, or leave it out",
+        ),
         _ => explain_no_comma(said, word),
     }
 }
@@ -502,7 +545,8 @@ fn explain_in_list(said: &mut Explained, fault: Fault<'_>) -> Result<(), Memory>
     if part.is_empty() || (is_behind_dot && !is_end) {
         return explain_no_value(said, fault);
     }
-    if ends && kind_at(type_item, fields).is_some() {
+    let lacks_fields = kind_at(type_item, fields).is_some();
+    if ends && lacks_fields {
         return explain_fields(said, b" ends the element after ", fields, type_item);
     }
     match fault.token {
@@ -512,12 +556,25 @@ fn explain_in_list(said: &mut Explained, fault: Fault<'_>) -> Result<(), Memory>
             fields,
             type_item,
         ),
-        _ => explain_behind(said, fault),
+        _ => explain_behind(said, fault, lacks_fields),
     }
+}
+
+/// Whether a token is a string outside of lists and comments.
+fn is_in_quotes(fault: Fault<'_>) -> bool {
+    let is_comment = fault.around.level == Level::Set
+        && word_at(fault.around.part, 0) == b"comment".as_slice();
+    fault.token.starts_with(b"\"") && fault.around.level != Level::Elements && !is_comment
 }
 
 /// Explains a token that can't come at its place.
 pub(crate) fn explain_syntax(said: &mut Explained, fault: Fault<'_>) -> Result<(), Memory> {
+    if is_in_quotes(fault) {
+        return said.say(
+            b" is a string, and can't come here",
+            b"leave out the quotes: only comments have them",
+        );
+    }
     match fault.around.level {
         Level::Statement => explain_in_statement(said, fault),
         Level::Table => explain_in_table(said, fault),
@@ -547,6 +604,16 @@ pub(crate) fn explain_text_end(said: &mut Explained, fault: Fault<'_>) -> Result
     }
 }
 
+/// The type that is meant by a word that is taken for one.
+fn type_meant(word: &[u8]) -> Option<&'static [u8]> {
+    for (other, kind) in &OTHER_TYPES {
+        if *other == word {
+            return Some(*kind);
+        }
+    }
+    None
+}
+
 /// Explains a word at the place of a type.
 pub(crate) fn explain_type(said: &mut Explained, fault: Fault<'_>) -> Result<(), Memory> {
     if is_one_of(fault.token, &TYPES) {
@@ -561,15 +628,12 @@ pub(crate) fn explain_type(said: &mut Explained, fault: Fault<'_>) -> Result<(),
             b"write '.' with blanks around it between types, as: ipv4_addr . inet_service",
         );
     }
-    let mut meant = fault.token;
-    for (other, kind) in &OTHER_TYPES {
-        if *other == fault.token {
-            meant = *kind;
-        }
+    if let Some(kind) = type_meant(fault.token) {
+        return said.ask(b" isn't a supported type", kind);
     }
     said.suggest(
         b" isn't a supported type",
-        meant,
+        fault.token,
         &TYPES,
         b"the types are ipv4_addr, ipv6_addr, ether_addr, inet_proto, inet_service and mark",
     )

@@ -2,7 +2,7 @@
 use crate::content::without_blanks;
 use crate::explained::{Explained, Fault};
 use crate::source::{first_of, shortened};
-use crate::words::{count_of, is_number, kind_at};
+use crate::words::{count_of, is_number, is_one_of, kind_at};
 use addr_text::{read_interval, read_number, read_value};
 use set_model::{Kind, Memory};
 use text_pieces::Piece;
@@ -35,7 +35,7 @@ enum WrongValue<'a> {
     Netmask(&'a [u8], &'a [u8], u64),
     /// A range's first value is greater than its second.
     Reversed(&'a [u8], &'a [u8]),
-    /// A range has a `:` in place of `-` between these values.
+    /// A range has a `:` or `..` in place of `-` between these values.
     Colon(&'a [u8], &'a [u8]),
     /// One end of a range is missing.
     NoEnd,
@@ -158,6 +158,24 @@ fn first_end(word: &[u8]) -> (&[u8], &[u8]) {
     }
 }
 
+/// Whether a word is a range or a prefix of some kind.
+pub(crate) fn is_range(word: &[u8]) -> bool {
+    let has_ends = word.contains(&b'-') || word.contains(&b'/');
+    for kind in [
+        Kind::Ipv4,
+        Kind::Ipv6,
+        Kind::Ether,
+        Kind::Proto,
+        Kind::Service,
+        Kind::Mark,
+    ] {
+        if has_ends && read_interval(kind, word).is_ok() {
+            return true;
+        }
+    }
+    false
+}
+
 /// The kind of address that a word is.
 fn address_kind(word: &[u8]) -> Option<Kind> {
     for kind in [Kind::Ipv4, Kind::Ipv6, Kind::Ether] {
@@ -196,12 +214,13 @@ fn wrong_end(kind: Kind, word: &[u8]) -> WrongValue<'_> {
     }
 }
 
-/// Two values of a kind with a `:` between them.
+/// Two values of a kind with a `:` or `..` between them.
 fn colon_between(kind: Kind, word: &[u8]) -> Option<(&[u8], &[u8])> {
-    let place = word.iter().position(|byte| *byte == b':')?;
+    let place = word.iter().position(|byte| *byte == b':' || *byte == b'.')?;
     let (low, behind) = word.split_at(place);
     match behind {
-        [_, high @ ..] if read_value(kind, low).is_ok() && read_value(kind, high).is_ok() => {
+        [b':', high @ ..] | [b'.', b'.', high @ ..]
+            if read_value(kind, low).is_ok() && read_value(kind, high).is_ok() => {
             Some((low, high))
         }
         _ => None,
@@ -455,6 +474,10 @@ impl Explained {
             WrongValue::Service(_, port) => {
                 self.wrong_port(b"a port is a number and not a name", port)
             }
+            WrongValue::NoValue([.., b'.']) if kind == Kind::Ipv4 => self.say(
+                b"it isn't an IPv4 address",
+                b"write a network as a prefix, as 192.0.2.0/24",
+            ),
             WrongValue::NoValue(word) if word.len() == field.word.len() => {
                 self.wrong.say(b"it isn't ")?;
                 self.say(what(kind), form_of(kind))
@@ -493,6 +516,9 @@ pub(crate) fn explain_value(said: &mut Explained, fault: Fault<'_>) -> Result<()
             b"write a value of the field's type",
         );
     };
+    if is_one_of(field.word, &[b"any", b"all"]) {
+        return said.say(b" isn't a value", all_of(field.kind));
+    }
     match wrong_value(field) {
         WrongValue::Several => said.say(
             if fault.token.contains(&b'-') {
@@ -582,11 +608,22 @@ pub(crate) fn explain_quoted(said: &mut Explained, fault: Fault<'_>) -> Result<(
             said.misfit(field)?;
             said.wrong_port(b"a port is a number and not a name", port)
         }
-        _ => said.say(
-            b" is a string, and a value is expected",
-            b"write the value without quotes",
-        ),
+        _ => explain_string(said, fault.token),
     }
+}
+
+/// Explains a string in the place of one value or of several.
+pub(crate) fn explain_string(said: &mut Explained, text: &[u8]) -> Result<(), Memory> {
+    if text.contains(&b' ') {
+        return said.say(
+            b" is a string, and values are expected",
+            b"leave out the quotes, as: 192.0.2.1 . 80",
+        );
+    }
+    said.say(
+        b" is a string, and a value is expected",
+        b"write the value without quotes",
+    )
 }
 
 /// Explains a word at the place of a moment.

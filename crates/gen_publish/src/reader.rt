@@ -11,6 +11,7 @@ use crate::note::Note;
 use gen_slots::Pass;
 use pipapo_image::Scratch;
 use set_model::{Found, Key, Schema, fits};
+use set_space::Sets;
 use std::alloc::Global;
 use std::marker::Model;
 use std::sync::Arc;
@@ -111,6 +112,14 @@ impl Held {
         ensures place { result + 1 ≡ length self.now.seen }
     {
         self.inner.get().generation.number
+    }
+
+    /// The sets of the held generation. A set that is shared from here stays after `leave`.
+    pub fn sets(&self) -> &Sets
+        ensures sets { (g : Generation) → EndsWith self.now.seen g → result.now ≡ g.sets }
+        ensures many { length result.now ≡ length self.now.schema }
+    {
+        &self.inner.get().generation.sets
     }
 
     /// Whether `lookup` accepts this key: the set is declared, and each field has one value of its

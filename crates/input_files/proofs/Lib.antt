@@ -1,3 +1,4 @@
 pub mod Reading
 pub mod Turns
 pub mod Telling
+mod SeenLaws

@@ -1,5 +1,5 @@
 -- Notes on files that can't be had.
-use Rattle.std.proofs.Common.{◌≡◌, sym, ◌∙◌, subst, ℕ, suc, List, [], ◌++◌, Option, Some, Result, Ok, append-nil}
+use Rattle.std.proofs.Common.{◌≡◌, sym, ◌∙◌, subst, ℕ, suc, false, List, [], ◌++◌, Option, Some, Result, Ok, append-nil}
 use Rattle.std.specs.Prelude.{IfOk}
 use Rattle.set_model.specs.declared.memory.Memory.{Memory as NoMemory}
 use Rattle.set_model.specs.declared.script.SetDecl.{SetDecl}
@@ -8,7 +8,11 @@ use Rattle.token_forms.specs.BadTokens.{IsBadToken, IsBadTokenAmong}
 use Rattle.token_forms.specs.Form.{Form}
 use Rattle.token_forms.specs.Token.{Lexeme}
 use Rattle.pcap_keys.specs.declared.error.CaptureReason.{CaptureReason}
+use Rattle.fault_notes.specs.declared.help.TextKind.{TextKind}
+use Rattle.fault_notes.specs.declared.help.TextKind.TheVariants as kinds
+use Rattle.fault_notes.specs.OtherKind.{is_other_kind}
 use Rattle.fault_notes.specs.Shown.{Begins, place_text, byte_text}
+use Rattle.fault_notes.specs.Source.{IsSaidAt, source_text}
 use Rattle.fault_notes.specs.Told.{MayTell}
 use Rattle.fault_notes.proofs.ToldLaws.{tells-as}
 use Rattle.input_files.specs.declared.fault.Flaw.TheVariants as flaws
@@ -19,18 +23,18 @@ use Rattle.set_script.specs.Script.{script as script_form}
 use Rattle.ruleset_sets.specs.Kept.{IsKept, all_taken}
 use Rattle.ruleset_sets.specs.RulesetText.{HoldsOfKept}
 use Rattle.fault_notes.specs.Blanked.{blanked}
-use Rattle.input_files.specs.Noted.{IsPlacedBy, NamesBadToken, IsNoteOn, AreFurther, no_more, one_more, IsScriptNote, IsScriptNoted, NamesBadTokens}
+use Rattle.input_files.specs.Noted.{IsOnToken, IsPlacedBy, NamesBadToken, NamesFurther, IsNoteOn, AreFurther, no_more, one_more, IsScriptNote, IsScriptNoted, NamesBadTokens}
 
 -- A note on a text by the bad token that was found in it names the bad token of the file's bytes, if they are known.
-pub bad-note : {A : Type 0} (form : Form A) (tokens : List ℕ → List Lexeme) (told : List ℕ → Option (List ℕ)) (name all slice : List ℕ) (found : Result (Option BadToken) NoMemory) (before mid now : Option (List ℕ))
-    → ((text : List ℕ) → told name ≡ Some text → all ≡ text) → slice ≡ all → IfOk found (IsBadTokenAmong form (tokens slice) slice) → mid ≡ before → MayTell (IsPlacedBy found name) mid now
-    → MayTell (λ text. (bytes : List ℕ) → told name ≡ Some bytes → NamesBadToken form (tokens bytes) bytes name text) before now
-bad-note form tokens told name all slice found before mid now bytes same is_bad silent tells =
-    subst (λ (b : Option (List ℕ)). MayTell (λ text. (bytes : List ℕ) → told name ≡ Some bytes → NamesBadToken form (tokens bytes) bytes name text) b now) silent
-    (tells-as (IsPlacedBy found name) (λ text. (bytes : List ℕ) → told name ≡ Some bytes → NamesBadToken form (tokens bytes) bytes name text) mid now (λ text placed bs at. record {
+pub bad-note : {A : Type 0} (kind : TextKind) (form : Form A) (tokens : List ℕ → List Lexeme) (told : List ℕ → Option (List ℕ)) (name all slice : List ℕ) (found : Result (Option BadToken) NoMemory) (before mid now : Option (List ℕ))
+    → ((text : List ℕ) → told name ≡ Some text → all ≡ text) → slice ≡ all → IfOk found (IsBadTokenAmong form (tokens slice) slice) → mid ≡ before → MayTell (IsPlacedBy kind found name slice) mid now
+    → MayTell (λ text. (bytes : List ℕ) → told name ≡ Some bytes → NamesBadToken kind form (tokens bytes) bytes name text) before now
+bad-note kind form tokens told name all slice found before mid now bytes same is_bad silent tells =
+    subst (λ (b : Option (List ℕ)). MayTell (λ text. (bytes : List ℕ) → told name ≡ Some bytes → NamesBadToken kind form (tokens bytes) bytes name text) b now) silent
+    (tells-as (IsPlacedBy kind found name slice) (λ text. (bytes : List ℕ) → told name ≡ Some bytes → NamesBadToken kind form (tokens bytes) bytes name text) mid now (λ text placed bs at. record {
       bad = placed.bad;
       is_bad = subst (λ (t : List ℕ). IsBadToken form (tokens t) t placed.bad) (same ∙ bytes bs at) (subst (λ (r : Result (Option BadToken) NoMemory). IfOk r (IsBadTokenAmong form (tokens slice) slice)) placed.is_found is_bad);
-      begins = placed.begins;
+      is_on = subst (λ (t : List ℕ). IsOnToken name t placed.bad (is_other_kind kind t placed.bad) text) (same ∙ bytes bs at) placed.is_on;
     }) tells)
 
 -- A note on a script by the bad token that was found in it names the bad tokens of the file's bytes, if they are known.
@@ -57,21 +61,21 @@ ruleset-note told name all slice kept bytes found before mid now known same is_k
     subst (λ (t : List ℕ). HoldsOfKept t (λ kept. NamesBadTokens kept name text)) (same ∙ known bs at) here) tells)
 
 -- One more note on what is left of a script.
-pub one-further : (name : List ℕ) (most less : ℕ) (rest left note more all : List ℕ) (bad : BadToken) → most ≡ suc less → ((from : ℕ) × (to : ℕ) × (left ≡ blanked from to rest)) → IsBadToken script_form (text_tokens left) left bad
-    → Begins (place_text name bad.line bad.column) note → AreFurther name less left more → all ≡ note ++ more → AreFurther name most rest all
-one-further name most less rest left note more all bad count part is_bad begins further whole =
-    let names : NamesBadToken script_form (text_tokens left) left name note = record { bad = bad; is_bad = is_bad; begins = begins } in
-    let mine = subst (λ (t : List ℕ). NamesBadToken script_form (text_tokens t) t name note) part.2 names in
-    let others = subst (λ (t : List ℕ). AreFurther name less t more) part.2 further in
-    subst (λ (n : ℕ). AreFurther name n rest all) (sym count) (subst (λ (t : List ℕ). AreFurther name (suc less) rest t) (sym whole) (one_more less part.0 part.1 rest note more mine others))
+pub one-further : (name script : List ℕ) (most less : ℕ) (rest left note more all : List ℕ) (bad : BadToken) → most ≡ suc less → ((from : ℕ) × (to : ℕ) × (left ≡ blanked from to rest)) → IsBadToken script_form (text_tokens left) left bad
+    → IsOnToken name script bad false note → AreFurther name script less left more → all ≡ note ++ more → AreFurther name script most rest all
+one-further name script most less rest left note more all bad count part is_bad is_on further whole =
+    let names : NamesFurther left script name note = record { bad = bad; is_bad = is_bad; is_on = is_on } in
+    let mine = subst (λ (t : List ℕ). NamesFurther t script name note) part.2 names in
+    let others = subst (λ (t : List ℕ). AreFurther name script less t more) part.2 further in
+    subst (λ (n : ℕ). AreFurther name script n rest all) (sym count) (subst (λ (t : List ℕ). AreFurther name script (suc less) rest t) (sym whole) (one_more less part.0 part.1 rest note more mine others))
 
 -- No further note.
-pub none_further : (name : List ℕ) (most : ℕ) (rest notes : List ℕ) → notes ≡ [] → AreFurther name most rest notes
-none_further name most rest notes none = subst (λ (t : List ℕ). AreFurther name most rest t) (sym none) (no_more most rest)
+pub none_further : (name script : List ℕ) (most : ℕ) (rest notes : List ℕ) → notes ≡ [] → AreFurther name script most rest notes
+none_further name script most rest notes none = subst (λ (t : List ℕ). AreFurther name script most rest t) (sym none) (no_more most rest)
 
 -- A note on the first bad token alone.
-pub first_alone : (name text note : List ℕ) (bad : BadToken) → Begins (place_text name bad.line bad.column) note → IsScriptNote name text bad note
-first_alone name text note bad begins = record { first = note; more = []; begins = begins; further = no_more 9 text; whole = sym (append-nil note) }
+pub first_alone : (name text note : List ℕ) (bad : BadToken) → Begins (place_text name bad.line bad.column) note → IsSaidAt (place_text name bad.line bad.column) (source_text text bad) (is_other_kind kinds.Script text bad) note → IsScriptNote name text bad note
+first_alone name text note bad begins shows = record { first = note; more = []; is_on = record { begins = begins; shows = shows }; further = no_more 9 text; whole = sym (append-nil note) }
 
 -- A note on a capture begins with its byte, whatever is known of its bytes.
 pub capture-note : (told : List ℕ → Option (List ℕ)) (name : List ℕ) (sets : List SetDecl) (byte : ℕ) (reason : CaptureReason) (before mid now : Option (List ℕ)) → mid ≡ before → MayTell (Begins (byte_text name byte)) mid now

@@ -10,7 +10,7 @@ use Rattle.ruleset_sets.proofs.KeptLaws.{kept_script}
 use Rattle.key_file.specs.KeysText.{IsKeysText}
 use Rattle.rule_chain.specs.RulesText.{IsRulesText}
 use Rattle.pcap_keys.specs.PlansText.{IsPlanText}
-use Rattle.command_words.specs.Words.{Command, run, list, dump, drill, judge, capture as capture_command, desk, get, compare, stat, judge_capture, sets_of}
+use Rattle.command_words.specs.Words.{Command, run, list, dump, drill, judge, capture as capture_command, desk, get, explain, compare, stat, judge_capture, sets_of}
 use Rattle.input_files.specs.declared.fault.Flaw.{Flaw}
 use Rattle.input_files.specs.declared.fault.Flaw.TheVariants as flaws
 use Rattle.input_files.specs.Inputs.{Input, FileForm, script, second, rules_of_nft, keys, rules, plan, capture, inputs, form_of, IsOf, IsFlawed, ReadsAs}
@@ -153,6 +153,7 @@ first-is-script c a i later e = go c a e where
   go (stat s g) a e = head-is _ _ a refl e
   go (desk s g) a e = head-is _ _ a refl e
   go (get s k m g) a e = head-is _ _ a refl e
+  go (explain s k g) a e = head-is _ _ a refl e
   go (compare f s g) a e = head-is _ _ a refl e
   go (sets_of f) [] e = (λ _. let k : record { name = f; form = rules_of_nft } ≡ i = cc e in inr (ap (λ (z : Input). z.form) (sym k)), λ g fs k. absurd (cc k))
   go (sets_of f) (x ∷ []) e = absurd (cc e)

@@ -20,7 +20,7 @@ use Rattle.pcap_keys.specs.PlansText.{IsPlanText, IsBadPlan}
 use Rattle.pip_base.specs.Causes.{Rose}
 use Rattle.pip_base.specs.Picks.{AsksOnce}
 use Rattle.pip_base.specs.Whole.{size_limit}
-use Rattle.command_words.specs.Words.{Command, run, list, dump, drill, judge, capture as capture_command, desk, get, compare, stat, judge_capture, sets_of}
+use Rattle.command_words.specs.Words.{Command, run, list, dump, drill, judge, capture as capture_command, desk, get, explain, compare, stat, judge_capture, sets_of}
 use Rattle.input_files.specs.declared.fault.Flaw.{Flaw}
 use Rattle.input_files.specs.declared.fault.Flaw.TheVariants as flaws
 use Rattle.input_files.specs.declared.fault.FileFault.{FileFault}
@@ -56,6 +56,7 @@ inputs (judge_capture s r p c threads keep_going) = record { name = s; form = sc
 inputs (capture_command s p c threads keep_going) = record { name = s; form = script } ∷ record { name = p; form = plan } ∷ record { name = c; form = capture } ∷ []
 inputs (desk s keep_going) = record { name = s; form = script } ∷ []
 inputs (get s key moment keep_going) = record { name = s; form = script } ∷ []
+inputs (explain s k keep_going) = record { name = s; form = script } ∷ record { name = k; form = keys } ∷ []
 inputs (sets_of f) = record { name = f; form = rules_of_nft } ∷ []
 inputs (compare a b keep_going) = record { name = a; form = script } ∷ record { name = b; form = second } ∷ []
 

@@ -3,3 +3,4 @@ pub mod Reads
 pub mod Works
 pub mod Given
 pub mod Noted
+pub mod Seen

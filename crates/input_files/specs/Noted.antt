@@ -1,5 +1,5 @@
 -- What is printed for a person about a file that failed.
-use Rattle.std.specs.Prelude.{◌≡◌, ℕ, suc, List, [], ◌++◌, Option, Some, Result, Ok}
+use Rattle.std.specs.Prelude.{◌≡◌, ℕ, suc, Bool, false, List, [], ◌++◌, Option, Some, Result, Ok}
 use Rattle.set_model.specs.declared.script.SetDecl.{SetDecl}
 use Rattle.set_model.specs.declared.memory.Memory.{Memory as NoMemory}
 use Rattle.token_forms.specs.declared.bad_token.BadToken.{BadToken}
@@ -13,7 +13,11 @@ use Rattle.key_file.specs.Keys.{key_file}
 use Rattle.rule_chain.specs.Rules.{rules_file}
 use Rattle.pcap_keys.specs.Plans.{plan as plan_form}
 use Rattle.fault_notes.specs.Blanked.{blanked}
+use Rattle.fault_notes.specs.declared.help.TextKind.{TextKind}
+use Rattle.fault_notes.specs.declared.help.TextKind.TheVariants as kinds
+use Rattle.fault_notes.specs.OtherKind.{is_other_kind}
 use Rattle.fault_notes.specs.Shown.{Begins, place_text, byte_text, name_text}
+use Rattle.fault_notes.specs.Source.{IsSaidAt, source_text}
 use Rattle.fault_notes.specs.Told.{MayTell}
 use Rattle.input_files.specs.declared.fault.Flaw.{Flaw}
 use Rattle.input_files.specs.declared.fault.Flaw.TheVariants as flaws
@@ -22,31 +26,43 @@ use Rattle.input_files.specs.declared.fault.FileFault.TheVariants.{Bad, ReadFaul
 use Rattle.input_files.specs.Reads.{Shelved, StopsAt}
 use Rattle.command_words.specs.Words.{Command}
 
--- A note begins with a text's name and the place of its bad token, if that was found.
-pub record IsPlacedBy (found : Result (Option BadToken) NoMemory) (name note : List ℕ) : Type 0 where
+-- A note begins with a text's name and the place of a bad token. If the text is of another kind, it then says so, and else it
+-- shows the token's line in a text, with carets under the token.
+pub record IsOnToken (name source : List ℕ) (bad : BadToken) (is_other : Bool) (note : List ℕ) : Type 0 where
+  pub begins : Begins (place_text name bad.line bad.column) note
+  pub shows : IsSaidAt (place_text name bad.line bad.column) (source_text source bad) is_other note
+
+-- A note is on the bad token of a text that is to be of this kind, if that was found.
+pub record IsPlacedBy (kind : TextKind) (found : Result (Option BadToken) NoMemory) (name text note : List ℕ) : Type 0 where
   pub bad : BadToken
   pub is_found : found ≡ Ok (Some bad)
-  pub begins : Begins (place_text name bad.line bad.column) note
+  pub is_on : IsOnToken name text bad (is_other_kind kind text bad) note
 
--- A note begins with a text's name, and the line and the column of its bad token by the definition.
-pub record NamesBadToken {A : Type 0} (form : Form A) (tokens : List Lexeme) (text name note : List ℕ) : Type 0 where
+-- A note is on the bad token, by the definition, of a text that is to be of this kind.
+pub record NamesBadToken {A : Type 0} (kind : TextKind) (form : Form A) (tokens : List Lexeme) (text name note : List ℕ) : Type 0 where
   pub bad : BadToken
   pub is_bad : IsBadToken form tokens text bad
-  pub begins : Begins (place_text name bad.line bad.column) note
+  pub is_on : IsOnToken name text bad (is_other_kind kind text bad) note
+
+-- A note is on the bad token, by the definition, of what is left of a script. It shows the token's line in the script.
+pub record NamesFurther (left script name note : List ℕ) : Type 0 where
+  pub bad : BadToken
+  pub is_bad : IsBadToken script_form (text_tokens left) left bad
+  pub is_on : IsOnToken name script bad false note
 
 -- Notes on bad tokens of a script after the first one, at most so many. Each begins with the place of the bad token of
--- what is left: the script in which a part is blanked out, and one more for each note before it.
-pub data AreFurther (name : List ℕ) : ℕ → List ℕ → List ℕ → Type 0 where
-  no_more : (most : ℕ) (rest : List ℕ) → AreFurther name most rest []
-  one_more : (most from to : ℕ) (rest note more : List ℕ) → NamesBadToken script_form (text_tokens (blanked from to rest)) (blanked from to rest) name note
-      → AreFurther name most (blanked from to rest) more → AreFurther name (suc most) rest (note ++ more)
+-- what is left: the script in which a part is blanked out, and one more for each note before it. Each shows the script's own line.
+pub data AreFurther (name script : List ℕ) : ℕ → List ℕ → List ℕ → Type 0 where
+  no_more : (most : ℕ) (rest : List ℕ) → AreFurther name script most rest []
+  one_more : (most from to : ℕ) (rest note more : List ℕ) → NamesFurther (blanked from to rest) script name note
+      → AreFurther name script most (blanked from to rest) more → AreFurther name script (suc most) rest (note ++ more)
 
--- A note on a script begins with the place of this bad token. At most nine notes on further ones follow.
+-- A note on a script is on this bad token first. At most nine notes on further ones follow.
 pub record IsScriptNote (name text : List ℕ) (bad : BadToken) (note : List ℕ) : Type 0 where
   pub first : List ℕ
   pub more : List ℕ
-  pub begins : Begins (place_text name bad.line bad.column) first
-  pub further : AreFurther name 9 text more
+  pub is_on : IsOnToken name text bad (is_other_kind kinds.Script text bad) first
+  pub further : AreFurther name text 9 text more
   pub whole : note ≡ first ++ more
 
 -- A note is on a script by its bad token, if that was found.
@@ -61,15 +77,15 @@ pub record NamesBadTokens (text name note : List ℕ) : Type 0 where
   pub is_bad : IsBadToken script_form (text_tokens text) text bad
   pub says : IsScriptNote name text bad note
 
--- A note on a flawed text begins with its name and the place of the flaw: of the bad token, or of a
+-- A note on a flawed text begins with its name and the place of the flaw: of the bad token, whose line it shows, or of a
 -- capture's byte. In a script further bad tokens follow. Those of a ruleset are those of what is kept of it.
 abbrev pub NamesFlaw : List SetDecl → List ℕ → List ℕ → Flaw → List ℕ → Type 0
 NamesFlaw sets text name (flaws.Script line reason) note = NamesBadTokens text name note
 NamesFlaw sets text name (flaws.SecondScript line reason) note = NamesBadTokens text name note
 NamesFlaw sets text name (flaws.Ruleset line reason) note = HoldsOfKept text (λ kept. NamesBadTokens kept name note)
-NamesFlaw sets text name (flaws.Keys line reason) note = NamesBadToken (key_file sets) (text_tokens text) text name note
-NamesFlaw sets text name (flaws.Rules line reason) note = NamesBadToken (rules_file sets) (plain_tokens text) text name note
-NamesFlaw sets text name (flaws.Plan line reason) note = NamesBadToken (plan_form sets) (plain_tokens text) text name note
+NamesFlaw sets text name (flaws.Keys line reason) note = NamesBadToken kinds.Keys (key_file sets) (text_tokens text) text name note
+NamesFlaw sets text name (flaws.Rules line reason) note = NamesBadToken kinds.Rules (rules_file sets) (plain_tokens text) text name note
+NamesFlaw sets text name (flaws.Plan line reason) note = NamesBadToken kinds.Plan (plan_form sets) (plain_tokens text) text name note
 NamesFlaw sets text name (flaws.Capture byte reason) note = Begins (byte_text name byte) note
 
 -- A text is a note on a file that failed for this fault, with a script that declares these sets. It

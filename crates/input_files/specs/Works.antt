@@ -11,7 +11,7 @@ use Rattle.rule_chain.specs.RulesText.{IsRulesText}
 use Rattle.pcap_keys.specs.CapturedPackets.{IsCapture}
 use Rattle.pcap_keys.specs.Fitting.{HasValues, IsPlanned}
 use Rattle.pcap_keys.specs.PlansText.{IsPlanText}
-use Rattle.command_words.specs.Words.{Command, run, list, dump, drill, judge, capture, desk, get, compare, stat, judge_capture, sets_of}
+use Rattle.command_words.specs.Words.{Command, run, list, dump, drill, judge, capture, desk, get, explain, compare, stat, judge_capture, sets_of}
 use Rattle.input_files.specs.declared.work.Work.{Work}
 use Rattle.input_files.specs.declared.work.Work.TheVariants as works
 use Rattle.input_files.specs.Inputs.{ReadsAs}
@@ -41,6 +41,8 @@ IsWork told c (works.Capture script plan frames threads keep_going) =
     (s : List ℕ) × (p : List ℕ) × (f : List ℕ) × (c ≡ capture s p f threads keep_going) × ReadsAs told s (λ text. IsScriptText text script)
     × ReadsAs told p (λ text. IsPlanText script.schema text plan) × ReadsAs told f (λ text. IsCapture text frames)
 IsWork told c (works.Get script key moment keep_going) = (s : List ℕ) × (c ≡ get s (map string_bytes key.now) moment keep_going) × ReadsAs told s (λ text. IsScriptText text script)
+IsWork told c (works.Explain script keys keep_going) =
+    (s : List ℕ) × (k : List ℕ) × (c ≡ explain s k keep_going) × ReadsAs told s (λ text. IsScriptText text script) × ReadsAs told k (λ text. IsKeysText script.schema text keys)
 IsWork told c (works.Desk script keep_going) = (s : List ℕ) × (c ≡ desk s keep_going) × ReadsAs told s (λ text. IsScriptText text script)
 IsWork told c (works.Sets f whole sieved) = (c ≡ sets_of f.now) × ReadsAs told f.now (λ text. (whole.items ≡ text) × AreSetsOf text sieved.text.items sieved.skips)
 IsWork told c (works.Compare a s b t keep_going) = (c ≡ compare a.now b.now keep_going) × ReadsAs told a.now (λ text. IsScriptText text s) × ReadsAs told b.now (λ text. IsScriptText text t)
@@ -61,5 +63,6 @@ IsDoable (works.JudgeCapture script chains plan frames threads keep_going) = IsR
 IsDoable (works.Capture script plan frames threads keep_going) = IsRunnable script × All (IsPlanned script.schema) plan × All HasValues frames × FewThreads threads
 IsDoable (works.Desk script keep_going) = IsRunnable script
 IsDoable (works.Get script key moment keep_going) = IsRunnable script
+IsDoable (works.Explain script keys keep_going) = IsRunnable script × All (All (IsFitting script.schema)) keys
 IsDoable (works.Sets f whole sieved) = Unit {0}
 IsDoable (works.Compare a s b t keep_going) = IsRunnable s × IsRunnable t

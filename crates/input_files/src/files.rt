@@ -15,40 +15,54 @@ ghost use Rattle.fault_notes.specs.Told.{MayTell};
 ghost use Rattle.input_files.specs.Inputs as inputs;
 ghost use Rattle.input_files.specs.Inputs.{Input, ReadsAs, IsFileCause, as_second};
 ghost use Rattle.input_files.specs.Noted.{IsNoteOn};
+ghost use Rattle.input_files.specs.Seen.{AddsSkips, ruleset_names, seen};
 
 use crate::fault::{FileFault, Flaw};
 use crate::script_told::tell_script;
+use crate::seen::{Rulesets, read_of};
 use crate::told::{tell_bad, tell_capture, tell_read_fault, tell_too_large};
 use fault_notes::TextKind;
 use key_file::read_keys;
 use pcap_keys::{CaptureError, Frames, Plan, read_capture, read_plan};
 use pip_base::{Notes, ReadError, Shelf, read_whole};
 use rule_chain::{Chains, read_rules};
-use set_model::{Keys, Schema, Script};
+use set_model::{Keys, Memory, Schema, Script};
 use set_script::read_script;
+use skip_notes::SkipsNote;
 use std::alloc::Global;
 use token_forms::ReadError as FormError;
 
-/// All bytes of the file with this name.
+/// What a command sees of the file with this name: all its bytes, or what is kept of a ruleset. The lines on the
+/// rest of a ruleset are added to `skipped`.
+#[tactic(auto, using(crate::proofs::SeenLaws::seen_same, crate::proofs::SeenLaws::seen_text, crate::proofs::SeenLaws::seen_large, crate::proofs::SeenLaws::kept_small, crate::proofs::SeenLaws::adds_skips))]
 pub fn text_of<'a, F: Shelf, N: Notes>(
     alloc: Global,
     shelf: &mut F,
     notes: &mut N,
+    rulesets: Rulesets<'_>,
+    skipped: &mut SkipsNote,
     name: &'a str,
 ) -> Result<Vec<u8>, FileFault<'a>>
     requires { length (F.asked shelf.old) ≤ 3 }
-    ensures bytes { IfOk result (λ all. (text : List ℕ) → F.told shelf.old name.now ≡ Some text → all.items ≡ text) }
+    ensures bytes { IfOk result (λ all. (text : List ℕ) → seen (ruleset_names rulesets.entry) (F.told shelf.old) name.now ≡ Some text → all.items ≡ text) }
     ensures limit { IfOk result (λ all. length all.items ≤ size_limit) }
     ensures quiet { OnOk result ((F.asked shelf.new ≡ F.asked shelf.old ++ name.now ∷ []) × (F.faults shelf.new ≡ F.faults shelf.old)) }
     ensures whole { OnOk result (ReadsToEnd (F.is_picked shelf.old) (F.is_picked shelf.new) (F.left shelf.new)) }
     ensures kept { KeepsLeft (F.is_picked shelf.old) (F.is_picked shelf.new) (F.left shelf.old) (F.left shelf.new) }
     ensures told { (other : List ℕ) → F.told shelf.new other ≡ F.told shelf.old other }
-    ensures cause { (sets : List Declared) (i : Input) → i.name ≡ name.now → IfErr result (IsFileCause (F.told shelf.old) sets (F.asked shelf.old) i (F.asked shelf.new) (F.faults shelf.old) (F.faults shelf.new)) }
+    ensures seen { (other : List ℕ) → seen (ruleset_names rulesets.entry) (F.told shelf.new) other ≡ seen (ruleset_names rulesets.entry) (F.told shelf.old) other }
+    ensures skips { OnOk result (AddsSkips (F.told shelf.old) (ruleset_names rulesets.entry) name.now skipped.old.bytes.items skipped.new.bytes.items) }
+    ensures cause { (sets : List Declared) (i : Input) → i.name ≡ name.now → IfErr result (IsFileCause (seen (ruleset_names rulesets.entry) (F.told shelf.old)) sets (F.asked shelf.old) i (F.asked shelf.new) (F.faults shelf.old) (F.faults shelf.new)) }
     ensures silent { OnOk result (N.told notes.new ≡ N.told notes.old) }
-    ensures noted { (sets : List Declared) → IfErr result (λ fault. MayTell (IsNoteOn (F.told shelf.old) sets name.now fault) (N.told notes.old) (N.told notes.new)) }
+    ensures noted { (sets : List Declared) → IfErr result (λ fault. MayTell (IsNoteOn (seen (ruleset_names rulesets.entry) (F.told shelf.old)) sets name.now fault) (N.told notes.old) (N.told notes.new)) }
 {
     match read_whole(alloc, shelf, name) {
-        Ok(text) => Ok(text),
+        Ok(text) => {
+            match read_of(alloc, skipped, rulesets.has(name), name, text) {
+                Ok(kept) => Ok(kept),
+                Err(Memory) => Err(FileFault::Memory),
+            }
+        }
         Err(ReadError::Fault) => {
             tell_read_fault(alloc, notes, name, shelf.fault_kind());
             Err(FileFault::ReadFault(name))
@@ -66,21 +80,25 @@ pub fn script_of<'a, F: Shelf, N: Notes>(
     alloc: Global,
     shelf: &mut F,
     notes: &mut N,
+    rulesets: Rulesets<'_>,
+    skipped: &mut SkipsNote,
     kept: &mut Vec<u8>,
     name: &'a str,
 ) -> Result<Script, FileFault<'a>>
     requires { length (F.asked shelf.old) ≤ 3 }
     ensures runnable { IfOk result IsRunnable }
-    ensures read { IfOk result (λ script. ReadsAs (F.told shelf.old) name.now (λ text. IsScriptText text script)) }
+    ensures read { IfOk result (λ script. ReadsAs (seen (ruleset_names rulesets.entry) (F.told shelf.old)) name.now (λ text. IsScriptText text script)) }
     ensures quiet { OnOk result ((F.asked shelf.new ≡ F.asked shelf.old ++ name.now ∷ []) × (F.faults shelf.new ≡ F.faults shelf.old)) }
     ensures whole { OnOk result (ReadsToEnd (F.is_picked shelf.old) (F.is_picked shelf.new) (F.left shelf.new)) }
     ensures kept { KeepsLeft (F.is_picked shelf.old) (F.is_picked shelf.new) (F.left shelf.old) (F.left shelf.new) }
     ensures told { (other : List ℕ) → F.told shelf.new other ≡ F.told shelf.old other }
-    ensures cause { (sets : List Declared) → IfErr result (IsFileCause (F.told shelf.old) sets (F.asked shelf.old) (record { name = name.now; form = inputs.script }) (F.asked shelf.new) (F.faults shelf.old) (F.faults shelf.new)) }
+    ensures seen { (other : List ℕ) → seen (ruleset_names rulesets.entry) (F.told shelf.new) other ≡ seen (ruleset_names rulesets.entry) (F.told shelf.old) other }
+    ensures skips { OnOk result (AddsSkips (F.told shelf.old) (ruleset_names rulesets.entry) name.now skipped.old.bytes.items skipped.new.bytes.items) }
+    ensures cause { (sets : List Declared) → IfErr result (IsFileCause (seen (ruleset_names rulesets.entry) (F.told shelf.old)) sets (F.asked shelf.old) (record { name = name.now; form = inputs.script }) (F.asked shelf.new) (F.faults shelf.old) (F.faults shelf.new)) }
     ensures silent { OnOk result (N.told notes.new ≡ N.told notes.old) }
-    ensures noted { (sets : List Declared) → IfErr result (λ fault. MayTell (IsNoteOn (F.told shelf.old) sets name.now fault) (N.told notes.old) (N.told notes.new)) }
+    ensures noted { (sets : List Declared) → IfErr result (λ fault. MayTell (IsNoteOn (seen (ruleset_names rulesets.entry) (F.told shelf.old)) sets name.now fault) (N.told notes.old) (N.told notes.new)) }
 {
-    *kept = match text_of(alloc, shelf, notes, name) {
+    *kept = match text_of(alloc, shelf, notes, rulesets, skipped, name) {
         Ok(text) => text,
         Err(fault) => return Err(fault),
     };
@@ -113,21 +131,25 @@ pub fn second_script_of<'a, F: Shelf, N: Notes>(
     alloc: Global,
     shelf: &mut F,
     notes: &mut N,
+    rulesets: Rulesets<'_>,
+    skipped: &mut SkipsNote,
     name: &'a str,
 ) -> Result<Script, FileFault<'a>>
     requires { length (F.asked shelf.old) ≤ 3 }
     ensures runnable { IfOk result IsRunnable }
-    ensures read { IfOk result (λ script. ReadsAs (F.told shelf.old) name.now (λ text. IsScriptText text script)) }
+    ensures read { IfOk result (λ script. ReadsAs (seen (ruleset_names rulesets.entry) (F.told shelf.old)) name.now (λ text. IsScriptText text script)) }
     ensures quiet { OnOk result ((F.asked shelf.new ≡ F.asked shelf.old ++ name.now ∷ []) × (F.faults shelf.new ≡ F.faults shelf.old)) }
     ensures whole { OnOk result (ReadsToEnd (F.is_picked shelf.old) (F.is_picked shelf.new) (F.left shelf.new)) }
     ensures kept { KeepsLeft (F.is_picked shelf.old) (F.is_picked shelf.new) (F.left shelf.old) (F.left shelf.new) }
     ensures told { (other : List ℕ) → F.told shelf.new other ≡ F.told shelf.old other }
-    ensures cause { (sets : List Declared) → IfErr result (IsFileCause (F.told shelf.old) sets (F.asked shelf.old) (record { name = name.now; form = inputs.second }) (F.asked shelf.new) (F.faults shelf.old) (F.faults shelf.new)) }
+    ensures seen { (other : List ℕ) → seen (ruleset_names rulesets.entry) (F.told shelf.new) other ≡ seen (ruleset_names rulesets.entry) (F.told shelf.old) other }
+    ensures skips { OnOk result (AddsSkips (F.told shelf.old) (ruleset_names rulesets.entry) name.now skipped.old.bytes.items skipped.new.bytes.items) }
+    ensures cause { (sets : List Declared) → IfErr result (IsFileCause (seen (ruleset_names rulesets.entry) (F.told shelf.old)) sets (F.asked shelf.old) (record { name = name.now; form = inputs.second }) (F.asked shelf.new) (F.faults shelf.old) (F.faults shelf.new)) }
     ensures silent { OnOk result (N.told notes.new ≡ N.told notes.old) }
-    ensures noted { (sets : List Declared) → IfErr result (λ fault. MayTell (IsNoteOn (F.told shelf.old) sets name.now fault) (N.told notes.old) (N.told notes.new)) }
+    ensures noted { (sets : List Declared) → IfErr result (λ fault. MayTell (IsNoteOn (seen (ruleset_names rulesets.entry) (F.told shelf.old)) sets name.now fault) (N.told notes.old) (N.told notes.new)) }
 {
     let mut text = Vec::new(alloc);
-    match script_of(alloc, shelf, notes, &mut text, name) {
+    match script_of(alloc, shelf, notes, rulesets, skipped, &mut text, name) {
         Ok(script) => Ok(script),
         Err(fault) => Err(of_second(fault)),
     }
@@ -138,22 +160,26 @@ pub fn keys_of<'a, F: Shelf, N: Notes>(
     alloc: Global,
     shelf: &mut F,
     notes: &mut N,
+    rulesets: Rulesets<'_>,
+    skipped: &mut SkipsNote,
     schema: &Schema,
     name: &'a str,
 ) -> Result<Keys, FileFault<'a>>
     requires asked { length (F.asked shelf.old) ≤ 3 }
     requires sets { length schema.now ≤ most_sets }
     ensures fits { IfOk result (All (All (IsFitting schema.now))) }
-    ensures read { IfOk result (λ keys. ReadsAs (F.told shelf.old) name.now (λ text. IsKeysText schema.now text keys)) }
+    ensures read { IfOk result (λ keys. ReadsAs (seen (ruleset_names rulesets.entry) (F.told shelf.old)) name.now (λ text. IsKeysText schema.now text keys)) }
     ensures quiet { OnOk result ((F.asked shelf.new ≡ F.asked shelf.old ++ name.now ∷ []) × (F.faults shelf.new ≡ F.faults shelf.old)) }
     ensures whole { OnOk result (ReadsToEnd (F.is_picked shelf.old) (F.is_picked shelf.new) (F.left shelf.new)) }
     ensures kept { KeepsLeft (F.is_picked shelf.old) (F.is_picked shelf.new) (F.left shelf.old) (F.left shelf.new) }
     ensures told { (other : List ℕ) → F.told shelf.new other ≡ F.told shelf.old other }
-    ensures cause { IfErr result (IsFileCause (F.told shelf.old) schema.now (F.asked shelf.old) (record { name = name.now; form = inputs.keys }) (F.asked shelf.new) (F.faults shelf.old) (F.faults shelf.new)) }
+    ensures seen { (other : List ℕ) → seen (ruleset_names rulesets.entry) (F.told shelf.new) other ≡ seen (ruleset_names rulesets.entry) (F.told shelf.old) other }
+    ensures skips { OnOk result (AddsSkips (F.told shelf.old) (ruleset_names rulesets.entry) name.now skipped.old.bytes.items skipped.new.bytes.items) }
+    ensures cause { IfErr result (IsFileCause (seen (ruleset_names rulesets.entry) (F.told shelf.old)) schema.now (F.asked shelf.old) (record { name = name.now; form = inputs.keys }) (F.asked shelf.new) (F.faults shelf.old) (F.faults shelf.new)) }
     ensures silent { OnOk result (N.told notes.new ≡ N.told notes.old) }
-    ensures noted { IfErr result (λ fault. MayTell (IsNoteOn (F.told shelf.old) schema.now name.now fault) (N.told notes.old) (N.told notes.new)) }
+    ensures noted { IfErr result (λ fault. MayTell (IsNoteOn (seen (ruleset_names rulesets.entry) (F.told shelf.old)) schema.now name.now fault) (N.told notes.old) (N.told notes.new)) }
 {
-    let text = match text_of(alloc, shelf, notes, name) {
+    let text = match text_of(alloc, shelf, notes, rulesets, skipped, name) {
         Ok(text) => text,
         Err(fault) => return Err(fault),
     };
@@ -174,22 +200,26 @@ pub fn rules_of<'a, F: Shelf, N: Notes>(
     alloc: Global,
     shelf: &mut F,
     notes: &mut N,
+    rulesets: Rulesets<'_>,
+    skipped: &mut SkipsNote,
     schema: &Schema,
     name: &'a str,
 ) -> Result<Chains, FileFault<'a>>
     requires asked { length (F.asked shelf.old) ≤ 3 }
     requires sets { length schema.now ≤ most_sets }
     ensures schema { IfOk result (λ c. c.schema ≡ schema.now) }
-    ensures read { IfOk result (λ c. ReadsAs (F.told shelf.old) name.now (λ text. IsRulesText schema.now text (c.chains, c.accept))) }
+    ensures read { IfOk result (λ c. ReadsAs (seen (ruleset_names rulesets.entry) (F.told shelf.old)) name.now (λ text. IsRulesText schema.now text (c.chains, c.accept))) }
     ensures quiet { OnOk result ((F.asked shelf.new ≡ F.asked shelf.old ++ name.now ∷ []) × (F.faults shelf.new ≡ F.faults shelf.old)) }
     ensures whole { OnOk result (ReadsToEnd (F.is_picked shelf.old) (F.is_picked shelf.new) (F.left shelf.new)) }
     ensures kept { KeepsLeft (F.is_picked shelf.old) (F.is_picked shelf.new) (F.left shelf.old) (F.left shelf.new) }
     ensures told { (other : List ℕ) → F.told shelf.new other ≡ F.told shelf.old other }
-    ensures cause { IfErr result (IsFileCause (F.told shelf.old) schema.now (F.asked shelf.old) (record { name = name.now; form = inputs.rules }) (F.asked shelf.new) (F.faults shelf.old) (F.faults shelf.new)) }
+    ensures seen { (other : List ℕ) → seen (ruleset_names rulesets.entry) (F.told shelf.new) other ≡ seen (ruleset_names rulesets.entry) (F.told shelf.old) other }
+    ensures skips { OnOk result (AddsSkips (F.told shelf.old) (ruleset_names rulesets.entry) name.now skipped.old.bytes.items skipped.new.bytes.items) }
+    ensures cause { IfErr result (IsFileCause (seen (ruleset_names rulesets.entry) (F.told shelf.old)) schema.now (F.asked shelf.old) (record { name = name.now; form = inputs.rules }) (F.asked shelf.new) (F.faults shelf.old) (F.faults shelf.new)) }
     ensures silent { OnOk result (N.told notes.new ≡ N.told notes.old) }
-    ensures noted { IfErr result (λ fault. MayTell (IsNoteOn (F.told shelf.old) schema.now name.now fault) (N.told notes.old) (N.told notes.new)) }
+    ensures noted { IfErr result (λ fault. MayTell (IsNoteOn (seen (ruleset_names rulesets.entry) (F.told shelf.old)) schema.now name.now fault) (N.told notes.old) (N.told notes.new)) }
 {
-    let text = match text_of(alloc, shelf, notes, name) {
+    let text = match text_of(alloc, shelf, notes, rulesets, skipped, name) {
         Ok(text) => text,
         Err(fault) => return Err(fault),
     };
@@ -210,22 +240,26 @@ pub fn plan_of<'a, F: Shelf, N: Notes>(
     alloc: Global,
     shelf: &mut F,
     notes: &mut N,
+    rulesets: Rulesets<'_>,
+    skipped: &mut SkipsNote,
     schema: &Schema,
     name: &'a str,
 ) -> Result<Plan, FileFault<'a>>
     requires asked { length (F.asked shelf.old) ≤ 3 }
     requires sets { length schema.now ≤ most_sets }
     ensures fits { IfOk result (All (IsPlanned schema.now)) }
-    ensures read { IfOk result (λ plan. ReadsAs (F.told shelf.old) name.now (λ text. IsPlanText schema.now text plan)) }
+    ensures read { IfOk result (λ plan. ReadsAs (seen (ruleset_names rulesets.entry) (F.told shelf.old)) name.now (λ text. IsPlanText schema.now text plan)) }
     ensures quiet { OnOk result ((F.asked shelf.new ≡ F.asked shelf.old ++ name.now ∷ []) × (F.faults shelf.new ≡ F.faults shelf.old)) }
     ensures whole { OnOk result (ReadsToEnd (F.is_picked shelf.old) (F.is_picked shelf.new) (F.left shelf.new)) }
     ensures kept { KeepsLeft (F.is_picked shelf.old) (F.is_picked shelf.new) (F.left shelf.old) (F.left shelf.new) }
     ensures told { (other : List ℕ) → F.told shelf.new other ≡ F.told shelf.old other }
-    ensures cause { IfErr result (IsFileCause (F.told shelf.old) schema.now (F.asked shelf.old) (record { name = name.now; form = inputs.plan }) (F.asked shelf.new) (F.faults shelf.old) (F.faults shelf.new)) }
+    ensures seen { (other : List ℕ) → seen (ruleset_names rulesets.entry) (F.told shelf.new) other ≡ seen (ruleset_names rulesets.entry) (F.told shelf.old) other }
+    ensures skips { OnOk result (AddsSkips (F.told shelf.old) (ruleset_names rulesets.entry) name.now skipped.old.bytes.items skipped.new.bytes.items) }
+    ensures cause { IfErr result (IsFileCause (seen (ruleset_names rulesets.entry) (F.told shelf.old)) schema.now (F.asked shelf.old) (record { name = name.now; form = inputs.plan }) (F.asked shelf.new) (F.faults shelf.old) (F.faults shelf.new)) }
     ensures silent { OnOk result (N.told notes.new ≡ N.told notes.old) }
-    ensures noted { IfErr result (λ fault. MayTell (IsNoteOn (F.told shelf.old) schema.now name.now fault) (N.told notes.old) (N.told notes.new)) }
+    ensures noted { IfErr result (λ fault. MayTell (IsNoteOn (seen (ruleset_names rulesets.entry) (F.told shelf.old)) schema.now name.now fault) (N.told notes.old) (N.told notes.new)) }
 {
-    let text = match text_of(alloc, shelf, notes, name) {
+    let text = match text_of(alloc, shelf, notes, rulesets, skipped, name) {
         Ok(text) => text,
         Err(fault) => return Err(fault),
     };
@@ -246,20 +280,24 @@ pub fn capture_of<'a, F: Shelf, N: Notes>(
     alloc: Global,
     shelf: &mut F,
     notes: &mut N,
+    rulesets: Rulesets<'_>,
+    skipped: &mut SkipsNote,
     name: &'a str,
 ) -> Result<Frames, FileFault<'a>>
     requires { length (F.asked shelf.old) ≤ 3 }
     ensures values { IfOk result (All HasValues) }
-    ensures read { IfOk result (λ frames. ReadsAs (F.told shelf.old) name.now (λ text. captured text ≡ Ok frames)) }
+    ensures read { IfOk result (λ frames. ReadsAs (seen (ruleset_names rulesets.entry) (F.told shelf.old)) name.now (λ text. captured text ≡ Ok frames)) }
     ensures quiet { OnOk result ((F.asked shelf.new ≡ F.asked shelf.old ++ name.now ∷ []) × (F.faults shelf.new ≡ F.faults shelf.old)) }
     ensures whole { OnOk result (ReadsToEnd (F.is_picked shelf.old) (F.is_picked shelf.new) (F.left shelf.new)) }
     ensures kept { KeepsLeft (F.is_picked shelf.old) (F.is_picked shelf.new) (F.left shelf.old) (F.left shelf.new) }
     ensures told { (other : List ℕ) → F.told shelf.new other ≡ F.told shelf.old other }
-    ensures cause { (sets : List Declared) → IfErr result (IsFileCause (F.told shelf.old) sets (F.asked shelf.old) (record { name = name.now; form = inputs.capture }) (F.asked shelf.new) (F.faults shelf.old) (F.faults shelf.new)) }
+    ensures seen { (other : List ℕ) → seen (ruleset_names rulesets.entry) (F.told shelf.new) other ≡ seen (ruleset_names rulesets.entry) (F.told shelf.old) other }
+    ensures skips { OnOk result (AddsSkips (F.told shelf.old) (ruleset_names rulesets.entry) name.now skipped.old.bytes.items skipped.new.bytes.items) }
+    ensures cause { (sets : List Declared) → IfErr result (IsFileCause (seen (ruleset_names rulesets.entry) (F.told shelf.old)) sets (F.asked shelf.old) (record { name = name.now; form = inputs.capture }) (F.asked shelf.new) (F.faults shelf.old) (F.faults shelf.new)) }
     ensures silent { OnOk result (N.told notes.new ≡ N.told notes.old) }
-    ensures noted { (sets : List Declared) → IfErr result (λ fault. MayTell (IsNoteOn (F.told shelf.old) sets name.now fault) (N.told notes.old) (N.told notes.new)) }
+    ensures noted { (sets : List Declared) → IfErr result (λ fault. MayTell (IsNoteOn (seen (ruleset_names rulesets.entry) (F.told shelf.old)) sets name.now fault) (N.told notes.old) (N.told notes.new)) }
 {
-    let text = match text_of(alloc, shelf, notes, name) {
+    let text = match text_of(alloc, shelf, notes, rulesets, skipped, name) {
         Ok(text) => text,
         Err(fault) => return Err(fault),
     };

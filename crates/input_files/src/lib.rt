@@ -11,11 +11,12 @@
 //!     both are accepted                           the work: a script and its packets
 //!
 //! A script comes first, and after it a key file, or a plan and a capture, or a second script. A rules file may
-//! come before the key file or the plan. A ruleset comes alone. [`FileFault`] says why a file fails. A note about it goes to the person at
+//! come before the key file or the plan. With `sets` a ruleset comes alone. A script may also be given as a ruleset, of
+//! which the sets are read ([`Rulesets`]). [`FileFault`] says why a file fails. A note about it goes to the person at
 //! the terminal.
 //!
 //! **Definitions:** `specs/Inputs.antt` lists the files of each command and the form of each.
-//! `Reads.antt` says how far they were read, `Given.antt` and `Works.antt` what their texts mean, and
+//! `Seen.antt` says what is read of a ruleset. `Reads.antt` says how far they were read, `Given.antt` and `Works.antt` what their texts mean, and
 //! `Noted.antt` what is printed for a person. **Theory:** docs/architecture.md, "The way of a run".
 //! **Proofs:** docs/proofs.md, "Causes and counts (`pip_base`, `input_files`, `pipapo_cli`)".
 #![tactic(auto)]
@@ -24,8 +25,10 @@ mod fault;
 mod files;
 mod rulesets;
 mod script_told;
+mod seen;
 mod told;
 mod work;
 
 pub use fault::{FileFault, Flaw};
+pub use seen::Rulesets;
 pub use work::{Work, work_of};

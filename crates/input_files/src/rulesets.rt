@@ -6,15 +6,18 @@ ghost use Rattle.fault_notes.specs.Told.{MayTell};
 ghost use Rattle.input_files.specs.Inputs as inputs;
 ghost use Rattle.input_files.specs.Inputs.{ReadsAs, IsFileCause};
 ghost use Rattle.input_files.specs.Noted.{IsNoteOn};
+ghost use Rattle.input_files.specs.Seen.{AddsSkips, ruleset_names, seen};
 ghost use Rattle.input_files.specs.Works.{AreSetsOf};
 
 use crate::fault::{FileFault, Flaw};
 use crate::files::text_of;
 use crate::script_told::tell_script;
+use crate::seen::Rulesets;
 use pip_base::{Notes, Shelf};
 use ruleset_sets::{Sieved, sieve_ruleset};
 use set_model::Memory;
 use set_script::{bad_token, read_script};
+use skip_notes::SkipsNote;
 use std::alloc::Global;
 use token_forms::ReadError as FormError;
 
@@ -29,19 +32,23 @@ pub fn sets_of<'a, F: Shelf, N: Notes>(
     alloc: Global,
     shelf: &mut F,
     notes: &mut N,
+    rulesets: Rulesets<'_>,
+    skipped: &mut SkipsNote,
     name: &'a str,
 ) -> Result<SetsRead, FileFault<'a>>
     requires { length (F.asked shelf.old) ≤ 2 }
-    ensures read { IfOk result (λ r. ReadsAs (F.told shelf.old) name.now (λ text. (r.whole.items ≡ text) × AreSetsOf text r.sieved.text.items r.sieved.skips)) }
+    ensures read { IfOk result (λ r. ReadsAs (seen (ruleset_names rulesets.entry) (F.told shelf.old)) name.now (λ text. (r.whole.items ≡ text) × AreSetsOf text r.sieved.text.items r.sieved.skips)) }
     ensures quiet { OnOk result ((F.asked shelf.new ≡ F.asked shelf.old ++ name.now ∷ []) × (F.faults shelf.new ≡ F.faults shelf.old)) }
     ensures whole { OnOk result (ReadsToEnd (F.is_picked shelf.old) (F.is_picked shelf.new) (F.left shelf.new)) }
     ensures kept { KeepsLeft (F.is_picked shelf.old) (F.is_picked shelf.new) (F.left shelf.old) (F.left shelf.new) }
     ensures told { (other : List ℕ) → F.told shelf.new other ≡ F.told shelf.old other }
-    ensures cause { (sets : List Declared) → IfErr result (IsFileCause (F.told shelf.old) sets (F.asked shelf.old) (record { name = name.now; form = inputs.rules_of_nft }) (F.asked shelf.new) (F.faults shelf.old) (F.faults shelf.new)) }
+    ensures seen { (other : List ℕ) → seen (ruleset_names rulesets.entry) (F.told shelf.new) other ≡ seen (ruleset_names rulesets.entry) (F.told shelf.old) other }
+    ensures skips { OnOk result (AddsSkips (F.told shelf.old) (ruleset_names rulesets.entry) name.now skipped.old.bytes.items skipped.new.bytes.items) }
+    ensures cause { (sets : List Declared) → IfErr result (IsFileCause (seen (ruleset_names rulesets.entry) (F.told shelf.old)) sets (F.asked shelf.old) (record { name = name.now; form = inputs.rules_of_nft }) (F.asked shelf.new) (F.faults shelf.old) (F.faults shelf.new)) }
     ensures silent { OnOk result (N.told notes.new ≡ N.told notes.old) }
-    ensures noted { (sets : List Declared) → IfErr result (λ fault. MayTell (IsNoteOn (F.told shelf.old) sets name.now fault) (N.told notes.old) (N.told notes.new)) }
+    ensures noted { (sets : List Declared) → IfErr result (λ fault. MayTell (IsNoteOn (seen (ruleset_names rulesets.entry) (F.told shelf.old)) sets name.now fault) (N.told notes.old) (N.told notes.new)) }
 {
-    let whole = match text_of(alloc, shelf, notes, name) {
+    let whole = match text_of(alloc, shelf, notes, rulesets, skipped, name) {
         Ok(whole) => whole,
         Err(fault) => return Err(fault),
     };

@@ -1,10 +1,10 @@
 //! Prints where a script isn't in its grammar: its bad token, and those of the statements after it.
 ghost use Rattle.std.specs.Prelude.{IfOk};
-ghost use Rattle.fault_notes.specs.Told.{MayTell};
+ghost use Rattle.fault_notes.specs.Told.{SaysTold};
 ghost use Rattle.input_files.specs.Noted.{AreFurther, IsScriptNote, IsScriptNoted};
 
 use fault_notes::{
-    Note, bad_script_note, further_note, is_other_kind, tell_note, without_statement,
+    Note, TextKind, bad_script_note, further_note, is_other_kind, tell_note, without_statement,
 };
 use pip_base::Notes;
 use set_model::Memory;
@@ -29,7 +29,7 @@ fn further(
     bad: BadToken,
     most: u64,
 ) -> Result<Note, Memory>
-    ensures { IfOk result (λ notes. AreFurther name.now most rest.now notes.bytes.items) }
+    ensures { IfOk result (λ notes. AreFurther name.now text.now most rest.now notes.bytes.items) }
 {
     if most == 0 {
         return Ok(Note::new(alloc));
@@ -58,7 +58,7 @@ fn script_note(alloc: Global, name: &str, text: &[u8], bad: BadToken) -> Result<
     if text.len() > MOST_READ_AGAIN {
         return Ok(note);
     }
-    if is_other_kind(alloc, text, bad)? {
+    if is_other_kind(TextKind::Script, text, bad) {
         return Ok(note);
     }
     let more = further(alloc, name, text, text, bad, MOST_FURTHER)?;
@@ -66,17 +66,18 @@ fn script_note(alloc: Global, name: &str, text: &[u8], bad: BadToken) -> Result<
     Ok(note)
 }
 
-/// Prints where a script isn't in its grammar, by its bad token, if that was found.
+/// Prints where a script isn't in its grammar, by its bad token, if that was found. Returns whether it printed a note.
 pub fn tell_script<N: Notes>(
     alloc: Global,
     notes: &mut N,
     name: &str,
     text: &[u8],
     found: Result<Option<BadToken>, Memory>,
-)
-    ensures { MayTell (IsScriptNoted found name.now text.now) (N.told notes.old) (N.told notes.new) }
+) -> bool
+    ensures { SaysTold (IsScriptNoted found name.now text.now) (N.told notes.old) (N.told notes.new) result }
 {
-    if let Ok(Some(bad)) = found {
-        tell_note(notes, script_note(alloc, name, text, bad));
+    match found {
+        Ok(Some(bad)) => tell_note(notes, script_note(alloc, name, text, bad)),
+        _ => false,
     }
 }

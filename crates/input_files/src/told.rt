@@ -1,6 +1,6 @@
-//! Prints notes on files that failed.
+//! Prints notes on files that failed. Each call returns whether it printed one: it doesn't if memory runs out for the note.
 ghost use Rattle.fault_notes.specs.Shown.{Begins, byte_text, name_text};
-ghost use Rattle.fault_notes.specs.Told.{MayTell};
+ghost use Rattle.fault_notes.specs.Told.{SaysTold};
 ghost use Rattle.input_files.specs.Noted.{IsPlacedBy};
 
 use fault_notes::{
@@ -21,11 +21,12 @@ pub fn tell_bad<N: Notes>(
     name: &str,
     text: &[u8],
     found: Result<Option<BadToken>, Memory>,
-)
-    ensures { MayTell (IsPlacedBy found name.now) (N.told notes.old) (N.told notes.new) }
+) -> bool
+    ensures { SaysTold (IsPlacedBy kind found name.now text.now) (N.told notes.old) (N.told notes.new) result }
 {
-    if let Ok(Some(bad)) = found {
-        tell_note(notes, bad_text_note(alloc, kind, schema, name, text, bad));
+    match found {
+        Ok(Some(bad)) => tell_note(notes, bad_text_note(alloc, kind, schema, name, text, bad)),
+        _ => false,
     }
 }
 
@@ -37,22 +38,22 @@ pub fn tell_capture<N: Notes>(
     file: &[u8],
     byte: u64,
     reason: CaptureReason,
-)
-    ensures { MayTell (Begins (byte_text name.now byte)) (N.told notes.old) (N.told notes.new) }
+) -> bool
+    ensures { SaysTold (Begins (byte_text name.now byte)) (N.told notes.old) (N.told notes.new) result }
 {
-    tell_note(notes, capture_note(alloc, name, file, byte, reason));
+    tell_note(notes, capture_note(alloc, name, file, byte, reason))
 }
 
 /// Prints why a file can't be opened or read.
-pub fn tell_read_fault<N: Notes>(alloc: Global, notes: &mut N, name: &str, kind: FaultKind)
-    ensures { MayTell (Begins (name_text name.now)) (N.told notes.old) (N.told notes.new) }
+pub fn tell_read_fault<N: Notes>(alloc: Global, notes: &mut N, name: &str, kind: FaultKind) -> bool
+    ensures { SaysTold (Begins (name_text name.now)) (N.told notes.old) (N.told notes.new) result }
 {
-    tell_note(notes, read_fault_note(alloc, name, kind));
+    tell_note(notes, read_fault_note(alloc, name, kind))
 }
 
 /// Prints that a file has too many bytes.
-pub fn tell_too_large<N: Notes>(alloc: Global, notes: &mut N, name: &str)
-    ensures { MayTell (Begins (name_text name.now)) (N.told notes.old) (N.told notes.new) }
+pub fn tell_too_large<N: Notes>(alloc: Global, notes: &mut N, name: &str) -> bool
+    ensures { SaysTold (Begins (name_text name.now)) (N.told notes.old) (N.told notes.new) result }
 {
-    tell_note(notes, too_large_note(alloc, name));
+    tell_note(notes, too_large_note(alloc, name))
 }

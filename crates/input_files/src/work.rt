@@ -1,19 +1,23 @@
 ghost use Rattle.std.specs.Prelude.{◌≡◌, List, ℕ, [], IfOk, IfErr, OnOk};
 ghost use Rattle.command_words.specs.Words.{IsCommand};
 ghost use Rattle.command_words.specs.WordForms.{plain};
+ghost use Rattle.input_files.specs.Inputs.{inputs, names_of};
 ghost use Rattle.input_files.specs.Noted.{StopsTelling};
 ghost use Rattle.input_files.specs.Reads.{HasRead};
+ghost use Rattle.input_files.specs.Seen.{AreAllSkips, ruleset_names, seen};
 ghost use Rattle.input_files.specs.Works.{IsWork, IsDoable};
 
 use crate::fault::FileFault;
 use crate::files::{capture_of, keys_of, plan_of, rules_of, script_of, second_script_of};
 use crate::rulesets::{SetsRead, sets_of};
+use crate::seen::Rulesets;
 use command_words::{Command, Task};
 use pcap_keys::{Frames, Plan};
 use pip_base::{Notes, Shelf};
 use rule_chain::Chains;
 use ruleset_sets::Sieved;
 use set_model::{Keys, Script};
+use skip_notes::SkipsNote;
 use std::alloc::Global;
 
 /// What a command works on: what its files mean, and the options of its words.
@@ -91,6 +95,12 @@ pub enum Work<'a> {
         moment: Option<u64>,
         keep_going: bool,
     },
+    /// An explanation of the answers to packets.
+    Explain {
+        script: Script,
+        keys: Keys,
+        keep_going: bool,
+    },
     /// A comparison of two scripts, each with the name of its file.
     Compare {
         first: &'a str,
@@ -110,7 +120,8 @@ pub enum Work<'a> {
 }
 
 /// Reads the files of a command, in the order of its words. It opens a file only after the one before
-/// is read and accepted. The text of the first script is put into `script_text`.
+/// is read and accepted. Of a ruleset it reads what is kept. The lines on the rest are added to `skipped`, which has none
+/// before. What is read of the first script is put into `script_text`.
 ///
 /// # Errors
 ///
@@ -119,15 +130,18 @@ pub fn work_of<'a, F: Shelf, N: Notes>(
     alloc: Global,
     shelf: &mut F,
     notes: &mut N,
+    rulesets: Rulesets<'_>,
+    skipped: &mut SkipsNote,
     script_text: &mut Vec<u8>,
     command: Command<'a>,
 ) -> Result<Work<'a>, FileFault<'a>>
     requires nothing { F.asked shelf.old ≡ [] }
+    requires fresh { skipped.old.bytes.items ≡ [] }
     requires threads { (words : List (List ℕ)) × IsCommand words (plain command) }
-    ensures work { IfOk result (IsWork (F.told shelf.old) (plain command.entry)) }
+    ensures work { IfOk result (IsWork (seen (ruleset_names rulesets.entry) (F.told shelf.old)) (plain command.entry)) }
     ensures doable { IfOk result IsDoable }
-    ensures all { OnOk result (HasRead (record { told = F.told shelf.old; asked = F.asked shelf.new; faults_before = F.faults shelf.old; faults_now = F.faults shelf.new; picked_before = F.is_picked shelf.old; picked_now = F.is_picked shelf.new; left = F.left shelf.new }) (plain command.entry)) }
-    ensures stops { IfErr result (StopsTelling (record { told = F.told shelf.old; asked = F.asked shelf.new; faults_before = F.faults shelf.old; faults_now = F.faults shelf.new; picked_before = F.is_picked shelf.old; picked_now = F.is_picked shelf.new; left = F.left shelf.new }) (plain command.entry) (N.told notes.old) (N.told notes.new)) }
+    ensures all { OnOk result (HasRead (record { told = seen (ruleset_names rulesets.entry) (F.told shelf.old); asked = F.asked shelf.new; faults_before = F.faults shelf.old; faults_now = F.faults shelf.new; picked_before = F.is_picked shelf.old; picked_now = F.is_picked shelf.new; left = F.left shelf.new }) (plain command.entry) × AreAllSkips (F.told shelf.old) (ruleset_names rulesets.entry) (names_of (inputs (plain command.entry))) skipped.new.bytes.items) }
+    ensures stops { IfErr result (StopsTelling (record { told = seen (ruleset_names rulesets.entry) (F.told shelf.old); asked = F.asked shelf.new; faults_before = F.faults shelf.old; faults_now = F.faults shelf.new; picked_before = F.is_picked shelf.old; picked_now = F.is_picked shelf.new; left = F.left shelf.new }) (plain command.entry) (N.told notes.old) (N.told notes.new)) }
     ensures silent { OnOk result (N.told notes.new ≡ N.told notes.old) }
 {
     match command {
@@ -136,7 +150,15 @@ pub fn work_of<'a, F: Shelf, N: Notes>(
             task,
             keep_going,
         } => {
-            let script = match script_of(alloc, shelf, notes, script_text, script) {
+            let script = match script_of(
+                alloc,
+                shelf,
+                notes,
+                rulesets,
+                skipped,
+                script_text,
+                script,
+            ) {
                 Ok(script) => script,
                 Err(fault) => return Err(fault),
             };
@@ -145,6 +167,8 @@ pub fn work_of<'a, F: Shelf, N: Notes>(
                     alloc,
                     shelf,
                     notes,
+                    rulesets,
+                    skipped,
                     &script.schema,
                     keys,
                 ) {
@@ -171,11 +195,19 @@ pub fn work_of<'a, F: Shelf, N: Notes>(
                     keys,
                     threads,
                 } => {
-                    let chains = match rules_of(alloc, shelf, notes, &script.schema, rules) {
+                    let chains = match rules_of(
+                        alloc,
+                        shelf,
+                        notes,
+                        rulesets,
+                        skipped,
+                        &script.schema,
+                        rules,
+                    ) {
                         Ok(chains) => chains,
                         Err(fault) => return Err(fault),
                     };
-                    match keys_of(alloc, shelf, notes, &script.schema, keys) {
+                    match keys_of(alloc, shelf, notes, rulesets, skipped, &script.schema, keys) {
                         Ok(keys) => Ok(Work::Judge {
                             script,
                             chains,
@@ -186,16 +218,34 @@ pub fn work_of<'a, F: Shelf, N: Notes>(
                         Err(fault) => Err(fault),
                     }
                 }
+                Task::Explain { keys } => {
+                    match keys_of(alloc, shelf, notes, rulesets, skipped, &script.schema, keys) {
+                        Ok(keys) => Ok(Work::Explain {
+                            script,
+                            keys,
+                            keep_going,
+                        }),
+                        Err(fault) => Err(fault),
+                    }
+                }
                 Task::Capture {
                     plan,
                     packets,
                     threads,
                 } => {
-                    let plan = match plan_of(alloc, shelf, notes, &script.schema, plan) {
+                    let plan = match plan_of(
+                        alloc,
+                        shelf,
+                        notes,
+                        rulesets,
+                        skipped,
+                        &script.schema,
+                        plan,
+                    ) {
                         Ok(plan) => plan,
                         Err(fault) => return Err(fault),
                     };
-                    match capture_of(alloc, shelf, notes, packets) {
+                    match capture_of(alloc, shelf, notes, rulesets, skipped, packets) {
                         Ok(frames) => Ok(Work::Capture {
                             script,
                             plan,
@@ -212,15 +262,31 @@ pub fn work_of<'a, F: Shelf, N: Notes>(
                     packets,
                     threads,
                 } => {
-                    let chains = match rules_of(alloc, shelf, notes, &script.schema, rules) {
+                    let chains = match rules_of(
+                        alloc,
+                        shelf,
+                        notes,
+                        rulesets,
+                        skipped,
+                        &script.schema,
+                        rules,
+                    ) {
                         Ok(chains) => chains,
                         Err(fault) => return Err(fault),
                     };
-                    let plan = match plan_of(alloc, shelf, notes, &script.schema, plan) {
+                    let plan = match plan_of(
+                        alloc,
+                        shelf,
+                        notes,
+                        rulesets,
+                        skipped,
+                        &script.schema,
+                        plan,
+                    ) {
                         Ok(plan) => plan,
                         Err(fault) => return Err(fault),
                     };
-                    match capture_of(alloc, shelf, notes, packets) {
+                    match capture_of(alloc, shelf, notes, rulesets, skipped, packets) {
                         Ok(frames) => Ok(Work::JudgeCapture {
                             script,
                             chains,
@@ -248,11 +314,19 @@ pub fn work_of<'a, F: Shelf, N: Notes>(
             second,
             keep_going,
         } => {
-            let first_script = match script_of(alloc, shelf, notes, script_text, first) {
+            let first_script = match script_of(
+                alloc,
+                shelf,
+                notes,
+                rulesets,
+                skipped,
+                script_text,
+                first,
+            ) {
                 Ok(script) => script,
                 Err(fault) => return Err(fault),
             };
-            match second_script_of(alloc, shelf, notes, second) {
+            match second_script_of(alloc, shelf, notes, rulesets, skipped, second) {
                 Ok(second_script) => Ok(Work::Compare {
                     first,
                     first_script,
@@ -263,7 +337,7 @@ pub fn work_of<'a, F: Shelf, N: Notes>(
                 Err(fault) => Err(fault),
             }
         }
-        Command::Sets { file } => match sets_of(alloc, shelf, notes, file) {
+        Command::Sets { file } => match sets_of(alloc, shelf, notes, rulesets, skipped, file) {
             Ok(SetsRead { whole, sieved }) => Ok(Work::Sets {
                 file,
                 whole,

@@ -1,6 +1,6 @@
 //! The answer to a key, and its text.
 ghost use Rattle.std.specs.List.{list_any};
-ghost use Rattle.std.specs.Prelude.{◌≡◌, ◌||◌, not, ◌++◌, true, All, filter, length, map, is_some, slice_get, Some, Err, IfOk, IfSome, OnOk, ℕ, option_map, false};
+ghost use Rattle.std.specs.Prelude.{◌≡◌, ◌||◌, not, ◌++◌, true, All, filter, length, map, is_some, slice_get, Some, Err, List, Option, IfOk, IfSome, OnOk, ℕ, option_map, false};
 ghost use Rattle.std.specs.String.{string_bytes};
 ghost use Rattle.set_model.specs.Key.{key_fits, parts_fit};
 ghost use Rattle.set_model.specs.SetState.{first};
@@ -12,11 +12,13 @@ ghost use Rattle.script_laws.specs.Reports.{IsReportOn};
 ghost use Rattle.token_forms.specs.declared.token.Reason.{Reason};
 ghost use Rattle.key_answer.specs.Answer.{answer_in, answer_text, origin_text, line_text, GivesAnswer};
 ghost use Rattle.key_answer.specs.Origin.{lines_of};
-ghost use Rattle.key_answer.specs.Question.{IsBadKey};
-ghost use Rattle.set_report.specs.Remarks.{remarks_text};
+ghost use Rattle.key_answer.specs.Question.{IsBadKey, IsKey};
+ghost use Rattle.token_forms.specs.declared.bad_token.BadToken.{BadToken as Token};
+ghost use Rattle.set_model.specs.declared.script.SetDecl.{SetDecl as Declared};
 ghost use Rattle.key_answer.specs.declared.question.AnswerError.TheVariants.{BadKey};
+ghost use Rattle.set_report.specs.Remarks.{remarks_text};
 
-use crate::question::{AnswerError, packet_of};
+use crate::question::{AnswerError, no_key, packet_of};
 use crate::trace::{Trace, trace_script};
 use packet_pool::Gate;
 use pipapo_image::{Scratch, SetImage};
@@ -57,8 +59,8 @@ fn write_origin(
     write_line(lines, element.id, out)
 }
 
-/// The element of a set that answers a packet.
-fn element_for<'a>(
+/// The element of a set that answers a packet: the first one that is live and holds the key. The set's tables find it.
+pub fn element_for<'a>(
     image: &'a SetImage,
     packet: &Packet,
     scratch: &mut Scratch,
@@ -147,6 +149,37 @@ fn fails(events: &[Event], found: bool) -> bool
     tells_refusal(events) || !found
 }
 
+/// Answers a packet in the last generation of a script, as [`get`] does. Its words are those of a key.
+fn answer_to<G: Gate>(
+    alloc: Global,
+    script: Script,
+    words: &[String],
+    asked: Packet,
+    moment: Option<u64>,
+    keep_going: bool,
+    gate: &G,
+) -> Result<Output, Memory>
+    requires script { IsRunnable script }
+    requires key { IsKey script.schema (map string_bytes words.now) asked }
+    requires fits { IsFitting script.schema asked }
+    ensures answer { IfOk result (λ out. GivesAnswer (mode_of keep_going) script (map string_bytes words.now) moment out.refused out.text.items) }
+    ensures report { IfOk result (IsReportOn (mode_of keep_going) script) }
+    ensures failed { IfOk result (λ out. out.failed ≡ false) }
+{
+    let packet = Packet {
+        now: moment.unwrap_or(script.last),
+        ..asked
+    };
+    let trace = trace_script(alloc, &script, keep_going, gate)?;
+    let mut output = Output::new(alloc);
+    let found = write_all(alloc, &trace, &packet, &mut output.text)?;
+    let events = trace.events.as_slice();
+    add_refusals(0, events, &mut output.refusals)?;
+    output.refused = fails(events, found);
+    output.script = Some(script);
+    Ok(output)
+}
+
 /// Answers the key of words, which are one line of a key file, in the last generation of a script. The
 /// moment is in milliseconds; without one it is the script's last. The text is the element and the line
 /// that added it, or `none`, after the refused changes. `refused` is true if a change was refused or no
@@ -167,19 +200,10 @@ pub fn get<G: Gate>(
     ensures answer { IfOk result (λ out. GivesAnswer (mode_of keep_going) script (map string_bytes words.now) moment out.refused out.text.items) }
     ensures report { IfOk result (IsReportOn (mode_of keep_going) script) }
     ensures failed { IfOk result (λ out. out.failed ≡ false) }
-    ensures bad { (line : ℕ) (reason : Reason) → result ≡ Err (BadKey line reason) → IsBadKey script.schema (map string_bytes words.now) line reason }
+    ensures bad { (line : ℕ) (reason : Reason) (bad : Option Token) (schema : List Declared) → result ≡ Err (BadKey line reason bad schema) → IsBadKey script.schema (map string_bytes words.now) line reason }
 {
-    let asked = packet_of(alloc, &script.schema, words)?;
-    let packet = Packet {
-        now: moment.unwrap_or(script.last),
-        ..asked
-    };
-    let trace = trace_script(alloc, &script, keep_going, gate)?;
-    let mut output = Output::new(alloc);
-    let found = write_all(alloc, &trace, &packet, &mut output.text)?;
-    let events = trace.events.as_slice();
-    add_refusals(0, events, &mut output.refusals)?;
-    output.refused = fails(events, found);
-    output.script = Some(script);
-    Ok(output)
+    match packet_of(alloc, &script.schema, words) {
+        Ok(asked) => Ok(answer_to(alloc, script, words, asked, moment, keep_going, gate)?),
+        Err(error) => Err(no_key(alloc, script, words, error)),
+    }
 }

@@ -14,6 +14,9 @@
 //!
 //! The answer comes from the set's tables. It is the earliest inserted element that is live and holds the key.
 //!
+//! [`met_by`] does the steps of a script with refused changes once more, and notes the step that makes each id. If line 6 adds
+//! 10.0.0.0/16 . 443, this overlaps element 1. So the change met the addition of line 4. No clause says so; tests do.
+//!
 //! **Definitions:** `specs/Origin.antt` has the lines, `Question.antt` the key, and `Answer.antt` the
 //! answer and its text. `Tracing.antt` relates a run to them. **Theory:** docs/architecture.md, "The way
 //! of a change". **Proofs:** docs/proofs.md, "A run (`packet_pool`, `script_run`)".
@@ -21,11 +24,13 @@
 
 mod answer;
 mod lines;
+mod met;
 mod question;
 mod trace;
 mod trail;
 
-pub use answer::{get, write_line};
+pub use answer::{element_for, get, write_line};
 pub use lines::Lines;
-pub use question::AnswerError;
+pub use met::{Met, met_by};
+pub use question::{AnswerError, key_text};
 pub use trace::{Trace, trace_script};

@@ -1,19 +1,21 @@
 //! A script that was run to its end, with the lines of its additions.
-ghost use Rattle.std.specs.Prelude.{◌≡◌, ◌<◌, ◌++◌, [], false, All, filter, length, slice_get, Some, IfOk, OnOk, ℕ};
-ghost use Rattle.set_model.specs.Control.{mode_of, history, is_refusal as refuses};
-ghost use Rattle.set_model.specs.Runnable.{IsRunnable};
+ghost use Rattle.std.specs.Prelude.{◌≡◌, ◌<◌, ◌≤◌, ◌+◌, ◌++◌, [], List, false, All, filter, get_or, length, take, slice_get, Some, IfOk, OnOk, ℕ};
+ghost use Rattle.set_model.specs.declared.script.Step.{Step as Done};
+ghost use Rattle.set_model.specs.Control.{Mode, mode_of, history, is_refusal as refuses};
+ghost use Rattle.set_model.specs.Runnable.{EndsClosed, HasFields, IsRunnable, IsRunnableStep};
 ghost use Rattle.set_report.specs.Remarks.{told_text};
 ghost use Rattle.set_report.specs.Writes.{AreSetsOf, NamesSet};
 ghost use Rattle.packet_pool.specs.Running.{run, StandsAt};
 ghost use Rattle.key_answer.specs.Origin.{lines_of, traced};
+ghost use Rattle.key_answer.specs.Sections.{IsTraceOf};
 
 use crate::lines::Lines;
 use crate::trail::trace_steps;
 use gen_publish::Control;
-use packet_pool::Gate;
+use packet_pool::{Gate, count_commits};
 use pipapo_image::SetImage;
 use script_laws::{has_numbers, start_run};
-use set_model::{Events, Memory, Script};
+use set_model::{Events, Memory, Schema, Script, Steps};
 use set_report::write_events;
 use set_space::Generation;
 use std::alloc::Global;
@@ -61,6 +63,55 @@ fn image_of(alloc: Global, generation: &Generation, set: u32) -> Result<SetImage
 }
 
 impl Trace {
+    /// A script before its first section.
+    ///
+    /// # Errors
+    ///
+    /// `Memory` if memory runs out.
+    pub fn new(alloc: Global, schema: &Schema) -> Result<Trace, Memory>
+        requires sets { All HasFields schema.now }
+        requires few_sets { length schema.now ≤ 64 }
+        ensures { (mode : Mode) → IfOk result (IsTraceOf mode schema.now []) }
+    {
+        let lines = Lines::new(alloc, schema.len())?;
+        let (control, _readers) = start_run(alloc, schema, 1)?;
+        Ok(Trace {
+            control,
+            events: Events::new(alloc),
+            lines,
+        })
+    }
+
+    /// Does the next section. Running out of numbers for generations counts as running out of memory.
+    ///
+    /// # Errors
+    ///
+    /// `Memory` if memory runs out.
+    pub fn do_section<G: Gate>(
+        &mut self,
+        alloc: Global,
+        steps: &Steps,
+        keep_going: bool,
+        gate: &G,
+    ) -> Result<(), Memory>
+        requires steps { All (IsRunnableStep self.old.control.schema) steps.now }
+        requires closed { EndsClosed steps.now }
+        ensures { OnOk result ((sections : List (List Done)) (i : ℕ) → i < length sections → steps.now ≡ get_or sections i steps.now → IsTraceOf (mode_of keep_going) self.old.control.schema (take i sections) self.old → IsTraceOf (mode_of keep_going) self.old.control.schema (take (i + 1) sections) self.new) }
+    {
+        if !has_numbers(&self.control, count_commits(steps)) {
+            return Err(Memory);
+        }
+        let told = trace_steps(
+            alloc,
+            &mut self.control,
+            steps,
+            keep_going,
+            &mut self.lines,
+            gate,
+        )?;
+        add_all(&mut self.events, &told)
+    }
+
     /// An image of a set of the last generation.
     ///
     /// # Errors
@@ -110,24 +161,13 @@ pub fn trace_script<G: Gate>(
     ensures named { IfOk result (λ t. All (NamesSet (length script.now.schema)) t.events) }
     ensures sets { IfOk result (λ t. AreSetsOf script.now.schema t.control.work.base.sets) }
 {
-    let mut lines = Lines::new(alloc, script.schema.len())?;
-    let (mut control, _readers) = start_run(alloc, &script.schema, 1)?;
-    let sections = &script.sections;
-    let mut events = Events::new(alloc);
-    let last = sections.len().saturating_sub(1);
+    let mut trace = Trace::new(alloc, &script.schema)?;
+    let last = script.sections.len().saturating_sub(1);
     let mut number = 0;
-    'sections: for steps in sections.as_slice() {
+    'sections: for steps in script.sections.as_slice() {
         gate.section(number, last, 0);
         number = number.saturating_add(1);
-        if !has_numbers(&control, steps.len()) {
-            return Err(Memory);
-        }
-        let told = trace_steps(alloc, &mut control, steps, keep_going, &mut lines, gate)?;
-        add_all(&mut events, &told)?;
+        trace.do_section(alloc, steps, keep_going, gate)?;
     }
-    Ok(Trace {
-        control,
-        events,
-        lines,
-    })
+    Ok(trace)
 }

@@ -19,17 +19,17 @@ use std::alloc::Global;
 
 /// An addition to a set.
 #[derive(Clone, Copy)]
-struct Addition<'a> {
+pub(crate) struct Addition<'a> {
     line: u64,
-    set: u32,
+    pub(crate) set: u32,
     /// Whether it is refused if the element exists.
     creates: bool,
-    element: &'a NewElement,
+    pub(crate) element: &'a NewElement,
     now: u64,
 }
 
 /// The addition that a step is, if it is one.
-fn addition_of(step: &Step) -> Option<Addition<'_>>
+pub(crate) fn addition_of(step: &Step) -> Option<Addition<'_>>
     ensures some { IfSome result (λ a. step.now ≡ Change a.line a.set (adding a.creates) a.element.now a.now) }
     ensures none { result ≡ None → (set : ℕ) (c : Steered) (lines : List ℕ) → lines_after set c lines step.now ≡ lines }
 {
@@ -96,7 +96,10 @@ fn create(
 }
 
 /// Inserts or creates an element, and returns its id if it is new.
-fn try_add(control: &mut Control, addition: Addition<'_>) -> Result<Option<u64>, ChangeError>
+pub(crate) fn try_add(
+    control: &mut Control,
+    addition: Addition<'_>,
+) -> Result<Option<u64>, ChangeError>
     requires set { addition.set < length control.old.work.sets }
     requires fits { FitsSet control.old.work addition.set addition.element.now.parts }
     ensures others { control.new ≡ record control.old { work = control.new.work } }

@@ -1,11 +1,11 @@
 -- Changes at rising moments keep what a listing needs of a set.
-use Rattle.std.proofs.Common.{◌≡◌, refl, sym, ◌∙◌, ap, subst, ℕ, zero, suc, ◌+◌, ◌-◌, ◌≤◌, ◌<◌, ◌==◌, ◌^◌, Bool, true, false, not, ◌&&◌, cond, nat_lt, nat_le, if◌then◌else◌, List, [], ◌∷◌, ◌++◌, length, map, take, drop, set, filter, find, position, option_map, Option, Some, None, IfSome, All, get_or, slice_get, slice_set, arith, append-nil, length-append}
-use Rattle.std.specs.List.{AllPairs, position_or_len, range_with_len, zip, remove, list_all}
+use Rattle.std.proofs.Common.{◌≡◌, refl, sym, ◌∙◌, ap, subst, ℕ, zero, suc, ◌+◌, ◌-◌, ◌≤◌, ◌<◌, ◌==◌, ◌^◌, Bool, true, false, not, ◌&&◌, cond, nat_lt, nat_le, if◌then◌else◌, List, [], ◌∷◌, ◌++◌, length, filter, find, position, option_map, Option, Some, None, IfSome, All, get_or, slice_get, slice_set, arith, append-nil, length-append}
+use Rattle.std.specs.List.{AllPairs, position_or_len, range_with_len, remove}
 use Rattle.std.specs.Option.{option_map_or}
-use Rattle.std.proofs.lemmas.Bool.{ltb-true, ltb-false, leb-true, leb-false, lt-ltb, le-leb, eqb-false, and_parts, and_from, and_left, or_parts, or_from}
+use Rattle.std.proofs.lemmas.Bool.{ltb-true, ltb-false, leb-true, leb-false, lt-ltb, le-leb, eqb-false, and_parts, and_from, or_parts, or_from}
 use Rattle.std.proofs.lemmas.List.{length-set}
 use Rattle.std.proofs.lemmas.List.Concat.{flat_map-append}
-use Rattle.std.proofs.lemmas.List.Elements.{All-nil, All-cons, All-head, All-tail, All-push, All-set, All-filter}
+use Rattle.std.proofs.lemmas.List.Elements.{All-nil, All-cons, All-head, All-tail, All-push, All-set}
 use Rattle.std.proofs.lemmas.List.FromFn.{length-range_with_len, get_or-range_with_len}
 use Rattle.std.proofs.lemmas.List.Kept.{AllPairs-cons, AllPairs-filter}
 use Rattle.std.proofs.lemmas.Option.{cond_some}
@@ -16,8 +16,8 @@ use Rattle.set_model.specs.declared.element.NewElement.{NewElement}
 use Rattle.set_model.specs.declared.script.Verb.{Verb}
 use Rattle.set_model.specs.declared.script.Verb.TheVariants as verbs
 use Rattle.set_model.specs.Key.{start_key, end_key, contains, parts_hold, parts_share, same_parts}
-use Rattle.set_model.specs.Expiry.{live, lives, renewed_element, renewed_at}
-use Rattle.set_model.specs.SetState.{State, Addition, empty_set, answers, holds, shares, is_sharing, place, same_at, element_at, twin_place, start_in_the_way, end_in_the_way, sharing_place, sharing_in_the_way, is_full, is_crowded, crowded_field, blocks_of, field_blocks, field_rules, rules_limit, with_element, renewed, add, add_by, exact_place, without_at, removed, purged, cleared}
+use Rattle.set_model.specs.Expiry.{live, lives, renewed_element}
+use Rattle.set_model.specs.SetState.{State, Addition, empty_set, answers, holds, shares, is_sharing, place, same_at, element_at, twin_place, start_in_the_way, end_in_the_way, sharing_place, sharing_in_the_way, is_full, is_crowded, crowded_field, blocks_of, field_blocks, field_rules, rules_limit, with_element, renewed, add, add_by, exact_place, without_at, purged, cleared}
 use Rattle.set_model.specs.SetState.Addition.{New, Already, Renewed, Refused}
 use Rattle.set_model.specs.Control.{as_added, as_created, as_deleted, as_destroyed, changed_set}
 use Rattle.listing_laws.specs.Relisted.{is_in_the_way, IsGrown}

@@ -2,4 +2,18 @@ pub mod RelistedLaws
 pub mod GrowingLaws
 pub mod RisingLaws
 pub mod TextLaws
+pub mod WordTexts
+pub mod Means
+pub mod ElementTexts
+pub mod SetTexts
+pub mod TableTexts
+pub mod ByTable
+pub mod RemarkLaws
+pub mod ListingTexts
+pub mod RunsLaws
+pub mod TokenBytes
+pub mod FormValues
+pub mod ScriptSays
+pub mod ListableLaws
+pub mod ListedScripts
 mod Worked

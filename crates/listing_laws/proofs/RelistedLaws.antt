@@ -1,20 +1,17 @@
 -- The elements of a listing, added to an empty set, are all new and give the set again.
-use Rattle.std.proofs.Common.{◌≡◌, refl, sym, ◌∙◌, ap, subst, ℕ, zero, suc, ◌+◌, ◌-◌, ◌≤◌, ◌<◌, ◌==◌, ◌^◌, Bool, true, false, not, ◌&&◌, ◌||◌, cond, nat_lt, nat_le, if◌then◌else◌, List, [], ◌∷◌, ◌++◌, length, map, fold, filter, find, position, option_map, Option, Some, None, IfSome, All, flat_map, get_or, append_assoc, append-nil, length-append, arith}
+use Rattle.std.proofs.Common.{◌≡◌, refl, sym, ◌∙◌, ap, subst, ℕ, suc, ◌+◌, ◌-◌, ◌≤◌, ◌^◌, Bool, true, false, ◌&&◌, cond, nat_lt, nat_le, if◌then◌else◌, List, [], ◌∷◌, ◌++◌, length, map, fold, filter, find, position, option_map, Option, Some, None, IfSome, All, get_or, append_assoc, append-nil, length-append, arith}
 use Rattle.std.specs.List.{AllPairs, position_or_len, range_with_len}
 use Rattle.std.specs.Option.{option_map_or}
 use Rattle.std.proofs.lemmas.Bool.{ltb-true, ltb-false, lt-ltb, le-ltb, lt-leb, ne_eqb, or_parts, or_from}
 use Rattle.std.proofs.lemmas.List.Concat.{flat_map-append}
 use Rattle.std.proofs.lemmas.List.Elements.{All-nil, All-cons, All-head, All-tail}
 use Rattle.set_model.specs.declared.kind.Kind.{Kind}
-use Rattle.set_model.specs.declared.kind.Interval.{Interval}
 use Rattle.set_model.specs.declared.element.Element.{Element}
-use Rattle.set_model.specs.declared.element.NewElement.{NewElement}
-use Rattle.set_model.specs.declared.report.Why.{Why}
-use Rattle.set_model.specs.Key.{start_key, end_key, parts_hold}
+use Rattle.set_model.specs.Key.{start_key, end_key}
 use Rattle.set_model.specs.Expiry.{live, lives}
-use Rattle.set_model.specs.SetState.{State, Addition, empty_set, answers, holds, shares, is_sharing, place, same_at, twin_place, start_in_the_way, end_in_the_way, sharing_place, sharing_in_the_way, is_full, is_crowded, crowded_field, field_blocks, field_rules, rules_limit, with_element, add, add_by, purged}
+use Rattle.set_model.specs.SetState.{State, Addition, answers, holds, shares, place, same_at, twin_place, start_in_the_way, end_in_the_way, sharing_place, sharing_in_the_way, is_full, is_crowded, crowded_field, field_blocks, field_rules, rules_limit, add}
 use Rattle.set_model.specs.SetState.Addition.{New}
-use Rattle.listing_laws.specs.Relisted.{left, relisted, read_back, all_read_back, before_commit, added, all_new, is_in_the_way, IsGrown, ReadsBack}
+use Rattle.listing_laws.specs.Relisted.{left, relisted, read_back, all_read_back, added, all_new, is_in_the_way, IsGrown, ReadsBack}
 
 -- Tests that no item passes.
 module _ {X : Type 0} (p : X → Bool) where
@@ -86,7 +83,7 @@ module _ (now : ℕ) (s : State) (grown : IsGrown now s) where
   Free e f = live e now ≡ true → is_in_the_way s.disjoint e f.parts ≡ false
 
   -- the set after so many of its elements
-  abbrev upto : List Element → State
+  abbrev pub upto : List Element → State
   upto es = record { kinds = s.kinds; size = s.size; disjoint = s.disjoint; elements = all_read_back now 0 es; next = length es }
 
   module _ (before : List Element) (e : Element) (behind : List Element) (whole : s.elements ≡ before ++ e ∷ behind) where
@@ -148,7 +145,7 @@ module _ (now : ℕ) (s : State) (grown : IsGrown now s) where
         let most = grown.short f in
         le-ltb rules_limit _ (omega (arith, rules, all, rest, most)))
 
-    next : (add (upto before) (relisted now e) 0) ≡ (New (length before), upto (before ++ e ∷ []))
+    pub next : (add (upto before) (relisted now e) 0) ≡ (New (length before), upto (before ++ e ∷ []))
     next = rw (no_twin, starts, ends, shared, not_full, not_crowded)
         (let more : length before + 1 ≡ length (before ++ e ∷ []) = omega (arith, length-append before (e ∷ [])) in
         let items : all_read_back now 0 before ++ read_back now (length before) e ∷ [] ≡ all_read_back now 0 (before ++ e ∷ []) = ap (λ n. all_read_back now 0 before ++ read_back now n e ∷ []) (omega arith) ∙ sym (back-snoc now 0 before e) in

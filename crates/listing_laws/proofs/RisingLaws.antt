@@ -1,5 +1,5 @@
 -- The sets of a script whose moments never fall read back.
-use Rattle.std.proofs.Common.{◌≡◌, refl, sym, ◌∙◌, ap, subst, ℕ, zero, suc, ◌≤◌, ◌==◌, Bool, true, false, ◌&&◌, nat_le, if◌then◌else◌, List, [], ◌∷◌, ◌++◌, length, map, fold, flat_map, Option, Some, None, All, slice_get, arith}
+use Rattle.std.proofs.Common.{◌≡◌, refl, sym, ◌∙◌, subst, ℕ, ◌≤◌, ◌==◌, Bool, true, false, nat_le, if◌then◌else◌, List, [], ◌∷◌, length, map, fold, flat_map, Option, Some, None, All, slice_get, arith}
 use Rattle.std.proofs.lemmas.Bool.{leb-true, eqb-true, and_parts}
 use Rattle.std.proofs.lemmas.List.Elements.{All-nil, All-cons, All-head, All-tail, All-set, All-append}
 use Rattle.std.proofs.lemmas.List.Sums.{fold-append}
@@ -15,7 +15,7 @@ use Rattle.set_model.specs.declared.script.Step.TheVariants.{Change, Flush, Comm
 use Rattle.set_model.specs.declared.script.Verb.{Verb}
 use Rattle.set_model.specs.Key.{is_good, is_value, intervals_fit, parts_fit}
 use Rattle.set_model.specs.SetState.{State, empty_set, purged, cleared}
-use Rattle.set_model.specs.Control.{Mode, Strict, KeepGoing, Control, start, first_generation, step, section, history, with_set, answered, changed, changed_set, flushed, refused, rewound, committed}
+use Rattle.set_model.specs.Control.{Mode, Strict, KeepGoing, Control, start, first_generation, step, section, history, answered, changed, changed_set, flushed, refused, rewound, committed}
 use Rattle.set_model.specs.Runnable.{IsRunnableStep}
 use Rattle.listing_laws.specs.Relisted.{IsGrown, ReadsBack}
 use Rattle.listing_laws.specs.Rising.{moment_after, Rises}
@@ -94,18 +94,21 @@ module _ (mode : Mode) (schema : List SetDecl) where
       steps-grow steps (moment_after now s) last (step mode c s) (All-tail (IsRunnableStep schema) s steps all) rises.1 (step-grows now c s rises.0 (All-head (IsRunnableStep schema) s steps all) h)
 
   -- sections one after another are the steps of all of them
-  joined : (c : Control) (sections : List (List Step)) → fold (section mode) c sections ≡ section mode c (flat_map (λ steps. steps) sections)
+  pub joined : (c : Control) (sections : List (List Step)) → fold (section mode) c sections ≡ section mode c (flat_map (λ steps. steps) sections)
   joined c [] = refl
   joined c (x ∷ sections) = joined (section mode c x) sections ∙ sym (fold-append (step mode) c x (flat_map (λ steps. steps) sections))
 
-all-joined : {X : Type 0} (P : X → Type 0) (xss : List (List X)) → All (All P) xss → All P (flat_map (λ xs. xs) xss)
+pub all-joined : {X : Type 0} (P : X → Type 0) (xss : List (List X)) → All (All P) xss → All P (flat_map (λ xs. xs) xss)
 all-joined P [] h = All-nil P
 all-joined P (xs ∷ xss) h = All-append P xs (flat_map (λ ys. ys) xss) (All-head (All P) xs xss h) (all-joined P xss (All-tail (All P) xs xss h))
 
-pub history-reads-back : (mode : Mode) (schema : List SetDecl) (sections : List (List Step)) (now : ℕ)
-    → All (All (IsRunnableStep schema)) sections → Rises 0 (flat_map (λ steps. steps) sections) now → All (ReadsBack now) (history mode schema sections).last.sets
-history-reads-back mode schema sections now all rises k d lt =
+pub history-grows : (mode : Mode) (schema : List SetDecl) (sections : List (List Step)) (now : ℕ)
+    → All (All (IsRunnableStep schema)) sections → Rises 0 (flat_map (λ steps. steps) sections) now → All (IsGrown now) (history mode schema sections).last.sets
+history-grows mode schema sections now all rises =
     let steps = flat_map (λ (x : List Step). x) sections in
     let grows = steps-grow mode schema steps 0 now (start schema) (all-joined (IsRunnableStep schema) sections all) rises (record { last = all-empty 0 schema; sets = all-empty 0 schema }) in
-    let whole : Grows now (history mode schema sections) = subst (λ (c : Control). Grows now c) (sym (joined mode schema (start schema) sections)) grows in
-    reads-back now _ (whole.last k d lt)
+    subst (λ (c : Control). All (IsGrown now) c.last.sets) (sym (joined mode schema (start schema) sections)) grows.last
+
+pub history-reads-back : (mode : Mode) (schema : List SetDecl) (sections : List (List Step)) (now : ℕ)
+    → All (All (IsRunnableStep schema)) sections → Rises 0 (flat_map (λ steps. steps) sections) now → All (ReadsBack now) (history mode schema sections).last.sets
+history-reads-back mode schema sections now all rises k d lt = reads-back now _ (history-grows mode schema sections now all rises k d lt)

@@ -5,7 +5,7 @@ use Rattle.set_model.specs.declared.kind.Interval.{Interval}
 use Rattle.set_model.specs.declared.script.Family.{Family}
 use Rattle.set_model.specs.declared.script.SetDecl.{SetDecl}
 use Rattle.set_model.specs.declared.script.Step.{Step}
-use Rattle.set_model.specs.declared.script.Step.TheVariants.{Change, Flush, Commit, Abort}
+use Rattle.set_model.specs.declared.script.Step.TheVariants.{Flush, Commit, Abort}
 use Rattle.set_model.specs.declared.script.Verb.{Verb}
 use Rattle.set_model.specs.declared.script.Verb.TheVariants as verbs
 use Rattle.set_model.specs.declared.script.Script.{Script}
@@ -28,7 +28,7 @@ use Rattle.set_script.specs.declared.words.FlushWord.{FlushWord}
 use Rattle.set_script.specs.declared.words.FlushWord.TheVariants as flushes
 use Rattle.set_script.specs.declared.words.ItemWord.{ItemWord}
 use Rattle.set_script.specs.declared.words.ItemWord.TheVariants as items
-use Rattle.set_script.specs.Changes.{empty, declaration, declared, with_flag, change, with_commit, ended}
+use Rattle.set_script.specs.Changes.{empty, declaration, with_flag, change, with_commit, ended}
 use Rattle.set_script.specs.Script as form
 use Rattle.set_script.specs.ScriptText.{IsScriptText}
 use Rattle.set_script.proofs.RunLaws.{script_is_read}
@@ -185,7 +185,7 @@ statement_keeps d d1 x k (word, x1, y1, e1, w1, (d2, x2, y2, e2, w2, h)) = subst
 empty_rises : IsRising empty
 empty_rises = omega arith
 
-moments-rise : (text : List ℕ) (s : Script) → IsScriptText text s → Rises 0 (flat s.sections) s.last
+pub moments-rise : (text : List ℕ) (s : Script) → IsScriptText text s → Rises 0 (flat s.sections) s.last
 unfolding IsScriptText
 moments-rise text s (read, x, y, e, (d, x1, y1, e1, w, h), (u, x2, y2, e2, w2, h2)) =
     let k = lines_keep separates form.statement (λ (z : Draft). IsRising z) statement_keeps (empty, true) d x1 empty_rises w in

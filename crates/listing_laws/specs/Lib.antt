@@ -1,3 +1,4 @@
 pub mod Relisted
 pub mod Rising
 pub mod Listed
+pub mod Listing

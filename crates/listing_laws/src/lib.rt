@@ -13,14 +13,23 @@
 //! listed set finds at moment 1,500.
 //!
 //! [`relisted_law`] says so of each set whose live elements aren't in the way of later ones. [`history_law`] says that the
-//! sets of a script are such sets if its moments never fall, and [`listing_law`] that those of a text never do. The laws
-//! are of sets and additions. They don't say that the text of a listing means these additions: a test reads and lists 300
-//! listings.
+//! sets of a script are such sets if its moments never fall, and [`listing_law`] that those of a text never do.
+//!
+//! [`listing_text_law`] is on the bytes. The text that `list` prints is in the grammar of scripts: its events are comments, and
+//! it means the declarations of its sets, table by table. Then come these additions in one section. [`listing_run_law`] runs
+//! that script: it gives the listed sets, as the commit leaves them. A listing whose sets have no elements has no commit.
+//!
+//! [`listing_text_law`] requires sets that a text can say. [`listable_law`] says that the sets of every script are such sets.
+//! So [`listed_script_law`] requires nothing of the sets: what `list` prints of a script is a script, and that script gives the
+//! listed sets.
 //!
 //! **Definitions:** `specs/Relisted.antt` says what a listing keeps of a set, `specs/Rising.antt` when moments never fall,
-//! and `specs/Listed.antt` what follows for a text.
+//! `specs/Listed.antt` what follows for a text, and `specs/Listing.antt` which script a listing's text means.
 #![tactic(auto)]
 
 mod laws;
 
-pub use laws::{history_law, listing_law, relisted_law};
+pub use laws::{
+    history_law, listable_law, listed_script_law, listing_law, listing_run_law, listing_text_law,
+    relisted_law,
+};

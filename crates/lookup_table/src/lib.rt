@@ -43,6 +43,7 @@
 mod laws;
 mod lines;
 mod marks;
+mod sharing;
 mod sized;
 mod summary;
 mod table;

@@ -1,7 +1,7 @@
 -- A control goes on as the definition's control does.
-use Rattle.std.proofs.Common.{fold, ◌≡◌, refl, sym, ◌∙◌, ap, subst, ℕ, ◌+◌, ◌<◌, ◌≤◌, ⊎_elim, Bool, true, false, if◌then◌else◌, List, [], ◌∷◌, ◌++◌, length, take, get_or, Option, Some, None, Result, Ok, slice_get, slice_set, arith, add-one, append_assoc}
+use Rattle.std.proofs.Common.{fold, ◌≡◌, refl, sym, ◌∙◌, ap, subst, ℕ, ◌+◌, ◌^◌, ◌<◌, ◌≤◌, cond, ⊎_elim, Bool, true, false, if◌then◌else◌, List, [], ◌∷◌, ◌++◌, length, take, get_or, Option, Some, None, Result, Ok, slice_get, slice_set, arith, add-one, append_assoc}
 use Rattle.std.proofs.Math.Seq.{take-suc}
-use Rattle.std.proofs.lemmas.List.Sums.{fold-append}
+use Rattle.std.proofs.lemmas.List.Sums.{count_by-le-length, fold-append, sum_by-append, sum_by-take-le}
 use Rattle.std.proofs.lemmas.Option.{slice_get_within}
 use Rattle.history_laws.specs.Histories.{StartsWith}
 use Rattle.history_laws.proofs.Prefixes.{starts_itself, starts_more}
@@ -25,7 +25,7 @@ use Rattle.set_space.proofs.SetsLaws.{set-same}
 use Rattle.gen_publish.specs.Publish.{Steering, after_commit, kinds_of, declared_kinds}
 use Rattle.gen_publish.proofs.Growing.{as_many}
 use Rattle.gen_publish.proofs.KindLaws.{declared_at}
-use Rattle.packet_pool.specs.Running.{Run, run, HasCome, StandsAt, GoesOn, Ran, control_of, Breaks, HasBroken}
+use Rattle.packet_pool.specs.Running.{Run, run, HasCome, StandsAt, GoesOn, Ran, HasNumbers, is_commit, commits, control_of, Breaks, HasBroken}
 use Rattle.packet_pool.proofs.ChangeLaws.{refusal_keeps}
 
 -- A control that goes on in the same way from the run's state.
@@ -229,7 +229,7 @@ broken keep_going steps i s old here new failed events h e done breaks =
     })
     breaks
 
--- A step makes at most one generation.
+-- Only a commit makes a generation.
 refused_last : (mode : Mode) (c : Control) (line set : ℕ) (why : Why) → (refused mode c line set why).last ≡ c.last
 refused_last Strict c line set why = refl
 refused_last KeepGoing c line set why = refl
@@ -250,26 +250,43 @@ if_number : (t : Bool) (x y : Control) (n : ℕ) → x.last.number ≤ n → y.l
 if_number true x y n p q = p
 if_number false x y n p q = q
 
-same_number : (c d : Control) → d.last ≡ c.last → d.last.number ≤ c.last.number + 1
+same_number : (c d : Control) → d.last ≡ c.last → d.last.number ≤ c.last.number
 same_number c d e = let n = ap (λ (g : Generation). g.number) e in omega (arith, n)
 
-step_number : (mode : Mode) (c : Control) (s : Step) → (step mode c s).last.number ≤ c.last.number + 1
+-- A commit makes one generation at most, and no other step makes one.
+step_number : (mode : Mode) (c : Control) (s : Step) → (step mode c s).last.number ≤ c.last.number + commits (s ∷ [])
 step_number mode c (Change line set verb element now) =
     let o = slice_get c.sets set in let d = changed mode c line set verb element now o in
-    if_number c.failed c d (c.last.number + 1) (omega arith) (same_number c d (changed_last mode c line set verb element now o))
-step_number mode c (Flush line set now) = let o = slice_get c.sets set in let d = flushed c set o in if_number c.failed c d (c.last.number + 1) (omega arith) (same_number c d (flushed_last c set o))
+    let n = if_number c.failed c d c.last.number (omega arith) (same_number c d (changed_last mode c line set verb element now o)) in omega (arith, n)
+step_number mode c (Flush line set now) =
+    let o = slice_get c.sets set in let d = flushed c set o in
+    let n = if_number c.failed c d c.last.number (omega arith) (same_number c d (flushed_last c set o)) in omega (arith, n)
 step_number mode c (Commit now) = if_number c.failed (rewound c (Dropped c.last.number)) (committed c now) (c.last.number + 1) (omega arith) (omega arith)
 step_number mode c Abort = omega arith
 
-section_number : (mode : Mode) (c : Control) (steps : List Step) → (section mode c steps).last.number ≤ c.last.number + length steps
-section_number mode c [] = omega arith
-section_number mode c (s ∷ steps) = let one = step_number mode c s in let rest = section_number mode (step mode c s) steps in omega (arith, one, rest)
+commits-one : (s : Step) (steps : List Step) → commits (s ∷ steps) ≡ commits (s ∷ []) + commits steps
+commits-one s steps = sum_by-append (λ t. cond (is_commit t) 1 0) (s ∷ []) steps
 
--- Steps make at most one generation each.
-pub goes_number : (keep_going : Bool) (steps : List Step) (old new : Steering) (failed : Bool) (events : List Event) → GoesOn (λ c. section (mode_of keep_going) c steps) (run old false []) (run new failed events)
-    → new.work.base.number ≤ old.work.base.number + length steps
+section_number : (mode : Mode) (c : Control) (steps : List Step) → (section mode c steps).last.number ≤ c.last.number + commits steps
+section_number mode c [] = omega arith
+section_number mode c (s ∷ steps) =
+    let one = step_number mode c s in let rest = section_number mode (step mode c s) steps in let both = commits-one s steps in omega (arith, one, rest, both)
+
+-- Steps make at most one generation for each commit.
+goes_number : (keep_going : Bool) (steps : List Step) (old new : Steering) (failed : Bool) (events : List Event) → GoesOn (λ c. section (mode_of keep_going) c steps) (run old false []) (run new failed events)
+    → new.work.base.number ≤ old.work.base.number + commits steps
 goes_number keep_going steps old new failed events goes =
     let st = goes.stands [] (control_of old) (stands_here old) in let n = section_number (mode_of keep_going) (control_of old) steps in let same = ap (λ (g : Generation). g.number) st.last in omega (arith, n, same)
+
+-- After some of the steps the next generation has a number.
+pub has_next : (keep_going : Bool) (steps : List Step) (i : ℕ) (old here : Steering) (failed : Bool) (events : List Event) → HasNumbers old steps
+    → GoesOn (λ c. section (mode_of keep_going) c (take i steps)) (run old false []) (run here failed events) → here.work.base.number < 2 ^ 63
+has_next keep_going steps i old here failed events room goes =
+    let n = goes_number keep_going (take i steps) old here failed events goes in let some = sum_by-take-le (λ s. cond (is_commit s) 1 0) steps i in omega (arith, n, some, room)
+
+-- there are no more commits than steps
+pub few_commits : (steps : List Step) → commits steps ≤ length steps
+few_commits steps = count_by-le-length is_commit steps
 
 -- a step of a declared set can be tried
 pub step_within : (schema : List SetDecl) (w : Open) (set : ℕ) (d : SetDecl) → kinds_of w.sets ≡ declared_kinds schema → slice_get schema set ≡ Some d → set < length w.sets
@@ -330,7 +347,3 @@ advances keep_going steps c d events h =
       schema_is = h.goes_on.schema_is;
       readers_is = h.goes_on.readers_is;
     }
-
--- there are numbers left for what follows the steps
-pub ran_number : (keep_going : Bool) (steps : List Step) (old new : Steering) (events : List Event) → Ran keep_going steps old new events → new.work.base.number ≤ old.work.base.number + length steps
-ran_number keep_going steps old new events h = goes_number keep_going steps old new h.failed events h.goes_on

@@ -1,8 +1,9 @@
 -- How a control and what it has reported correspond to the definition's control.
-use Rattle.std.specs.Prelude.{◌≡◌, ◌+◌, ◌^◌, ◌<◌, ◌≤◌, ◌⊎◌, ℕ, Bool, false, List, [], ◌++◌, take, length, Option}
+use Rattle.std.specs.Prelude.{◌≡◌, ◌+◌, ◌^◌, ◌<◌, ◌≤◌, ◌⊎◌, ℕ, Bool, true, false, List, [], ◌++◌, take, length, Option, count_by}
 use Rattle.set_model.specs.declared.report.Event.{Event}
 use Rattle.set_model.specs.declared.report.Why.{Why}
 use Rattle.set_model.specs.declared.script.Step.{Step}
+use Rattle.set_model.specs.declared.script.Step.TheVariants.{Change, Flush, Commit, Abort}
 use Rattle.set_model.specs.SetState.{State}
 use Rattle.set_model.specs.Control.{Control, mode_of, section}
 use Rattle.gen_publish.specs.Publish.{Steering}
@@ -45,9 +46,20 @@ pub record Ran (keep_going : Bool) (steps : List Step) (old new : Steering) (eve
 abbrev pub control_of : Steering → Control
 control_of s = record { committed = s.committed; last = s.work.base; sets = s.work.sets; failed = false; events = [] }
 
--- There are enough numbers below 2 ^ 63 for one generation a step.
+-- A step is a commit. No other step makes a generation.
+abbrev pub is_commit : Step → Bool
+is_commit (Change line set verb element now) = false
+is_commit (Flush line set now) = false
+is_commit (Commit now) = true
+is_commit Abort = false
+
+-- how many of the steps are commits
+abbrev pub commits : List Step → ℕ
+commits steps = count_by is_commit steps
+
+-- There are enough numbers below 2 ^ 63 for one generation a commit.
 abbrev pub HasNumbers : Steering → List Step → Type 0
-HasNumbers s steps = s.work.base.number + length steps < 2 ^ 63
+HasNumbers s steps = s.work.base.number + commits steps < 2 ^ 63
 
 -- The control is of the same start, and has the same declared sets and as many readers.
 abbrev pub IsSameStart : Steering → Steering → Type 0

@@ -50,4 +50,4 @@ pub use gate::{Gate, OpenGate};
 pub use judge::Judge;
 pub use lookup_judge::LookupJudge;
 pub use section::{SectionResult, run_section};
-pub use steps::{do_step, run_steps};
+pub use steps::{count_commits, do_step, run_steps};

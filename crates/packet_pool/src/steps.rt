@@ -6,7 +6,7 @@ ghost use Rattle.set_model.specs.Control.{mode_of, step as control_step, refused
 ghost use Rattle.set_model.specs.Runnable.{IsRunnableStep};
 ghost use Rattle.set_space.specs.Open.{FitsSet};
 ghost use Rattle.gen_publish.specs.Publish.{Steering};
-ghost use Rattle.packet_pool.specs.Running.{run, GoesOn, Ran, HasNumbers, Breaks, HasBroken, IsSameStart};
+ghost use Rattle.packet_pool.specs.Running.{run, GoesOn, Ran, HasNumbers, commits, is_commit as makes_generation, Breaks, HasBroken, IsSameStart};
 
 use crate::changes::change;
 use crate::gate::Gate;
@@ -160,6 +160,26 @@ pub fn do_step<G: Gate>(
             rewind(control, failed, Event::Aborted { generation }, events)
         }
     }
+}
+
+fn is_commit(step: &Step) -> bool
+    ensures { result ≡ makes_generation step.now }
+{
+    match step {
+        Step::Commit { .. } => true,
+        Step::Change { .. } | Step::Flush { .. } | Step::Abort => false,
+    }
+}
+
+/// How many of the steps are commits. So many generations at most do the steps make.
+pub fn count_commits(steps: &Steps) -> u64
+    ensures { result ≡ commits steps.now }
+{
+    steps
+        .as_slice()
+        .iter()
+        .filter(|step| is_commit(step))
+        .count() as u64
 }
 
 /// Does steps, one after another, and returns their events. The control's open transaction must not

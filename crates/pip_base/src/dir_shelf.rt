@@ -56,16 +56,6 @@ fn open<R: Files>(rt: &R, name: &str) -> io::Result<Opened<R::File>> {
     Ok(Opened::File(fs::open(rt, name)?))
 }
 
-/// The kind of a failure that the system reports.
-fn kind_of(error: &io::Error) -> FaultKind {
-    match error.kind() {
-        io::ErrorKind::NotFound => FaultKind::NotFound,
-        io::ErrorKind::IsADirectory => FaultKind::IsDirectory,
-        io::ErrorKind::PermissionDenied => FaultKind::NotPermitted,
-        _ => FaultKind::Other,
-    }
-}
-
 impl<R: Files, I: Read + Drop> Shelf for DirShelf<'_, R, I> {
     ghost told = { λ _ _. None };
 
@@ -103,7 +93,7 @@ impl<R: Files, I: Read + Drop> Shelf for DirShelf<'_, R, I> {
             }
             Err(error) => {
                 self.faults = self.faults.saturating_add(1);
-                self.fault_kind = kind_of(&error);
+                self.fault_kind = FaultKind::of(&error);
                 Err(PickError::Failed)
             }
         }
@@ -118,7 +108,7 @@ impl<R: Files, I: Read + Drop> Shelf for DirShelf<'_, R, I> {
             Ok(count) => Ok(count),
             Err(error) => {
                 self.faults = self.faults.saturating_add(1);
-                self.fault_kind = kind_of(&error);
+                self.fault_kind = FaultKind::of(&error);
                 Err(Failed)
             }
         }

@@ -1,6 +1,7 @@
-ghost use Rattle.std.specs.Prelude.{◌≡◌, ℕ, List, Option, None};
+ghost use Rattle.std.specs.Prelude.{◌≡◌, ◌≤◌, ℕ, List, Option, None};
+ghost use Rattle.pip_base.specs.Causes.{Rose};
 
-use crate::shelf::Failed;
+use crate::shelf::{Failed, FaultKind};
 use crate::sink::Sink;
 use std::io;
 
@@ -10,6 +11,7 @@ use std::io;
 pub struct OutSink<'a, R: Print> {
     rt: &'a R,
     faults: u64,
+    fault_kind: FaultKind,
 }
 
 impl<'a, R: Print> OutSink<'a, R> {
@@ -17,7 +19,25 @@ impl<'a, R: Print> OutSink<'a, R> {
     pub fn new(rt: &'a R) -> OutSink<'a, R>
         ensures { result.faults ≡ 0 }
     {
-        OutSink { rt, faults: 0 }
+        OutSink {
+            rt,
+            faults: 0,
+            fault_kind: FaultKind::Other,
+        }
+    }
+
+    /// What the system said of the last fault. It is only for a person, so no clause is about it.
+    pub fn fault_kind(&self) -> FaultKind {
+        self.fault_kind
+    }
+
+    /// Counts a fault of this kind.
+    fn fault(&mut self, kind: FaultKind)
+        ensures rose { Rose self.old.faults self.new.faults }
+        ensures later { self.old.faults ≤ self.new.faults }
+    {
+        self.faults = self.faults.saturating_add(1);
+        self.fault_kind = kind;
     }
 }
 
@@ -31,8 +51,12 @@ impl<R: Print> Sink for OutSink<'_, R> {
         let mut out = io::writer(self.rt);
         match out.write(piece) {
             Ok(count) if count > 0 => Ok(count),
-            _ => {
-                self.faults = self.faults.saturating_add(1);
+            Ok(_) => {
+                self.fault(FaultKind::Other);
+                Err(Failed)
+            }
+            Err(error) => {
+                self.fault(FaultKind::of(&error));
                 Err(Failed)
             }
         }

@@ -5,22 +5,41 @@ ghost use Rattle.pip_base.specs.Causes.{HasCause, Rose};
 ghost use Rattle.pip_base.specs.Picks.{IsPickOf, KeepsLeft};
 
 use std::alloc::Global;
+use std::io;
 
 /// The outside failed: a file isn't there or can't be read, or a write was refused.
 #[derive(Clone, Copy, Debug, PartialEq, Eq)]
 pub struct Failed;
 
-/// What the system says of a file that can't be opened or read.
+/// What the system says of a file that can't be opened or read, or of an output that takes no more.
 #[derive(Clone, Copy, Debug, PartialEq, Eq)]
 pub enum FaultKind {
     /// There is no file of that name.
     NotFound,
     /// A directory has that name.
     IsDirectory,
-    /// The permission to read it is missing.
+    /// The permission to read or write it is missing.
     NotPermitted,
+    /// The device has no space left.
+    NoSpace,
+    /// Nobody reads the pipe any more.
+    Closed,
     /// Anything else, such as an input that breaks off.
     Other,
+}
+
+impl FaultKind {
+    /// The kind of a failure that the system reports.
+    pub(crate) fn of(error: &io::Error) -> FaultKind {
+        match error.kind() {
+            io::ErrorKind::NotFound => FaultKind::NotFound,
+            io::ErrorKind::IsADirectory => FaultKind::IsDirectory,
+            io::ErrorKind::PermissionDenied => FaultKind::NotPermitted,
+            io::ErrorKind::StorageFull => FaultKind::NoSpace,
+            io::ErrorKind::BrokenPipe => FaultKind::Closed,
+            _ => FaultKind::Other,
+        }
+    }
 }
 
 /// Why no file was picked.

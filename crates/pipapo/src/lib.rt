@@ -126,7 +126,7 @@
 
 pub use gen_publish::{Control, Held, Note, Reader, Receipt, start};
 pub use key_file::{KeyError, Reason, read_keys};
-pub use packet_pool::{Gate, OpenGate, run_steps};
+pub use packet_pool::{Gate, OpenGate, count_commits, run_steps};
 pub use pipapo_image::{Added, ChangeError, Scratch, SetImage as Set};
 pub use ruleset_sets::{
     RoleToken, Ruleset, SkipReason, Skipped, Skips, leaves_sets_out, read_ruleset,

@@ -190,17 +190,17 @@ pub extern "C" fn pipapo_describe(
 #[unsafe(no_mangle)]
 pub extern "C" fn pipapo_elements_of(
     alloc: Global,
-    control: &mut Handle,
+    handle: &mut Handle,
     set: u32,
     elements: &mut Handle,
     count: &mut u64,
 ) -> u32
-    ensures same { control.new.held ≡ control.old.held }
-    ensures done { result ≡ 0 → HasElements control.old.held set elements.new.held count.new }
+    ensures same { handle.new.held ≡ handle.old.held }
+    ensures done { result ≡ 0 → HasElements handle.old.held set elements.new.held count.new }
     ensures unchanged { 0 < result → (elements.new.held ≡ elements.old.held) × (count.new ≡ count.old) }
-    ensures refused { 0 < result → IsRefusal (RefusesElements set) control.old.held result }
+    ensures refused { 0 < result → IsRefusal (RefusesElements set) handle.old.held result }
 {
-    c_handles::elements_of(alloc, control, set, elements, count)
+    c_handles::elements_of(alloc, handle, set, elements, count)
 }
 
 #[unsafe(no_mangle)]

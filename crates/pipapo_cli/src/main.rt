@@ -1,7 +1,7 @@
 //! The command `pipapo`: runs scripts of packet filter sets, and looks packets up in them.
 //!
 //! `top_call::call::call` is the program, and its contract says what a run promises
-//! (`crates/top_call/specs/Promises.antt`). No contract covers `main` and `obey`. Read their thirty lines for what is
+//! (`crates/top_call/specs/Promises.antt`). No contract covers `main` and `obey`. Read their fifty lines for what is
 //! trusted of them (README.md, "What is trusted"):
 //!
 //! - before it opens a file, it fills each closed standard descriptor with a file on which every call fails;
@@ -9,13 +9,15 @@
 //! - files are the system's, and the name `-` is the standard input;
 //! - output goes to the standard output, and notes for a person go to the standard error;
 //! - progress is shown on the standard error if that is a terminal, and nowhere else;
+//! - if the standard output failed, a note on the standard error has the system's reason, unless nobody reads the pipe any more;
 //! - the status is the exit code.
 #![tactic(auto)]
 
 mod descriptors;
 
 use crate::descriptors::fill_closed;
-use pip_base::{DirShelf, ErrNotes, OutSink};
+use fault_notes::{output_fault_note, tell_note};
+use pip_base::{DirShelf, ErrNotes, FaultKind, Notes, OutSink};
 use run_meter::{InPlace, Meter};
 use std::alloc::Global;
 use std::env;
@@ -25,6 +27,16 @@ use std::rt::Runtime;
 use std::sync::Wait;
 use std::thread::Threads;
 use top_call::call::{call, words_behind};
+
+/// The status of a call whose output failed.
+const OUTPUT_FAILED: u8 = 6;
+
+/// Prints why the output failed, unless nobody reads the pipe any more.
+fn tell_output_fault<N: Notes>(alloc: Global, notes: &mut N, kind: FaultKind) {
+    if kind != FaultKind::Closed {
+        tell_note(notes, output_fault_note(alloc, kind));
+    }
+}
 
 /// Does what the system's words ask for, with the system's files and streams, and returns the status.
 fn obey<R: Runtime<A = Global> + Threads + Wait + Sync>(
@@ -37,7 +49,7 @@ fn obey<R: Runtime<A = Global> + Threads + Wait + Sync>(
     let mut shelf = DirShelf::new(rt.alloc(), rt, stdin);
     let mut sink = InPlace::new(OutSink::new(rt), meter);
     let mut notes = InPlace::new(ErrNotes::new(stderr), meter);
-    call(
+    let status = call(
         rt,
         rt.alloc(),
         words,
@@ -45,7 +57,11 @@ fn obey<R: Runtime<A = Global> + Threads + Wait + Sync>(
         &mut sink,
         &mut notes,
         meter,
-    )
+    );
+    if status == OUTPUT_FAILED {
+        tell_output_fault(rt.alloc(), &mut notes, sink.inner().fault_kind());
+    }
+    status
 }
 
 fn main(rt: HostRuntime) -> ExitCode {

@@ -1,17 +1,15 @@
 -- The rules that a key leads to, and the elements that hold it.
-use Rattle.std.proofs.Common.{◌≡◌, refl, sym, ◌∙◌, ap, ℕ, zero, suc, ◌+◌, ◌-◌, ◌<◌, ◌≤◌, ◌⊎◌, inl, inr, Bool, true, false, ◌&&◌, ◌||◌, List, [], ◌∷◌, ◌++◌, length, map, take, get_or, arith, length-append}
+use Rattle.std.proofs.Common.{◌≡◌, refl, sym, ◌∙◌, ap, ℕ, zero, suc, ◌+◌, ◌-◌, ◌<◌, ◌≤◌, Bool, true, false, ◌&&◌, ◌||◌, List, [], ◌∷◌, ◌++◌, length, map, get_or, arith, length-append}
 use Rattle.std.specs.Prelude.{replicate, All}
 use Rattle.std.specs.List.{list_any}
-use Rattle.std.proofs.lemmas.Bool.{and_parts, cases_lt}
+use Rattle.std.proofs.lemmas.Bool.{and_parts}
 use Rattle.std.proofs.lemmas.List.{length-map, length-replicate, get_or_append_left, get_or-append_right, get_or-replicate}
 use Rattle.std.proofs.lemmas.List.Elements.{All-get_or}
 use Rattle.bit_rows.specs.Row.{at}
 use Rattle.set_model.specs.declared.kind.Kind.{Kind}
-use Rattle.set_model.specs.declared.kind.Interval.{Interval}
 use Rattle.set_model.specs.declared.element.Element.{Element}
 use Rattle.set_model.specs.declared.block.Block.{Block}
 use Rattle.set_model.specs.Expiry.{live}
-use Rattle.set_model.specs.Key.{start_key}
 use Rattle.set_model.specs.SetState.{answers, holds}
 use Rattle.set_tables.specs.declared.End.{End}
 use Rattle.set_tables.specs.Core.{hits, row_of, passes_fields}

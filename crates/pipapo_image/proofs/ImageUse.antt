@@ -1,5 +1,5 @@
 -- What an image guarantees to users of its index.
-use Rattle.std.proofs.Common.{◌≡◌, sym, ◌∙◌, ap, subst, ℕ, zero, suc, ◌+◌, ◌-◌, ◌^◌, ◌<◌, ◌≤◌, true, ◌==◌, nat_lt, List, [], ◌∷◌, length, get_or, arith, add-one}
+use Rattle.std.proofs.Common.{◌≡◌, sym, ◌∙◌, subst, ℕ, zero, suc, ◌^◌, ◌<◌, true, ◌==◌, nat_lt, List, [], ◌∷◌, length, get_or, arith}
 use Rattle.std.specs.Prelude.{All}
 use Rattle.std.proofs.lemmas.Bool.{and_parts}
 use Rattle.std.proofs.lemmas.Bool.Decides.{nat_tests}
@@ -11,13 +11,10 @@ use Rattle.set_model.specs.declared.kind.Interval.{Interval}
 use Rattle.set_model.specs.declared.element.Element.{Element}
 use Rattle.set_model.specs.Kind.{bits_of}
 use Rattle.set_model.specs.Key.{key_fits, values_fit, parts_fit, intervals_fit}
-use Rattle.set_model.specs.SetState.{field_rules, rules_limit}
-use Rattle.set_tables.specs.Tables.{split}
-use Rattle.set_tables.proofs.UpdateLaws.{length-spans, length-ends}
-use Rattle.set_tables.proofs.SearchLaws.{spans-inside}
+use Rattle.set_model.specs.SetState.{field_rules}
 use Rattle.pipapo_image.specs.declared.index.Index.{Index}
 use Rattle.pipapo_image.specs.Index.Walk.{IsKeyOf}
-use Rattle.pipapo_image.specs.Index.{IsShapedIndex, IsIndexOf}
+use Rattle.pipapo_image.specs.Index.{IsIndexOf}
 use Rattle.pipapo_image.specs.Image.{IsImage}
 
 pub field-rules : (kinds : List Kind) (es : List Element) (index : Index) (f : ℕ) (t : FieldTable) → IsIndexOf kinds es index → f < length kinds

@@ -1,8 +1,12 @@
 -- A walk by intervals, block by block and field by field.
-use Rattle.std.proofs.Common.{◌≡◌, refl, sym, ◌∙◌, ap, subst, ℕ, suc, ◌+◌, ◌<◌, Bool, true, false, ◌||◌, List, ◌∷◌, length, get_or, Some, add-one, arith}
+use Rattle.std.proofs.Common.{◌≡◌, refl, sym, ◌∙◌, ap, subst, ℕ, suc, ◌+◌, ◌-◌, ◌*◌, ◌/◌, ◌%◌, ◌<◌, ◌≤◌, ◌⊎◌, inl, inr, Bool, true, false, ◌&&◌, ◌||◌, List, ◌∷◌, length, get_or, Some, add-one, arith}
 use Rattle.std.specs.Prelude.{replicate, slice_get}
+use Rattle.std.proofs.lemmas.Bool.{cases_lt}
 use Rattle.std.proofs.lemmas.Option.{slice_get-get_or}
+use Rattle.bit_rows.specs.Row.{at, bit, IsNextSet, IsWordPut}
 use Rattle.lookup_table.specs.declared.table.FieldTable.{FieldTable}
+use Rattle.lookup_table.specs.Rules.{Stands, KeepsBitsWhere}
+use Rattle.lookup_table.specs.Table.{block_at}
 use Rattle.set_model.specs.declared.kind.Kind.{Kind}
 use Rattle.set_model.specs.declared.kind.Kind.TheVariants.{Ipv4}
 use Rattle.set_model.specs.declared.kind.Interval.{Interval}
@@ -17,6 +21,7 @@ use Rattle.set_tables.specs.Rows.{matched, refilled}
 use Rattle.set_tables.specs.Tables.{field_spans}
 use Rattle.set_tables.specs.Core.{row_of}
 use Rattle.set_tables.specs.Sharing.{shares_some, share_tests}
+use Rattle.set_tables.proofs.MatchLaws.{matched-by}
 use Rattle.set_tables.proofs.SearchLaws.{row-first, row-next}
 use Rattle.range_expand.specs.Split.{IsFieldInterval}
 use Rattle.set_model.specs.Key.{parts_fit}
@@ -85,3 +90,64 @@ intervals-of kinds es index parts i h =
           subst (λ z. IsFieldInterval (get_or parts f p).low (get_or parts f p).high z) (sym (i.tables.fields.each f Ipv4 t a).bits)
           (interval-at kinds parts f (get_or kinds f Ipv4) (get_or parts f p) h (slice_get-get_or kinds f Ipv4 a) (slice_get-get_or parts f p b));
     }
+
+-- ---- word by word
+
+word-regroup : (old w a b : Bool) → ((old || (w && a)) || (w && b)) ≡ (old || (w && (a || b)))
+word-regroup true w a b = refl
+word-regroup false true a b = refl
+word-regroup false false a b = refl
+
+-- before the first block nothing is shared
+pub word-first : (old whole : Bool) → old ≡ false → (old || whole) ≡ whole
+word-first old whole e = ap (λ t. t || whole) e
+
+-- one more block of a word: what is set so far, and what the blocks that are left share
+pub word-more : (rule block : Block) (left rest : List Block) (whole old one new w : Bool) → left ≡ block ∷ rest → new ≡ (old || one) → one ≡ (w && share_value rule block)
+    → (old || (w && shares_some left rule)) ≡ whole → (new || (w && shares_some rest rule)) ≡ whole
+word-more rule block left rest whole old one new w l n o e =
+    ap (λ t. t || (w && shares_some rest rule)) n ∙ ap (λ t. (old || t) || (w && shares_some rest rule)) o
+    ∙ word-regroup old w (share_value rule block) (shares_some rest rule)
+    ∙ ap (λ z. old || (w && shares_some z rule)) (sym l) ∙ e
+
+-- The places of a row below `from` are matched, and the others are as they were.
+pub record IsSharedUpTo (t : FieldTable) (test : Block → Bool) (from : ℕ) (old row : List Bool) : Type 0 where
+  pub long : length row ≡ length old
+  pub done : (rules : List Block) → Stands t rules → (r : ℕ) → r < from → r < t.rules → at row r ≡ (at old r && test (block_at rules r))
+  pub others : (r : ℕ) → from ≤ r → at row r ≡ at old r
+
+pub shared-none : (t : FieldTable) (test : Block → Bool) (row : List Bool) → IsSharedUpTo t test 0 row row
+shared-none t test row = record { long = refl; done = λ rules s r h g. absurd (omega arith); others = λ r h. refl }
+
+-- the word of the next set place is matched
+pub shared-word : (t : FieldTable) (test : Block → Bool) (from r word left : ℕ) (old row next : List Bool) → from % 64 ≡ 0 → IsNextSet row from r → length old ≡ t.rules
+    → ((k : ℕ) → k < 64 → bit word k ≡ at row (64 * (r / 64) + k)) → KeepsBitsWhere t test (r / 64) word left → IsWordPut (r / 64) left row next
+    → IsSharedUpTo t test from old row → IsSharedUpTo t test (64 * (r / 64 + 1)) old next
+shared-word t test from r word left old row next whole is long read kept put so_far = record {
+  long = put.long ∙ so_far.long;
+  done = λ rules s j h g. done rules s j (cases_lt j from) (cases_lt j (64 * (r / 64))) h g;
+  others = λ j h. put.others j (λ e. absurd (omega arith)) ∙ so_far.others j (let l = is.from_on in omega arith);
+} where
+  in_word : (rules : List Block) → Stands t rules → (j k : ℕ) → j ≡ 64 * (r / 64) + k → k < 64 → from ≤ j → j < t.rules → at next j ≡ (at old j && test (block_at rules j))
+  in_word rules s j k e l f g =
+      ap (at next) e ∙ put.here k l ∙ kept rules s k l (omega arith) ∙ ap (λ x. x && test (block_at rules (64 * (r / 64) + k))) (read k l ∙ so_far.others (64 * (r / 64) + k) (omega arith))
+      ∙ ap (λ x. at old x && test (block_at rules x)) (sym e)
+
+  done : (rules : List Block) → Stands t rules → (j : ℕ) → (j < from) ⊎ (from ≤ j) → (j < 64 * (r / 64)) ⊎ (64 * (r / 64) ≤ j) → j < 64 * (r / 64 + 1) → j < t.rules → at next j ≡ (at old j && test (block_at rules j))
+  done rules s j (inl a) b h g = let l = is.from_on in put.others j (λ e. absurd (omega arith)) ∙ so_far.done rules s j a g
+  done rules s j (inr a) (inl b) h g =
+      let none : at row j ≡ false = is.least j a (omega arith) in
+      let before : at old j ≡ false = sym (so_far.others j a) ∙ none in
+      put.others j (λ e. absurd (omega arith)) ∙ none ∙ ap (λ x. x && test (block_at rules j)) (sym before)
+  done rules s j (inr a) (inr b) h g = in_word rules s j (j - 64 * (r / 64)) (omega arith) (omega arith) a g
+
+-- no place is set from `from` on
+pub shared-all : (t : FieldTable) (test : Block → Bool) (from : ℕ) (old row : List Bool) (rules : List Block) → Stands t rules → length old ≡ t.rules → ((i : ℕ) → from ≤ i → at row i ≡ false)
+    → IsSharedUpTo t test from old row → row ≡ matched test rules old
+shared-all t test from old row rules s long none so_far =
+    matched-by test rules old row (record { base = 0; free_bits = 0 }) (long ∙ sym s.one_each) so_far.long (λ r h. each r (cases_lt r from) (let e = s.one_each in omega arith)) where
+      each : (r : ℕ) → (r < from) ⊎ (from ≤ r) → r < t.rules → at row r ≡ (at old r && test (block_at rules r))
+      each r (inl a) h = so_far.done rules s r a h
+      each r (inr a) h =
+          let before : at old r ≡ false = sym (so_far.others r a) ∙ none r a in
+          none r a ∙ ap (λ x. x && test (block_at rules r)) (sym before)

@@ -8,7 +8,7 @@ ghost use Rattle.reader_speed.specs.Ready.{AreReadersReady};
 use crate::fault::Fault;
 use crate::workload::Workload;
 use gen_publish::{Control, Reader, start};
-use packet_pool::{Gate, LookupJudge, OpenGate, run_section};
+use packet_pool::{Gate, LookupJudge, OpenGate, count_commits, run_section};
 use set_model::{
     Duplicate, Family, Key, Kinds, Memory, Name, NewElement, Packet, Packets, Schema, SetDecl,
     Step, Steps, Verb, fits, parts_fit,
@@ -116,11 +116,11 @@ fn at_places(alloc: Global, readers: Vec<Reader>) -> Result<Vec<Option<Reader>>,
     Ok(places)
 }
 
-/// Whether there are numbers for one generation per step.
+/// Whether there are numbers for one generation per commit.
 pub(crate) fn is_numbered(control: &Control, steps: &Steps) -> bool
     ensures { IsTrue result → HasNumbers control.now steps.now }
 {
-    control.number() < NUMBERS && steps.len() < NUMBERS
+    control.number() < NUMBERS && count_commits(steps) < NUMBERS
 }
 
 impl Course {

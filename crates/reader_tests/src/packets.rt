@@ -92,6 +92,7 @@ struct Prepared {
     packets: Packets,
 }
 
+#[tactic(auto, using(packet_pool::proofs::RunLaws::few_commits))]
 fn prepare(alloc: Global, threads: u32, count: u64) -> Result<Prepared, Memory>
     requires { (0 < threads) × (threads ≤ 16) }
     ensures ready { IfOk result (λ d. (length d.readers.items ≡ threads) × AllReady d.control d.readers.items) }
@@ -241,6 +242,7 @@ fn refused_steps(alloc: Global, schema: &Schema) -> Result<Steps, Memory>
 }
 
 /// The events of an addition that is refused, and of a commit.
+#[tactic(auto, using(packet_pool::proofs::RunLaws::few_commits))]
 fn refusal(alloc: Global, keep_going: bool) -> Result<Events, Memory> {
     let schema = one_set(alloc, None)?;
     let steps = refused_steps(alloc, &schema)?;

@@ -9,7 +9,7 @@ ghost use Rattle.rule_chain.specs.JudgedText.{IsOfRules, accept_text, accepts_by
 
 use crate::chains::{Act, Chain, Chains};
 use set_model::{Line, Lines, Memory, Verdict};
-use text_pieces::Piece::{Number, Word};
+use text_pieces::Piece::{Number, Packet, Word};
 use text_pieces::append_pieces;
 
 fn accept_word(accept: bool) -> &'static [u8]
@@ -64,18 +64,10 @@ fn write_line(chains: &Chains, line: &Line, out: &mut Vec<u8>) -> Result<(), Mem
     ensures ok { OnOk result (out.new.items ≡ out.old.items ++ judged_line chains.now line.now) }
     ensures err { OnErr result (AppendsPart out.old.items out.new.items (judged_line chains.now line.now)) }
 {
-    let packet = Number(line.packet);
-    let thread = Number(u64::from(line.thread));
-    let generation = Number(line.generation);
     match line.verdict {
         Verdict::None => append_pieces(
             &[
-                Word(b"packet "),
-                packet,
-                Word(b" thread "),
-                thread,
-                Word(b" generation "),
-                generation,
+                Packet(line),
                 Word(b" policy "),
                 Word(policy_word(chains)),
                 Word(b"\n"),
@@ -84,12 +76,7 @@ fn write_line(chains: &Chains, line: &Line, out: &mut Vec<u8>) -> Result<(), Mem
         ),
         Verdict::Element { id } => append_pieces(
             &[
-                Word(b"packet "),
-                packet,
-                Word(b" thread "),
-                thread,
-                Word(b" generation "),
-                generation,
+                Packet(line),
                 Word(b" rule "),
                 Number(id),
                 Word(b" "),

@@ -1,5 +1,6 @@
 -- What is kept of a ruleset is one text, so a ruleset means one script at most.
-use Rattle.std.proofs.Common.{sym, ◌≡◌, ◌∙◌, subst, ℕ, ◌<◌, List, length, Option, Err}
+use Rattle.std.proofs.Common.{arith, refl, sym, ap, ◌≡◌, ◌∙◌, subst, ℕ, zero, suc, ◌+◌, ◌<◌, List, [], ◌∷◌, length, Option, Err}
+use Rattle.std.specs.Prelude.{slice_index}
 use Rattle.std.proofs.lemmas.Grind.{same_number_lists}
 use Rattle.set_model.specs.declared.script.Script.{Script}
 use Rattle.token_forms.specs.declared.bad_token.BadToken.{BadToken}
@@ -13,12 +14,31 @@ use Rattle.token_forms.specs.BadTokens.{IsBadTokenOf}
 use Rattle.set_script.specs.Script.{script as script_form}
 use Rattle.set_script.specs.ScriptText.{IsScriptText}
 use Rattle.ruleset_sets.specs.declared.role_token.RoleToken.{RoleToken}
-use Rattle.ruleset_sets.specs.Kept.{IsKept, all_taken}
+use Rattle.ruleset_sets.specs.Kept.{IsKept, all_taken, kept_byte, kept_from, kept_text}
 use Rattle.ruleset_sets.specs.RulesetText.{IsRulesetText, IsBadRuleset, IsBadTokenOfRuleset}
 
 one_kept : (text : List ℕ) (taken : List RoleToken) (xs ys : List ℕ) → IsKept text taken xs → IsKept text taken ys → xs ≡ ys
 one_kept text taken xs ys p q =
     same_number_lists xs ys (p.same_length ∙ sym q.same_length) (λ k h. let within : k < length text = subst (λ n. k < n) p.same_length h in p.each k within ∙ sym (q.each k within))
+
+length-kept : (taken : List RoleToken) (k : ℕ) (bytes : List ℕ) → length (kept_from taken k bytes) ≡ length bytes
+length-kept taken k [] = refl
+length-kept taken k (b ∷ bytes) = let e = length-kept taken (k + 1) bytes in omega (arith, e)
+
+each-kept : (taken : List RoleToken) (k : ℕ) (bytes : List ℕ) (i : ℕ) → i < length bytes → slice_index (kept_from taken k bytes) i ≡ kept_byte taken (k + i) (slice_index bytes i)
+each-kept taken k [] i h = absurd (omega (arith, h))
+each-kept taken k (b ∷ bytes) zero h = let e : k ≡ k + 0 = omega arith in ap (λ n. kept_byte taken n b) e
+each-kept taken k (b ∷ bytes) (suc i) h =
+    let e : (k + 1) + i ≡ k + suc i = omega arith in each-kept taken (k + 1) bytes i (omega (arith, h)) ∙ ap (λ n. kept_byte taken n (slice_index bytes i)) e
+
+-- What is kept of a ruleset is the text that the definition makes of it.
+pub kept_is : (whole kept : List ℕ) → IsKept whole (all_taken whole) kept → kept ≡ kept_text whole
+kept_is whole kept k =
+    one_kept whole (all_taken whole) kept (kept_text whole) k (record { same_length = length-kept (all_taken whole) 0 whole; each = λ i h. let e : 0 + i ≡ i = omega arith in each-kept (all_taken whole) 0 whole i h ∙ ap (λ n. kept_byte (all_taken whole) n (slice_index whole i)) e })
+
+-- It is as long as the ruleset.
+pub kept_length : (whole : List ℕ) → length (kept_text whole) ≡ length whole
+kept_length whole = length-kept (all_taken whole) 0 whole
 
 -- a script of the ruleset is the script of what was kept of it
 pub kept_script : (whole kept : List ℕ) (s : Script) → IsKept whole (all_taken whole) kept → IsRulesetText whole s → IsScriptText kept s

@@ -98,6 +98,15 @@ pub record IsKept (text : List ℕ) (taken : List RoleToken) (kept : List ℕ) :
   pub same_length : length kept ≡ length text
   pub each : (k : ℕ) → k < length text → slice_index kept k ≡ kept_byte taken k (slice_index text k)
 
+-- what is kept of the bytes from this place on
+abbrev pub kept_from : List RoleToken → ℕ → List ℕ → List ℕ
+kept_from taken k [] = []
+kept_from taken k (b ∷ bytes) = kept_byte taken k b ∷ kept_from taken (k + 1) bytes
+
+-- what is kept of a ruleset, as one text
+abbrev pub kept_text : List ℕ → List ℕ
+kept_text text = kept_from (all_taken text) 0 text
+
 -- Both texts have their line feeds at the same places. So a place is in the same line and column of both.
 abbrev pub HaveSameLines : List ℕ → List ℕ → Type 0
 HaveSameLines text kept = (k : ℕ) → k < length text → is_feed_byte (slice_index kept k) ≡ is_feed_byte (slice_index text k)

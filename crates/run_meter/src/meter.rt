@@ -177,6 +177,11 @@ impl<'a, 'b, T: Drop, C: Clock, S: Screen + Drop> InPlace<'a, 'b, T, C, S> {
     pub fn new(inner: T, meter: &'a Meter<'b, C, S>) -> InPlace<'a, 'b, T, C, S> {
         InPlace { inner, meter }
     }
+
+    /// What takes the bytes.
+    pub fn inner(&self) -> &T {
+        &self.inner
+    }
 }
 
 impl<T: Sink + Drop, C: Clock, S: Screen + Drop> Sink for InPlace<'_, '_, T, C, S> {

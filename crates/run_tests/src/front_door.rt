@@ -4,7 +4,8 @@ ghost use Rattle.set_space.specs.Open.{CanBeBuilt};
 
 use pipapo::{
     Comment, Control, Family, Held, Interval, Key, Kind, Kinds, Memory, Name, NewElement, OpenGate,
-    Parts, Reader, Schema, Script, SetDecl, has_numbers, read_script, run_steps, start,
+    Parts, Reader, Schema, Script, SetDecl, count_commits, has_numbers, read_script, run_steps,
+    start,
 };
 use std::alloc::Global;
 use std::process::Abort;
@@ -100,7 +101,7 @@ fn load(rt: &impl Abort, alloc: Global, text: &[u8]) -> (Control, Vec<Reader>) {
     let (mut control, readers) = start(alloc, schema, 1).expect(rt, "memory");
     if sections.len() > 0 {
         let steps = sections.at(0);
-        assert!(rt; has_numbers(&control, steps.len()));
+        assert!(rt; has_numbers(&control, count_commits(steps)));
         let _ = run_steps(alloc, &mut control, steps, false, &OpenGate).expect(rt, "memory");
     }
     (control, readers)

@@ -1,5 +1,5 @@
 -- What a judge says of packets, and what a lookup says.
-use Rattle.std.proofs.Common.{◌≡◌, ◌∙◌, ap, ℕ, List, Some, slice_get, arith, All, Result, Ok, Err, IfOk}
+use Rattle.std.proofs.Common.{◌≡◌, ◌∙◌, ap, subst, ℕ, List, Some, slice_get, arith, All, Result, Ok, Err, IfOk}
 use Rattle.std.proofs.lemmas.Option.{slice_get_within}
 use Rattle.set_model.specs.declared.packet.Packet.{Packet}
 use Rattle.set_model.specs.declared.packet.Verdict.{Verdict}
@@ -27,6 +27,12 @@ legal-as {Says} {Other} {script} {keys} {threads} {mode} {lines} implies legal =
         not_too_new = l.not_too_new;
         verdict = record { generation = v.generation; is_committed = v.is_committed; says = implies v.generation at.packet line.verdict v.says };
       }
+
+-- Lines that are legal by what a judge says are legal by the verdict that it gives, in the mode of the run.
+pub judged-legal : {given : Generation → Packet → Verdict} {schema : List SetDecl} {script : Script} {keys : List (List Packet)} {threads : ℕ} {run_mode : Mode} {lines : List Line} (mode : Mode) (verdict : Generation → Packet → Verdict)
+    → AreLegal (IsAnsweredBy given schema) script keys threads run_mode lines → run_mode ≡ mode → ((g : Generation) (p : Packet) → given g p ≡ verdict g p) → AreLegal (λ g p v. v ≡ verdict g p) script keys threads mode lines
+judged-legal {given} {schema} {script} {keys} {threads} {run_mode} {lines} mode verdict legal same gives =
+    subst (λ (m : Mode). AreLegal (λ g p v. v ≡ verdict g p) script keys threads m lines) same (legal-as (λ g p v said. said.answer_is ∙ gives g p) legal)
 
 -- What a lookup says is the first match in the packet's set, which is there.
 pub first-match : (schema : List SetDecl) (g : Generation) (p : Packet) (v : Verdict) → IsAnsweredBy looked_up schema g p v → IsFirstMatch g p v

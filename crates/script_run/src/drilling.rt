@@ -10,7 +10,7 @@ ghost use Rattle.script_run.specs.Drill.{drill_text, IsDrilled};
 use crate::telling::Telling;
 use drill_gen::generate;
 use gen_publish::{Control, Reader};
-use packet_pool::{Gate, LookupJudge, SectionResult, run_section};
+use packet_pool::{Gate, LookupJudge, SectionResult, count_commits, run_section};
 use script_laws::{Output, has_numbers};
 use set_model::{Memory, Packets, Script, Steps};
 use set_report::write_summary;
@@ -37,7 +37,7 @@ fn answer_behind<R: Threads + Sync, G: Gate>(
     ensures { IfOk result (λ r. IsDrilled (section KeepGoing (begins control.old.schema) steps.now) packets.now control.new r) }
 {
     let keep_going = true;
-    if !has_numbers(control, steps.len()) {
+    if !has_numbers(control, count_commits(steps)) {
         return Err(Memory);
     }
     gate.section(0, 1, 0);
@@ -54,7 +54,7 @@ fn answer_behind<R: Threads + Sync, G: Gate>(
         gate,
     )?;
     let nothing = Steps::new(alloc);
-    if !has_numbers(control, nothing.len()) {
+    if !has_numbers(control, count_commits(&nothing)) {
         return Err(Memory);
     }
     gate.section(1, 1, packets.len());

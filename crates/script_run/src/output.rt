@@ -21,9 +21,9 @@ use crate::telling::Telling;
 use crate::whole::Whole;
 use packet_pool::{ChainJudge, Gate, LookupJudge};
 use rule_chain::Chains;
-use script_laws::{Output, add_refusals, has_failed, tells_refusal};
-use set_model::{Events, Keys, Listed, Memory, Packets, Schema, Script, Sections, Steps};
-use set_report::{write_dump, write_list, write_remarks};
+use script_laws::Output;
+use set_model::{Keys, Listed, Memory, Packets, Script, Sections, Steps};
+use set_report::{write_dump, write_list};
 use std::alloc::Global;
 use std::thread::Threads;
 
@@ -152,23 +152,6 @@ pub fn judged<R: Threads + Sync, G: Gate>(
     Ok(output)
 }
 
-/// The events as comments: the first lines of a listing and of a dump.
-fn remarks(alloc: Global, schema: &Schema, events: &Events) -> Result<Output, Memory>
-    requires { All (NamesSet (length schema.now)) events.now }
-    ensures text { IfOk result (λ out. out.text.items ≡ remarks_text schema.now events.now) }
-    ensures refused { IfOk result (λ out. out.refused ≡ list_any is_refusal events.now) }
-    ensures refusals { IfOk result (λ out. out.refusals.items ≡ refusals_in 0 events.now) }
-    ensures failed { IfOk result (λ out. out.failed ≡ last_failed events.now) }
-{
-    let mut output = Output::new(alloc);
-    write_remarks(schema, events, &mut output.text)?;
-    let events = events.as_slice();
-    add_refusals(0, events, &mut output.refusals)?;
-    output.refused = tells_refusal(events);
-    output.failed = has_failed(events);
-    Ok(output)
-}
-
 /// The last generation of a run as a script, at a moment, after the events.
 fn list_of(alloc: Global, whole: &Whole, last: u64) -> Result<Output, Memory>
     requires named { All (NamesSet (length whole.now.control.schema)) whole.now.events }
@@ -179,7 +162,7 @@ fn list_of(alloc: Global, whole: &Whole, last: u64) -> Result<Output, Memory>
     ensures failed { IfOk result (λ out. out.failed ≡ last_failed whole.now.events) }
 {
     let control = &whole.control;
-    let mut output = remarks(alloc, control.schema(), &whole.events)?;
+    let mut output = Output::with_remarks(alloc, control.schema(), &whole.events)?;
     write_list(
         control.schema(),
         control.generation(),
@@ -199,7 +182,7 @@ fn dump_of(alloc: Global, whole: &Whole) -> Result<Output, Memory>
     ensures failed { IfOk result (λ out. out.failed ≡ last_failed whole.now.events) }
 {
     let control = &whole.control;
-    let mut output = remarks(alloc, control.schema(), &whole.events)?;
+    let mut output = Output::with_remarks(alloc, control.schema(), &whole.events)?;
     write_dump(control.schema(), control.generation(), &mut output.text)?;
     Ok(output)
 }

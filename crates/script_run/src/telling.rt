@@ -8,7 +8,7 @@ ghost use Rattle.script_run.specs.Telling.{IsAtStart, TellsSection};
 
 use crate::teller::Teller;
 use gen_publish::{Control, Reader};
-use packet_pool::{Gate, run_section};
+use packet_pool::{Gate, count_commits, run_section};
 use script_laws::{Output, add_refusals, has_numbers, start_run, tells_refusal};
 use set_model::{Event, Memory, Packets, Schema, Steps};
 use set_report::write_events;
@@ -86,7 +86,7 @@ impl Telling {
         let Some(end) = first.checked_add(packets.len()) else {
             return Err(Memory);
         };
-        if !has_numbers(&self.control, steps.len()) {
+        if !has_numbers(&self.control, count_commits(steps)) {
             return Err(Memory);
         }
         self.control.known();

@@ -6,7 +6,7 @@ ghost use Rattle.set_report.specs.Writes.{NamesSet, AreSetsOf};
 ghost use Rattle.packet_pool.specs.Running.{run, Ran, StandsAt};
 
 use gen_publish::Control;
-use packet_pool::{Gate, run_steps};
+use packet_pool::{Gate, count_commits, run_steps};
 use script_laws::{has_numbers, start_run};
 use set_model::{Events, Memory, Schema, Script, Sections, Steps};
 use std::alloc::Global;
@@ -98,7 +98,7 @@ impl Whole {
         requires { All (IsRunnableStep self.old.control.schema) steps.now }
         ensures { OnOk result ((told : List Event) × Ran keep_going steps.now self.old.control self.new.control told × (self.new.events ≡ self.old.events ++ told)) }
     {
-        if !has_numbers(&self.control, steps.len()) {
+        if !has_numbers(&self.control, count_commits(steps)) {
             return Err(Memory);
         }
         let told = run_steps(alloc, &mut self.control, steps, keep_going, gate)?;

@@ -6,7 +6,7 @@ ghost use Rattle.set_model.specs.Runnable.{EndsClosed, IsRunnableStep};
 ghost use Rattle.packet_pool.specs.Running.{run, Ran, StandsAt, IsSameStart};
 
 use gen_publish::Control;
-use packet_pool::{OpenGate, run_steps};
+use packet_pool::{OpenGate, count_commits, run_steps};
 use script_laws::has_numbers;
 use set_model::{Events, Memory, Sections, Steps};
 use std::alloc::Global;
@@ -31,7 +31,7 @@ fn do_section(
     requires { All (IsRunnableStep control.old.schema) steps.now }
     ensures { OnOk result ((told : List Event) × Ran false steps.now control.old control.new told × (events.new ≡ events.old ++ told)) }
 {
-    if !has_numbers(control, steps.len()) {
+    if !has_numbers(control, count_commits(steps)) {
         return Err(Memory);
     }
     let told = run_steps(alloc, control, steps, false, &OpenGate)?;

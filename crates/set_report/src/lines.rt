@@ -4,7 +4,7 @@ ghost use Rattle.set_report.specs.PacketLine.{TellsParts};
 ghost use Rattle.text_pieces.specs.Appends.{AppendsPart};
 
 use set_model::{Line, Lines, Memory, Verdict};
-use text_pieces::Piece::{Number, Word};
+use text_pieces::Piece::{Number, Packet, Word};
 use text_pieces::append_pieces;
 
 /// Appends the line of a packet.
@@ -12,34 +12,10 @@ fn write_line(line: &Line, out: &mut Vec<u8>) -> Result<(), Memory>
     ensures ok { OnOk result (out.new.items ≡ out.old.items ++ packet_text line.now) }
     ensures err { OnErr result (AppendsPart out.old.items out.new.items (packet_text line.now)) }
 {
-    let packet = Number(line.packet);
-    let thread = Number(u64::from(line.thread));
-    let generation = Number(line.generation);
     match line.verdict {
-        Verdict::None => append_pieces(
-            &[
-                Word(b"packet "),
-                packet,
-                Word(b" thread "),
-                thread,
-                Word(b" generation "),
-                generation,
-                Word(b" none\n"),
-            ],
-            out,
-        ),
+        Verdict::None => append_pieces(&[Packet(line), Word(b" none\n")], out),
         Verdict::Element { id } => append_pieces(
-            &[
-                Word(b"packet "),
-                packet,
-                Word(b" thread "),
-                thread,
-                Word(b" generation "),
-                generation,
-                Word(b" element "),
-                Number(id),
-                Word(b"\n"),
-            ],
+            &[Packet(line), Word(b" element "), Number(id), Word(b"\n")],
             out,
         ),
     }

@@ -1,11 +1,13 @@
 -- The gaps of an image are the elements that left the set. These laws say what the set without them
 -- answers.
-use Rattle.std.proofs.Common.{◌≡◌, refl, sym, ◌∙◌, ap, ℕ, ◌+◌, ◌-◌, ◌<◌, ◌≤◌, min, max, Bool, true, cond, List, [], ◌∷◌, length, take, Option, Some, None, arith, length-take-le, take_all}
-use Rattle.std.specs.Prelude.{option_map, count_by, map}
+use Rattle.std.proofs.Common.{◌≡◌, refl, sym, ◌∙◌, ap, ℕ, ◌+◌, ◌-◌, ◌<◌, ◌≤◌, min, max, Bool, true, false, not, cond, List, [], ◌∷◌, length, take, get_or, slice_get, Option, Some, None, arith, length-take, length-take-le, take_all}
+use Rattle.std.specs.Prelude.{option_map, count_by, map, filter}
 use Rattle.std.proofs.lemmas.List.{length-map, take-map}
 use Rattle.std.proofs.lemmas.List.Filters.{length-filter_both}
 use Rattle.std.proofs.lemmas.List.Quantifiers.{position-Some}
-use Rattle.std.proofs.lemmas.List.Sums.{length-filter, sum_by-cons}
+use Rattle.std.proofs.lemmas.List.Sums.{length-filter, sum_by-cons, sum_by_more, count_by-le-length}
+use Rattle.std.proofs.lemmas.Bool.{not-false}
+use Rattle.std.proofs.lemmas.Option.{slice_get-get_or}
 use Rattle.bit_rows.specs.Ranked.{rank}
 use Rattle.bit_rows.proofs.Ranks.{rank-few}
 use Rattle.set_model.specs.declared.element.Element.{Element}
@@ -17,8 +19,8 @@ use Rattle.expiry_scan.proofs.PlaceLaws.{no_element}
 use Rattle.pipapo_image.specs.Image.Found.{found, found_at}
 use Rattle.set_space.specs.LazyImage.{moment}
 use Rattle.set_space.specs.Staying.{staying}
-use Rattle.set_space.specs.KeptSet.{gap_marks, gaps_before}
-use Rattle.set_space.proofs.KeptItems.{moved, get_or-kept, position-both}
+use Rattle.set_space.specs.KeptSet.{gap_marks, gaps_before, IsBetween}
+use Rattle.set_space.proofs.KeptItems.{moved, moved-within, get_or-kept, position-both}
 use Rattle.set_space.proofs.KeptSets.{answers-both, both-stay}
 
 -- ---- the gaps of an image
@@ -111,3 +113,35 @@ gaps_and_others (Some m) image =
     let gone = length-filter (is_expired m) image.elements in
     let all : count_by (is_expired m) (take n image.elements) ≡ count_by (is_expired m) image.elements = ap (count_by (is_expired m)) (take_all n image.elements (omega arith)) in
     omega (arith, both, gone, all)
+
+-- ---- the element at a place of the set
+pub gaps_few : (passed : Option ℕ) (image : State) (place : ℕ) → gaps_before passed image place ≤ place
+gaps_few None image place = omega arith
+gaps_few (Some m) image place = let most = count_by-le-length (is_expired m) (take place image.elements) in let long = length-take place image.elements in omega (arith, most, long)
+
+-- Before the end of the image come all elements of the set.
+pub all_before : (passed : Option ℕ) (image : State) (i : ℕ) → i < length (staying passed image).elements → i + gaps_before passed image (length image.elements) < length image.elements
+all_before passed image i l = let both = gaps_and_others passed image in omega (arith, both, l)
+
+-- If at most i elements come before a place and more before the next one, the element there is the set's element at place i.
+pub between_two : (passed : Option ℕ) (image : State) (i p : ℕ) → IsBetween passed image i p (p + 1) → slice_get (staying passed image).elements i ≡ slice_get image.elements p
+between_two None image i p b = let same : i ≡ p = omega (arith, b.few, b.more) in ap (slice_get image.elements) same
+between_two (Some m) image i p b = go (is_expired m (element_at image p)) refl where
+  within : p < length image.elements
+  within = omega (arith, b.within)
+
+  one_more : gaps_before (Some m) image (p + 1) ≡ gaps_before (Some m) image p + cond (is_expired m (element_at image p)) 1 0
+  one_more = sum_by_more (λ e. cond (is_expired m e) 1 0) image.elements p no_element within
+
+  go : (t : Bool) → is_expired m (element_at image p) ≡ t → slice_get (filter (λ e. live e m) image.elements) i ≡ slice_get image.elements p
+  go true e = let more = one_more ∙ ap (λ z. gaps_before (Some m) image p + cond z 1 0) e in absurd (omega (arith, more, b.few, b.more))
+  go false e =
+      let more = one_more ∙ ap (λ z. gaps_before (Some m) image p + cond z 1 0) e in
+      let here : live (element_at image p) m ≡ true = not-false (live (element_at image p) m) e in
+      let moves = moved-is image m p (omega (arith, within)) in
+      let place : moved (λ x. live x m) image.elements p ≡ i = omega (arith, moves, more, b.few, b.more) in
+      let inside : i < length (filter (λ x. live x m) image.elements) = rw (sym place) (moved-within (λ x. live x m) image.elements p no_element within here) in
+      slice_get-get_or (filter (λ x. live x m) image.elements) i no_element inside
+      ∙ ap (λ z. Some (get_or (filter (λ x. live x m) image.elements) z no_element)) (sym place)
+      ∙ ap Some (get_or-kept (λ x. live x m) image.elements p no_element within here)
+      ∙ sym (slice_get-get_or image.elements p no_element within)

@@ -1,15 +1,16 @@
-ghost use Rattle.std.specs.Prelude.{◌≡◌, ◌≤◌, ℕ, Option, true, length, IfOk, IfErr};
-ghost use Rattle.set_model.specs.Key.{key_fits};
+ghost use Rattle.std.specs.Prelude.{◌≡◌, ◌<◌, ◌≤◌, ℕ, Option, Some, true, length, slice_get, IfOk, IfErr};
+ghost use Rattle.set_model.specs.Key.{key_fits, parts_fit};
 ghost use Rattle.set_model.specs.SetState.{State, empty_set};
 ghost use Rattle.pipapo_image.specs.Image.Found.{found};
 ghost use Rattle.set_space.specs.LazyImage.{set_of};
 ghost use Rattle.set_space.specs.KeptSet.{gap_marks, gaps_before};
 ghost use Rattle.set_space.specs.Tables.{HasTables};
 
+use crate::gap_search::place_in_image;
 use crate::lazy_image::LazyImage;
 use bit_rows::RankedBits;
 use pipapo_image::{Index, Scratch, SetImage};
-use set_model::{Found, Key, Kinds, Memory};
+use set_model::{Element, Found, Key, Kinds, Memory};
 use std::alloc::Global;
 use std::marker::Model;
 
@@ -47,7 +48,7 @@ fn gaps_of(alloc: Global, image: &SetImage, passed: Option<u64>) -> Result<Ranke
 
 /// How many gaps come before a place of the image that has these gaps.
 #[inline]
-fn gaps_before(gaps: &RankedBits, place: u64) -> u64
+pub(crate) fn gaps_before(gaps: &RankedBits, place: u64) -> u64
     ensures { (passed : Option ℕ) (image : State) → gaps.now ≡ gap_marks passed image → place ≤ length image.elements
         → result ≡ gaps_before passed image place }
 {
@@ -116,6 +117,22 @@ impl KeptSet {
     {
         let count = self.lazy.image.elements().len();
         count - gaps_before(&self.gaps, count)
+    }
+
+    /// The element at place `i`, in the order of insertion. It takes no memory.
+    ///
+    /// Elements that left may be between two elements of the set. So this searches, from the place `near` of the image on, and
+    /// leaves the place after the element there. Each number leads to the same element. A walk in rising order begins with 0,
+    /// and passes on what it gets. Then an element's time doesn't depend on how many there are.
+    pub fn element(&self, i: u64, near: &mut u64) -> &Element
+        requires { i < length self.now.elements }
+        ensures element { slice_get self.now.elements i ≡ Some result.now }
+        ensures fit { parts_fit self.now.kinds result.now.parts ≡ true }
+    {
+        let elements = self.lazy.image.elements();
+        let place = place_in_image(&self.lazy, &self.gaps, i, *near);
+        *near = place + 1;
+        elements.at(place)
     }
 
     /// The first element of the set that is live at `now`, in milliseconds, and holds the key.

@@ -17,7 +17,8 @@
 //!
 //! A set of a generation, a [`KeptSet`], has one bit per element of the image, which says whether it
 //! left. The image finds port 443 at place 1. One element before it left, so the set returns place
-//! 0. A deletion gives its element the expiry 0, which is live at no moment.
+//! 0. A deletion gives its element the expiry 0, which is live at no moment. A walk asks the other way round: the element
+//! at place 0 of the set is at place 1 of the image, and a search over these bits finds it (`KeptSet::element`).
 //!
 //! If more than a quarter of the image has left, the tables are made anew without the elements that
 //! left. Comments call this closing the rule numbers up.
@@ -42,6 +43,7 @@
 //! (`set_report`)".
 #![tactic(auto)]
 
+mod gap_search;
 mod generation;
 mod kept_set;
 mod laws;

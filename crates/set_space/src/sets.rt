@@ -57,6 +57,18 @@ impl Sets {
         &self.items[i as usize]
     }
 
+    /// The set at place `i`, which is shared from now on. It stays as it is, and in memory, as long as it is shared.
+    ///
+    /// # Errors
+    ///
+    /// `Memory` if there are too many references to count.
+    pub fn share(&self, i: u64) -> Result<Arc<KeptSet, Global>, Memory>
+        requires { i < length self.now }
+        ensures { IfOk result (λ set. slice_get self.now i ≡ Some (arc_value set)) }
+    {
+        Ok(Arc::try_clone(self.shared(i))?)
+    }
+
     /// Adds a set at the end.
     ///
     /// # Errors

@@ -18,7 +18,7 @@ pub struct SkipsNote {
 
 impl SkipsNote {
     /// An empty note. It takes no memory.
-    fn new(alloc: Global) -> SkipsNote
+    pub fn new(alloc: Global) -> SkipsNote
         ensures { result.bytes.items ≡ [] }
     {
         SkipsNote {
@@ -32,6 +32,17 @@ impl SkipsNote {
         ensures quiet { All IsNoteByte result.now }
     {
         self.bytes.as_slice()
+    }
+
+    /// Adds the lines of another note.
+    ///
+    /// # Errors
+    ///
+    /// `Memory` if memory runs out.
+    pub fn join(&mut self, other: &SkipsNote) -> Result<(), Memory>
+        ensures { OnOk result (self.new.bytes.items ≡ self.old.bytes.items ++ other.now.bytes.items) }
+    {
+        self.append(other.as_slice())
     }
 
     fn append(&mut self, bytes: &[u8]) -> Result<(), Memory>

@@ -10,28 +10,10 @@ ghost use Rattle.stat_answer.specs.StatText.{stat_text, sets_stat};
 
 use crate::text::write_sets;
 use packet_pool::Gate;
-use script_laws::{Output, add_refusals, has_failed, tells_refusal};
+use script_laws::Output;
 use script_run::Whole;
-use set_model::{Events, Memory, Schema, Script};
-use set_report::write_remarks;
+use set_model::{Memory, Script};
 use std::alloc::Global;
-
-/// The events as comments: the first lines of the output.
-fn remarks(alloc: Global, schema: &Schema, events: &Events) -> Result<Output, Memory>
-    requires { All (NamesSet (length schema.now)) events.now }
-    ensures text { IfOk result (λ out. out.text.items ≡ remarks_text schema.now events.now) }
-    ensures refused { IfOk result (λ out. out.refused ≡ list_any is_refusal events.now) }
-    ensures refusals { IfOk result (λ out. out.refusals.items ≡ refusals_in 0 events.now) }
-    ensures failed { IfOk result (λ out. out.failed ≡ last_failed events.now) }
-{
-    let mut output = Output::new(alloc);
-    write_remarks(schema, events, &mut output.text)?;
-    let events = events.as_slice();
-    add_refusals(0, events, &mut output.refusals)?;
-    output.refused = tells_refusal(events);
-    output.failed = has_failed(events);
-    Ok(output)
-}
 
 /// The figures of the last generation of a run at a moment, after the events.
 fn stat_of(alloc: Global, whole: &Whole, last: u64) -> Result<Output, Memory>
@@ -43,7 +25,7 @@ fn stat_of(alloc: Global, whole: &Whole, last: u64) -> Result<Output, Memory>
     ensures failed { IfOk result (λ out. out.failed ≡ last_failed whole.now.events) }
 {
     let control = &whole.control;
-    let mut output = remarks(alloc, control.schema(), &whole.events)?;
+    let mut output = Output::with_remarks(alloc, control.schema(), &whole.events)?;
     write_sets(
         control.schema(),
         control.generation(),

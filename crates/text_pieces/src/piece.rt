@@ -1,12 +1,12 @@
 ghost use Rattle.std.specs.Prelude.{◌≡◌, ◌++◌, OnOk, OnErr, Some, decimal, flat_map};
-ghost use Rattle.set_model.specs.Text.{family_text, set_text};
+ghost use Rattle.set_model.specs.Text.{family_text, numbered, set_text};
 ghost use Rattle.addr_text.specs.Written.{time_text};
-ghost use Rattle.text_pieces.specs.Pieces.{piece_text};
+ghost use Rattle.text_pieces.specs.Pieces.{packet_front, piece_text, thread_front};
 ghost use Rattle.text_pieces.specs.Appends.{AppendsPart};
 
 use addr_text::write_time;
 use itoa::Buffer;
-use set_model::{Family, Memory, SetDecl};
+use set_model::{Family, Line, Memory, SetDecl};
 
 /// A piece of a line.
 #[derive(Clone, Copy)]
@@ -21,6 +21,8 @@ pub enum Piece<'a> {
     Time(u64),
     /// A set: its family, its table's name and its own name.
     Set(&'a SetDecl),
+    /// A packet, its thread and its generation: the front of its line.
+    Packet(&'a Line),
 }
 
 /// Appends bytes.
@@ -113,6 +115,35 @@ fn append_set(set: &SetDecl, out: &mut Vec<u8>) -> Result<(), Memory>
     )
 }
 
+/// Appends a word, a blank and a number.
+#[tactic(auto, using(crate::proofs::TwoParts::two_parts))]
+fn append_numbered(word: &[u8], n: u64, out: &mut Vec<u8>) -> Result<(), Memory>
+    ensures ok { OnOk result (out.new.items ≡ out.old.items ++ numbered word.now n) }
+    ensures err { OnErr result (AppendsPart out.old.items out.new.items (numbered word.now n)) }
+{
+    append_words(&[word, b" "], out)?;
+    append_number(n, out)
+}
+
+/// Appends the thread and the generation of a packet's line.
+#[tactic(auto, using(crate::proofs::TwoParts::two_parts))]
+fn append_thread(line: &Line, out: &mut Vec<u8>) -> Result<(), Memory>
+    ensures ok { OnOk result (out.new.items ≡ out.old.items ++ thread_front line.now) }
+    ensures err { OnErr result (AppendsPart out.old.items out.new.items (thread_front line.now)) }
+{
+    append_numbered(b" thread", u64::from(line.thread), out)?;
+    append_numbered(b" generation", line.generation, out)
+}
+
+#[tactic(auto, using(crate::proofs::TwoParts::two_parts))]
+fn append_packet(line: &Line, out: &mut Vec<u8>) -> Result<(), Memory>
+    ensures ok { OnOk result (out.new.items ≡ out.old.items ++ packet_front line.now) }
+    ensures err { OnErr result (AppendsPart out.old.items out.new.items (packet_front line.now)) }
+{
+    append_numbered(b"packet", line.packet, out)?;
+    append_thread(line, out)
+}
+
 fn append_piece(piece: &Piece, out: &mut Vec<u8>) -> Result<(), Memory>
     ensures ok { OnOk result (out.new.items ≡ out.old.items ++ piece_text piece.now) }
     ensures err { OnErr result (AppendsPart out.old.items out.new.items (piece_text piece.now)) }
@@ -123,6 +154,7 @@ fn append_piece(piece: &Piece, out: &mut Vec<u8>) -> Result<(), Memory>
         Piece::Sum(n) => append_sum(n, out),
         Piece::Time(ms) => append_time(ms, out),
         Piece::Set(set) => append_set(set, out),
+        Piece::Packet(line) => append_packet(line, out),
     }
 }
 

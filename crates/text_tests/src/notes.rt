@@ -1,12 +1,12 @@
 //! Notes for a person: on bad tokens, captures, files and refused changes.
 use crate::cases::{assert_told, cut, joined, number};
 use fault_notes::{
-    BadToken, CaptureReason, Note, RefusedChange, RefusedChanges, TextKind, bad_script_note,
-    bad_text_note, capture_note, read_fault_note, refusals_note, too_large_note,
-    too_many_clerks_note,
+    BadToken, CaptureReason, Met, Note, RefusedChange, RefusedChanges, TextKind, bad_key_note,
+    bad_script_note, bad_text_note, capture_note, output_fault_note, read_fault_note,
+    refusals_note, too_large_note, too_many_clerks_note,
 };
 use pip_base::FaultKind;
-use set_model::{Memory, Script, Why};
+use set_model::{Memory, Script, Step, Why};
 use set_script::read_script;
 use std::alloc::Global;
 use std::test::Fail;
@@ -113,6 +113,8 @@ fn told_file(alloc: Global, fault: &[u8]) -> Result<Vec<u8>, Memory> {
             b"not found" => read_fault_note(alloc, "a\nb\x1b[2J", FaultKind::NotFound),
             b"directory" => read_fault_note(alloc, "etc", FaultKind::IsDirectory),
             b"too large" => too_large_note(alloc, "a.nft"),
+            b"full" => output_fault_note(alloc, FaultKind::NoSpace),
+            b"other" => output_fault_note(alloc, FaultKind::Other),
             _ => too_many_clerks_note(alloc, "a.nft", number(fault)),
         },
     )
@@ -126,9 +128,32 @@ const OVERLAP: &[u8] = b"\
 fn why_of(word: &[u8]) -> Why {
     match word {
         b"overlap" => Why::Overlap { id: 0 },
+        b"exists" => Why::Exists { id: 0 },
         b"missing" => Why::Missing,
         _ => Why::Full,
     }
+}
+
+/// The first change of a line.
+fn step_of(script: &Script, line: u64) -> Option<&Step> {
+    for step in script.sections.as_slice().first()?.as_slice() {
+        match step {
+            Step::Change { line: other, .. } if *other == line => return Some(step),
+            _ => {}
+        }
+    }
+    None
+}
+
+/// What a change of `OVERLAP` met: the element of line 5, if that is in its way.
+fn met_of<'a>(script: &'a Script, refused: RefusedChange) -> Option<Met<'a>> {
+    Some(Met {
+        change: step_of(script, refused.line)?,
+        older: match refused.why {
+            Why::Overlap { .. } | Why::Exists { .. } => step_of(script, 5),
+            _ => None,
+        },
+    })
 }
 
 fn told_of(
@@ -142,8 +167,15 @@ fn told_of(
     for _ in 0..count.min(20) {
         first.push(change)?;
     }
+    let mut met = Vec::new(alloc);
+    for change in &first {
+        if let Some(steps) = met_of(script, *change) {
+            met.push(steps)?;
+        }
+    }
     let changes = RefusedChanges {
         first: first.as_slice(),
+        met: met.as_slice(),
         count,
         failed,
     };
@@ -175,16 +207,21 @@ fn told_refusals(alloc: Global, words: &[u8]) -> Result<Vec<u8>, Memory> {
     }
 }
 
-// the end of a text has no bytes, and a line feed none that are shown; then a byte that would move the terminal, and one
-// outside ASCII
+// a byte that isn't printable takes four columns before a token, too; the end of a text has no bytes, and a line feed none that
+// are shown; then a byte that would move the terminal, and one outside ASCII
 /// Bad tokens in their lines, and texts of another kind.
 const SCRIPTS_AND_KEYS: &[u8] = b"\
     s 24 10 3 3 left out;table ip t {\n\tset s {\n\t\tauto-merge\n\t}\n}\n|x:3:3: 'auto-merge' isn't supported\n\t\tauto-merge\n\t\t^^^^^^^^^^\nhelp: remove it: intervals aren't merged, and one that overlaps is refused\n~\
     s 22 4 1 23 type;add set ip t s { type ipv4 ; }\n|x:1:23: 'ipv4' isn't a supported type\nadd set ip t s { type ipv4 ; }\n                      ^^^^\nhelp: did you mean 'ipv4_addr'?\n~\
     s 9 0 1 10 end;table t {|x:1:10: the end of the text leaves the '{' of line 1 open\ntable t {\n         ^\nhelp: write '}' after the last set of the table\n~\
     s 60 9 2 22 value;add set ip t p { type inet_service ; }\nadd element ip t p { 443-70000 }\n|x:2:22: '443-70000' doesn't fit field 1 (inet_service): 70000 is greater than 65535, the last port\nadd element ip t p { 443-70000 }\n                     ^^^^^^^^^\nhelp: write a number from 0 to 65535\n~\
-    k 3 1 1 4 statement;t s\n|x:1:4: the end of the line can't come here\nt s\n   ^\nhelp: write a line [FAMILY] TABLE SET VALUE . VALUE .., with one value for each field, or 'at' MOMENT, or 'round'\n~\
+    s 76 9 2 38 value;add set ip t p { type inet_service ; }\nadd element ip t p { 80 comment \"\x7f\", 443-70000 }\n|x:2:38: '443-70000' doesn't fit field 1 (inet_service): 70000 is greater than 65535, the last port\nadd element ip t p { 80 comment \"\\x7f\", 443-70000 }\n                                        ^^^^^^^^^\nhelp: write a number from 0 to 65535\n~\
+    k 3 1 1 4 statement;t s\n|x:1:4: the end of the line ends the key after 0 fields\nt s\n   ^\nhelp: the set's type is ipv4_addr\n~\
     k 2 1 1 3 character;t\x1b\xc3 s\n|x:1:3: '\\xc3' is an unexpected character\nt\\x1b\\xc3 s\n     ^^^^\nhelp: write ASCII: other characters may be in strings and comments only\n~\
+    s 0 3 1 1 statement;nft add table t\n|x:1:1: 'nft' can't begin a statement\nnft add table t\n^^^\nhelp: leave out 'nft', and write ';' without '\\', as: add set ip t p { type mark; }\n~\
+    s 26 1 1 27 character;add set ip t s { type mark\\; }\n|x:1:27: '\\' is an unexpected character\nadd set ip t s { type mark\\; }\n                          ^\nhelp: leave it out: only a shell needs it\n~\
+    s 53 1 2 18 statement;add set ip t s { type ipv4_addr ; }\nflush set ip t s s\n|x:2:18: 's' can't follow here\nflush set ip t s s\n                 ^\nhelp: 'flush set' ends with the set's name: write ';' or a new line after it\n~\
+    s 55 9 2 20 statement;add set ip t s { type ipv4_addr ; }\nadd element ip t s \"{ 10 } \"\n|x:2:20: '\"{ 10 } \"' is a string, and can't come here\nadd element ip t s \"{ 10 } \"\n                   ^^^^^^^^^\nhelp: leave out the quotes: only comments have them\n~\
     s 53 1 2 18 set;add set ip t s { type ipv4_addr ; }\nadd element ip t q { 10.0.0.1 }\n|x:2:18: 'q' isn't a set that is declared before this place\nadd element ip t q { 10.0.0.1 }\n                 ^\nhelp: the sets declared before are ip t s\n~\
     s 0 2 1 1 statement;ip t s 10.0.0.1\n|x:1:1: this looks like a key file, and a script is expected here: 'run' and 'judge' take a key file after it\n~\
     s 0 2 1 1 statement;ip t s ip_saddr . dport\n|x:1:1: this looks like a plan, and a script is expected here: 'capture' takes a plan after it\n~\
@@ -197,14 +234,24 @@ const SCRIPTS_AND_KEYS: &[u8] = b"\
     s 0 1 1 1 character;\xff\xfea\x00|x:1:1: this is a text in UTF-16: write it in ASCII\n~\
 ";
 
-/// Bad tokens of rules files and plans.
+// a token of 60 bytes is shown whole, and one of 61 is cut
+/// Bad tokens of rules files, plans and keys.
 const RULES_AND_PLANS: &[u8] = b"\
     r 18 1 1 19 set;chain a { in ip t q drop }\npolicy drop\n|x:1:19: 'q' isn't a set of the script\nchain a { in ip t q drop }\n                  ^\nhelp: the script's sets are ip t s, inet f allowed\n~\
     r 17 0 2 1 end;chain a { drop }\n|x:2:1: the end of the text comes too early\n\n^\nhelp: close each '{', and write 'policy accept' or 'policy drop' at the end\n~\
-    r 0 3 1 1 statement;add set ip t s { }\n|x:1:1: this looks like a script: the script is named first, then the rules file, and then the key file\n~\
+    r 0 3 1 1 statement;add set ip t s { }\n|x:1:1: 'add' can't come here: this looks like a ruleset or a script\nadd set ip t s { }\n^^^\nhelp: write chains such as 'chain main { in ip t s accept }' and then 'policy drop'; --sets reads a ruleset as SCRIPT\n~\
+    r 0 6 1 1 statement;policy drop\n|x:1:1: 'policy' can't come before the first chain\npolicy drop\n^^^^^^\nhelp: write at least one chain before it, as: chain main { in ip t s accept }\n~\
+    r 17 5 2 1 statement;chain a { drop }\nfirst drop\n|x:2:1: 'first' can't come here\nfirst drop\n^^^^^\nhelp: write 'chain NAME { RULES }', with rules such as 'in ip t s accept', and at the end 'policy accept' or 'policy drop'\n~\
+    k 4 7 1 5 set;add element ip t s { 10.0.0.1 }\n|x:1:5: 'element' isn't the name of a set: a key has no words of a statement\nadd element ip t s { 10.0.0.1 }\n    ^^^^^^^\nhelp: write the set and the values alone, as: ip filter allowed 192.0.2.1 . 80\n~\
+    k 7 1 1 8 statement;ip t s { 10.0.0.1 }\n|x:1:8: '{' can't come here: a key has no braces\nip t s { 10.0.0.1 }\n       ^\nhelp: write the set and the values alone, as: ip filter allowed 192.0.2.1 . 80\n~\
+    k 7 10 1 8 statement;ip t s \"10.0.0.1\"\n|x:1:8: '\"10.0.0.1\"' is a string, and a value is expected\nip t s \"10.0.0.1\"\n       ^^^^^^^^^^\nhelp: write the value without quotes\n~\
+    k 24 0 1 25 statement;inet f allowed 192.0.2.1\n|x:1:25: the end of the line ends the key after 1 field\ninet f allowed 192.0.2.1\n                        ^\nhelp: the set's type is ipv4_addr . inet_service\n~\
+    k 14 0 1 15 statement;inet f allowed\n|x:1:15: the end of the line ends the key after 0 fields\ninet f allowed\n              ^\nhelp: the set's type is ipv4_addr . inet_service\n~\
     k 7 4 1 8 set;policy drop\n|x:1:8: this looks like a rules file: it is named after the script, and then the key file\n~\
     p 7 5 1 8 type;ip t s dport\n|x:1:8: 'dport' doesn't fit the type of this field\nip t s dport\n       ^^^^^\nhelp: ipv4_addr takes ip_saddr or ip_daddr, ipv6_addr ip6_saddr or ip6_daddr, ether_addr ether_saddr or ether_daddr, inet_proto proto, inet_service sport or dport\n~\
     p 16 1 1 17 statement;ip t s ip_saddr ;\n|x:1:17: ';' can't come here\nip t s ip_saddr ;\n                ^\nhelp: write at most 4 lines [FAMILY] TABLE SET SELECTOR . SELECTOR .., with one selector for each field\n~\
+    p 16 60 1 17 statement;ip t s ip_saddr aaaaaaaaaabbbbbbbbbbccccccccccddddddddddeeeeeeeeeeffffffffff x\n|x:1:17: 'aaaaaaaaaabbbbbbbbbbccccccccccddddddddddeeeeeeeeeeffffffffff' can't come here\nip t s ip_saddr aaaaaaaaaabbbbbbbbbbccccccccccddddddddddeeeeeeeeeeffffffffff x\n                ^^^^^^^^^^^^^^^^^^^^^^^^^^^^^^^^^^^^^^^^^^^^^^^^^^^^^^^^^^^^\nhelp: write at most 4 lines [FAMILY] TABLE SET SELECTOR . SELECTOR .., with one selector for each field\n~\
+    p 16 61 1 17 statement;ip t s ip_saddr aaaaaaaaaabbbbbbbbbbccccccccccddddddddddeeeeeeeeeeffffffffffg x\n|x:1:17: 'aaaaaaaaaabbbbbbbbbbccccccccccddddddddddeeeeeeeeeeffffffffff..' can't come here\nip t s ip_saddr aaaaaaaaaabbbbbbbbbbccccccccccddddddddddeeeeeeeeeeffffffffff..\n                ^^^^^^^^^^^^^^^^^^^^^^^^^^^^^^^^^^^^^^^^^^^^^^^^^^^^^^^^^^^^\nhelp: write at most 4 lines [FAMILY] TABLE SET SELECTOR . SELECTOR .., with one selector for each field\n~\
     p 0 1 1 1 character;\xd4\xc3\xb2\xa1\x02\x00|x:1:1: this is a capture of packets: the script is named first, then the plan, and then the capture\n~\
 ";
 
@@ -236,24 +283,50 @@ const FILES: &[u8] = b"\
     not found|a\\x0ab\\x1b[2J: No such file or directory\n~\
     directory|etc: Is a directory\n~\
     too large|a.nft: a file may have 67108864 bytes (64 MiB) at most\n~\
+    full|pipapo: the standard output failed: No space left on device\n~\
+    other|pipapo: the standard output failed: it can't be written\n~\
     18|a.nft: the script has 18 sections, and desk runs 17 at most: the first, and one for each of 16 control threads; join some, by leaving lines 'round' out\n~\
 ";
+
+/// Words of a `get` that are no key.
+const KEYS: &[u8] = b"\
+    7 2 1 8 value;ip t s 80|key:1:8: '80' doesn't fit field 1 (ipv4_addr): it isn't an IPv4 address\nip t s 80\n       ^^\nhelp: write four numbers from 0 to 255 with '.' between them, as 192.0.2.1\n~\
+    2 2 1 3 set;s 80|key:1:3: '80' isn't a set of the script\ns 80\n  ^^\nhelp: did you mean 'ip t s'?\n~\
+    ;at 5|key:1:1: the words name no packet\nhelp: write [FAMILY] TABLE SET VALUE . VALUE ..; a moment is given before the script, as --at MOMENT\n~\
+";
+
+/// The note on words that are no key. Before the words is the bad token, or nothing if there is none.
+fn told_key(alloc: Global, case: &[u8]) -> Result<Vec<u8>, Memory> {
+    let (bad, words) = cut(case, b';');
+    let found = if bad.is_empty() {
+        None
+    } else {
+        Some(bad_token_of(bad))
+    };
+    match read_script(alloc, DECLARED) {
+        Ok(script) => told_note(alloc, bad_key_note(alloc, &script.schema, words, found)),
+        Err(_) => Err(Memory),
+    }
+}
 
 /// Refused changes with both elements.
 const REFUSALS: &[u8] = b"\
     overlap 6 1 ended|x.nft:6:3: 10.0.1.128/25 overlaps 10.0.1.0/24 (line 5)\n~\
     full 6 0 ended|~\
     full 6 1 failed|x.nft:6:3: 10.0.1.128/25 doesn't fit: the set has as many elements as it may have\nx.nft: the last transaction failed, so this shows the generation before it\n~\
-    missing 6 2 ended|x.nft:6:1: an element of this line isn't in the set\nx.nft:6:1: an element of this line isn't in the set\n~\
+    exists 6 1 ended|x.nft:6:3: 10.0.1.128/25 exists already (line 5)\n~\
+    missing 6 2 ended|x.nft:6:3: 10.0.1.128/25 isn't in the set\nx.nft:6:3: 10.0.1.128/25 isn't in the set\n~\
+    overlap 7 1 ended|x.nft:7:1: an element of this line overlaps an element that is there\n~\
 ";
 
 #[test]
 fn notes(rt: HostRuntime) {
-    assert_told(&rt, rt.alloc(), SCRIPTS_AND_KEYS, 16, told_bad);
-    assert_told(&rt, rt.alloc(), RULES_AND_PLANS, 7, told_bad);
+    assert_told(&rt, rt.alloc(), SCRIPTS_AND_KEYS, 21, told_bad);
+    assert_told(&rt, rt.alloc(), RULES_AND_PLANS, 16, told_bad);
     assert_told(&rt, rt.alloc(), CAPTURES, 18, told_capture);
-    assert_told(&rt, rt.alloc(), FILES, 4, told_file);
-    assert_told(&rt, rt.alloc(), REFUSALS, 4, told_refusals);
+    assert_told(&rt, rt.alloc(), FILES, 6, told_file);
+    assert_told(&rt, rt.alloc(), REFUSALS, 6, told_refusals);
+    assert_told(&rt, rt.alloc(), KEYS, 3, told_key);
 }
 
 /// Whether a note on so many refused changes has 20 lines, and then this.

@@ -124,6 +124,7 @@ fn told_script(
             threads,
             keep_going,
         ),
+        Task::Explain { keys } => told_task(alloc, b"explain ", &[script, keys, ""], 0, keep_going),
         Task::JudgeCapture {
             rules,
             plan,
@@ -279,6 +280,10 @@ const NO_COMMANDS: &[u8] = b"\
     compare - -|no command~\
     compare a b --threads 2|no command~\
     compare a b c|no command~\
+    explain a|no command~\
+    explain - -|no command~\
+    explain a b --threads 2|no command~\
+    explain a b c|no command~\
     sets|no command~\
     sets a b|no command~\
     sets a --keep-going|no command~\
@@ -327,6 +332,8 @@ const COMMANDS: &[u8] = b"\
     get --keep-going --at 5 get get|get get 1 get 5 true~\
     get --at=5 --keep-going get get|get get 1 get 5 true~\
     get --keep-going --at=0 a t s 1|get a 3 1 0 true~\
+    explain a b|explain a b  0 false~\
+    explain --keep-going - explain|explain - explain  0 true~\
     compare a b|compare a b  0 false~\
     compare --keep-going - compare|compare - compare  0 true~\
     compare a a --keep-going|compare a a  0 true~\
@@ -341,42 +348,44 @@ const PAGES: &[u8] = b"\
     -h|pipapo runs nftables set scripts and looks packets up in the sets.~\
     --version|pipapo 0.2.0~\
     -V|pipapo 0.2.0~\
-    help run|usage: pipapo run SCRIPT KEYS [--threads N] [--keep-going]~\
-    run --help|usage: pipapo run SCRIPT KEYS [--threads N] [--keep-going]~\
-    run -h|usage: pipapo run SCRIPT KEYS [--threads N] [--keep-going]~\
-    help list|usage: pipapo list SCRIPT [--keep-going]~\
-    list --help|usage: pipapo list SCRIPT [--keep-going]~\
-    list -h|usage: pipapo list SCRIPT [--keep-going]~\
-    help dump|usage: pipapo dump SCRIPT [--keep-going]~\
-    dump --help|usage: pipapo dump SCRIPT [--keep-going]~\
-    dump -h|usage: pipapo dump SCRIPT [--keep-going]~\
-    help stat|usage: pipapo stat SCRIPT [--keep-going]~\
-    stat --help|usage: pipapo stat SCRIPT [--keep-going]~\
-    stat -h|usage: pipapo stat SCRIPT [--keep-going]~\
+    help run|usage: pipapo run SCRIPT KEYS [--threads N] [--keep-going] [--sets]~\
+    run --help|usage: pipapo run SCRIPT KEYS [--threads N] [--keep-going] [--sets]~\
+    run -h|usage: pipapo run SCRIPT KEYS [--threads N] [--keep-going] [--sets]~\
+    help list|usage: pipapo list SCRIPT [--keep-going] [--sets]~\
+    list --help|usage: pipapo list SCRIPT [--keep-going] [--sets]~\
+    list -h|usage: pipapo list SCRIPT [--keep-going] [--sets]~\
+    help dump|usage: pipapo dump SCRIPT [--keep-going] [--sets]~\
+    dump --help|usage: pipapo dump SCRIPT [--keep-going] [--sets]~\
+    dump -h|usage: pipapo dump SCRIPT [--keep-going] [--sets]~\
+    help stat|usage: pipapo stat SCRIPT [--keep-going] [--sets]~\
+    stat --help|usage: pipapo stat SCRIPT [--keep-going] [--sets]~\
+    stat -h|usage: pipapo stat SCRIPT [--keep-going] [--sets]~\
     help drill|usage: pipapo drill SEED COUNT [--threads N]~\
     drill --help|usage: pipapo drill SEED COUNT [--threads N]~\
     drill -h|usage: pipapo drill SEED COUNT [--threads N]~\
-    help judge|usage: pipapo judge SCRIPT RULES KEYS [--threads N] [--keep-going]~\
-    judge --help|usage: pipapo judge SCRIPT RULES KEYS [--threads N] [--keep-going]~\
-    judge -h|usage: pipapo judge SCRIPT RULES KEYS [--threads N] [--keep-going]~\
-    help capture|usage: pipapo capture SCRIPT PLAN PCAP [--threads N] [--keep-going]~\
-    capture --help|usage: pipapo capture SCRIPT PLAN PCAP [--threads N] [--keep-going]~\
-    capture -h|usage: pipapo capture SCRIPT PLAN PCAP [--threads N] [--keep-going]~\
-    help desk|usage: pipapo desk SCRIPT [--keep-going]~\
-    desk --help|usage: pipapo desk SCRIPT [--keep-going]~\
-    desk -h|usage: pipapo desk SCRIPT [--keep-going]~\
-    help get|usage: pipapo get [--at MOMENT] [--keep-going] SCRIPT KEY ..~\
-    get --help|usage: pipapo get [--at MOMENT] [--keep-going] SCRIPT KEY ..~\
-    get -h|usage: pipapo get [--at MOMENT] [--keep-going] SCRIPT KEY ..~\
+    help judge|usage: pipapo judge SCRIPT RULES KEYS [--threads N] [--keep-going] [--sets]~\
+    judge --help|usage: pipapo judge SCRIPT RULES KEYS [--threads N] [--keep-going] [--sets]~\
+    judge -h|usage: pipapo judge SCRIPT RULES KEYS [--threads N] [--keep-going] [--sets]~\
+    help capture|usage: pipapo capture SCRIPT PLAN PCAP [--threads N] [--keep-going] [--sets]~\
+    capture --help|usage: pipapo capture SCRIPT PLAN PCAP [--threads N] [--keep-going] [--sets]~\
+    capture -h|usage: pipapo capture SCRIPT PLAN PCAP [--threads N] [--keep-going] [--sets]~\
+    help desk|usage: pipapo desk SCRIPT [--keep-going] [--sets]~\
+    desk --help|usage: pipapo desk SCRIPT [--keep-going] [--sets]~\
+    desk -h|usage: pipapo desk SCRIPT [--keep-going] [--sets]~\
+    help get|usage: pipapo get [--at MOMENT] [--keep-going] [--sets] SCRIPT [FAMILY] TABLE SET VALUE . VALUE ..~\
+    get --help|usage: pipapo get [--at MOMENT] [--keep-going] [--sets] SCRIPT [FAMILY] TABLE SET VALUE . VALUE ..~\
+    get -h|usage: pipapo get [--at MOMENT] [--keep-going] [--sets] SCRIPT [FAMILY] TABLE SET VALUE . VALUE ..~\
+    help explain|usage: pipapo explain SCRIPT KEYS [--keep-going] [--sets]~\
+    explain -h|usage: pipapo explain SCRIPT KEYS [--keep-going] [--sets]~\
     help sets|usage: pipapo sets RULESET~\
     sets -h|usage: pipapo sets RULESET~\
-    help compare|usage: pipapo compare SCRIPT1 SCRIPT2 [--keep-going]~\
-    compare --help|usage: pipapo compare SCRIPT1 SCRIPT2 [--keep-going]~\
+    help compare|usage: pipapo compare SCRIPT1 SCRIPT2 [--keep-going] [--sets]~\
+    compare --help|usage: pipapo compare SCRIPT1 SCRIPT2 [--keep-going] [--sets]~\
 ";
 
 #[test]
 fn words_of_a_command(rt: HostRuntime) {
-    assert_told(&rt, rt.alloc(), NO_COMMANDS, 91, asked);
-    assert_told(&rt, rt.alloc(), COMMANDS, 37, asked);
-    assert_told(&rt, rt.alloc(), PAGES, 36, asked);
+    assert_told(&rt, rt.alloc(), NO_COMMANDS, 95, asked);
+    assert_told(&rt, rt.alloc(), COMMANDS, 39, asked);
+    assert_told(&rt, rt.alloc(), PAGES, 38, asked);
 }

@@ -25,11 +25,12 @@ use Rattle.pcap_keys.proofs.OneCapture.{one_capture}
 use Rattle.token_forms.specs.declared.token.Reason.{Reason}
 use Rattle.key_answer.specs.Answer.{GivesAnswer, get_text, has_no_answer}
 use Rattle.compare_answer.specs.Compared.{GivesComparison}
+use Rattle.explain_answer.specs.Explained.{Explains, explain_text, lacks_any}
 use Rattle.key_answer.specs.Question.{IsKey, IsBadKey, key_text, at_moment}
 use Rattle.script_run.specs.Listings.{listing_text, tables_text}
 use Rattle.stat_answer.specs.StatText.{stat_text}
 use Rattle.desk_run.specs.DeskText.{IsDeskText}
-use Rattle.command_words.specs.Words.{Command, IsCommand, run, list, dump, drill, judge, capture, desk, get, compare, stat, judge_capture, sets_of}
+use Rattle.command_words.specs.Words.{Command, IsCommand, run, list, dump, drill, judge, capture, desk, get, explain, compare, stat, judge_capture, sets_of}
 use Rattle.command_words.proofs.CommandWords.{one-command}
 use Rattle.command_words.proofs.PageWords.{page-no-command}
 use Rattle.input_files.specs.declared.fault.FileFault.{FileFault}
@@ -41,12 +42,12 @@ use Rattle.input_files.specs.Given.{Has, AreGiven}
 use Rattle.input_files.proofs.Turns.{given-one, given-front, given-refuses}
 use Rattle.top_call.specs.declared.fault.Fault.{Fault}
 use Rattle.top_call.specs.declared.fault.Fault.TheVariants.{Usage, File, TooManyClerks, BadKey, Memory}
-use Rattle.top_call.specs.Transcript.{IsTranscript, IsJudgement, IsJudgedCapture, AreRulesOf, IsCaptured, IsTextOf, IsWovenOf, most_sections, IsAnswerOf, IsComparisonOf, AreSetsIn, leaves_any}
+use Rattle.top_call.specs.Transcript.{IsTranscript, IsJudgement, IsJudgedCapture, AreRulesOf, IsCaptured, IsTextOf, IsWovenOf, most_sections, IsAnswerOf, IsExplanationOf, IsComparisonOf, AreSetsIn, leaves_any}
 use Rattle.top_call.specs.Calls.{Call, IsQuiet}
 use Rattle.top_call.specs.Causes.{IsCause, no_command, of_file, too_many, bad_key, no_memory}
 use Rattle.top_call.specs.Lines.{done_status, form_status, file_status, file_line, status_of, fault_line}
 use Rattle.top_call.specs.Answers.{Ends, EndsDuly, written, cut, memory, IsDue, output, page, refusal, TellsReadFault, TellsFlaw, TellsTooMany, TellsBadKey}
-use Rattle.top_call.specs.Exactly.{HasScript, HasRuleset, HasKeys, HasRules, HasCaptured, Completes, DeliversText, DeliversRun, DeliversJudgement, DeliversDesk, DeliversAnswer, DeliversComparison, DeliversSets, RanOut}
+use Rattle.top_call.specs.Exactly.{HasScript, HasRuleset, HasKeys, HasRules, HasCaptured, Completes, DeliversText, DeliversRun, DeliversJudgement, DeliversDesk, DeliversAnswer, DeliversExplanation, DeliversComparison, DeliversSets, RanOut}
 use Rattle.top_call.proofs.Endings.{done-small, does, Wrote, HasWritten, drilled, page-told}
 
 -- The numbers that are a form's status.
@@ -430,6 +431,17 @@ module _ (c : Call) (ends : EndsDuly c) (quiet : IsQuiet c) where
         status = w.status ∙ ap done_status (gives.refused_is ∙ ap (λ (x : Packet). has_no_answer (mode_of g) s (at_moment moment s x)) packet);
       }
 
+  -- the explanation of the packets that were read
+  same-explanation : (script keys_name : List ℕ) (g : Bool) (s : Script) (packets : List (List Packet)) (hs : HasScript c.shelf.told script s) (hk : HasKeys c.shelf.told keys_name s packets) → (w : HasWritten c) → IsExplanationOf hs.text hk.text (mode_of g) w.refused w.text
+      → DeliversExplanation (mode_of g) s packets c
+  same-explanation script keys_name g s packets hs hk w t =
+      let one : t.script ≡ s = script_single hs.text t.script s t.script_is hs.holds in
+      let their_keys : IsKeysText s.schema hk.text t.keys = subst (λ (x : Script). IsKeysText x.schema hk.text t.keys) one t.keys_are in
+      let other : t.keys ≡ packets = keys_single s.schema hk.text t.keys packets their_keys hk.holds in
+      let of_script : Explains (mode_of g) s t.keys w.refused w.text = subst (λ (x : Script). Explains (mode_of g) x t.keys w.refused w.text) one t.gives in
+      let gives : Explains (mode_of g) s packets w.refused w.text = subst (λ (k : List (List Packet)). Explains (mode_of g) s k w.refused w.text) other of_script in
+      record { written = subst (λ (o : List ℕ). Appends c.taken_before c.taken_now o) gives.text_is w.appends; status = w.status ∙ ap done_status gives.refused_is }
+
   -- the comparison of the scripts that were read
   same-comparison : (first second : List ℕ) (g : Bool) (s t : Script) (hs : HasScript c.shelf.told first s) (ht : HasScript c.shelf.told second t) → (w : HasWritten c) → IsComparisonOf first hs.text second ht.text (mode_of g) w.refused w.text
       → DeliversComparison (mode_of g) first s second t c
@@ -495,6 +507,10 @@ module _ (c : Call) (ends : EndsDuly c) (quiet : IsQuiet c) where
         or-ran-out (DeliversAnswer (mode_of g) s (at_moment moment s p) c)
         (λ w. same-answer script key moment g s p hs is_key w (does c.words c.shelf (get script key moment g) w.refused w.text is_get w.has hs.text hs.is_told))
         (ended (get script key moment g) s.schema is_get (given-script c.shelf.told script s hs, tt) (λ name k t e. absurd (cc e)) (has-key script key moment g s p hs is_key));
+    explain = λ script keys g s packets is_explain hs hk.
+        or-ran-out (DeliversExplanation (mode_of g) s packets c)
+        (λ w. same-explanation script keys g s packets hs hk w (does c.words c.shelf (explain script keys g) w.refused w.text is_explain w.has hs.text hk.text hs.is_told hk.is_told))
+        (ended (explain script keys g) s.schema is_explain (given-script c.shelf.told script s hs, (given-keys c.shelf.told keys s packets hk, tt)) (λ name k t e. absurd (cc e)) (λ name key m k t l r e. absurd (cc e)));
     compare = λ first second g s t is_compare hs ht.
         or-ran-out (DeliversComparison (mode_of g) first s second t c)
         (λ w. same-comparison first second g s t hs ht w (does c.words c.shelf (compare first second g) w.refused w.text is_compare w.has hs.text ht.text hs.is_told ht.is_told))

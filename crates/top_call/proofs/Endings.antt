@@ -6,7 +6,7 @@ use Rattle.set_model.specs.Control.{mode_of}
 use Rattle.script_run.specs.Drill.{drill_text}
 use Rattle.command_words.specs.declared.page.Page.{Page}
 use Rattle.command_words.specs.WordForms.{page_text}
-use Rattle.command_words.specs.Words.{Command, run, list, dump, drill, judge, capture, desk, get, compare, stat, IsCommand, AsksFor, IsDrillCommand, judge_capture, sets_of}
+use Rattle.command_words.specs.Words.{Command, run, list, dump, drill, judge, capture, desk, get, explain, compare, stat, IsCommand, AsksFor, IsDrillCommand, judge_capture, sets_of}
 use Rattle.command_words.proofs.CommandWords.{one-command}
 use Rattle.command_words.proofs.PageWords.{page-no-command, one-page}
 use Rattle.input_files.specs.declared.fault.FileFault.{FileFault}
@@ -16,11 +16,11 @@ use Rattle.input_files.specs.Inputs.{FileForm, form_of}
 use Rattle.input_files.specs.Reads.{Shelved}
 use Rattle.top_call.specs.declared.fault.Fault.{Fault}
 use Rattle.top_call.specs.declared.fault.Fault.TheVariants.{Usage, File, TooManyClerks, BadKey, Memory}
-use Rattle.top_call.specs.Transcript.{IsOutput, IsTranscript, IsJudgement, IsCaptured, IsListing, IsTables, IsWovenOf, IsAnswerOf, IsComparisonOf, IsStat, IsJudgedCapture, AreSetsIn}
+use Rattle.top_call.specs.Transcript.{IsOutput, IsTranscript, IsJudgement, IsCaptured, IsListing, IsTables, IsWovenOf, IsAnswerOf, IsExplanationOf, IsComparisonOf, IsStat, IsJudgedCapture, AreSetsIn}
 use Rattle.top_call.specs.Calls.{Call}
 use Rattle.top_call.specs.Causes.{IsCause, no_command, of_file, too_many, bad_key, no_memory}
 use Rattle.top_call.specs.Lines.{done_status, form_status, file_status, status_of, fault_line}
-use Rattle.top_call.specs.Answers.{Ends, EndsDuly, written, cut, memory, IsDue, output, page, refusal, IsExactly, HasOutput, IsComplete, Writes, Transcribes, Judges, Captures, Lists, Dumps, Counts, Weaves, AnswersKeys, Compares, Drills, Delivers, TellsPage, JudgesCaptures, WritesSets}
+use Rattle.top_call.specs.Answers.{Ends, EndsDuly, written, cut, memory, IsDue, output, page, refusal, IsExactly, HasOutput, IsComplete, Writes, Transcribes, Judges, Captures, Lists, Dumps, Counts, Weaves, AnswersKeys, ExplainsKeys, Compares, Drills, Delivers, TellsPage, JudgesCaptures, WritesSets}
 
 -- an output's status is 0 or 1, and a fault's status is greater
 pub done-small : (refused : Bool) → done_status refused ≤ 1
@@ -162,6 +162,12 @@ module _ (c : Call) where
       let d = get script key moment keep_going in
       let w = of-command ends e d is_get in
       writes (IsAnswerOf script_text key moment (mode_of keep_going)) w (does c.words c.shelf d w.refused w.text is_get w.has script_text at)
+
+  pub explains-keys : EndsDuly c → IsComplete c.status → ExplainsKeys c
+  explains-keys ends e script keys script_text keys_text keep_going is_explain at at_keys =
+      let d = explain script keys keep_going in
+      let w = of-command ends e d is_explain in
+      writes (IsExplanationOf script_text keys_text (mode_of keep_going)) w (does c.words c.shelf d w.refused w.text is_explain w.has script_text keys_text at at_keys)
 
   pub compares : EndsDuly c → IsComplete c.status → Compares c
   compares ends e first second first_text second_text keep_going is_compare at at_second =

@@ -20,6 +20,7 @@ use Rattle.input_files.proofs.Turns.{Turns, before, behind, same, two-turns, of-
 use Rattle.rule_chain.specs.Chains.{Rules}
 use Rattle.set_script.proofs.ScriptWhole.{script_single}
 use Rattle.key_answer.specs.Answer.{has_no_answer}
+use Rattle.explain_answer.specs.Explained.{lacks_any}
 use Rattle.key_answer.specs.Question.{IsKey, at_moment}
 use Rattle.top_call.specs.Transcript.{IsOutput, most_sections, leaves_any}
 use Rattle.pip_base.specs.Whole.{size_limit}
@@ -29,10 +30,10 @@ use Rattle.top_call.specs.Calls.{Call, IsQuiet}
 use Rattle.top_call.specs.Causes.{IsCause, no_command, of_file, too_many, bad_key, no_memory}
 use Rattle.top_call.specs.Lines.{done_status, form_status, file_status, status_of}
 use Rattle.top_call.specs.Answers.{Ends, EndsDuly, written, cut, memory, IsDue, output, page, refusal, Delivers}
-use Rattle.top_call.specs.Exactly.{HasTurn, IsExact, IsStatus, Completes, DeliversText, DeliversRun, DeliversJudgement, DeliversDesk, DeliversAnswer, DeliversComparison, DeliversSets, HasScript, RanOut}
+use Rattle.top_call.specs.Exactly.{HasTurn, IsExact, IsStatus, Completes, DeliversText, DeliversRun, DeliversJudgement, DeliversDesk, DeliversAnswer, DeliversExplanation, DeliversComparison, DeliversSets, HasScript, RanOut}
 use Rattle.top_call.specs.Promises.{Promises, Goes}
 use Rattle.top_call.proofs.Noting.{no-note, page-quiet}
-use Rattle.top_call.proofs.Endings.{does, page-told, transcribes, judges, captures, lists, dumps, weaves, answers-keys, drills, tells-page, compares, counts, judges-captures, writes-sets}
+use Rattle.top_call.proofs.Endings.{does, page-told, transcribes, judges, captures, lists, dumps, weaves, answers-keys, explains-keys, drills, tells-page, compares, counts, judges-captures, writes-sets}
 use Rattle.top_call.proofs.Completed.{completes, file-given, given-script, tells-read-fault, tells-flaw, tells-too-many, tells-bad-key, shelf-moved, sink-moved}
 
 -- A file came to its turn, and the shelf shows its text.
@@ -217,6 +218,10 @@ module _ (c : Call) (ends : EndsDuly c) (quiet : IsQuiet c) where
   of-answer mode s p (inl d) = inl d.status
   of-answer mode s p (inr r) = inr r.0
 
+  of-explanation : (mode : Mode) (s : Script) (packets : List (List Packet)) → DeliversExplanation mode s packets c ⊎ RanOut c → IsStatus (done_status (lacks_any mode s packets)) c
+  of-explanation mode s packets (inl d) = inl d.status
+  of-explanation mode s packets (inr r) = inr r.0
+
   of-comparison : (mode : Mode) (first second : List ℕ) (s t : Script) → DeliversComparison mode first s second t c ⊎ RanOut c → (differs : Bool) × IsStatus (done_status differs) c
   of-comparison mode first second s t (inl d) = (d.differs, inl d.status)
   of-comparison mode first second s t (inr r) = (false, inr r.0)
@@ -252,6 +257,7 @@ module _ (c : Call) (ends : EndsDuly c) (quiet : IsQuiet c) where
     done_desk = λ script g s is_desk hs few. of-desk s g (done.desk script g s is_desk hs few);
     bad_key = λ script key moment g s is_get hs no_key. ends-key c.words c.shelf quiet.shelf script key moment g s is_get hs no_key c.taken_before c.taken_now c.faults_before c.faults_now c.status ends quiet.sink;
     done_get = λ script key moment g s p is_get hs is_key. of-answer (mode_of g) s (at_moment moment s p) (done.get script key moment g s p is_get hs is_key);
+    done_explain = λ script keys g s packets is_explain hs hk. of-explanation (mode_of g) s packets (done.explain script keys g s packets is_explain hs hk);
     done_compare = λ first second g s t is_compare hs ht. of-comparison (mode_of g) first second s t (done.compare first second g s t is_compare hs ht);
     done_sets = λ file s is_sets h. of-sets h.text s (done.sets file s is_sets h);
     done_drill = λ seed count n is_drill. of-drill _ (done.drill seed count n is_drill);
@@ -273,6 +279,7 @@ promises c g = record {
   stat = λ e. counts c g.ends e;
   desk = λ e. weaves c g.ends e;
   get = λ e. answers-keys c g.ends e;
+  explain = λ e. explains-keys c g.ends e;
   compare = λ e. compares c g.ends e;
   sets = λ e. writes-sets c g.ends e;
   drill = λ e. drills c g.ends e;

@@ -1,13 +1,15 @@
 -- A call ends with the result of its command: an output, a fault or a page.
 use Rattle.std.specs.Borrow.{Bor}
-use Rattle.std.proofs.Common.{◌≡◌, refl, subst, ℕ, Bool, true, List, [], map, Option, inr, inl}
+use Rattle.std.proofs.Common.{◌≡◌, refl, subst, ℕ, Bool, true, List, [], map, Option, inr, inl, ◌∙◌, codes}
 use Rattle.std.specs.String.{string_bytes}
 use Rattle.token_forms.specs.declared.token.Reason.{Reason}
 use Rattle.command_words.specs.declared.page.Page.{Page}
 use Rattle.command_words.specs.WordForms.{page_text}
 use Rattle.command_words.specs.Words.{Command, IsCommand, IsNoCommand, AsksFor, desk, get, sets_of}
 use Rattle.command_words.proofs.PageWords.{page-no-command}
-use Rattle.fault_notes.specs.Shown.{Begins, name_text}
+use Rattle.fault_notes.specs.Shown.{Begins, BeginsAtPlace, name_text}
+use Rattle.set_model.specs.declared.script.SetDecl.{SetDecl}
+use Rattle.token_forms.specs.declared.bad_token.BadToken.{BadToken}
 use Rattle.fault_notes.specs.Told.{MayTell, nothing as no_note}
 use Rattle.input_files.specs.declared.fault.FileFault.{FileFault}
 use Rattle.input_files.specs.Noted.{StopsTelling}
@@ -27,14 +29,14 @@ use Rattle.top_call.specs.Causes.{IsCause, HasManySections, HasNoKey, no_command
 use Rattle.top_call.specs.Lines.{answer_fault, done_status, status_of, fault_line}
 use Rattle.top_call.specs.Names.{AsksInOrder}
 use Rattle.top_call.specs.Answers.{Ends, IsDue, IsExactly, HasOutput}
-use Rattle.top_call.specs.Noted.{words_front, AreSkipsOf, IsNoted}
+use Rattle.top_call.specs.Noted.{words_front, AreSkipsOf, IsNoted, TellsError}
 use Rattle.script_laws.specs.declared.refusals.Refusal.{Refusal}
 use Rattle.top_call.specs.Refused.{AreRefused, IsNoteDue}
 use Rattle.top_call.specs.Promises.{Goes}
 use Rattle.top_call.proofs.Asking.{asks-nothing, asks-files, asks-until, asks-all}
 use Rattle.top_call.proofs.Deliveries.{ends-map}
 use Rattle.top_call.proofs.Endings.{due-of-output, due-refusal, due-of-page, fault-not-done}
-use Rattle.top_call.proofs.Noting.{ended-of, words-noted, file-noted, sections-noted, changes-noted, skips-noted}
+use Rattle.top_call.proofs.Noting.{ended-of, words-noted, file-noted, sections-noted, key-noted, changes-noted, skips-noted}
 
 -- A desk's script that was read has too many sections.
 pub many-sections : (words : List (List ℕ)) (shelf : Shelved) (c : Command) (work : Work) (name : Bor (List ℕ)) → IsCommand words c → HasRead shelf c → IsWork shelf.told c work → IsOverfull c work name → HasManySections words shelf name.now
@@ -66,6 +68,7 @@ no-key words shelf c (works.Run s packets threads g) line reason is_c has_read i
 no-key words shelf c (works.List s g) line reason is_c has_read is_work bad = absurd bad
 no-key words shelf c (works.Dump s g) line reason is_c has_read is_work bad = absurd bad
 no-key words shelf c (works.Stat s g) line reason is_c has_read is_work bad = absurd bad
+no-key words shelf c (works.Explain s packets g) line reason is_c has_read is_work bad = absurd bad
 no-key words shelf c (works.Drill seed count threads) line reason is_c has_read is_work bad = absurd bad
 no-key words shelf c (works.Judge s chains packets threads g) line reason is_c has_read is_work bad = absurd bad
 no-key words shelf c (works.Capture s plan frames threads g) line reason is_c has_read is_work bad = absurd bad
@@ -131,9 +134,11 @@ module _ (c : Call) where
       (sections-noted c name.now h (ended-of (status_of (faults.TooManyClerks name)) (fault_line (faults.TooManyClerks name)) c.taken_before c.taken_now c.faults_before c.faults_now c.status ends) mid silent tells)
 
   -- the words of a `get` are no key
-  pub goes-bad-key : (line : ℕ) (reason : Reason) → HasNoKey c.words c.shelf line reason → Silent → EndsWith (status_of (faults.BadKey line reason)) (fault_line (faults.BadKey line reason)) → Goes c
-  goes-bad-key line reason h silent ends =
-      goes-fault (faults.BadKey line reason) (bad_key line reason h) (asks-files c.words c.shelf (get h.name h.key h.moment h.keep_going) h.is_get h.has_read) ends (no_note silent)
+  pub goes-bad-key : (line : ℕ) (reason : Reason) → HasNoKey c.words c.shelf line reason → (mid : Option (List ℕ)) → mid ≡ c.noted_before → MayTell (BeginsAtPlace (codes "key")) mid c.noted_now
+      → EndsWith (status_of (faults.BadKey line reason)) (fault_line (faults.BadKey line reason)) → Goes c
+  goes-bad-key line reason h mid silent tells ends =
+      goes-fault (faults.BadKey line reason) (bad_key line reason h) (asks-files c.words c.shelf (get h.name h.key h.moment h.keep_going) h.is_get h.has_read) ends
+      (key-noted c line reason h (ended-of (status_of (faults.BadKey line reason)) (fault_line (faults.BadKey line reason)) c.taken_before c.taken_now c.faults_before c.faults_now c.status ends) mid silent tells)
 
   -- memory ran out for the words, or for the output
   pub goes-early : (d : Command) → IsCommand c.words d → c.shelf.asked ≡ [] → c.shelf.faults_now ≡ c.shelf.faults_before → Silent → EndsWith (status_of faults.Memory) (fault_line faults.Memory) → Goes c
@@ -143,11 +148,12 @@ module _ (c : Call) where
   goes-late d is_d r silent ends = goes-fault faults.Memory (no_memory d is_d (inr r) r.quiet) (asks-files c.words c.shelf d is_d r) ends (no_note silent)
 
   -- there is no output
-  pub goes-unanswered : (d : Command) → IsCommand c.words d → HasRead c.shelf d → (error : AnswerError) → ((line : ℕ) (reason : Reason) → error ≡ answers.BadKey line reason → HasNoKey c.words c.shelf line reason)
-      → (fault : Fault) → fault ≡ answer_fault error → Silent → EndsWith (status_of fault) (fault_line fault) → Goes c
-  goes-unanswered d is_d r (answers.BadKey line reason) bad fault is silent ends =
-      goes-bad-key line reason (bad line reason refl) silent (subst (λ (f : Fault). EndsWith (status_of f) (fault_line f)) is ends)
-  goes-unanswered d is_d r answers.Memory bad fault is silent ends = goes-late d is_d r silent (subst (λ (f : Fault). EndsWith (status_of f) (fault_line f)) is ends)
+  pub goes-unanswered : (d : Command) → IsCommand c.words d → HasRead c.shelf d → (error : AnswerError)
+      → ((line : ℕ) (reason : Reason) (bad : Option BadToken) (schema : List SetDecl) → error ≡ answers.BadKey line reason bad schema → HasNoKey c.words c.shelf line reason)
+      → (fault : Fault) → fault ≡ answer_fault error → (mid : Option (List ℕ)) → mid ≡ c.noted_before → TellsError error mid c.noted_now → EndsWith (status_of fault) (fault_line fault) → Goes c
+  goes-unanswered d is_d r (answers.BadKey line reason found schema) bad fault is mid silent tells ends =
+      goes-bad-key line reason (bad line reason found schema refl) mid silent tells (subst (λ (f : Fault). EndsWith (status_of f) (fault_line f)) is ends)
+  goes-unanswered d is_d r answers.Memory bad fault is mid silent tells ends = goes-late d is_d r (tells ∙ silent) (subst (λ (f : Fault). EndsWith (status_of f) (fault_line f)) is ends)
 
   pub goes-page : (p : Page) → AsksFor c.words p → c.shelf.asked ≡ [] → c.shelf.faults_now ≡ c.shelf.faults_before → Silent → EndsWith 0 (page_text p) → Goes c
   goes-page p asks nothing quiet silent ends = record {

@@ -6,3 +6,4 @@ mod Completed
 mod Exact
 pub mod Outputs
 mod Goings
+mod FormLaws

@@ -1,22 +1,26 @@
 -- The note for a person beside a call's output.
 use Rattle.std.proofs.Common.{◌≡◌, ◌∙◌, ap, ◌≤◌, refl, subst, ℕ, Bool, true, List, Option, inl, inr, arith, false, [], ◌∷◌, ◌⊎◌, None, Result, Ok, Err, OnOk, OnErr}
 use Rattle.command_words.specs.declared.page.Page.{Page}
-use Rattle.command_words.specs.Words.{Command, IsCommand, IsNoCommand, IsSetsCommand, AsksFor, desk, compare, sets_of}
+use Rattle.command_words.specs.Words.{Command, IsCommand, IsNoCommand, IsSetsCommand, AsksFor, desk, get, compare, sets_of}
 use Rattle.command_words.proofs.PageWords.{page-no-command}
-use Rattle.fault_notes.specs.Shown.{Begins, name_text}
+use Rattle.std.proofs.Common.{codes}
+use Rattle.fault_notes.specs.Shown.{Begins, BeginsAtPlace, name_text}
+use Rattle.token_forms.specs.declared.token.Reason.{Reason}
 use Rattle.skip_notes.specs.Skips.{skips_text}
-use Rattle.fault_notes.specs.Told.{MayTell, nothing, note}
+use Rattle.fault_notes.specs.Told.{MayTell, nothing, note, SaysTold, did_tell, told_nothing}
 use Rattle.ruleset_sets.specs.declared.skipped.Skipped.{Skipped}
 use Rattle.input_files.specs.Works.{AreSetsOf}
-use Rattle.fault_notes.proofs.ToldLaws.{tells-as}
+use Rattle.fault_notes.proofs.ToldLaws.{may_tell, tells-as}
 use Rattle.input_files.specs.declared.fault.FileFault.{FileFault}
 use Rattle.input_files.specs.Noted.{IsNoteOn, StopsTelling}
 use Rattle.input_files.specs.Reads.{Shelved}
 use Rattle.top_call.specs.Calls.{Call}
-use Rattle.top_call.specs.Causes.{HasManySections}
+use Rattle.top_call.specs.Causes.{HasManySections, HasNoKey}
 use Rattle.top_call.specs.Lines.{done_status, file_status}
 use Rattle.top_call.specs.Answers.{Ends, written, cut, memory, IsExactly, HasOutput}
-use Rattle.top_call.specs.Noted.{Ended, IsDueNote, words_front, on_words, on_file, on_sections, on_changes, on_skips, AreSkipsOf, IsNoted}
+use Rattle.key_answer.specs.declared.question.AnswerError.{AnswerError}
+use Rattle.key_answer.specs.declared.question.AnswerError.TheVariants as errors
+use Rattle.top_call.specs.Noted.{Ended, IsDueNote, IsErrorNote, TellsError, words_front, on_words, on_file, on_sections, on_key, on_changes, on_skips, AreSkipsOf, IsNoted}
 use Rattle.set_model.specs.declared.memory.Memory.{Memory}
 use Rattle.script_laws.specs.declared.output.Output.{Output}
 use Rattle.script_laws.specs.declared.refusals.Refusal.{Refusal}
@@ -41,8 +45,15 @@ due-above : (words : List (List ℕ)) (shelf : Shelved) (status : ℕ) (text : L
 due-above words shelf status text (on_words t none is ended) e other = ended-above 2 status (omega arith) ended e
 due-above words shelf status text (on_file d fault stops t is_d is ended) e other = ended-above (file_status fault) status (let above = file-above fault in omega (arith, above)) ended e
 due-above words shelf status text (on_sections name t has is ended) e other = ended-above 12 status (omega arith) ended e
+due-above words shelf status text (on_key line reason t has begins ended) e other = ended-above 13 status (omega arith) ended e
 due-above words shelf status text (on_changes c name output t refusals failed has is_c names are is ended) e other = ended-above 1 status (omega arith) ended e
 due-above words shelf status text (on_skips file output t refused has is_sets are ended) e other = other file is_sets
+
+-- Who knows the answer knows what was printed beside an error.
+pub error-told : (error : AnswerError) {before now : Option (List ℕ)} {answer : Bool} → SaysTold (IsErrorNote error) before now answer → TellsError error before now
+error-told (errors.BadKey line reason bad schema) says = may_tell says
+error-told errors.Memory (did_tell text quiet is tells) = absurd is
+error-told errors.Memory (told_nothing same) = same
 
 -- A note was printed, or none, as memory ran out.
 pub told-may : {T E : Type 0} (r : Result T E) (IsNote : List ℕ → Type 0) (before now : Option (List ℕ)) → OnOk r (HasTold IsNote before now) → OnErr r (now ≡ before) → MayTell IsNote before now
@@ -75,6 +86,7 @@ script-named name (tasks.Capture plan packets threads) keep_going = (record { na
 script-named name (tasks.JudgeCapture rules plan packets threads) keep_going = (record { name = name; form = script }, record { name = rules.now; form = rules_form } ∷ record { name = plan.now; form = plan_form } ∷ record { name = packets.now; form = capture_form } ∷ [], refl, refl)
 script-named name tasks.Desk keep_going = (record { name = name; form = script }, [], refl, refl)
 script-named name (tasks.Get key moment) keep_going = (record { name = name; form = script }, [], refl, refl)
+script-named name (tasks.Explain keys) keep_going = (record { name = name; form = script }, record { name = keys.now; form = keys_form } ∷ [], refl, refl)
 
 -- The sets of a ruleset name it.
 pub sets-named : (file : List ℕ) → NamesScript (sets_of file) file
@@ -96,6 +108,7 @@ page-due : (words : List (List ℕ)) (shelf : Shelved) (status : ℕ) (text : Li
 page-due words shelf status text p asks (on_words t none is ended) = none.no_page p asks
 page-due words shelf status text p asks (on_file d fault stops t is_d is ended) = page-no-command words p d asks is_d
 page-due words shelf status text p asks (on_sections name t has is ended) = page-no-command words p (desk name has.keep_going) asks has.is_desk
+page-due words shelf status text p asks (on_key line reason t has begins ended) = page-no-command words p (get has.name has.key has.moment has.keep_going) asks has.is_get
 page-due words shelf status text p asks (on_changes c name output t refusals failed has is_c names are is ended) = page-no-command words p has.command asks has.is_command
 page-due words shelf status text p asks (on_skips file output t refused has is_sets are ended) = page-no-command words p (sets_of file) asks is_sets
 
@@ -124,6 +137,12 @@ module _ (c : Call) where
   sections-noted name has ended mid silent tells =
       subst (λ (b : Option (List ℕ)). MayTell (IsDueNote c.words c.shelf c.status) b c.noted_now) silent
       (tells-as (Begins (name_text name)) (IsDueNote c.words c.shelf c.status) mid c.noted_now (λ text is. on_sections name text has is ended) tells)
+
+  -- The note on words of a `get` that are no key is due.
+  pub key-noted : (line : ℕ) (reason : Reason) → HasNoKey c.words c.shelf line reason → Ended 13 c.status → (mid : Option (List ℕ)) → mid ≡ c.noted_before → MayTell (BeginsAtPlace (codes "key")) mid c.noted_now → IsNoted c
+  key-noted line reason has ended mid silent tells =
+      subst (λ (b : Option (List ℕ)). MayTell (IsDueNote c.words c.shelf c.status) b c.noted_now) silent
+      (tells-as (BeginsAtPlace (codes "key")) (IsDueNote c.words c.shelf c.status) mid c.noted_now (λ text is. on_key line reason text has is ended) tells)
 
   -- The note on refused changes is due.
   pub changes-noted : (d : Command) (refused : Bool) (output : List ℕ) (refusals : List Refusal) (failed : Bool) → HasOutput c.words c.shelf refused output → IsCommand c.words d → AreRefused d c.shelf.told refused output refusals failed

@@ -73,6 +73,7 @@ is-output told c (works.JudgeCapture s chains plan frames n g) refused text w h 
 })
 is-output told c (works.Desk s g) refused text w h = subst (λ (x : Command). IsOutput x told refused text) (sym w.1) (λ script_text at. record { script = s; script_is = (w.2 script_text at).1; few = h.1; is_desk = h.0 })
 is-output told c (works.Get s key moment g) refused text w h = subst (λ (x : Command). IsOutput x told refused text) (sym w.1) (λ script_text at. record { script = s; script_is = (w.2 script_text at).1; gives = h })
+is-output told c (works.Explain s packets g) refused text w h = subst (λ (x : Command). IsOutput x told refused text) (sym w.2) (λ script_text keys_text at at_keys. record { script = s; keys = packets; script_is = (w.3 script_text at).1; keys_are = (w.4 keys_text at_keys).1; gives = h })
 is-output told c (works.Compare a s b t g) refused text w h = subst (λ (x : Command). IsOutput x told refused text) (sym w.0) (λ first_text second_text at at_second. record { script = s; other = t; script_is = (w.1 first_text at).1; other_is = (w.2 second_text at_second).1; gives = h })
 is-output told c (works.Sets f whole sieved) refused text w h = subst (λ (x : Command). IsOutput x told refused text) (sym w.0) (λ bytes at. sets-in bytes sieved.text.items text sieved.skips refused (w.1 bytes at).1.1 h.0 h.1)
 is-output told c (works.Drill seed count n) refused text w h = subst (λ (x : Command). IsOutput x told refused text) (sym w) (h.1, h.0)
@@ -88,6 +89,7 @@ are-refused told c (works.Judge s chains packets n g) out w h = subst (λ (x : C
 are-refused told c (works.JudgeCapture s chains plan frames n g) out w h = subst (λ (x : Command). AreRefused x told out.refused out.text.items out.refusals.items out.failed) (sym w.4) (λ text at. (s, (w.5 text at).1, h.0.refusals_are, h.1))
 are-refused told c (works.Desk s g) out w h = subst (λ (x : Command). AreRefused x told out.refused out.text.items out.refusals.items out.failed) (sym w.1) (λ text at. (s, (w.2 text at).1, h.desk, h.refusals_are, h.failed_is))
 are-refused told c (works.Get s key moment g) out w h = subst (λ (x : Command). AreRefused x told out.refused out.text.items out.refusals.items out.failed) (sym w.1) (λ text at. (s, (w.2 text at).1, h.0.refusals_are, h.1))
+are-refused told c (works.Explain s packets g) out w h = subst (λ (x : Command). AreRefused x told out.refused out.text.items out.refusals.items out.failed) (sym w.2) (λ text at. (s, (w.3 text at).1, h.0.refusals_are, h.1))
 are-refused told c (works.Compare a s b t g) out w h = subst (λ (x : Command). AreRefused x told out.refused out.text.items out.refusals.items out.failed) (sym w.0) h
 are-refused told c (works.Sets f whole sieved) out w h = subst (λ (x : Command). AreRefused x told out.refused out.text.items out.refusals.items out.failed) (sym w.0) h
 are-refused told c (works.Drill seed count n) out w h = subst (λ (x : Command). AreRefused x told out.refused out.text.items out.refusals.items out.failed) (sym w) tt

@@ -8,13 +8,13 @@ use Rattle.token_forms.specs.declared.token.Reason.{Reason}
 use Rattle.script_run.specs.Drill.{drill_text}
 use Rattle.command_words.specs.declared.page.Page.{Page}
 use Rattle.command_words.specs.WordForms.{page_text}
-use Rattle.command_words.specs.Words.{Command, IsCommand, AsksFor, IsRunCommand, IsListCommand, IsDumpCommand, IsDrillCommand, IsJudgeCommand, IsCaptureCommand, IsDeskCommand, IsGetCommand, IsCompareCommand, IsStatCommand, IsJudgeCaptureCommand, IsSetsCommand}
+use Rattle.command_words.specs.Words.{Command, IsCommand, AsksFor, IsRunCommand, IsListCommand, IsDumpCommand, IsDrillCommand, IsJudgeCommand, IsCaptureCommand, IsDeskCommand, IsGetCommand, IsExplainCommand, IsCompareCommand, IsStatCommand, IsJudgeCaptureCommand, IsSetsCommand}
 use Rattle.input_files.specs.declared.fault.Flaw.{Flaw}
 use Rattle.input_files.specs.declared.fault.FileFault.TheVariants.{Bad}
 use Rattle.input_files.specs.Inputs.{form_of}
 use Rattle.input_files.specs.Reads.{Shelved, HasRead, StopsAt}
 use Rattle.top_call.specs.declared.fault.Fault.{Fault}
-use Rattle.top_call.specs.Transcript.{IsOutput, IsTranscript, IsJudgement, IsCaptured, IsListing, IsTables, IsWovenOf, IsAnswerOf, IsComparisonOf, IsStat, IsJudgedCapture, AreSetsIn}
+use Rattle.top_call.specs.Transcript.{IsOutput, IsTranscript, IsJudgement, IsCaptured, IsListing, IsTables, IsWovenOf, IsAnswerOf, IsExplanationOf, IsComparisonOf, IsStat, IsJudgedCapture, AreSetsIn}
 use Rattle.top_call.specs.Calls.{Call}
 use Rattle.top_call.specs.Causes.{IsCause, HasManySections, HasNoKey}
 use Rattle.top_call.specs.Lines.{done_status, form_status, status_of, fault_line, flaw_line, read_fault_line, too_many_line, bad_key_line}
@@ -110,6 +110,12 @@ Weaves c = (script script_text : List ℕ) (keep_going : Bool) → IsDeskCommand
 -- holds the key, with the line that added it, or `none` if there is no such element.
 abbrev pub AnswersKeys : Call → Type 0
 AnswersKeys c = (script script_text : List ℕ) (key : List (List ℕ)) (moment : Option ℕ) (keep_going : Bool) → IsGetCommand c.words script key moment keep_going → c.shelf.told script ≡ Some script_text → Writes (IsAnswerOf script_text key moment (mode_of keep_going)) c
+
+-- The same of an `explain`. The sink took the refused changes, and then for each packet of the key file what its answer is, and
+-- why.
+abbrev pub ExplainsKeys : Call → Type 0
+ExplainsKeys c = (script keys script_text keys_text : List ℕ) (keep_going : Bool) → IsExplainCommand c.words script keys keep_going → c.shelf.told script ≡ Some script_text → c.shelf.told keys ≡ Some keys_text
+    → Writes (IsExplanationOf script_text keys_text (mode_of keep_going)) c
 
 -- The same of a `compare`. The sink took the refused changes of both scripts, and then for each set whether it is the same: for
 -- each key that fits both have an element, or neither has. The least key on which they differ comes with the first live

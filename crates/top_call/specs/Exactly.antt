@@ -28,9 +28,10 @@ use Rattle.desk_run.specs.DeskText.{IsDeskText}
 use Rattle.key_answer.specs.Answer.{get_text, has_no_answer}
 use Rattle.key_answer.specs.Question.{IsKey, at_moment}
 use Rattle.compare_answer.specs.Compared.{GivesComparison}
+use Rattle.explain_answer.specs.Explained.{explain_text, lacks_any}
 use Rattle.pip_base.specs.Whole.{size_limit}
 use Rattle.command_words.specs.declared.page.Page.{Page}
-use Rattle.command_words.specs.Words.{Command, IsCommand, AsksFor, IsNoCommand, IsRunCommand, IsListCommand, IsDumpCommand, IsDrillCommand, IsJudgeCommand, IsCaptureCommand, IsDeskCommand, IsGetCommand, IsCompareCommand, IsStatCommand, IsJudgeCaptureCommand, IsSetsCommand}
+use Rattle.command_words.specs.Words.{Command, IsCommand, AsksFor, IsNoCommand, IsRunCommand, IsListCommand, IsDumpCommand, IsDrillCommand, IsJudgeCommand, IsCaptureCommand, IsDeskCommand, IsGetCommand, IsExplainCommand, IsCompareCommand, IsStatCommand, IsJudgeCaptureCommand, IsSetsCommand}
 use Rattle.input_files.specs.Inputs.{Input, inputs, IsOf}
 use Rattle.input_files.specs.Given.{Has, AreGiven}
 use Rattle.top_call.specs.Transcript.{AreRulesOf, most_sections, leaves_any}
@@ -102,6 +103,8 @@ pub record IsExact (c : Call) : Type 0 where
       → ((p : Packet) → IsKey s.schema key p → ⊥) → IsStatus 13 c
   pub done_get : (script : List ℕ) (key : List (List ℕ)) (moment : Option ℕ) (keep_going : Bool) (s : Script) (p : Packet) → IsGetCommand c.words script key moment keep_going → HasScript c.shelf.told script s → IsKey s.schema key p
       → IsStatus (done_status (has_no_answer (mode_of keep_going) s (at_moment moment s p))) c
+  pub done_explain : (script keys : List ℕ) (keep_going : Bool) (s : Script) (packets : List (List Packet)) → IsExplainCommand c.words script keys keep_going → HasScript c.shelf.told script s → HasKeys c.shelf.told keys s packets
+      → IsStatus (done_status (lacks_any (mode_of keep_going) s packets)) c
   pub done_compare : (first second : List ℕ) (keep_going : Bool) (s t : Script) → IsCompareCommand c.words first second keep_going → HasScript c.shelf.told first s → HasScript c.shelf.told second t → (differs : Bool) × IsStatus (done_status differs) c
   pub done_sets : (file : List ℕ) (s : Script) → IsSetsCommand c.words file → (h : HasRuleset c.shelf.told file s) → IsStatus (done_status (leaves_any h.text)) c
   pub done_drill : (seed count threads : ℕ) → IsDrillCommand c.words seed count threads → IsStatus 0 c
@@ -142,6 +145,12 @@ pub record DeliversAnswer (mode : Mode) (s : Script) (p : Packet) (c : Call) : T
   pub written : Appends c.taken_before c.taken_now (get_text mode s p)
   pub status : c.status ≡ done_status (has_no_answer mode s p)
 
+-- The explanation of the answers to packets was written. The status is 1 if a change is refused or a packet has no element, and 0
+-- otherwise.
+pub record DeliversExplanation (mode : Mode) (s : Script) (packets : List (List Packet)) (c : Call) : Type 0 where
+  pub written : Appends c.taken_before c.taken_now (explain_text mode s packets)
+  pub status : c.status ≡ done_status (lacks_any mode s packets)
+
 -- The comparison of two scripts was written. The status is 1 if a change is refused or sets differ, and 0 otherwise.
 pub record DeliversComparison (mode : Mode) (first : List ℕ) (s : Script) (second : List ℕ) (t : Script) (c : Call) : Type 0 where
   pub differs : Bool
@@ -176,6 +185,8 @@ pub record Completes (c : Call) : Type 0 where
   pub desk : (script : List ℕ) (keep_going : Bool) (s : Script) → IsDeskCommand c.words script keep_going → HasScript c.shelf.told script s → length s.sections ≤ most_sections → DeliversDesk s keep_going c ⊎ RanOut c
   pub get : (script : List ℕ) (key : List (List ℕ)) (moment : Option ℕ) (keep_going : Bool) (s : Script) (p : Packet) → IsGetCommand c.words script key moment keep_going → HasScript c.shelf.told script s → IsKey s.schema key p
       → DeliversAnswer (mode_of keep_going) s (at_moment moment s p) c ⊎ RanOut c
+  pub explain : (script keys : List ℕ) (keep_going : Bool) (s : Script) (packets : List (List Packet)) → IsExplainCommand c.words script keys keep_going → HasScript c.shelf.told script s → HasKeys c.shelf.told keys s packets
+      → DeliversExplanation (mode_of keep_going) s packets c ⊎ RanOut c
   pub compare : (first second : List ℕ) (keep_going : Bool) (s t : Script) → IsCompareCommand c.words first second keep_going → HasScript c.shelf.told first s → HasScript c.shelf.told second t
       → DeliversComparison (mode_of keep_going) first s second t c ⊎ RanOut c
   pub sets : (file : List ℕ) (s : Script) → IsSetsCommand c.words file → (h : HasRuleset c.shelf.told file s) → DeliversSets h.text s c ⊎ RanOut c

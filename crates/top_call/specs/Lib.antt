@@ -8,3 +8,4 @@ pub mod Noted
 pub mod Exactly
 pub mod Promises
 pub mod Refused
+pub mod Forms

@@ -14,7 +14,7 @@ use Rattle.key_answer.specs.declared.question.AnswerError.TheVariants as answers
 use Rattle.top_call.specs.declared.fault.Fault.{Fault}
 use Rattle.top_call.specs.declared.fault.Fault.TheVariants.{Usage, File, TooManyClerks, BadKey, Memory}
 
--- the status of an output: 1 if it reports a refusal, that no element answers, that scripts differ or that a set is left out, and 0 otherwise
+-- the status of an output: 1 if it reports a refusal, that a key has no element, that scripts differ or that a set is left out, and 0 otherwise
 abbrev pub done_status : Bool → ℕ
 done_status true = 1
 done_status false = 0
@@ -39,7 +39,7 @@ file_status files.Memory = 7
 -- the status of a fault
 -- the fault of a command without an output
 abbrev pub answer_fault : AnswerError → Fault
-answer_fault (answers.BadKey line reason) = BadKey line reason
+answer_fault (answers.BadKey line reason bad schema) = BadKey line reason
 answer_fault answers.Memory = Memory
 
 abbrev pub status_of : Fault → ℕ
@@ -50,7 +50,7 @@ status_of (BadKey line reason) = 13
 status_of Memory = 7
 
 abbrev pub usage_line : List ℕ
-usage_line = codes "pipapo: usage: run SCRIPT KEYS [--threads N] [--keep-going] | list SCRIPT [--keep-going] | dump SCRIPT [--keep-going] | drill SEED COUNT [--threads N] | judge SCRIPT RULES KEYS [--threads N] [--keep-going] | judge SCRIPT RULES PLAN PCAP [--threads N] [--keep-going] | capture SCRIPT PLAN PCAP [--threads N] [--keep-going] | desk SCRIPT [--keep-going] | get [--at MOMENT] [--keep-going] SCRIPT KEY .. | compare SCRIPT1 SCRIPT2 [--keep-going] | stat SCRIPT [--keep-going] | sets RULESET\n"
+usage_line = codes "pipapo: usage: run SCRIPT KEYS [--threads N] [--keep-going] [--sets] | list SCRIPT [--keep-going] [--sets] | dump SCRIPT [--keep-going] [--sets] | drill SEED COUNT [--threads N] | judge SCRIPT RULES KEYS [--threads N] [--keep-going] [--sets] | judge SCRIPT RULES PLAN PCAP [--threads N] [--keep-going] [--sets] | capture SCRIPT PLAN PCAP [--threads N] [--keep-going] [--sets] | desk SCRIPT [--keep-going] [--sets] | get [--at MOMENT] [--keep-going] [--sets] SCRIPT [FAMILY] TABLE SET VALUE . VALUE .. | explain SCRIPT KEYS [--keep-going] [--sets] | compare SCRIPT1 SCRIPT2 [--keep-going] [--sets] | stat SCRIPT [--keep-going] [--sets] | sets RULESET\n"
 
 -- a line that ends with a name
 abbrev pub named_line : List ℕ → List ℕ → List ℕ

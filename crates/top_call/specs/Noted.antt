@@ -1,7 +1,10 @@
 -- The note for a person beside a call's output.
 use Rattle.std.specs.Prelude.{◌≡◌, ◌⊎◌, ℕ, true, List, codes, Bool, Option, Some}
 use Rattle.command_words.specs.Words.{Command, IsCommand, IsNoCommand, IsSetsCommand}
-use Rattle.fault_notes.specs.Shown.{Begins, name_text}
+use Rattle.fault_notes.specs.Shown.{Begins, BeginsAtPlace, name_text}
+use Rattle.key_answer.specs.declared.question.AnswerError.{AnswerError}
+use Rattle.key_answer.specs.declared.question.AnswerError.TheVariants.{BadKey, Memory}
+use Rattle.token_forms.specs.declared.token.Reason.{Reason}
 use Rattle.fault_notes.specs.Told.{MayTell}
 use Rattle.ruleset_sets.specs.Kept.{notes}
 use Rattle.skip_notes.specs.Skips.{skips_text}
@@ -9,7 +12,7 @@ use Rattle.input_files.specs.declared.fault.FileFault.{FileFault}
 use Rattle.input_files.specs.Noted.{IsNoteOn}
 use Rattle.input_files.specs.Reads.{Shelved, StopsAt}
 use Rattle.top_call.specs.Calls.{Call}
-use Rattle.top_call.specs.Causes.{HasManySections}
+use Rattle.top_call.specs.Causes.{HasManySections, HasNoKey}
 use Rattle.top_call.specs.Lines.{done_status, file_status}
 use Rattle.script_laws.specs.declared.refusals.Refusal.{Refusal}
 use Rattle.top_call.specs.Answers.{HasOutput}
@@ -27,15 +30,27 @@ words_front = name_text (codes "pipapo")
 abbrev pub AreSkipsOf : (List ℕ → Option (List ℕ)) → List ℕ → List ℕ → Type 0
 AreSkipsOf told file note = (text : List ℕ) → told file ≡ Some text → note ≡ skips_text file text (notes text)
 
+-- The note on the error of a command without an output: on the words of a `get` that are no key, with a place in these words.
+-- There is none on memory that ran out.
+abbrev pub IsErrorNote : AnswerError → List ℕ → Type 0
+IsErrorNote (BadKey line reason bad schema) note = BeginsAtPlace (codes "key") note
+IsErrorNote Memory note = ⊥
+
+-- What is printed beside such an error: that note, or nothing, if memory ran out.
+abbrev pub TellsError : AnswerError → Option (List ℕ) → Option (List ℕ) → Type 0
+TellsError (BadKey line reason bad schema) before now = MayTell (BeginsAtPlace (codes "key")) before now
+TellsError Memory before now = now ≡ before
+
 -- The notes that are due. One is on words that are no command and ask for no page. One begins with the name of a file that
 -- can't be had, in its turn, and the place of what is wrong with its text. One begins with the name of a desk's script that
--- has too many sections. One is on the command's refused changes. It has a line for each of the first 20, with the script's
+-- has too many sections. One begins with a place in the words of a `get` that are no key. One is on the command's refused changes. It has a line for each of the first 20, with the script's
 -- name and the change's line, and how many more there are. One is on what isn't kept of a ruleset whose sets are written. It has a
 -- line for each item and each part.
 pub data IsDueNote (words : List (List ℕ)) (shelf : Shelved) (status : ℕ) : List ℕ → Type 0 where
   on_words : (text : List ℕ) → IsNoCommand words → Begins words_front text → Ended 2 status → IsDueNote words shelf status text
   on_file : (c : Command) (fault : FileFault) (stops : StopsAt shelf c fault) (text : List ℕ) → IsCommand words c → IsNoteOn shelf.told stops.sets stops.input.name fault text → Ended (file_status fault) status → IsDueNote words shelf status text
   on_sections : (name text : List ℕ) → HasManySections words shelf name → Begins (name_text name) text → Ended 12 status → IsDueNote words shelf status text
+  on_key : (line : ℕ) (reason : Reason) (text : List ℕ) → HasNoKey words shelf line reason → BeginsAtPlace (codes "key") text → Ended 13 status → IsDueNote words shelf status text
   on_changes : (c : Command) (name output text : List ℕ) (refusals : List Refusal) (failed : Bool) → HasOutput words shelf true output → IsCommand words c → NamesScript c name → AreRefused c shelf.told true output refusals failed → IsNoteOnChanges name refusals failed text → Ended 1 status → IsDueNote words shelf status text
   on_skips : (file output text : List ℕ) (refused : Bool) → HasOutput words shelf refused output → IsSetsCommand words file → AreSkipsOf shelf.told file text → Ended (done_status refused) status → IsDueNote words shelf status text
 

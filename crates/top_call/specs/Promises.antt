@@ -7,7 +7,7 @@ use Rattle.input_files.specs.Inputs.{FileForm}
 use Rattle.top_call.specs.Calls.{Call, IsQuiet}
 use Rattle.top_call.specs.Lines.{form_status}
 use Rattle.top_call.specs.Names.{AsksInOrder, AsksForAll}
-use Rattle.top_call.specs.Answers.{EndsDuly, IsComplete, Transcribes, Judges, Captures, Lists, Dumps, Weaves, AnswersKeys, Compares, Counts, Drills, TellsPage, TellsReadFault, TellsFlaw, TellsTooMany, TellsBadKey, JudgesCaptures, WritesSets}
+use Rattle.top_call.specs.Answers.{EndsDuly, IsComplete, Transcribes, Judges, Captures, Lists, Dumps, Weaves, AnswersKeys, ExplainsKeys, Compares, Counts, Drills, TellsPage, TellsReadFault, TellsFlaw, TellsTooMany, TellsBadKey, JudgesCaptures, WritesSets}
 use Rattle.top_call.specs.Exactly.{IsExact, Completes}
 use Rattle.top_call.specs.Noted.{IsNoted}
 
@@ -43,6 +43,11 @@ pub record Promises (c : Call) : Type 0 where
   -- the key, with the line of the addition that made it; or `none` exactly if there is no such element. The status is 0
   -- exactly if there is one and no change is refused.
   pub get : IsComplete c.status → AnswersKeys c
+  -- Of an `explain` the sink took the refused changes, and then the explanation of each packet of the key file. A packet is looked up
+  -- at its own moment, in the last generation of its section. If a live element holds the packet's key, the earliest comes with the line of the addition that
+  -- made it, and the later ones follow. Else come how many live elements hold each value of the key, and the earliest of those that
+  -- hold the most values. The status is 0 exactly if each packet has an element and no change is refused.
+  pub explain : IsComplete c.status → ExplainsKeys c
   -- Of a `compare` the sink took the refused changes of both scripts, and then a line for each set. It says `same` exactly if for
   -- each key that fits both sets have an element or neither has. Else there is a line for each direction in which they differ. It
   -- has the least key there, the first live element that holds it, and the line of the addition that made this element. The

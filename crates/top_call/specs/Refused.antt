@@ -7,7 +7,7 @@ use Rattle.script_laws.specs.declared.output.Output.{Output}
 use Rattle.script_laws.specs.declared.refusals.Refusal.{Refusal}
 use Rattle.script_laws.specs.Reports.{IsReportOn, ends_failed, has_failed, refusals_of}
 use Rattle.desk_run.specs.DeskText.{IsDeskOutput, IsDeskText, all_told, desk_refusals}
-use Rattle.command_words.specs.Words.{Command, run, list, dump, drill, judge, capture, desk, get, compare, stat, judge_capture, sets_of}
+use Rattle.command_words.specs.Words.{Command, run, list, dump, drill, judge, capture, desk, get, explain, compare, stat, judge_capture, sets_of}
 use Rattle.set_model.specs.declared.memory.Memory.{Memory}
 use Rattle.pip_base.specs.Notes.{Tells}
 use Rattle.fault_notes.specs.declared.refused.RefusedChange.{RefusedChange}
@@ -41,6 +41,7 @@ AreRefused (capture script plan packets threads keep_going) told refused output 
 AreRefused (desk script keep_going) told refused output refusals failed =
     (text : List ℕ) → told script ≡ Some text → (s : Script) × IsScriptText text s × (d : IsDeskText s keep_going refused output) × (refusals ≡ desk_refusals keep_going s d.log) × (failed ≡ has_failed (all_told keep_going s d.log))
 AreRefused (get script key moment keep_going) told refused output refusals failed = (text : List ℕ) → told script ≡ Some text → AreRefusedAlone shows_all text (mode_of keep_going) refusals failed
+AreRefused (explain script keys keep_going) told refused output refusals failed = (text : List ℕ) → told script ≡ Some text → AreRefusedAlone shows_all text (mode_of keep_going) refusals failed
 AreRefused (sets_of file) told refused output refusals failed = (refusals ≡ []) × (failed ≡ false)
 AreRefused (compare first second keep_going) told refused output refusals failed = (refusals ≡ []) × (failed ≡ false)
 
@@ -56,6 +57,7 @@ GivesRefusals (works.Judge s chains packets threads keep_going) out = IsReportOn
 GivesRefusals (works.JudgeCapture s chains plan frames threads keep_going) out = IsReportOn (mode_of keep_going) s out × (out.failed ≡ false)
 GivesRefusals (works.Desk s keep_going) out = IsDeskOutput s keep_going out
 GivesRefusals (works.Get s key moment keep_going) out = IsReportOn (mode_of keep_going) s out × (out.failed ≡ false)
+GivesRefusals (works.Explain s packets keep_going) out = IsReportOn (mode_of keep_going) s out × (out.failed ≡ false)
 GivesRefusals (works.Sets f whole sieved) out = (out.refusals.items ≡ []) × (out.failed ≡ false)
 GivesRefusals (works.Compare a s b t keep_going) out = (out.refusals.items ≡ []) × (out.failed ≡ false)
 

@@ -6,6 +6,7 @@ use Rattle.std.specs.String.{string_bytes}
 use Rattle.token_forms.specs.declared.token.Reason.{Reason}
 use Rattle.key_answer.specs.Answer.{GivesAnswer}
 use Rattle.compare_answer.specs.Compared.{GivesComparison}
+use Rattle.explain_answer.specs.Explained.{Explains}
 use Rattle.key_answer.specs.Question.{IsBadKey}
 use Rattle.set_model.specs.declared.script.Script.{Script}
 use Rattle.set_model.specs.declared.packet.Packet.{Packet}
@@ -27,7 +28,7 @@ use Rattle.script_run.specs.Listings.{listing_text, tables_text}
 use Rattle.stat_answer.specs.StatText.{stat_text}
 use Rattle.script_run.specs.Drill.{drill_text}
 use Rattle.desk_run.specs.DeskText.{IsDeskText}
-use Rattle.command_words.specs.Words.{Command, run, list, dump, drill, judge, capture, desk, get, compare, stat, judge_capture, sets_of}
+use Rattle.command_words.specs.Words.{Command, run, list, dump, drill, judge, capture, desk, get, explain, compare, stat, judge_capture, sets_of}
 use Rattle.input_files.specs.declared.work.Work.{Work}
 use Rattle.input_files.specs.declared.work.Work.TheVariants as works
 
@@ -123,6 +124,14 @@ pub record IsAnswerOf (script_text : List ℕ) (key : List (List ℕ)) (moment :
   pub script_is : IsScriptText script_text script
   pub gives : GivesAnswer mode script key moment refused output
 
+-- The output explains the answers to the packets of the key file in this text, in the script that was read.
+pub record IsExplanationOf (script_text keys_text : List ℕ) (mode : Mode) (refused : Bool) (output : List ℕ) : Type 0 where
+  pub script : Script
+  pub keys : List (List Packet)
+  pub script_is : IsScriptText script_text script
+  pub keys_are : IsKeysText script.schema keys_text keys
+  pub gives : Explains mode script keys refused output
+
 -- The output compares the scripts in these texts, which name their files so.
 pub record IsComparisonOf (first first_text second second_text : List ℕ) (mode : Mode) (refused : Bool) (output : List ℕ) : Type 0 where
   pub script : Script
@@ -161,6 +170,7 @@ IsOutput (capture script plan packets threads keep_going) told refused output =
     → IsCaptured script_text plan_text capture_text threads (mode_of keep_going) refused output
 IsOutput (desk script keep_going) told refused output = (script_text : List ℕ) → told script ≡ Some script_text → IsWovenOf script_text keep_going refused output
 IsOutput (get script key moment keep_going) told refused output = (script_text : List ℕ) → told script ≡ Some script_text → IsAnswerOf script_text key moment (mode_of keep_going) refused output
+IsOutput (explain script keys keep_going) told refused output = (script_text keys_text : List ℕ) → told script ≡ Some script_text → told keys ≡ Some keys_text → IsExplanationOf script_text keys_text (mode_of keep_going) refused output
 IsOutput (sets_of file) told refused output = (text : List ℕ) → told file ≡ Some text → AreSetsIn text refused output
 IsOutput (compare first second keep_going) told refused output = (first_text second_text : List ℕ) → told first ≡ Some first_text → told second ≡ Some second_text → IsComparisonOf first first_text second second_text (mode_of keep_going) refused output
 
@@ -189,6 +199,7 @@ HasFewClerks (works.Capture s plan frames threads keep_going) = Unit {0}
 HasFewClerks (works.JudgeCapture s chains plan frames threads keep_going) = Unit {0}
 HasFewClerks (works.Desk s keep_going) = length s.sections ≤ most_sections
 HasFewClerks (works.Get s key moment keep_going) = Unit {0}
+HasFewClerks (works.Explain s packets keep_going) = Unit {0}
 HasFewClerks (works.Compare a s b t keep_going) = Unit {0}
 HasFewClerks (works.Sets f whole sieved) = Unit {0}
 
@@ -214,6 +225,7 @@ GivesText (works.JudgeCapture s chains plan frames threads keep_going) refused t
     HasJudgement s chains (planned_packets plan frames ∷ []) threads (mode_of keep_going) text × (refused ≡ has_refusal (mode_of keep_going) s)
 GivesText (works.Desk s keep_going) refused text = IsDeskText s keep_going refused text × (length s.sections ≤ most_sections)
 GivesText (works.Get s key moment keep_going) refused text = GivesAnswer (mode_of keep_going) s (map string_bytes key.now) moment refused text
+GivesText (works.Explain s packets keep_going) refused text = Explains (mode_of keep_going) s packets refused text
 GivesText (works.Sets f whole sieved) refused text = (text ≡ sieved.text.items) × (refused ≡ list_any (λ s. leaves_out s.why) sieved.skips)
 GivesText (works.Compare a s b t keep_going) refused text = GivesComparison (mode_of keep_going) a.now s b.now t refused text
 
@@ -229,6 +241,7 @@ HasBadWords (works.Capture s plan frames threads keep_going) line reason = ⊥
 HasBadWords (works.JudgeCapture s chains plan frames threads keep_going) line reason = ⊥
 HasBadWords (works.Desk s keep_going) line reason = ⊥
 HasBadWords (works.Get s key moment keep_going) line reason = IsBadKey s.schema (map string_bytes key.now) line reason
+HasBadWords (works.Explain s packets keep_going) line reason = ⊥
 HasBadWords (works.Compare a s b t keep_going) line reason = ⊥
 HasBadWords (works.Sets f whole sieved) line reason = ⊥
 
@@ -244,5 +257,6 @@ MakesOutput (works.JudgeCapture s chains plan frames threads keep_going) = Unit 
 MakesOutput (works.Capture s plan frames threads keep_going) = Unit {0}
 MakesOutput (works.Desk s keep_going) = Unit {0}
 MakesOutput (works.Get s key moment keep_going) = Unit {0}
+MakesOutput (works.Explain s packets keep_going) = Unit {0}
 MakesOutput (works.Compare a s b t keep_going) = Unit {0}
 MakesOutput (works.Sets f whole sieved) = ⊥

@@ -1,33 +1,43 @@
-ghost use Rattle.std.specs.Prelude.{◌≡◌, [], List, ℕ, map, Option, None, IfSome};
+ghost use Rattle.std.specs.Prelude.{◌≡◌, [], List, ℕ, map, Option, None, IfSome, IfOk, IfErr, OnOk};
 ghost use Rattle.std.specs.String.{string_bytes};
 ghost use Rattle.command_words.specs.Words.{IsCommand, AsksFor};
 ghost use Rattle.command_words.specs.WordForms.{plain};
+ghost use Rattle.command_words.specs.ScriptForms as forms;
 ghost use Rattle.top_call.specs.Lines.{answer_fault as fault_of_answer};
-ghost use Rattle.input_files.specs.Works.{IsWork};
+ghost use Rattle.input_files.specs.Noted.{StopsTelling};
+ghost use Rattle.input_files.specs.Reads.{HasRead};
+ghost use Rattle.input_files.specs.Seen.{ruleset_names, seen};
+ghost use Rattle.input_files.specs.Works.{IsDoable, IsWork};
+ghost use Rattle.top_call.specs.Forms.{InForm, TellsSkips};
 ghost use Rattle.top_call.specs.Promises.{Goes, Promises};
 ghost use Rattle.top_call.specs.Transcript.{HasFewClerks, IsOverfull};
 
 use crate::delivery::{deliver, deliver_page, done_status, tell};
 use crate::fault::Fault;
+use crate::key_told::tell_error;
 use crate::output::output_of;
 use crate::refusals::{tell_refusals, tell_too_many};
-use crate::sets::deliver_sets;
+use crate::sets::{deliver_sets, tell_lines};
 use crate::words_told::tell_words;
-use command_words::{Command, WordsError, command_of, page_of};
-use input_files::{Work, work_of};
+use command_words::{Command, ScriptForm, WordsError, command_of, page_of};
+use input_files::{FileFault, Rulesets, Work, work_of};
 use key_answer::AnswerError;
 use packet_pool::Gate;
 use pip_base::{Notes, Shelf, Sink};
+use skip_notes::SkipsNote;
 use std::alloc::Global;
 use std::sync::Wait;
 use std::thread::Threads;
 
 /// What is reported in place of an output.
-fn answer_fault<'a>(error: AnswerError) -> Fault<'a>
-    ensures { result ≡ fault_of_answer error }
+fn answer_fault<'a>(error: &AnswerError) -> Fault<'a>
+    ensures { result ≡ fault_of_answer error.now }
 {
     match error {
-        AnswerError::BadKey { line, reason } => Fault::BadKey { line, reason },
+        AnswerError::BadKey { line, reason, .. } => Fault::BadKey {
+            line: *line,
+            reason: *reason,
+        },
         AnswerError::Memory => Fault::Memory,
     }
 }
@@ -52,11 +62,68 @@ fn overfull<'a>(command: Command<'a>, work: &Work<'_>) -> Option<(&'a str, u64)>
     }
 }
 
+/// The files of a command that are rulesets: its scripts, if they are given in that form.
+fn rulesets_of<'a>(form: ScriptForm, command: Command<'a>) -> Rulesets<'a>
+    ensures { ruleset_names result ≡ forms.rulesets_of form (plain command.entry) }
+{
+    match form {
+        ScriptForm::Script => Rulesets::NoFile,
+        ScriptForm::Ruleset => scripts_of(command),
+    }
+}
+
+/// The scripts of a command.
+fn scripts_of<'a>(command: Command<'a>) -> Rulesets<'a>
+    ensures { ruleset_names result ≡ forms.scripts_of (plain command.entry) }
+{
+    match command {
+        Command::Script { script, .. } => Rulesets::OneFile(script),
+        Command::Compare { first, second, .. } => Rulesets::TwoFiles(first, second),
+        Command::Drill { .. } | Command::Sets { .. } => Rulesets::NoFile,
+    }
+}
+
+/// Reads the files of a command, and writes the note on what isn't kept of those that are rulesets.
+fn read_work<'a, F: Shelf, N: Notes>(
+    alloc: Global,
+    shelf: &mut F,
+    notes: &mut N,
+    rulesets: Rulesets<'_>,
+    script_text: &mut Vec<u8>,
+    command: Command<'a>,
+) -> Result<Work<'a>, FileFault<'a>>
+    requires nothing { F.asked shelf.old ≡ [] }
+    requires is_command { (words : List (List ℕ)) × IsCommand words (plain command) }
+    ensures work { IfOk result (IsWork (seen (ruleset_names rulesets.entry) (F.told shelf.old)) (plain command.entry)) }
+    ensures doable { IfOk result IsDoable }
+    ensures all { OnOk result (HasRead (record { told = seen (ruleset_names rulesets.entry) (F.told shelf.old); asked = F.asked shelf.new; faults_before = F.faults shelf.old; faults_now = F.faults shelf.new; picked_before = F.is_picked shelf.old; picked_now = F.is_picked shelf.new; left = F.left shelf.new }) (plain command.entry)) }
+    ensures stops { IfErr result (StopsTelling (record { told = seen (ruleset_names rulesets.entry) (F.told shelf.old); asked = F.asked shelf.new; faults_before = F.faults shelf.old; faults_now = F.faults shelf.new; picked_before = F.is_picked shelf.old; picked_now = F.is_picked shelf.new; left = F.left shelf.new }) (plain command.entry) (N.told notes.old) (N.told notes.new)) }
+    ensures skips { OnOk result (TellsSkips (F.told shelf.old) (ruleset_names rulesets.entry) (F.asked shelf.new) (N.told notes.old) (N.told notes.new)) }
+{
+    let mut skipped = SkipsNote::new(alloc);
+    match work_of(
+        alloc,
+        shelf,
+        notes,
+        rulesets,
+        &mut skipped,
+        script_text,
+        command,
+    ) {
+        Ok(work) => {
+            tell_lines(notes, &skipped);
+            Ok(work)
+        }
+        Err(fault) => Err(fault),
+    }
+}
+
 /// Does what a command asks for, writes its output or its line, writes the note for a person, and returns the
 /// status.
 fn do_command<'a, R: Threads + Wait + Sync, F: Shelf, K: Sink, N: Notes, G: Gate>(
     rt: &R,
     alloc: Global,
+    form: ScriptForm,
     command: Command<'a>,
     shelf: &mut F,
     sink: &mut K,
@@ -65,10 +132,11 @@ fn do_command<'a, R: Threads + Wait + Sync, F: Shelf, K: Sink, N: Notes, G: Gate
 ) -> u8
     requires nothing { F.asked shelf.old ≡ [] }
     requires is_command { (words : List (List ℕ)) × IsCommand words (plain command) }
-    ensures { (words : List (List ℕ)) → IsCommand words (plain command.entry) → Goes (record { words = words; shelf = record { told = F.told shelf.old; asked = F.asked shelf.new; faults_before = F.faults shelf.old; faults_now = F.faults shelf.new; picked_before = F.is_picked shelf.old; picked_now = F.is_picked shelf.new; left = F.left shelf.new }; taken_before = K.taken sink.old; taken_now = K.taken sink.new; faults_before = K.faults sink.old; faults_now = K.faults sink.new; noted_before = N.told notes.old; noted_now = N.told notes.new; status = result }) }
+    ensures { (words : List (List ℕ)) → IsCommand words (plain command.entry) → InForm form (record { words = words; shelf = record { told = F.told shelf.old; asked = F.asked shelf.new; faults_before = F.faults shelf.old; faults_now = F.faults shelf.new; picked_before = F.is_picked shelf.old; picked_now = F.is_picked shelf.new; left = F.left shelf.new }; taken_before = K.taken sink.old; taken_now = K.taken sink.new; faults_before = K.faults sink.old; faults_now = K.faults sink.new; noted_before = N.told notes.old; noted_now = N.told notes.new; status = result }) Goes }
 {
     let mut script_text = Vec::new(alloc);
-    match work_of(alloc, shelf, notes, &mut script_text, command) {
+    let rulesets = rulesets_of(form, command);
+    match read_work(alloc, shelf, notes, rulesets, &mut script_text, command) {
         Ok(
             Work::Sets {
                 file,
@@ -87,7 +155,10 @@ fn do_command<'a, R: Threads + Wait + Sync, F: Shelf, K: Sink, N: Notes, G: Gate
                     let _ = tell_refusals(alloc, notes, command, script_text.as_slice(), &output);
                     status
                 }
-                Err(error) => tell(sink, answer_fault(error)),
+                Err(error) => {
+                    let _ = tell_error(alloc, notes, command, &error);
+                    tell(sink, answer_fault(&error))
+                }
             },
         },
         Err(fault) => tell(sink, Fault::File(fault)),
@@ -99,6 +170,7 @@ fn carry_out_command<R: Threads + Wait + Sync, F: Shelf, K: Sink, N: Notes, G: G
     rt: &R,
     alloc: Global,
     words: &[String],
+    form: ScriptForm,
     shelf: &mut F,
     sink: &mut K,
     notes: &mut N,
@@ -106,13 +178,14 @@ fn carry_out_command<R: Threads + Wait + Sync, F: Shelf, K: Sink, N: Notes, G: G
 ) -> u8
     requires nothing { F.asked shelf.old ≡ [] }
     requires no_page { (p : _) → AsksFor (map string_bytes words.now) p → ⊥ }
-    ensures { Goes (record { words = map string_bytes words.now; shelf = record { told = F.told shelf.old; asked = F.asked shelf.new; faults_before = F.faults shelf.old; faults_now = F.faults shelf.new; picked_before = F.is_picked shelf.old; picked_now = F.is_picked shelf.new; left = F.left shelf.new }; taken_before = K.taken sink.old; taken_now = K.taken sink.new; faults_before = K.faults sink.old; faults_now = K.faults sink.new; noted_before = N.told notes.old; noted_now = N.told notes.new; status = result }) }
+    ensures { InForm form (record { words = map string_bytes words.now; shelf = record { told = F.told shelf.old; asked = F.asked shelf.new; faults_before = F.faults shelf.old; faults_now = F.faults shelf.new; picked_before = F.is_picked shelf.old; picked_now = F.is_picked shelf.new; left = F.left shelf.new }; taken_before = K.taken sink.old; taken_now = K.taken sink.new; faults_before = K.faults sink.old; faults_now = K.faults sink.new; noted_before = N.told notes.old; noted_now = N.told notes.new; status = result }) Goes }
 {
     match command_of(alloc, words) {
-        Ok(command) => do_command(rt, alloc, command, shelf, sink, notes, gate),
+        Ok(command) => do_command(rt, alloc, form, command, shelf, sink, notes, gate),
         Err(WordsError::NoCommand) => {
-            tell_words(alloc, notes, words);
-            tell(sink, Fault::Usage)
+            let status = tell(sink, Fault::Usage);
+            let _ = tell_words(alloc, notes, words);
+            status
         }
         Err(WordsError::Memory) => tell(sink, Fault::Memory),
     }
@@ -123,17 +196,18 @@ fn carry_out<R: Threads + Wait + Sync, F: Shelf, K: Sink, N: Notes, G: Gate>(
     rt: &R,
     alloc: Global,
     words: &[String],
+    form: ScriptForm,
     shelf: &mut F,
     sink: &mut K,
     notes: &mut N,
     gate: &G,
 ) -> u8
     requires { F.asked shelf.old ≡ [] }
-    ensures { Goes (record { words = map string_bytes words.now; shelf = record { told = F.told shelf.old; asked = F.asked shelf.new; faults_before = F.faults shelf.old; faults_now = F.faults shelf.new; picked_before = F.is_picked shelf.old; picked_now = F.is_picked shelf.new; left = F.left shelf.new }; taken_before = K.taken sink.old; taken_now = K.taken sink.new; faults_before = K.faults sink.old; faults_now = K.faults sink.new; noted_before = N.told notes.old; noted_now = N.told notes.new; status = result }) }
+    ensures { InForm form (record { words = map string_bytes words.now; shelf = record { told = F.told shelf.old; asked = F.asked shelf.new; faults_before = F.faults shelf.old; faults_now = F.faults shelf.new; picked_before = F.is_picked shelf.old; picked_now = F.is_picked shelf.new; left = F.left shelf.new }; taken_before = K.taken sink.old; taken_now = K.taken sink.new; faults_before = K.faults sink.old; faults_now = K.faults sink.new; noted_before = N.told notes.old; noted_now = N.told notes.new; status = result }) Goes }
 {
     match page_of(words) {
         Some(page) => deliver_page(sink, page),
-        None => carry_out_command(rt, alloc, words, shelf, sink, notes, gate),
+        None => carry_out_command(rt, alloc, words, form, shelf, sink, notes, gate),
     }
 }
 
@@ -154,8 +228,10 @@ fn carry_out<R: Threads + Wait + Sync, F: Shelf, K: Sink, N: Notes, G: Gate>(
 /// - `desk SCRIPT [--keep-going]` runs the first section of a script, and then each of the others by a
 ///   control thread of its own. It writes the reports of all transactions in their order, and the last
 ///   generation.
-/// - `get [--at MOMENT] [--keep-going] SCRIPT KEY ..` runs a script, and writes the element of
+/// - `get [--at MOMENT] [--keep-going] SCRIPT [FAMILY] TABLE SET VALUE . VALUE ..` runs a script, and writes the element of
 ///   the last generation that holds the key, with the line that added it, or `none`. Its options come in either order.
+/// - `explain SCRIPT KEYS [--keep-going]` runs a script, and explains the answer to each packet of a key file. It writes the elements
+///   that hold the key, with the lines that added them. If there are none, it writes how many elements hold each of its values.
 /// - `compare SCRIPT1 SCRIPT2 [--keep-going]` runs two scripts, and writes for each set whether both decide alike on every
 ///   key, with the least key on which they don't.
 /// - `stat SCRIPT [--keep-going]` runs a script, and writes how many elements its last generation has, when they expire, and how
@@ -165,19 +241,22 @@ fn carry_out<R: Threads + Wait + Sync, F: Shelf, K: Sink, N: Notes, G: Gate>(
 ///
 /// `--threads=N` means `--threads N`, and `--at=MOMENT` means `--at MOMENT`.
 ///
+/// If the form is that of rulesets, each script of these words is a ruleset. What is kept of it is the script, and `notes`
+/// first gets a note on the rest.
+///
 /// `help`, `--help` or `-h` alone asks for help, and so do `help` before the word of a command and `--help` or
 /// `-h` after it. `--version` or `-V` alone asks for the version. Then the page is written, the status is 0, and
 /// no file is asked for.
 ///
 /// With `--keep-going` a refused change is skipped, and doesn't fail its transaction. If the words, a file or
-/// its reading is at fault, one line is written in place of the output. If the words or a file are at fault or
+/// its reading is at fault, one line is written in place of the output. If the words, a file or a key are at fault or
 /// a change was refused, `notes` gets a note for a person, unless memory runs out for it. Neither status nor
 /// output depends on that. The `gate` learns of each section, step, lookup and commit, which the program shows as
 /// its progress. The status is:
 ///
 /// - 0: the whole output was written, and reports no refusal;
-/// - 1: the whole output was written. A change was refused, no element holds the key of a `get`, the scripts of a `compare`
-///   don't have the same sets, or a set of a ruleset was left out;
+/// - 1: the whole output was written. A change was refused, a `get` or an `explain` found no element for a key, the scripts of a
+///   `compare` don't have the same sets, or a set of a ruleset was left out;
 /// - 2: the words are no command, and the usage line was written;
 /// - 3, 4, 9, 11: the script or the sets of a ruleset, the key file, the rules file, the plan isn't in its grammar;
 /// - 5: a file couldn't be opened or read;
@@ -191,6 +270,7 @@ pub fn pipapo<R: Threads + Wait + Sync, F: Shelf, K: Sink, N: Notes, G: Gate>(
     rt: &R,
     alloc: Global,
     words: &[String],
+    form: ScriptForm,
     shelf: &mut F,
     sink: &mut K,
     notes: &mut N,
@@ -199,8 +279,8 @@ pub fn pipapo<R: Threads + Wait + Sync, F: Shelf, K: Sink, N: Notes, G: Gate>(
     requires { F.asked shelf.old ≡ [] }
 
     // The record `Call` is what the outside shows of this call. `Promises` has the promises on it, one clause
-    // each.
-    ensures { Promises (record { words = map string_bytes words.now; shelf = record { told = F.told shelf.old; asked = F.asked shelf.new; faults_before = F.faults shelf.old; faults_now = F.faults shelf.new; picked_before = F.is_picked shelf.old; picked_now = F.is_picked shelf.new; left = F.left shelf.new }; taken_before = K.taken sink.old; taken_now = K.taken sink.new; faults_before = K.faults sink.old; faults_now = K.faults sink.new; noted_before = N.told notes.old; noted_now = N.told notes.new; status = result }) }
+    // each. `InForm` says what they are about if the scripts are rulesets.
+    ensures { InForm form (record { words = map string_bytes words.now; shelf = record { told = F.told shelf.old; asked = F.asked shelf.new; faults_before = F.faults shelf.old; faults_now = F.faults shelf.new; picked_before = F.is_picked shelf.old; picked_now = F.is_picked shelf.new; left = F.left shelf.new }; taken_before = K.taken sink.old; taken_now = K.taken sink.new; faults_before = K.faults sink.old; faults_now = K.faults sink.new; noted_before = N.told notes.old; noted_now = N.told notes.new; status = result }) Promises }
 {
-    carry_out(rt, alloc, words, shelf, sink, notes, gate)
+    carry_out(rt, alloc, words, form, shelf, sink, notes, gate)
 }

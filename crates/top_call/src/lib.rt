@@ -19,8 +19,8 @@
 //! **Output.** All of the output is made before its first byte is written. So if memory runs out, the status is 7 and
 //! the sink took nothing. If the sink fails, the status is 6, and the sink may have a front of the text.
 //!
-//! **Notes.** A note for a person explains words that are no command, a bad file, refused changes or what isn't kept of a
-//! ruleset. It changes neither status nor output.
+//! **Notes.** A note for a person explains words that are no command or no key, a bad file, refused changes or what isn't kept
+//! of a ruleset. It changes neither status nor output.
 //!
 //! **Outside.** The files, the output, the notes and the gate are traits. Tests use files in memory, and the program
 //! (`pipapo_cli`) uses the system's.
@@ -36,6 +36,7 @@ pub mod call;
 mod command;
 mod delivery;
 mod fault;
+mod key_told;
 mod output;
 mod refusals;
 mod sets;

@@ -1,6 +1,7 @@
 //! A command's output, from what was read of its files.
-ghost use Rattle.std.specs.Prelude.{◌≡◌, [], ◌∷◌, All, List, ℕ, Err, IfOk};
+ghost use Rattle.std.specs.Prelude.{◌≡◌, [], ◌∷◌, All, List, ℕ, Option, Err, IfOk};
 ghost use Rattle.token_forms.specs.declared.token.Reason.{Reason};
+ghost use Rattle.token_forms.specs.declared.bad_token.BadToken.{BadToken};
 ghost use Rattle.key_answer.specs.declared.question.AnswerError.TheVariants.{BadKey};
 ghost use Rattle.set_model.specs.declared.script.SetDecl.{SetDecl as Declared};
 ghost use Rattle.set_model.specs.Runnable.{IsFitting};
@@ -13,6 +14,7 @@ ghost use Rattle.top_call.specs.Transcript.{GivesText, HasBadWords, HasFewClerks
 use compare_answer::{Side, compare_scripts};
 use control_desk::QuietBell;
 use desk_run::desk;
+use explain_answer::explain;
 use input_files::Work;
 use key_answer::{AnswerError, get};
 use packet_pool::Gate;
@@ -51,7 +53,7 @@ pub fn output_of<R: Threads + Wait + Sync, G: Gate>(
     requires makes { MakesOutput work }
     ensures text { IfOk result (λ out. GivesText work.entry out.refused out.text.items) }
     ensures refusals { IfOk result (GivesRefusals work.entry) }
-    ensures bad { (line : ℕ) (reason : Reason) → result ≡ Err (BadKey line reason) → HasBadWords work.entry line reason }
+    ensures bad { (line : ℕ) (reason : Reason) (bad : Option BadToken) (schema : List Declared) → result ≡ Err (BadKey line reason bad schema) → HasBadWords work.entry line reason }
 {
     match work {
         Work::Run {
@@ -107,6 +109,11 @@ pub fn output_of<R: Threads + Wait + Sync, G: Gate>(
             moment,
             keep_going,
         } => get(alloc, script, key, moment, keep_going, gate),
+        Work::Explain {
+            script,
+            keys,
+            keep_going,
+        } => Ok(explain(alloc, script, &keys, keep_going, gate)?),
         Work::Compare {
             first,
             first_script,

@@ -5,7 +5,8 @@ ghost use Rattle.fault_notes.specs.Shown.{Begins, name_text};
 ghost use Rattle.top_call.specs.Refused.{HasTold, IsNoteOnChanges, TellsChanges, TellsOf, change_of as as_told, most_told};
 
 use command_words::Command;
-use fault_notes::{Note, RefusedChange, RefusedChanges, refusals_note, too_many_clerks_note};
+use fault_notes::{Met, Note, RefusedChange, RefusedChanges, refusals_note, too_many_clerks_note};
+use key_answer::met_by;
 use pip_base::Notes;
 use script_run::{Output, Refusal};
 use set_model::{Memory, Script};
@@ -37,20 +38,41 @@ fn first_changes(alloc: Global, refusals: &[Refusal]) -> Result<Vec<RefusedChang
     Ok(first)
 }
 
-/// The note on the refused changes of an output.
+/// What the first refused changes of a script met, as steps of the script.
+fn first_met<'a>(
+    alloc: Global,
+    script: &'a Script,
+    keep_going: bool,
+) -> Result<Vec<Met<'a>>, Memory> {
+    let found = met_by(alloc, script, keep_going, MOST_TOLD)?;
+    let met = found
+        .iter()
+        .map(|met| Met {
+            change: met.change,
+            older: met.older,
+        })
+        .collect(alloc)?;
+    Ok(met)
+}
+
+/// The note on the refused changes of an output. The script runs once more for what they met.
 fn changes_note(
     alloc: Global,
     name: &str,
     script_text: &[u8],
     script: &Script,
+    keep_going: bool,
     output: &Output,
 ) -> Result<Note, Memory>
     ensures { IfOk result (λ note. IsNoteOnChanges name.now output.now.refusals.items output.now.failed note.bytes.items) }
 {
     let refusals = output.refusals.as_slice();
     let first = first_changes(alloc, refusals)?;
+    let met = first_met(alloc, script, keep_going)?;
+    let told = met.as_slice();
     let changes = RefusedChanges {
         first: first.as_slice(),
+        met: told,
         count: refusals.len() as u64,
         failed: output.failed,
     };
@@ -63,6 +85,7 @@ fn tell_changes<N: Notes>(
     notes: &mut N,
     name: &str,
     script_text: &[u8],
+    keep_going: bool,
     output: &Output,
 ) -> Result<bool, Memory>
     ensures { TellsOf (IsNoteOnChanges name.now output.now.refusals.items output.now.failed) output.now (N.told notes.old) (N.told notes.new) result }
@@ -73,7 +96,7 @@ fn tell_changes<N: Notes>(
     if output.refusals.is_empty() {
         return Ok(false);
     }
-    let note = changes_note(alloc, name, script_text, script, output)?;
+    let note = changes_note(alloc, name, script_text, script, keep_going, output)?;
     notes.tell(note.as_slice());
     Ok(true)
 }
@@ -97,13 +120,19 @@ pub fn tell_refusals<N: Notes>(
         return Ok(false);
     }
     match command {
-        Command::Script { script: name, .. } => {
-            tell_changes(alloc, notes, name, script_text, output)
+        Command::Script {
+            script: name,
+            keep_going,
+            ..
+        } => tell_changes(alloc, notes, name, script_text, keep_going, output),
+        Command::Compare {
+            first: name,
+            keep_going,
+            ..
+        } => tell_changes(alloc, notes, name, script_text, keep_going, output),
+        Command::Sets { file: name } => {
+            tell_changes(alloc, notes, name, script_text, false, output)
         }
-        Command::Compare { first: name, .. } => {
-            tell_changes(alloc, notes, name, script_text, output)
-        }
-        Command::Sets { file: name } => tell_changes(alloc, notes, name, script_text, output),
         Command::Drill { .. } => Ok(false),
     }
 }

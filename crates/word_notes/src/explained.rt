@@ -1,22 +1,24 @@
 //! Says what is wrong with words, and what to do.
 use crate::fault::{NumberOf, WordFault};
-use crate::form::{MOST_NAMES, form_of, name_at, takes};
+use crate::form::{MOST_NAMES, OPTIONS, form_of, long_option, name_at, takes};
+use crate::habits::{EarlyOption, FileOption, is_name_option};
 use command_words::Verb;
 use fault_notes::Explained;
 use set_model::Memory;
 use text_pieces::Piece;
 
 /// The words at the place of a command.
-const COMMANDS: [&[u8]; 12] = [
-    b"get", b"compare", b"stat", b"run", b"judge", b"capture", b"desk", b"drill", b"list", b"dump",
-    b"sets", b"help",
+const COMMANDS: [&[u8]; 13] = [
+    b"get", b"explain", b"compare", b"stat", b"run", b"judge", b"capture", b"desk", b"drill",
+    b"list", b"dump", b"sets", b"help",
 ];
 
 const COMMANDS_ARE: &[u8] =
-    b"the commands are get, compare, stat, run, judge, capture, desk, drill, list, dump, sets and help";
+    b"the commands are get, explain, compare, stat, run, judge, capture, desk, drill, list, dump, sets and help";
 
-/// The options of all commands.
-const OPTIONS: [&[u8]; 3] = [b"--threads", b"--keep-going", b"--at"];
+/// How the kernel's sets come into a file, and what lists them.
+const FROM_NFT: &[u8] =
+    b"write the kernel's sets into a file, and list that: nft list ruleset > rules.nft; pipapo list --sets rules.nft";
 
 /// The words with a dash that may come first.
 const FIRST_OPTIONS: [&[u8]; 4] = [b"--help", b"-h", b"--version", b"-V"];
@@ -24,6 +26,9 @@ const FIRST_OPTIONS: [&[u8]; 4] = [b"--help", b"-h", b"--version", b"-V"];
 /// Explains a word at the place of a command.
 fn explain_command(said: &mut Explained, word: &str) -> Result<(), Memory> {
     said.wrong.quoted(word.as_bytes())?;
+    if word == "version" {
+        return said.say(b" isn't a command", b"did you mean '--version'?");
+    }
     said.suggest(
         b" isn't a command",
         word.as_bytes(),
@@ -32,24 +37,104 @@ fn explain_command(said: &mut Explained, word: &str) -> Result<(), Memory> {
     )
 }
 
-/// Explains a first word that begins with a dash.
+/// Explains a first word that begins with a dash, and isn't an option.
 fn explain_first_option(said: &mut Explained, word: &str) -> Result<(), Memory> {
     said.wrong.quoted(word.as_bytes())?;
-    let is_late = OPTIONS
-        .iter()
-        .any(|option| word.as_bytes().starts_with(option));
-    if is_late {
-        return said.say(
-            b" comes before the command",
-            b"write the command first, as: pipapo run SCRIPT KEYS --threads 4",
-        );
-    }
     said.suggest(
         b" isn't a command",
         word.as_bytes(),
         &FIRST_OPTIONS,
         COMMANDS_ARE,
     )
+}
+
+/// Explains an option by which another program takes a script.
+fn explain_file_option(said: &mut Explained, option: FileOption<'_>) -> Result<(), Memory> {
+    said.wrong.quoted(option.option.as_bytes())?;
+    said.tell(
+        &[Piece::Word(b" isn't an option: a file's name comes after a command")],
+        &[
+            Piece::Word(b"to run a script and print its sets, write: pipapo list "),
+            Piece::Word(option.file.unwrap_or("FILE").as_bytes()),
+        ],
+    )
+}
+
+/// Adds an option with its value to what to do.
+fn add_option(said: &mut Explained, option: EarlyOption<'_>) -> Result<(), Memory> {
+    said.help.say(option.word.as_bytes())?;
+    match option.value {
+        Some(value) => {
+            said.help.say(b" ")?;
+            said.help.say(value.as_bytes())
+        }
+        None => Ok(()),
+    }
+}
+
+/// Explains an option that comes before its command.
+fn explain_early(said: &mut Explained, option: EarlyOption<'_>) -> Result<(), Memory> {
+    said.wrong.quoted(option.word.as_bytes())?;
+    said.say(
+        b" comes before the command",
+        b"write options after the command: pipapo ",
+    )?;
+    match option.command {
+        Some((Verb::Get, _)) => {
+            said.help.say(b"get ")?;
+            add_option(said, option)?;
+            said.help.say(b" ..")
+        }
+        Some((_, command)) => {
+            said.help.say(command.as_bytes())?;
+            said.help.say(b" .. ")?;
+            add_option(said, option)
+        }
+        None => {
+            said.help.say(b"COMMAND .. ")?;
+            add_option(said, option)
+        }
+    }
+}
+
+/// Explains a word of nft after `list`.
+fn explain_nft_list(said: &mut Explained, noun: &str) -> Result<(), Memory> {
+    said.tell(
+        &[
+            Piece::Word(b"'list "),
+            Piece::Word(noun.as_bytes()),
+            Piece::Word(b"' is a command of nft: here a script's file comes after 'list'"),
+        ],
+        &[Piece::Word(FROM_NFT)],
+    )
+}
+
+/// That a command's names have no options.
+fn without_option(verb: Verb) -> &'static [u8] {
+    match verb {
+        Verb::Get => b" isn't an option: the script and the key come without options",
+        Verb::Drill => b" isn't an option: both numbers come without options",
+        _ => b" isn't an option: files come without options, in their order",
+    }
+}
+
+/// Explains a word with a dash that is no option of any command.
+fn explain_no_option(said: &mut Explained, verb: Verb, option: &str) -> Result<(), Memory> {
+    let mut near: &[&[u8]] = &OPTIONS;
+    if !takes(verb, b"--at") {
+        near = &OPTIONS[..3];
+    }
+    match long_option(verb, option.as_bytes()) {
+        Some(long) => said.tell(
+            &[Piece::Word(b" isn't an option")],
+            &[
+                Piece::Word(b"did you mean '"),
+                Piece::Word(long),
+                Piece::Word(b"'?"),
+            ],
+        ),
+        None => said.suggest(b" isn't an option", option.as_bytes(), near, form_of(verb)),
+    }
 }
 
 /// Explains a word with a dash that is no option of the command.
@@ -59,11 +144,10 @@ fn explain_option(said: &mut Explained, verb: Verb, option: &str) -> Result<(), 
     if is_other {
         return said.say(b" isn't an option of this command", form_of(verb));
     }
-    let mut near: &[&[u8]] = &OPTIONS;
-    if !takes(verb, b"--at") {
-        near = &OPTIONS[..2];
+    if is_name_option(option) {
+        return said.say(without_option(verb), form_of(verb));
     }
-    said.suggest(b" isn't an option", option.as_bytes(), near, form_of(verb))
+    explain_no_option(said, verb, option)
 }
 
 /// Explains a number that is out of its bounds, or no number.
@@ -119,10 +203,9 @@ fn explain_missing(said: &mut Explained, verb: Verb, names: usize) -> Result<(),
         };
         if place > names {
             end = b" are missing";
-            front = match name_at(verb, place.saturating_add(1)) {
-                Some(_) => b", ",
-                None => b" and ",
-            };
+            let next = place.saturating_add(1);
+            let is_last = next == MOST_NAMES || name_at(verb, next).is_none();
+            front = if is_last { b" and " } else { b", " };
         }
         match add_name(said, front, name) {
             Ok(()) => {}
@@ -148,7 +231,19 @@ pub(crate) fn explain(said: &mut Explained, fault: WordFault<'_>) -> Result<(), 
     match fault {
         WordFault::NoWords => said.say(b"a command is missing", COMMANDS_ARE),
         WordFault::NotACommand(word) => explain_command(said, word),
+        WordFault::Statement(word) => explain_extra(
+            said,
+            word,
+            b" begins a statement of a script, and isn't a command",
+            b"write the statement into the script's file, and then: pipapo list FILE",
+        ),
+        WordFault::Nft => said.say(
+            b"'nft' isn't a command: pipapo reads files, and not the kernel's sets",
+            FROM_NFT,
+        ),
+        WordFault::FileFirst(option) => explain_file_option(said, option),
         WordFault::OptionFirst(word) => explain_first_option(said, word),
+        WordFault::Early(option) => explain_early(said, option),
         WordFault::NotAlone(word) => explain_extra(
             said,
             word,
@@ -201,6 +296,7 @@ pub(crate) fn explain(said: &mut Explained, fault: WordFault<'_>) -> Result<(), 
         WordFault::TooMany(verb, word) => {
             explain_extra(said, word, b" is an extra word", form_of(verb))
         }
+        WordFault::NftList(noun) => explain_nft_list(said, noun),
         WordFault::Missing(verb, names) => explain_missing(said, verb, names),
         WordFault::Other => said.say(
             b"these words aren't a command",

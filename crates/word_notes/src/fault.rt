@@ -1,5 +1,7 @@
 //! Finds the first word that doesn't fit, or what is missing.
-use crate::seen::{Seen, asks_for_page};
+use crate::form::{OPTIONS, takes};
+use crate::habits::{EarlyOption, FileOption, command_among, file_option, is_noun, is_statement};
+use crate::seen::{Seen, asks_for_page, counted_by, split};
 use command_words::{LAST_MOMENT, MOST_ELEMENTS, MOST_THREADS, Verb, number_of};
 
 /// What a number among the words is.
@@ -40,8 +42,16 @@ pub(crate) enum WordFault<'a> {
     NoWords,
     /// This word is at the place of a command, and isn't one.
     NotACommand(&'a str),
-    /// The first word begins with a dash.
+    /// This word at the place of a command begins a statement of a script.
+    Statement(&'a str),
+    /// The word at the place of a command is `nft`.
+    Nft,
+    /// A script's file is given by an option in place of a command.
+    FileFirst(FileOption<'a>),
+    /// The first word begins with a dash, and isn't an option.
     OptionFirst(&'a str),
+    /// An option comes before the command.
+    Early(EarlyOption<'a>),
     /// This word asks for a page, and comes with others.
     NotAlone(&'a str),
     /// This word after `help` is `help` again, or asks for a page.
@@ -66,6 +76,8 @@ pub(crate) enum WordFault<'a> {
     StdinTwice,
     /// A word comes after the last name.
     TooMany(Verb, &'a str),
+    /// This word after `list` is one of nft's, and further words come after it.
+    NftList(&'a str),
     /// The command has only so many of its names.
     Missing(Verb, usize),
     /// No other row applies.
@@ -86,22 +98,68 @@ fn fault_of_help(rest: &[String]) -> WordFault<'_> {
     }
 }
 
+/// The value of an option, and the words after it. The value may be in the next word.
+fn value_before<'a>(
+    option: &str,
+    value: Option<&'a str>,
+    rest: &'a [String],
+) -> (Option<&'a str>, &'a [String]) {
+    match rest {
+        [next, behind @ ..] if value.is_none() && counted_by(option).is_some() => {
+            (Some(next.as_str()), behind)
+        }
+        _ => (None, rest),
+    }
+}
+
+/// What is wrong with words whose first one begins with a dash.
+fn fault_of_option<'a>(first: &'a str, rest: &'a [String]) -> WordFault<'a> {
+    let (option, joined) = split(first);
+    let is_option = OPTIONS.iter().any(|other| *other == option.as_bytes());
+    if !is_option {
+        return WordFault::OptionFirst(first);
+    }
+    let (value, behind) = value_before(option, joined, rest);
+    match command_among(behind) {
+        Some((verb, _)) if !takes(verb, option.as_bytes()) => WordFault::NotAnOption(verb, option),
+        command => WordFault::Early(EarlyOption {
+            word: first,
+            value,
+            command,
+        }),
+    }
+}
+
+/// What is wrong with words whose first one is no command and asks for no page.
+fn fault_at_command<'a>(first: &'a str, rest: &'a [String]) -> WordFault<'a> {
+    if is_statement(first) {
+        return WordFault::Statement(first);
+    }
+    if first == "nft" {
+        return WordFault::Nft;
+    }
+    if first != "-" && first.starts_with('-') {
+        return fault_of_option(first, rest);
+    }
+    WordFault::NotACommand(first)
+}
+
 /// What is wrong with words whose first one is no command.
-fn fault_of_first<'a>(first: &'a str, rest: &'a [String]) -> WordFault<'a> {
+fn fault_of_first<'a>(words: &'a [String], first: &'a str, rest: &'a [String]) -> WordFault<'a> {
     if first == "help" {
         return fault_of_help(rest);
     }
     if asks_for_page(first) {
         return WordFault::NotAlone(first);
     }
-    if first != "-" && first.starts_with('-') {
-        return WordFault::OptionFirst(first);
+    match file_option(words) {
+        Some(option) if first == "nft" || first.starts_with('-') => WordFault::FileFirst(option),
+        _ => fault_at_command(first, rest),
     }
-    WordFault::NotACommand(first)
 }
 
-/// What is wrong with the words after a command's word.
-fn fault_behind(verb: Verb, rest: &[String]) -> WordFault<'_> {
+/// What is wrong with the first word that doesn't fit after a command's word, or what is missing.
+fn fault_among(verb: Verb, rest: &[String]) -> WordFault<'_> {
     let mut seen = Seen::new(verb);
     for word in rest {
         match seen.after(word.as_str()) {
@@ -112,13 +170,23 @@ fn fault_behind(verb: Verb, rest: &[String]) -> WordFault<'_> {
     seen.missing().unwrap_or(WordFault::Other)
 }
 
+/// What is wrong with the words after a command's word.
+fn fault_behind(verb: Verb, rest: &[String]) -> WordFault<'_> {
+    match (fault_among(verb, rest), rest) {
+        (WordFault::TooMany(Verb::List, _), [noun, ..]) if is_noun(noun.as_str()) => {
+            WordFault::NftList(noun.as_str())
+        }
+        (fault, _) => fault,
+    }
+}
+
 /// What is wrong with words that are no command.
 pub(crate) fn fault_of(words: &[String]) -> WordFault<'_> {
     match words.split_first() {
         None => WordFault::NoWords,
         Some((first, rest)) => match Verb::of_word(first.as_str()) {
             Some(verb) => fault_behind(verb, rest),
-            None => fault_of_first(first.as_str(), rest),
+            None => fault_of_first(words, first.as_str(), rest),
         },
     }
 }

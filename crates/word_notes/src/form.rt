@@ -55,6 +55,31 @@ pub(crate) fn may_name(verb: Verb, place: usize) -> bool {
     false
 }
 
+/// The options of all commands.
+pub(crate) const OPTIONS: [&[u8]; 4] = [b"--threads", b"--keep-going", b"--sets", b"--at"];
+
+/// The option of a command that a short option begins, as `-t` begins `--threads`. It is none if several begin so.
+pub(crate) fn long_option(verb: Verb, short: &[u8]) -> Option<&'static [u8]> {
+    let mut found = None;
+    for option in &OPTIONS {
+        if takes(verb, option) && is_front(short, option) {
+            if found.is_some() {
+                return None;
+            }
+            found = Some(*option);
+        }
+    }
+    found
+}
+
+/// Whether a short option is a dash and the first letter of a long one.
+fn is_front(short: &[u8], option: &[u8]) -> bool {
+    match (short, option) {
+        ([b'-', letter], [_, _, first, ..]) => letter == first,
+        _ => false,
+    }
+}
+
 /// Whether a command takes an option.
 pub(crate) fn takes(verb: Verb, option: &[u8]) -> bool {
     for word in form_of(verb).split(|byte| *byte == b' ') {

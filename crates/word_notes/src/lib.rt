@@ -8,7 +8,8 @@
 //!
 //! The words are read once, from the first to the last ([`words_note`]). What a command takes is read in
 //! the first line of its page of help, so no form is written down a second time. A misspelt command or
-//! option is compared with those that there are: `lits` gives `did you mean 'list'?`.
+//! option is compared with those that there are: `lits` gives `did you mean 'list'?`. Words that nft or another
+//! program takes get what does the same here: `-f x.nft` gives `pipapo list x.nft`.
 //!
 //! It is proved that a note begins with `pipapo: `. Tests check the words after it
 //! (`checks/scripts/mistakes.py`).
@@ -19,6 +20,7 @@
 mod explained;
 mod fault;
 mod form;
+mod habits;
 mod seen;
 
 ghost use Rattle.std.specs.Prelude.{codes, IfOk};

@@ -20,7 +20,7 @@ pub(crate) struct Seen {
 }
 
 /// An option, and what follows its `=`.
-fn split(word: &str) -> (&str, Option<&str>) {
+pub(crate) fn split(word: &str) -> (&str, Option<&str>) {
     match word.split_once('=') {
         Some((option, value)) => (option, Some(value)),
         None => (word, None),
@@ -28,7 +28,7 @@ fn split(word: &str) -> (&str, Option<&str>) {
 }
 
 /// What the number after an option counts.
-fn counted_by(option: &str) -> Option<NumberOf> {
+pub(crate) fn counted_by(option: &str) -> Option<NumberOf> {
     match option {
         "--threads" => Some(NumberOf::Threads),
         "--at" => Some(NumberOf::Moment),
@@ -66,7 +66,7 @@ impl Seen {
         Err(WordFault::BadNumber(number, word))
     }
 
-    /// After an option that the command takes.
+    /// After an option that the command takes. The first `--sets` was taken out of the words.
     fn with_taken<'a>(
         self,
         option: &'a str,
@@ -74,6 +74,7 @@ impl Seen {
     ) -> Result<Seen, WordFault<'a>> {
         let is_again = match counted_by(option) {
             Some(_) => self.has_number,
+            None if option == "--sets" => value.is_none(),
             None => self.has_mark,
         };
         if is_again {

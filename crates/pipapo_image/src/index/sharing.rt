@@ -1,7 +1,7 @@
-ghost use Rattle.std.specs.Prelude.{◌≡◌, ◌+◌, ◌≤◌, ◌<◌, true, List, ℕ, length, position, All, get_or};
-ghost use Rattle.bit_rows.specs.Row.{at};
+ghost use Rattle.std.specs.Prelude.{◌≡◌, ◌+◌, ◌*◌, ◌≤◌, ◌<◌, true, false, List, ℕ, length, position, All, get_or};
+ghost use Rattle.bit_rows.specs.Row.{at, bit};
 ghost use Rattle.lookup_table.specs.declared.table.FieldTable.{FieldTable as Table};
-ghost use Rattle.lookup_table.specs.Rules.{Stands};
+ghost use Rattle.lookup_table.specs.Rules.{Stands, KeepsBitsWhere};
 ghost use Rattle.lookup_table.specs.Table.{block_at};
 ghost use Rattle.range_expand.specs.Split.{IsFieldInterval};
 ghost use Rattle.set_model.specs.declared.kind.Kind.{Kind as OneKind};
@@ -94,6 +94,92 @@ fn share_walk(
 /// Clears bit `r` of the row unless rule `r`'s block shares a value with the interval. The
 /// other rows are overwritten.
 fn share_field(
+    table: &FieldTable,
+    part: Interval,
+    row: &mut BitRow,
+    one: &mut BitRow,
+    rest: &mut BitRow,
+    sum: &mut BitRow,
+)
+    requires few { table.now.rules ≤ rules_limit }
+    requires interval { IsFieldInterval part.low part.high table.now.bits }
+    requires length { length row.old.bits ≡ table.now.rules }
+    requires one_room { HasRoomForRules one.old }
+    requires rest_room { HasRoomForRules rest.old }
+    requires sum_room { HasRoomForRules sum.old }
+    ensures bits { (rules : List Block) → Stands table.now rules → row.new.bits ≡ matched (shares_some (blocks part.low part.high table.now.bits)) rules row.old.bits }
+    ensures length { length row.new.bits ≡ length row.old.bits }
+    ensures spare { row.new.spare ≡ row.old.spare }
+    ensures one_room { HasRoomForRules one.new }
+    ensures rest_room { HasRoomForRules rest.new }
+    ensures sum_room { HasRoomForRules sum.new }
+{
+    if is_sparse(row) {
+        share_words(table, part, row);
+    } else {
+        share_row(table, part, row, one, rest, sum);
+    }
+}
+
+/// Whether at most a quarter of the row's words have a rule that is left. Then it is quicker to
+/// match these words one by one than to match all words.
+fn is_sparse(row: &BitRow) -> bool {
+    let words = row.len().div_ceil(64) as usize;
+    let left = row
+        .words()
+        .iter()
+        .take(words)
+        .filter(|word| **word != 0)
+        .count();
+    left <= words / 4
+}
+
+/// As `share_field`, but only words in which a rule is left are matched.
+fn share_words(table: &FieldTable, part: Interval, row: &mut BitRow)
+    requires few { table.now.rules ≤ rules_limit }
+    requires interval { IsFieldInterval part.low part.high table.now.bits }
+    requires length { length row.old.bits ≡ table.now.rules }
+    ensures bits { (rules : List Block) → Stands table.now rules → row.new.bits ≡ matched (shares_some (blocks part.low part.high table.now.bits)) rules row.old.bits }
+    ensures length { length row.new.bits ≡ length row.old.bits }
+    ensures spare { row.new.spare ≡ row.old.spare }
+{
+    let mut from = 0;
+    'words: while let Some(r) = row.next_set(from) {
+        let i = r / 64;
+        let word = row.word(i);
+        row.put_word(i, share_word(table, part, i, word));
+        from = 64 * (i + 1);
+    }
+}
+
+/// Those bits of `word` whose rule's block shares a value with the interval. Bit 0 is rule `64 *
+/// i`.
+fn share_word(table: &FieldTable, part: Interval, i: u32, word: u64) -> u64
+    requires rules { 64 * i < table.now.rules }
+    requires interval { IsFieldInterval part.low part.high table.now.bits }
+    ensures shared { KeepsBitsWhere table.now (shares_some (blocks part.low part.high table.now.bits)) i word result }
+    ensures fewer { (k : ℕ) → k < 64 → bit word k ≡ false → bit result k ≡ false }
+{
+    let split = Blocks::new(part.low, part.high, table.bits);
+    share_word_blocks(table, split, i, word)
+}
+
+/// Those bits of `word` whose rule's block shares a value with one of these blocks.
+fn share_word_blocks(table: &FieldTable, split: Blocks, i: u32, word: u64) -> u64
+    requires rules { 64 * i < table.now.rules }
+    requires within { All (IsWithin table.now.bits) split }
+    ensures shared { KeepsBitsWhere table.now (shares_some split) i word result }
+    ensures fewer { (k : ℕ) → k < 64 → bit word k ≡ false → bit result k ≡ false }
+{
+    let mut shared = 0;
+    'split_blocks: for block in split {
+        shared |= table.share_word(block, i, word);
+    }
+    shared
+}
+
+/// As `share_field`, with all words of the row. The other rows are overwritten.
+fn share_row(
     table: &FieldTable,
     part: Interval,
     row: &mut BitRow,

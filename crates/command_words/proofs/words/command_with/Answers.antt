@@ -105,3 +105,11 @@ pub returns-in-Compare : goal.returns-in-Compare
 returns-in-Compare c =
     is-files (map string_bytes c.args.words.now) c.in_ok-first.field-0 c.unwrap-first.result c.unwrap-first.ensures c.unwrap-in-Compare.result c.unwrap-in-Compare.ensures (codes "compare")
     (of-verb (map string_bytes c.args.words.now) c.in_ok-first.field-0 c.in_ok-first.ensures c.args.verb verbs.Compare c.in-Compare.is c.requires.shape c.requires.words)
+
+pub unwrap-requires-in-Explain : goal.unwrap-requires-in-Explain
+unwrap-requires-in-Explain c = files-second (map string_bytes c.args.words.now) c.in_ok-first.field-0 (codes "explain") (of-verb (map string_bytes c.args.words.now) c.in_ok-first.field-0 c.in_ok-first.ensures c.args.verb verbs.Explain c.in-Explain.is c.requires.shape c.requires.words)
+
+pub returns-in-Explain : goal.returns-in-Explain
+returns-in-Explain c =
+    is-files (map string_bytes c.args.words.now) c.in_ok-first.field-0 c.unwrap-first.result c.unwrap-first.ensures c.unwrap-in-Explain.result c.unwrap-in-Explain.ensures (codes "explain")
+    (of-verb (map string_bytes c.args.words.now) c.in_ok-first.field-0 c.in_ok-first.ensures c.args.verb verbs.Explain c.in-Explain.is c.requires.shape c.requires.words)

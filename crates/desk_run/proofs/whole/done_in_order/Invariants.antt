@@ -1,5 +1,6 @@
-use Rattle.std.proofs.Common.{◌≡◌, ◌∷◌, map, take}
+use Rattle.std.proofs.Common.{◌≡◌, ◌∷◌, ◌++◌, map}
 use Rattle.desk_run.proofs.whole.done_in_order.Given as goal
 
-abbrev pub invariant-loop-entry : goal.invariant-loop-entry
-invariant-loop-entry l = l.done ≡ l.fn.first ∷ map (λ e. e.steps) (take l.entry-index l.entry-items)
+-- the steps so far, and those to come
+abbrev pub invariant-loop-steps : goal.invariant-loop-steps
+invariant-loop-steps l = l.done ++ map (λ e. e.steps) l.steps-iterator.rest.items ≡ l.fn.first ∷ map (λ e. e.steps) l.fn.log

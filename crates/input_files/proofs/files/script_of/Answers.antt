@@ -1,8 +1,10 @@
 use Rattle.std.proofs.Common.{refl, ap, Err}
 use Rattle.input_files.specs.declared.fault.Flaw.TheVariants as flaws
 use Rattle.input_files.specs.Inputs.{script}
+use Rattle.input_files.specs.Seen.{ruleset_names, seen}
 use Rattle.input_files.proofs.Reading.{bad-cause}
 use Rattle.input_files.proofs.Telling.{script-note}
+use Rattle.fault_notes.proofs.ToldLaws.{may_tell}
 use Rattle.input_files.proofs.files.script_of.Goals as goal
 
 pub returns-in-Err-clause-cause : goal.returns-in-Err-clause-cause
@@ -10,10 +12,10 @@ returns-in-Err-clause-cause g c = λ sets. c.in-Err.ensures.cause sets (record {
 
 pub returns-in-Err-Bad-clause-cause : goal.returns-in-Err-Bad-clause-cause
 returns-in-Err-Bad-clause-cause g c =
-    λ sets. bad-cause (g.F.Shelf.told c.args.shelf.now) (g.F.Shelf.asked c.args.shelf.now) (g.F.Shelf.asked c.text_of.new.shelf) (g.F.Shelf.faults c.args.shelf.now) (g.F.Shelf.faults c.text_of.new.shelf) sets (record { name = c.args.name.now; form = script })
+    λ sets. bad-cause (seen (ruleset_names c.args.rulesets) (g.F.Shelf.told c.args.shelf.now)) (g.F.Shelf.asked c.args.shelf.now) (g.F.Shelf.asked c.text_of.new.shelf) (g.F.Shelf.faults c.args.shelf.now) (g.F.Shelf.faults c.text_of.new.shelf) sets (record { name = c.args.name.now; form = script })
     (flaws.Script c.in-Err-Bad.line c.in-Err-Bad.reason) c.in-Ok.text.items c.as_slice-bytes.result.now c.in-Ok.ensures.quiet refl c.in-Ok.ensures.bytes c.in-Ok.ensures.limit c.as_slice-bytes.ensures.value
     (c.in-Err-Bad.ensures.bad c.in-Err-Bad.line c.in-Err-Bad.reason (ap Err c.in-Err-Bad.field-0-is))
 
 pub returns-in-Err-Bad-clause-noted : goal.returns-in-Err-Bad-clause-noted
 returns-in-Err-Bad-clause-noted g c =
-    λ sets. script-note (g.F.Shelf.told c.args.shelf.now) c.args.name.now c.in-Ok.text.items c.as_slice-bytes.result.now c.bad_token-found.result _ _ _ c.in-Ok.ensures.bytes c.as_slice-bytes.ensures.value c.bad_token-found.ensures c.in-Ok.ensures.silent c.tell_script.ensures
+    λ sets. script-note (seen (ruleset_names c.args.rulesets) (g.F.Shelf.told c.args.shelf.now)) c.args.name.now c.in-Ok.text.items c.as_slice-bytes.result.now c.bad_token-found.result _ _ _ c.in-Ok.ensures.bytes c.as_slice-bytes.ensures.value c.bad_token-found.ensures c.in-Ok.ensures.silent (may_tell c.tell_script.ensures)

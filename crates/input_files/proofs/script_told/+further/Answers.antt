@@ -11,5 +11,5 @@ returns-in-Some n c =
     let count : c.args.most ≡ suc (c.args.most - 1) = omega (arith, c.if-most-eq0.false) in
     let left = c.as_slice-bytes.result.now in
     let is_bad = subst (λ (o : Option BadToken). IsBadTokenAmong script_form (text_tokens left) left o) c.in-Some.is c.in_ok-found.ensures in
-    one-further c.args.name.now c.args.most (c.args.most - 1) c.args.rest.now left c.in_ok-notes-in-Some.notes.bytes.items c.in_ok-more-in-Some.more.bytes.items c.join.new.self.bytes.items c.in-Some.next
-    count (search (c.in_ok-left.ensures, c.as_slice-bytes.ensures.value)) is_bad c.in_ok-notes-in-Some.ensures.place c.in_ok-more-in-Some.ensures (search c.in_ok-join-in-Some.ensures)
+    one-further c.args.name.now c.args.text.now c.args.most (c.args.most - 1) c.args.rest.now left c.in_ok-notes-in-Some.notes.bytes.items c.in_ok-more-in-Some.more.bytes.items c.join.new.self.bytes.items c.in-Some.next
+    count (search (c.in_ok-left.ensures, c.as_slice-bytes.ensures.value)) is_bad (record { begins = c.in_ok-notes-in-Some.ensures.place; shows = c.in_ok-notes-in-Some.ensures.source }) c.in_ok-more-in-Some.ensures (search c.in_ok-join-in-Some.ensures)

@@ -1,12 +1,24 @@
-use Rattle.std.proofs.Common.{◌≡◌, ◌∙◌, ap, Ok, Some}
+use Rattle.std.proofs.Common.{◌≡◌, ◌∙◌, refl, ap, Ok, Some}
 use Rattle.fault_notes.specs.declared.note.Note.{Note}
 use Rattle.fault_notes.specs.Shown.{Begins, place_text}
-use Rattle.fault_notes.proofs.ToldLaws.{made-told, if-ok-as}
+use Rattle.fault_notes.specs.OtherKind.{is_other_kind}
+use Rattle.fault_notes.specs.Source.{IsSaidAt, source_text}
+use Rattle.fault_notes.specs.Told.{told_nothing}
+use Rattle.fault_notes.proofs.ToldLaws.{made-says, if-ok-both}
 use Rattle.input_files.specs.Noted.{IsPlacedBy}
 use Rattle.input_files.proofs.told.tell_bad.Goals as goal
 
 pub returns-in-Ok-Some : goal.returns-in-Ok-Some
 returns-in-Ok-Some g c =
-    made-told c.bad_text_note.result (λ (n : Note). n.bytes.items) (IsPlacedBy c.args.found c.args.name.now) _ _ c.tell_note.ensures.told c.tell_note.ensures.nothing
-    (if-ok-as c.bad_text_note.result (λ (n : Note). Begins (place_text c.args.name.now c.in-Ok-Some.bad.line c.in-Ok-Some.bad.column) n.bytes.items) (λ (n : Note). IsPlacedBy c.args.found c.args.name.now n.bytes.items)
-    (λ n begins. record { bad = c.in-Ok-Some.bad; is_found = let found : c.in-Ok-Some.field-0 ≡ Some c.in-Ok-Some.bad = (rw c.in-Ok-Some.is at c.in-Ok-Some.field-0-is) in c.in-Ok-Some.is ∙ ap Ok found; begins = begins }) (search c.bad_text_note.ensures.place))
+    let bad = c.in-Ok-Some.bad in
+    made-says c.bad_text_note.result (λ (n : Note). n.bytes.items) (IsPlacedBy c.args.kind c.args.found c.args.name.now c.args.text.now) _ _ c.tell_note.ensures.says c.tell_note.ensures.nothing c.tell_note.ensures.says_no
+    (if-ok-both c.bad_text_note.result (λ (n : Note). Begins (place_text c.args.name.now bad.line bad.column) n.bytes.items) (λ (n : Note). IsSaidAt (place_text c.args.name.now bad.line bad.column) (source_text c.args.text.now bad) (is_other_kind c.args.kind c.args.text.now bad) n.bytes.items)
+    (λ (n : Note). IsPlacedBy c.args.kind c.args.found c.args.name.now c.args.text.now n.bytes.items)
+    (λ n begins shows. record { bad = bad; is_found = let found : c.in-Ok-Some.field-0 ≡ Some bad = (rw c.in-Ok-Some.is at c.in-Ok-Some.field-0-is) in c.in-Ok-Some.is ∙ ap Ok found; is_on = record { begins = begins; shows = shows } })
+    (search c.bad_text_note.ensures.place) (search c.bad_text_note.ensures.source))
+
+pub returns-in_default : goal.returns-in_default
+returns-in_default g c = told_nothing refl
+
+pub returns-in_default-2 : goal.returns-in_default-2
+returns-in_default-2 g c = told_nothing refl

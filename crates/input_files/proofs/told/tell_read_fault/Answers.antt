@@ -1,7 +1,7 @@
 use Rattle.fault_notes.specs.Shown.{Begins, name_text}
 use Rattle.fault_notes.specs.declared.note.Note.{Note}
-use Rattle.fault_notes.proofs.ToldLaws.{made-told}
+use Rattle.fault_notes.proofs.ToldLaws.{made-says}
 use Rattle.input_files.proofs.told.tell_read_fault.Goals as goal
 
 pub returns : goal.returns
-returns g c = made-told c.read_fault_note.result (λ (n : Note). n.bytes.items) (Begins (name_text c.args.name.now)) _ _ c.tell_note.ensures.told c.tell_note.ensures.nothing c.read_fault_note.ensures.name
+returns g c = made-says c.read_fault_note.result (λ (n : Note). n.bytes.items) (Begins (name_text c.args.name.now)) _ _ c.tell_note.ensures.says c.tell_note.ensures.nothing c.tell_note.ensures.says_no c.read_fault_note.ensures.name

@@ -2,15 +2,13 @@ use Rattle.std.proofs.Common.{take, length, ◌≡◌, ◌<◌, false, [], ap, s
 use Rattle.set_model.specs.Control.{mode_of, section}
 use Rattle.packet_pool.specs.Running.{run, GoesOn}
 use Rattle.std.proofs.lemmas.List.{take_all}
-use Rattle.packet_pool.proofs.RunLaws.{goes_number}
+use Rattle.packet_pool.proofs.RunLaws.{has_next}
 use Rattle.key_answer.proofs.TraceLaws.{traces-more}
 use Rattle.key_answer.proofs.trail.trace_steps.Goals as goal
 
 pub trace_step-requires-clause-number : goal.trace_step-requires-clause-number
-trace_step-requires-clause-number g c =
-    let i = c.steps.step-index in let steps = c.args.steps.now in
-    let n = goes_number c.args.keep_going (take i steps) c.args.control.now c.steps.control c.steps.failed c.steps.events c.steps.invariant.goes_on in
-    let within : i < length steps = search rules in let size = length-take i steps in let room = c.requires.numbers in omega (arith, n, within, size, room)
+trace_step-requires-clause-number g c κs within =
+    has_next c.args.keep_going c.args.steps.now c.steps.step-index c.args.control.now c.steps.control c.steps.failed c.steps.events c.requires.numbers c.steps.invariant.goes_on
 
 pub steps-preserved : goal.steps-preserved
 steps-preserved g c =

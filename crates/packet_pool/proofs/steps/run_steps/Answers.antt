@@ -1,13 +1,11 @@
-use Rattle.std.proofs.Common.{take, length, ◌<◌, arith, length-take, rules}
+use Rattle.std.proofs.Common.{length, ◌<◌, rules}
 use Rattle.packet_pool.specs.Running.{HasBroken}
-use Rattle.packet_pool.proofs.RunLaws.{goes_number, broken}
+use Rattle.packet_pool.proofs.RunLaws.{has_next, broken}
 use Rattle.packet_pool.proofs.steps.run_steps.Goals as goal
 
 pub do_step-requires-clause-number : goal.do_step-requires-clause-number
-do_step-requires-clause-number g c =
-    let i = c.loop-step.step-index in let steps = c.args.steps.now in
-    let n = goes_number c.args.keep_going (take i steps) c.args.control.now c.loop-step.control c.loop-step.failed c.loop-step.events c.loop-step.invariant in
-    let within : i < length steps = search rules in let size = length-take i steps in let room = c.requires.numbers in omega (arith, n, within, size, room)
+do_step-requires-clause-number g c κs within =
+    has_next c.args.keep_going c.args.steps.now c.loop-step.step-index c.args.control.now c.loop-step.control c.loop-step.failed c.loop-step.events c.requires.numbers c.loop-step.invariant
 
 pub returns-in_err-do_step-clause-err : goal.returns-in_err-do_step-clause-err
 returns-in_err-do_step-clause-err g c =

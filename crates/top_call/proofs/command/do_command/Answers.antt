@@ -4,7 +4,10 @@ use Rattle.input_files.specs.declared.work.Work.TheVariants as works
 use Rattle.ruleset_sets.specs.RulesetText.{leaves_out}
 use Rattle.command_words.specs.WordForms.{plain}
 use Rattle.fault_notes.specs.Shown.{Begins, name_text}
-use Rattle.top_call.proofs.Noting.{changes-may, skips-of, told-may}
+use Rattle.input_files.specs.Seen.{ruleset_names, seen}
+use Rattle.top_call.specs.declared.fault.Fault.TheVariants as faults
+use Rattle.top_call.proofs.FormLaws.{in-noted, in-fault}
+use Rattle.top_call.proofs.Noting.{changes-may, error-told, skips-of, told-may}
 use Rattle.top_call.proofs.Outputs.{are-refused, is-output}
 use Rattle.top_call.proofs.Goings.{goes-output, goes-sets, goes-file, goes-too-many, goes-unanswered, many-sections, no-key}
 use Rattle.top_call.proofs.command.do_command.Goals as goal
@@ -12,36 +15,42 @@ use Rattle.top_call.proofs.command.do_command.Goals as goal
 pub returns-in-Ok-output_of : goal.returns-in-Ok-output_of
 returns-in-Ok-output_of g c words is_command =
     let out = c.in-Ok-output_of.output in
+    in-noted c.args.form _ (plain c.args.command) (ruleset_names c.rulesets_of-rulesets.result) _ is_command c.rulesets_of-rulesets.ensures c.in-Ok.ensures.skips (
     goes-output _ (plain c.args.command) is_command c.in-Ok.ensures.all out.refused out.text.items
-    (is-output (g.F.Shelf.told c.args.shelf.now) (plain c.args.command) c.in-Ok.work out.refused out.text.items c.in-Ok.ensures.work c.in-Ok-output_of.ensures.text)
+    (is-output (seen (ruleset_names c.rulesets_of-rulesets.result) (g.F.Shelf.told c.args.shelf.now)) (plain c.args.command) c.in-Ok.work out.refused out.text.items c.in-Ok.ensures.work c.in-Ok-output_of.ensures.text)
     (rw (c.done_status.ensures, c.as_slice-in-Ok-output_of.ensures.value) at c.deliver-status.ensures)
-    out.refusals.items out.failed (are-refused (g.F.Shelf.told c.args.shelf.now) (plain c.args.command) c.in-Ok.work out c.in-Ok.ensures.work c.in-Ok-output_of.ensures.refusals)
-    _ c.in-Ok.ensures.silent (changes-may (plain c.args.command) out _ _ c.tell_refusals.result c.tell_refusals.ensures)
+    out.refusals.items out.failed (are-refused (seen (ruleset_names c.rulesets_of-rulesets.result) (g.F.Shelf.told c.args.shelf.now)) (plain c.args.command) c.in-Ok.work out c.in-Ok.ensures.work c.in-Ok-output_of.ensures.refusals)
+    _ refl (changes-may (plain c.args.command) out _ _ c.tell_refusals.result c.tell_refusals.ensures))
 
 pub returns-in-Some : goal.returns-in-Some
 returns-in-Some g c words is_command =
     let over = c.in-Some.ensures.some in
-    goes-too-many _ c.in-Some.name (many-sections words _ (plain c.args.command) c.in-Ok.work c.in-Some.name is_command c.in-Ok.ensures.all c.in-Ok.ensures.work over) _ c.in-Ok.ensures.silent
-    (told-may c.tell_too_many.result (Begins (name_text c.in-Some.name.now)) _ _ c.tell_too_many.ensures.told c.tell_too_many.ensures.kept) c.tell.ensures
+    in-noted c.args.form _ (plain c.args.command) (ruleset_names c.rulesets_of-rulesets.result) _ is_command c.rulesets_of-rulesets.ensures c.in-Ok.ensures.skips (
+    goes-too-many _ c.in-Some.name (many-sections words _ (plain c.args.command) c.in-Ok.work c.in-Some.name is_command c.in-Ok.ensures.all c.in-Ok.ensures.work over) _ refl
+    (told-may c.tell_too_many.result (Begins (name_text c.in-Some.name.now)) _ _ c.tell_too_many.ensures.told c.tell_too_many.ensures.kept) c.tell.ensures)
 
 pub returns-in-Ok : goal.returns-in-Ok
 returns-in-Ok g c words is_command =
+    in-noted c.args.form _ (plain c.args.command) (ruleset_names c.rulesets_of-rulesets.result) _ is_command c.rulesets_of-rulesets.ensures c.in-Ok.ensures.skips (
     goes-unanswered _ (plain c.args.command) is_command c.in-Ok.ensures.all c.in-Err-output_of.error
-    (λ line reason e. no-key words _ (plain c.args.command) c.in-Ok.work line reason is_command c.in-Ok.ensures.all c.in-Ok.ensures.work (c.in-Err-output_of.ensures.bad line reason (ap Err e)))
-    c.answer_fault.result c.answer_fault.ensures c.in-Ok.ensures.silent c.tell-in-Err-output_of.ensures
+    (λ line reason bad schema e. no-key words _ (plain c.args.command) c.in-Ok.work line reason is_command c.in-Ok.ensures.all c.in-Ok.ensures.work (c.in-Err-output_of.ensures.bad line reason bad schema (ap Err e)))
+    c.answer_fault.result c.answer_fault.ensures _ refl (error-told c.in-Err-output_of.error c.tell_error.ensures) c.tell-in-Err-output_of.ensures)
 
 pub returns : goal.returns
-returns g c words is_command = goes-file _ (plain c.args.command) c.in-Err.fault is_command c.in-Err.ensures.stops c.tell-in-Err.ensures
+returns g c words is_command =
+    in-fault c.args.form _ (plain c.args.command) (ruleset_names c.rulesets_of-rulesets.result) (faults.File c.in-Err.fault) _ is_command c.rulesets_of-rulesets.ensures c.tell-in-Err.ensures (
+    goes-file _ (plain c.args.command) c.in-Err.fault is_command c.in-Err.ensures.stops c.tell-in-Err.ensures)
 
 pub returns-in-Ok-Sets : goal.returns-in-Ok-Sets
 returns-in-Ok-Sets g c words is_command =
     let file = c.in-Ok-Sets.file in
     let whole = c.in-Ok-Sets.whole in
     let sieved = c.in-Ok-Sets.sieved in
-    let told = g.F.Shelf.told c.args.shelf.now in
+    let told = seen (ruleset_names c.rulesets_of-rulesets.result) (g.F.Shelf.told c.args.shelf.now) in
     let left_out = list_any (λ s. leaves_out s.why) sieved.skips in
     let is_work = rw c.in-Ok-Sets.field-0-is at c.in-Ok-Sets.ensures.work in
+    in-noted c.args.form _ (plain c.args.command) (ruleset_names c.rulesets_of-rulesets.result) _ is_command c.rulesets_of-rulesets.ensures c.in-Ok-Sets.ensures.skips (
     goes-sets _ (plain c.args.command) file.now is_work.0 is_command c.in-Ok-Sets.ensures.all left_out sieved.text.items
     (is-output told (plain c.args.command) (works.Sets file whole sieved) left_out sieved.text.items is_work (refl, refl))
-    c.deliver_sets.ensures.ends _ c.in-Ok-Sets.ensures.silent
-    (skips-of told file.now whole.items c.as_slice.result.now sieved.text.items sieved.skips _ _ c.as_slice.ensures.value is_work.1 c.deliver_sets.ensures.tells)
+    c.deliver_sets.ensures.ends _ refl
+    (skips-of told file.now whole.items c.as_slice.result.now sieved.text.items sieved.skips _ _ c.as_slice.ensures.value is_work.1 c.deliver_sets.ensures.tells))

@@ -1,5 +1,5 @@
-use Rattle.top_call.proofs.Exact.{promises}
+use Rattle.top_call.proofs.FormLaws.{promises-in}
 use Rattle.top_call.proofs.command.pipapo.Goals as goal
 
 pub returns : goal.returns
-returns g c = promises _ c.carry_out.ensures
+returns g c = promises-in c.args.form _ c.carry_out.ensures

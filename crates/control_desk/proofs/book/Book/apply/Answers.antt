@@ -1,16 +1,15 @@
-use Rattle.std.proofs.Common.{subst}
-use Rattle.control_desk.specs.Books.{IsApplied, Booked}
-use Rattle.control_desk.proofs.Booking.{kept_then, applied, replays_then}
+use Rattle.std.proofs.Common.{sym, subst, List, All, IfOk}
+use Rattle.set_model.specs.declared.script.Step.{Step}
+use Rattle.set_model.specs.Runnable.{IsRunnableStep}
+use Rattle.control_desk.specs.Woven.{IsTransaction}
+use Rattle.control_desk.specs.Books.{IsApplied}
 use Rattle.control_desk.proofs.book.Book.apply.Goals as goal
 
-pub invariant_of-self : goal.invariant_of-self
-invariant_of-self c = kept_then c.args.clerk c.args.steps.now c.args.keep_going c.self.inside.control c.transact.new.control c.self.inside.log c.transact.new.log c.in-Ok.end c.self.invariant.closed c.in-Ok.ensures.ok c.self.inside.from c.self.invariant
+pub apply_steps-requires-clause-transaction : goal.apply_steps-requires-clause-transaction
+apply_steps-requires-clause-transaction c = subst IsTransaction (sym c.as_slice.ensures) c.requires.transaction
 
-pub returns-in-Ok-clause-ok : goal.returns-in-Ok-clause-ok
-returns-in-Ok-clause-ok c =
-    subst (λ (b : Booked). IsApplied c.args.clerk c.args.steps.now c.args.keep_going b (record { control = c.transact.new.control; log = c.transact.new.log; from = c.self.inside.from }) c.in-Ok.end) c.self.view_is
-    (applied c.args.clerk c.args.steps.now c.args.keep_going (record { control = c.self.inside.control; log = c.self.inside.log; from = c.self.inside.from }) c.transact.new.control c.transact.new.log c.in-Ok.end c.self.invariant.closed c.self.invariant.within c.in-Ok.ensures.ok)
+pub apply_steps-requires-clause-fits : goal.apply_steps-requires-clause-fits
+apply_steps-requires-clause-fits c = subst (All (IsRunnableStep c.args.self.now.control.schema)) (sym c.as_slice.ensures) c.requires.fits
 
-pub returns-in-Ok-clause-replays : goal.returns-in-Ok-clause-replays
-returns-in-Ok-clause-replays c = replays_then c.transact.new.control c.transact.new.log c.self.inside.from
-    (kept_then c.args.clerk c.args.steps.now c.args.keep_going c.self.inside.control c.transact.new.control c.self.inside.log c.transact.new.log c.in-Ok.end c.self.invariant.closed c.in-Ok.ensures.ok c.self.inside.from c.self.invariant)
+pub returns-clause-ok : goal.returns-clause-ok
+returns-clause-ok c = subst (λ (z : List Step). IfOk c.apply_steps.result (λ end. IsApplied c.args.clerk z c.args.keep_going c.args.self.now c.apply_steps.new.self end)) c.as_slice.ensures c.apply_steps.ensures.ok

@@ -1,11 +1,11 @@
-use Rattle.std.proofs.Common.{◌≡◌, refl, sym, ◌∙◌, ap, subst, ◌+◌, ◌<◌, length, get_or, Some, arith}
+use Rattle.std.proofs.Common.{◌≡◌, refl, sym, ◌∙◌, ap, subst, ◌<◌, length, get_or, Some, arith}
 use Rattle.std.proofs.lemmas.Option.{get_or_from_slice_get}
 use Rattle.bit_rows.specs.Row.{IsNextSet}
 use Rattle.set_model.specs.SetState.{is_exactly, element_at}
 use Rattle.set_tables.specs.Tables.{last_ends}
 use Rattle.pipapo_image.specs.Image.{IsImage}
 use Rattle.pipapo_image.specs.Image.Steps.{IsExactPlace}
-use Rattle.pipapo_image.proofs.ExactLaws.{AreReached, NoneExact, no_end, reached-long, place-within, among-some, among-none, one-more-met}
+use Rattle.pipapo_image.proofs.ExactLaws.{AreReached, no_end, reached-long, place-within, among-some, among-none, one-more-met}
 use Rattle.pipapo_image.proofs.image.SetImage.exact_among.Goals as goal
 
 pub rules-init : goal.rules-init

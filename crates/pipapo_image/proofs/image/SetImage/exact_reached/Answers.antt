@@ -1,4 +1,4 @@
-use Rattle.std.proofs.Common.{◌≡◌, ◌-◌, sym, ◌∙◌, ap, subst, true, take, length, arith}
+use Rattle.std.proofs.Common.{◌≡◌, ◌-◌, sym, ◌∙◌, ap, subst, take, length, arith}
 use Rattle.set_model.specs.Key.{key_fits, parts_fit, start_key}
 use Rattle.set_tables.specs.Core.{row_of}
 use Rattle.set_tables.specs.Search.{key_tests}

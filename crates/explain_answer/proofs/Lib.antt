@@ -1,0 +1,2 @@
+mod RunLaws
+mod Worked

@@ -1,0 +1,7 @@
+use Rattle.fault_notes.specs.declared.help.TextKind.TheVariants as kinds
+use Rattle.fault_notes.specs.OtherKind.{is_other_kind}
+use Rattle.fault_notes.specs.Source.{source_text}
+use Rattle.fault_notes.proofs.bad.bad_script_note.Goals as goal
+
+pub returns-clause-source : goal.returns-clause-source
+returns-clause-source c = c.placed_note.ensures.said (source_text c.args.text.now c.args.bad) (is_other_kind kinds.Script c.args.text.now c.args.bad) c.in_ok-behind.ensures
