@@ -13,6 +13,7 @@ static pipapo_control control = PIPAPO_EMPTY;
 static double seconds_wanted = 1;
 static int ended; /* by __atomic */
 static uint64_t note; /* the number of the last generation, by __atomic */
+static uint64_t changes; /* how often a reader met another generation than before, by __atomic */
 
 static double seconds(void) {
     struct timespec now;
@@ -23,7 +24,7 @@ static double seconds(void) {
 typedef struct {
     pthread_t thread;
     pipapo_reader reader;
-    unsigned long lookups, changes, failures;
+    unsigned long lookups, failures;
 } seat;
 
 #define EXPECT(what) \
@@ -40,14 +41,14 @@ static void *read_on(void *at) {
     pipapo_element element;
     flows bounds;
     char none;
-    uint64_t seen = 0, generation, id, count, ids[3];
+    uint64_t seen = 0, former, generation, id, count, ids[3];
     while (!__atomic_load_n(&ended, __ATOMIC_SEQ_CST)) {
         uint64_t met = __atomic_load_n(&note, __ATOMIC_SEQ_CST);
+        former = seen;
         EXPECT(pipapo_meet(&seat_at->reader, met) == PIPAPO_OK);
         seen = met > seen ? met : seen;
         EXPECT(pipapo_enter(&seat_at->reader, &generation) == PIPAPO_OK);
         EXPECT(generation >= seen);
-        seat_at->changes += generation != seen;
         seen = generation;
         flow keys[3];
         for (uint64_t i = 0; i < 3; ++i) {
@@ -68,6 +69,7 @@ static void *read_on(void *at) {
         for (uint64_t i = 0; i < 3; ++i)
             EXPECT(ids[i] == (generation && (uint16_t)generation == (uint16_t)(seen + i - 1) ? generation - 1 : PIPAPO_NONE));
         seen = generation;
+        if (seen != former) __atomic_fetch_add(&changes, 1, __ATOMIC_SEQ_CST);
         seat_at->lookups += 9;
     }
     pipapo_free(&elements);
@@ -111,7 +113,8 @@ int main(int argc, char **argv) {
     double end = seconds() + seconds_wanted;
     uint64_t commits = 0, count;
     walk walker = {.generation = 0};
-    for (; seconds() < end && !failures; ++commits) {
+    /* On a busy machine the readers may not have run yet at the end, so it goes on until one has seen a change. */
+    for (; (seconds() < end || !__atomic_load_n(&changes, __ATOMIC_SEQ_CST)) && !failures; ++commits) {
         uint16_t old_port = (uint16_t)commits, new_port = (uint16_t)(commits + 1);
         flows old_bounds = flows_of(0, 0xffffffff, old_port, old_port);
         if (commits) CHECK(pipapo_delete(&control, 0, &old_bounds, sizeof old_bounds, 0, &answer) == PIPAPO_OK);
@@ -129,17 +132,16 @@ int main(int argc, char **argv) {
     if (commits) pthread_join(walker.thread, NULL);
     pipapo_free(&walker.elements);
     failures += (int)walker.failures;
-    unsigned long lookups = 0, changes = 0;
+    unsigned long lookups = 0;
     for (int i = 0; i < READERS; ++i) {
         pthread_join(seats[i].thread, NULL);
         pipapo_free(&seats[i].reader);
         lookups += seats[i].lookups;
-        changes += seats[i].changes;
         failures += (int)seats[i].failures;
     }
     pipapo_free(&control);
     CHECK(commits > 0 && changes > 0);
-    printf("threads: %llu commits, %lu lookups, %lu changes of generation seen, %d failures\n", (unsigned long long)commits,
-           lookups, changes, failures);
+    printf("threads: %llu commits, %lu lookups, %llu changes of generation seen, %d failures\n", (unsigned long long)commits,
+           lookups, (unsigned long long)changes, failures);
     return failures != 0;
 }
