@@ -111,7 +111,7 @@ class Explanation:
         if gone is not None:
             self.tell(f"expired: {self.element(packet, gone)}, at {time_text(gone.expiry)}")
         if not alive:
-            self.tell("the set has no elements")
+            self.tell("the set has no live elements")
             return
         holding = [[low <= value <= high for (low, high), value in zip(element.parts, packet.key)] for element in alive]
         counts = [sum(fields) for fields in zip(*holding)]

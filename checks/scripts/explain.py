@@ -69,7 +69,7 @@ def check(program, room, texts, keep_going):
 def main():
     program, cases = sys.argv[1], int(sys.argv[2])
     rng = random.Random(SEED)
-    fronts = ["# line ", "    element ", "    also in ", "    and ", "    no element", "    expired: ", "    nearest: ", "    the set has no elements"]
+    fronts = ["# line ", "    element ", "    also in ", "    and ", "    no element", "    expired: ", "    nearest: ", "    the set has no live elements"]
     seen = dict.fromkeys(fronts, 0)
     with tempfile.TemporaryDirectory() as room:
         for number in range(cases):

@@ -140,7 +140,7 @@ const CASES: [Case; 9] = [
         keys: "t p 25\nround\nt p 25\n",
         output: "ip t p 25\n    \
                  no element\n    \
-                 the set has no elements\n\
+                 the set has no live elements\n\
                  ip t p 25\n    \
                  element 1: 25 (line 5)\n",
         status: 1,

@@ -1,5 +1,4 @@
 mod Worked
-mod KeyLaws
 mod VerdictLaws
 mod ReportLaws
 mod Ends

@@ -3,20 +3,13 @@
 -- A packet passes or fails by whether its set finds an element (nft(8), sets in expressions). So two sets are the same if for each
 -- key both find an element or neither does. Which element it is doesn't matter.
 use Rattle.std.specs.Prelude.{◌≡◌, ◌&&◌, ℕ, Bool, true, false, List, [], ◌++◌, codes, decimal, Option, Some, None, is_none, slice_get}
-use Rattle.std.specs.List.{zip, join_by}
-use Rattle.set_model.specs.declared.kind.Kind.{Kind}
 use Rattle.set_model.specs.declared.script.SetDecl.{SetDecl}
 use Rattle.set_model.specs.Text.{set_text, line_feed}
-use Rattle.addr_text.specs.Written.{value_text}
+use Rattle.element_text.specs.ElementText.{key_text, line_text}
 use Rattle.set_compare.specs.declared.difference.Difference.{Difference}
 use Rattle.set_compare.specs.declared.missing.Lack.{Lack}
 use Rattle.set_compare.specs.Missing.{DecideAlike, AreDifferences}
-use Rattle.key_answer.specs.Answer.{line_text}
 use Rattle.compare_answer.specs.Ending.{Ending, LastSet, IsLastSet}
-
--- A key as a key file has it: its values, each of its field's kind, with ` . ` between them.
-abbrev pub key_text : List Kind → List ℕ → List ℕ
-key_text kinds key = join_by (λ p. value_text p.0 p.1) (codes " . ") (zip kinds key)
 
 -- the front of a line about a key: `differs ip filter allowed: `
 abbrev pub differs_front : SetDecl → List ℕ

@@ -2,33 +2,18 @@
 ghost use Rattle.std.specs.Prelude.{◌≡◌, ◌↔◌, ◌&&◌, ◌++◌, true, slice_get, is_none, IsTrue, IfSome, IfOk, OnOk};
 ghost use Rattle.set_model.specs.Key.{key_fits};
 ghost use Rattle.set_compare.specs.Missing.{AreDifferences, DecideAlike};
-ghost use Rattle.key_answer.specs.Answer.{line_text};
-ghost use Rattle.compare_answer.specs.Verdict.{key_text, differs_front, held_text, missed_text, lack_line, lack_text, IsVerdict};
+ghost use Rattle.element_text.specs.ElementText.{line_text};
+ghost use Rattle.compare_answer.specs.Verdict.{differs_front, held_text, missed_text, lack_line, lack_text, IsVerdict};
 ghost use Rattle.compare_answer.specs.Plain.{plain_set, Adds};
 
 use crate::side::Compared;
-use addr_text::write_value;
-use key_answer::write_line;
+use element_text::{write_key, write_line};
 use pipapo_image::Scratch;
 use set_compare::{Difference, Lack, compare, have_same_kinds};
-use set_model::{Kind, Memory, SetDecl};
+use set_model::{Memory, SetDecl};
 use std::alloc::Global;
 use text_pieces::Piece::{Number, Set, Word};
-use text_pieces::{append, append_pieces};
-
-/// Appends a key as a key file has it.
-fn write_key(kinds: &[Kind], key: &[u128], out: &mut Vec<u8>) -> Result<(), Memory>
-    requires { key_fits kinds.now key.now ≡ true }
-    ensures { OnOk result (out.new.items ≡ out.old.items ++ key_text kinds.now key.now) }
-{
-    let mut separator: &[u8] = b"";
-    'fields: for (field, value) in key.iter().enumerate() {
-        append(separator, out)?;
-        write_value(kinds[field], *value, out)?;
-        separator = b" . ";
-    }
-    Ok(())
-}
+use text_pieces::append_pieces;
 
 /// Appends the element that holds a key, and the line that added it.
 fn write_holder(set: &Compared<'_>, id: u64, out: &mut Vec<u8>) -> Result<(), Memory>

@@ -31,7 +31,8 @@ use Rattle.std.proofs.lemmas.Bool.{ltb-true, lt-ltb}
 use Rattle.set_model.specs.Key.{key_fits, parts_fit}
 use Rattle.set_model.specs.Runnable.{IsFitting}
 use Rattle.set_report.specs.Writes.{AreSetsOf}
-use Rattle.key_answer.specs.Answer.{first_in, answer_in, line_text, origin_text, answer_text, get_text, has_no_answer, GivesAnswer}
+use Rattle.element_text.specs.ElementText.{line_text}
+use Rattle.key_answer.specs.Answer.{first_in, answer_in, origin_text, answer_text, get_text, has_no_answer, GivesAnswer}
 use Rattle.key_answer.proofs.TraceLaws.{traced-history}
 
 -- If a lookup finds nothing, no live element holds the key.
@@ -182,11 +183,3 @@ answer-written schema g p d s lines other old b answer same declared at answers 
 
 pub answer-found : (g : Generation) (p : Packet) (s : State) (answer : Option Element) → slice_get g.sets p.set ≡ Some s → answer ≡ first s p.key p.now → is_some answer ≡ is_some (answer_in g p)
 answer-found g p s answer at answers = ap is_some (answers ∙ ap (first_in p.key p.now) (sym at))
-
--- The line at a place, as it is found.
-pub got-line : (lines : List ℕ) (i : ℕ) (r : Option (Bor ℕ)) → is_some r ≡ nat_lt i (length lines) → IfSome r (λ x. x.now ≡ get_or lines i x.now) → option_map (λ n. n.now) r ≡ slice_get lines i
-got-line lines i None e h = go (slice_get_cases lines i).1 where
-  go : ((x : ℕ) × (i < length lines) × (slice_get lines i ≡ Some x) × (get_or lines i x ≡ x)) ⊎ ((length lines ≤ i) × (slice_get lines i ≡ None)) → None ≡ slice_get lines i
-  go (inl k) = absurd (true≢false (sym (lt-ltb i (length lines) k.1) ∙ sym e))
-  go (inr k) = sym k.1
-got-line lines i (Some x) e h = ap Some h ∙ sym (slice_get-get_or lines i x.now (ltb-true i (length lines) (sym e)))

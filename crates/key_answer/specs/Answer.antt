@@ -7,6 +7,7 @@ use Rattle.set_model.specs.declared.script.SetDecl.{SetDecl}
 use Rattle.set_model.specs.Control.{Mode, Generation, history, has_refusal, is_refusal}
 use Rattle.set_model.specs.SetState.{State, first}
 use Rattle.set_model.specs.Text.{numbered, line_feed}
+use Rattle.element_text.specs.ElementText.{line_text}
 use Rattle.set_report.specs.ListText.{element_text}
 use Rattle.set_report.specs.Remarks.{remarks_text}
 use Rattle.key_answer.specs.Origin.{traced}
@@ -20,11 +21,6 @@ first_in key now (Some s) = first s key now
 -- the element that answers a packet in a generation
 abbrev pub answer_in : Generation → Packet → Option Element
 answer_in g p = first_in p.key p.now (slice_get g.sets p.set)
-
--- The line that added an element, or nothing if no line is noted for it.
-abbrev pub line_text : Option ℕ → List ℕ
-line_text None = []
-line_text (Some line) = numbered (codes " (line") line ++ codes ")"
 
 -- An element by its id, as a listing has it at this moment, and the line that added it.
 abbrev pub origin_text : SetDecl → ℕ → List ℕ → Element → List ℕ

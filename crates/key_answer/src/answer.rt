@@ -10,7 +10,7 @@ ghost use Rattle.set_report.specs.Writes.{AreSetsOf, NamesSet};
 ghost use Rattle.packet_pool.specs.Running.{run, StandsAt};
 ghost use Rattle.script_laws.specs.Reports.{IsReportOn};
 ghost use Rattle.token_forms.specs.declared.token.Reason.{Reason};
-ghost use Rattle.key_answer.specs.Answer.{answer_in, answer_text, origin_text, line_text, GivesAnswer};
+ghost use Rattle.key_answer.specs.Answer.{answer_in, answer_text, origin_text, GivesAnswer};
 ghost use Rattle.key_answer.specs.Origin.{lines_of};
 ghost use Rattle.key_answer.specs.Question.{IsBadKey, IsKey};
 ghost use Rattle.token_forms.specs.declared.bad_token.BadToken.{BadToken as Token};
@@ -20,6 +20,7 @@ ghost use Rattle.set_report.specs.Remarks.{remarks_text};
 
 use crate::question::{AnswerError, no_key, packet_of};
 use crate::trace::{Trace, trace_script};
+use element_text::write_line;
 use packet_pool::Gate;
 use pipapo_image::{Scratch, SetImage};
 use script_laws::{Output, add_refusals, tells_refusal};
@@ -28,20 +29,6 @@ use set_report::write_element;
 use std::alloc::Global;
 use text_pieces::Piece::{Number, Word};
 use text_pieces::append_pieces;
-
-/// Appends the line that added the element of an id, if it is known: ` (line 9)`.
-///
-/// # Errors
-///
-/// `Memory` if memory runs out.
-pub fn write_line(lines: &[u64], id: u64, out: &mut Vec<u8>) -> Result<(), Memory>
-    ensures { OnOk result (out.new.items ≡ out.old.items ++ line_text (slice_get lines.now id)) }
-{
-    match lines.get(id as usize) {
-        None => Ok(()),
-        Some(line) => append_pieces(&[Word(b" (line "), Number(*line), Word(b")")], out),
-    }
-}
 
 /// Appends an element by its id, as a listing has it, and the line that added it.
 fn write_origin(

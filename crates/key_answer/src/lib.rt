@@ -29,7 +29,7 @@ mod question;
 mod trace;
 mod trail;
 
-pub use answer::{element_for, get, write_line};
+pub use answer::{element_for, get};
 pub use lines::Lines;
 pub use met::{Met, met_by};
 pub use question::{AnswerError, key_text};

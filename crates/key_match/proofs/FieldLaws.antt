@@ -1,12 +1,10 @@
--- The fields of a key and of an element beside their kinds.
+-- The fields of a key beside their kinds.
 use Rattle.std.proofs.Common.{◌≡◌, refl, sym, ◌∙◌, ap, ℕ, zero, suc, ◌+◌, ◌<◌, ◌≤◌, ◌==◌, Bool, true, false, ◌&&◌, List, [], ◌∷◌, length, take, get_or, slice_get, Some, zero-add, eqb-true, arith}
-use Rattle.std.specs.List.{zip, enumerate_from}
+use Rattle.std.specs.List.{enumerate_from}
 use Rattle.std.proofs.lemmas.List.{take_all}
-use Rattle.std.proofs.lemmas.Slice.Zip.{length-zip}
 use Rattle.set_model.specs.declared.kind.Kind.{Kind}
 use Rattle.set_model.specs.declared.kind.Kind.TheVariants.{Ipv4}
-use Rattle.set_model.specs.declared.kind.Interval.{Interval}
-use Rattle.set_model.specs.Key.{key_fits, values_fit, is_value, parts_fit, intervals_fit, is_good}
+use Rattle.set_model.specs.Key.{key_fits, values_fit, is_value}
 use Rattle.key_match.specs.Holders.{fields}
 
 both : (a b : Bool) → (a && b) ≡ true → (a ≡ true) × (b ≡ true)
@@ -41,32 +39,3 @@ field_within kinds key i fit h = let same : length kinds ≡ length key = eqb-tr
 
 pub value_good : (kinds : List Kind) (key : List ℕ) (i : ℕ) → key_fits kinds key ≡ true → i < length key → is_value (get_or kinds i Ipv4) (get_or key i 0) ≡ true
 value_good kinds key i fit h = good_value kinds key i ((both (length kinds == length key) (values_fit kinds key) fit).1) (field_within kinds key i fit h) h
-
--- the interval past an element's end, which nobody reads
-abbrev no_part : Interval
-no_part = record { low = 0; high = 0 }
-
-there : (kinds : List Kind) (parts : List Interval) (i : ℕ) → i < length kinds → i < length parts → slice_get (zip kinds parts) i ≡ Some (get_or kinds i Ipv4, get_or parts i no_part)
-there [] parts i h k = absurd (omega (arith, h))
-there (kind ∷ kinds) [] i h k = absurd (omega (arith, k))
-there (kind ∷ kinds) (part ∷ parts) zero h k = refl
-there (kind ∷ kinds) (part ∷ parts) (suc i) h k = there kinds parts i (omega (arith, h)) (omega (arith, k))
-
-good_part : (kinds : List Kind) (parts : List Interval) (i : ℕ) → intervals_fit kinds parts ≡ true → i < length kinds → i < length parts → is_good (get_or kinds i Ipv4) (get_or parts i no_part) ≡ true
-good_part [] parts i fit h k = absurd (omega (arith, h))
-good_part (kind ∷ kinds) [] i fit h k = absurd (omega (arith, k))
-good_part (kind ∷ kinds) (part ∷ parts) zero fit h k = (both (is_good kind part) (intervals_fit kinds parts) fit).0
-good_part (kind ∷ kinds) (part ∷ parts) (suc i) fit h k = good_part kinds parts i ((both (is_good kind part) (intervals_fit kinds parts) fit).1) (omega (arith, h)) (omega (arith, k))
-
--- Intervals that fit are one of each kind.
-part_within : (kinds : List Kind) (parts : List Interval) (i : ℕ) → parts_fit kinds parts ≡ true → i < length parts → i < length kinds
-part_within kinds parts i fit h = let same : length kinds ≡ length parts = eqb-true (length kinds) (length parts) ((both (length kinds == length parts) (intervals_fit kinds parts) fit).0) in omega (arith, h, same)
-
-pub part_there : (kinds : List Kind) (parts : List Interval) (i : ℕ) → parts_fit kinds parts ≡ true → i < length parts → slice_get (zip kinds parts) i ≡ Some (get_or kinds i Ipv4, get_or parts i no_part)
-part_there kinds parts i fit h = there kinds parts i (part_within kinds parts i fit h) h
-
-pub part_good : (kinds : List Kind) (parts : List Interval) (i : ℕ) → parts_fit kinds parts ≡ true → i < length parts → is_good (get_or kinds i Ipv4) (get_or parts i no_part) ≡ true
-part_good kinds parts i fit h = good_part kinds parts i ((both (length kinds == length parts) (intervals_fit kinds parts) fit).1) (part_within kinds parts i fit h) h
-
-pub parts-all : (kinds : List Kind) (parts : List Interval) (i : ℕ) → length parts ≤ i → take i (zip kinds parts) ≡ zip kinds parts
-parts-all kinds parts i past = take_all i (zip kinds parts) (let long = length-zip kinds parts in omega (arith, long, past))

@@ -11,6 +11,7 @@ use Rattle.std.proofs.lemmas.List.Sums.{fold-append}
 use Rattle.std.proofs.lemmas.Grind.{flat_map-append}
 use Rattle.std.proofs.lemmas.Option.{slice_get_within, get_or_from_slice_get, slice_get_cases, slice_get-get_or}
 use Rattle.std.proofs.lemmas.Bool.{ltb-true, lt-ltb, leb-true, leb-false, le-leb, lt-leb}
+use Rattle.element_text.proofs.JoinLaws.{Joins, joins_one}
 
 module _ {X : Type 0} (xs : List X) (i : ℕ) (x : X) (at : slice_get xs i ≡ Some x) where
   pub take-get : take (i + 1) xs ≡ take i xs ++ x ∷ []
@@ -93,21 +94,13 @@ take-snoc {X} n xs x = go (nat_le n (length xs)) refl where
       let past : length xs < n = leb-false n (length xs) h in
       take_all n (xs ++ x ∷ []) (omega (arith, long, past)) ∙ ap (λ (z : List X). z ++ x ∷ []) (sym (take_all n xs (omega (arith, past)))))
 
--- The item at a place, as it is found.
-pub got-item : (xs : List ℕ) (i : ℕ) (r : Option (Bor ℕ)) → is_some r ≡ nat_lt i (length xs) → IfSome r (λ x. x.now ≡ get_or xs i x.now) → option_map (λ n. n.now) r ≡ slice_get xs i
-got-item xs i None e h = go (slice_get_cases xs i).1 where
-  go : ((x : ℕ) × (i < length xs) × (slice_get xs i ≡ Some x) × (get_or xs i x ≡ x)) ⊎ ((length xs ≤ i) × (slice_get xs i ≡ None)) → None ≡ slice_get xs i
-  go (inl k) = absurd (true≢false (sym (lt-ltb i (length xs) k.1) ∙ sym e))
-  go (inr k) = sym k.1
-got-item xs i (Some x) e h = ap Some h ∙ sym (slice_get-get_or xs i x.now (ltb-true i (length xs) (sym e)))
-
 -- Two parts of a text, and more of them, one after the other.
 pub two-parts : (old m1 new a b : List ℕ) → m1 ≡ old ++ a → new ≡ m1 ++ b → new ≡ old ++ (a ++ b)
 two-parts old m1 new a b h1 h2 = h2 ∙ ap (λ m. m ++ b) h1 ∙ append_assoc old a b
 
 -- an element's id, and its intervals
-pub spot-parts : (old mid new id parts : List ℕ) → mid ≡ old ++ (codes "element " ++ (id ++ (codes ": " ++ []))) → new ≡ mid ++ parts → new ≡ old ++ (codes "element " ++ (id ++ (codes ": " ++ parts)))
-spot-parts old mid new id parts h1 h2 =
+pub front-parts : (old mid new id parts : List ℕ) → mid ≡ old ++ (codes "element " ++ (id ++ (codes ": " ++ []))) → new ≡ mid ++ parts → new ≡ old ++ (codes "element " ++ (id ++ (codes ": " ++ parts)))
+front-parts old mid new id parts h1 h2 =
     h2 ∙ ap (λ m. m ++ parts) h1 ∙ append_assoc old (codes "element " ++ (id ++ codes ": ")) parts ∙ ap (λ t. old ++ t) (append_assoc (codes "element ") (id ++ codes ": ") parts ∙ ap (λ t. codes "element " ++ t) (append_assoc id (codes ": ") parts))
 
 pub three-parts : (old m1 m2 new a b c : List ℕ) → m1 ≡ old ++ a → m2 ≡ m1 ++ b → new ≡ m2 ++ c → new ≡ old ++ (a ++ (b ++ c))
@@ -134,45 +127,6 @@ four-parts old m1 m2 m3 new a b c d h1 h2 h3 h4 = two-parts old m1 new a (b ++ (
 pub five-parts : (old m1 m2 m3 m4 new a b c d e : List ℕ) → m1 ≡ old ++ a → m2 ≡ m1 ++ b → m3 ≡ m2 ++ c → m4 ≡ m3 ++ d → new ≡ m4 ++ e → new ≡ old ++ (a ++ (b ++ (c ++ (d ++ e))))
 five-parts old m1 m2 m3 m4 new a b c d e h1 h2 h3 h4 h5 = two-parts old m1 new a (b ++ (c ++ (d ++ e))) h1 (four-parts m1 m2 m3 m4 new b c d e h2 h3 h4 h5)
 
--- Joined items, and the text before the next one: nothing before the first.
-abbrev before_next : {X : Type 0} → List ℕ → List X → List ℕ
-before_next separator [] = []
-before_next separator (x ∷ xs) = separator
-
-pub record Joins {X : Type 0} (f : X → List ℕ) (separator : List ℕ) (xs : List X) (old new next : List ℕ) : Type 0 where
-  pub text : new ≡ old ++ join_by f separator xs
-  pub ahead : next ≡ before_next separator xs
-
-pub joins-none : {X : Type 0} (f : X → List ℕ) (separator old : List ℕ) → Joins f separator [] old old []
-joins-none f separator old = record { text = sym (append-nil old); ahead = refl }
-
-join-more : {X : Type 0} (f : X → List ℕ) (separator : List ℕ) (xs : List X) (y : X) → join_by f separator (xs ++ y ∷ []) ≡ join_by f separator xs ++ (before_next separator xs ++ f y)
-join-more f separator [] y = append-nil (f y)
-join-more {X} f separator (x ∷ xs) y =
-    let g : X → List ℕ = λ z. separator ++ f z in
-    ap (λ t. f x ++ t) (flat_map-append g xs (y ∷ []) ∙ ap (λ t. flat_map g xs ++ t) (append-nil (g y))) ∙ sym (append_assoc (f x) (flat_map g xs) (g y))
-
-always-ahead : {X : Type 0} (separator : List ℕ) (xs : List X) (y : X) → separator ≡ before_next separator (xs ++ y ∷ [])
-always-ahead separator [] y = refl
-always-ahead separator (x ∷ xs) y = refl
-
-pub joins-one : {X : Type 0} (f : X → List ℕ) (separator : List ℕ) (xs : List X) (y : X) (old mid new next : List ℕ) → Joins f separator xs old mid next → new ≡ mid ++ (next ++ f y)
-    → Joins f separator (xs ++ y ∷ []) old new separator
-joins-one f separator xs y old mid new next so_far step = record {
-  text =
-      step
-      ∙ ap (λ m. m ++ (next ++ f y)) so_far.text
-      ∙ append_assoc old (join_by f separator xs) (next ++ f y)
-      ∙ ap (λ n. old ++ (join_by f separator xs ++ (n ++ f y))) so_far.ahead
-      ∙ ap (λ t. old ++ t) (sym (join-more f separator xs y));
-  ahead = always-ahead separator xs y;
-}
-
-pub joins-next : {X : Type 0} (f : X → List ℕ) (separator : List ℕ) (xs : List X) (i : ℕ) (y : X) (old mid between new next : List ℕ) → slice_get xs i ≡ Some y → Joins f separator (take i xs) old mid next
-    → between ≡ mid ++ next → new ≡ between ++ f y → Joins f separator (take (i + 1) xs) old new separator
-joins-next {X} f separator xs i y old mid between new next at so_far first second =
-    subst (λ (zs : List X). Joins f separator zs old new separator) (sym (take-get xs i y at)) (joins-one f separator (take i xs) y old mid new next so_far (two-parts mid between new next (f y) first second))
-
 -- One item more, which counts only if it passes a test.
 pub joins-if : {X : Type 0} (f : X → List ℕ) (separator : List ℕ) (p : X → Bool) (xs : List X) (i : ℕ) (y : X) (old mid new next next' : List ℕ) → slice_get xs i ≡ Some y → Joins f separator (filter p (take i xs)) old mid next
     → new ≡ mid ++ (if p y then next ++ f y else []) → next' ≡ (if p y then separator else next) → Joins f separator (filter p (take (i + 1) xs)) old new next'
@@ -182,7 +136,7 @@ joins-if {X} f separator p xs i y old mid new next next' at so_far step ahead =
       go true h written after =
           let wrote : new ≡ mid ++ (next ++ f y) = (rw h at written) in
           let is : next' ≡ separator = (rw h at after) in
-          rw h (subst (λ n. Joins f separator (filter p (take i xs) ++ y ∷ []) old new n) (sym is) (joins-one f separator (filter p (take i xs)) y old mid new next so_far wrote))
+          rw h (subst (λ n. Joins f separator (filter p (take i xs) ++ y ∷ []) old new n) (sym is) (joins_one f separator (filter p (take i xs)) y old mid new next so_far wrote))
       go false h written after =
           let wrote : new ≡ mid = (rw h at written) ∙ append-nil mid in
           let is : next' ≡ next = (rw h at after) in

@@ -50,7 +50,7 @@ held_before : packet_text (asks elements 3325256714 22 200) ≡ codes "ip filter
 unfolding digits value_text interval_text time_text lib.Count.count_leading_zeros
 held_before = refl
 
-empty : packet_text (asks [] 3221226061 443 0) ≡ codes "ip filter allowed 192.0.2.77 . 443\n    no element\n    the set has no elements\n"
+empty : packet_text (asks [] 3221226061 443 0) ≡ codes "ip filter allowed 192.0.2.77 . 443\n    no element\n    the set has no live elements\n"
 unfolding digits value_text
 empty = refl
 

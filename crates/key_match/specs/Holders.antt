@@ -25,8 +25,8 @@ abbrev pub field_count : List ℕ → Element → ℕ
 field_count key e = length (filter (holds_field e) (fields key))
 
 -- the fields of a key that an element doesn't hold
-abbrev pub missed : List ℕ → Element → List (ℕ × ℕ)
-missed key e = filter (λ f. not (holds_field e f)) (fields key)
+abbrev pub unmatched : List ℕ → Element → List (ℕ × ℕ)
+unmatched key e = filter (λ f. not (holds_field e f)) (fields key)
 
 -- the elements that are live at a moment
 abbrev pub live_elements : ℕ → List Element → List Element
@@ -41,8 +41,8 @@ abbrev pub holders : List ℕ → ℕ → List Element → List Element
 holders key now es = filter (answers key now) es
 
 -- The first element, live or not, that holds a key. If no live element holds the key, it is expired.
-abbrev pub former : List ℕ → List Element → Option Element
-former key es = find (λ e. holds e key) es
+abbrev pub first_holder : List ℕ → List Element → Option Element
+first_holder key es = find (λ e. holds e key) es
 
 -- the most fields of a key that a live element holds
 abbrev pub most_fields : List ℕ → ℕ → List Element → ℕ

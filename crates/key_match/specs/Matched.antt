@@ -1,17 +1,17 @@
 -- What is written of a packet and the elements of its set.
-use Rattle.std.specs.Prelude.{◌≡◌, ℕ, ◌-◌, true, ◌&&◌, ◌==◌, nat_le, if◌then◌else◌, All, List, [], ◌∷◌, ◌++◌, length, take, drop, codes, decimal, get_or, Option, Some, None, slice_get}
-use Rattle.std.specs.List.{flat_map, find, join_by, zip}
+use Rattle.std.specs.Prelude.{◌≡◌, ℕ, ◌-◌, true, ◌==◌, if◌then◌else◌, All, List, [], ◌∷◌, ◌++◌, length, take, drop, codes, decimal, get_or, Option, Some, None, slice_get}
+use Rattle.std.specs.List.{flat_map, find, join_by}
 use Rattle.set_model.specs.declared.element.Element.{Element}
-use Rattle.set_model.specs.declared.kind.Interval.{Interval}
 use Rattle.set_model.specs.declared.kind.Kind.{Kind}
 use Rattle.set_model.specs.declared.kind.Kind.TheVariants.{Ipv4}
 use Rattle.set_model.specs.declared.script.SetDecl.{SetDecl}
 use Rattle.set_model.specs.Key.{key_fits, parts_fit}
 use Rattle.set_model.specs.SetState.{answers}
 use Rattle.set_model.specs.Text.{set_text, line_feed}
-use Rattle.addr_text.specs.Written.{value_text, interval_text, time_text}
+use Rattle.addr_text.specs.Written.{value_text, time_text}
+use Rattle.element_text.specs.ElementText.{key_text, intervals_text, comment_text, line_text}
 use Rattle.key_match.specs.declared.asked.Asked.{Asked}
-use Rattle.key_match.specs.Holders.{fields, missed, live_elements, field_holders, holders, former, nearest}
+use Rattle.key_match.specs.Holders.{fields, unmatched, live_elements, field_holders, holders, first_holder, nearest}
 
 -- A packet's question: the declaration of its set, the elements of the set, and the lines that added them, by their ids. It has
 -- the key and the moment of the packet.
@@ -35,31 +35,13 @@ pub record IsProper (q : Question) : Type 0 where
 abbrev pub field_text : List Kind → ℕ × ℕ → List ℕ
 field_text kinds f = value_text (get_or kinds f.0 Ipv4) f.1
 
--- A key as a key file has it: the values of its fields, with ` . ` between them.
-abbrev pub key_text : List Kind → List ℕ → List ℕ
-key_text kinds key = join_by (field_text kinds) (codes " . ") (fields key)
-
--- Intervals, each of its field's kind, with ` . ` between them.
-abbrev pub parts_text : List Kind → List Interval → List ℕ
-parts_text kinds parts = join_by (λ p. interval_text p.0 p.1) (codes " . ") (zip kinds parts)
-
--- The line that added an element, or nothing if no line is noted for it.
-abbrev pub line_text : Option ℕ → List ℕ
-line_text None = []
-line_text (Some line) = codes " (line " ++ (decimal line ++ codes ")")
-
--- a comment in quotes, if there is one
-abbrev pub comment_text : List ℕ → List ℕ
-comment_text [] = []
-comment_text (byte ∷ bytes) = codes " comment \"" ++ ((byte ∷ bytes) ++ codes "\"")
-
 -- `element 0: 192.0.2.0/24 . 80-443`
-abbrev pub spot_text : SetDecl → Element → List ℕ
-spot_text d e = codes "element " ++ (decimal e.id ++ (codes ": " ++ parts_text d.kinds e.parts))
+abbrev pub front_text : SetDecl → Element → List ℕ
+front_text d e = codes "element " ++ (decimal e.id ++ (codes ": " ++ intervals_text d.kinds e.parts))
 
 -- `element 0: 192.0.2.0/24 . 80-443 (line 6)`
 abbrev pub named_text : Question → Element → List ℕ
-named_text q e = spot_text q.declared e ++ line_text (slice_get q.lines e.id)
+named_text q e = front_text q.declared e ++ line_text (slice_get q.lines e.id)
 
 -- the time until an expiry, if there is one
 abbrev pub left_text : ℕ → Option ℕ → List ℕ
@@ -68,7 +50,7 @@ left_text now (Some expiry) = codes ", " ++ (time_text (expiry - now) ++ codes "
 
 -- The line of the answer: the element with its comment, the line that added it, and the time until it expires.
 abbrev pub answer_line : Question → Element → List ℕ
-answer_line q e = codes "    " ++ (spot_text q.declared e ++ (comment_text e.comment ++ (line_text (slice_get q.lines e.id) ++ left_text q.now e.expiry)))
+answer_line q e = codes "    " ++ (front_text q.declared e ++ (comment_text e.comment ++ (line_text (slice_get q.lines e.id) ++ left_text q.now e.expiry)))
 
 -- The later elements that hold the key.
 abbrev pub others : Question → List Element
@@ -77,10 +59,6 @@ others q = drop 1 (holders q.key q.now q.elements)
 -- `also in element 3: 192.0.0.0/16 . 443 (line 9)`
 abbrev pub also_line : Question → Element → List ℕ
 also_line q e = codes "    also in " ++ (named_text q e ++ line_feed)
-
--- The line of an element that holds the key after so many others. The answer and those after the first eight have none.
-abbrev pub also_text : Question → ℕ → Element → List ℕ
-also_text q count e = if nat_le 1 count && nat_le count 8 then also_line q e else []
 
 -- how many more elements hold the key, if there are more
 abbrev pub more_line : ℕ → List ℕ
@@ -119,23 +97,23 @@ abbrev pub counts_line : Question → List ℕ
 counts_line q = codes "    " ++ (flat_map (count_text q) (fields q.key) ++ line_feed)
 
 -- the values that an element doesn't hold, with ` and ` between them
-abbrev pub missed_text : List Kind → List ℕ → Element → List ℕ
-missed_text kinds key e = join_by (field_text kinds) (codes " and ") (missed key e)
+abbrev pub unmatched_text : List Kind → List ℕ → Element → List ℕ
+unmatched_text kinds key e = join_by (field_text kinds) (codes " and ") (unmatched key e)
 
 -- `nearest: element 0: 192.0.2.0/24 . 80-443 (line 6), but for 444`
 abbrev pub nearest_text : Question → Option Element → List ℕ
 nearest_text q None = []
-nearest_text q (Some e) = codes "    nearest: " ++ (named_text q e ++ (codes ", but for " ++ (missed_text q.declared.kinds q.key e ++ line_feed)))
+nearest_text q (Some e) = codes "    nearest: " ++ (named_text q e ++ (codes ", but for " ++ (unmatched_text q.declared.kinds q.key e ++ line_feed)))
 
 -- What the live elements have in common with the key.
 abbrev pub near_text : Question → List ℕ
 near_text q =
-    if length (live_elements q.now q.elements) == 0 then codes "    the set has no elements\n"
+    if length (live_elements q.now q.elements) == 0 then codes "    the set has no live elements\n"
     else counts_line q ++ nearest_text q (nearest q.key q.now q.elements)
 
 -- What is written if no element answers. An element that would have answered if it hadn't expired is named.
 abbrev pub miss_text : Question → List ℕ
-miss_text q = codes "    no element\n" ++ (expired_text q (former q.key q.elements) ++ near_text q)
+miss_text q = codes "    no element\n" ++ (expired_text q (first_holder q.key q.elements) ++ near_text q)
 
 -- the explanation of an answer
 abbrev pub explained : Question → Option Element → List ℕ

@@ -8,7 +8,7 @@ ghost use Rattle.key_match.specs.Matched.{IsProper, plain, explained, packet_lin
 use crate::asked::Asked;
 use crate::hit::write_hit;
 use crate::miss::write_miss;
-use crate::words::write_key;
+use element_text::write_key;
 use set_model::{Element, Memory};
 use text_pieces::Piece::{Set, Word};
 use text_pieces::append_pieces;

@@ -3,11 +3,12 @@ ghost use Rattle.std.specs.Prelude.{◌≡◌, ◌++◌, ◌-◌, ◌+◌, ◌<�
 ghost use Rattle.set_model.specs.Key.{parts_fit};
 ghost use Rattle.set_model.specs.SetState.{answers as answers_key};
 ghost use Rattle.key_match.specs.Holders.{holders};
-ghost use Rattle.key_match.specs.Matched.{IsProper, plain, left_text, answer_line, also_line, also_text, others, more_line, hit_text};
+ghost use Rattle.key_match.specs.Matched.{IsProper, plain, left_text, answer_line, also_line, others, more_line, hit_text};
 
 use crate::asked::Asked;
 use crate::holders::answers;
-use crate::words::{write_comment, write_line, write_named, write_spot};
+use crate::words::{write_front, write_named};
+use element_text::{write_comment, write_line};
 use set_model::{Element, Memory};
 use text_pieces::Piece::{Number, Time, Word};
 use text_pieces::append_pieces;
@@ -38,7 +39,7 @@ fn write_answer(asked: &Asked<'_>, element: &Element, out: &mut Vec<u8>) -> Resu
     ensures { OnOk result (out.new.items ≡ out.old.items ++ answer_line (plain asked.now) element.now) }
 {
     append_pieces(&[Word(b"    ")], out)?;
-    write_spot(asked.declared, element, out)?;
+    write_front(asked.declared, element, out)?;
     write_comment(element.comment.as_slice(), out)?;
     write_line(asked.lines, element.id, out)?;
     write_left(asked.at, element.expiry, out)
@@ -62,7 +63,7 @@ fn write_if_named(
     out: &mut Vec<u8>,
 ) -> Result<(), Memory>
     requires { parts_fit asked.now.declared.now.kinds element.now.parts ≡ true }
-    ensures { OnOk result (out.new.items ≡ out.old.items ++ also_text (plain asked.now) count element.now) }
+    ensures { OnOk result (out.new.items ≡ out.old.items ++ (if nat_le 1 count && nat_le count 8 then also_line (plain asked.now) element.now else [])) }
 {
     if 1 <= count && count <= MOST_NAMED {
         write_also(asked, element, out)
@@ -80,7 +81,7 @@ fn write_next(
 ) -> Result<u64, Memory>
     requires few { count < 2 ^ 64 - 1 }
     requires fits { parts_fit asked.now.declared.now.kinds element.now.parts ≡ true }
-    ensures text { OnOk result (out.new.items ≡ out.old.items ++ (if answers_key asked.now.key.now asked.now.at element.now then also_text (plain asked.now) count element.now else [])) }
+    ensures text { OnOk result (out.new.items ≡ out.old.items ++ (if answers_key asked.now.key.now asked.now.at element.now then (if nat_le 1 count && nat_le count 8 then also_line (plain asked.now) element.now else []) else [])) }
     ensures count { IfOk result (λ n. n ≡ if answers_key asked.now.key.now asked.now.at element.now then count + 1 else count) }
 {
     if answers(element, asked.key, asked.at) {

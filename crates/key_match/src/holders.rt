@@ -4,7 +4,7 @@ ghost use Rattle.std.specs.List.{find};
 ghost use Rattle.set_model.specs.Expiry.{live};
 ghost use Rattle.set_model.specs.Key.{contains as has_value};
 ghost use Rattle.set_model.specs.SetState.{answers as answers_key, holds as holds_all};
-ghost use Rattle.key_match.specs.Holders.{holds_field as has_field, field_count as fields_held, field_holders, live_elements, holds_many as has_many, most_fields as most_held, nearest as nearest_of, former as former_of};
+ghost use Rattle.key_match.specs.Holders.{holds_field as has_field, field_count as fields_held, field_holders, live_elements, holds_many as has_many, most_fields as most_held, nearest as nearest_of, first_holder as first_holder_of};
 
 use expiry_scan::TimedElements;
 use set_model::{Element, Interval, is_live};
@@ -156,8 +156,8 @@ pub(crate) fn nearest<'a>(
 }
 
 /// The first element, live or not, that holds a key.
-pub(crate) fn former<'a>(elements: &'a TimedElements, key: &[u128]) -> Option<&'a Element>
-    ensures { option_map (λ e. e.now) result ≡ former_of key.now elements.now }
+pub(crate) fn first_holder<'a>(elements: &'a TimedElements, key: &[u128]) -> Option<&'a Element>
+    ensures { option_map (λ e. e.now) result ≡ first_holder_of key.now elements.now }
 {
     'elements: for i in 0..elements.len() {
         let element = elements.at(i);

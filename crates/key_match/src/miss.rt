@@ -6,8 +6,8 @@ ghost use Rattle.key_match.specs.Holders.{fields};
 ghost use Rattle.key_match.specs.Matched.{IsProper, plain, moment_text, expired_text, total_text, first_count, next_count, count_text, counts_line, nearest_text, near_text, miss_text};
 
 use crate::asked::Asked;
-use crate::holders::{count_holders, count_live, former, nearest};
-use crate::words::{write_field, write_missed, write_named};
+use crate::holders::{count_holders, count_live, first_holder, nearest};
+use crate::words::{write_field, write_named, write_unmatched};
 use set_model::{Element, Memory};
 use text_pieces::Piece::{Number, Time, Word};
 use text_pieces::append_pieces;
@@ -140,7 +140,7 @@ fn write_nearest_line(asked: &Asked<'_>, element: &Element, out: &mut Vec<u8>) -
     append_pieces(&[Word(b"    nearest: ")], out)?;
     write_named(asked, element, out)?;
     append_pieces(&[Word(b", but for ")], out)?;
-    write_missed(asked.declared.kinds.as_slice(), asked.key, element, out)?;
+    write_unmatched(asked.declared.kinds.as_slice(), asked.key, element, out)?;
     append_pieces(&[Word(b"\n")], out)
 }
 
@@ -166,7 +166,7 @@ fn write_near(asked: &Asked<'_>, out: &mut Vec<u8>) -> Result<(), Memory>
     ensures { OnOk result (out.new.items ≡ out.old.items ++ near_text (plain asked.now)) }
 {
     if count_live(asked.elements, asked.at) == 0 {
-        return append_pieces(&[Word(b"    the set has no elements\n")], out);
+        return append_pieces(&[Word(b"    the set has no live elements\n")], out);
     }
     write_counts(asked, out)?;
     write_nearest(asked, nearest(asked.elements, asked.key, asked.at), out)
@@ -182,6 +182,6 @@ pub(crate) fn write_miss(asked: &Asked<'_>, out: &mut Vec<u8>) -> Result<(), Mem
     ensures { OnOk result (out.new.items ≡ out.old.items ++ miss_text (plain asked.now)) }
 {
     append_pieces(&[Word(b"    no element\n")], out)?;
-    write_expired(asked, former(asked.elements, asked.key), out)?;
+    write_expired(asked, first_holder(asked.elements, asked.key), out)?;
     write_near(asked, out)
 }

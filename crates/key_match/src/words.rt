@@ -3,12 +3,13 @@ ghost use Rattle.std.specs.Prelude.{◌≡◌, ◌++◌, ◌<◌, [], true, not,
 ghost use Rattle.key_match.specs.Holders.{holds_field as has_field};
 ghost use Rattle.set_model.specs.declared.kind.Kind.TheVariants.{Ipv4};
 ghost use Rattle.set_model.specs.Key.{is_value, key_fits, parts_fit};
-ghost use Rattle.key_match.specs.Matched.{plain, field_text, key_text, parts_text, comment_text, line_text, spot_text, named_text, missed_text};
+ghost use Rattle.key_match.specs.Matched.{plain, field_text, front_text, named_text, unmatched_text};
 
 use crate::asked::Asked;
 use crate::holders::holds_field;
-use addr_text::{write_interval, write_value};
-use set_model::{Element, Interval, Kind, Memory, SetDecl};
+use addr_text::write_value;
+use element_text::{write_intervals, write_line};
+use set_model::{Element, Kind, Memory, SetDecl};
 use text_pieces::Piece::{Number, Word};
 use text_pieces::{append, append_pieces};
 
@@ -26,36 +27,8 @@ pub(crate) fn write_field(
     write_value(kinds[field], value, out)
 }
 
-/// Appends a key as a key file has it.
-pub(crate) fn write_key(kinds: &[Kind], key: &[u128], out: &mut Vec<u8>) -> Result<(), Memory>
-    requires { key_fits kinds.now key.now ≡ true }
-    ensures { OnOk result (out.new.items ≡ out.old.items ++ key_text kinds.now key.now) }
-{
-    let mut separator: &[u8] = b"";
-    'fields: for (field, value) in key.iter().enumerate() {
-        append(separator, out)?;
-        write_field(kinds, field, *value, out)?;
-        separator = b" . ";
-    }
-    Ok(())
-}
-
-/// Appends the intervals of an element.
-fn write_parts(kinds: &[Kind], parts: &[Interval], out: &mut Vec<u8>) -> Result<(), Memory>
-    requires { parts_fit kinds.now parts.now ≡ true }
-    ensures { OnOk result (out.new.items ≡ out.old.items ++ parts_text kinds.now parts.now) }
-{
-    let mut separator: &[u8] = b"";
-    'fields: for (field, part) in parts.iter().enumerate() {
-        append(separator, out)?;
-        write_interval(kinds[field], *part, out)?;
-        separator = b" . ";
-    }
-    Ok(())
-}
-
 /// Appends a separator and the value of a field, if an element doesn't hold the value. Returns the separator of the next value.
-fn write_if_missed<'a>(
+fn write_if_unmatched<'a>(
     kinds: &[Kind],
     field: usize,
     value: u128,
@@ -77,49 +50,29 @@ fn write_if_missed<'a>(
 }
 
 /// Appends the values of a key that an element doesn't hold.
-pub(crate) fn write_missed(
+pub(crate) fn write_unmatched(
     kinds: &[Kind],
     key: &[u128],
     element: &Element,
     out: &mut Vec<u8>,
 ) -> Result<(), Memory>
     requires { key_fits kinds.now key.now ≡ true }
-    ensures { OnOk result (out.new.items ≡ out.old.items ++ missed_text kinds.now key.now element.now) }
+    ensures { OnOk result (out.new.items ≡ out.old.items ++ unmatched_text kinds.now key.now element.now) }
 {
     let mut separator: &[u8] = b"";
     'fields: for (field, value) in key.iter().enumerate() {
-        separator = write_if_missed(kinds, field, *value, element, separator, out)?;
+        separator = write_if_unmatched(kinds, field, *value, element, separator, out)?;
     }
     Ok(())
 }
 
-/// Appends a comment in quotes, if there is one.
-pub(crate) fn write_comment(comment: &[u8], out: &mut Vec<u8>) -> Result<(), Memory>
-    ensures { OnOk result (out.new.items ≡ out.old.items ++ comment_text comment.now) }
-{
-    match comment {
-        [] => Ok(()),
-        _ => append_pieces(&[Word(b" comment \""), Word(comment), Word(b"\"")], out),
-    }
-}
-
-/// Appends the line that added the element of an id, if it is known.
-pub(crate) fn write_line(lines: &[u64], id: u64, out: &mut Vec<u8>) -> Result<(), Memory>
-    ensures { OnOk result (out.new.items ≡ out.old.items ++ line_text (slice_get lines.now id)) }
-{
-    match lines.get(id as usize) {
-        None => Ok(()),
-        Some(line) => append_pieces(&[Word(b" (line "), Number(*line), Word(b")")], out),
-    }
-}
-
 /// Appends an element by its id and its intervals.
-pub(crate) fn write_spot(set: &SetDecl, element: &Element, out: &mut Vec<u8>) -> Result<(), Memory>
+pub(crate) fn write_front(set: &SetDecl, element: &Element, out: &mut Vec<u8>) -> Result<(), Memory>
     requires { parts_fit set.now.kinds element.now.parts ≡ true }
-    ensures { OnOk result (out.new.items ≡ out.old.items ++ spot_text set.now element.now) }
+    ensures { OnOk result (out.new.items ≡ out.old.items ++ front_text set.now element.now) }
 {
     append_pieces(&[Word(b"element "), Number(element.id), Word(b": ")], out)?;
-    write_parts(set.kinds.as_slice(), element.parts.as_slice(), out)
+    write_intervals(set.kinds.as_slice(), element.parts.as_slice(), out)
 }
 
 /// Appends an element by its id and its intervals, and the line that added it.
@@ -131,6 +84,6 @@ pub(crate) fn write_named(
     requires { parts_fit asked.now.declared.now.kinds element.now.parts ≡ true }
     ensures { OnOk result (out.new.items ≡ out.old.items ++ named_text (plain asked.now) element.now) }
 {
-    write_spot(asked.declared, element, out)?;
+    write_front(asked.declared, element, out)?;
     write_line(asked.lines, element.id, out)
 }

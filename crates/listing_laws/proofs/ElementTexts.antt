@@ -26,7 +26,8 @@ use Rattle.set_script.specs.Values.{IsPart, IsLife}
 use Rattle.set_script.specs.Names.{option_of}
 use Rattle.set_script.specs.Changes.{no_options, change, expiry, life_expiry, comment_of}
 use Rattle.set_script.specs.Script as form
-use Rattle.set_report.specs.ListText.{parts_text, expiry_text, comment_text, element_text, gives_life}
+use Rattle.element_text.specs.ElementText.{intervals_text, comment_text}
+use Rattle.set_report.specs.ListText.{expiry_text, element_text, gives_life}
 use Rattle.listing_laws.specs.Relisted.{left}
 use Rattle.listing_laws.specs.Listing.{unlined, addition, IsComment, IsListable}
 use Rattle.listing_laws.proofs.WordTexts.{interval_word, time_word}
@@ -89,7 +90,7 @@ more_means wide (kind ∷ ks) (p ∷ parts) before same fit one =
     parts_go (k ∷ ks) (q ∷ parts) = λ rest fit. refl
 
 all_means : (wide : Bool) (ks : List Kind) (parts : List Interval) → 0 < length ks → length ks ≡ length parts → intervals_fit ks parts ≡ true → Singles wide parts
-    → Means false (form.all_parts wide ks) (parts_text ks parts) (λ a. a.1 ≡ parts)
+    → Means false (form.all_parts wide ks) (intervals_text ks parts) (λ a. a.1 ≡ parts)
 all_means wide [] parts some same fit one = absurd (omega (arith, some))
 all_means wide (kind ∷ ks) [] some same fit one = absurd (omega (arith, same))
 all_means wide (kind ∷ ks) (p ∷ parts) some same fit one =
@@ -241,9 +242,9 @@ module _ (d : SetDecl) (now : ℕ) (lives : gives_life d ≡ true → d.timed �
         let parts = all_means d.interval d.kinds e.parts some (eqb-true (length d.kinds) (length e.parts) both.0) both.1 (singles d.interval e.parts is.single) in
         let says = expiry_text d now e.expiry ++ comment_text e.comment in
         let o = with_comment (timed_by d now e.expiry) e.comment in
-        means_as (form.element target d before) false (parts_text d.kinds e.parts ++ says) (element_text d now e) (Adds before (e ∷ [])) (sym (append_assoc (parts_text d.kinds e.parts) (expiry_text d now e.expiry) (comment_text e.comment)))
+        means_as (form.element target d before) false (intervals_text d.kinds e.parts ++ says) (element_text d now e) (Adds before (e ∷ [])) (sym (append_assoc (intervals_text d.kinds e.parts) (expiry_text d now e.expiry) (comment_text e.comment)))
         (means_bind (form.all_parts d.interval d.kinds) (λ (p : ℕ × List Interval). many (form.option_or_break d.timed) no_options >>= λ (o : Options). done (before ++ change target d p.0 p.1 o ∷ [])) false false
-        (parts_text d.kinds e.parts) says (λ a. a.1 ≡ e.parts) (Adds before (e ∷ [])) parts (says_goes e.expiry e.comment)
+        (intervals_text d.kinds e.parts) says (λ a. a.1 ≡ e.parts) (Adds before (e ∷ [])) parts (says_goes e.expiry e.comment)
         (λ a same.
         means_as _ false (says ++ []) says _ (append-nil says)
         (means_then (many (form.option_or_break d.timed) no_options) (λ (o : Options). done (before ++ change target d a.0 a.1 o ∷ [])) false false says [] o (Adds before (e ∷ []))

@@ -2,7 +2,6 @@ pub mod Writes
 pub mod Remarks
 pub mod KindText
 pub mod ListText
-pub mod Kept
 pub mod DumpText
 pub mod DumpBuckets
 pub mod SummaryText

@@ -1,18 +1,13 @@
 -- Sets as nft(8) lists them. Such a text can be read as a script again.
 use Rattle.std.specs.Prelude.{ℕ, ◌-◌, Bool, true, false, ◌&&◌, not, nat_lt, if◌then◌else◌, List, [], ◌∷◌, ◌++◌, filter, Option, Some, None, codes, decimal, bytes_eq}
 use Rattle.std.specs.List.{zip, join_by}
-use Rattle.set_model.specs.declared.kind.Interval.{Interval}
-use Rattle.set_model.specs.declared.kind.Kind.{Kind}
 use Rattle.set_model.specs.declared.element.Element.{Element}
 use Rattle.set_model.specs.declared.script.SetDecl.{SetDecl}
 use Rattle.set_model.specs.SetState.{State}
 use Rattle.set_model.specs.Text.{family_text}
-use Rattle.addr_text.specs.Written.{interval_text, time_text}
+use Rattle.addr_text.specs.Written.{time_text}
+use Rattle.element_text.specs.ElementText.{intervals_text, comment_text}
 use Rattle.set_report.specs.KindText.{kind_text}
-
--- Elements: the intervals, each of its field's kind, with ` . ` between them.
-abbrev pub parts_text : List Kind → List Interval → List ℕ
-parts_text kinds parts = join_by (λ p. interval_text p.0 p.1) (codes " . ") (zip kinds parts)
 
 -- a set gives its elements a life if they name none
 abbrev pub gives_life : SetDecl → Bool
@@ -24,13 +19,9 @@ abbrev pub expiry_text : SetDecl → ℕ → Option ℕ → List ℕ
 expiry_text d now (Some expiry) = codes " expires " ++ time_text (expiry - now)
 expiry_text d now None = if gives_life d then codes " timeout 0s" else []
 
--- a comment in quotes, if there is one
-abbrev pub comment_text : List ℕ → List ℕ
-comment_text [] = []
-comment_text (byte ∷ bytes) = codes " comment \"" ++ (byte ∷ bytes) ++ codes "\""
-
+-- An element: its intervals, the time until it expires, and its comment.
 abbrev pub element_text : SetDecl → ℕ → Element → List ℕ
-element_text d now e = parts_text d.kinds e.parts ++ expiry_text d now e.expiry ++ comment_text e.comment
+element_text d now e = intervals_text d.kinds e.parts ++ expiry_text d now e.expiry ++ comment_text e.comment
 
 -- The items of a set, each on a line of its own.
 abbrev pub listed_item : List ℕ → List ℕ

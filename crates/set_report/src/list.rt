@@ -1,19 +1,19 @@
 ghost use Rattle.std.specs.Prelude.{◌≡◌, ◌++◌, ◌<◌, ◌≤◌, true, All, length, take, OnOk, OnErr, slice_get, flat_map, codes};
 ghost use Rattle.std.specs.List.{zip, join_by, list_any};
 ghost use Rattle.set_model.specs.Key.{is_good, parts_fit};
-ghost use Rattle.addr_text.specs.Written.{interval_text};
-ghost use Rattle.set_report.specs.Kept.{KeepsBytes};
+ghost use Rattle.element_text.specs.ElementText.{intervals_text, comment_text};
+ghost use Rattle.element_text.specs.Kept.{KeepsBytes};
 ghost use Rattle.set_report.specs.KindText.{kind_text};
-ghost use Rattle.set_report.specs.ListText.{parts_text, expiry_text, comment_text, element_text, type_line, size_line, flag_words, flags_line, timeout_line, elements_line, items_text, listed_set, same_table, sets_beside, listed_table, first_sets, list_text};
+ghost use Rattle.set_report.specs.ListText.{expiry_text, element_text, type_line, size_line, flag_words, flags_line, timeout_line, elements_line, items_text, listed_set, same_table, sets_beside, listed_table, first_sets, list_text};
 ghost use Rattle.text_pieces.specs.Pieces.{piece_text};
 ghost use Rattle.set_report.specs.Writes.{HaveDeclaredKinds};
 ghost use Rattle.text_pieces.specs.Appends.{AppendsPart};
 
 use crate::kinds::kind_word;
-use addr_text::write_interval;
+use element_text::{write_comment, write_intervals};
 use expiry_scan::TimedElements;
 use pipapo_image::SetImage;
-use set_model::{Element, Interval, Kind, Memory, Schema, SetDecl};
+use set_model::{Element, Kind, Memory, Schema, SetDecl};
 use set_space::{Generation, KeptSet};
 use text_pieces::Piece::{Number, Time, Word};
 use text_pieces::{Piece, append_pieces, family_word};
@@ -25,29 +25,6 @@ fn write(pieces: &[Piece], out: &mut Vec<u8>) -> Result<(), Memory>
     ensures kept { KeepsBytes out.old.items out.new.items }
 {
     append_pieces(pieces, out)
-}
-
-fn write_part(kind: Kind, part: Interval, out: &mut Vec<u8>) -> Result<(), Memory>
-    requires { is_good kind part ≡ true }
-    ensures ok { OnOk result (out.new.items ≡ out.old.items ++ interval_text kind part) }
-    ensures kept { KeepsBytes out.old.items out.new.items }
-{
-    write_interval(kind, part, out)
-}
-
-/// Appends the intervals of an element.
-fn write_parts(kinds: &[Kind], parts: &[Interval], out: &mut Vec<u8>) -> Result<(), Memory>
-    requires { parts_fit kinds.now parts.now ≡ true }
-    ensures ok { OnOk result (out.new.items ≡ out.old.items ++ parts_text kinds.now parts.now) }
-    ensures kept { KeepsBytes out.old.items out.new.items }
-{
-    let mut separator: &[u8] = b"";
-    'fields: for (field, part) in parts.iter().enumerate() {
-        write(&[Word(separator)], out)?;
-        write_part(kinds[field], *part, out)?;
-        separator = b" . ";
-    }
-    Ok(())
 }
 
 /// Appends how long an element still lives.
@@ -67,16 +44,6 @@ fn write_expiry(
     }
 }
 
-fn write_comment(comment: &[u8], out: &mut Vec<u8>) -> Result<(), Memory>
-    ensures ok { OnOk result (out.new.items ≡ out.old.items ++ comment_text comment.now) }
-    ensures kept { KeepsBytes out.old.items out.new.items }
-{
-    match comment {
-        [] => Ok(()),
-        _ => write(&[Word(b" comment \""), Word(comment), Word(b"\"")], out),
-    }
-}
-
 /// Appends an element of a set as a listing has it at `now`, in milliseconds: its intervals, the rest of
 /// its life if it expires, and its comment.
 ///
@@ -93,7 +60,7 @@ pub fn write_element(
     ensures ok { OnOk result (out.new.items ≡ out.old.items ++ element_text set.now now element.now) }
     ensures kept { KeepsBytes out.old.items out.new.items }
 {
-    write_parts(set.kinds.as_slice(), element.parts.as_slice(), out)?;
+    write_intervals(set.kinds.as_slice(), element.parts.as_slice(), out)?;
     write_expiry(set, now, element.expiry, out)?;
     write_comment(element.comment.as_slice(), out)
 }

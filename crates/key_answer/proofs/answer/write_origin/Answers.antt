@@ -7,4 +7,4 @@ pub returns : goal.returns
 returns c =
     on_ok_weaker c.write_line.result
     (λ three. origin-parts c.args.set.now c.args.now c.args.lines.now c.args.out.now.items _ _ _ c.args.element.now _ refl c.in_ok-append_pieces.ensures.ok c.in_ok-write_element.ensures.ok three)
-    c.write_line.ensures
+    c.write_line.ensures.ok

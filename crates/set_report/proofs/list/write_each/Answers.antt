@@ -1,6 +1,6 @@
 use Rattle.std.proofs.Common.{codes}
 use Rattle.set_report.specs.ListText.{element_text}
-use Rattle.set_report.proofs.ListLaws.{joins_get, two_writes}
+use Rattle.element_text.proofs.JoinLaws.{joins_get, two_writes}
 use Rattle.set_report.proofs.list.write_each.Goals as goal
 
 pub elements-preserved : goal.elements-preserved

@@ -2,7 +2,7 @@ use Rattle.std.proofs.Common.{◌∙◌, ap, ◌++◌, append-nil, codes}
 use Rattle.std.proofs.lemmas.Option.{slice_get-get_or}
 use Rattle.set_model.specs.declared.kind.Kind.TheVariants.{Ipv4}
 use Rattle.set_report.specs.KindText.{kind_text}
-use Rattle.set_report.proofs.ListLaws.{joins_get}
+use Rattle.element_text.proofs.JoinLaws.{joins_get}
 use Rattle.set_report.proofs.list.write_kinds.Goals as goal
 
 pub kinds-preserved : goal.kinds-preserved

@@ -1,6 +1,6 @@
 use Rattle.std.proofs.Common.{take, codes}
 use Rattle.set_report.specs.KindText.{kind_text}
-use Rattle.set_report.proofs.ListLaws.{Joins}
+use Rattle.element_text.proofs.JoinLaws.{Joins}
 use Rattle.set_report.proofs.list.write_kinds.Given as goal
 
 abbrev pub invariant-kinds : goal.invariant-kinds

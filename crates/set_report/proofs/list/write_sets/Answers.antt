@@ -1,7 +1,8 @@
 use Rattle.std.proofs.Common.{◌≡◌, sym, ◌∙◌, subst, Some, codes, slice_get, arith}
 use Rattle.set_model.specs.Control.{Generation}
 use Rattle.set_report.specs.ListText.{listed_set}
-use Rattle.set_report.proofs.ListLaws.{Joins, joins_set, two_writes, beside_other, zip-all}
+use Rattle.element_text.proofs.JoinLaws.{Joins, two_writes, zip-all}
+use Rattle.set_report.proofs.ListLaws.{joins_set, beside_other}
 use Rattle.set_report.proofs.list.write_sets.Goals as goal
 
 pub sets-preserved-then-not-is_same_table : goal.sets-preserved-then-not-is_same_table

@@ -1,7 +1,7 @@
 use Rattle.std.proofs.Common.{take, codes}
 use Rattle.std.specs.List.{zip}
 use Rattle.set_report.specs.ListText.{listed_set, sets_beside}
-use Rattle.set_report.proofs.ListLaws.{Joins}
+use Rattle.element_text.proofs.JoinLaws.{Joins}
 use Rattle.set_report.proofs.list.write_sets.Given as goal
 
 abbrev pub invariant-sets : goal.invariant-sets

@@ -1,7 +1,8 @@
 use Rattle.std.proofs.Common.{sym, ◌∙◌, codes}
 use Rattle.std.specs.List.{zip}
 use Rattle.set_report.specs.ListText.{listed_table}
-use Rattle.set_report.proofs.ListLaws.{joins_known, joins_table, two_writes}
+use Rattle.element_text.proofs.JoinLaws.{two_writes}
+use Rattle.set_report.proofs.ListLaws.{joins_known, joins_table}
 use Rattle.set_report.proofs.list.write_tables.Goals as goal
 
 pub tables-preserved-then-has_table : goal.tables-preserved-then-has_table

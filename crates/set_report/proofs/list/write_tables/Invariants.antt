@@ -1,7 +1,7 @@
 use Rattle.std.proofs.Common.{take, codes}
 use Rattle.std.specs.List.{zip}
 use Rattle.set_report.specs.ListText.{listed_table, first_sets}
-use Rattle.set_report.proofs.ListLaws.{Joins}
+use Rattle.element_text.proofs.JoinLaws.{Joins}
 use Rattle.set_report.proofs.list.write_tables.Given as goal
 
 abbrev pub invariant-tables : goal.invariant-tables

@@ -1,0 +1,2 @@
+pub mod ElementText
+pub mod Kept
