@@ -19,9 +19,11 @@ LEFT_OUT = {
     b"ct": "is left out: it has a quota, a limit or a count of connections",
 }
 UNKNOWN, UNCLOSED, SKIPPED = "is left out: it has a type that isn't known here", "is skipped: its braces don't close", "is skipped: it isn't a set"
+HOLDS = "is skipped: another item is in its braces"
 DROPPED = "is dropped: no verdict depends on it"
 IDLE, TALLIES, COUNTS = {b"constant", b"dynamic"}, {b"counter", b"last"}, {b"packets", b"bytes", b"used"}
 ON_SETS = {b"add": {b"table", b"set", b"element"}, b"flush": {b"set", b"ruleset"}} | {w: {b"set", b"element"} for w in (b"create", b"delete", b"destroy")}
+HEADS = {b"set", b"map", b"chain", b"flowtable"}
 TURNS = {b"at", b"commit", b"abort", b"round"}
 SORTS = [b"constant", b"dynamic", b"counter", b"last"]
 
@@ -45,7 +47,7 @@ class Token:
 
 
 KNOWN = (
-    KINDS | LEFT_OUT.keys() | IDLE | TALLIES | COUNTS | ON_SETS.keys() | TURNS | {b"type", b"flags", b"table", b"set", b"element", b"ruleset"}
+    KINDS | LEFT_OUT.keys() | IDLE | TALLIES | COUNTS | ON_SETS.keys() | TURNS | HEADS | {b"type", b"flags", b"table", b"element", b"ruleset"}
 )
 
 
@@ -81,12 +83,19 @@ def items_of(tokens):
             if head < end:
                 inside, at = True, head + 1
                 continue
-        if inside:
-            may_stay = first.says == b"set"
-        else:
-            may_stay = first.says in TURNS or second in ON_SETS.get(first.says, ())
-        yield tokens[at:end], may_stay
+        on_sets = first.says in TURNS or second in ON_SETS.get(first.says, ())
+        yield tokens[at:end], on_sets or inside and first.says == b"set"
         at = end
+
+
+def second_word_within(item):
+    """The place of the second word of an item in the braces of this one; the item's length if it holds none."""
+    for n, (first, second) in enumerate(zip(item[1:], item[2:]), 1):
+        if item[n - 1].kind == "break" or item[n - 1].says in (b";", b"{", b"}"):
+            third = item[n + 2].says if n + 2 < len(item) else b""
+            if second.says in ON_SETS.get(first.says, ()) or first.says in HEADS and second.kind == "word" and third == b"{":
+                return n + 1
+    return len(item)
 
 
 def parts_of(body):
@@ -153,9 +162,13 @@ def kept_of(whole):
         head = next((n for n, t in enumerate(item) if t.says == b"{"), len(item))
         parts = UNCLOSED if opened != closed else parts_of(item[head:]) if may_stay else SKIPPED
         if isinstance(parts, str):
+            held = second_word_within(item)
+            if parts != UNCLOSED and held < len(item):
+                parts = HOLDS
             lost = lost or parts != SKIPPED
-            for t in item:
-                if not t.stays() and not (parts == UNCLOSED and t.says == b"{"):
+            for n, t in enumerate(item):
+                keeps_braces = parts == UNCLOSED or parts == HOLDS and n > held
+                if not t.stays() and not (keeps_braces and t.says == b"{") and not (parts == HOLDS and n == held):
                     take(t)
             note(item[0], item[1] if len(item) > 1 and item[1].says != b"{" else None, parts)
             continue

@@ -3,6 +3,9 @@
 The second kernel must have the sets of the first, without counters and the flags constant and dynamic. Sets with `auto-merge`
 or `typeof` must be left out. The notes must be those that this model makes of the listing's lines.
 
+Rulesets with an item in the braces of another one must be refused by both, at the same line. A ruleset with all forms of rules on
+sets must be read by both.
+
 usage: rulesets.py PROGRAM RULESET ..
 """
 import json
@@ -13,6 +16,33 @@ import sys
 PROGRAM, RULESETS = sys.argv[1], sys.argv[2:]
 LEFT_OUT = {"auto-merge": "'auto-merge' isn't read here", "typeof": "'typeof' isn't read here"}
 DROPPED = ["constant", "dynamic", "counter", "last"]
+SET = "set s {\ntype ipv4_addr\n}\n"
+# rulesets with an item in the braces of another one, and the line of that item
+HELD = [
+    ("table ip t {\nchain c {\naccept\n" + SET + "}\n}\n", 4),
+    ("table ip t {\nct helper h {\ntype \"ftp\" protocol tcp\n" + SET + "}\n}\n", 4),
+    ("table ip t {\nmap m {\ntype ipv4_addr : mark\n" + SET + "}\n}\n", 4),
+    ("table ip t {\nset a {\ntype ipv4_addr\nauto-merge\n" + SET + "}\n}\n", 5),
+    ("table ip t {\nchain c {\naccept\nmap m {\ntype ipv4_addr : mark\n}\n}\n}\n", 4),
+    ("table ip t {\nchain c {\naccept\nchain d {\n}\n}\n}\n", 4),
+    ("table ip t {\nchain c {\naccept\nflowtable f {\n}\n}\n}\n", 4),
+    ("table ip t {\nchain c {\naccept\n}\nadd set ip t s { type ipv4_addr; }\n}\n", 5),
+    ("add table ip t\nadd chain ip t c {\nadd set ip t s { type ipv4_addr; }\n}\n", 3),
+]
+ON_SETS = """\
+table ip t {
+set s { type ipv4_addr; timeout 1h; }
+chain c {
+set update ip saddr @s
+set add ip saddr @s
+add @s { ip saddr }; update @s { ip saddr timeout 5s }
+delete @s { ip saddr }
+meta mark set 5
+ct mark set ct mark
+meta mark set ip saddr map { 1.2.3.4 : 1 }
+}
+}
+"""
 failed = False
 
 
@@ -29,6 +59,11 @@ def nft(words, source):
     if run.returncode != 0:
         complain(f"nft {words}: {run.stderr}")
     return run.stdout
+
+
+def check(source):
+    """What nft says of a ruleset, without loading it."""
+    return subprocess.run(["unshare", "-rn", "nft", "-c", "-f", "-"], input=source, capture_output=True, text=True)
 
 
 def sets_of(listing):
@@ -105,5 +140,19 @@ for path in RULESETS:
         again = subprocess.run([PROGRAM, "list", "-"], input=run.stdout, capture_output=True, text=True)
         if again.returncode != 0:
             complain(f"{path} {options}: list has status {again.returncode}: {again.stderr}")
-print(f"rulesets: {len(RULESETS)} rulesets, with six sets of options each")
+for text, line in HELD:
+    checked = check(text)
+    first = re.search(r"^/dev/stdin:(\d+):", checked.stderr, re.M)
+    if checked.returncode == 0 or not first or int(first[1]) != line:
+        complain(f"nft doesn't refuse line {line} of\n{text}{checked.stderr}")
+    run = subprocess.run([PROGRAM, "sets", "-"], input=text, capture_output=True, text=True)
+    if (run.returncode, run.stdout) != (3, f"pipapo: ruleset line {line}: statement\n"):
+        complain(f"sets has status {run.returncode} and prints {run.stdout}of\n{text}")
+checked = check(ON_SETS)
+if checked.returncode != 0:
+    complain(f"nft refuses rules on sets: {checked.stderr}")
+run = subprocess.run([PROGRAM, "sets", "-"], input=ON_SETS, capture_output=True, text=True)
+if (run.returncode, run.stderr) != (0, "-:3:1: 'chain c' is skipped: it isn't a set\n"):
+    complain(f"sets has status {run.returncode} on rules on sets: {run.stderr}")
+print(f"rulesets: {len(RULESETS)} rulesets, with six sets of options each, and {len(HELD)} with an item in another one")
 sys.exit(failed)

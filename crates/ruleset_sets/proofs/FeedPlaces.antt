@@ -23,8 +23,9 @@ use Rattle.ruleset_sets.specs.declared.item.Level.TheVariants as levels
 use Rattle.ruleset_sets.specs.Roles.{role_of, is_line_feed, opens}
 use Rattle.ruleset_sets.specs.RoleTokens.{role_token_of, role_tokens}
 use Rattle.ruleset_sets.specs.Sieve.{fate, is_dropped, spot_behind, dropped_among, body}
+use Rattle.ruleset_sets.specs.Inner.{before_inner}
 use Rattle.ruleset_sets.specs.Items.{cuts_from, first_item}
-use Rattle.ruleset_sets.specs.Kept.{IsKept, HaveSameLines, may_go, goes_for, taken_from, taken_in, all_taken, is_within, blank_if, kept_byte}
+use Rattle.ruleset_sets.specs.Kept.{IsKept, HaveSameLines, may_go, goes_for, taken_behind, taken_from, taken_in, all_taken, is_within, blank_if, kept_byte}
 
 abbrev Each : {X : Type 0} → (X → Type 0) → List X → Type 0
 Each P [] = Unit {0}
@@ -163,8 +164,16 @@ dropped_clear whole spot (p ∷ ps) h = go (is_dropped (fate spot p.role ps)) re
   go true e rest = (h.0 (dropped p.role spot ps e), rest)
   go false e rest = rest
 
+behind_clear : (whole : List ℕ) (ps : List RoleToken) → Each (ClearToken whole) ps → Each (ClearAlways whole) (taken_behind ps)
+behind_clear whole [] h = tt
+behind_clear whole (word ∷ ps) h = filter_clear whole reasons.Unclosed ps h.1
+
 taken_clear : (whole : List ℕ) (why : Option SkipReason) (item : List RoleToken) → Each (ClearToken whole) item → Each (ClearAlways whole) (taken_from why item)
 taken_clear whole None item h = dropped_clear whole spots.Plain (body item) (each_drop (ClearToken whole) _ item h)
+taken_clear whole (Some reasons.HoldsItem) item h =
+    each_append (ClearAlways whole) _ _
+    (filter_clear whole reasons.NoSet (take (before_inner item) item) (each_take (ClearToken whole) (before_inner item) item h))
+    (behind_clear whole (drop (before_inner item) item) (each_drop (ClearToken whole) (before_inner item) item h))
 taken_clear whole (Some why) item h = filter_clear whole why item h
 
 cuts_clear : (whole : List ℕ) (inside : ℕ) (level : Level) (ps : List RoleToken) → Each (ClearToken whole) ps → Each (ClearAlways whole) (taken_in (cuts_from inside level ps))

@@ -1,7 +1,7 @@
 -- Worked examples of the definitions. They compute, so the proof check refuses a wrong byte.
 use Rattle.std.specs.Prelude.{◌≡◌, refl, ℕ, ◌+◌, List, [], ◌∷◌, ◌++◌, map, codes}
 use Rattle.ruleset_sets.specs.declared.sieve.SkipReason.{SkipReason}
-use Rattle.ruleset_sets.specs.declared.sieve.SkipReason.TheVariants.{NoSet, UnknownType, AutoMerge, CatchAll, Unclosed, DroppedPart}
+use Rattle.ruleset_sets.specs.declared.sieve.SkipReason.TheVariants.{NoSet, UnknownType, AutoMerge, CatchAll, Unclosed, HoldsItem, DroppedPart}
 use Rattle.ruleset_sets.specs.declared.role_token.RoleToken.{RoleToken}
 use Rattle.ruleset_sets.specs.Kept.{all_taken, notes, kept_byte}
 
@@ -56,15 +56,53 @@ a_rule-kept = refl
 a_rule-noted : noted a_rule ≡ (NoSet, 1, 0) ∷ (DroppedPart, 2, 65) ∷ []
 a_rule-noted = refl
 
--- A chain whose brace is missing goes on to the end, and the table stays open.
+-- A chain whose brace is missing holds the set after it. The set's name stays, and a script refuses it.
 abbrev a_missing_brace : List ℕ
 a_missing_brace = codes "table ip t{chain c{" ++ 10 ∷ codes "set s{type mark;}}"
 
-a_missing_brace-kept : kept_of a_missing_brace ≡ codes "table ip t{        " ++ 10 ∷ codes "                  "
+a_missing_brace-kept : kept_of a_missing_brace ≡ codes "table ip t{        " ++ 10 ∷ codes "    s{            "
 a_missing_brace-kept = refl
 
-a_missing_brace-noted : noted a_missing_brace ≡ (NoSet, 1, 11) ∷ []
+a_missing_brace-noted : noted a_missing_brace ≡ (HoldsItem, 1, 11) ∷ []
 a_missing_brace-noted = refl
+
+-- The same if one more brace at the end balances the text.
+abbrev a_moved_brace : List ℕ
+a_moved_brace = codes "table ip t{chain c{" ++ 10 ∷ codes "set s{type mark;}}}"
+
+a_moved_brace-kept : kept_of a_moved_brace ≡ codes "table ip t{        " ++ 10 ∷ codes "    s{            }"
+a_moved_brace-kept = refl
+
+-- A statement on elements is held in the same way. The word after `add` stays.
+abbrev a_held_change : List ℕ
+a_held_change = codes "add chain ip t c{" ++ 10 ∷ codes "add element ip t s{5}}"
+
+a_held_change-kept : kept_of a_held_change ≡ codes "                 " ++ 10 ∷ codes "    element       {   "
+a_held_change-kept = refl
+
+-- A statement on elements in a table's braces stays, and a script refuses it.
+abbrev a_change_in_a_table : List ℕ
+a_change_in_a_table = codes "table ip t{" ++ 10 ∷ codes "add element ip t s{5}}"
+
+a_change_in_a_table-kept : kept_of a_change_in_a_table ≡ a_change_in_a_table
+a_change_in_a_table-kept = refl
+
+-- A set that would be left out holds the next one.
+abbrev a_set_in_a_set : List ℕ
+a_set_in_a_set = codes "table ip t{set a{type mark;auto-merge" ++ 10 ∷ codes "set b{type mark;}}}"
+
+a_set_in_a_set-kept : kept_of a_set_in_a_set ≡ codes "table ip t{                          " ++ 10 ∷ codes "    b{            }"
+a_set_in_a_set-kept = refl
+
+-- Rules use `set`, `add` and `map` in other ways.
+abbrev rules_on_sets : List ℕ
+rules_on_sets = codes "table ip t{chain c{set update ip saddr @s" ++ 10 ∷ codes "add @s{ip saddr};meta mark set mark map{1:2}" ++ 10 ∷ codes "}}"
+
+rules_on_sets-kept : kept_of rules_on_sets ≡ codes "table ip t{                              " ++ 10 ∷ codes "                                            " ++ 10 ∷ codes " }"
+rules_on_sets-kept = refl
+
+rules_on_sets-noted : noted rules_on_sets ≡ (NoSet, 1, 11) ∷ []
+rules_on_sets-noted = refl
 
 -- A dropped flag takes one comma with it.
 abbrev dropped_flags : List ℕ

@@ -1,5 +1,5 @@
 -- The items of a ruleset: its statements, and the items of its tables.
-use Rattle.std.specs.Prelude.{ℕ, zero, suc, ◌+◌, ◌-◌, List, [], ◌∷◌, take, drop, Bool, true, false, ◌&&◌, ◌||◌, not, ◌==◌, Option, Some, None, if◌then◌else◌}
+use Rattle.std.specs.Prelude.{ℕ, zero, suc, ◌+◌, ◌-◌, List, [], ◌∷◌, take, drop, Bool, true, false, ◌&&◌, ◌||◌, not, ◌==◌, Option, Some, None, is_some, if◌then◌else◌}
 use Rattle.std.specs.List.{prefix_len, count_by}
 use Rattle.ruleset_sets.specs.declared.role.Role.{Role}
 use Rattle.ruleset_sets.specs.declared.role.Role.TheVariants as roles
@@ -9,8 +9,9 @@ use Rattle.ruleset_sets.specs.declared.sieve.SkipReason.TheVariants as reasons
 use Rattle.ruleset_sets.specs.declared.item.Level.{Level}
 use Rattle.ruleset_sets.specs.declared.item.Level.TheVariants as levels
 use Rattle.ruleset_sets.specs.declared.item.Item.{Item}
-use Rattle.ruleset_sets.specs.Roles.{is_separator, opens, closes, is_end, is_no_word, is_table, is_set, is_element, is_ruleset}
+use Rattle.ruleset_sets.specs.Roles.{is_separator, opens, closes, is_end, is_no_word, is_table, is_set}
 use Rattle.ruleset_sets.specs.Sieve.{begins_with, left_out}
+use Rattle.ruleset_sets.specs.Inner.{changes_sets, holds_item}
 
 -- An item ends before a separator or a closing brace outside its own braces, or before the text's end.
 abbrev pub ends_item : ℕ → Role → Bool
@@ -28,25 +29,25 @@ rest_len depth (p ∷ ps) = if ends_item depth p.role then 0 else 1 + rest_len (
 abbrev pub item_len : RoleToken → List RoleToken → ℕ
 item_len p ps = 1 + rest_len (depth_behind 0 p.role) ps
 
--- What the first two words of a statement say: it declares sets, changes elements, or ends a turn of
--- the script. A script refuses what it doesn't know of these.
+-- A statement on sets, or one that ends a turn of the script. A script refuses what it doesn't know of these.
 abbrev pub is_on_sets : Role → List RoleToken → Bool
 is_on_sets roles.Turn ps = true
-is_on_sets roles.Add ps = begins_with (λ r. is_table r || is_set r || is_element r) ps
-is_on_sets roles.Change ps = begins_with (λ r. is_set r || is_element r) ps
-is_on_sets roles.Flush ps = begins_with (λ r. is_set r || is_ruleset r) ps
-is_on_sets _ ps = false
+is_on_sets r ps = changes_sets r ps
 
 -- The braces of an item close. Else the text ends inside them.
 abbrev pub is_balanced : List RoleToken → Bool
 is_balanced item = count_by (λ p. opens p.role) item == count_by (λ p. closes p.role) item
 
--- why an item is skipped that is kept if this holds and nothing in it forbids that
+-- why an item by itself is skipped that is kept if this holds and nothing in it forbids that
+abbrev pub why_alone : Bool → List RoleToken → Option SkipReason
+why_alone may_stay item = if may_stay then left_out item else Some reasons.NoSet
+
+-- The same for an item that may hold another one. No item is skipped as a part of another.
 abbrev pub why_skipped : Bool → List RoleToken → Option SkipReason
 why_skipped may_stay item =
     if not (is_balanced item) then Some reasons.Unclosed
-    else if may_stay then left_out item
-    else Some reasons.NoSet
+    else if is_some (why_alone may_stay item) && holds_item item then Some reasons.HoldsItem
+    else why_alone may_stay item
 
 abbrev pub whole_item : Bool → Level → RoleToken → List RoleToken → Item
 whole_item may_stay level p ps =
@@ -64,8 +65,9 @@ table_head p ps =
     if begins_with opens (drop n ps) then record { size = n + 2; skipped = None; level = levels.InTable }
     else whole_item false levels.Outside p ps
 
+-- In a table's braces a script refuses each statement on sets, so none of these is skipped.
 abbrev pub item_at : Level → RoleToken → List RoleToken → Item
-item_at levels.InTable p ps = whole_item (is_set p.role) levels.InTable p ps
+item_at levels.InTable p ps = whole_item (is_set p.role || is_on_sets p.role ps) levels.InTable p ps
 item_at levels.Outside p ps = if is_table p.role then table_head p ps else whole_item (is_on_sets p.role ps) levels.Outside p ps
 
 -- The item that begins with this token. Each item begins with a word. A closing brace outside an item

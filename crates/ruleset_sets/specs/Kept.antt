@@ -1,5 +1,5 @@
 -- What is kept of a ruleset's text, and what is noted of the rest.
-use Rattle.std.specs.Prelude.{◌≡◌, ◌<◌, ℕ, ◌+◌, List, [], ◌∷◌, ◌++◌, length, slice_index, Bool, true, false, ◌&&◌, ◌||◌, not, nat_le, nat_lt, Option, Some, None, if◌then◌else◌}
+use Rattle.std.specs.Prelude.{◌≡◌, ◌<◌, ℕ, ◌+◌, List, [], ◌∷◌, ◌++◌, length, take, drop, slice_index, Bool, true, false, ◌&&◌, ◌||◌, not, nat_le, nat_lt, Option, Some, None, if◌then◌else◌}
 use Rattle.std.specs.List.{list_any, find, filter, flat_map}
 use Rattle.token_forms.specs.Bytes.{is_line_feed as is_feed_byte}
 use Rattle.ruleset_sets.specs.declared.role.Role.{Role}
@@ -12,6 +12,7 @@ use Rattle.ruleset_sets.specs.declared.skipped.Sort.TheVariants as sorts
 use Rattle.ruleset_sets.specs.Roles.{is_line_feed, is_end, is_unread, opens, is_constant, is_dynamic, is_counter, is_last}
 use Rattle.ruleset_sets.specs.RoleTokens.{role_tokens}
 use Rattle.ruleset_sets.specs.Sieve.{dropped_parts}
+use Rattle.ruleset_sets.specs.Inner.{before_inner}
 use Rattle.ruleset_sets.specs.Items.{Cut, cuts}
 
 -- Of a skipped item all goes but line feeds and what can't be skipped.
@@ -23,9 +24,20 @@ abbrev pub goes_for : SkipReason → Role → Bool
 goes_for reasons.Unclosed r = may_go r && not (opens r)
 goes_for _ r = may_go r
 
--- the tokens of an item that are taken out of the text, by why it is skipped
+-- From the second word of an inner item on, that word stays, and each `{` after it.
+abbrev pub taken_behind : List RoleToken → List RoleToken
+taken_behind [] = []
+taken_behind (word ∷ ps) = filter (λ p. goes_for reasons.Unclosed p.role) ps
+
+-- So many tokens come before that word. All of these go that may go.
+abbrev pub taken_around : ℕ → List RoleToken → List RoleToken
+taken_around n item = filter (λ p. may_go p.role) (take n item) ++ taken_behind (drop n item)
+
+-- The tokens of an item that are taken out of the text, by why it is skipped. If it holds another item, a script
+-- refuses that one's second word.
 abbrev pub taken_from : Option SkipReason → List RoleToken → List RoleToken
 taken_from None item = dropped_parts item
+taken_from (Some reasons.HoldsItem) item = taken_around (before_inner item) item
 taken_from (Some why) item = filter (λ p. goes_for why p.role) item
 
 abbrev pub taken_out : Cut → List RoleToken

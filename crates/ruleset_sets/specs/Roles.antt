@@ -14,6 +14,7 @@ statement_word t =
     else if bytes_eq t (codes "set") then Some roles.Set
     else if bytes_eq t (codes "element") then Some roles.Element
     else if bytes_eq t (codes "ruleset") then Some roles.Ruleset
+    else if bytes_eq t (codes "map") || bytes_eq t (codes "chain") || bytes_eq t (codes "flowtable") then Some roles.Block
     else if bytes_eq t (codes "add") then Some roles.Add
     else if bytes_eq t (codes "create") || bytes_eq t (codes "delete") || bytes_eq t (codes "destroy") then Some roles.Change
     else if bytes_eq t (codes "flush") then Some roles.Flush
@@ -120,6 +121,10 @@ is_element _ = false
 abbrev pub is_ruleset : Role → Bool
 is_ruleset roles.Ruleset = true
 is_ruleset _ = false
+
+abbrev pub is_block : Role → Bool
+is_block roles.Block = true
+is_block _ = false
 
 abbrev pub is_type : Role → Bool
 is_type roles.TypeItem = true

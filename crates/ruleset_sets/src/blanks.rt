@@ -3,7 +3,9 @@ ghost use Rattle.std.specs.Prelude.{◌≡◌, ◌<◌, ℕ, IfOk, length, slice
 ghost use Rattle.std.specs.List.{filter};
 ghost use Rattle.ruleset_sets.specs.Kept.{taken_from, is_within, blank_if, kept_byte};
 ghost use Rattle.ruleset_sets.specs.Kept as kept;
+ghost use Rattle.ruleset_sets.specs.Inner as inner;
 
+use crate::inner::before_inner;
 use crate::role::Role;
 use crate::role_token::RoleToken;
 use crate::sieve::{SkipReason, dropped_parts};
@@ -45,6 +47,19 @@ fn all_that_may_go(
     )
 }
 
+/// The tokens of an item that are taken out if it holds another one.
+fn all_around_inner(alloc: Global, item: &[RoleToken]) -> Result<Vec<RoleToken>, Memory>
+    ensures { IfOk result (λ taken. taken.items ≡ kept.taken_around (inner.before_inner item.now) item.now) }
+{
+    let (front, rest) = item.split_at(before_inner(item));
+    let mut taken = all_that_may_go(alloc, SkipReason::NoSet, front)?;
+    if let Some((_, behind)) = rest.split_first() {
+        let others = all_that_may_go(alloc, SkipReason::Unclosed, behind)?;
+        taken.extend_from_slice(others.as_slice())?;
+    }
+    Ok(taken)
+}
+
 /// The tokens of an item that are taken out, by why it is skipped.
 pub fn taken_out(
     alloc: Global,
@@ -54,6 +69,7 @@ pub fn taken_out(
     ensures { IfOk result (λ taken. taken.items ≡ taken_from skipped item.now) }
 {
     match skipped {
+        Some(SkipReason::HoldsItem) => all_around_inner(alloc, item),
         Some(why) => all_that_may_go(alloc, why, item),
         None => dropped_parts(alloc, item),
     }

@@ -4,6 +4,7 @@ ghost use Rattle.ruleset_sets.specs.Roles as roles;
 ghost use Rattle.ruleset_sets.specs.Sieve.{begins_with};
 ghost use Rattle.ruleset_sets.specs.Items as items;
 
+use crate::inner::{changes_sets, holds_item};
 use crate::role::Role;
 use crate::role_token::RoleToken;
 use crate::sieve::{SkipReason, why_left_out};
@@ -79,16 +80,13 @@ fn len_of_item(first: &RoleToken, rest: &[RoleToken]) -> usize
     1 + rest_of_item(depth_after(0, first.role), rest)
 }
 
-/// Whether a statement is one on sets, by its first two words.
+/// Whether a statement is one on sets, or ends a turn of the script.
 fn is_a_statement_on_sets(role: Role, rest: &[RoleToken]) -> bool
     ensures { result ≡ items.is_on_sets role rest.now }
 {
-    match (role, rest.first()) {
-        (Role::Turn, _) => true,
-        (Role::Add, Some(p)) => p.role.is_table() || p.role.is_set() || p.role.is_element(),
-        (Role::Change, Some(p)) => p.role.is_set() || p.role.is_element(),
-        (Role::Flush, Some(p)) => p.role.is_set() || p.role.is_ruleset(),
-        _ => false,
+    match role {
+        Role::Turn => true,
+        _ => changes_sets(role, rest),
     }
 }
 
@@ -101,16 +99,28 @@ fn has_balance(item: &[RoleToken]) -> bool
     opened == closed
 }
 
-/// Why an item is skipped, if it is. It is kept if it may stay and nothing in it forbids that.
-fn why_not_kept(may_stay: bool, item: &[RoleToken]) -> Option<SkipReason>
-    ensures { result ≡ items.why_skipped may_stay item.now }
+/// Why an item by itself is skipped, if it is. It is kept if it may stay and nothing in it forbids that.
+fn why_alone(may_stay: bool, item: &[RoleToken]) -> Option<SkipReason>
+    ensures { result ≡ items.why_alone may_stay item.now }
 {
-    if !has_balance(item) {
-        Some(SkipReason::Unclosed)
-    } else if may_stay {
+    if may_stay {
         why_left_out(item)
     } else {
         Some(SkipReason::NoSet)
+    }
+}
+
+/// Why an item is skipped, if it is. No item is skipped as a part of another.
+fn why_not_kept(may_stay: bool, item: &[RoleToken]) -> Option<SkipReason>
+    ensures { result ≡ items.why_skipped may_stay item.now }
+{
+    let why = why_alone(may_stay, item);
+    if !has_balance(item) {
+        Some(SkipReason::Unclosed)
+    } else if why.is_some() && holds_item(item) {
+        Some(SkipReason::HoldsItem)
+    } else {
+        why
     }
 }
 
@@ -181,7 +191,10 @@ fn item_of(level: Level, tokens: &[RoleToken], first: &RoleToken, rest: &[RoleTo
     ensures within { (0 < result.size) × (result.size ≤ length tokens.now) }
 {
     match level {
-        Level::InTable => whole_item(first.role.is_set(), level, tokens, first, rest),
+        Level::InTable => {
+            let may_stay = first.role.is_set() || is_a_statement_on_sets(first.role, rest);
+            whole_item(may_stay, level, tokens, first, rest)
+        }
         Level::Outside if first.role.is_table() => head_of_table(tokens, first, rest),
         Level::Outside => {
             let may_stay = is_a_statement_on_sets(first.role, rest);

@@ -28,16 +28,19 @@
 //! What is kept is a text of the same length. Every byte of a token that isn't kept is a blank in it, and
 //! every other byte is the ruleset's own. Line feeds stay, so every place has its line and its column in the
 //! ruleset ([`same_lines_law`]).
-//! It is a script if the ruleset's braces are balanced and its sets are in the grammar. [`read_ruleset`]
-//! returns that script, with the notes. [`bad_token`] finds the place of a refusal.
+//! It is a script if the ruleset's braces are balanced, no skipped item has another item in its braces, and
+//! its sets are in the grammar. [`read_ruleset`] returns that script, with the notes. [`bad_token`] finds the
+//! place of a refusal.
 //!
 //! **Definitions:** `specs/Roles.antt` and `RoleTokens.antt` say what a token is to a ruleset. `Items.antt` cuts
-//! a ruleset into items. `Sieve.antt` says which of them are kept, and what is dropped of these.
+//! a ruleset into items, and `Inner.antt` finds items in the braces of others. `Sieve.antt` says which of the items
+//! are kept, and what is dropped of these.
 //! `Kept.antt` has the text and the notes, and `RulesetText.antt` the script that a ruleset means.
 //! **Theory:** docs/formats.md, "Rulesets". **Proofs:** docs/proofs.md, "Rulesets (`ruleset_sets`)".
 #![tactic(auto)]
 
 mod blanks;
+mod inner;
 mod item;
 mod reading;
 mod role;

@@ -36,6 +36,8 @@ pub enum Role {
     Element,
     /// `ruleset`.
     Ruleset,
+    /// `map`, `chain` or `flowtable`.
+    Block,
     /// `add`.
     Add,
     /// `create`, `delete` or `destroy`.
@@ -150,6 +152,13 @@ impl Role {
         matches!(self, Role::Ruleset)
     }
 
+    /// Whether it is `map`, `chain` or `flowtable`.
+    pub fn is_block(self) -> bool
+        ensures { result ≡ roles.is_block self }
+    {
+        matches!(self, Role::Block)
+    }
+
     /// Whether it is `type`.
     pub fn is_type(self) -> bool
         ensures { result ≡ roles.is_type self }
@@ -244,6 +253,11 @@ fn statement_word_of(text: &[u8]) -> Option<Role>
         Some(Role::Element)
     } else if text == b"ruleset".as_slice() {
         Some(Role::Ruleset)
+    } else if text == b"map".as_slice()
+        || text == b"chain".as_slice()
+        || text == b"flowtable".as_slice()
+    {
+        Some(Role::Block)
     } else if text == b"add".as_slice() {
         Some(Role::Add)
     } else if text == b"create".as_slice()

@@ -27,6 +27,9 @@ pub enum SkipReason {
     Stateful,
     /// The braces of the item don't close. They stay, so a script refuses the first of them.
     Unclosed,
+    /// Another item is in the item's braces, such as a set after a chain that isn't closed. The second word of
+    /// that item stays, so a script refuses it.
+    HoldsItem,
     /// The part is dropped from a set that is kept. No verdict depends on it.
     DroppedPart,
 }

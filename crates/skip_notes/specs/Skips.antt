@@ -16,6 +16,7 @@ reason_words reasons.AutoMerge = codes "is left out: 'auto-merge' isn't read her
 reason_words reasons.CatchAll = codes "is left out: it has the catch-all element '*'"
 reason_words reasons.Stateful = codes "is left out: it has a quota, a limit or a count of connections"
 reason_words reasons.Unclosed = codes "is skipped: its braces don't close"
+reason_words reasons.HoldsItem = codes "is skipped: another item is in its braces"
 reason_words reasons.DroppedPart = codes "is dropped: no verdict depends on it"
 
 -- the bytes of a token

@@ -24,6 +24,7 @@ fn reason_words(why: SkipReason) -> &'static [u8]
             b"is left out: it has a quota, a limit or a count of connections"
         }
         SkipReason::Unclosed => b"is skipped: its braces don't close",
+        SkipReason::HoldsItem => b"is skipped: another item is in its braces",
         SkipReason::DroppedPart => b"is dropped: no verdict depends on it",
     }
 }

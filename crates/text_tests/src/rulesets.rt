@@ -22,6 +22,7 @@ fn why_word(why: SkipReason) -> &'static [u8] {
         SkipReason::CatchAll => b" catch-all",
         SkipReason::Stateful => b" state",
         SkipReason::Unclosed => b" unclosed",
+        SkipReason::HoldsItem => b" holds an item",
         SkipReason::DroppedPart => b" dropped",
     }
 }
@@ -212,7 +213,8 @@ const LISTED: &[u8] = b"\
     |6 sets 10 steps, 2 flags dormant skipped, 3 comment \"my table\" skipped, 5 counter c1 skipped, 9 quota q1 skipped, 13 limit l1 skipped, 17 ct helper skipped, 22 ct timeout skipped, 28 set blocked auto-merge, 38 dynamic dropped, 39 counter dropped, 46 dynamic dropped, 52 constant dropped, 58 constant dropped, 64 counter dropped, 68 set ifs unknown type, 73 set met state, 81 set quo state, 87 set cc state, 94 set ca catch-all, 100 set to typeof, 113 map m skipped, 118 chain input skipped~\
 ";
 
-/// Rulesets in the forms of fail2ban, firewalld and kube-proxy, of a server, and of a script that blocks countries.
+/// Rulesets in the forms of fail2ban, firewalld and kube-proxy, of a server, and of a script that blocks countries. The
+/// last one has every form of a rule on sets.
 const WRITTEN: &[u8] = b"\
     table inet f2b-table {\n\
     \tset addr-set-sshd {\n\
@@ -292,6 +294,20 @@ const WRITTEN: &[u8] = b"\
     insert rule inet geo input iif lo accept\n\
     delete table ip old\n\
     |1 sets 3 steps, 3 add chain skipped, 5 add rule skipped, 6 insert rule skipped, 7 delete table skipped~\
+    table ip t {\n\
+    set s { type ipv4_addr; timeout 1h; }\n\
+    chain c {\n\
+    set update ip saddr @s\n\
+    set add ip saddr @s\n\
+    add @s { ip saddr }; update @s { ip saddr timeout 5s }\n\
+    delete @s { ip saddr }\n\
+    meta mark set 5\n\
+    ct mark set ct mark\n\
+    ip saddr { 1.2.3.4, 5.6.7.8 }\n\
+    meta mark set ip saddr map { 1.2.3.4 : 1 }\n\
+    }\n\
+    }\n\
+    |1 sets 0 steps, 3 chain c skipped~\
 ";
 
 /// Rulesets that are refused: the line and the reason.
@@ -343,11 +359,60 @@ const REFUSED: &[u8] = b"\
     }\n\
     }\n\
     |4 statement~\
+    table ip t {\n\
+    chain c {\n\
+    drop\n\
+    set s { type mark }\n\
+    }\n\
+    }\n\
+    |4 statement~\
+    table ip t {\n\
+    chain c {\n\
+    set s {\n\
+    type mark\n\
+    }\n\
+    }\n\
+    |3 statement~\
+    table ip t {\n\
+    ct helper h {\n\
+    type \"ftp\" protocol tcp; set set { type mark }\n\
+    }\n\
+    }\n\
+    |3 statement~\
+    table ip t {\n\
+    set a {\n\
+    type mark\n\
+    auto-merge\n\
+    set b { type mark }\n\
+    }\n\
+    }\n\
+    |5 statement~\
+    table ip t {\n\
+    map m {\n\
+    type mark : mark\n\
+    chain c { drop; }\n\
+    }\n\
+    }\n\
+    |4 statement~\
+    add set ip t s { type mark; }\n\
+    add chain ip t c {\n\
+    drop\n\
+    add element ip t s { 5 }\n\
+    }\n\
+    |4 statement~\
+    add chain ip t c { add set ip t s { type mark; } }\n\
+    |1 statement~\
+    add set ip t s { type mark; }\n\
+    table ip t {\n\
+    chain c { drop; }\n\
+    add element ip t s { 5 }\n\
+    }\n\
+    |4 statement~\
 ";
 
 #[test]
 fn rulesets(rt: HostRuntime) {
     assert_told(&rt, rt.alloc(), LISTED, 1, told_ruleset);
-    assert_told(&rt, rt.alloc(), WRITTEN, 5, told_ruleset);
-    assert_told(&rt, rt.alloc(), REFUSED, 10, told_ruleset);
+    assert_told(&rt, rt.alloc(), WRITTEN, 6, told_ruleset);
+    assert_told(&rt, rt.alloc(), REFUSED, 18, told_ruleset);
 }
