@@ -38,6 +38,9 @@ NO_QUOTES = "leave out the quotes: only comments have them"
 ENDS = "ends with the set's name: write ';' or a new line after it"
 TIME = "write seconds, as 90, or parts from days to milliseconds, as 1d2h3m4s500ms"
 
+FAMILIES = "the families are ip, ip6, inet, arp, bridge and netdev"
+EXTRA = "leave it out, or begin a new line with it"
+
 # script, line, column, what is wrong, what to do, and how nft 1.0.6 begins what it says of the script
 MISTAKES = [
     # values
@@ -160,13 +163,13 @@ MISTAKES = [
     (declare("type mark; auto-merge"), 2, 29, "'auto-merge' isn't supported", "remove it: intervals aren't merged, and one that overlaps is refused", "auto-merge only works with interval sets"),
     (declare("typeof ip saddr"), 2, 18, "'typeof' isn't supported", "write 'type' and the types themselves, as: type ipv4_addr . inet_service", "taken"),
     ("table ip t {\n\tset s {\n\t\ttype mark\n\t}\n", 5, 1, "the end of the text leaves the '{' of line 1 open", "write '}' after the last set of the table", "syntax error, unexpected end of file"),
-    ("table ip t {\n\tchain c {\n", 2, 2, "'chain' isn't supported", "remove chains and rules, or read a whole ruleset with --sets: a script has only sets", "syntax error, unexpected end of file"),
-    ("table ip t {\n\tste s {\n", 2, 2, "'ste' can't come in a table", "did you mean 'set'?", "syntax error, unexpected string"),
+    ("table ip t {\n\tchain c {\n\t}\n}\n", 2, 2, "'chain' isn't supported", "remove chains and rules, or read a whole ruleset with --sets: a script has only sets", "taken"),
+    ("table ip t {\n\tste s {\n\t}\n}\n", 2, 2, "'ste' can't come in a table", "did you mean 'set'?", "syntax error, unexpected string"),
     ("table ip t {\n\tset a {\n\t\ttype mark\n\tset b {\n\t\ttype mark\n\t}\n}\n", 4, 2, "'set' can't come in a set", "close the '{' of line 2 with '}' first", "syntax error, unexpected set"),
     ("table ip t {\n\tset a {\n\t\ttype mark\n\t\telements = { 1, 2\n\t}\n\tset b {\n\t\ttype mark\n\t}\n}\n", 6, 2, "'set' can't come in a set", "close the '{' of line 2 with '}' first", "syntax error, unexpected set"),
     ("table ip t {\n\tset a {\n\t\ttype mark\n\t}\ntable ip u {\n\tset b {\n\t\ttype mark\n\t}\n}\n", 5, 1, "'table' can't come in a table", "close the '{' of line 1 with '}' first", "syntax error, unexpected table"),
     ("table ip t {\n\tadd set s {\n\t\ttype mark\n\t}\n}\n", 2, 2, "'add' can't come in a table", "write 'set' alone, or close the '{' of line 1 with '}' first", "syntax error, unexpected add"),
-    ("table ip t {\n\tset s type mark\n", 2, 8, "'type' can't follow the set's name", "write '{' after the set's name", "syntax error, unexpected type, expecting '{'"),
+    ("table ip t {\n\tset s type mark\n}\n", 2, 8, "'type' can't follow the set's name", "write '{' after the set's name", "syntax error, unexpected type, expecting '{'"),
     # statements
     ("drop everything\n", 1, 1, "'drop' can't begin a statement", STATEMENTS, "syntax error, unexpected drop"),
     (SETS + "remove element ip t p { 80 }\n", 2, 1, "'remove' can't begin a statement", "did you mean 'delete'?", "syntax error, unexpected element, expecting string"),
@@ -187,7 +190,6 @@ MISTAKES = [
     ("delete table ip t\n", 1, 8, "'table' can't be deleted", "write 'flush set' for each set, to remove its elements", "Could not process rule: No such file or directory"),
     ("create set ip t s { type mark; }\n", 1, 8, "'set' can't follow 'create'", "write 'add set' to declare a set", "No such file or directory"),
     ("create table ip t\n", 1, 8, "'table' can't follow 'create'", "write 'add table' to declare a table", "taken"),
-    ("list ruleset\n", 1, 1, "'list' can't begin a statement", STATEMENTS, "taken"),
     ("table ip t\n", 1, 11, "the end of the line can't follow the table's name", "write '{' after it, or 'add table' before it", "taken"),
     ("add table ip t { }\n", 1, 16, "'{' can't follow 'add table'", "write 'table' in place of 'add table'", "taken"),
     ("add set ip t {\n", 1, 14, "'{' isn't the name of a set", SET_NAME, "syntax error, unexpected '{', expecting string"),
@@ -218,6 +220,41 @@ MISTAKES = [
     ("at noon\n", 1, 4, "'noon' isn't a moment", "write a number of milliseconds, at most 1000000000000000", "syntax error, unexpected newline"),
     ("define x = 1\n", 1, 1, "'define' isn't supported", "write the values themselves: there are no variables", "taken"),
     ("include \"x\"\n", 1, 1, "'include' isn't supported", "copy the included file to this place", "File not found: x"),
+    # families
+    ("table ipv4 t {\n\tset s { type mark; }\n}\n", 1, 12, "'t' can't come here, since 'ipv4' isn't a family", "did you mean 'ip'?", "syntax error, unexpected string, expecting end of file or newline or semicolon"),
+    ("table IP t {\n}\n", 1, 10, "'t' can't come here, since 'IP' isn't a family", "did you mean 'ip'?", "syntax error, unexpected string, expecting end of file or newline or semicolon"),
+    ("table filter ip {\n}\n", 1, 14, "'ip' can't come here, since 'filter' isn't a family", FAMILIES, "syntax error, unexpected ip, expecting end of file or newline or semicolon"),
+    ("add set ipv6 t s { type mark; }\n", 1, 16, "'s' can't come here, since 'ipv6' isn't a family", "did you mean 'ip6'?", "syntax error, unexpected string, expecting '{'"),
+    ("add table inet4 t\n", 1, 17, "'t' can't come here, since 'inet4' isn't a family", "did you mean 'ip'?", "syntax error, unexpected string, expecting end of file or newline or semicolon"),
+    (SETS + "add element ipv4 t p { 80 }\n", 2, 18, "'t' can't come here, since 'ipv4' isn't a family", "did you mean 'ip'?", "syntax error, unexpected string, expecting '{' or '$'"),
+    (SETS + "flush set ipv4 t p\n", 2, 16, "'t' can't come here, since 'ipv4' isn't a family", "did you mean 'ip'?", "syntax error, unexpected string, expecting end of file or newline or semicolon"),
+    # names of sets that are cut short
+    (SETS + "add element p { 80 }\n", 2, 15, "'{' isn't the name of a set", "did you mean 'ip t p'?", "syntax error, unexpected '{', expecting string"),
+    (SETS + "add element ip t { 80 }\n", 2, 18, "'{' isn't the name of a set", "the sets declared before are ip t p, ip t a, ip t n, ip t v, ip t l, ip t e", "syntax error, unexpected '{', expecting string"),
+    # words of nft's rules, and marks, in a set's items
+    (declare("type tcp dport"), 2, 23, "'tcp' isn't a type", "write inet_service in place of 'tcp dport'", "syntax error, unexpected tcp"),
+    (declare("type ip saddr . tcp dport"), 2, 23, "'ip' isn't a type", "write ipv4_addr in place of 'ip saddr'", "syntax error, unexpected ip"),
+    (declare("type ipv4_addr . meta mark"), 2, 35, "'meta' isn't a type", "write mark in place of 'meta mark'", "syntax error, unexpected meta"),
+    (declare("type mark; interval"), 2, 29, "'interval' isn't an item of a set", "write 'flags' before it, as: flags interval", "syntax error, unexpected interval"),
+    (declare("type mark; timeout = 1h"), 2, 37, "'=' can't come in this item", "leave it out: only 'elements' has a '=' after it", "syntax error, unexpected '=', expecting string"),
+    (declare("type mark; size 65,536"), 2, 36, "',' can't come in a number", "write the digits alone, as 65536", "syntax error, unexpected comma, expecting newline or semicolon"),
+    (declare("type ipv4_addr / inet_service"), 2, 33, "'/' can't follow a type", "write ' . ' between types", "syntax error, unexpected /, expecting newline or semicolon or ."),
+    # statements of other languages
+    (SETS + "list ruleset\n", 2, 1, "'list' can't begin a statement", "leave it out: 'pipapo list FILE' prints the sets of a script", "taken"),
+    (SETS + "get element ip t p { 80 }\n", 2, 1, "'get' can't begin a statement", "leave it out: 'pipapo get FILE ip t p 80' looks a key up", "Could not process rule: No such file or directory"),
+    (SETS + "update element ip t p { 80 }\n", 2, 1, "'update' can't begin a statement", "write 'add' in place of it; to change an element, write 'delete element' and then 'add element'", "syntax error, unexpected update"),
+    (SETS + "rollback\n", 2, 1, "'rollback' can't begin a statement", "did you mean 'abort'?", "syntax error, unexpected newline, expecting string"),
+    (SETS + "sleep 5\n", 2, 1, "'sleep' can't begin a statement", "write 'at' and the moment of what follows in milliseconds, as: at 5000", "syntax error, unexpected number, expecting string"),
+    (SETS + "flush ip t p\n", 2, 7, "'ip' can't follow 'flush'", "write 'set' before it", "syntax error, unexpected ip"),
+    (SETS + "flush table ip t\n", 2, 7, "'table' can't follow 'flush'", "write 'flush set' for each set, to remove its elements", "taken"),
+    (SETS + "flush element ip t p { 80 }\n", 2, 7, "'element' can't follow 'flush'", "write 'delete element' to remove some elements, or 'flush set' to remove all", "syntax error, unexpected element"),
+    (SETS + "commit all\n", 2, 8, "'all' can't follow here", EXTRA, "syntax error, unexpected all, expecting string"),
+    (SETS + "delete element ip t p { 80 } if exists\n", 2, 30, "'if' can't follow here", EXTRA, "syntax error, unexpected string, expecting end of file or newline or semicolon"),
+    (SETS + "add element ip t p { 80 }, { 443 }\n", 2, 26, "',' can't follow here", "write one list, with one pair of braces around all elements, as: { 80, 443 }", "syntax error, unexpected comma, expecting end of file or newline or semicolon"),
+    # words and marks in an element
+    (add("l", "6 . 1 ttl 30s"), 2, 28, "'ttl' can't follow an element", "did you mean 'timeout'?", "syntax error, unexpected string, expecting comma or '}'"),
+    (add("l", "6 . 1 timeout=30s"), 2, 35, "'=' can't come in an element", "leave it out, as: timeout 30s", "syntax error, unexpected '=', expecting string"),
+    (add("p", "80 comment 'web'"), 2, 33, "''' is an unexpected character", 'write the comment in double quotes, as: comment "web"', "syntax error, unexpected junk, expecting string or quoted string or string with a trailing asterisk"),
 ]
 
 
@@ -283,8 +320,36 @@ SEVERAL = [
     ("add set ip t s { type port; size 0; }\n", [(1, 23, "'port' isn't a supported type", "did you mean 'inet_service'?", False)]),
     # ten at most
     (SETS + "add element ip t p { 70000 }\n" * 12, [(line, 22, "'70000' " + TOO_GREAT, PORT, False) for line in range(2, 12)]),
-    # the rest of a script with an open brace is no statement of its own
-    (SETS + "add element ip t p { 70000\nadd element ip t p { 70000 }\n", [(2, 22, "'70000' " + TOO_GREAT, PORT, False)]),
+    # the rest of a script with an open brace is no statement of its own, and its end names the brace
+    (
+        SETS + "add element ip t p { 70000\nadd element ip t p { 70000 }\n",
+        [(2, 22, "'70000' " + TOO_GREAT, PORT, False), (4, 1, "the end of the text leaves the '{' of line 2 open", "write '}' after the last element", False)],
+    ),
+    (
+        SETS + "add element ip t p { 80, 70000\n",
+        [(2, 26, "'70000' " + TOO_GREAT, PORT, False), (3, 1, "the end of the text leaves the '{' of line 2 open", "write '}' after the last element", False)],
+    ),
+    (
+        "table ip t {\n\tset s {\n\t\ttype port\n\t\telements = { 80 }\n\t}\n",
+        [(3, 8, "'port' isn't a supported type", "did you mean 'inet_service'?", False), (6, 1, "the end of the text leaves the '{' of line 1 open", "write '}' after the last set of the table", False)],
+    ),
+    (
+        "table ip t {\n\tset s {\n\t\ttype inet_service\n\t\telements = { 80, 70000\n",
+        [(4, 20, "'70000' " + TOO_GREAT, PORT, False), (5, 1, "the end of the text leaves the '{' of line 4 open", "write '}' after the last element", False)],
+    ),
+    # a word that begins a statement shows by itself that a brace is open
+    (
+        SETS + "add element ip t p { 80\nadd element ip t p { 443 }\n",
+        [(3, 1, "'add' can't come in a list", "close the '{' of line 2 with '}' first", False)],
+    ),
+    # a table whose '{' is on the next line
+    (
+        "table ip t\n{\n\tset s { type mark; }\n}\n",
+        [
+            (1, 11, "the end of the line can't follow the table's name", "write '{' after it, or 'add table' before it", False),
+            (2, 1, "'{' can't begin a statement", STATEMENTS, True),
+        ],
+    ),
 ]
 
 KEY_FORM = "write the set and the values alone, as: ip filter allowed 192.0.2.1 . 80"
@@ -305,6 +370,7 @@ KEY_MISTAKES = [
     ("ip t q 80", 6, "'q' isn't a set of the script", "the script's sets are ip t p, ip t a, ip t n, ip t v, ip t l, ip t e"),
     ("p 80", 3, "'80' isn't a set of the script", "did you mean 'ip t p'?"),
     ("inet t p 80", 8, "'p' isn't a set of the script", "did you mean 'ip t p'?"),
+    ("ipv4 t p 80", 6, "'t' can't come here, since 'ipv4' isn't a family", "did you mean 'ip'?"),
     ("ip t @p 80", 6, "'@' is an unexpected character", "write the set's name without '@'"),
     ("ip t p @n", 8, "'@' is an unexpected character", "write the values themselves: there are no references to sets"),
     ("ip t p *", 8, "'*' isn't a value", "write one value: a packet has one in each field"),
@@ -348,7 +414,10 @@ GET_MISTAKES = [
 
 RULES_FILE = "write 'chain NAME { RULES }', with rules such as 'in ip t s accept', and at the end 'policy accept' or 'policy drop'"
 FOR_RULESET = "write chains such as 'chain main { in ip t s accept }' and then 'policy drop'; --sets reads a ruleset as SCRIPT"
-RULE = "a rule is 0 to 4 tests such as 'in ip t s', and then accept, drop, return or jump CHAIN"
+RULE = "a rule is 0 to 4 tests such as 'in ip t s' or 'out ip t s', and then accept, drop, return or jump CHAIN"
+CHAIN_NAME = "a chain is chain NAME { RULES }; a name begins with a letter or '_'"
+NOT = "write 'out' in place of 'in' to test that the set has no element for the packet, as: out ip t s"
+NO_ACT = "write accept, drop, return or jump CHAIN after the tests, in the same line"
 MAIN = "chain main { in ip t p accept }\n"
 
 # rules files for SETS, the line and the column of the bad token, what is wrong, and what to do
@@ -365,9 +434,96 @@ RULES_MISTAKES = [
     (MAIN + "polizy drop\n", 2, 1, "'polizy' can't come here", "did you mean 'policy'?"),
     (MAIN + "default drop\n", 2, 1, "'default' can't come here", RULES_FILE),
     ("in ip t p accept\npolicy drop\n", 1, 1, "'in' can't come outside of a chain", "write rules in a chain, as: chain main { in ip t s accept }"),
-    ("chain main { in ip t p reject }\n", 1, 24, "'reject' can't come here", RULE),
+    ("chain main { in ip t p reject }\n", 1, 24, "'reject' can't come here", "did you mean 'drop'?"),
+    ("chain main { in ip t p then accept }\n", 1, 24, "'then' can't come here", RULE),
     ("chain main { in ip t p acept }\n", 1, 24, "'acept' can't come here", "did you mean 'accept'?"),
     ("chain a { }\nchain b { }\nchain c { }\nchain d { }\nchain e { }\n", 5, 1, "'chain' is one chain too many", "a rules file has 4 chains at most"),
+    # jumps, and the names of chains
+    ("chain main { jump web }\nchain web { in ip t p accept }\npolicy drop\n", 1, 19, "'web' isn't a chain that is declared before this place", "move 'chain web' of line 2 before this chain"),
+    ("chain main { jump web }\npolicy drop\n", 1, 19, "'web' isn't a chain that is declared before this place", "declare it before this chain, as: chain web { in ip t s accept }"),
+    ("chain web { }\nchain main { jump wbe }\npolicy drop\n", 2, 19, "'wbe' isn't a chain that is declared before this place", "did you mean 'web'?"),
+    ("chain web { }\nchain ssh { }\nchain main { jump other }\npolicy drop\n", 3, 19, "'other' isn't a chain that is declared before this place", "the chains before this one are web, ssh"),
+    ("chain main { jump main }\npolicy drop\n", 1, 19, "'main' is the name of this chain itself", "jump to a chain that is declared before this one"),
+    ("chain web { }\nchain main { jump }\npolicy drop\n", 2, 19, "'}' isn't the name of a chain", "write the name of an earlier chain after 'jump'"),
+    ("chain web { }\nchain main { goto web }\npolicy drop\n", 2, 14, "'goto' can't come here", "did you mean 'jump'?"),
+    ("chain web { }\n\nchain web { }\npolicy drop\n", 3, 7, "'web' is declared twice, first in line 1", "give this chain another name, or write its rules into the first one"),
+    ("chain { in ip t p accept }\npolicy drop\n", 1, 7, "'{' isn't the name of a chain", CHAIN_NAME),
+    ("chain 1st { in ip t p accept }\npolicy drop\n", 1, 7, "'1st' isn't the name of a chain", CHAIN_NAME),
+    ("chain ip t input { in ip t p accept }\npolicy drop\n", 1, 10, "'t' can't follow the name of a chain", "write the name alone: a chain has no family and no table"),
+    ("chain main\n{ in ip t p accept }\npolicy drop\n", 1, 11, "the end of the line can't follow the name of a chain", "write '{' after the name, in the same line"),
+    # tests
+    ("chain main { not ip t p accept }\npolicy drop\n", 1, 14, "'not' can't come here", NOT),
+    ("chain main { not in ip t p accept }\npolicy drop\n", 1, 14, "'not' can't come here", NOT),
+    ("chain main { in not ip t p accept }\npolicy drop\n", 1, 21, "'ip' isn't the name of a set", NOT),
+    ("chain main { ! in ip t p accept }\npolicy drop\n", 1, 14, "'!' is an unexpected character", NOT),
+    ("chain main { in != ip t p accept }\npolicy drop\n", 1, 17, "'!' is an unexpected character", NOT),
+    ("chain main { in @p accept }\npolicy drop\n", 1, 17, "'@' is an unexpected character", "write the set's family, table and name without '@', as: in ip t p"),
+    ("chain main { in ip t @p accept }\npolicy drop\n", 1, 22, "'@' is an unexpected character", "write the set's family, table and name without '@', as: in ip t p"),
+    ("chain main { in @q accept }\npolicy drop\n", 1, 17, "'@' is an unexpected character", "write the set's family, table and name without '@', as: ip t s"),
+    ("chain main { in p accept }\npolicy drop\n", 1, 19, "'accept' isn't the name of a set", "write the set's family, table and name, as: in ip t p"),
+    ("chain main { in ip p accept }\npolicy drop\n", 1, 22, "'accept' isn't the name of a set", "write the set's family, table and name, as: in ip t p"),
+    ("chain main { in ip t }\npolicy drop\n", 1, 22, "'}' isn't the name of a set", "a test names a set by its family, table and name, as: in ip t s"),
+    ("chain main { in ipv4 t p accept }\npolicy drop\n", 1, 22, "'t' can't come here, since 'ipv4' isn't a family", "did you mean 'ip'?"),
+    ("chain main { in ip t p, in ip t n accept }\npolicy drop\n", 1, 23, "',' can't come between tests", "write the tests of a rule one after another: a packet has to meet all of them"),
+    ("chain main { in ip t p and in ip t n accept }\npolicy drop\n", 1, 24, "'and' can't come between tests", "write the tests of a rule one after another: a packet has to meet all of them"),
+    ("chain main { in ip t p && in ip t n accept }\npolicy drop\n", 1, 24, "'&' is an unexpected character", "write the tests of a rule one after another: a packet has to meet all of them"),
+    ("chain main { in set ip t p accept }\npolicy drop\n", 1, 21, "'ip' isn't the name of a set", "leave out 'set': a test is in or out, and the set's family, table and name, as: in ip t s"),
+    ("chain main { tcp dport @p accept }\npolicy drop\n", 1, 14, "'tcp' can't come here: a rule names no fields of a packet", "test a set, by its family, table and name, as: in ip t s accept"),
+    ("chain main { ip saddr . tcp dport @a accept }\npolicy drop\n", 1, 14, "'ip' can't come here: a rule names no fields of a packet", "test a set, by its family, table and name, as: in ip t s accept"),
+    ("chain main { " + "in ip t p " * 5 + "accept }\npolicy drop\n", 1, 54, "'in' is one test too many", "a rule has 4 tests at most"),
+    # acts, and the ends of rules
+    ("chain main { in ip t p }\npolicy drop\n", 1, 24, "'}' can't end a rule without an act", NO_ACT),
+    ("chain main { in ip t p\naccept }\npolicy drop\n", 1, 23, "the end of the line can't end a rule without an act", NO_ACT),
+    ("chain main { in ip t p accept in ip t n drop }\npolicy drop\n", 1, 31, "'in' can't follow the act of a rule", "end the rule before it, with ';' or a new line"),
+    ("chain main { in ip t p accept comment }\npolicy drop\n", 1, 31, "'comment' can't follow the act of a rule", "leave it out: a rule ends with its act"),
+    ("chain main { in ip t p counter accept }\npolicy drop\n", 1, 24, "'counter' can't come here", "leave it out: a rule has only tests of sets and one act"),
+    ("chain main { in ip t p DROP }\npolicy drop\n", 1, 24, "'DROP' can't come here", "did you mean 'drop'?"),
+    ("chain main { in ip t p allow }\npolicy drop\n", 1, 24, "'allow' can't come here", "did you mean 'accept'?"),
+    ("chain main {\n" + "in ip t p accept\n" * 65 + "}\npolicy drop\n", 66, 1, "'in' begins one rule too many", "a rules file has 64 rules at most"),
+    # braces and the end
+    ("chain a {\n\tin ip t p accept\nchain main { jump a }\npolicy drop\n", 3, 1, "'chain' can't come in a chain", "close the '{' of line 1 with '}' first"),
+    ("chain a {\n\tin ip t p accept\npolicy drop\n", 3, 1, "'policy' can't come in a chain", "close the '{' of line 1 with '}' first"),
+    ("chain a {\n\tin ip t p accept\n", 3, 1, "the end of the text leaves the '{' of line 1 open", "write '}' after the last rule of the chain"),
+    (MAIN + "}\npolicy drop\n", 2, 1, "'}' closes no '{'", "remove it, or add the '{' that is missing before it"),
+    (MAIN, 2, 1, "the end of the text comes too early", "close each '{', and write 'policy accept' or 'policy drop' at the end"),
+]
+
+SET_FIRST = "write the set first, and then a selector for each field, as: "
+PAIR_SELECTOR = "for this field: the set's type is ipv4_addr . inet_service"
+
+# plans for SETS, the line and the column of the bad token, what is wrong, and what to do
+PLAN_MISTAKES = [
+    # nft's form of a rule
+    ("ip saddr . dport @a\n", 1, 10, "'.' isn't the name of a set", SET_FIRST + "ip t a ip_saddr . dport"),
+    ("ip saddr . tcp dport @a\n", 1, 10, "'.' isn't the name of a set", SET_FIRST + "ip t a ip_saddr . dport"),
+    ("ip saddr @v\n", 1, 10, "'@' is an unexpected character", SET_FIRST + "ip t v ip6_saddr"),
+    ("tcp dport @p\n", 1, 5, "'dport' isn't the name of a set", SET_FIRST + "ip t p dport"),
+    ("p dport\n", 1, 3, "'dport' isn't the name of a set", SET_FIRST + "ip t p dport"),
+    ("ip t @p dport\n", 1, 6, "'@' is an unexpected character", SET_FIRST + "ip t p dport"),
+    ("ipv4 t p dport\n", 1, 6, "'t' can't come here, since 'ipv4' isn't a family", "did you mean 'ip'?"),
+    ("ip t q dport\n", 1, 6, "'q' isn't a set of the script", "the script's sets are ip t p, ip t a, ip t n, ip t v, ip t l, ip t e"),
+    # selectors
+    ("ip t a ip saddr . tcp dport\n", 1, 8, "'ip' isn't a selector", "write ip_saddr in place of 'ip saddr'"),
+    ("ip t a ip_saddr . tcp dport\n", 1, 19, "'tcp' isn't a selector", "write dport in place of 'tcp dport'"),
+    ("ip t e ether daddr\n", 1, 8, "'ether' isn't a selector", "write ether_daddr in place of 'ether daddr'"),
+    ("ip t a dport . ip_saddr\n", 1, 8, "'dport' doesn't fit the type of this field", "write ip_saddr or ip_daddr " + PAIR_SELECTOR),
+    ("ip t a ip_saddr . proto\n", 1, 19, "'proto' doesn't fit the type of this field", "write sport or dport " + PAIR_SELECTOR),
+    ("ip t a saddr . dport\n", 1, 8, "'saddr' isn't a selector", "write ip_saddr or ip_daddr " + PAIR_SELECTOR),
+    ("ip t a ip_saddr.dport\n", 1, 8, "'ip_saddr.dport' isn't a selector", "write '.' with blanks around it between selectors, as: ip_saddr . dport"),
+    ("ip t p dprt\n", 1, 8, "'dprt' isn't a selector", "did you mean 'dport'?"),
+    ("ip t p DPORT\n", 1, 8, "'DPORT' isn't a selector", "did you mean 'dport'?"),
+    ("ip t l proto . mark\n", 1, 16, "'mark' can't come here: no packet of a capture has a mark", "name a set without marks: this set's type is inet_proto . mark"),
+    ("t p 80\n", 1, 5, "'80' is a value, and a selector is expected", "write sport or dport for this field: the set's type is inet_service"),
+    # what is between selectors, and after them
+    ("ip t a ip_saddr, dport\n", 1, 16, "',' can't come between selectors", "write ' . ' between selectors"),
+    ("ip t a ip_saddr dport\n", 1, 17, "'dport' can't follow a selector", "write ' . ' between selectors"),
+    ("ip t a ip_saddr\n", 1, 16, "the end of the line comes after 1 field", PAIR),
+    ("ip t p dport . sport\n", 1, 14, "'.' begins one more field, and the set has 1 field", "the set's type is inet_service"),
+    ("ip t p dport accept\n", 1, 14, "'accept' can't follow the last selector", "leave it out, or write it in a line of its own; the set's type is inet_service"),
+    ("ip t p dport;\n", 1, 13, "';' can't follow the last selector", "leave it out, or write it in a line of its own; the set's type is inet_service"),
+    ('ip t p "dport"\n', 1, 8, "'\"dport\"' is a string, and can't come here", "leave out the quotes"),
+    ("ip t p { dport }\n", 1, 8, "'{' can't come here: a plan has no braces", "write the set and its selectors alone, as: ip t s ip_saddr . dport"),
+    ("ip t p dport\n" * 5, 5, 1, "'ip' begins one line too many", "a plan has 4 lines at most"),
 ]
 
 NO_PACKET = "key:1:1: the words name no packet\nhelp: write [FAMILY] TABLE SET VALUE . VALUE ..; a moment is given before the script, as --at MOMENT\n"

@@ -10,7 +10,7 @@ import subprocess
 import sys
 import tempfile
 
-from mistakes import GET_MISTAKES, KEY_MISTAKES, MISTAKES, NO_PACKET, RULES_MISTAKES, SETS, SEVERAL, WORD_MISTAKES, get_note, key_note, note, rules_note, several_notes, word_note
+from mistakes import GET_MISTAKES, KEY_MISTAKES, MISTAKES, NO_PACKET, PLAN_MISTAKES, RULES_MISTAKES, SETS, SEVERAL, WORD_MISTAKES, get_note, key_note, note, rules_note, several_notes, word_note
 
 LARGE = 67_108_865
 
@@ -73,6 +73,7 @@ FILES = {
 FILES |= {f"mistake{number}.nft": mistake[0] for number, mistake in enumerate(MISTAKES)}
 FILES |= {f"several{number}.nft": script for number, (script, _) in enumerate(SEVERAL)}
 FILES |= {f"mistake{number}.rules": mistake[0] for number, mistake in enumerate(RULES_MISTAKES)}
+FILES |= {f"mistake{number}.plan": mistake[0] for number, mistake in enumerate(PLAN_MISTAKES)}
 FILES |= {"sets.nft": SETS, **{f"mistake{number}.keys": mistake[0] + "\n" for number, mistake in enumerate(KEY_MISTAKES)}}
 
 USAGE = re.compile("pipapo: usage: ")
@@ -115,6 +116,9 @@ def cases(shown):
     for number, mistake in enumerate(RULES_MISTAKES):
         name = f"mistake{number}.rules"
         yield ["judge", "sets.nft", name, "good.keys"], rules_note(name, mistake), re.compile(rf"pipapo: rules line {mistake[1]}: .*\n"), 9
+    for number, mistake in enumerate(PLAN_MISTAKES):
+        name = f"mistake{number}.plan"
+        yield ["capture", "sets.nft", name, "link.pcap"], rules_note(name, mistake), re.compile(rf"pipapo: plan line {mistake[1]}: .*\n"), 11
     for mistake in GET_MISTAKES:
         yield ["get", "sets.nft", *mistake[0].split()], get_note(mistake), re.compile(r"pipapo: key line 1: .*\n"), 13
     for words in ["at 5", "round", "#"]:
@@ -139,7 +143,7 @@ def cases(shown):
     yield [*run, "good.nft"], re.compile("good.nft:1:[0-9]+: this looks like a script: the script is named first, and then the key file\n"), None, 4
     yield [*run, "good.rules"], re.compile("good.rules:1:[0-9]+: this looks like a rules file: .*\n"), None, 4
     yield ["judge", "good.nft", "good.keys", "good.rules"], re.compile("good.keys:1:1: this looks like a key file: .*\n"), None, 9
-    yield ["capture", "good.nft", "good.keys", "link.pcap"], "good.keys:1:8: this looks like a key file: the script is named first, then the plan, and then the capture\n", None, 11
+    yield ["capture", "good.nft", "good.keys", "link.pcap"], "good.keys:1:8: this looks like a key file: a plan has selectors such as dport in place of values\n", None, 11
     yield ["capture", "good.nft", "good.nft", "link.pcap"], re.compile("good.nft:1:[0-9]+: this looks like a script: .*\n"), None, 11
     # captures
     for name, byte, said, why in [

@@ -6,18 +6,22 @@ ghost use Rattle.fault_notes.specs.Shown.{Begins, BeginsAtPlace, place_text};
 ghost use Rattle.fault_notes.specs.Source.{IsSaid, IsSaidAt, both_lines, source_text};
 
 use crate::around::{Level, around_of};
+use crate::beside::{Beside, other_family};
 use crate::content::{is_other_kind, other_kind};
 use crate::explained::{Explained, Fault};
+use crate::families::explain_family;
 use crate::help::{TextKind, explain_plainly, explain_reference, explain_slashes, is_slashes};
 use crate::keys::{KeyFault, explain_key, type_item};
 use crate::note::Note;
+use crate::plans::explain_plan;
 use crate::rest::is_caused;
 use crate::rules::explain_rules;
-use crate::sets::{explain_set, explain_unknown};
-use crate::shell::explain_backslash;
+use crate::sets::explain_set;
+use crate::shell::{explain_backslash, explain_quoted_comment, is_quoted_comment};
 use crate::source::{Cut, cut_at};
 use crate::syntax::{
-    explain_left_out, explain_open, explain_syntax, explain_text_end, explain_type, is_in_open,
+    explain_left_out, explain_open, explain_syntax, explain_text_end, explain_type,
+    is_between_types, is_in_open,
 };
 use crate::times::explain_time;
 use crate::values::{explain_moment, explain_value};
@@ -46,8 +50,9 @@ fn explain_in_script(said: &mut Explained, fault: Fault<'_>, reason: Reason) -> 
             explain_reference(said)
         }
         Reason::Character if fault.token == b"\\".as_slice() => explain_backslash(said, fault),
+        Reason::Character if is_quoted_comment(fault) => explain_quoted_comment(said),
         Reason::Character | Reason::End => explain_by_reason(said, fault, reason),
-        _ if is_slashes(fault.token) => explain_slashes(said),
+        _ if is_slashes(fault.token) && !is_between_types(fault) => explain_slashes(said),
         _ if is_in_open(fault) => explain_open(said, fault),
         _ => explain_by_reason(said, fault, reason),
     }
@@ -123,6 +128,10 @@ fn explain_in_keys(
     bad: BadToken,
     cut: Cut<'_>,
 ) -> Result<(), Memory> {
+    match other_family(schema, cut.front) {
+        Some(word) if bad.reason == Reason::Set => return explain_family(said, word),
+        _ => {}
+    }
     let type_item = type_item(said.alloc, schema, cut.line)?;
     let fault = KeyFault {
         line: cut.line,
@@ -133,21 +142,19 @@ fn explain_in_keys(
     explain_key(said, schema, type_item.as_slice(), fault)
 }
 
-/// Explains a bad token of a rules file or a plan, after these bytes.
+/// Explains a bad token of a rules file or a plan.
 fn explain_beside(
     said: &mut Explained,
     kind: TextKind,
     schema: &Schema,
-    reason: Reason,
-    before: &[u8],
-    token: &[u8],
+    fault: Beside<'_>,
 ) -> Result<(), Memory> {
-    match reason {
-        Reason::Set => explain_unknown(said, schema, token),
-        Reason::Character if token.first() == Some(&b'@') => explain_reference(said),
-        _ if is_slashes(token) => explain_slashes(said),
-        Reason::Statement if kind == TextKind::Rules => explain_rules(said, before, token),
-        _ => explain_plainly(said, kind, reason, token),
+    if is_slashes(fault.token) && fault.reason != Reason::Set {
+        return explain_slashes(said);
+    }
+    match kind {
+        TextKind::Plan => explain_plan(said, schema, fault),
+        _ => explain_rules(said, schema, fault),
     }
 }
 
@@ -167,8 +174,17 @@ fn said_beside(
     match kind {
         TextKind::Keys => explain_in_keys(&mut said, schema, bad, cut)?,
         _ => {
-            let before = text.get(..bad.at as usize).unwrap_or(b"");
-            explain_beside(&mut said, kind, schema, bad.reason, before, cut.token)?
+            let (before, behind) = text.split_at(text.len().min(bad.at as usize));
+            let fault = Beside {
+                text,
+                before,
+                behind,
+                line: cut.line,
+                front: cut.front,
+                token: cut.token,
+                reason: bad.reason,
+            };
+            explain_beside(&mut said, kind, schema, fault)?
         }
     }
     with_source(alloc, &said, bad, cut)

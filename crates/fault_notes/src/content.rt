@@ -263,7 +263,7 @@ fn swapped(kind: TextKind, word: &[u8], is_plan: bool) -> &'static [u8] {
         TextKind::Plan if begins_a_statement(word) =>
             b"this looks like a script: the script is named first, then the plan, and then the capture",
         TextKind::Plan =>
-            b"this looks like a key file: the script is named first, then the plan, and then the capture",
+            b"this looks like a key file: a plan has selectors such as dport in place of values",
     }
 }
 

@@ -1,6 +1,5 @@
 //! Explains a bad token by its reason alone, without what surrounds it.
 use crate::explained::Explained;
-use crate::words::is_one_of;
 use set_model::Memory;
 use token_forms::Reason;
 
@@ -123,22 +122,6 @@ fn for_statement(kind: TextKind) -> &'static [u8] {
     }
 }
 
-/// Explains a selector that can't be at its place.
-fn explain_selector(said: &mut Explained, word: &[u8]) -> Result<(), Memory> {
-    if is_one_of(word, &SELECTORS) {
-        return said.say(
-            b" doesn't fit the type of this field",
-            b"ipv4_addr takes ip_saddr or ip_daddr, ipv6_addr ip6_saddr or ip6_daddr, ether_addr ether_saddr or ether_daddr, inet_proto proto, inet_service sport or dport",
-        );
-    }
-    said.suggest(
-        b" isn't a selector",
-        word,
-        &SELECTORS,
-        b"the selectors are ip_saddr, ip_daddr, ip6_saddr, ip6_daddr, ether_saddr, ether_daddr, proto, sport and dport",
-    )
-}
-
 /// Explains a `@` in front of a set's name.
 pub(crate) fn explain_reference(said: &mut Explained) -> Result<(), Memory> {
     said.say(
@@ -168,7 +151,6 @@ pub(crate) fn explain_plainly(
         Reason::Character => said.say(b" is an unexpected character", for_character(token.first())),
         Reason::End => said.say(b" comes too early", for_end(kind)),
         Reason::LeftOut => said.say(b" isn't supported", for_left_out(token)),
-        Reason::TypeWord => explain_selector(said, token),
         Reason::Time => said.say(b" isn't a time", TIME),
         Reason::Moment => said.say(
             b" isn't a moment",
@@ -179,6 +161,9 @@ pub(crate) fn explain_plainly(
             b"name a set that the script declares, by [FAMILY] TABLE SET",
         ),
         Reason::Number => said.say(b" isn't a size", b"write a number from 1 to 4294967295"),
-        Reason::Value | Reason::Statement => said.say(b" can't come here", for_statement(kind)),
+        Reason::Value | Reason::TypeWord | Reason::Statement => said.say(
+            b" can't come here",
+            for_statement(kind),
+        ),
     }
 }

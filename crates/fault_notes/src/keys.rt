@@ -61,7 +61,7 @@ fn name_count(line: &[u8]) -> u64 {
 }
 
 /// How many fields of a key come before the bad token. Each begins with a word, and a `.` is between two.
-fn fields_before(before: &[u8]) -> u64 {
+pub(crate) fn fields_before(before: &[u8]) -> u64 {
     let dots = count_of(before, b".");
     if word_at(before, name_count(before)).is_empty() || last_word(before) == b".".as_slice() {
         return dots;
@@ -109,7 +109,7 @@ fn explain_place(
 }
 
 /// Whether a token is at the place of a word of its set's name.
-fn is_in_name(before: &[u8]) -> bool {
+pub(crate) fn is_in_name(before: &[u8]) -> bool {
     word_at(before, name_count(before).saturating_sub(1)).is_empty()
 }
 

@@ -26,25 +26,31 @@
 //! no file can move a terminal.
 //!
 //! **Definitions:** `specs/Shown.antt` says how a byte is shown and how a note begins. `Refusals.antt`
-//! has the note on refused changes. `Source.antt` has the line of a token and its carets, and
+//! has the note on refused changes, and `Hidden.antt` the line on errors that aren't shown. `Source.antt` has the line of a token and its carets, and
 //! `OtherKind.antt` the marks of another kind. `Told.antt` says that one note is printed, or nothing.
 //! **Theory:** docs/formats.md, "The standard error".
 #![tactic(auto)]
 
 mod around;
 mod bad;
+mod beside;
 mod captures;
+mod chains;
 mod content;
 mod explained;
+mod families;
 mod files;
 mod help;
+mod hidden;
 mod keys;
 mod near;
 mod note;
+mod plans;
 mod refusals;
 mod refused;
 mod rest;
 mod rules;
+mod selectors;
 mod sets;
 mod shell;
 mod source;
@@ -62,6 +68,7 @@ pub use files::{
     explained_note, output_fault_note, read_fault_note, too_large_note, too_many_clerks_note,
 };
 pub use help::TextKind;
+pub use hidden::hidden_note;
 pub use note::Note;
 pub use pcap_keys::CaptureReason;
 pub use refusals::refusals_note;

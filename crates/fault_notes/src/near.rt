@@ -11,7 +11,7 @@ const LONGEST: usize = 40;
 const FRONT: usize = 3;
 
 /// Whether two words differ in the case of letters alone.
-fn is_same_in_lower_case(word: &[u8], other: &[u8]) -> bool {
+pub(crate) fn is_same_in_lower_case(word: &[u8], other: &[u8]) -> bool {
     word.len() == other.len()
         && word
             .iter()

@@ -96,17 +96,49 @@ fn is_apart(item: Item<'_>) -> bool {
     !begins && !item_of(item.before, b"type").is_empty()
 }
 
+/// The place after the innermost `{` before a place of a statement that no `}` closes.
+fn open_at(alloc: Global, statement: &[u8], at: u64) -> Result<Option<usize>, Memory> {
+    let mut braces = Vec::new(alloc);
+    for token in Tokens::new(statement) {
+        let bytes = bytes_of(statement, token);
+        if bytes == b"{".as_slice() && braces.push(token.to).is_err() {
+            return Err(Memory);
+        }
+        if bytes == b"}".as_slice() {
+            let _ = braces.pop();
+        }
+    }
+    let mut found = None;
+    for to in &braces {
+        if *to <= at {
+            found = Some(*to as usize);
+        }
+    }
+    Ok(found)
+}
+
+/// Whether the word at a place begins a statement or a set. Such a word shows by itself that a `{` is open.
+fn shows_open(text: &[u8], at: u64) -> bool {
+    let word = word_at(text.get(at as usize..).unwrap_or(b""), 0);
+    begins_a_statement(word) || is_one_of(word, &[b"set", b"at", b"commit", b"abort", b"round"])
+}
+
 /// The part around a place of a script that is left out if the rest is read: the item of a set, if the set's
-/// other items can be read without it, or else the statement.
-fn refused_part(text: &[u8], at: u64) -> (usize, usize) {
+/// other items can be read without it, or else the statement. If a `{` of the statement is open, it is what
+/// follows that `{`, so that the end of the rest shows it.
+fn refused_part(alloc: Global, text: &[u8], at: u64) -> Result<(usize, usize), Memory> {
     let (from, to) = statement_at(text, at);
     let statement = text.get(from..to).unwrap_or(b"");
-    match item_at(statement, at.saturating_sub(from as u64)) {
-        Some(item) if is_apart(item) => (
-            from.saturating_add(item.from),
-            from.saturating_add(item.to),
-        ),
-        _ => (from, to),
+    let place = at.saturating_sub(from as u64);
+    match item_at(statement, place) {
+        Some(item) if is_apart(item) => {
+            return Ok((from.saturating_add(item.from), from.saturating_add(item.to)));
+        }
+        _ => {}
+    }
+    match open_at(alloc, statement, place)? {
+        Some(open) if !shows_open(text, at) => Ok((from.saturating_add(open), to)),
+        _ => Ok((from, to)),
     }
 }
 
@@ -127,7 +159,7 @@ fn without_part(alloc: Global, text: &[u8], from: usize, to: usize) -> Result<Ve
 }
 
 /// The script without the statement around a place, or without the item of a set if the set's other items
-/// can be read without it. The bytes of this part are blanked out, and its line feeds stay. So each other
+/// can be read without it, or without what follows a `{` that no `}` closes. The bytes of this part are blanked out, and its line feeds stay. So each other
 /// token keeps its place.
 ///
 /// # Errors
@@ -136,7 +168,7 @@ fn without_part(alloc: Global, text: &[u8], from: usize, to: usize) -> Result<Ve
 pub fn without_statement(alloc: Global, text: &[u8], at: u64) -> Result<Vec<u8>, Memory>
     ensures { IfOk result (λ rest. (from : ℕ) × (to : ℕ) × (rest.items ≡ blanked from to text.now)) }
 {
-    let (from, to) = refused_part(text, at);
+    let (from, to) = refused_part(alloc, text, at)?;
     without_part(alloc, text, from, to)
 }
 
@@ -158,8 +190,8 @@ fn is_first(text: &[u8], at: u64) -> bool {
 }
 
 /// Whether an earlier error may have caused this one: the token names a set that a statement before it,
-/// which was refused, names, too. Or it is a `}` that closes nothing, or the `set` of a table that isn't
-/// open. Or it is a range or a time of a set whose flags may have been refused.
+/// which was refused, names, too. Or it is a `{` or a `}` that belongs to nothing, or the `set` of a table that
+/// isn't open. Or it is a range or a time of a set whose flags may have been refused.
 pub(crate) fn is_caused(text: &[u8], rest: &[u8], bad: BadToken, token: &[u8]) -> bool {
     match bad.reason {
         Reason::Set => is_blanked(text, rest, &[token]),
@@ -169,7 +201,7 @@ pub(crate) fn is_caused(text: &[u8], rest: &[u8], bad: BadToken, token: &[u8]) -
         Reason::Statement if is_one_of(token, &[b"timeout", b"expires"]) => {
             is_blanked(text, rest, &[b"flags", b"flag", b"timeout"])
         }
-        Reason::Statement if is_one_of(token, &[b"}", b"set"]) => is_first(rest, bad.at),
+        Reason::Statement if is_one_of(token, &[b"{", b"}", b"set"]) => is_first(rest, bad.at),
         _ => false,
     }
 }

@@ -1,6 +1,7 @@
 //! Explains the name of a set that can't be declared or used at its place.
 use crate::around::{Level, SetText, set_named};
 use crate::explained::{Explained, Fault};
+use crate::families::{explain_family, family_meant};
 use crate::near::nearest;
 use crate::refused::{SetWords, words_of};
 use crate::words::word_at;
@@ -24,6 +25,10 @@ fn named(fault: Fault<'_>) -> SetWords<'_> {
         ..set_named(fault.around.part, 2)
     }
 }
+
+/// How a set is named.
+pub(crate) const SET_NAME: &[u8] =
+    b"a set is named by [FAMILY] TABLE SET; a name begins with a letter or '_'";
 
 fn begins_a_name(word: &[u8]) -> bool {
     matches!(word, [b'a'..=b'z' | b'A'..=b'Z' | b'_', ..])
@@ -60,7 +65,7 @@ fn explain_declared(said: &mut Explained, fault: Fault<'_>) -> Result<(), Memory
 
 impl Explained {
     /// Adds a set's family, table and name to what to do.
-    fn add_set<'x>(
+    pub(crate) fn add_set<'x>(
         &mut self,
         front: &'x [u8],
         set: SetWords<'x>,
@@ -137,8 +142,22 @@ fn names_of<'a>(alloc: Global, sets: &[SetText<'a>]) -> Result<Vec<SetWords<'a>>
     Ok(names)
 }
 
+/// Whether a set that is declared before the token is in a table of this name.
+fn has_table(fault: Fault<'_>, table: &[u8]) -> bool {
+    for set in fault.sets {
+        if set.words.table == table {
+            return true;
+        }
+    }
+    false
+}
+
 /// Explains the name of a set that isn't declared.
 fn explain_used(said: &mut Explained, fault: Fault<'_>) -> Result<(), Memory> {
+    let table = word_at(fault.around.part, 2);
+    if family_meant(table).is_some() && !has_table(fault, table) {
+        return explain_family(said, table);
+    }
     said.wrong
         .say(b" isn't a set that is declared before this place")?;
     if fault.sets.is_empty() {
@@ -148,6 +167,28 @@ fn explain_used(said: &mut Explained, fault: Fault<'_>) -> Result<(), Memory> {
     suggest_set(
         said,
         fault.token,
+        b"the sets declared before are ",
+        names.as_slice(),
+    )
+}
+
+/// Explains a token in the place of a set's name, after this table. If the word before it names a set, that set
+/// was meant.
+pub(crate) fn explain_no_name(
+    said: &mut Explained,
+    fault: Fault<'_>,
+    table: &[u8],
+) -> Result<(), Memory> {
+    said.wrong.say(b" isn't the name of a set")?;
+    let is_used = word_at(fault.around.part, 1) != b"set".as_slice()
+        || word_at(fault.around.part, 0) != b"add".as_slice();
+    if !is_used || fault.sets.is_empty() {
+        return said.help.say(SET_NAME);
+    }
+    let names = names_of(said.alloc, fault.sets)?;
+    suggest_set(
+        said,
+        table,
         b"the sets declared before are ",
         names.as_slice(),
     )

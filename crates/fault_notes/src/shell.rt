@@ -3,6 +3,7 @@ use crate::content::without_blanks_behind;
 use crate::explained::{Explained, Fault};
 use crate::help::{TextKind, explain_plainly};
 use crate::source::first_line;
+use crate::words::last_word;
 use set_model::Memory;
 use token_forms::Reason;
 
@@ -42,6 +43,19 @@ pub(crate) fn explain_backslash(said: &mut Explained, fault: Fault<'_>) -> Resul
         ),
         _ => explain_plainly(said, TextKind::Script, Reason::Character, fault.token),
     }
+}
+
+/// Whether a token is a single quote in the place of a comment.
+pub(crate) fn is_quoted_comment(fault: Fault<'_>) -> bool {
+    fault.token.first() == Some(&b'\'') && last_word(fault.around.part) == b"comment".as_slice()
+}
+
+/// Explains a comment in single quotes.
+pub(crate) fn explain_quoted_comment(said: &mut Explained) -> Result<(), Memory> {
+    said.say(
+        b" is an unexpected character",
+        b"write the comment in double quotes, as: comment \"web\"",
+    )
 }
 
 /// Whether a `\` at the end of the line before joins a token's line to it.

@@ -2,15 +2,18 @@
 use crate::around::{Level, set_named};
 use crate::content::is_family;
 use crate::explained::{Explained, Fault};
+use crate::families::{explain_family, family_meant};
 use crate::help::{SIZE, TIME, TextKind, explain_plainly};
+use crate::selectors::field_named;
+use crate::sets::{SET_NAME, explain_no_name};
 use crate::shell::{explain_end, for_command, names_a_shell};
 use crate::source::shortened;
 use crate::times::{explain_time, explain_unit, is_apart};
-use crate::values::{explain_all, explain_quoted, types_of};
+use crate::values::{explain_all, explain_quoted, types_of, word_of};
 use crate::words::{count_of, is_one_of, kind_at, last_word, word_at};
 use set_model::Memory;
 use text_pieces::Piece;
-use token_forms::Reason;
+use token_forms::{Reason, is_a_name};
 
 /// The words that begin a statement.
 const STATEMENTS: [&[u8]; 10] = [
@@ -64,11 +67,40 @@ const OTHER_TYPES: [(&[u8], &[u8]); 14] = [
 
 const TABLE_NAME: &[u8] = b"a table is named by [FAMILY] TABLE; a name begins with a letter or '_'";
 
-const SET_NAME: &[u8] = b"a set is named by [FAMILY] TABLE SET; a name begins with a letter or '_'";
-
 const END_STATEMENT: &[u8] = b"end the statement before it, with ';' or a new line";
 
 const END_ITEM: &[u8] = b"end the item before it, with ';' or a new line";
+
+/// What to do with a token after a statement that is whole.
+fn for_extra(token: &[u8]) -> &'static [u8] {
+    match token {
+        b"," | b"{" =>
+            b"write one list, with one pair of braces around all elements, as: { 80, 443 }",
+        word if is_one_of(word, &STATEMENTS) => END_STATEMENT,
+        _ => b"leave it out, or begin a new line with it",
+    }
+}
+
+/// What to do in place of a word that begins a statement in other languages.
+fn for_other_verb(word: &[u8]) -> Option<&'static [u8]> {
+    match word {
+        b"list" | b"show" | b"print" => {
+            Some(b"leave it out: 'pipapo list FILE' prints the sets of a script")
+        }
+        b"get" | b"test" | b"lookup" => {
+            Some(b"leave it out: 'pipapo get FILE ip t p 80' looks a key up")
+        }
+        b"update" | b"replace" => Some(
+            b"write 'add' in place of it; to change an element, write 'delete element' and then 'add element'",
+        ),
+        b"rollback" | b"revert" | b"undo" => Some(b"did you mean 'abort'?"),
+        b"apply" | b"save" | b"end" => Some(b"did you mean 'commit'?"),
+        b"wait" | b"sleep" | b"time" => {
+            Some(b"write 'at' and the moment of what follows in milliseconds, as: at 5000")
+        }
+        _ => None,
+    }
+}
 
 /// Explains the first token of a statement.
 fn explain_first(said: &mut Explained, fault: Fault<'_>) -> Result<(), Memory> {
@@ -92,6 +124,10 @@ fn explain_first(said: &mut Explained, fault: Fault<'_>) -> Result<(), Memory> {
         word if is_family(word) => said.say(
             b" can't begin a statement",
             b"write 'add element' before it, or the line into a key file, which 'run' and 'judge' take after the script",
+        ),
+        word if for_other_verb(word).is_some() => said.say(
+            b" can't begin a statement",
+            for_other_verb(word).unwrap_or(b""),
         ),
         word => said.suggest(
             b" can't begin a statement",
@@ -120,6 +156,15 @@ fn explain_second(said: &mut Explained, fault: Fault<'_>) -> Result<(), Memory> 
             b" can't be flushed here",
             b"'flush ruleset' can only be the first statement",
         ),
+        b"flush" if word == b"table".as_slice() => said.say(
+            b" can't follow 'flush'",
+            b"write 'flush set' for each set, to remove its elements",
+        ),
+        b"flush" if word == b"element".as_slice() => said.say(
+            b" can't follow 'flush'",
+            b"write 'delete element' to remove some elements, or 'flush set' to remove all",
+        ),
+        b"flush" if is_family(word) => said.say(b" can't follow 'flush'", b"write 'set' before it"),
         b"flush" => said.suggest(
             b" can't follow 'flush'",
             word,
@@ -131,7 +176,7 @@ fn explain_second(said: &mut Explained, fault: Fault<'_>) -> Result<(), Memory> 
             b"'at' is followed by a number of milliseconds",
         ),
         b"table" => said.say(b" isn't the name of a table", TABLE_NAME),
-        b"commit" | b"abort" | b"round" | b"}" => explain_end(said, fault, END_STATEMENT),
+        b"commit" | b"abort" | b"round" | b"}" => { explain_end(said, fault, for_extra(word)) }
         _ => said.suggest(
             b" can't be changed so",
             word,
@@ -146,7 +191,19 @@ fn explain_place(said: &mut Explained, fault: Fault<'_>) -> Result<(), Memory> {
     let part = fault.around.part;
     let is_block = word_at(part, 0) == b"table".as_slice();
     let is_table = word_at(part, 1) == b"table".as_slice();
-    let place = set_named(part, if is_block { 1 } else { 2 });
+    let first = if is_block { 1 } else { 2 };
+    let place = set_named(part, first);
+    let begun = word_at(part, first);
+    let is_whole = if is_block || is_table {
+        !place.table.is_empty()
+    } else {
+        !place.name.is_empty()
+    };
+    let is_before_brace = word_at(fault.around.behind(fault.at), 1) == b"{".as_slice();
+    let is_family_meant = is_before_brace || family_meant(begun).is_some();
+    if is_whole && is_family_meant && !is_family(begun) && is_a_name(fault.token) {
+        return explain_family(said, begun);
+    }
     match word_at(part, 0) {
         b"at" => return explain_end(said, fault, END_STATEMENT),
         _ if place.table.is_empty() && (is_block || is_table) => {
@@ -177,7 +234,7 @@ fn explain_place(said: &mut Explained, fault: Fault<'_>) -> Result<(), Memory> {
         );
     }
     if place.name.is_empty() {
-        return said.say(b" isn't the name of a set", SET_NAME);
+        return explain_no_name(said, fault, place.table);
     }
     match word_at(part, 0) {
         b"flush" if fault.token == b"{".as_slice() => said.say(
@@ -265,7 +322,7 @@ fn explain_in_statement(said: &mut Explained, fault: Fault<'_>) -> Result<(), Me
         return explain_first(said, fault);
     }
     if word_at(fault.around.part, 0) == b"}".as_slice() {
-        return explain_end(said, fault, END_STATEMENT);
+        return explain_end(said, fault, for_extra(fault.token));
     }
     if word_at(fault.around.part, 1).is_empty() {
         return explain_second(said, fault);
@@ -315,6 +372,12 @@ fn explain_item(said: &mut Explained, fault: Fault<'_>) -> Result<(), Memory> {
             b"write the type first, as: type ipv4_addr . inet_service",
         );
     }
+    if is_one_of(word, &FLAGS) && !is_one_of(word, &ITEMS) {
+        return said.say(
+            b" isn't an item of a set",
+            b"write 'flags' before it, as: flags interval",
+        );
+    }
     if !is_one_of(word, &ITEMS) {
         return said.suggest(
             b" isn't an item of a set",
@@ -343,7 +406,16 @@ fn explain_in_item(said: &mut Explained, fault: Fault<'_>) -> Result<(), Memory>
     if is_apart(part, word) {
         return explain_unit(said, last, word);
     }
-    match word_at(part, 0) {
+    let item = word_at(part, 0);
+    match item {
+        _ if word == b"=".as_slice() && item != b"elements".as_slice() => said.say(
+            b" can't come in this item",
+            b"leave it out: only 'elements' has a '=' after it",
+        ),
+        b"size" if word == b",".as_slice() => said.say(
+            b" can't come in a number",
+            b"write the digits alone, as 65536",
+        ),
         b"flags" if last == b"timeout".as_slice() && matches!(word, [b'0'..=b'9', ..]) => {
             said.tell(
                 &[Piece::Word(b" can't follow a flag")],
@@ -361,7 +433,7 @@ fn explain_in_item(said: &mut Explained, fault: Fault<'_>) -> Result<(), Memory>
             b" makes a map of the set",
             b"write one '.' between types; there are no maps",
         ),
-        b"type" if word == b",".as_slice() || is_one_of(word, &TYPES) => said.say(
+        b"type" if is_one_of(word, &[b",", b"/"]) || is_one_of(word, &TYPES) => said.say(
             b" can't follow a type",
             b"write ' . ' between types",
         ),
@@ -483,6 +555,12 @@ fn explain_behind(
     if last == b"comment".as_slice() {
         return explain_comment(said, fault);
     }
+    if is_one_of(last, &OPTIONS) && word == b"=".as_slice() {
+        return said.say(
+            b" can't come in an element",
+            b"leave it out, as: timeout 30s",
+        );
+    }
     if is_one_of(last, &OPTIONS) {
         return explain_time(said, word);
     }
@@ -521,6 +599,9 @@ fn explain_behind(
 
 /// Explains a token that can't follow an element.
 fn explain_no_comma(said: &mut Explained, word: &[u8]) -> Result<(), Memory> {
+    if is_one_of(word, &[b"ttl", b"lifetime"]) {
+        return said.ask(b" can't follow an element", b"timeout");
+    }
     said.suggest(
         b" can't follow an element",
         word,
@@ -558,6 +639,13 @@ fn explain_in_list(said: &mut Explained, fault: Fault<'_>) -> Result<(), Memory>
         ),
         _ => explain_behind(said, fault, lacks_fields),
     }
+}
+
+/// Whether a token is a `/` between the types of a set.
+pub(crate) fn is_between_types(fault: Fault<'_>) -> bool {
+    fault.token == b"/".as_slice()
+        && fault.around.level == Level::Set
+        && word_at(fault.around.part, 0) == b"type".as_slice()
 }
 
 /// Whether a token is a string outside of lists and comments.
@@ -626,6 +714,21 @@ pub(crate) fn explain_type(said: &mut Explained, fault: Fault<'_>) -> Result<(),
         return said.say(
             b" isn't a type",
             b"write '.' with blanks around it between types, as: ipv4_addr . inet_service",
+        );
+    }
+    let next = word_at(fault.around.behind(fault.at), 1);
+    if let Some(field) = field_named(fault.token, next) {
+        return said.tell(
+            &[Piece::Word(b" isn't a type")],
+            &[
+                Piece::Word(b"write "),
+                Piece::Word(word_of(field.kind)),
+                Piece::Word(b" in place of '"),
+                Piece::Word(fault.token),
+                Piece::Word(b" "),
+                Piece::Word(next),
+                Piece::Word(b"'"),
+            ],
         );
     }
     if let Some(kind) = type_meant(fault.token) {
