@@ -318,8 +318,9 @@ SEVERAL = [
     ),
     # without the type no other item can be read
     ("add set ip t s { type port; size 0; }\n", [(1, 23, "'port' isn't a supported type", "did you mean 'inet_service'?", False)]),
-    # ten at most
-    (SETS + "add element ip t p { 70000 }\n" * 12, [(line, 22, "'70000' " + TOO_GREAT, PORT, False) for line in range(2, 12)]),
+    # ten at most, and whether there are more
+    (SETS + "add element ip t p { 70000 }\n" * 10, [(line, 22, "'70000' " + TOO_GREAT, PORT, False) for line in range(2, 12)]),
+    (SETS + "add element ip t p { 70000 }\n" * 12, [(line, 22, "'70000' " + TOO_GREAT, PORT, False) for line in range(2, 14)]),
     # the rest of a script with an open brace is no statement of its own, and its end names the brace
     (
         SETS + "add element ip t p { 70000\nadd element ip t p { 70000 }\n",
@@ -616,9 +617,10 @@ WORD_MISTAKES = [
 
 
 def several_notes(name, script, mistakes):
-    """The whole text on a script with several mistakes."""
+    """The whole text on a script with several mistakes, of which the first ten are shown."""
     cause = {False: "", True: "an earlier error may have caused this one\n"}
-    return "".join(note(name, (script, *mistake[:4], None)) + cause[mistake[4]] for mistake in mistakes)
+    shown = "".join(note(name, (script, *mistake[:4], None)) + cause[mistake[4]] for mistake in mistakes[:10])
+    return shown + (f"{name}: further errors aren't shown\n" if len(mistakes) > 10 else "")
 
 
 def key_note(name, mistake):

@@ -23,7 +23,8 @@ use Rattle.set_script.specs.Script.{script as script_form}
 use Rattle.ruleset_sets.specs.Kept.{IsKept, all_taken}
 use Rattle.ruleset_sets.specs.RulesetText.{HoldsOfKept}
 use Rattle.fault_notes.specs.Blanked.{blanked}
-use Rattle.input_files.specs.Noted.{IsOnToken, IsPlacedBy, NamesBadToken, NamesFurther, IsNoteOn, AreFurther, no_more, one_more, IsScriptNote, IsScriptNoted, NamesBadTokens}
+use Rattle.fault_notes.specs.Hidden.{hidden_text}
+use Rattle.input_files.specs.Noted.{IsOnToken, IsPlacedBy, NamesBadToken, NamesFurther, IsNoteOn, AreFurther, no_more, hidden, one_more, IsScriptNote, IsScriptNoted, NamesBadTokens}
 
 -- A note on a text by the bad token that was found in it names the bad token of the file's bytes, if they are known.
 pub bad-note : {A : Type 0} (kind : TextKind) (form : Form A) (tokens : List ℕ → List Lexeme) (told : List ℕ → Option (List ℕ)) (name all slice : List ℕ) (found : Result (Option BadToken) NoMemory) (before mid now : Option (List ℕ))
@@ -68,6 +69,12 @@ one-further name script most less rest left note more all bad count part is_bad 
     let mine = subst (λ (t : List ℕ). NamesFurther t script name note) part.2 names in
     let others = subst (λ (t : List ℕ). AreFurther name script less t more) part.2 further in
     subst (λ (n : ℕ). AreFurther name script n rest all) (sym count) (subst (λ (t : List ℕ). AreFurther name script (suc less) rest t) (sym whole) (one_more less part.0 part.1 rest note more mine others))
+
+-- The line on further errors that aren't shown.
+pub more-hidden : (name script : List ℕ) (most : ℕ) (rest left line : List ℕ) (bad : BadToken) → most ≡ 0 → ((from : ℕ) × (to : ℕ) × (left ≡ blanked from to rest)) → IsBadToken script_form (text_tokens left) left bad → line ≡ hidden_text name → AreFurther name script most rest line
+more-hidden name script most rest left line bad none part is_bad is_line =
+    let mine = subst (λ (t : List ℕ). IsBadToken script_form (text_tokens t) t bad) part.2 is_bad in
+    subst (λ (n : ℕ). AreFurther name script n rest line) (sym none) (subst (λ (t : List ℕ). AreFurther name script 0 rest t) (sym is_line) (hidden part.0 part.1 rest bad mine))
 
 -- No further note.
 pub none_further : (name script : List ℕ) (most : ℕ) (rest notes : List ℕ) → notes ≡ [] → AreFurther name script most rest notes

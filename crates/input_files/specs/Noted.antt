@@ -15,6 +15,7 @@ use Rattle.pcap_keys.specs.Plans.{plan as plan_form}
 use Rattle.fault_notes.specs.Blanked.{blanked}
 use Rattle.fault_notes.specs.declared.help.TextKind.{TextKind}
 use Rattle.fault_notes.specs.declared.help.TextKind.TheVariants as kinds
+use Rattle.fault_notes.specs.Hidden.{hidden_text}
 use Rattle.fault_notes.specs.OtherKind.{is_other_kind}
 use Rattle.fault_notes.specs.Shown.{Begins, place_text, byte_text, name_text}
 use Rattle.fault_notes.specs.Source.{IsSaidAt, source_text}
@@ -52,12 +53,14 @@ pub record NamesFurther (left script name note : List ℕ) : Type 0 where
 
 -- Notes on bad tokens of a script after the first one, at most so many. Each begins with the place of the bad token of
 -- what is left: the script in which a part is blanked out, and one more for each note before it. Each shows the script's own line.
+-- After the last note that is allowed a line says that there are more, if what is left has one more bad token.
 pub data AreFurther (name script : List ℕ) : ℕ → List ℕ → List ℕ → Type 0 where
   no_more : (most : ℕ) (rest : List ℕ) → AreFurther name script most rest []
+  hidden : (from to : ℕ) (rest : List ℕ) (bad : BadToken) → IsBadToken script_form (text_tokens (blanked from to rest)) (blanked from to rest) bad → AreFurther name script 0 rest (hidden_text name)
   one_more : (most from to : ℕ) (rest note more : List ℕ) → NamesFurther (blanked from to rest) script name note
       → AreFurther name script most (blanked from to rest) more → AreFurther name script (suc most) rest (note ++ more)
 
--- A note on a script is on this bad token first. At most nine notes on further ones follow.
+-- A note on a script is on this bad token first. At most nine notes on further ones follow, and a line if there are more.
 pub record IsScriptNote (name text : List ℕ) (bad : BadToken) (note : List ℕ) : Type 0 where
   pub first : List ℕ
   pub more : List ℕ

@@ -4,7 +4,8 @@ ghost use Rattle.fault_notes.specs.Told.{SaysTold};
 ghost use Rattle.input_files.specs.Noted.{AreFurther, IsScriptNote, IsScriptNoted};
 
 use fault_notes::{
-    Note, TextKind, bad_script_note, further_note, is_other_kind, tell_note, without_statement,
+    Note, TextKind, bad_script_note, further_note, hidden_note, is_other_kind, tell_note,
+    without_statement,
 };
 use pip_base::Notes;
 use set_model::Memory;
@@ -18,8 +19,9 @@ pub const MOST_FURTHER: u64 = 9;
 /// The most bytes of a script that is read again for further errors.
 const MOST_READ_AGAIN: usize = 1_048_576;
 
-/// The notes on the bad tokens after this one, at most so many. Each is the bad token of the script without
-/// the statements of those before it. In `rest` these are blanked out, except for this one's.
+/// The notes on the bad tokens after this one, at most so many, and the line that says that there are more, if
+/// there are. Each is the bad token of the script without the statements of those before it. In `rest` these are
+/// blanked out, except for this one's.
 #[tactic(auto, using(crate::proofs::Telling::none_further))]
 fn further(
     alloc: Global,
@@ -31,14 +33,14 @@ fn further(
 ) -> Result<Note, Memory>
     ensures { IfOk result (λ notes. AreFurther name.now text.now most rest.now notes.bytes.items) }
 {
-    if most == 0 {
-        return Ok(Note::new(alloc));
-    }
     let left = without_statement(alloc, rest, bad.at)?;
     let bytes = left.as_slice();
     let found = bad_token(alloc, bytes)?;
     match found {
         Some(next) if next.at > bad.at => {
+            if most == 0 {
+                return hidden_note(alloc, name);
+            }
             let mut notes = further_note(alloc, name, text, bytes, next)?;
             let more = further(alloc, name, text, bytes, next, most - 1)?;
             notes.join(&more)?;
