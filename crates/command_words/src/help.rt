@@ -156,6 +156,15 @@ rules file RULES that decides on it, or RULES' policy. The packets are those of 
 KEYS, or those that PLAN takes from the capture PCAP, as in capture. One of the names may be -,
 the standard input.
 
+RULES has one to four chains, each in braces, and then the policy. A rule has up to four tests, and
+then accept, drop, return or jump CHAIN. A test is in or out, and the family, table and name of a
+set: in if the set has an element for the packet, out if it has none. A jump leads to an earlier
+chain. Every packet begins at the last chain:
+
+  chain block { in ip t bad drop }
+  chain main { jump block; in ip t ok out ip t late accept }
+  policy drop
+
 options, in any order among the names:
   --threads N    packet threads beside the control: 1 to 16, and else 1
   --keep-going   a refused change is skipped, and doesn't fail its transaction
