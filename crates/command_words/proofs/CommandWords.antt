@@ -17,7 +17,7 @@ use Rattle.command_words.specs.Words.{stdin_name, is_stdin, verb_word, IsNumber,
 use Rattle.command_words.specs.Fronts.{after_front}
 use Rattle.command_words.specs.Numbers.{number_within}
 use Rattle.command_words.specs.WordForms.{verb_of, most_names, has_all, is_whole_shape, empty_shape, stdin_once, fits, accepts, HasVerb, takes_name, takes_threads, takes_mark, with_threads, with_joined, with_argument, with_word, shape_after}
-use Rattle.command_words.proofs.FrontLaws.{front-behind, front-found}
+use Rattle.command_words.proofs.FrontLaws.{front-found}
 
 both : (a b : Bool) → (a && b) ≡ true → (a ≡ true) × (b ≡ true)
 both true b e = (refl, e)

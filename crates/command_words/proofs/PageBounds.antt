@@ -1,5 +1,5 @@
 -- The pages of help say the bounds of the reader of the words.
-use Rattle.std.proofs.Common.{◌≡◌, refl, sym, subst, Bool, true, false, ℕ, suc, List, [], ◌∷◌, length, take}
+use Rattle.std.proofs.Common.{◌≡◌, refl, sym, subst, true, false, ℕ, suc, List, [], ◌∷◌, length, take}
 use Rattle.std.specs.Prelude.{bytes_eq}
 use Rattle.std.specs.Fmt.{digits}
 use Rattle.command_words.specs.declared.shape.Verb.TheVariants as verbs

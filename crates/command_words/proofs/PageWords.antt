@@ -1,5 +1,5 @@
 -- Which words ask for a page, and that they are no command.
-use Rattle.std.proofs.Common.{◌≡◌, refl, sym, ◌∙◌, ap, subst, ℕ, Bool, false, cond, ◌||◌, List, [], ◌∷◌, ◌++◌, codes, Option, Some, None, true≢false, inl, inr}
+use Rattle.std.proofs.Common.{◌≡◌, refl, sym, ◌∙◌, ap, subst, ℕ, Bool, false, cond, ◌||◌, List, [], ◌∷◌, codes, Option, Some, None, true≢false, inl, inr}
 use Rattle.std.specs.Prelude.{bytes_eq, option_map, if◌then◌else◌}
 use Rattle.command_words.specs.declared.shape.Verb.{Verb}
 use Rattle.command_words.specs.declared.shape.Verb.TheVariants.{Run, List as Lists, Dump, Drill, Judge, Capture, Desk, Get, Compare, Explain, Stat, Sets}

@@ -1,5 +1,5 @@
 -- Worked examples of words.
-use Rattle.std.proofs.Common.{◌≡◌, refl, ℕ, false, List, [], ◌∷◌, codes, Option, Some, arith, inr}
+use Rattle.std.proofs.Common.{◌≡◌, refl, false, [], ◌∷◌, codes, Some, arith, inr}
 use Rattle.std.specs.Fmt.{digits}
 use Rattle.command_words.specs.declared.shape.Verb.TheVariants.{Run}
 use Rattle.command_words.specs.declared.page.Page.TheVariants.{Version}

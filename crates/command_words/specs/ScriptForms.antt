@@ -1,5 +1,5 @@
 -- The option by which the scripts of a command are rulesets.
-use Rattle.std.specs.Prelude.{ℕ, suc, Bool, true, false, ◌&&◌, ◌||◌, not, if◌then◌else◌, List, [], ◌∷◌, codes, bytes_eq, Option, Some, None, option_map}
+use Rattle.std.specs.Prelude.{ℕ, suc, Bool, false, ◌&&◌, ◌||◌, not, if◌then◌else◌, List, [], ◌∷◌, codes, bytes_eq, Option, Some, None, option_map}
 use Rattle.std.specs.List.{remove}
 use Rattle.command_words.specs.GetWords.{at_word}
 use Rattle.command_words.specs.Words.{Command, run, list, dump, drill, judge, capture, desk, get, compare, explain, stat, judge_capture, sets_of, threads_word}

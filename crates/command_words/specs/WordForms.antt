@@ -1,9 +1,8 @@
 -- How the words of a command are read: word by word by their shape, and then by the ids of their values.
-use Rattle.std.specs.Prelude.{◌≡◌, ◌≢◌, ℕ, ◌+◌, Bool, true, false, ◌==◌, ◌&&◌, ◌||◌, not, List, fold, nat_le, nat_lt, if◌then◌else◌, codes, bytes_eq, decimal, is_some, Option, Some, None, slice_get, length, ◌≤◌, IfSome, IsTrue, option_map, map}
+use Rattle.std.specs.Prelude.{◌≡◌, ◌≢◌, ℕ, ◌+◌, Bool, true, false, ◌==◌, ◌&&◌, ◌||◌, not, List, fold, nat_le, nat_lt, if◌then◌else◌, codes, bytes_eq, is_some, Option, Some, None, slice_get, length, ◌≤◌, IfSome, IsTrue, option_map, map}
 use Rattle.std.specs.String.{string_bytes}
 use Rattle.std.specs.Bool.{then_some}
 use Rattle.std.specs.List.{count_by}
-use Rattle.std.specs.Str.Parse.{digits_value}
 use Rattle.clap.specs.Matches.{first_value, one_text}
 use Rattle.clap.specs.declared.parser.matches.Found.{Found}
 use Rattle.command_words.specs.declared.shape.Verb.{Verb}

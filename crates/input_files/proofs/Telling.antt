@@ -1,5 +1,5 @@
 -- Notes on files that can't be had.
-use Rattle.std.proofs.Common.{◌≡◌, sym, ◌∙◌, subst, ℕ, suc, false, List, [], ◌++◌, Option, Some, Result, Ok, append-nil}
+use Rattle.std.proofs.Common.{◌≡◌, sym, ◌∙◌, subst, ℕ, suc, false, List, [], ◌++◌, Option, Some, Result, append-nil}
 use Rattle.std.specs.Prelude.{IfOk}
 use Rattle.set_model.specs.declared.memory.Memory.{Memory as NoMemory}
 use Rattle.set_model.specs.declared.script.SetDecl.{SetDecl}

@@ -5,7 +5,6 @@ use Rattle.set_model.specs.declared.script.Script.{Script}
 use Rattle.set_model.specs.declared.script.SetDecl.{SetDecl}
 use Rattle.set_script.specs.ScriptText.{IsScriptText}
 use Rattle.set_script.proofs.ScriptWhole.{script_single}
-use Rattle.ruleset_sets.specs.RulesetText.{IsRulesetText}
 use Rattle.ruleset_sets.proofs.KeptLaws.{kept_script}
 use Rattle.key_file.specs.KeysText.{IsKeysText}
 use Rattle.rule_chain.specs.RulesText.{IsRulesText}

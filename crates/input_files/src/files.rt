@@ -9,7 +9,7 @@ ghost use Rattle.rule_chain.specs.RulesText.{IsRulesText};
 ghost use Rattle.pcap_keys.specs.Captured.{captured};
 ghost use Rattle.pcap_keys.specs.Fitting.{HasValues, IsPlanned};
 ghost use Rattle.pcap_keys.specs.PlansText.{IsPlanText};
-ghost use Rattle.pip_base.specs.Picks.{AsksOnce, KeepsLeft, ReadsToEnd};
+ghost use Rattle.pip_base.specs.Picks.{KeepsLeft, ReadsToEnd};
 ghost use Rattle.pip_base.specs.Whole.{size_limit};
 ghost use Rattle.fault_notes.specs.Told.{MayTell};
 ghost use Rattle.input_files.specs.Inputs as inputs;

@@ -16,7 +16,6 @@ use Rattle.rule_chain.specs.JudgedText.{judged_text}
 use Rattle.rule_chain.proofs.FileLaws.{rules_single}
 use Rattle.set_script.proofs.ScriptWhole.{script_single}
 use Rattle.set_script.specs.ScriptText.{IsScriptText}
-use Rattle.ruleset_sets.specs.RulesetText.{IsRulesetText}
 use Rattle.ruleset_sets.proofs.KeptLaws.{kept_script}
 use Rattle.key_file.specs.KeysText.{IsKeysText}
 use Rattle.key_file.proofs.KeysLaws.{keys_single}
@@ -25,7 +24,7 @@ use Rattle.pcap_keys.proofs.OneCapture.{one_capture}
 use Rattle.token_forms.specs.declared.token.Reason.{Reason}
 use Rattle.key_answer.specs.Answer.{GivesAnswer, get_text, has_no_answer}
 use Rattle.compare_answer.specs.Compared.{GivesComparison}
-use Rattle.explain_answer.specs.Explained.{Explains, explain_text, lacks_any}
+use Rattle.explain_answer.specs.Explained.{Explains}
 use Rattle.key_answer.specs.Question.{IsKey, IsBadKey, key_text, at_moment}
 use Rattle.script_run.specs.Listings.{listing_text, tables_text}
 use Rattle.stat_answer.specs.StatText.{stat_text}
@@ -42,7 +41,7 @@ use Rattle.input_files.specs.Given.{Has, AreGiven}
 use Rattle.input_files.proofs.Turns.{given-one, given-front, given-refuses}
 use Rattle.top_call.specs.declared.fault.Fault.{Fault}
 use Rattle.top_call.specs.declared.fault.Fault.TheVariants.{Usage, File, TooManyClerks, BadKey, Memory}
-use Rattle.top_call.specs.Transcript.{IsTranscript, IsJudgement, IsJudgedCapture, AreRulesOf, IsCaptured, IsTextOf, IsWovenOf, most_sections, IsAnswerOf, IsExplanationOf, IsComparisonOf, AreSetsIn, leaves_any}
+use Rattle.top_call.specs.Transcript.{IsTranscript, IsJudgement, IsJudgedCapture, AreRulesOf, IsCaptured, IsTextOf, IsWovenOf, most_sections, IsAnswerOf, IsExplanationOf, IsComparisonOf, AreSetsIn}
 use Rattle.top_call.specs.Calls.{Call, IsQuiet}
 use Rattle.top_call.specs.Causes.{IsCause, no_command, of_file, too_many, bad_key, no_memory}
 use Rattle.top_call.specs.Lines.{done_status, form_status, file_status, file_line, status_of, fault_line}

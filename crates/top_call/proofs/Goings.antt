@@ -1,6 +1,6 @@
 -- A call ends with the result of its command: an output, a fault or a page.
 use Rattle.std.specs.Borrow.{Bor}
-use Rattle.std.proofs.Common.{◌≡◌, refl, subst, ℕ, Bool, true, List, [], map, Option, inr, inl, ◌∙◌, codes}
+use Rattle.std.proofs.Common.{◌≡◌, refl, subst, ℕ, Bool, List, [], map, Option, inr, inl, ◌∙◌, codes}
 use Rattle.std.specs.String.{string_bytes}
 use Rattle.token_forms.specs.declared.token.Reason.{Reason}
 use Rattle.command_words.specs.declared.page.Page.{Page}

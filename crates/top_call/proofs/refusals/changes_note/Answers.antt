@@ -1,4 +1,4 @@
-use Rattle.std.proofs.Common.{◌≡◌, sym, ◌∙◌, ap, subst, ℕ, List, length, map, take}
+use Rattle.std.proofs.Common.{◌≡◌, ◌∙◌, ap, subst, ℕ, List, length, map, take}
 use Rattle.fault_notes.specs.declared.refused.RefusedChange.{RefusedChange}
 use Rattle.fault_notes.specs.Refusals.{IsRefusalsNote}
 use Rattle.script_laws.specs.declared.refusals.Refusal.{Refusal}
