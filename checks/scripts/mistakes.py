@@ -534,10 +534,15 @@ LIST = "usage: pipapo list SCRIPT [--keep-going] [--sets]"
 JUDGE = "usage: pipapo judge SCRIPT RULES KEYS [--threads N] [--keep-going] [--sets]"
 CAPTURE = "usage: pipapo capture SCRIPT PLAN PCAP [--threads N] [--keep-going] [--sets]"
 DRILL = "usage: pipapo drill SEED COUNT [--threads N]"
+COMPARE = "usage: pipapo compare SCRIPT1 SCRIPT2 [--keep-going] [--sets]"
+STAT = "usage: pipapo stat SCRIPT [--keep-going] [--sets]"
 GET = "usage: pipapo get [--at MOMENT] [--keep-going] [--sets] SCRIPT [FAMILY] TABLE SET VALUE . VALUE .."
 COMMANDS = "the commands are get, explain, compare, stat, run, judge, capture, desk, drill, list, dump, sets and help"
 ALONE = "write it alone, or --help alone after a command"
 FROM_NFT = "write the kernel's sets into a file, and list that: nft list ruleset > rules.nft; pipapo list --sets rules.nft"
+FROM_ELEMENT = "a file's name comes before the set: nft list ruleset > rules.nft; pipapo get --sets rules.nft [FAMILY] TABLE SET VALUE"
+HELP_PAGE = "write 'pipapo help' alone, or a command after it, as: pipapo help run"
+NO_OPTION = "isn't an option: a file's name comes after a command"
 STATEMENT = "write the statement into the script's file, and then: pipapo list FILE"
 THREADS = "write a number from 1 to 16"
 MOMENTS = "write a number from 0 to 1000000000000000"
@@ -553,20 +558,45 @@ WORD_MISTAKES = [
     # words that nft 1.0.6 takes in its own way
     ("list set ip filter allowed", "'list set' is a command of nft: here a script's file comes after 'list'", FROM_NFT),
     ("list table ip filter", "'list table' is a command of nft: here a script's file comes after 'list'", FROM_NFT),
+    ("sets table ip t", "'table' is a word of nft: here a file's name comes after 'sets'", "pipe the kernel's sets into it: nft list ruleset | pipapo sets -"),
+    ("stat set ip t p", "'set' is a word of nft: here a file's name comes after 'stat'", "pipe the kernel's sets into it: nft list ruleset | pipapo stat --sets -"),
     ("nft list ruleset", "'nft' isn't a command: pipapo reads files, and not the kernel's sets", FROM_NFT),
     ("nft -f a.nft", "'-f' isn't an option: a file's name comes after a command", "to run a script and print its sets, write: pipapo list a.nft"),
     ("-f a.nft", "'-f' isn't an option: a file's name comes after a command", "to run a script and print its sets, write: pipapo list a.nft"),
     ("-c -f a.nft", "'-f' isn't an option: a file's name comes after a command", "to run a script and print its sets, write: pipapo list a.nft"),
     ("--file", "'--file' isn't an option: a file's name comes after a command", "to run a script and print its sets, write: pipapo list FILE"),
+    ("--file=a.nft", f"'--file' {NO_OPTION}", "to run a script and print its sets, write: pipapo list a.nft"),
+    ("--file=a.nft run", f"'--file' {NO_OPTION}", "write files after the command, in their order: pipapo run a.nft .."),
+    ("-f a.nft run b.keys", f"'-f' {NO_OPTION}", "write files after the command, in their order: pipapo run a.nft .."),
+    # other programs
+    ("ipset list", "'ipset' isn't a command: pipapo reads files, and not the kernel's sets", FROM_NFT),
+    ("iptables -L INPUT", "'iptables' isn't a command: pipapo reads files, and not the kernel's sets", FROM_NFT),
+    ("diff a.nft b.nft", "'diff' isn't a command", COMPARE),
+    ("test a.nft t p 80", "'test' isn't a command", GET),
+    ("show a.nft", "'show' isn't a command", LIST),
+    ("check a.nft", "'check' isn't a command", LIST),
+    ("status a.nft", "'status' isn't a command", STAT),
+    ("--list a.nft", "'--list' isn't a command", "did you mean 'list'?"),
+    ("pipapo list a.nft", "'pipapo' is given twice", "write the command after the first one, as: pipapo help"),
+    # a key without its command, and after another one
+    ("ip t p 80", "a command and a script are missing before the set", "to look one key up, write: pipapo get SCRIPT ip t p 80"),
+    ("run a.nft ip t p 80", "'t' is an extra word", "to look one key up, write: pipapo get a.nft ip t p 80"),
+    ("list a.nft inet t p 80 . 443", "'inet' is an extra word", "to look one key up, write: pipapo get a.nft inet t p 80 . 443"),
     ("add element ip t p { 80 }", "'add' begins a statement of a script, and isn't a command", STATEMENT),
     ("flush ruleset", "'flush' begins a statement of a script, and isn't a command", STATEMENT),
     ("help rnu", "'rnu' isn't a command", "did you mean 'run'?"),
-    ("help help", "'help' has no page of its own", "write 'pipapo help' alone, or a command after it, as: pipapo help run"),
-    ("help --version", "'--version' has no page of its own", "write 'pipapo help' alone, or a command after it, as: pipapo help run"),
+    ("help help", "'help' has no page of its own", HELP_PAGE),
+    ("help --version", "'--version' has no page of its own", HELP_PAGE),
     ("help run list", "'list' is an extra word", "write one command after 'help'"),
     ("--version run", "'--version' can't come with these words", ALONE),
     ("--version --sets", "'--version' can't come with these words", ALONE),
     ("run a b --help", "'--help' can't come with these words", ALONE),
+    ("--help run", "'--help' can't come with these words", "for the page of this command, write: pipapo help run"),
+    ("-h list", "'-h' can't come with these words", "for the page of this command, write: pipapo help list"),
+    ("-t 4 run a b", "'-t' comes before the command", "write options after the command: pipapo run .. --threads 4"),
+    ("-t=4 run a b", "'-t=4' comes before the command", "write options after the command: pipapo run .. --threads 4"),
+    ("-k list a", "'-k' comes before the command", "write options after the command: pipapo list .. --keep-going"),
+    ("-a 5 get a t s 1", "'-a' comes before the command", "write options after the command: pipapo get --at 5 .."),
     ("--threads 4 run a b", "'--threads' comes before the command", "write options after the command: pipapo run .. --threads 4"),
     ("--sets run a b", "'--sets' comes before the command", "write options after the command: pipapo run .. --sets"),
     ("--threads=4 drill 1 2", "'--threads=4' comes before the command", "write options after the command: pipapo drill .. --threads=4"),

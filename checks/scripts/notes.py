@@ -10,7 +10,7 @@ import subprocess
 import sys
 import tempfile
 
-from mistakes import GET_MISTAKES, KEY_MISTAKES, MISTAKES, NO_PACKET, PLAN_MISTAKES, RULES_MISTAKES, SETS, SEVERAL, WORD_MISTAKES, get_note, key_note, note, rules_note, several_notes, word_note
+from mistakes import FROM_ELEMENT, FROM_NFT, GET_MISTAKES, HELP_PAGE, KEY_MISTAKES, MISTAKES, NO_PACKET, PLAN_MISTAKES, RULES_MISTAKES, SETS, SEVERAL, WORD_MISTAKES, get_note, key_note, note, rules_note, several_notes, word_note
 
 LARGE = 67_108_865
 
@@ -159,6 +159,11 @@ def cases(shown):
         yield [*capture, name], f"{name}: byte {byte}: {said}\n", f"pipapo: capture byte {byte}: {why}", 10
     # files that aren't read
     yield [*run, "nowhere"], "nowhere: No such file or directory\n", "pipapo: read fault: nowhere", 5
+    for name in ["ruleset", "tables", "chains", "sets"]:
+        yield ["list", name], f"{name}: No such file or directory\nhelp: {FROM_NFT}\n", f"pipapo: read fault: {name}", 5
+    yield ["sets", "ruleset"], f"ruleset: No such file or directory\nhelp: {FROM_NFT}\n", "pipapo: read fault: ruleset", 5
+    yield ["get", "element", "ip", "t", "p", "{", "80", "}"], f"element: No such file or directory\nhelp: {FROM_ELEMENT}\n", "pipapo: read fault: element", 5
+    yield ["list", "help"], f"help: No such file or directory\nhelp: {HELP_PAGE}\n", "pipapo: read fault: help", 5
     yield [*run, "folder"], "folder: Is a directory\n", "pipapo: read fault: folder", 5
     yield [*run, "/proc/self/mem"], "/proc/self/mem: it can't be read\n", "pipapo: read fault: /proc/self/mem", 5
     if os.geteuid() != 0:

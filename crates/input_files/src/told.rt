@@ -3,14 +3,13 @@ ghost use Rattle.fault_notes.specs.Shown.{Begins, byte_text, name_text};
 ghost use Rattle.fault_notes.specs.Told.{SaysTold};
 ghost use Rattle.input_files.specs.Noted.{IsPlacedBy};
 
-use fault_notes::{
-    TextKind, bad_text_note, capture_note, read_fault_note, tell_note, too_large_note,
-};
+use fault_notes::{TextKind, bad_text_note, capture_note, tell_note, too_large_note};
 use pcap_keys::CaptureReason;
 use pip_base::{FaultKind, Notes};
 use set_model::{Memory, Schema};
 use std::alloc::Global;
 use token_forms::BadToken;
+use word_notes::unread_note;
 
 /// Prints where a text beside a script isn't in its grammar under the script's sets, by its bad token, if that was found.
 pub fn tell_bad<N: Notes>(
@@ -48,7 +47,7 @@ pub fn tell_capture<N: Notes>(
 pub fn tell_read_fault<N: Notes>(alloc: Global, notes: &mut N, name: &str, kind: FaultKind) -> bool
     ensures { SaysTold (Begins (name_text name.now)) (N.told notes.old) (N.told notes.new) result }
 {
-    tell_note(notes, read_fault_note(alloc, name, kind))
+    tell_note(notes, unread_note(alloc, name, kind))
 }
 
 /// Prints that a file has too many bytes.

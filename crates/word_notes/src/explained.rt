@@ -17,11 +17,32 @@ const COMMANDS_ARE: &[u8] =
     b"the commands are get, explain, compare, stat, run, judge, capture, desk, drill, list, dump, sets and help";
 
 /// How the kernel's sets come into a file, and what lists them.
-const FROM_NFT: &[u8] =
+pub(crate) const FROM_NFT: &[u8] =
     b"write the kernel's sets into a file, and list that: nft list ruleset > rules.nft; pipapo list --sets rules.nft";
 
 /// The words with a dash that may come first.
 const FIRST_OPTIONS: [&[u8]; 4] = [b"--help", b"-h", b"--version", b"-V"];
+
+/// The command's word that a word is, but for its case or dashes before it.
+fn same_command(word: &str) -> Option<&'static [u8]> {
+    let bytes = word.trim_start_matches('-').as_bytes();
+    COMMANDS
+        .iter()
+        .find(|command| command.eq_ignore_ascii_case(bytes))
+        .copied()
+}
+
+/// Says that a word isn't a command, and which one was probably meant.
+fn ask_command(said: &mut Explained, command: &[u8]) -> Result<(), Memory> {
+    said.tell(
+        &[Piece::Word(b" isn't a command")],
+        &[
+            Piece::Word(b"did you mean '"),
+            Piece::Word(command),
+            Piece::Word(b"'?"),
+        ],
+    )
+}
 
 /// Explains a word at the place of a command.
 fn explain_command(said: &mut Explained, word: &str) -> Result<(), Memory> {
@@ -37,32 +58,96 @@ fn explain_command(said: &mut Explained, word: &str) -> Result<(), Memory> {
     )
 }
 
+/// Explains another program's word for what a command does.
+fn explain_synonym(said: &mut Explained, word: &str, verb: Verb) -> Result<(), Memory> {
+    said.wrong.quoted(word.as_bytes())?;
+    said.tell(
+        &[Piece::Word(b" isn't a command")],
+        &[Piece::Word(form_of(verb))],
+    )
+}
+
 /// Explains a first word that begins with a dash, and isn't an option.
 fn explain_first_option(said: &mut Explained, word: &str) -> Result<(), Memory> {
     said.wrong.quoted(word.as_bytes())?;
-    said.suggest(
-        b" isn't a command",
-        word.as_bytes(),
-        &FIRST_OPTIONS,
-        COMMANDS_ARE,
-    )
+    match same_command(word) {
+        Some(command) => ask_command(said, command),
+        None => said.suggest(
+            b" isn't a command",
+            word.as_bytes(),
+            &FIRST_OPTIONS,
+            COMMANDS_ARE,
+        ),
+    }
 }
 
 /// Explains an option by which another program takes a script.
 fn explain_file_option(said: &mut Explained, option: FileOption<'_>) -> Result<(), Memory> {
+    let file = option.file.unwrap_or("FILE").as_bytes();
     said.wrong.quoted(option.option.as_bytes())?;
-    said.tell(
-        &[Piece::Word(b" isn't an option: a file's name comes after a command")],
-        &[
-            Piece::Word(b"to run a script and print its sets, write: pipapo list "),
-            Piece::Word(option.file.unwrap_or("FILE").as_bytes()),
-        ],
-    )
+    said.wrong
+        .say(b" isn't an option: a file's name comes after a command")?;
+    match option.command {
+        Some(command) => said.tell(
+            &[],
+            &[
+                Piece::Word(b"write files after the command, in their order: pipapo "),
+                Piece::Word(command.as_bytes()),
+                Piece::Word(b" "),
+                Piece::Word(file),
+                Piece::Word(b" .."),
+            ],
+        ),
+        None => said.tell(
+            &[],
+            &[
+                Piece::Word(b"to run a script and print its sets, write: pipapo list "),
+                Piece::Word(file),
+            ],
+        ),
+    }
+}
+
+/// Adds words to what to do, each after a blank.
+fn add_words(said: &mut Explained, words: &[String]) -> Result<(), Memory> {
+    for word in words {
+        match add_word(said, word.as_str()) {
+            Ok(()) => {}
+            Err(_) => return Err(Memory),
+        }
+    }
+    Ok(())
+}
+
+/// Adds a blank and a word to what to do.
+fn add_word(said: &mut Explained, word: &str) -> Result<(), Memory> {
+    said.help.say(b" ")?;
+    said.help.say(word.as_bytes())
+}
+
+/// Explains words that are those of a `get` after another command.
+fn explain_key_words(said: &mut Explained, extra: &str, words: &[String]) -> Result<(), Memory> {
+    explain_extra(
+        said,
+        extra,
+        b" is an extra word",
+        b"to look one key up, write: pipapo get",
+    )?;
+    add_words(said, words)
+}
+
+/// Explains words that begin with a set's family.
+fn explain_set_first(said: &mut Explained, words: &[String]) -> Result<(), Memory> {
+    said.say(
+        b"a command and a script are missing before the set",
+        b"to look one key up, write: pipapo get SCRIPT",
+    )?;
+    add_words(said, words)
 }
 
 /// Adds an option with its value to what to do.
 fn add_option(said: &mut Explained, option: EarlyOption<'_>) -> Result<(), Memory> {
-    said.help.say(option.word.as_bytes())?;
+    said.help.say(option.option)?;
     match option.value {
         Some(value) => {
             said.help.say(b" ")?;
@@ -97,15 +182,34 @@ fn explain_early(said: &mut Explained, option: EarlyOption<'_>) -> Result<(), Me
     }
 }
 
-/// Explains a word of nft after `list`.
-fn explain_nft_list(said: &mut Explained, noun: &str) -> Result<(), Memory> {
+/// Explains a word of nft after a command's word.
+fn explain_nft_noun(said: &mut Explained, command: &str, noun: &str) -> Result<(), Memory> {
+    if command == "list" {
+        return said.tell(
+            &[
+                Piece::Word(b"'list "),
+                Piece::Word(noun.as_bytes()),
+                Piece::Word(b"' is a command of nft: here a script's file comes after 'list'"),
+            ],
+            &[Piece::Word(FROM_NFT)],
+        );
+    }
+    said.wrong.quoted(noun.as_bytes())?;
     said.tell(
         &[
-            Piece::Word(b"'list "),
-            Piece::Word(noun.as_bytes()),
-            Piece::Word(b"' is a command of nft: here a script's file comes after 'list'"),
+            Piece::Word(b" is a word of nft: here a file's name comes after '"),
+            Piece::Word(command.as_bytes()),
+            Piece::Word(b"'"),
         ],
-        &[Piece::Word(FROM_NFT)],
+        &[
+            Piece::Word(b"pipe the kernel's sets into it: nft list ruleset | pipapo "),
+            Piece::Word(command.as_bytes()),
+            Piece::Word(if command == "sets" {
+                b" -"
+            } else {
+                b" --sets -"
+            }),
+        ],
     )
 }
 
@@ -237,10 +341,28 @@ pub(crate) fn explain(said: &mut Explained, fault: WordFault<'_>) -> Result<(), 
             b" begins a statement of a script, and isn't a command",
             b"write the statement into the script's file, and then: pipapo list FILE",
         ),
-        WordFault::Nft => said.say(
-            b"'nft' isn't a command: pipapo reads files, and not the kernel's sets",
+        WordFault::Program(word) => explain_extra(
+            said,
+            word,
+            b" isn't a command: pipapo reads files, and not the kernel's sets",
             FROM_NFT,
         ),
+        WordFault::Synonym(word, verb) => explain_synonym(said, word, verb),
+        WordFault::SetFirst(words) => explain_set_first(said, words),
+        WordFault::Twofold => said.say(
+            b"'pipapo' is given twice",
+            b"write the command after the first one, as: pipapo help",
+        ),
+        WordFault::HelpFirst(word, command) => {
+            said.wrong.quoted(word.as_bytes())?;
+            said.tell(
+                &[Piece::Word(b" can't come with these words")],
+                &[
+                    Piece::Word(b"for the page of this command, write: pipapo help "),
+                    Piece::Word(command.as_bytes()),
+                ],
+            )
+        }
         WordFault::FileFirst(option) => explain_file_option(said, option),
         WordFault::OptionFirst(word) => explain_first_option(said, word),
         WordFault::Early(option) => explain_early(said, option),
@@ -296,7 +418,8 @@ pub(crate) fn explain(said: &mut Explained, fault: WordFault<'_>) -> Result<(), 
         WordFault::TooMany(verb, word) => {
             explain_extra(said, word, b" is an extra word", form_of(verb))
         }
-        WordFault::NftList(noun) => explain_nft_list(said, noun),
+        WordFault::NftNoun(command, noun) => explain_nft_noun(said, command, noun),
+        WordFault::KeyWords(extra, words) => explain_key_words(said, extra, words),
         WordFault::Missing(verb, names) => explain_missing(said, verb, names),
         WordFault::Other => said.say(
             b"these words aren't a command",

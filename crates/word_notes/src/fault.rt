@@ -1,7 +1,10 @@
 //! Finds the first word that doesn't fit, or what is missing.
-use crate::form::{OPTIONS, takes};
-use crate::habits::{EarlyOption, FileOption, command_among, file_option, is_noun, is_statement};
-use crate::seen::{Seen, asks_for_page, counted_by, split};
+use crate::form::{OPTIONS, has_value, long_option, takes};
+use crate::habits::{
+    EarlyOption, FileOption, command_among, file_option, is_family, is_noun, is_program,
+    is_statement, synonym,
+};
+use crate::seen::{Seen, asks_for_page, split};
 use command_words::{LAST_MOMENT, MOST_ELEMENTS, MOST_THREADS, Verb, number_of};
 
 /// What a number among the words is.
@@ -44,8 +47,16 @@ pub(crate) enum WordFault<'a> {
     NotACommand(&'a str),
     /// This word at the place of a command begins a statement of a script.
     Statement(&'a str),
-    /// The word at the place of a command is `nft`.
-    Nft,
+    /// This word at the place of a command is a program that has the kernel's sets.
+    Program(&'a str),
+    /// This word at the place of a command is another program's, and this command does the same.
+    Synonym(&'a str, Verb),
+    /// These words at the place of a command are a set's names, and maybe a key.
+    SetFirst(&'a [String]),
+    /// The word at the place of a command is this program's name.
+    Twofold,
+    /// This word asks for help, and a command comes after it.
+    HelpFirst(&'a str, &'a str),
     /// A script's file is given by an option in place of a command.
     FileFirst(FileOption<'a>),
     /// The first word begins with a dash, and isn't an option.
@@ -76,8 +87,10 @@ pub(crate) enum WordFault<'a> {
     StdinTwice,
     /// A word comes after the last name.
     TooMany(Verb, &'a str),
-    /// This word after `list` is one of nft's, and further words come after it.
-    NftList(&'a str),
+    /// This word after the word of a command is one of nft's, and further words come after it.
+    NftNoun(&'a str, &'a str),
+    /// One word is too many, and these words after the word of a command are those of a `get`.
+    KeyWords(&'a str, &'a [String]),
     /// The command has only so many of its names.
     Missing(Verb, usize),
     /// No other row applies.
@@ -100,15 +113,34 @@ fn fault_of_help(rest: &[String]) -> WordFault<'_> {
 
 /// The value of an option, and the words after it. The value may be in the next word.
 fn value_before<'a>(
-    option: &str,
+    option: &[u8],
     value: Option<&'a str>,
     rest: &'a [String],
 ) -> (Option<&'a str>, &'a [String]) {
     match rest {
-        [next, behind @ ..] if value.is_none() && counted_by(option).is_some() => {
+        [next, behind @ ..] if value.is_none() && has_value(option) => {
             (Some(next.as_str()), behind)
         }
         _ => (None, rest),
+    }
+}
+
+/// What is wrong with words whose first one is an option of a command.
+fn fault_of_early<'a>(
+    first: &'a str,
+    option: &'a str,
+    joined: Option<&'a str>,
+    rest: &'a [String],
+) -> WordFault<'a> {
+    let (value, behind) = value_before(option.as_bytes(), joined, rest);
+    match command_among(behind) {
+        Some((verb, _)) if !takes(verb, option.as_bytes()) => WordFault::NotAnOption(verb, option),
+        command => WordFault::Early(EarlyOption {
+            word: first,
+            option: first.as_bytes(),
+            value,
+            command,
+        }),
     }
 }
 
@@ -116,32 +148,54 @@ fn value_before<'a>(
 fn fault_of_option<'a>(first: &'a str, rest: &'a [String]) -> WordFault<'a> {
     let (option, joined) = split(first);
     let is_option = OPTIONS.iter().any(|other| *other == option.as_bytes());
-    if !is_option {
+    if is_option {
+        return fault_of_early(first, option, joined, rest);
+    }
+    let Some((verb, command)) = command_among(rest) else {
         return WordFault::OptionFirst(first);
-    }
-    let (value, behind) = value_before(option, joined, rest);
-    match command_among(behind) {
-        Some((verb, _)) if !takes(verb, option.as_bytes()) => WordFault::NotAnOption(verb, option),
-        command => WordFault::Early(EarlyOption {
-            word: first,
-            value,
-            command,
-        }),
-    }
+    };
+    let Some(long) = long_option(verb, option.as_bytes()) else {
+        return WordFault::OptionFirst(first);
+    };
+    WordFault::Early(EarlyOption {
+        word: first,
+        option: long,
+        value: joined.or(value_before(long, joined, rest).0),
+        command: Some((verb, command)),
+    })
 }
 
 /// What is wrong with words whose first one is no command and asks for no page.
-fn fault_at_command<'a>(first: &'a str, rest: &'a [String]) -> WordFault<'a> {
+fn fault_at_command<'a>(words: &'a [String], first: &'a str, rest: &'a [String]) -> WordFault<'a> {
     if is_statement(first) {
         return WordFault::Statement(first);
     }
-    if first == "nft" {
-        return WordFault::Nft;
+    if is_program(first) {
+        return WordFault::Program(first);
+    }
+    if is_family(first) {
+        return WordFault::SetFirst(words);
+    }
+    if first == "pipapo" {
+        return WordFault::Twofold;
     }
     if first != "-" && first.starts_with('-') {
         return fault_of_option(first, rest);
     }
-    WordFault::NotACommand(first)
+    match synonym(first) {
+        Some(verb) => WordFault::Synonym(first, verb),
+        None => WordFault::NotACommand(first),
+    }
+}
+
+/// What is wrong with words whose first one asks for a page, and isn't alone.
+fn fault_of_page<'a>(first: &'a str, rest: &'a [String]) -> WordFault<'a> {
+    match (first, rest) {
+        ("--help" | "-h", [word]) if Verb::of_word(word.as_str()).is_some() => {
+            WordFault::HelpFirst(first, word.as_str())
+        }
+        _ => WordFault::NotAlone(first),
+    }
 }
 
 /// What is wrong with words whose first one is no command.
@@ -150,11 +204,11 @@ fn fault_of_first<'a>(words: &'a [String], first: &'a str, rest: &'a [String]) -
         return fault_of_help(rest);
     }
     if asks_for_page(first) {
-        return WordFault::NotAlone(first);
+        return fault_of_page(first, rest);
     }
     match file_option(words) {
         Some(option) if first == "nft" || first.starts_with('-') => WordFault::FileFirst(option),
-        _ => fault_at_command(first, rest),
+        _ => fault_at_command(words, first, rest),
     }
 }
 
@@ -171,10 +225,13 @@ fn fault_among(verb: Verb, rest: &[String]) -> WordFault<'_> {
 }
 
 /// What is wrong with the words after a command's word.
-fn fault_behind(verb: Verb, rest: &[String]) -> WordFault<'_> {
+fn fault_behind<'a>(verb: Verb, command: &'a str, rest: &'a [String]) -> WordFault<'a> {
     match (fault_among(verb, rest), rest) {
-        (WordFault::TooMany(Verb::List, _), [noun, ..]) if is_noun(noun.as_str()) => {
-            WordFault::NftList(noun.as_str())
+        (WordFault::TooMany(_, _), [noun, ..]) if is_noun(noun.as_str()) => {
+            WordFault::NftNoun(command, noun.as_str())
+        }
+        (WordFault::TooMany(_, word), [_, family, ..]) if is_family(family.as_str()) => {
+            WordFault::KeyWords(word, rest)
         }
         (fault, _) => fault,
     }
@@ -185,7 +242,7 @@ pub(crate) fn fault_of(words: &[String]) -> WordFault<'_> {
     match words.split_first() {
         None => WordFault::NoWords,
         Some((first, rest)) => match Verb::of_word(first.as_str()) {
-            Some(verb) => fault_behind(verb, rest),
+            Some(verb) => fault_behind(verb, first.as_str(), rest),
             None => fault_of_first(words, first.as_str(), rest),
         },
     }

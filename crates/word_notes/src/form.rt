@@ -58,6 +58,11 @@ pub(crate) fn may_name(verb: Verb, place: usize) -> bool {
 /// The options of all commands.
 pub(crate) const OPTIONS: [&[u8]; 4] = [b"--threads", b"--keep-going", b"--sets", b"--at"];
 
+/// Whether an option takes a value.
+pub(crate) fn has_value(option: &[u8]) -> bool {
+    matches!(option, b"--threads" | b"--at")
+}
+
 /// The option of a command that a short option begins, as `-t` begins `--threads`. It is none if several begin so.
 pub(crate) fn long_option(verb: Verb, short: &[u8]) -> Option<&'static [u8]> {
     let mut found = None;

@@ -9,7 +9,8 @@
 //! The words are read once, from the first to the last ([`words_note`]). What a command takes is read in
 //! the first line of its page of help, so no form is written down a second time. A misspelt command or
 //! option is compared with those that there are: `lits` gives `did you mean 'list'?`. Words that nft or another
-//! program takes get what does the same here: `-f x.nft` gives `pipapo list x.nft`.
+//! program takes get what does the same here: `-f x.nft` gives `pipapo list x.nft`. So does a file that is missing, if its
+//! name is a word of nft ([`unread_note`]): `list ruleset` gives `nft list ruleset > rules.nft`.
 //!
 //! It is proved that a note begins with `pipapo: `. Tests check the words after it
 //! (`checks/scripts/mistakes.py`).
@@ -21,6 +22,7 @@ mod explained;
 mod fault;
 mod form;
 mod habits;
+mod missing;
 mod seen;
 
 ghost use Rattle.std.specs.Prelude.{codes, IfOk};
@@ -29,6 +31,7 @@ ghost use Rattle.fault_notes.specs.Shown.{Begins, name_text};
 use crate::explained::explain;
 use crate::fault::fault_of;
 use fault_notes::{Explained, Note, explained_note};
+pub use missing::unread_note;
 use set_model::Memory;
 use std::alloc::Global;
 
