@@ -1,6 +1,10 @@
 //! Worked examples of `sets`.
 use crate::calls::{File, NOTHING, Wanted, check_failing};
+use std::alloc::Global;
+use std::process::Abort;
+use std::sync::Wait;
 use std::test::Fail;
+use std::thread::Threads;
 
 /// A ruleset under `r.nft`, the sets that are written, the note on the rest if it matters, and the status.
 struct Kept {
@@ -211,6 +215,108 @@ const NO_COMMANDS: [&[&str]; 3] = [
     &["--version", "--sets"],
 ];
 
+/// A ruleset with a set that is left out and one that isn't, and rulesets with each of them alone.
+const TWO_SETS: &str = "table ip t {\n\
+    \tset m {\n\
+    \t\ttype ipv4_addr\n\
+    \t\tflags interval\n\
+    \t\tauto-merge\n\
+    \t}\n\
+    \tset p {\n\
+    \t\ttype inet_service\n\
+    \t\telements = { 80 }\n\
+    \t}\n\
+    }\n";
+
+const LEFT_OUT_ALONE: &str = "table ip t {\n\
+    \tset m {\n\
+    \t\ttype ipv4_addr\n\
+    \t\tflags interval\n\
+    \t\tauto-merge\n\
+    \t}\n\
+    }\n";
+
+const KEPT_ALONE: &str = "table ip t {\n\
+    \tset p {\n\
+    \t\ttype inet_service\n\
+    \t\telements = { 80 }\n\
+    \t}\n\
+    }\n";
+
+/// A set that was left out wasn't compared, so not all sets are the same. Other commands don't count it.
+const LEFT_OUT: [Read; 6] = [
+    Read {
+        words: &["compare", "--sets", "m.nft", "n.nft"],
+        output: "",
+        notes: Some(
+            "m.nft:2:2: 'set m' is left out: 'auto-merge' isn't read here\n\
+              n.nft:2:2: 'set m' is left out: 'auto-merge' isn't read here\n",
+        ),
+        status: 1,
+    },
+    Read {
+        words: &["compare", "--sets", "two.nft", "p.nft"],
+        output: "same ip t p\n",
+        notes: Some("two.nft:2:2: 'set m' is left out: 'auto-merge' isn't read here\n"),
+        status: 1,
+    },
+    Read {
+        words: &["compare", "p.nft", "two.nft", "--sets"],
+        output: "same ip t p\n",
+        notes: Some("two.nft:2:2: 'set m' is left out: 'auto-merge' isn't read here\n"),
+        status: 1,
+    },
+    Read {
+        words: &["compare", "--sets", "p.nft", "p.nft"],
+        output: "same ip t p\n",
+        notes: Some(""),
+        status: 0,
+    },
+    // a second script that is none
+    Read {
+        words: &["compare", "--sets", "m.nft", "keys"],
+        output: "pipapo: second script line 1: statement\n",
+        notes: None,
+        status: 3,
+    },
+    Read {
+        words: &["get", "--sets", "two.nft", "t", "p", "80"],
+        output: "element 0: 80 (line 9)\n",
+        notes: Some("two.nft:2:2: 'set m' is left out: 'auto-merge' isn't read here\n"),
+        status: 0,
+    },
+];
+
+/// Carries out words over files, and looks at what is written.
+fn check_reads<R: Threads + Wait + Abort + Sync>(
+    rt: &R,
+    alloc: Global,
+    files: &[File<'_>],
+    reads: &[Read],
+) -> Result<(), Fail> {
+    for read in reads {
+        let output = read.output.as_bytes();
+        let wanted = match read.notes {
+            Some(notes) => Wanted::noted(notes.as_bytes(), output, read.status),
+            None => Wanted::output(output, read.status),
+        };
+        check_failing(rt, alloc, read.words, files, NOTHING, wanted)?;
+    }
+    Ok(())
+}
+
+#[test]
+fn sets_that_are_left_out(rt: HostRuntime) -> Result<(), Fail> {
+    let files: [File<'_>; 5] = [
+        ("m.nft", LEFT_OUT_ALONE.as_bytes()),
+        ("n.nft", LEFT_OUT_ALONE.as_bytes()),
+        ("two.nft", TWO_SETS.as_bytes()),
+        ("p.nft", KEPT_ALONE.as_bytes()),
+        ("keys", b"ip t p 80\n"),
+    ];
+    check_reads(&rt, rt.alloc(), &files, &LEFT_OUT)
+}
+
 #[test]
 fn commands_on_rulesets(rt: HostRuntime) -> Result<(), Fail> {
     let files: [File<'_>; 3] = [
@@ -218,14 +324,7 @@ fn commands_on_rulesets(rt: HostRuntime) -> Result<(), Fail> {
         ("o.nft", OTHER.as_bytes()),
         ("keys", b"inet filter open 22\n"),
     ];
-    for read in &READS {
-        let output = read.output.as_bytes();
-        let wanted = match read.notes {
-            Some(notes) => Wanted::noted(notes.as_bytes(), output, read.status),
-            None => Wanted::output(output, read.status),
-        };
-        check_failing(&rt, rt.alloc(), read.words, &files, NOTHING, wanted)?;
-    }
+    check_reads(&rt, rt.alloc(), &files, &READS)?;
     for words in &NO_COMMANDS {
         check_failing(&rt, rt.alloc(), words, &files, NOTHING, Wanted::status(2))?;
     }

@@ -55,7 +55,7 @@ A value may also follow its option in one word, as --threads=4.
 statuses:
   0   the whole output was written, and no change was refused
   1   the whole output was written, and a change was refused, or a get or an explain found no
-      element, or a compare found a difference, or sets left a set out
+      element, or a compare found a difference, or a compare or sets left a set out
   2   the words are no command
   3   the script isn't in its grammar, or the sets of a ruleset aren't
   4   the key file isn't in its grammar
@@ -292,16 +292,15 @@ standard input.
 An element that expires after its script's last moment still counts. A change of a transaction
 that fails doesn't: its script's sets are those of the generation before.
 
-Sets that --sets leaves out aren't compared, and don't change the status. The standard error names
-them.
+A set that --sets leaves out isn't compared, so the status is 1. The standard error names it.
 
 options, before or after the names:
   --keep-going   a refused change is skipped, and doesn't fail its transaction
   --sets         each script is a ruleset: its sets are read, and the rest is named
 
-statuses: 0 all sets are the same and no change was refused, 1 sets differ or a change was refused,
-3 a script isn't in its grammar, 5 a script can't be read, 6 the standard output failed, 7 out of
-memory, 8 a script is too large
+statuses: 0 all sets are the same and no change was refused, 1 sets differ, a set was left out or a
+change was refused, 3 a script isn't in its grammar, 5 a script can't be read, 6 the standard output
+failed, 7 out of memory, 8 a script is too large
 ";
 
 /// The page of `stat`.

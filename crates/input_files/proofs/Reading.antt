@@ -1,5 +1,5 @@
 -- Files that are read one after the other.
-use Rattle.std.proofs.Common.{arith, ◌≡◌, ◌≢◌, ◌≤◌, ◌+◌, refl, sym, ◌∙◌, ap, subst, ℕ, List, [], ◌∷◌, ◌++◌, length, Option, Some, Ok, Bool, append-nil, append_assoc}
+use Rattle.std.proofs.Common.{arith, ◌≡◌, ◌≢◌, ◌≤◌, ◌+◌, refl, sym, ◌∙◌, ap, subst, ℕ, List, [], ◌∷◌, ◌++◌, length, Option, Some, Ok, Bool, true, false, ◌||◌, append-nil, append_assoc}
 use Rattle.std.proofs.lemmas.List.{length-append}
 use Rattle.std.specs.Prelude.{All}
 use Rattle.std.specs.List.{AllPairs}
@@ -36,7 +36,8 @@ use Rattle.input_files.specs.Inputs.{Input, script, second, rules_of_nft, keys, 
 use Rattle.fault_notes.specs.Told.{MayTell}
 use Rattle.input_files.specs.Noted.{IsNoteOn, StopsTelling}
 use Rattle.input_files.specs.Reads.{AreOf, AreReadWhole, AreRead, HasRead}
-use Rattle.input_files.specs.Seen.{seen, AreSkips, AreAllSkips, AddsSkips}
+use Rattle.input_files.specs.Seen.{seen, AreSkips, AreAllSkips, AddsSkips, KeepsAll}
+use Rattle.input_files.specs.declared.seen.Skips.{Skips}
 use Rattle.input_files.specs.Works.{AreSetsOf}
 use Rattle.fault_notes.proofs.ToldLaws.{tells-as}
 use Rattle.input_files.proofs.Telling.{same-note}
@@ -153,19 +154,37 @@ are-more : (told : List ℕ → Option (List ℕ)) (sets : List SetDecl) (files 
 are-more told sets [] i h r = (r, tt)
 are-more told sets (f ∷ files) i h r = (h.0, are-more told sets files i h.1 r)
 
--- What holds of a file's lines by the bytes that the shelf knew before.
-same-skips : (told other : List ℕ → Option (List ℕ)) (rulesets : List (List ℕ)) (name lines : List ℕ) → ((n : List ℕ) → told n ≡ other n) → AreSkips told rulesets name lines → AreSkips other rulesets name lines
-same-skips told other rulesets name lines same are = record { known = λ text at. are.known text (same name ∙ at); none = are.none }
+-- What isn't kept of a file, by the bytes that the shelf knew before.
+same-skips : (told other : List ℕ → Option (List ℕ)) (rulesets : List (List ℕ)) (name lines : List ℕ) (leaves : Bool) → ((n : List ℕ) → told n ≡ other n) → AreSkips told rulesets name lines leaves → AreSkips other rulesets name lines leaves
+same-skips told other rulesets name lines leaves same are = record { known = λ text at. are.known text (same name ∙ at); none = are.none }
 
--- the lines on one file more
-more-skips : (told : List ℕ → Option (List ℕ)) (rulesets : List (List ℕ)) (names : List (List ℕ)) (name note lines : List ℕ) → AreAllSkips told rulesets names note → AreSkips told rulesets name lines → AreAllSkips told rulesets (names ++ name ∷ []) (note ++ lines)
-more-skips told rulesets [] name note lines all are = (lines, [], ap (λ n. n ++ lines) all ∙ sym (append-nil lines), are, refl)
-more-skips told rulesets (n ∷ names) name note lines all are =
-    (all.0, all.1 ++ lines, ap (λ t. t ++ lines) all.2 ∙ append_assoc all.0 all.1 lines, all.3, more-skips told rulesets names name all.1 lines all.4 are)
+or-false : (a : Bool) → a ≡ (a || false)
+or-false true = refl
+or-false false = refl
 
--- These files were read, and nothing else was done: the shelf before and after. The note has the lines on those that are
+or-assoc : (a b c : Bool) → ((a || b) || c) ≡ (a || (b || c))
+or-assoc true b c = refl
+or-assoc false b c = refl
+
+-- what isn't kept of one file more
+more-skips : (told : List ℕ → Option (List ℕ)) (rulesets : List (List ℕ)) (names : List (List ℕ)) (name note lines : List ℕ) (any leaves : Bool) → AreAllSkips told rulesets names note any → AreSkips told rulesets name lines leaves
+    → AreAllSkips told rulesets (names ++ name ∷ []) (note ++ lines) (any || leaves)
+more-skips told rulesets [] name note lines any leaves all are =
+    (lines, [], leaves, false, ap (λ n. n ++ lines) all.0 ∙ sym (append-nil lines), ap (λ b. b || leaves) all.1 ∙ or-false leaves, are, (refl, refl))
+more-skips told rulesets (n ∷ names) name note lines any leaves all are = (
+  all.0,
+  all.1 ++ lines,
+  all.2,
+  all.3 || leaves,
+  ap (λ t. t ++ lines) all.4 ∙ append_assoc all.0 all.1 lines,
+  ap (λ b. b || leaves) all.5 ∙ or-assoc all.2 all.3 leaves,
+  all.6,
+  more-skips told rulesets names name all.1 lines all.3 leaves all.7 are,
+)
+
+-- These files were read, and nothing else was done: the shelf before and after. This is skipped of those that are
 -- rulesets.
-pub record UpTo (rulesets : List (List ℕ)) (told_before : List ℕ → Option (List ℕ)) (faults_before : ℕ) (picked_before : Numbers) (told : List ℕ → Option (List ℕ)) (asked : List (List ℕ)) (faults : ℕ) (picked : Numbers) (left : ℕ → Option (List ℕ)) (note : List ℕ) (sets : List SetDecl) (files : List Input) : Type 0 where
+pub record UpTo (rulesets : List (List ℕ)) (told_before : List ℕ → Option (List ℕ)) (faults_before : ℕ) (picked_before : Numbers) (told : List ℕ → Option (List ℕ)) (asked : List (List ℕ)) (faults : ℕ) (picked : Numbers) (left : ℕ → Option (List ℕ)) (skipped : Skips) (sets : List SetDecl) (files : List Input) : Type 0 where
   pub are_of : AreOf (seen rulesets told_before) sets files
   pub whole : AreReadWhole picked_before picked left (length files)
   pub names : asked ≡ names_of files
@@ -173,17 +192,17 @@ pub record UpTo (rulesets : List (List ℕ)) (told_before : List ℕ → Option 
   pub picks : (m : ℕ) → picked_before m → picked m
   pub same : (name : List ℕ) → told name ≡ told_before name
   pub same_seen : (name : List ℕ) → seen rulesets told name ≡ seen rulesets told_before name
-  pub skips : AreAllSkips told_before rulesets (names_of files) note
+  pub skips : AreAllSkips told_before rulesets (names_of files) skipped.lines.bytes.items skipped.leaves_sets_out
 
-pub up-to-none : (rulesets : List (List ℕ)) (told : List ℕ → Option (List ℕ)) (asked : List (List ℕ)) (faults : ℕ) (picked : Numbers) (left : ℕ → Option (List ℕ)) (sets : List SetDecl) (note : List ℕ) → asked ≡ [] → note ≡ [] → UpTo rulesets told faults picked told asked faults picked left note sets []
-up-to-none rulesets told asked faults picked left sets note nothing fresh =
+pub up-to-none : (rulesets : List (List ℕ)) (told : List ℕ → Option (List ℕ)) (asked : List (List ℕ)) (faults : ℕ) (picked : Numbers) (left : ℕ → Option (List ℕ)) (sets : List SetDecl) (skipped : Skips) → asked ≡ [] → KeepsAll skipped → UpTo rulesets told faults picked told asked faults picked left skipped sets []
+up-to-none rulesets told asked faults picked left sets skipped nothing fresh =
     record { are_of = tt; whole = none-whole picked picked left; names = nothing; quiet = refl; picks = λ m o. o; same = λ name. refl; same_seen = λ name. refl; skips = fresh }
 
-module _ {rulesets : List (List ℕ)} {told_before told_mid told : List ℕ → Option (List ℕ)} {faults_before faults_mid faults : ℕ} {picked_before picked_mid picked : Numbers} {asked_mid asked : List (List ℕ)} {left_mid left : ℕ → Option (List ℕ)} {note_mid note : List ℕ} {sets : List SetDecl} {files : List Input} where
+module _ {rulesets : List (List ℕ)} {told_before told_mid told : List ℕ → Option (List ℕ)} {faults_before faults_mid faults : ℕ} {picked_before picked_mid picked : Numbers} {asked_mid asked : List (List ℕ)} {left_mid left : ℕ → Option (List ℕ)} {skipped_mid skipped : Skips} {sets : List SetDecl} {files : List Input} where
   -- One file more was read.
-  pub up-to-more : (i : Input) → UpTo rulesets told_before faults_before picked_before told_mid asked_mid faults_mid picked_mid left_mid note_mid sets files → ReadsAs (seen rulesets told_mid) i.name (IsOf i.form sets) → (asked ≡ asked_mid ++ i.name ∷ []) × (faults ≡ faults_mid)
-      → ReadsToEnd picked_mid picked left → KeepsLeft picked_mid picked left_mid left → ((name : List ℕ) → told name ≡ told_mid name) → ((name : List ℕ) → seen rulesets told name ≡ seen rulesets told_mid name) → AddsSkips told_mid rulesets i.name note_mid note
-      → UpTo rulesets told_before faults_before picked_before told asked faults picked left note sets (files ++ i ∷ [])
+  pub up-to-more : (i : Input) → UpTo rulesets told_before faults_before picked_before told_mid asked_mid faults_mid picked_mid left_mid skipped_mid sets files → ReadsAs (seen rulesets told_mid) i.name (IsOf i.form sets) → (asked ≡ asked_mid ++ i.name ∷ []) × (faults ≡ faults_mid)
+      → ReadsToEnd picked_mid picked left → KeepsLeft picked_mid picked left_mid left → ((name : List ℕ) → told name ≡ told_mid name) → ((name : List ℕ) → seen rulesets told name ≡ seen rulesets told_mid name) → AddsSkips told_mid rulesets i.name skipped_mid skipped
+      → UpTo rulesets told_before faults_before picked_before told asked faults picked left skipped sets (files ++ i ∷ [])
   up-to-more i u read quiet whole kept same same_seen adds = record {
     are_of = are-more (seen rulesets told_before) sets files i u.are_of (reads-same (seen rulesets told_mid) (seen rulesets told_before) i.name (IsOf i.form sets) u.same_seen read);
     whole = subst (λ (n : ℕ). AreReadWhole picked_before picked left n) (sym (length-append files (i ∷ []))) (whole-more picked_before picked_mid picked left_mid left (length files) u.whole kept u.picks whole);
@@ -192,8 +211,10 @@ module _ {rulesets : List (List ℕ)} {told_before told_mid told : List ℕ → 
     picks = λ m o. (kept m (u.picks m o)).0;
     same = λ name. same name ∙ u.same name;
     same_seen = λ name. same_seen name ∙ u.same_seen name;
-    skips = subst (λ (ns : List (List ℕ)). AreAllSkips told_before rulesets ns note) (sym (names-append files i))
-        (subst (λ (t : List ℕ). AreAllSkips told_before rulesets (names_of files ++ i.name ∷ []) t) (sym adds.1) (more-skips told_before rulesets (names_of files) i.name note_mid adds.0 u.skips (same-skips told_mid told_before rulesets i.name adds.0 u.same adds.2)));
+    skips = subst (λ (ns : List (List ℕ)). AreAllSkips told_before rulesets ns skipped.lines.bytes.items skipped.leaves_sets_out) (sym (names-append files i))
+        (subst (λ (t : List ℕ). AreAllSkips told_before rulesets (names_of files ++ i.name ∷ []) t skipped.leaves_sets_out) (sym adds.2)
+        (subst (λ (b : Bool). AreAllSkips told_before rulesets (names_of files ++ i.name ∷ []) (skipped_mid.lines.bytes.items ++ adds.0) b) (sym adds.3)
+        (more-skips told_before rulesets (names_of files) i.name skipped_mid.lines.bytes.items adds.0 skipped_mid.leaves_sets_out adds.1 u.skips (same-skips told_mid told_before rulesets i.name adds.0 adds.1 u.same adds.4))));
   }
 
 -- A cause is a statement on the bytes that the shelf knew before, and on its counts then.
@@ -205,8 +226,8 @@ same-cause told other sets names others asked before mid now i (TooLarge name) s
 same-cause told other sets names others asked before mid now i Memory same e quiet h = (subst (λ (ns : List (List ℕ)). AsksOnce ns asked i.name) e h.0, h.1 ∙ quiet)
 
 -- The next file can't be had.
-module _ {rulesets : List (List ℕ)} {told_before told_mid : List ℕ → Option (List ℕ)} {faults_before faults_mid faults : ℕ} {picked_before picked_mid picked : Numbers} {asked_mid asked : List (List ℕ)} {left_mid left : ℕ → Option (List ℕ)} {note_mid : List ℕ} {sets : List SetDecl} {files : List Input} {noted_before noted_mid noted : Option (List ℕ)} where
-  pub stops : (c : Command) (i : Input) (later : List Input) (fault : FileFault) → inputs c ≡ files ++ i ∷ later → UpTo rulesets told_before faults_before picked_before told_mid asked_mid faults_mid picked_mid left_mid note_mid sets files
+module _ {rulesets : List (List ℕ)} {told_before told_mid : List ℕ → Option (List ℕ)} {faults_before faults_mid faults : ℕ} {picked_before picked_mid picked : Numbers} {asked_mid asked : List (List ℕ)} {left_mid left : ℕ → Option (List ℕ)} {skipped_mid : Skips} {sets : List SetDecl} {files : List Input} {noted_before noted_mid noted : Option (List ℕ)} where
+  pub stops : (c : Command) (i : Input) (later : List Input) (fault : FileFault) → inputs c ≡ files ++ i ∷ later → UpTo rulesets told_before faults_before picked_before told_mid asked_mid faults_mid picked_mid left_mid skipped_mid sets files
       → KeepsLeft picked_mid picked left_mid left → IsFileCause (seen rulesets told_mid) sets asked_mid i asked faults_mid faults fault → noted_mid ≡ noted_before → MayTell (IsNoteOn (seen rulesets told_mid) sets i.name fault) noted_mid noted
       → StopsTelling (record { told = seen rulesets told_before; asked = asked; faults_before = faults_before; faults_now = faults; picked_before = picked_before; picked_now = picked; left = left }) c noted_before noted fault
   stops c i later fault in_order u kept cause silent tells = record {
@@ -223,18 +244,18 @@ module _ {rulesets : List (List ℕ)} {told_before told_mid : List ℕ → Optio
         (subst (λ (b : Option (List ℕ)). MayTell (IsNoteOn (seen rulesets told_mid) sets i.name fault) b noted) silent tells);
   }
 
--- All files of a command were read. The note has the lines on those that are rulesets.
-pub has-read : {rulesets : List (List ℕ)} {told_before told : List ℕ → Option (List ℕ)} {faults_before faults : ℕ} {picked_before picked : Numbers} {asked : List (List ℕ)} {left : ℕ → Option (List ℕ)} {note : List ℕ} {sets : List SetDecl} {files : List Input} (c : Command) → inputs c ≡ files
-    → UpTo rulesets told_before faults_before picked_before told asked faults picked left note sets files
-    → HasRead (record { told = seen rulesets told_before; asked = asked; faults_before = faults_before; faults_now = faults; picked_before = picked_before; picked_now = picked; left = left }) c × AreAllSkips told_before rulesets (names_of (inputs c)) note
-has-read {rulesets} {told_before} {told} {faults_before} {faults} {picked_before} {picked} {asked} {left} {note} {sets} {files} c all u = (
+-- All files of a command were read. This is skipped of those that are rulesets.
+pub has-read : {rulesets : List (List ℕ)} {told_before told : List ℕ → Option (List ℕ)} {faults_before faults : ℕ} {picked_before picked : Numbers} {asked : List (List ℕ)} {left : ℕ → Option (List ℕ)} {skipped : Skips} {sets : List SetDecl} {files : List Input} (c : Command) → inputs c ≡ files
+    → UpTo rulesets told_before faults_before picked_before told asked faults picked left skipped sets files
+    → HasRead (record { told = seen rulesets told_before; asked = asked; faults_before = faults_before; faults_now = faults; picked_before = picked_before; picked_now = picked; left = left }) c × AreAllSkips told_before rulesets (names_of (inputs c)) skipped.lines.bytes.items skipped.leaves_sets_out
+has-read {rulesets} {told_before} {told} {faults_before} {faults} {picked_before} {picked} {asked} {left} {skipped} {sets} {files} c all u = (
   record {
     sets = sets;
     all = subst (λ (fs : List Input). AreRead (record { told = seen rulesets told_before; asked = asked; faults_before = faults_before; faults_now = faults; picked_before = picked_before; picked_now = picked; left = left }) sets fs) (sym all) (record { are_of = u.are_of; whole = u.whole });
     asked = u.names ∙ ap names_of (sym all);
     quiet = u.quiet;
   },
-  subst (λ (fs : List Input). AreAllSkips told_before rulesets (names_of fs) note) (sym all) u.skips,
+  subst (λ (fs : List Input). AreAllSkips told_before rulesets (names_of fs) skipped.lines.bytes.items skipped.leaves_sets_out) (sym all) u.skips,
 )
 
 -- The first file of a command of a script.

@@ -1,9 +1,10 @@
 -- What a command sees of a file that was read.
-use Rattle.std.proofs.Common.{refl, sym, ap, subst, ◌≡◌, ◌∙◌, ◌≤◌, ◌<◌, ℕ, Bool, true, false, List, [], ◌++◌, length, Option, Some, None}
+use Rattle.std.proofs.Common.{refl, sym, ap, subst, ◌≡◌, ◌∙◌, ◌≤◌, ◌<◌, ℕ, Bool, true, false, ◌||◌, List, [], ◌++◌, length, Option, Some, None}
 use Rattle.ruleset_sets.specs.Kept.{kept_text}
 use Rattle.ruleset_sets.proofs.KeptLaws.{kept_length}
 use Rattle.pip_base.specs.Whole.{size_limit}
-use Rattle.input_files.specs.Seen.{AddsSkips, is_ruleset, kept_if, seen, seen_if, skips_if}
+use Rattle.input_files.specs.Seen.{AddsSkips, is_ruleset, kept_if, leaves_if, seen, seen_if, skips_if}
+use Rattle.input_files.specs.declared.seen.Skips.{Skips}
 
 -- Files that are known as before are seen as before.
 pub seen_same : (rulesets : List (List ℕ)) (told other : List ℕ → Option (List ℕ)) (name : List ℕ) → told name ≡ other name → seen rulesets told name ≡ seen rulesets other name
@@ -25,17 +26,20 @@ pub kept_small : (is : Bool) (whole kept : List ℕ) → length whole ≤ size_l
 kept_small false whole kept small same = subst (λ (t : List ℕ). length t ≤ size_limit) (sym same) small
 kept_small true whole kept small same = subst (λ n. n ≤ size_limit) (sym (kept_length whole) ∙ ap length (sym same)) small
 
-skips_none : (is : Bool) (name whole : List ℕ) → is ≡ false → skips_if is name whole ≡ []
-skips_none false name whole e = refl
+skips_none : (is : Bool) (name whole : List ℕ) → is ≡ false → (skips_if is name whole ≡ []) × (leaves_if is whole ≡ false)
+skips_none false name whole e = (refl, refl)
 skips_none true name whole e = absurd (cc e)
 
--- The lines on a file that was read are those on its bytes, if they are known.
-pub adds_skips : (told : List ℕ → Option (List ℕ)) (rulesets : List (List ℕ)) (name whole old new : List ℕ) → ((t : List ℕ) → told name ≡ Some t → whole ≡ t) → new ≡ old ++ skips_if (is_ruleset rulesets name) name whole → AddsSkips told rulesets name old new
-adds_skips told rulesets name whole old new known grown = (
+-- What isn't kept of a file that was read is what isn't kept of its bytes, if they are known.
+pub adds_skips : (told : List ℕ → Option (List ℕ)) (rulesets : List (List ℕ)) (name whole : List ℕ) (old new : Skips) → ((t : List ℕ) → told name ≡ Some t → whole ≡ t)
+    → new.lines.bytes.items ≡ old.lines.bytes.items ++ skips_if (is_ruleset rulesets name) name whole → new.leaves_sets_out ≡ (old.leaves_sets_out || leaves_if (is_ruleset rulesets name) whole) → AddsSkips told rulesets name old new
+adds_skips told rulesets name whole old new known grown leaves = (
   skips_if (is_ruleset rulesets name) name whole,
+  leaves_if (is_ruleset rulesets name) whole,
   grown,
+  leaves,
   record {
-    known = λ text at. ap (skips_if (is_ruleset rulesets name) name) (known text at);
+    known = λ text at. (ap (skips_if (is_ruleset rulesets name) name) (known text at), ap (leaves_if (is_ruleset rulesets name)) (known text at));
     none = λ e. skips_none (is_ruleset rulesets name) name whole e;
   },
 )

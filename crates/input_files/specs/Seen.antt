@@ -1,9 +1,11 @@
 -- What a command sees of its files, of which some are rulesets.
-use Rattle.std.specs.Prelude.{◌≡◌, ℕ, Bool, true, false, List, [], ◌∷◌, ◌++◌, bytes_eq, Option, Some, option_map}
+use Rattle.std.specs.Prelude.{◌≡◌, ℕ, Bool, true, false, ◌||◌, List, [], ◌∷◌, ◌++◌, bytes_eq, Option, Some, option_map}
 use Rattle.std.specs.List.{list_any}
 use Rattle.ruleset_sets.specs.Kept.{kept_text, notes}
+use Rattle.ruleset_sets.specs.RulesetText.{leaves_out}
 use Rattle.skip_notes.specs.Skips.{skips_text}
 use Rattle.input_files.specs.declared.seen.Rulesets.{Rulesets}
+use Rattle.input_files.specs.declared.seen.Skips.{Skips}
 use Rattle.input_files.specs.declared.seen.Rulesets.TheVariants.{NoFile, OneFile, TwoFiles}
 
 -- the names of the files that are rulesets
@@ -34,17 +36,28 @@ abbrev pub skips_if : Bool → List ℕ → List ℕ → List ℕ
 skips_if true name text = skips_text name text (notes text)
 skips_if false name text = []
 
--- These are the lines on a file, if its bytes are known. On a file that is no ruleset there are none.
-pub record AreSkips (told : List ℕ → Option (List ℕ)) (rulesets : List (List ℕ)) (name lines : List ℕ) : Type 0 where
-  pub known : (text : List ℕ) → told name ≡ Some text → lines ≡ skips_if (is_ruleset rulesets name) name text
-  pub none : is_ruleset rulesets name ≡ false → lines ≡ []
+-- A set of a text, or a statement on one, is left out, if the text is a ruleset.
+abbrev pub leaves_if : Bool → List ℕ → Bool
+leaves_if true text = list_any (λ s. leaves_out s.why) (notes text)
+leaves_if false text = false
 
--- A note has the lines on these files, one file after the other.
-abbrev pub AreAllSkips : (List ℕ → Option (List ℕ)) → List (List ℕ) → List (List ℕ) → List ℕ → Type 0
-AreAllSkips told rulesets [] note = note ≡ []
-AreAllSkips told rulesets (name ∷ names) note =
-    (lines : List ℕ) × (others : List ℕ) × (note ≡ lines ++ others) × AreSkips told rulesets name lines × AreAllSkips told rulesets names others
+-- Nothing is left out or skipped.
+abbrev pub KeepsAll : Skips → Type 0
+KeepsAll skips = (skips.lines.bytes.items ≡ []) × (skips.leaves_sets_out ≡ false)
 
--- A note grew by the lines on a file.
-abbrev pub AddsSkips : (List ℕ → Option (List ℕ)) → List (List ℕ) → List ℕ → List ℕ → List ℕ → Type 0
-AddsSkips told rulesets name old new = (lines : List ℕ) × (new ≡ old ++ lines) × AreSkips told rulesets name lines
+-- These are the lines on a file, and whether it leaves a set out, if its bytes are known. On a file that is no ruleset there are no
+-- lines, and it leaves none out.
+pub record AreSkips (told : List ℕ → Option (List ℕ)) (rulesets : List (List ℕ)) (name lines : List ℕ) (leaves : Bool) : Type 0 where
+  pub known : (text : List ℕ) → told name ≡ Some text → (lines ≡ skips_if (is_ruleset rulesets name) name text) × (leaves ≡ leaves_if (is_ruleset rulesets name) text)
+  pub none : is_ruleset rulesets name ≡ false → (lines ≡ []) × (leaves ≡ false)
+
+-- What isn't kept of these files: the lines on them, one file after the other, and whether one of them leaves a set out.
+abbrev pub AreAllSkips : (List ℕ → Option (List ℕ)) → List (List ℕ) → List (List ℕ) → List ℕ → Bool → Type 0
+AreAllSkips told rulesets [] note leaves = (note ≡ []) × (leaves ≡ false)
+AreAllSkips told rulesets (name ∷ names) note leaves =
+    (lines : List ℕ) × (others : List ℕ) × (one : Bool) × (more : Bool) × (note ≡ lines ++ others) × (leaves ≡ (one || more)) × AreSkips told rulesets name lines one × AreAllSkips told rulesets names others more
+
+-- What isn't kept of a file was added.
+abbrev pub AddsSkips : (List ℕ → Option (List ℕ)) → List (List ℕ) → List ℕ → Skips → Skips → Type 0
+AddsSkips told rulesets name old new =
+    (lines : List ℕ) × (leaves : Bool) × (new.lines.bytes.items ≡ old.lines.bytes.items ++ lines) × (new.leaves_sets_out ≡ (old.leaves_sets_out || leaves)) × AreSkips told rulesets name lines leaves

@@ -19,7 +19,7 @@ ghost use Rattle.input_files.specs.Seen.{AddsSkips, ruleset_names, seen};
 
 use crate::fault::{FileFault, Flaw};
 use crate::script_told::tell_script;
-use crate::seen::{Rulesets, read_of};
+use crate::seen::{Rulesets, Skips, read_of};
 use crate::told::{tell_bad, tell_capture, tell_read_fault, tell_too_large};
 use fault_notes::TextKind;
 use key_file::read_keys;
@@ -28,19 +28,18 @@ use pip_base::{Notes, ReadError, Shelf, read_whole};
 use rule_chain::{Chains, read_rules};
 use set_model::{Keys, Memory, Schema, Script};
 use set_script::read_script;
-use skip_notes::SkipsNote;
 use std::alloc::Global;
 use token_forms::ReadError as FormError;
 
-/// What a command sees of the file with this name: all its bytes, or what is kept of a ruleset. The lines on the
-/// rest of a ruleset are added to `skipped`.
+/// What a command sees of the file with this name: all its bytes, or what is kept of a ruleset. The rest of a
+/// ruleset is added to `skipped`.
 #[tactic(auto, using(crate::proofs::SeenLaws::seen_same, crate::proofs::SeenLaws::seen_text, crate::proofs::SeenLaws::seen_large, crate::proofs::SeenLaws::kept_small, crate::proofs::SeenLaws::adds_skips))]
 pub fn text_of<'a, F: Shelf, N: Notes>(
     alloc: Global,
     shelf: &mut F,
     notes: &mut N,
     rulesets: Rulesets<'_>,
-    skipped: &mut SkipsNote,
+    skipped: &mut Skips,
     name: &'a str,
 ) -> Result<Vec<u8>, FileFault<'a>>
     requires { length (F.asked shelf.old) ≤ 3 }
@@ -51,7 +50,7 @@ pub fn text_of<'a, F: Shelf, N: Notes>(
     ensures kept { KeepsLeft (F.is_picked shelf.old) (F.is_picked shelf.new) (F.left shelf.old) (F.left shelf.new) }
     ensures told { (other : List ℕ) → F.told shelf.new other ≡ F.told shelf.old other }
     ensures seen { (other : List ℕ) → seen (ruleset_names rulesets.entry) (F.told shelf.new) other ≡ seen (ruleset_names rulesets.entry) (F.told shelf.old) other }
-    ensures skips { OnOk result (AddsSkips (F.told shelf.old) (ruleset_names rulesets.entry) name.now skipped.old.bytes.items skipped.new.bytes.items) }
+    ensures skips { OnOk result (AddsSkips (F.told shelf.old) (ruleset_names rulesets.entry) name.now skipped.old skipped.new) }
     ensures cause { (sets : List Declared) (i : Input) → i.name ≡ name.now → IfErr result (IsFileCause (seen (ruleset_names rulesets.entry) (F.told shelf.old)) sets (F.asked shelf.old) i (F.asked shelf.new) (F.faults shelf.old) (F.faults shelf.new)) }
     ensures silent { OnOk result (N.told notes.new ≡ N.told notes.old) }
     ensures noted { (sets : List Declared) → IfErr result (λ fault. MayTell (IsNoteOn (seen (ruleset_names rulesets.entry) (F.told shelf.old)) sets name.now fault) (N.told notes.old) (N.told notes.new)) }
@@ -81,7 +80,7 @@ pub fn script_of<'a, F: Shelf, N: Notes>(
     shelf: &mut F,
     notes: &mut N,
     rulesets: Rulesets<'_>,
-    skipped: &mut SkipsNote,
+    skipped: &mut Skips,
     kept: &mut Vec<u8>,
     name: &'a str,
 ) -> Result<Script, FileFault<'a>>
@@ -93,7 +92,7 @@ pub fn script_of<'a, F: Shelf, N: Notes>(
     ensures kept { KeepsLeft (F.is_picked shelf.old) (F.is_picked shelf.new) (F.left shelf.old) (F.left shelf.new) }
     ensures told { (other : List ℕ) → F.told shelf.new other ≡ F.told shelf.old other }
     ensures seen { (other : List ℕ) → seen (ruleset_names rulesets.entry) (F.told shelf.new) other ≡ seen (ruleset_names rulesets.entry) (F.told shelf.old) other }
-    ensures skips { OnOk result (AddsSkips (F.told shelf.old) (ruleset_names rulesets.entry) name.now skipped.old.bytes.items skipped.new.bytes.items) }
+    ensures skips { OnOk result (AddsSkips (F.told shelf.old) (ruleset_names rulesets.entry) name.now skipped.old skipped.new) }
     ensures cause { (sets : List Declared) → IfErr result (IsFileCause (seen (ruleset_names rulesets.entry) (F.told shelf.old)) sets (F.asked shelf.old) (record { name = name.now; form = inputs.script }) (F.asked shelf.new) (F.faults shelf.old) (F.faults shelf.new)) }
     ensures silent { OnOk result (N.told notes.new ≡ N.told notes.old) }
     ensures noted { (sets : List Declared) → IfErr result (λ fault. MayTell (IsNoteOn (seen (ruleset_names rulesets.entry) (F.told shelf.old)) sets name.now fault) (N.told notes.old) (N.told notes.new)) }
@@ -132,7 +131,7 @@ pub fn second_script_of<'a, F: Shelf, N: Notes>(
     shelf: &mut F,
     notes: &mut N,
     rulesets: Rulesets<'_>,
-    skipped: &mut SkipsNote,
+    skipped: &mut Skips,
     name: &'a str,
 ) -> Result<Script, FileFault<'a>>
     requires { length (F.asked shelf.old) ≤ 3 }
@@ -143,7 +142,7 @@ pub fn second_script_of<'a, F: Shelf, N: Notes>(
     ensures kept { KeepsLeft (F.is_picked shelf.old) (F.is_picked shelf.new) (F.left shelf.old) (F.left shelf.new) }
     ensures told { (other : List ℕ) → F.told shelf.new other ≡ F.told shelf.old other }
     ensures seen { (other : List ℕ) → seen (ruleset_names rulesets.entry) (F.told shelf.new) other ≡ seen (ruleset_names rulesets.entry) (F.told shelf.old) other }
-    ensures skips { OnOk result (AddsSkips (F.told shelf.old) (ruleset_names rulesets.entry) name.now skipped.old.bytes.items skipped.new.bytes.items) }
+    ensures skips { OnOk result (AddsSkips (F.told shelf.old) (ruleset_names rulesets.entry) name.now skipped.old skipped.new) }
     ensures cause { (sets : List Declared) → IfErr result (IsFileCause (seen (ruleset_names rulesets.entry) (F.told shelf.old)) sets (F.asked shelf.old) (record { name = name.now; form = inputs.second }) (F.asked shelf.new) (F.faults shelf.old) (F.faults shelf.new)) }
     ensures silent { OnOk result (N.told notes.new ≡ N.told notes.old) }
     ensures noted { (sets : List Declared) → IfErr result (λ fault. MayTell (IsNoteOn (seen (ruleset_names rulesets.entry) (F.told shelf.old)) sets name.now fault) (N.told notes.old) (N.told notes.new)) }
@@ -161,7 +160,7 @@ pub fn keys_of<'a, F: Shelf, N: Notes>(
     shelf: &mut F,
     notes: &mut N,
     rulesets: Rulesets<'_>,
-    skipped: &mut SkipsNote,
+    skipped: &mut Skips,
     schema: &Schema,
     name: &'a str,
 ) -> Result<Keys, FileFault<'a>>
@@ -174,7 +173,7 @@ pub fn keys_of<'a, F: Shelf, N: Notes>(
     ensures kept { KeepsLeft (F.is_picked shelf.old) (F.is_picked shelf.new) (F.left shelf.old) (F.left shelf.new) }
     ensures told { (other : List ℕ) → F.told shelf.new other ≡ F.told shelf.old other }
     ensures seen { (other : List ℕ) → seen (ruleset_names rulesets.entry) (F.told shelf.new) other ≡ seen (ruleset_names rulesets.entry) (F.told shelf.old) other }
-    ensures skips { OnOk result (AddsSkips (F.told shelf.old) (ruleset_names rulesets.entry) name.now skipped.old.bytes.items skipped.new.bytes.items) }
+    ensures skips { OnOk result (AddsSkips (F.told shelf.old) (ruleset_names rulesets.entry) name.now skipped.old skipped.new) }
     ensures cause { IfErr result (IsFileCause (seen (ruleset_names rulesets.entry) (F.told shelf.old)) schema.now (F.asked shelf.old) (record { name = name.now; form = inputs.keys }) (F.asked shelf.new) (F.faults shelf.old) (F.faults shelf.new)) }
     ensures silent { OnOk result (N.told notes.new ≡ N.told notes.old) }
     ensures noted { IfErr result (λ fault. MayTell (IsNoteOn (seen (ruleset_names rulesets.entry) (F.told shelf.old)) schema.now name.now fault) (N.told notes.old) (N.told notes.new)) }
@@ -201,7 +200,7 @@ pub fn rules_of<'a, F: Shelf, N: Notes>(
     shelf: &mut F,
     notes: &mut N,
     rulesets: Rulesets<'_>,
-    skipped: &mut SkipsNote,
+    skipped: &mut Skips,
     schema: &Schema,
     name: &'a str,
 ) -> Result<Chains, FileFault<'a>>
@@ -214,7 +213,7 @@ pub fn rules_of<'a, F: Shelf, N: Notes>(
     ensures kept { KeepsLeft (F.is_picked shelf.old) (F.is_picked shelf.new) (F.left shelf.old) (F.left shelf.new) }
     ensures told { (other : List ℕ) → F.told shelf.new other ≡ F.told shelf.old other }
     ensures seen { (other : List ℕ) → seen (ruleset_names rulesets.entry) (F.told shelf.new) other ≡ seen (ruleset_names rulesets.entry) (F.told shelf.old) other }
-    ensures skips { OnOk result (AddsSkips (F.told shelf.old) (ruleset_names rulesets.entry) name.now skipped.old.bytes.items skipped.new.bytes.items) }
+    ensures skips { OnOk result (AddsSkips (F.told shelf.old) (ruleset_names rulesets.entry) name.now skipped.old skipped.new) }
     ensures cause { IfErr result (IsFileCause (seen (ruleset_names rulesets.entry) (F.told shelf.old)) schema.now (F.asked shelf.old) (record { name = name.now; form = inputs.rules }) (F.asked shelf.new) (F.faults shelf.old) (F.faults shelf.new)) }
     ensures silent { OnOk result (N.told notes.new ≡ N.told notes.old) }
     ensures noted { IfErr result (λ fault. MayTell (IsNoteOn (seen (ruleset_names rulesets.entry) (F.told shelf.old)) schema.now name.now fault) (N.told notes.old) (N.told notes.new)) }
@@ -241,7 +240,7 @@ pub fn plan_of<'a, F: Shelf, N: Notes>(
     shelf: &mut F,
     notes: &mut N,
     rulesets: Rulesets<'_>,
-    skipped: &mut SkipsNote,
+    skipped: &mut Skips,
     schema: &Schema,
     name: &'a str,
 ) -> Result<Plan, FileFault<'a>>
@@ -254,7 +253,7 @@ pub fn plan_of<'a, F: Shelf, N: Notes>(
     ensures kept { KeepsLeft (F.is_picked shelf.old) (F.is_picked shelf.new) (F.left shelf.old) (F.left shelf.new) }
     ensures told { (other : List ℕ) → F.told shelf.new other ≡ F.told shelf.old other }
     ensures seen { (other : List ℕ) → seen (ruleset_names rulesets.entry) (F.told shelf.new) other ≡ seen (ruleset_names rulesets.entry) (F.told shelf.old) other }
-    ensures skips { OnOk result (AddsSkips (F.told shelf.old) (ruleset_names rulesets.entry) name.now skipped.old.bytes.items skipped.new.bytes.items) }
+    ensures skips { OnOk result (AddsSkips (F.told shelf.old) (ruleset_names rulesets.entry) name.now skipped.old skipped.new) }
     ensures cause { IfErr result (IsFileCause (seen (ruleset_names rulesets.entry) (F.told shelf.old)) schema.now (F.asked shelf.old) (record { name = name.now; form = inputs.plan }) (F.asked shelf.new) (F.faults shelf.old) (F.faults shelf.new)) }
     ensures silent { OnOk result (N.told notes.new ≡ N.told notes.old) }
     ensures noted { IfErr result (λ fault. MayTell (IsNoteOn (seen (ruleset_names rulesets.entry) (F.told shelf.old)) schema.now name.now fault) (N.told notes.old) (N.told notes.new)) }
@@ -281,7 +280,7 @@ pub fn capture_of<'a, F: Shelf, N: Notes>(
     shelf: &mut F,
     notes: &mut N,
     rulesets: Rulesets<'_>,
-    skipped: &mut SkipsNote,
+    skipped: &mut Skips,
     name: &'a str,
 ) -> Result<Frames, FileFault<'a>>
     requires { length (F.asked shelf.old) ≤ 3 }
@@ -292,7 +291,7 @@ pub fn capture_of<'a, F: Shelf, N: Notes>(
     ensures kept { KeepsLeft (F.is_picked shelf.old) (F.is_picked shelf.new) (F.left shelf.old) (F.left shelf.new) }
     ensures told { (other : List ℕ) → F.told shelf.new other ≡ F.told shelf.old other }
     ensures seen { (other : List ℕ) → seen (ruleset_names rulesets.entry) (F.told shelf.new) other ≡ seen (ruleset_names rulesets.entry) (F.told shelf.old) other }
-    ensures skips { OnOk result (AddsSkips (F.told shelf.old) (ruleset_names rulesets.entry) name.now skipped.old.bytes.items skipped.new.bytes.items) }
+    ensures skips { OnOk result (AddsSkips (F.told shelf.old) (ruleset_names rulesets.entry) name.now skipped.old skipped.new) }
     ensures cause { (sets : List Declared) → IfErr result (IsFileCause (seen (ruleset_names rulesets.entry) (F.told shelf.old)) sets (F.asked shelf.old) (record { name = name.now; form = inputs.capture }) (F.asked shelf.new) (F.faults shelf.old) (F.faults shelf.new)) }
     ensures silent { OnOk result (N.told notes.new ≡ N.told notes.old) }
     ensures noted { (sets : List Declared) → IfErr result (λ fault. MayTell (IsNoteOn (seen (ruleset_names rulesets.entry) (F.told shelf.old)) sets name.now fault) (N.told notes.old) (N.told notes.new)) }

@@ -30,5 +30,5 @@ mod told;
 mod work;
 
 pub use fault::{FileFault, Flaw};
-pub use seen::Rulesets;
+pub use seen::{Rulesets, Skips};
 pub use work::{Work, work_of};

@@ -12,12 +12,11 @@ ghost use Rattle.input_files.specs.Works.{AreSetsOf};
 use crate::fault::{FileFault, Flaw};
 use crate::files::text_of;
 use crate::script_told::tell_script;
-use crate::seen::Rulesets;
+use crate::seen::{Rulesets, Skips};
 use pip_base::{Notes, Shelf};
 use ruleset_sets::{Sieved, sieve_ruleset};
 use set_model::Memory;
 use set_script::{bad_token, read_script};
-use skip_notes::SkipsNote;
 use std::alloc::Global;
 use token_forms::ReadError as FormError;
 
@@ -33,7 +32,7 @@ pub fn sets_of<'a, F: Shelf, N: Notes>(
     shelf: &mut F,
     notes: &mut N,
     rulesets: Rulesets<'_>,
-    skipped: &mut SkipsNote,
+    skipped: &mut Skips,
     name: &'a str,
 ) -> Result<SetsRead, FileFault<'a>>
     requires { length (F.asked shelf.old) ≤ 2 }
@@ -43,7 +42,7 @@ pub fn sets_of<'a, F: Shelf, N: Notes>(
     ensures kept { KeepsLeft (F.is_picked shelf.old) (F.is_picked shelf.new) (F.left shelf.old) (F.left shelf.new) }
     ensures told { (other : List ℕ) → F.told shelf.new other ≡ F.told shelf.old other }
     ensures seen { (other : List ℕ) → seen (ruleset_names rulesets.entry) (F.told shelf.new) other ≡ seen (ruleset_names rulesets.entry) (F.told shelf.old) other }
-    ensures skips { OnOk result (AddsSkips (F.told shelf.old) (ruleset_names rulesets.entry) name.now skipped.old.bytes.items skipped.new.bytes.items) }
+    ensures skips { OnOk result (AddsSkips (F.told shelf.old) (ruleset_names rulesets.entry) name.now skipped.old skipped.new) }
     ensures cause { (sets : List Declared) → IfErr result (IsFileCause (seen (ruleset_names rulesets.entry) (F.told shelf.old)) sets (F.asked shelf.old) (record { name = name.now; form = inputs.rules_of_nft }) (F.asked shelf.new) (F.faults shelf.old) (F.faults shelf.new)) }
     ensures silent { OnOk result (N.told notes.new ≡ N.told notes.old) }
     ensures noted { (sets : List Declared) → IfErr result (λ fault. MayTell (IsNoteOn (seen (ruleset_names rulesets.entry) (F.told shelf.old)) sets name.now fault) (N.told notes.old) (N.told notes.new)) }

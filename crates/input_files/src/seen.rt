@@ -1,8 +1,11 @@
 //! What a command sees of its files, of which some are rulesets.
-ghost use Rattle.std.specs.Prelude.{◌≡◌, ◌++◌, true, IfOk, OnOk};
-ghost use Rattle.input_files.specs.Seen.{is_ruleset, kept_if, ruleset_names, skips_if};
+ghost use Rattle.std.specs.Prelude.{◌≡◌, ◌++◌, ◌||◌, true, IfOk, OnOk};
+ghost use Rattle.std.specs.List.{list_any};
+ghost use Rattle.ruleset_sets.specs.RulesetText.{leaves_out};
+ghost use Rattle.skip_notes.specs.Skips.{skips_text};
+ghost use Rattle.input_files.specs.Seen.{KeepsAll, is_ruleset, kept_if, leaves_if, ruleset_names, skips_if};
 
-use ruleset_sets::sieve_ruleset;
+use ruleset_sets::{Skipped, leaves_sets_out, sieve_ruleset};
 use set_model::Memory;
 use skip_notes::{SkipsNote, skips_note};
 use std::alloc::Global;
@@ -31,37 +34,71 @@ impl<'a> Rulesets<'a> {
     }
 }
 
-/// What is kept of a ruleset. The lines on the rest are added to a note.
+/// What isn't kept of the rulesets of a command.
+#[derive(Drop)]
+pub struct Skips {
+    /// A line for each item and each part that isn't kept.
+    pub lines: SkipsNote,
+    /// Whether a set, or a statement on one, is left out.
+    pub leaves_sets_out: bool,
+}
+
+impl Skips {
+    /// All is kept. It takes no memory.
+    pub fn new(alloc: Global) -> Skips
+        ensures { KeepsAll result }
+    {
+        Skips {
+            lines: SkipsNote::new(alloc),
+            leaves_sets_out: false,
+        }
+    }
+
+    /// Adds what isn't kept of a ruleset with this text.
+    fn add(
+        &mut self,
+        alloc: Global,
+        name: &str,
+        text: &[u8],
+        skips: &[Skipped],
+    ) -> Result<(), Memory>
+        ensures lines { OnOk result (self.new.lines.bytes.items ≡ self.old.lines.bytes.items ++ skips_text name.now text.now skips.now) }
+        ensures sets { OnOk result (self.new.leaves_sets_out ≡ (self.old.leaves_sets_out || list_any (λ s. leaves_out s.why) skips.now)) }
+    {
+        let lines = skips_note(alloc, name, text, skips)?;
+        self.lines.join(&lines)?;
+        self.leaves_sets_out = self.leaves_sets_out || leaves_sets_out(skips);
+        Ok(())
+    }
+}
+
+/// What is kept of a ruleset. The rest is added to `skipped`.
 #[tactic(auto, using(ruleset_sets::proofs::KeptLaws::kept_is))]
-fn kept_of(
-    alloc: Global,
-    skipped: &mut SkipsNote,
-    name: &str,
-    text: &[u8],
-) -> Result<Vec<u8>, Memory>
+fn kept_of(alloc: Global, skipped: &mut Skips, name: &str, text: &[u8]) -> Result<Vec<u8>, Memory>
     ensures kept { IfOk result (λ kept. kept.items ≡ kept_if true text.now) }
-    ensures skips { OnOk result (skipped.new.bytes.items ≡ skipped.old.bytes.items ++ skips_if true name.now text.now) }
+    ensures lines { OnOk result (skipped.new.lines.bytes.items ≡ skipped.old.lines.bytes.items ++ skips_if true name.now text.now) }
+    ensures sets { OnOk result (skipped.new.leaves_sets_out ≡ (skipped.old.leaves_sets_out || leaves_if true text.now)) }
 {
     let sieved = sieve_ruleset(alloc, text)?;
-    let lines = skips_note(alloc, name, text, sieved.skips.as_slice())?;
-    skipped.join(&lines)?;
+    skipped.add(alloc, name, text, sieved.skips.as_slice())?;
     Ok(sieved.text)
 }
 
-/// What is read of a text: of a ruleset what is kept of it. The lines on the rest are added to a note.
+/// What is read of a text: of a ruleset what is kept of it. The rest of a ruleset is added to `skipped`.
 ///
 /// # Errors
 ///
 /// `Memory` if memory runs out.
 pub fn read_of(
     alloc: Global,
-    skipped: &mut SkipsNote,
+    skipped: &mut Skips,
     is_ruleset: bool,
     name: &str,
     text: Vec<u8>,
 ) -> Result<Vec<u8>, Memory>
     ensures kept { IfOk result (λ kept. kept.items ≡ kept_if is_ruleset text.items) }
-    ensures skips { OnOk result (skipped.new.bytes.items ≡ skipped.old.bytes.items ++ skips_if is_ruleset name.now text.items) }
+    ensures lines { OnOk result (skipped.new.lines.bytes.items ≡ skipped.old.lines.bytes.items ++ skips_if is_ruleset name.now text.items) }
+    ensures sets { OnOk result (skipped.new.leaves_sets_out ≡ (skipped.old.leaves_sets_out || leaves_if is_ruleset text.items)) }
 {
     if is_ruleset {
         kept_of(alloc, skipped, name, text.as_slice())

@@ -4,20 +4,19 @@ ghost use Rattle.command_words.specs.WordForms.{plain};
 ghost use Rattle.input_files.specs.Inputs.{inputs, names_of};
 ghost use Rattle.input_files.specs.Noted.{StopsTelling};
 ghost use Rattle.input_files.specs.Reads.{HasRead};
-ghost use Rattle.input_files.specs.Seen.{AreAllSkips, ruleset_names, seen};
+ghost use Rattle.input_files.specs.Seen.{AreAllSkips, KeepsAll, ruleset_names, seen};
 ghost use Rattle.input_files.specs.Works.{IsWork, IsDoable};
 
 use crate::fault::FileFault;
 use crate::files::{capture_of, keys_of, plan_of, rules_of, script_of, second_script_of};
 use crate::rulesets::{SetsRead, sets_of};
-use crate::seen::Rulesets;
+use crate::seen::{Rulesets, Skips};
 use command_words::{Command, Task};
 use pcap_keys::{Frames, Plan};
 use pip_base::{Notes, Shelf};
 use rule_chain::Chains;
 use ruleset_sets::Sieved;
 use set_model::{Keys, Script};
-use skip_notes::SkipsNote;
 use std::alloc::Global;
 
 /// What a command works on: what its files mean, and the options of its words.
@@ -120,7 +119,7 @@ pub enum Work<'a> {
 }
 
 /// Reads the files of a command, in the order of its words. It opens a file only after the one before
-/// is read and accepted. Of a ruleset it reads what is kept. The lines on the rest are added to `skipped`, which has none
+/// is read and accepted. Of a ruleset it reads what is kept. The rest is added to `skipped`, which is empty
 /// before. What is read of the first script is put into `script_text`.
 ///
 /// # Errors
@@ -131,16 +130,16 @@ pub fn work_of<'a, F: Shelf, N: Notes>(
     shelf: &mut F,
     notes: &mut N,
     rulesets: Rulesets<'_>,
-    skipped: &mut SkipsNote,
+    skipped: &mut Skips,
     script_text: &mut Vec<u8>,
     command: Command<'a>,
 ) -> Result<Work<'a>, FileFault<'a>>
     requires nothing { F.asked shelf.old ≡ [] }
-    requires fresh { skipped.old.bytes.items ≡ [] }
+    requires fresh { KeepsAll skipped.old }
     requires threads { (words : List (List ℕ)) × IsCommand words (plain command) }
     ensures work { IfOk result (IsWork (seen (ruleset_names rulesets.entry) (F.told shelf.old)) (plain command.entry)) }
     ensures doable { IfOk result IsDoable }
-    ensures all { OnOk result (HasRead (record { told = seen (ruleset_names rulesets.entry) (F.told shelf.old); asked = F.asked shelf.new; faults_before = F.faults shelf.old; faults_now = F.faults shelf.new; picked_before = F.is_picked shelf.old; picked_now = F.is_picked shelf.new; left = F.left shelf.new }) (plain command.entry) × AreAllSkips (F.told shelf.old) (ruleset_names rulesets.entry) (names_of (inputs (plain command.entry))) skipped.new.bytes.items) }
+    ensures all { OnOk result (HasRead (record { told = seen (ruleset_names rulesets.entry) (F.told shelf.old); asked = F.asked shelf.new; faults_before = F.faults shelf.old; faults_now = F.faults shelf.new; picked_before = F.is_picked shelf.old; picked_now = F.is_picked shelf.new; left = F.left shelf.new }) (plain command.entry) × AreAllSkips (F.told shelf.old) (ruleset_names rulesets.entry) (names_of (inputs (plain command.entry))) skipped.new.lines.bytes.items skipped.new.leaves_sets_out) }
     ensures stops { IfErr result (StopsTelling (record { told = seen (ruleset_names rulesets.entry) (F.told shelf.old); asked = F.asked shelf.new; faults_before = F.faults shelf.old; faults_now = F.faults shelf.new; picked_before = F.is_picked shelf.old; picked_now = F.is_picked shelf.new; left = F.left shelf.new }) (plain command.entry) (N.told notes.old) (N.told notes.new)) }
     ensures silent { OnOk result (N.told notes.new ≡ N.told notes.old) }
 {

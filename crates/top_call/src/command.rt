@@ -1,4 +1,4 @@
-ghost use Rattle.std.specs.Prelude.{◌≡◌, [], List, ℕ, map, Option, None, IfSome, IfOk, IfErr, OnOk};
+ghost use Rattle.std.specs.Prelude.{◌≡◌, ◌&&◌, [], List, ℕ, map, Option, None, IfSome, IfOk, IfErr, OnOk};
 ghost use Rattle.std.specs.String.{string_bytes};
 ghost use Rattle.command_words.specs.Words.{IsCommand, AsksFor};
 ghost use Rattle.command_words.specs.WordForms.{plain};
@@ -6,9 +6,9 @@ ghost use Rattle.command_words.specs.ScriptForms as forms;
 ghost use Rattle.top_call.specs.Lines.{answer_fault as fault_of_answer};
 ghost use Rattle.input_files.specs.Noted.{StopsTelling};
 ghost use Rattle.input_files.specs.Reads.{HasRead};
-ghost use Rattle.input_files.specs.Seen.{ruleset_names, seen};
+ghost use Rattle.input_files.specs.Seen.{KeepsAll, ruleset_names, seen};
 ghost use Rattle.input_files.specs.Works.{IsDoable, IsWork};
-ghost use Rattle.top_call.specs.Forms.{InForm, TellsSkips};
+ghost use Rattle.top_call.specs.Forms.{InForm, TellsSkips, counts_left_out as is_counting, with_left_out as status_with_left_out};
 ghost use Rattle.top_call.specs.Promises.{Goes, Promises};
 ghost use Rattle.top_call.specs.Transcript.{HasFewClerks, IsOverfull};
 
@@ -20,11 +20,10 @@ use crate::refusals::{tell_refusals, tell_too_many};
 use crate::sets::{deliver_sets, tell_lines};
 use crate::words_told::tell_words;
 use command_words::{Command, ScriptForm, WordsError, command_of, page_of};
-use input_files::{FileFault, Rulesets, Work, work_of};
+use input_files::{FileFault, Rulesets, Skips, Work, work_of};
 use key_answer::AnswerError;
 use packet_pool::Gate;
 use pip_base::{Notes, Shelf, Sink};
-use skip_notes::SkipsNote;
 use std::alloc::Global;
 use std::sync::Wait;
 use std::thread::Threads;
@@ -83,35 +82,52 @@ fn scripts_of<'a>(command: Command<'a>) -> Rulesets<'a>
     }
 }
 
-/// Reads the files of a command, and writes the note on what isn't kept of those that are rulesets.
+/// Whether a command counts a set that is left out. A comparison does: it says nothing of the set, so not all sets are the same.
+#[tactic(auto, using(crate::proofs::FormLaws::task_counts_none))]
+fn counts_left_out(command: Command<'_>) -> bool
+    ensures { result ≡ is_counting (plain command.entry) }
+{
+    match command {
+        Command::Compare { .. } => true,
+        Command::Script { .. } | Command::Drill { .. } | Command::Sets { .. } => false,
+    }
+}
+
+/// The status of a command's output, by the status without what is left out of its rulesets.
+fn with_left_out(command: Command<'_>, leaves_sets_out: bool, status: u8) -> u8
+    ensures { result ≡ status_with_left_out (is_counting (plain command.entry) && leaves_sets_out) status }
+{
+    let counts = counts_left_out(command);
+    if counts && leaves_sets_out && status == 0 {
+        1
+    } else {
+        status
+    }
+}
+
+/// Reads the files of a command, and writes the note on what isn't kept of those that are rulesets. That is put into
+/// `skipped`.
 fn read_work<'a, F: Shelf, N: Notes>(
     alloc: Global,
     shelf: &mut F,
     notes: &mut N,
     rulesets: Rulesets<'_>,
+    skipped: &mut Skips,
     script_text: &mut Vec<u8>,
     command: Command<'a>,
 ) -> Result<Work<'a>, FileFault<'a>>
     requires nothing { F.asked shelf.old ≡ [] }
+    requires fresh { KeepsAll skipped.old }
     requires is_command { (words : List (List ℕ)) × IsCommand words (plain command) }
     ensures work { IfOk result (IsWork (seen (ruleset_names rulesets.entry) (F.told shelf.old)) (plain command.entry)) }
     ensures doable { IfOk result IsDoable }
     ensures all { OnOk result (HasRead (record { told = seen (ruleset_names rulesets.entry) (F.told shelf.old); asked = F.asked shelf.new; faults_before = F.faults shelf.old; faults_now = F.faults shelf.new; picked_before = F.is_picked shelf.old; picked_now = F.is_picked shelf.new; left = F.left shelf.new }) (plain command.entry)) }
     ensures stops { IfErr result (StopsTelling (record { told = seen (ruleset_names rulesets.entry) (F.told shelf.old); asked = F.asked shelf.new; faults_before = F.faults shelf.old; faults_now = F.faults shelf.new; picked_before = F.is_picked shelf.old; picked_now = F.is_picked shelf.new; left = F.left shelf.new }) (plain command.entry) (N.told notes.old) (N.told notes.new)) }
-    ensures skips { OnOk result (TellsSkips (F.told shelf.old) (ruleset_names rulesets.entry) (F.asked shelf.new) (N.told notes.old) (N.told notes.new)) }
+    ensures skips { OnOk result (TellsSkips (F.told shelf.old) (ruleset_names rulesets.entry) (F.asked shelf.new) (N.told notes.old) (N.told notes.new) skipped.new.leaves_sets_out) }
 {
-    let mut skipped = SkipsNote::new(alloc);
-    match work_of(
-        alloc,
-        shelf,
-        notes,
-        rulesets,
-        &mut skipped,
-        script_text,
-        command,
-    ) {
+    match work_of(alloc, shelf, notes, rulesets, skipped, script_text, command) {
         Ok(work) => {
-            tell_lines(notes, &skipped);
+            tell_lines(notes, &skipped.lines);
             Ok(work)
         }
         Err(fault) => Err(fault),
@@ -135,8 +151,17 @@ fn do_command<'a, R: Threads + Wait + Sync, F: Shelf, K: Sink, N: Notes, G: Gate
     ensures { (words : List (List ℕ)) → IsCommand words (plain command.entry) → InForm form (record { words = words; shelf = record { told = F.told shelf.old; asked = F.asked shelf.new; faults_before = F.faults shelf.old; faults_now = F.faults shelf.new; picked_before = F.is_picked shelf.old; picked_now = F.is_picked shelf.new; left = F.left shelf.new }; taken_before = K.taken sink.old; taken_now = K.taken sink.new; faults_before = K.faults sink.old; faults_now = K.faults sink.new; noted_before = N.told notes.old; noted_now = N.told notes.new; status = result }) Goes }
 {
     let mut script_text = Vec::new(alloc);
+    let mut skipped = Skips::new(alloc);
     let rulesets = rulesets_of(form, command);
-    match read_work(alloc, shelf, notes, rulesets, &mut script_text, command) {
+    match read_work(
+        alloc,
+        shelf,
+        notes,
+        rulesets,
+        &mut skipped,
+        &mut script_text,
+        command,
+    ) {
         Ok(
             Work::Sets {
                 file,
@@ -153,7 +178,7 @@ fn do_command<'a, R: Threads + Wait + Sync, F: Shelf, K: Sink, N: Notes, G: Gate
                 Ok(output) => {
                     let status = deliver(sink, done_status(output.refused), output.text.as_slice());
                     let _ = tell_refusals(alloc, notes, command, script_text.as_slice(), &output);
-                    status
+                    with_left_out(command, skipped.leaves_sets_out, status)
                 }
                 Err(error) => {
                     let _ = tell_error(alloc, notes, command, &error);
@@ -256,7 +281,7 @@ fn carry_out<R: Threads + Wait + Sync, F: Shelf, K: Sink, N: Notes, G: Gate>(
 ///
 /// - 0: the whole output was written, and reports no refusal;
 /// - 1: the whole output was written. A change was refused, a `get` or an `explain` found no element for a key, the scripts of a
-///   `compare` don't have the same sets, or a set of a ruleset was left out;
+///   `compare` don't have the same sets, or a `compare` or `sets` left a set of a ruleset out;
 /// - 2: the words are no command, and the usage line was written;
 /// - 3, 4, 9, 11: the script or the sets of a ruleset, the key file, the rules file, the plan isn't in its grammar;
 /// - 5: a file couldn't be opened or read;
