@@ -355,13 +355,22 @@ SEVERAL = [
 
 KEY_FORM = "write the set and the values alone, as: ip filter allowed 192.0.2.1 . 80"
 NO_SET_NAME = "isn't the name of a set: a key has no words of a statement"
-ONE_VALUE = "write one value, and no range or prefix"
+ONE_VALUE = "write one value: a packet has one in each field"
+IN_A_LINE = "write each key in a line of its own; the set's type is inet_service"
+OWN_LINES = "write each key in a line of its own, as: ip filter allowed 192.0.2.1 . 80"
+ONE_KEY = "'get' answers one key: write the keys into a file, one in each line, and then: pipapo run SCRIPT FILE"
+AT_FIRST = "write the moment before the script, as: pipapo get --at 500 SCRIPT .."
+NO_WORDS = "end the key before it: a key has the values alone"
+NO_VERDICT = "end the key before it: a key has the values alone, and 'pipapo judge' prints the verdict"
+BLANKS = "write a '.' with blanks around it between fields, as 192.0.2.1 . 80"
+KEY_LINE = "write a line [FAMILY] TABLE SET VALUE . VALUE .., with one value for each field, or 'at' MOMENT, or 'round'"
+MILLISECONDS = "write a number of milliseconds, at most 1000000000000000"
 
 # lines of a key file for SETS, the column of the bad token, what is wrong, and what to do
 KEY_MISTAKES = [
     ("ip t p 70000", 8, "'70000' " + TOO_GREAT, PORT),
-    ("ip t p 80-90", 8, "'80-90' is more than one value, and a packet has one in each field", ONE_VALUE),
-    ("ip t a 10.0.0.0/8 . 80", 8, "'10.0.0.0/8' is more than one value, and a packet has one in each field", ONE_VALUE),
+    ("ip t p 80-90", 8, "'80-90' is a range", ONE_VALUE),
+    ("ip t a 10.0.0.0/8 . 80", 8, "'10.0.0.0/8' is a prefix", ONE_VALUE),
     ("ip t a 10.0.0.1 . http", 19, "'http' doesn't fit field 2 (inet_service): a port is a number and not a name", "use 80"),
     ("ip t a 80 . 10.0.0.1", 8, "'80' doesn't fit field 1 (ipv4_addr): it fits field 2 (inet_service)", PAIR),
     ("ip t a 10.0.0.1", 16, "the end of the line ends the key after 1 field", PAIR),
@@ -373,11 +382,11 @@ KEY_MISTAKES = [
     ("inet t p 80", 8, "'p' isn't a set of the script", "did you mean 'ip t p'?"),
     ("ipv4 t p 80", 6, "'t' can't come here, since 'ipv4' isn't a family", "did you mean 'ip'?"),
     ("ip t @p 80", 6, "'@' is an unexpected character", "write the set's name without '@'"),
-    ("ip t p @n", 8, "'@' is an unexpected character", "write the values themselves: there are no references to sets"),
-    ("ip t p *", 8, "'*' isn't a value", "write one value: a packet has one in each field"),
+    ("ip t p @n", 8, "'@' is an unexpected character", ONE_VALUE),
+    ("ip t p *", 8, "'*' isn't a value", ONE_VALUE),
     ("ip t a 10.0.0.1 80", 17, "'80' can't follow a value", "write ' . ' between fields"),
     ("ip t a 10.0.0.1, 80", 16, "',' can't follow a value", "write ' . ' between fields"),
-    ("ip t p 80 443", 11, "'443' can't follow the last field", "write each key in a line of its own; the set's type is inet_service"),
+    ("ip t p 80 443", 11, "'443' can't follow the last field", IN_A_LINE),
     ("ip t a", 7, "the end of the line ends the key after 0 fields", PAIR),
     ("ip t p { 80 }", 8, "'{' can't come here: a key has no braces", KEY_FORM),
     ("ip t p 80 }", 11, "'}' can't come here: a key has no braces", KEY_FORM),
@@ -390,8 +399,90 @@ KEY_MISTAKES = [
     ('ip t a "10.0.0.1 . 80"', 8, "'\"10.0.0.1 . 80\"' is a string, and values are expected", "leave out the quotes, as: 192.0.2.1 . 80"),
     ('ip t p "80"', 8, "'\"80\"' is a string, and a value is expected", "write the value without quotes"),
     ("ip t p 80 // web", 11, "'//' doesn't begin a comment", "begin a comment with '#'"),
-    ("ip t a 10.0.0.0/255.0.0.0 . 80", 8, "'10.0.0.0/255.0.0.0' doesn't fit field 1 (ipv4_addr): 255.0.0.0 is a netmask", "write the prefix length: 10.0.0.0/8"),
+    ("ip t a 10.0.0.0/255.0.0.0 . 80", 8, "'10.0.0.0/255.0.0.0' is a network with a netmask", ONE_VALUE),
     ("ip t e 02:00:5e:10:00", 8, "'02:00:5e:10:00' doesn't fit field 1 (ether_addr): it isn't an Ethernet address", ETHER),
+    # several values in the place of one
+    ("ip t p 80..90", 8, "'80..90' is a range", ONE_VALUE),
+    ("ip t p 80:90", 8, "'80:90' is a range", ONE_VALUE),
+    ("ip t p 90-80", 8, "'90-80' is a range", ONE_VALUE),
+    ("ip t p 80-", 8, "'80-' is a range", ONE_VALUE),
+    ("ip t p 70000-80000", 8, "'70000-80000' is a range", ONE_VALUE),
+    ("ip t p ssh-443", 8, "'ssh-443' is a range", ONE_VALUE),
+    ("ip t a 10.0.0.9-10.0.0.1 . 80", 8, "'10.0.0.9-10.0.0.1' is a range", ONE_VALUE),
+    ("ip t a 10.0.0.1..10.0.0.9 . 80", 8, "'10.0.0.1..10.0.0.9' is a range", ONE_VALUE),
+    ("ip t a 10.0.0.1-20 . 80", 8, "'10.0.0.1-20' is a range", ONE_VALUE),
+    ("ip t v 2001:db8::1-2001:db8::5", 8, "'2001:db8::1-2001:db8::5' is a range", ONE_VALUE),
+    ("ip t p 80 - 90", 11, "'-' makes a range of the value before it", ONE_VALUE),
+    ("ip t p 80 to 90", 11, "'to' makes a range of the value before it", ONE_VALUE),
+    ("ip t a 10.0.0.1 -10.0.0.9 . 80", 17, "'-10.0.0.9' makes a range of the value before it", ONE_VALUE),
+    ("ip t a 10.0.0.0/33 . 80", 8, "'10.0.0.0/33' is a prefix", ONE_VALUE),
+    ("ip t a 10.0.0/24 . 80", 8, "'10.0.0/24' is a prefix", ONE_VALUE),
+    ("ip t a 10.0.0.0 /8 . 80", 17, "'/8' makes a prefix of the value before it", ONE_VALUE),
+    ("ip t v 2001:db8/32", 8, "'2001:db8/32' is a prefix", ONE_VALUE),
+    ("ip t e 02:00:5e:10:00:00/24", 8, "'02:00:5e:10:00:00/24' is a prefix", ONE_VALUE),
+    ("ip t a 10.0.0.0/0.0.0.255 . 80", 8, "'10.0.0.0/0.0.0.255' is a network with a netmask", ONE_VALUE),
+    ("ip t a 10.0.0.* . 80", 8, "'10.0.0.' with '*' isn't one value", ONE_VALUE),
+    ("ip t a any . 80", 8, "'any' isn't a value", ONE_VALUE),
+    ("ip t p != 80", 8, "'!' is an unexpected character", ONE_VALUE),
+    ("ip t p 80|443", 10, "'|' is an unexpected character", ONE_VALUE),
+    ("ip t a 80-90 . 10.0.0.1", 8, "'80-90' doesn't fit field 1 (ipv4_addr): it fits field 2 (inet_service)", "write one value in each field; " + PAIR),
+    # one value in the form of several
+    ("ip t a 10.0.0.1/32 . 80", 8, "'10.0.0.1/32' is a prefix", "write the value alone: 10.0.0.1"),
+    ("ip t v 2001:db8::1/128", 8, "'2001:db8::1/128' is a prefix", "write the value alone: 2001:db8::1"),
+    ("ip t a 10.0.0.1/255.255.255.255 . 80", 8, "'10.0.0.1/255.255.255.255' is a network with a netmask", "write the value alone: 10.0.0.1"),
+    ("ip t p 80-80", 8, "'80-80' is a range", "write the value alone: 80"),
+    # several keys in the place of one
+    ("ip t p { 80, 443 }", 8, "'{' can't come here: a key has no braces", OWN_LINES),
+    ("ip t a 10.0.0.1 . { 80, 443 }", 19, "'{' can't come here: a key has no braces", OWN_LINES),
+    ("ip t p 80, 443", 10, "',' can't follow the last field", IN_A_LINE),
+    ("ip t p 80 ip t p 443", 11, "'ip' can't follow the last field", IN_A_LINE),
+    ("ip t p 80; ip t p 443", 10, "';' can't follow the last field", IN_A_LINE),
+    ("ip t a 10.0.0.1, 10.0.0.2 . 80", 16, "',' ends the key after 1 field", PAIR),
+    # words that a key doesn't have
+    ("ip t p 80 at 5", 11, "'at' can't follow the last field", "write the moment in a line of its own before the key, as: at 500"),
+    ("ip t p 80 --at 5", 11, "'--at' can't follow the last field", "write the moment in a line of its own before the key, as: at 500"),
+    ("ip t p 80 accept", 11, "'accept' can't follow the last field", NO_VERDICT),
+    ("ip t p 80 drop", 11, "'drop' can't follow the last field", NO_VERDICT),
+    ("ip t p 80 : accept", 11, "':' can't follow the last field", NO_WORDS),
+    ("ip t l 6 . 1 timeout 5s", 14, "'timeout' can't follow the last field", NO_WORDS),
+    ("ip t p 80 policy drop", 11, "'policy' can't follow the last field", NO_VERDICT),
+    ("ip t p 80 => accept", 11, "'=' can't follow the last field", NO_WORDS),
+    ("ip t p 80 element 0", 11, "'element' can't follow the last field", NO_WORDS),
+    ("ip t p 80 counter", 11, "'counter' can't follow the last field", NO_WORDS),
+    ('ip t p 80 comment "web"', 11, "'comment' can't follow the last field", "begin a comment with '#'"),
+    ("ip t p 80 -- web", 11, "'--' doesn't begin a comment", "begin a comment with '#'"),
+    ("lookup ip t p 80", 8, "'ip' " + NO_SET_NAME, KEY_FORM),
+    # signs
+    ("ip t p (80)", 8, "'(' is an unexpected character", "leave the brackets out, as: ip filter allowed 192.0.2.1 . 80"),
+    ("ip t v [2001:db8::1]", 8, "'[' is an unexpected character", "leave the brackets out, as: ip filter allowed 192.0.2.1 . 80"),
+    ("ip t v fe80::1%eth0", 15, "'%' is an unexpected character", "leave it out with what follows: an address has no interface"),
+    ("ip t p 'http'", 8, "''' is an unexpected character", "leave out the quotes: a value has none"),
+    ('ip t p "80', 8, "'\"' is an unexpected character", "leave out the quotes: a value has none"),
+    ('ip t a 10.0.0.1 . "http"', 19, "'\"http\"' doesn't fit field 2 (inet_service): a port is a number and not a name", "use 80"),
+    ("ip t p 80;", 10, "';' can't follow the last field", "leave it out: a key ends with its last value"),
+    ("ip t p 80, # web", 10, "',' can't follow the last field", "leave it out: a key ends with its last value"),
+    ("ip t p , 80", 8, "',' can't follow the set's name", "leave it out; the set's type is inet_service"),
+    ("ip t p = 80", 8, "'=' can't follow the set's name", "leave it out; the set's type is inet_service"),
+    ("ip t p . 80", 8, "'.' can't follow the set's name", "leave it out; the set's type is inet_service"),
+    # between fields
+    ("ip t a 10.0.0.1 . . 80", 19, "'.' has no value before it", "write one '.' between fields; " + PAIR),
+    ("ip t a 10.0.0.1 - 80", 17, "'-' can't follow a value", "write ' . ' between fields"),
+    ("ip t a 10.0.0.1 : 80", 17, "':' can't follow a value", "write ' . ' between fields"),
+    ("ip t a 10.0.0.1 at 5", 17, "'at' ends the key after 1 field", PAIR),
+    ("ip t a 10.0.0.1. 80", 8, "'10.0.0.1.' doesn't fit field 1 (ipv4_addr): it is two fields in one word", BLANKS),
+    ("ip t a 10.0.0.1/443", 8, "'10.0.0.1/443' doesn't fit field 1 (ipv4_addr): it is two fields in one word", BLANKS),
+    ("ip t p 80/tcp", 8, "'80/tcp' doesn't fit field 1 (inet_service): it isn't a port", PORT),
+    ("ip t p -80", 8, "'-80' doesn't fit field 1 (inet_service): it isn't a port", PORT),
+    ("ip t p 80.", 8, "'80.' doesn't fit field 1 (inet_service): it isn't a port", PORT),
+    # moments and sections
+    ("at 5 ip t p 80", 6, "'ip' can't follow a moment", "end the line after the moment, and write the key in the next one"),
+    ("at", 3, "the end of the line isn't a moment", MILLISECONDS),
+    ("at=5", 3, "'=' isn't a moment", MILLISECONDS),
+    ("at 5s", 4, "'5s' isn't a moment", MILLISECONDS),
+    ("AT 5", 4, "'5' isn't a set of the script", "write a moment with 'at' in lower case, as: at 500"),
+    ("round 2", 7, "'2' can't follow 'round'", "write 'round' alone in its line"),
+    ("10.0.0.1 . 80", 1, "'10.0.0.1' can't come here", KEY_LINE),
+    ("ip t", 5, "the end of the line can't come here", KEY_LINE),
 ]
 
 # the words of the key of a `get` on SETS, the column of the bad token, what is wrong, and what to do
@@ -399,9 +490,9 @@ GET_MISTAKES = [
     ("ip t p 70000", 8, "'70000' " + TOO_GREAT, PORT),
     ("ip t p http", 8, "'http' doesn't fit field 1 (inet_service): a port is a number and not a name", "use 80"),
     ("ip t a 10.0.0.1 80", 17, "'80' can't follow a value", "write ' . ' between fields"),
-    ("ip t a 10.0.0.1:80", 8, "'10.0.0.1:80' doesn't fit field 1 (ipv4_addr): it is two fields in one word", "write a '.' with blanks around it between fields, as 192.0.2.1 . 80"),
+    ("ip t a 10.0.0.1:80", 8, "'10.0.0.1:80' doesn't fit field 1 (ipv4_addr): it is two fields in one word", BLANKS),
     ("ip t a 80 . 10.0.0.1", 8, "'80' doesn't fit field 1 (ipv4_addr): it fits field 2 (inet_service)", PAIR),
-    ("ip t p 80-90", 8, "'80-90' is more than one value, and a packet has one in each field", ONE_VALUE),
+    ("ip t p 80-90", 8, "'80-90' is a range", ONE_VALUE),
     ("ip t q 80", 6, "'q' isn't a set of the script", "the script's sets are ip t p, ip t a, ip t n, ip t v, ip t l, ip t e"),
     ("p 80", 3, "'80' isn't a set of the script", "did you mean 'ip t p'?"),
     ("ip t @p 80", 6, "'@' is an unexpected character", "write the set's name without '@'"),
@@ -410,7 +501,19 @@ GET_MISTAKES = [
     ("element ip t p 80", 9, "'ip' " + NO_SET_NAME, KEY_FORM),
     ("ip t a 10.0.0.1", 17, "the end of the text ends the key after 1 field", PAIR),
     ("ip t a 10.0.0.1 . 80 . 90", 22, "'.' begins one more field, and the set has 2 fields", PAIR),
-    ("ip t p 80 443", 11, "'443' can't follow the last field", "write each key in a line of its own; the set's type is inet_service"),
+    ("ip t p 80 443", 11, "'443' can't follow the last field", ONE_KEY),
+    ("ip t p 80 ip t p 443", 11, "'ip' can't follow the last field", ONE_KEY),
+    ("ip t p 80, 443", 10, "',' can't follow the last field", ONE_KEY),
+    ("ip t p { 80, 443 }", 8, "'{' can't come here: a key has no braces", ONE_KEY),
+    ("ip t a 10.0.0.1/32 . 80", 8, "'10.0.0.1/32' is a prefix", "write the value alone: 10.0.0.1"),
+    ("ip t p 80 at 5", 11, "'at' can't follow the last field", AT_FIRST),
+    ("at 5 ip t p 80", 6, "'ip' can't follow a moment", AT_FIRST),
+    ("at now", 4, "'now' can't come after 'at'", AT_FIRST),
+    ("ip t p 80 accept", 11, "'accept' can't follow the last field", NO_VERDICT),
+    ("ip t p 80 comment web", 11, "'comment' can't follow the last field", NO_WORDS),
+    ("ip t p dport", 8, "'dport' doesn't fit field 1 (inet_service): it isn't a port", PORT),
+    ("flush set ip t p", 7, "'set' " + NO_SET_NAME, KEY_FORM),
+    ("10.0.0.1 . 80", 1, "'10.0.0.1' can't come here", "write [FAMILY] TABLE SET VALUE . VALUE .., with one value for each field"),
 ]
 
 RULES_FILE = "write 'chain NAME { RULES }', with rules such as 'in ip t s accept', and at the end 'policy accept' or 'policy drop'"

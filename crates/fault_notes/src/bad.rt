@@ -11,6 +11,7 @@ use crate::content::{is_other_kind, other_kind};
 use crate::explained::{Explained, Fault};
 use crate::families::explain_family;
 use crate::help::{TextKind, explain_plainly, explain_reference, explain_slashes, is_slashes};
+use crate::key_places::KeyPlace;
 use crate::keys::{KeyFault, explain_key, type_item};
 use crate::note::Note;
 use crate::plans::explain_plan;
@@ -121,9 +122,10 @@ fn said_of_script(alloc: Global, text: &[u8], bad: BadToken) -> Result<Note, Mem
     said_at(alloc, text, bad, cut_at(text, bad))
 }
 
-/// Explains a bad token of a key file's line.
-fn explain_in_keys(
+/// Explains a bad token of a key.
+fn explain_in_key(
     said: &mut Explained,
+    place: KeyPlace,
     schema: &Schema,
     bad: BadToken,
     cut: Cut<'_>,
@@ -134,8 +136,10 @@ fn explain_in_keys(
     }
     let type_item = type_item(said.alloc, schema, cut.line)?;
     let fault = KeyFault {
+        place,
         line: cut.line,
         before: cut.front,
+        behind: cut.behind,
         token: cut.token,
         reason: bad.reason,
     };
@@ -172,7 +176,7 @@ fn said_beside(
     let cut = cut_at(text, bad);
     let mut said = Explained::new(alloc);
     match kind {
-        TextKind::Keys => explain_in_keys(&mut said, schema, bad, cut)?,
+        TextKind::Keys => explain_in_key(&mut said, KeyPlace::File, schema, bad, cut)?,
         _ => {
             let (before, behind) = text.split_at(text.len().min(bad.at as usize));
             let fault = Beside {
@@ -278,20 +282,50 @@ const AT_FRONT: BadToken = BadToken {
     reason: Reason::Statement,
 };
 
-/// What a note says of words of a `get` that a key file could have, and that name no packet.
-fn said_of_no_packet(alloc: Global) -> Result<Note, Memory> {
+/// What a note says after the place of the bad token in the words of a `get`.
+fn said_of_words(
+    alloc: Global,
+    schema: &Schema,
+    words: &[u8],
+    bad: BadToken,
+) -> Result<Note, Memory> {
+    let cut = cut_at(words, bad);
+    let mut said = Explained::new(alloc);
+    explain_in_key(&mut said, KeyPlace::Get, schema, bad, cut)?;
+    with_source(alloc, &said, bad, cut)
+}
+
+/// What a note says of words of a `get` that a key file could have, and that name no packet or several.
+fn said_of_packets(alloc: Global, words: &[u8]) -> Result<Note, Memory> {
+    let (wrong, help): (&[u8], &[u8]) = if words.contains(&b'\n') {
+        (
+            b"the words have more than one line",
+            KeyPlace::Get.for_several(),
+        )
+    } else {
+        (
+            b"the words name no packet",
+            b"write [FAMILY] TABLE SET VALUE . VALUE ..; a moment is given before the script, as --at MOMENT",
+        )
+    };
     let mut note = Note::new(alloc);
-    note.say(b"the words name no packet")?;
+    note.say(wrong)?;
     note.end_line()?;
-    note.say(
-        b"help: write [FAMILY] TABLE SET VALUE . VALUE ..; a moment is given before the script, as --at MOMENT",
-    )?;
+    note.say(b"help: ")?;
+    note.say(help)?;
     note.end_line()?;
     Ok(note)
 }
 
-/// The note on words of a `get` that are no key, as [`bad_text_note`] on a line of a key file that has these words. Its name is
-/// `key`. Without a bad token the words name no packet.
+/// A note on the words of a `get`, which begins with the place of a bad token.
+fn key_note(alloc: Global, bad: BadToken, behind: &Note) -> Result<Note, Memory>
+    ensures { IfOk result (λ note. BeginsAtPlace (codes "key") note.bytes.items) }
+{
+    placed_note(alloc, "key", bad, behind)
+}
+
+/// The note on words of a `get` that are no key. It is like [`bad_text_note`] on a line of a key file. Its name is
+/// `key`. Without a bad token the words name no packet, or several in lines of their own.
 ///
 /// # Errors
 ///
@@ -305,10 +339,13 @@ pub fn bad_key_note(
     ensures place { IfOk result (λ note. BeginsAtPlace (codes "key") note.bytes.items) }
 {
     match found {
-        Some(bad) => bad_text_note(alloc, TextKind::Keys, schema, "key", words, bad),
+        Some(bad) => {
+            let behind = said_of_words(alloc, schema, words, bad)?;
+            key_note(alloc, bad, &behind)
+        }
         None => {
-            let behind = said_of_no_packet(alloc)?;
-            placed_note(alloc, "key", AT_FRONT, &behind)
+            let behind = said_of_packets(alloc, words)?;
+            key_note(alloc, AT_FRONT, &behind)
         }
     }
 }

@@ -1,27 +1,33 @@
-//! Explains a word of a key file by the types of the set that its line names.
+//! Explains a word of a key by the types of the set that its line names.
 use crate::around::set_named;
-use crate::content::{is_element_line, is_family};
+use crate::content::{begins_a_statement, is_element_line, is_family};
 use crate::explained::Explained;
-use crate::help::{TextKind, explain_plainly, explain_reference, explain_slashes, is_slashes};
+use crate::help::{explain_reference, explain_slashes, is_slashes};
+use crate::key_places::{
+    KEY_FORM, KeyPlace, explain_after_key, explain_after_moment, explain_after_name,
+    explain_after_value, explain_brace, explain_character, explain_key_moment, explain_line,
+    explain_no_dot, explain_second_dot,
+};
+use crate::key_values::{ONE_VALUE, explain_key_string, explain_key_value};
 use crate::refused::{is_same, words_of};
 use crate::sets::explain_unknown;
 use crate::syntax::explain_fields;
-use crate::values::{explain_key_value, explain_string, types_of, word_of};
-use crate::words::{count_of, kind_at, last_word, word_at};
+use crate::values::word_of;
+use crate::words::{count_of, is_number, kind_at, last_word, word_at};
+use addr_text::read_value;
 use set_model::{Kind, Memory, Schema};
 use std::alloc::Global;
 use text_pieces::{Piece, append_pieces};
 use token_forms::Reason;
 
-/// How a key is written.
-const KEY_FORM: &[u8] = b"write the set and the values alone, as: ip filter allowed 192.0.2.1 . 80";
-
-/// A bad token of a key file.
+/// A bad token of a key.
 #[derive(Clone, Copy)]
 pub(crate) struct KeyFault<'a> {
-    /// Its line, and the line up to it.
+    pub(crate) place: KeyPlace,
+    /// Its line, and the line up to it and after it.
     pub(crate) line: &'a [u8],
     pub(crate) before: &'a [u8],
+    pub(crate) behind: &'a [u8],
     /// Its bytes. A line feed and the end of the text have none.
     pub(crate) token: &'a [u8],
     pub(crate) reason: Reason,
@@ -69,6 +75,55 @@ pub(crate) fn fields_before(before: &[u8]) -> u64 {
     dots.saturating_add(1)
 }
 
+/// Whether a token is at the place of a word of its set's name.
+pub(crate) fn is_in_name(before: &[u8]) -> bool {
+    word_at(before, name_count(before).saturating_sub(1)).is_empty()
+}
+
+/// Whether an `at` is all that comes before a token.
+fn is_after_at(before: &[u8]) -> bool {
+    word_at(before, 0) == b"at".as_slice() && word_at(before, 1).is_empty()
+}
+
+/// Whether a moment of an `at` is all that comes before a token.
+fn is_after_moment(before: &[u8]) -> bool {
+    word_at(before, 0) == b"at".as_slice()
+        && is_number(word_at(before, 1))
+        && word_at(before, 2).is_empty()
+}
+
+/// Whether a word is a value of a field, from 0.
+fn fits(type_item: &[u8], field: u64, word: &[u8]) -> bool {
+    match kind_at(type_item, field) {
+        Some(kind) => read_value(kind, word).is_ok(),
+        None => false,
+    }
+}
+
+/// Explains a token after so many fields, of which the last is not the set's last one. What follows the token
+/// shows whether it is meant between two fields, two keys or the ends of a range.
+fn explain_between(
+    said: &mut Explained,
+    type_item: &[u8],
+    fields: u64,
+    fault: KeyFault<'_>,
+) -> Result<(), Memory> {
+    let next = word_at(fault.behind, 0);
+    let fits_next = fits(type_item, fields, next);
+    let fits_this = fits(type_item, fields.saturating_sub(1), next);
+    match fault.token {
+        b":" | b"=" => explain_no_dot(said),
+        b"," if fits_this && !fits_next => {
+            explain_fields(said, b" ends the key after ", fields, type_item)
+        }
+        b"-" if fits_next && !fits_this => explain_no_dot(said),
+        token if fault.place.for_word(token).is_some() => {
+            explain_fields(said, b" ends the key after ", fields, type_item)
+        }
+        token => explain_after_value(said, token),
+    }
+}
+
 /// Explains a token that can't come at its place of a key, or the end of its line.
 fn explain_place(
     said: &mut Explained,
@@ -77,40 +132,32 @@ fn explain_place(
 ) -> Result<(), Memory> {
     let fields = fields_before(fault.before);
     let has_more = kind_at(type_item, fields).is_some();
-    let is_known = fields > 0 && !type_item.is_empty();
+    let is_known = !type_item.is_empty() && !is_in_name(fault.before);
     match fault.token {
-        b"{" | b"}" => said.say(b" can't come here: a key has no braces", KEY_FORM),
-        [b'"', ..] => explain_string(said, fault.token),
-        b"." if is_known && !has_more => explain_fields(
+        _ if is_after_at(fault.before) => explain_key_moment(said, fault.place),
+        b"" if is_known && has_more => {
+            explain_fields(said, b" ends the key after ", fields, type_item)
+        }
+        b"" => explain_line(said, fault.place, fault.reason, fault.token),
+        b"{" | b"}" => explain_brace(said, fault.place, fault.behind),
+        [b'"', ..] if !is_known || has_more => explain_key_string(
+            said,
+            type_item,
+            fields,
+            fault.token,
+        ),
+        _ if is_after_moment(fault.before) => explain_after_moment(said, fault.place),
+        b"." if is_known && fields > 0 && !has_more => explain_fields(
             said,
             b" begins one more field, and the set has ",
             fields,
             type_item,
         ),
-        b"" if is_known && has_more => {
-            explain_fields(said, b" ends the key after ", fields, type_item)
-        }
-        b"" if has_more && !is_in_name(fault.before) => {
-            explain_fields(said, b" ends the key after ", fields, type_item)
-        }
-        b"" => explain_plainly(said, TextKind::Keys, fault.reason, fault.token),
-        _ if is_known && has_more => {
-            said.say(b" can't follow a value", b"write ' . ' between fields")
-        }
-        _ if is_known => said.tell(
-            &[Piece::Word(b" can't follow the last field")],
-            &[
-                Piece::Word(b"write each key in a line of its own; the set's type is "),
-                Piece::Word(types_of(type_item)),
-            ],
-        ),
-        _ => explain_plainly(said, TextKind::Keys, fault.reason, fault.token),
+        _ if is_known && fields == 0 => explain_after_name(said, type_item),
+        _ if is_known && has_more => explain_between(said, type_item, fields, fault),
+        _ if is_known => explain_after_key(said, fault.place, type_item, fault.token, fault.behind),
+        _ => explain_line(said, fault.place, fault.reason, fault.token),
     }
-}
-
-/// Whether a token is at the place of a word of its set's name.
-pub(crate) fn is_in_name(before: &[u8]) -> bool {
-    word_at(before, name_count(before).saturating_sub(1)).is_empty()
 }
 
 /// The word that is meant as the name of a set: the bad token, or the word before it if a set has that name.
@@ -124,7 +171,47 @@ fn named_by<'a>(schema: &Schema, fault: KeyFault<'a>) -> &'a [u8] {
     fault.token
 }
 
-/// Explains a bad token of a key file, by the types of its line's set.
+/// Whether a line begins as a statement does, or with another word before a family.
+fn is_statement_line(line: &[u8]) -> bool {
+    let first = word_at(line, 0);
+    begins_a_statement(first) || is_family(word_at(line, 1)) || is_element_line(line)
+}
+
+/// Whether a word is `at` in other letters, or with a `:`.
+fn is_like_at(word: &[u8]) -> bool {
+    matches!(
+        word,
+        [b'a' | b'A', b't' | b'T'] | [b'a' | b'A', b't' | b'T', b':']
+    )
+}
+
+/// Explains a word that doesn't name a set of the script.
+fn explain_set_name(
+    said: &mut Explained,
+    schema: &Schema,
+    fault: KeyFault<'_>,
+) -> Result<(), Memory> {
+    let first = word_at(fault.before, 0);
+    let is_second = word_at(fault.before, 1).is_empty();
+    if is_statement_line(fault.line) {
+        return said.say(
+            b" isn't the name of a set: a key has no words of a statement",
+            KEY_FORM,
+        );
+    }
+    if is_second && is_number(fault.token) && first == b"round".as_slice() {
+        return said.say(b" can't follow 'round'", b"write 'round' alone in its line");
+    }
+    if is_second && is_number(fault.token) && is_like_at(first) {
+        return said.say(
+            b" isn't a set of the script",
+            b"write a moment with 'at' in lower case, as: at 500",
+        );
+    }
+    explain_unknown(said, schema, named_by(schema, fault))
+}
+
+/// Explains a bad token of a key, by the types of its line's set.
 pub(crate) fn explain_key(
     said: &mut Explained,
     schema: &Schema,
@@ -132,24 +219,27 @@ pub(crate) fn explain_key(
     fault: KeyFault<'_>,
 ) -> Result<(), Memory> {
     match fault.reason {
+        Reason::Value if fault.token == b".".as_slice() => {
+            if fields_before(fault.before) == 0 {
+                explain_after_name(said, type_item)
+            } else {
+                explain_second_dot(said, type_item)
+            }
+        }
         Reason::Value => {
             let number = count_of(fault.before, b".");
-            explain_key_value(said, type_item, number, fault.token)
+            explain_key_value(said, type_item, number, fault.token, fault.behind)
         }
-        Reason::Set if is_element_line(fault.line) => said.say(
-            b" isn't the name of a set: a key has no words of a statement",
-            KEY_FORM,
-        ),
-        Reason::Set => explain_unknown(said, schema, named_by(schema, fault)),
+        Reason::Set => explain_set_name(said, schema, fault),
+        Reason::Moment => explain_key_moment(said, fault.place),
         Reason::Character if fault.token.first() == Some(&b'@') && is_in_name(fault.before) => {
             explain_reference(said)
         }
-        Reason::LeftOut if fault.token == b"*".as_slice() => said.say(
-            b" isn't a value",
-            b"write one value: a packet has one in each field",
-        ),
-        Reason::Statement if is_slashes(fault.token) => explain_slashes(said),
-        Reason::Statement | Reason::End => explain_place(said, type_item, fault),
-        reason => explain_plainly(said, TextKind::Keys, reason, fault.token),
+        Reason::Character => explain_character(said, fault.token),
+        Reason::LeftOut if fault.token == b"*".as_slice() => {
+            said.say(b" isn't a value", ONE_VALUE)
+        }
+        _ if is_slashes(fault.token) => explain_slashes(said),
+        _ => explain_place(said, type_item, fault),
     }
 }

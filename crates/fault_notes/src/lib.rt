@@ -42,6 +42,8 @@ mod families;
 mod files;
 mod help;
 mod hidden;
+mod key_places;
+mod key_values;
 mod keys;
 mod near;
 mod note;

@@ -10,17 +10,17 @@ use text_pieces::Piece;
 /// A field of a set, and the word at its place.
 #[derive(Clone, Copy)]
 pub(crate) struct Field<'a> {
-    word: &'a [u8],
+    pub(crate) word: &'a [u8],
     /// Its number, from 0.
-    number: u64,
-    kind: Kind,
+    pub(crate) number: u64,
+    pub(crate) kind: Kind,
     /// The set's item `type`.
-    type_item: &'a [u8],
+    pub(crate) type_item: &'a [u8],
 }
 
 /// What is wrong with a word at a field's place.
 #[derive(Clone, Copy)]
-enum WrongValue<'a> {
+pub(crate) enum WrongValue<'a> {
     /// It means several values, and the set has no flag `interval`.
     Several,
     /// A number is greater than the last of the kind.
@@ -96,7 +96,7 @@ const SERVICES: [(&[u8], u64); 32] = [
 ];
 
 /// The port of a service by its name.
-fn port_of(name: &[u8]) -> Option<u64> {
+pub(crate) fn port_of(name: &[u8]) -> Option<u64> {
     for (service, port) in &SERVICES {
         if *service == name {
             return Some(*port);
@@ -151,7 +151,7 @@ fn last_of(kind: Kind) -> &'static [u8] {
 }
 
 /// The word before its first `-` or `/`, and the rest.
-fn first_end(word: &[u8]) -> (&[u8], &[u8]) {
+pub(crate) fn first_end(word: &[u8]) -> (&[u8], &[u8]) {
     match word.iter().position(|byte| *byte == b'-' || *byte == b'/') {
         Some(place) => word.split_at(place),
         None => (word, b""),
@@ -177,7 +177,7 @@ pub(crate) fn is_range(word: &[u8]) -> bool {
 }
 
 /// The kind of address that a word is.
-fn address_kind(word: &[u8]) -> Option<Kind> {
+pub(crate) fn address_kind(word: &[u8]) -> Option<Kind> {
     for kind in [Kind::Ipv4, Kind::Ipv6, Kind::Ether] {
         if read_value(kind, word).is_ok() {
             return Some(kind);
@@ -228,7 +228,7 @@ fn colon_between(kind: Kind, word: &[u8]) -> Option<(&[u8], &[u8])> {
 }
 
 /// How many bits a netmask has, as 24 for 255.255.255.0.
-fn mask_bits(word: &[u8]) -> Option<u64> {
+pub(crate) fn mask_bits(word: &[u8]) -> Option<u64> {
     let Ok(mask) = read_value(Kind::Ipv4, word) else {
         return None;
     };
@@ -276,7 +276,7 @@ fn wrong_interval(kind: Kind, word: &[u8]) -> WrongValue<'_> {
 }
 
 /// Whether a word is a value of a kind, and after a `.` or a `:` one of the next field's.
-fn is_joined(field: Field<'_>) -> bool {
+pub(crate) fn is_joined(field: Field<'_>) -> bool {
     let Some(next) = kind_at(field.type_item, field.number.saturating_add(1)) else {
         return false;
     };
@@ -310,7 +310,7 @@ fn fitting_field(type_item: &[u8], word: &[u8]) -> Option<(u64, Kind)> {
 }
 
 /// What is wrong with the word at a field's place.
-fn wrong_value(field: Field<'_>) -> WrongValue<'_> {
+pub(crate) fn wrong_value(field: Field<'_>) -> WrongValue<'_> {
     if read_interval(field.kind, field.word).is_ok() {
         return WrongValue::Several;
     }
@@ -334,7 +334,7 @@ pub(crate) fn types_of(type_item: &[u8]) -> &[u8] {
 
 impl Explained {
     /// Says which field a word doesn't fit.
-    fn misfit(&mut self, field: Field<'_>) -> Result<(), Memory> {
+    pub(crate) fn misfit(&mut self, field: Field<'_>) -> Result<(), Memory> {
         self.wrong.pieces(
             self.alloc,
             &[
@@ -416,7 +416,7 @@ impl Explained {
     }
 
     /// Says what is wrong with a port.
-    fn wrong_port(&mut self, wrong: &[u8], port: u64) -> Result<(), Memory> {
+    pub(crate) fn wrong_port(&mut self, wrong: &[u8], port: u64) -> Result<(), Memory> {
         self.tell(
             &[Piece::Word(wrong)],
             &[Piece::Word(b"use "), Piece::Number(port)],
@@ -440,8 +440,18 @@ impl Explained {
         )
     }
 
+    /// Says that a word is no value of a kind.
+    pub(crate) fn no_value(&mut self, kind: Kind) -> Result<(), Memory> {
+        self.wrong.say(b"it isn't ")?;
+        self.say(what(kind), form_of(kind))
+    }
+
     /// Says what is wrong with a word at a field's place, after the field.
-    fn wrong_value(&mut self, field: Field<'_>, wrong: WrongValue<'_>) -> Result<(), Memory> {
+    pub(crate) fn wrong_value(
+        &mut self,
+        field: Field<'_>,
+        wrong: WrongValue<'_>,
+    ) -> Result<(), Memory> {
         let kind = field.kind;
         match wrong {
             WrongValue::TooGreat(number) => {
@@ -478,10 +488,7 @@ impl Explained {
                 b"it isn't an IPv4 address",
                 b"write a network as a prefix, as 192.0.2.0/24",
             ),
-            WrongValue::NoValue(word) if word.len() == field.word.len() => {
-                self.wrong.say(b"it isn't ")?;
-                self.say(what(kind), form_of(kind))
-            }
+            WrongValue::NoValue(word) if word.len() == field.word.len() => self.no_value(kind),
             WrongValue::NoValue(word) => self.tell(
                 &[
                     Piece::Word(b"'"),
@@ -535,41 +542,6 @@ pub(crate) fn explain_value(said: &mut Explained, fault: Fault<'_>) -> Result<()
     }
 }
 
-/// Explains a word of a key file at the place of a value: the field of this number, from 0, of a set with
-/// this item `type`.
-pub(crate) fn explain_key_value(
-    said: &mut Explained,
-    type_item: &[u8],
-    number: u64,
-    word: &[u8],
-) -> Result<(), Memory> {
-    let Some(kind) = kind_at(type_item, number) else {
-        return said.tell(
-            &[
-                Piece::Word(b" isn't a value of field "),
-                Piece::Number(number.saturating_add(1)),
-            ],
-            &[Piece::Word(b"write one value of the field's type, and no range or prefix")],
-        );
-    };
-    let field = Field {
-        word,
-        number,
-        kind,
-        type_item,
-    };
-    match wrong_value(field) {
-        WrongValue::Several => said.say(
-            b" is more than one value, and a packet has one in each field",
-            b"write one value, and no range or prefix",
-        ),
-        wrong => {
-            said.misfit(field)?;
-            said.wrong_value(field, wrong)
-        }
-    }
-}
-
 /// All values of a kind, as an interval.
 fn all_of(kind: Kind) -> &'static [u8] {
     match kind {
@@ -594,7 +566,7 @@ pub(crate) fn explain_all(said: &mut Explained, fault: Fault<'_>) -> Result<(), 
 }
 
 /// The name in a string.
-fn unquoted(text: &[u8]) -> &[u8] {
+pub(crate) fn unquoted(text: &[u8]) -> &[u8] {
     match text {
         [b'"', name @ .., b'"'] => name,
         _ => text,

@@ -293,6 +293,8 @@ const KEYS: &[u8] = b"\
     7 2 1 8 value;ip t s 80|key:1:8: '80' doesn't fit field 1 (ipv4_addr): it isn't an IPv4 address\nip t s 80\n       ^^\nhelp: write four numbers from 0 to 255 with '.' between them, as 192.0.2.1\n~\
     2 2 1 3 set;s 80|key:1:3: '80' isn't a set of the script\ns 80\n  ^^\nhelp: did you mean 'ip t s'?\n~\
     ;at 5|key:1:1: the words name no packet\nhelp: write [FAMILY] TABLE SET VALUE . VALUE ..; a moment is given before the script, as --at MOMENT\n~\
+    ;ip t s 10.0.0.1\nip t s 10.0.0.2|key:1:1: the words have more than one line\nhelp: 'get' answers one key: write the keys into a file, one in each line, and then: pipapo run SCRIPT FILE\n~\
+    16 8 1 17 statement;ip t s 10.0.0.1 10.0.0.2|key:1:17: '10.0.0.2' can't follow the last field\nip t s 10.0.0.1 10.0.0.2\n                ^^^^^^^^\nhelp: 'get' answers one key: write the keys into a file, one in each line, and then: pipapo run SCRIPT FILE\n~\
 ";
 
 /// The note on words that are no key. Before the words is the bad token, or nothing if there is none.
@@ -326,7 +328,7 @@ fn notes(rt: HostRuntime) {
     assert_told(&rt, rt.alloc(), CAPTURES, 18, told_capture);
     assert_told(&rt, rt.alloc(), FILES, 6, told_file);
     assert_told(&rt, rt.alloc(), REFUSALS, 6, told_refusals);
-    assert_told(&rt, rt.alloc(), KEYS, 3, told_key);
+    assert_told(&rt, rt.alloc(), KEYS, 5, told_key);
 }
 
 /// Whether a note on so many refused changes has 20 lines, and then this.
