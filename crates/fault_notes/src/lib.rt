@@ -40,6 +40,7 @@ mod content;
 mod explained;
 mod families;
 mod files;
+mod held;
 mod help;
 mod hidden;
 mod key_places;

@@ -4,6 +4,7 @@ ghost use Rattle.std.specs.Prelude.{◌≡◌, ℕ, IfOk};
 ghost use Rattle.fault_notes.specs.Blanked.{blanked};
 
 use crate::content::begins_a_statement;
+use crate::held::is_other_item;
 use crate::values::is_range;
 use crate::words::{bytes_of, is_one_of, is_separator, item_of, word_at};
 use set_model::Memory;
@@ -92,7 +93,9 @@ fn item_at(statement: &[u8], at: u64) -> Option<Item<'_>> {
 /// Whether the other items of a set can be read without this one. All of them need the type.
 fn is_apart(item: Item<'_>) -> bool {
     let word = word_at(item.bytes, 0);
-    let begins = begins_a_statement(word) || is_one_of(word, &[b"", b"set", b"type"]);
+    let begins = begins_a_statement(word)
+        || is_other_item(word)
+        || is_one_of(word, &[b"", b"set", b"type"]);
     !begins && !item_of(item.before, b"type").is_empty()
 }
 
