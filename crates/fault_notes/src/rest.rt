@@ -161,9 +161,9 @@ fn without_part(alloc: Global, text: &[u8], from: usize, to: usize) -> Result<Ve
     Ok(rest)
 }
 
-/// The script without the statement around a place, or without the item of a set if the set's other items
-/// can be read without it, or without what follows a `{` that no `}` closes. The bytes of this part are blanked out, and its line feeds stay. So each other
-/// token keeps its place.
+/// The script without the statement around a place. It is the script without the item of a set, if the set's
+/// other items can be read without it. It is the script without what follows a `{` that no `}` closes, if there is
+/// one. The bytes of this part are blanked out, and its line feeds stay. So each other token keeps its place.
 ///
 /// # Errors
 ///
