@@ -120,10 +120,12 @@ fn open_at(alloc: Global, statement: &[u8], at: u64) -> Result<Option<usize>, Me
     Ok(found)
 }
 
-/// Whether the word at a place begins a statement or a set. Such a word shows by itself that a `{` is open.
+/// Whether the word at a place begins a statement or an item of a table. Such a word shows by itself that a `{` is open.
 fn shows_open(text: &[u8], at: u64) -> bool {
     let word = word_at(text.get(at as usize..).unwrap_or(b""), 0);
-    begins_a_statement(word) || is_one_of(word, &[b"set", b"at", b"commit", b"abort", b"round"])
+    begins_a_statement(word)
+        || is_other_item(word)
+        || is_one_of(word, &[b"set", b"at", b"commit", b"abort", b"round"])
 }
 
 /// The part around a place of a script that is left out if the rest is read: the item of a set, if the set's
