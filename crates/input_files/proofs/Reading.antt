@@ -36,8 +36,7 @@ use Rattle.input_files.specs.Inputs.{Input, script, second, rules_of_nft, keys, 
 use Rattle.fault_notes.specs.Told.{MayTell}
 use Rattle.input_files.specs.Noted.{IsNoteOn, StopsTelling}
 use Rattle.input_files.specs.Reads.{AreOf, AreReadWhole, AreRead, HasRead}
-use Rattle.input_files.specs.Seen.{seen, AreSkips, AreAllSkips, AddsSkips, KeepsAll}
-use Rattle.input_files.specs.declared.seen.Skips.{Skips}
+use Rattle.input_files.specs.Seen.{seen, AreSkips, AreAllSkips}
 use Rattle.input_files.specs.Works.{AreSetsOf}
 use Rattle.fault_notes.proofs.ToldLaws.{tells-as}
 use Rattle.input_files.proofs.Telling.{same-note}
@@ -184,7 +183,7 @@ more-skips told rulesets (n ∷ names) name note lines any leaves all are = (
 
 -- These files were read, and nothing else was done: the shelf before and after. This is skipped of those that are
 -- rulesets.
-pub record UpTo (rulesets : List (List ℕ)) (told_before : List ℕ → Option (List ℕ)) (faults_before : ℕ) (picked_before : Numbers) (told : List ℕ → Option (List ℕ)) (asked : List (List ℕ)) (faults : ℕ) (picked : Numbers) (left : ℕ → Option (List ℕ)) (skipped : Skips) (sets : List SetDecl) (files : List Input) : Type 0 where
+pub record UpTo (rulesets : List (List ℕ)) (told_before : List ℕ → Option (List ℕ)) (faults_before : ℕ) (picked_before : Numbers) (told : List ℕ → Option (List ℕ)) (asked : List (List ℕ)) (faults : ℕ) (picked : Numbers) (left : ℕ → Option (List ℕ)) (note : List ℕ) (leaves : Bool) (sets : List SetDecl) (files : List Input) : Type 0 where
   pub are_of : AreOf (seen rulesets told_before) sets files
   pub whole : AreReadWhole picked_before picked left (length files)
   pub names : asked ≡ names_of files
@@ -192,17 +191,17 @@ pub record UpTo (rulesets : List (List ℕ)) (told_before : List ℕ → Option 
   pub picks : (m : ℕ) → picked_before m → picked m
   pub same : (name : List ℕ) → told name ≡ told_before name
   pub same_seen : (name : List ℕ) → seen rulesets told name ≡ seen rulesets told_before name
-  pub skips : AreAllSkips told_before rulesets (names_of files) skipped.lines.bytes.items skipped.leaves_sets_out
+  pub skips : AreAllSkips told_before rulesets (names_of files) note leaves
 
-pub up-to-none : (rulesets : List (List ℕ)) (told : List ℕ → Option (List ℕ)) (asked : List (List ℕ)) (faults : ℕ) (picked : Numbers) (left : ℕ → Option (List ℕ)) (sets : List SetDecl) (skipped : Skips) → asked ≡ [] → KeepsAll skipped → UpTo rulesets told faults picked told asked faults picked left skipped sets []
-up-to-none rulesets told asked faults picked left sets skipped nothing fresh =
+pub up-to-none : (rulesets : List (List ℕ)) (told : List ℕ → Option (List ℕ)) (asked : List (List ℕ)) (faults : ℕ) (picked : Numbers) (left : ℕ → Option (List ℕ)) (sets : List SetDecl) (note : List ℕ) (leaves : Bool) → asked ≡ [] → (note ≡ []) × (leaves ≡ false) → UpTo rulesets told faults picked told asked faults picked left note leaves sets []
+up-to-none rulesets told asked faults picked left sets note leaves nothing fresh =
     record { are_of = tt; whole = none-whole picked picked left; names = nothing; quiet = refl; picks = λ m o. o; same = λ name. refl; same_seen = λ name. refl; skips = fresh }
 
-module _ {rulesets : List (List ℕ)} {told_before told_mid told : List ℕ → Option (List ℕ)} {faults_before faults_mid faults : ℕ} {picked_before picked_mid picked : Numbers} {asked_mid asked : List (List ℕ)} {left_mid left : ℕ → Option (List ℕ)} {skipped_mid skipped : Skips} {sets : List SetDecl} {files : List Input} where
+module _ {rulesets : List (List ℕ)} {told_before told_mid told : List ℕ → Option (List ℕ)} {faults_before faults_mid faults : ℕ} {picked_before picked_mid picked : Numbers} {asked_mid asked : List (List ℕ)} {left_mid left : ℕ → Option (List ℕ)} {note_mid note : List ℕ} {leaves_mid leaves : Bool} {sets : List SetDecl} {files : List Input} where
   -- One file more was read.
-  pub up-to-more : (i : Input) → UpTo rulesets told_before faults_before picked_before told_mid asked_mid faults_mid picked_mid left_mid skipped_mid sets files → ReadsAs (seen rulesets told_mid) i.name (IsOf i.form sets) → (asked ≡ asked_mid ++ i.name ∷ []) × (faults ≡ faults_mid)
-      → ReadsToEnd picked_mid picked left → KeepsLeft picked_mid picked left_mid left → ((name : List ℕ) → told name ≡ told_mid name) → ((name : List ℕ) → seen rulesets told name ≡ seen rulesets told_mid name) → AddsSkips told_mid rulesets i.name skipped_mid skipped
-      → UpTo rulesets told_before faults_before picked_before told asked faults picked left skipped sets (files ++ i ∷ [])
+  pub up-to-more : (i : Input) → UpTo rulesets told_before faults_before picked_before told_mid asked_mid faults_mid picked_mid left_mid note_mid leaves_mid sets files → ReadsAs (seen rulesets told_mid) i.name (IsOf i.form sets) → (asked ≡ asked_mid ++ i.name ∷ []) × (faults ≡ faults_mid)
+      → ReadsToEnd picked_mid picked left → KeepsLeft picked_mid picked left_mid left → ((name : List ℕ) → told name ≡ told_mid name) → ((name : List ℕ) → seen rulesets told name ≡ seen rulesets told_mid name) → (lines : List ℕ) × (one : Bool) × (note ≡ note_mid ++ lines) × (leaves ≡ (leaves_mid || one)) × AreSkips told_mid rulesets i.name lines one
+      → UpTo rulesets told_before faults_before picked_before told asked faults picked left note leaves sets (files ++ i ∷ [])
   up-to-more i u read quiet whole kept same same_seen adds = record {
     are_of = are-more (seen rulesets told_before) sets files i u.are_of (reads-same (seen rulesets told_mid) (seen rulesets told_before) i.name (IsOf i.form sets) u.same_seen read);
     whole = subst (λ (n : ℕ). AreReadWhole picked_before picked left n) (sym (length-append files (i ∷ []))) (whole-more picked_before picked_mid picked left_mid left (length files) u.whole kept u.picks whole);
@@ -211,10 +210,10 @@ module _ {rulesets : List (List ℕ)} {told_before told_mid told : List ℕ → 
     picks = λ m o. (kept m (u.picks m o)).0;
     same = λ name. same name ∙ u.same name;
     same_seen = λ name. same_seen name ∙ u.same_seen name;
-    skips = subst (λ (ns : List (List ℕ)). AreAllSkips told_before rulesets ns skipped.lines.bytes.items skipped.leaves_sets_out) (sym (names-append files i))
-        (subst (λ (t : List ℕ). AreAllSkips told_before rulesets (names_of files ++ i.name ∷ []) t skipped.leaves_sets_out) (sym adds.2)
-        (subst (λ (b : Bool). AreAllSkips told_before rulesets (names_of files ++ i.name ∷ []) (skipped_mid.lines.bytes.items ++ adds.0) b) (sym adds.3)
-        (more-skips told_before rulesets (names_of files) i.name skipped_mid.lines.bytes.items adds.0 skipped_mid.leaves_sets_out adds.1 u.skips (same-skips told_mid told_before rulesets i.name adds.0 adds.1 u.same adds.4))));
+    skips = subst (λ (ns : List (List ℕ)). AreAllSkips told_before rulesets ns note leaves) (sym (names-append files i))
+        (subst (λ (t : List ℕ). AreAllSkips told_before rulesets (names_of files ++ i.name ∷ []) t leaves) (sym adds.2)
+        (subst (λ (b : Bool). AreAllSkips told_before rulesets (names_of files ++ i.name ∷ []) (note_mid ++ adds.0) b) (sym adds.3)
+        (more-skips told_before rulesets (names_of files) i.name note_mid adds.0 leaves_mid adds.1 u.skips (same-skips told_mid told_before rulesets i.name adds.0 adds.1 u.same adds.4))));
   }
 
 -- A cause is a statement on the bytes that the shelf knew before, and on its counts then.
@@ -226,8 +225,8 @@ same-cause told other sets names others asked before mid now i (TooLarge name) s
 same-cause told other sets names others asked before mid now i Memory same e quiet h = (subst (λ (ns : List (List ℕ)). AsksOnce ns asked i.name) e h.0, h.1 ∙ quiet)
 
 -- The next file can't be had.
-module _ {rulesets : List (List ℕ)} {told_before told_mid : List ℕ → Option (List ℕ)} {faults_before faults_mid faults : ℕ} {picked_before picked_mid picked : Numbers} {asked_mid asked : List (List ℕ)} {left_mid left : ℕ → Option (List ℕ)} {skipped_mid : Skips} {sets : List SetDecl} {files : List Input} {noted_before noted_mid noted : Option (List ℕ)} where
-  pub stops : (c : Command) (i : Input) (later : List Input) (fault : FileFault) → inputs c ≡ files ++ i ∷ later → UpTo rulesets told_before faults_before picked_before told_mid asked_mid faults_mid picked_mid left_mid skipped_mid sets files
+module _ {rulesets : List (List ℕ)} {told_before told_mid : List ℕ → Option (List ℕ)} {faults_before faults_mid faults : ℕ} {picked_before picked_mid picked : Numbers} {asked_mid asked : List (List ℕ)} {left_mid left : ℕ → Option (List ℕ)} {note_mid : List ℕ} {leaves_mid : Bool} {sets : List SetDecl} {files : List Input} {noted_before noted_mid noted : Option (List ℕ)} where
+  pub stops : (c : Command) (i : Input) (later : List Input) (fault : FileFault) → inputs c ≡ files ++ i ∷ later → UpTo rulesets told_before faults_before picked_before told_mid asked_mid faults_mid picked_mid left_mid note_mid leaves_mid sets files
       → KeepsLeft picked_mid picked left_mid left → IsFileCause (seen rulesets told_mid) sets asked_mid i asked faults_mid faults fault → noted_mid ≡ noted_before → MayTell (IsNoteOn (seen rulesets told_mid) sets i.name fault) noted_mid noted
       → StopsTelling (record { told = seen rulesets told_before; asked = asked; faults_before = faults_before; faults_now = faults; picked_before = picked_before; picked_now = picked; left = left }) c noted_before noted fault
   stops c i later fault in_order u kept cause silent tells = record {
@@ -245,17 +244,17 @@ module _ {rulesets : List (List ℕ)} {told_before told_mid : List ℕ → Optio
   }
 
 -- All files of a command were read. This is skipped of those that are rulesets.
-pub has-read : {rulesets : List (List ℕ)} {told_before told : List ℕ → Option (List ℕ)} {faults_before faults : ℕ} {picked_before picked : Numbers} {asked : List (List ℕ)} {left : ℕ → Option (List ℕ)} {skipped : Skips} {sets : List SetDecl} {files : List Input} (c : Command) → inputs c ≡ files
-    → UpTo rulesets told_before faults_before picked_before told asked faults picked left skipped sets files
-    → HasRead (record { told = seen rulesets told_before; asked = asked; faults_before = faults_before; faults_now = faults; picked_before = picked_before; picked_now = picked; left = left }) c × AreAllSkips told_before rulesets (names_of (inputs c)) skipped.lines.bytes.items skipped.leaves_sets_out
-has-read {rulesets} {told_before} {told} {faults_before} {faults} {picked_before} {picked} {asked} {left} {skipped} {sets} {files} c all u = (
+pub has-read : {rulesets : List (List ℕ)} {told_before told : List ℕ → Option (List ℕ)} {faults_before faults : ℕ} {picked_before picked : Numbers} {asked : List (List ℕ)} {left : ℕ → Option (List ℕ)} {note : List ℕ} {leaves : Bool} {sets : List SetDecl} {files : List Input} (c : Command) → inputs c ≡ files
+    → UpTo rulesets told_before faults_before picked_before told asked faults picked left note leaves sets files
+    → HasRead (record { told = seen rulesets told_before; asked = asked; faults_before = faults_before; faults_now = faults; picked_before = picked_before; picked_now = picked; left = left }) c × AreAllSkips told_before rulesets (names_of (inputs c)) note leaves
+has-read {rulesets} {told_before} {told} {faults_before} {faults} {picked_before} {picked} {asked} {left} {note} {leaves} {sets} {files} c all u = (
   record {
     sets = sets;
     all = subst (λ (fs : List Input). AreRead (record { told = seen rulesets told_before; asked = asked; faults_before = faults_before; faults_now = faults; picked_before = picked_before; picked_now = picked; left = left }) sets fs) (sym all) (record { are_of = u.are_of; whole = u.whole });
     asked = u.names ∙ ap names_of (sym all);
     quiet = u.quiet;
   },
-  subst (λ (fs : List Input). AreAllSkips told_before rulesets (names_of fs) skipped.lines.bytes.items skipped.leaves_sets_out) (sym all) u.skips,
+  subst (λ (fs : List Input). AreAllSkips told_before rulesets (names_of fs) note leaves) (sym all) u.skips,
 )
 
 -- The first file of a command of a script.

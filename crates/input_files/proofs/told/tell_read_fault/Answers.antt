@@ -4,4 +4,4 @@ use Rattle.fault_notes.proofs.ToldLaws.{made-says}
 use Rattle.input_files.proofs.told.tell_read_fault.Goals as goal
 
 pub returns : goal.returns
-returns g c = made-says c.read_fault_note.result (λ (n : Note). n.bytes.items) (Begins (name_text c.args.name.now)) _ _ c.tell_note.ensures.says c.tell_note.ensures.nothing c.tell_note.ensures.says_no c.read_fault_note.ensures.name
+returns g c = made-says c.unread_note.result (λ (n : Note). n.bytes.items) (Begins (name_text c.args.name.now)) _ _ c.tell_note.ensures.says c.tell_note.ensures.nothing c.tell_note.ensures.says_no c.unread_note.ensures.name
