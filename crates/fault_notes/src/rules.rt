@@ -53,7 +53,7 @@ const FOR_NOT: &[u8] =
     b"write 'out' in place of 'in' to test that the set has no element for the packet, as: out ip t s";
 
 const ALL_TESTS: &[u8] =
-    b"write the tests of a rule one after another: a packet has to meet all of them";
+    b"write the tests one after another if a packet has to meet all, or a rule for each if one is enough";
 
 const RULE: &[u8] =
     b"a rule is 0 to 4 tests such as 'in ip t s' or 'out ip t s', and then accept, drop, return or jump CHAIN";

@@ -158,7 +158,7 @@ fn explain_second(said: &mut Explained, fault: Fault<'_>) -> Result<(), Memory> 
         ),
         b"flush" if word == b"table".as_slice() => said.say(
             b" can't follow 'flush'",
-            b"write 'flush set' for each set, to remove its elements",
+            b"leave it out: it removes rules, and a script has none",
         ),
         b"flush" if word == b"element".as_slice() => said.say(
             b" can't follow 'flush'",
@@ -278,7 +278,7 @@ pub(crate) fn explain_left_out(said: &mut Explained, fault: Fault<'_>) -> Result
         ),
         b"table" => said.say(
             b" can't be deleted",
-            b"write 'flush set' for each set, to remove its elements",
+            b"leave it out: a script begins without sets; later 'flush set' removes a set's elements",
         ),
         word => explain_plainly(said, TextKind::Script, Reason::LeftOut, word),
     }
