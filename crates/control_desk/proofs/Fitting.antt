@@ -1,5 +1,5 @@
 -- Steps fit all declared sets of the same kinds.
-use Rattle.std.proofs.Common.{◌≡◌, refl, sym, ◌∙◌, ap, subst, ℕ, zero, suc, ◌<◌, List, [], ◌∷◌, All, length, map, take, Option, Some, None, slice_get, option_map, IsTrue, arith}
+use Rattle.std.proofs.Common.{◌≡◌, refl, sym, ◌∙◌, ap, subst, ℕ, zero, suc, ◌<◌, List, [], ◌∷◌, All, length, take, Option, Some, None, slice_get, option_map, IsTrue, arith}
 use Rattle.std.proofs.lemmas.Option.{slice_get-map}
 use Rattle.std.proofs.lemmas.List.Elements.{All-weaker}
 use Rattle.set_model.specs.declared.kind.Kind.{Kind}

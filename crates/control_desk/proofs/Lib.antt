@@ -7,3 +7,4 @@ mod Submitting
 mod Opened
 mod Working
 mod Weaving
+mod Sending

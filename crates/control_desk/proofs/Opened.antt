@@ -1,10 +1,10 @@
 -- A desk as it is opened, and its control threads as they are made.
-use Rattle.std.proofs.Common.{◌≡◌, refl, sym, ◌∙◌, ap, subst, ℕ, ◌+◌, ◌*◌, ◌<◌, ◌≤◌, ◌⊎◌, ⊎_elim, List, [], ◌∷◌, ◌++◌, length, Option, Some, slice_get, arith, length-append}
+use Rattle.std.proofs.Common.{◌≡◌, ℕ, ◌+◌, List, [], ◌∷◌, ◌++◌, length, Some, slice_get}
 use Rattle.atomic_table.specs.Seated.{TableId}
 use Rattle.packet_pool.proofs.Lists.{each_push}
 use Rattle.set_model.specs.declared.script.SetDecl.{SetDecl}
 use Rattle.set_model.specs.Control.{Generation}
-use Rattle.control_desk.specs.Turns.{Seated, newcomer, IsOpened}
+use Rattle.control_desk.specs.Turns.{Seated, newcomer}
 
 module _ (of : TableId) (schema : List SetDecl) (base : List Generation) (threads left : ℕ) where
   -- the control threads that were made so far

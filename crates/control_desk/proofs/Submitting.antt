@@ -1,9 +1,9 @@
 -- A turn in which a transaction is submitted.
-use Rattle.std.proofs.Common.{◌≡◌, refl, sym, ◌∙◌, ap, subst, ℕ, ◌+◌, ◌-◌, ◌<◌, ◌≤◌, Bool, List, [], ◌∷◌, ◌++◌, All, length, take, fold, Option, Some, Result, Ok, Err, IfOk, OnOk, OnErr, arith, length-append}
+use Rattle.std.proofs.Common.{◌≡◌, refl, sym, ◌∙◌, ap, subst, ℕ, ◌+◌, ◌-◌, ◌<◌, ◌≤◌, Bool, List, [], ◌∷◌, All, length, take, fold, Some, Result, Ok, Err, IfOk, OnOk, OnErr, arith, length-append}
 use Rattle.std.proofs.lemmas.List.Elements.{All-nil, All-cons, All-head}
 use mathlib.Core.List.{append-nil}
-use Rattle.history_laws.specs.Histories.{StartsWith, EndsWith}
-use Rattle.history_laws.proofs.Prefixes.{one_last, starts_through}
+use Rattle.history_laws.specs.Histories.{StartsWith}
+use Rattle.history_laws.proofs.Prefixes.{one_last}
 use Rattle.log_turns.specs.declared.SeatView.{SeatView}
 use Rattle.log_turns.specs.declared.Role.{Role}
 use Rattle.log_turns.specs.declared.Role.TheVariants.{Clerk}

@@ -1,6 +1,6 @@
 -- The log of all control threads, once they have ended, is woven of their sections.
 use Rattle.std.proofs.lemmas.Bool.Decides.{nat_tests}
-use Rattle.std.proofs.Common.{◌≡◌, refl, sym, ◌∙◌, ap, subst, ℕ, zero, suc, ◌+◌, ◌-◌, ◌<◌, ◌≤◌, ◌==◌, Bool, true, false, cond, List, [], ◌∷◌, ◌++◌, All, filter, length, map, flat_map, Some, slice_get, get_or, take, drop, arith}
+use Rattle.std.proofs.Common.{◌≡◌, refl, sym, ◌∙◌, ap, subst, ℕ, zero, suc, ◌+◌, ◌-◌, ◌<◌, ◌≤◌, ◌==◌, Bool, true, false, cond, List, [], ◌∷◌, ◌++◌, All, length, map, flat_map, Some, slice_get, get_or, take, drop, arith}
 use Rattle.std.proofs.lemmas.List.Elements.{All-nil, All-cons, All-head, All-tail, All-weaker}
 use Rattle.packet_pool.proofs.Lists.{all_at, all_from, get_at}
 use Rattle.set_model.specs.declared.script.SetDecl.{SetDecl}
@@ -11,7 +11,7 @@ use Rattle.gen_publish.specs.Publish.{Steering}
 use Rattle.control_desk.specs.declared.entry.Entry.{Entry}
 use Rattle.log_turns.specs.LogRule.{Keeps}
 use Rattle.control_desk.specs.Books.{Booked}
-use Rattle.control_desk.specs.Woven.{IsOfOne, IsWoven, Replays, entries_of, steps_of}
+use Rattle.control_desk.specs.Woven.{IsOfOne, Replays, entries_of, steps_of}
 use Rattle.control_desk.specs.Turns.{Seated, AreAll, newcomer}
 use Rattle.control_desk.proofs.Submitting.{log_of, base_of, number_of, clerk_of}
 use Rattle.control_desk.specs.Work.{HasDone, HasDoneOf, IsEnd, IsOne, IsRun, SharesDesk, kept_by}

@@ -1,9 +1,8 @@
 -- What one control thread does with its section, and what all of them do.
-use Rattle.std.specs.Prelude.{◌≡◌, ◌+◌, ◌<◌, ◌≤◌, ◌++◌, ◌-◌, ℕ, Bool, true, cond, List, [], ◌∷◌, All, Some, length, slice_get, take, drop, if◌then◌else◌}
+use Rattle.std.specs.Prelude.{◌≡◌, ◌+◌, ◌<◌, ◌≤◌, ◌++◌, ◌-◌, ℕ, Bool, cond, List, [], ◌∷◌, All, Some, slice_get, take, drop, if◌then◌else◌}
 use Rattle.std.specs.List.{sum_by}
 use Rattle.history_laws.specs.Histories.{EndsWith}
 use Rattle.set_model.specs.declared.report.Event.{Event}
-use Rattle.set_model.specs.declared.script.SetDecl.{SetDecl}
 use Rattle.set_model.specs.declared.script.Step.{Step}
 use Rattle.set_model.specs.Control.{Generation}
 use Rattle.set_model.specs.Runnable.{EndsClosed, IsRunnableStep, opens}

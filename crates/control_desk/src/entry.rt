@@ -1,7 +1,8 @@
 //! The log of transactions.
 ghost use Rattle.std.specs.Prelude.{◌≡◌, ◌<◌, ◌++◌, [], ◌∷◌, Some, length, slice_get};
 
-use set_model::{Duplicate, Event, Events, Memory, Steps};
+use crate::logged_steps::LoggedSteps;
+use set_model::{Event, Events};
 use std::alloc::Global;
 use std::marker::Model;
 
@@ -11,25 +12,13 @@ pub struct Entry {
     /// The number of the control thread that submitted it, from 1.
     pub clerk: u32,
     /// Its changes, and the commit or abort that ends it.
-    pub steps: Steps,
+    pub steps: LoggedSteps,
     /// Whether refused changes were skipped and didn't fail it.
     pub keep_going: bool,
     /// Its refused changes, in their order.
     pub refused: Events,
     /// How it ended.
     pub end: Event,
-}
-
-impl Duplicate for Entry {
-    fn copy(&self, alloc: Global) -> Result<Self, Memory> {
-        Ok(Entry {
-            clerk: self.clerk,
-            steps: self.steps.copy(alloc)?,
-            keep_going: self.keep_going,
-            refused: self.refused.copy(alloc)?,
-            end: self.end,
-        })
-    }
 }
 
 /// The submitted transactions, in the order in which they were done. Contracts see it as the list of
@@ -87,15 +76,5 @@ impl Log {
         ensures { result.now ≡ self.now }
     {
         self.entries.as_slice()
-    }
-}
-
-impl Duplicate for Log {
-    fn copy(&self, alloc: Global) -> Result<Self, Memory> {
-        let mut entries = Vec::new(alloc);
-        'entries: for entry in &self.entries {
-            entries.push(entry.copy(alloc)?)?;
-        }
-        Ok(Log { alloc, entries })
     }
 }

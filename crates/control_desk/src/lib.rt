@@ -19,6 +19,9 @@
 //! control thread hasn't seen, the answer is `Stale`, and nothing is logged. [`run_clerks`] then
 //! submits again.
 //!
+//! An entry has its transaction's steps for contracts alone ([`LoggedSteps`]). The program keeps how many
+//! there are, since the steps themselves stay in the section that was submitted.
+//!
 //! **Definitions:** `specs/Woven.antt` says what a log is, and `Books.antt` what a transaction does to
 //! the book. `Turns.antt` and `Work.antt` say what control threads do. **Theory:**
 //! docs/architecture.md, "Several control threads". **Proofs:** docs/proofs.md, "Several control
@@ -29,6 +32,7 @@ mod bell;
 mod book;
 mod clerk;
 mod entry;
+mod logged_steps;
 mod opening;
 mod run;
 mod transaction;
@@ -38,5 +42,6 @@ pub use bell::{Bell, QuietBell};
 pub use book::Book;
 pub use clerk::{Clerk, DeskError};
 pub use entry::{Entry, Log};
+pub use logged_steps::LoggedSteps;
 pub use opening::open_desk;
 pub use run::run_clerks;

@@ -8,9 +8,10 @@ ghost use Rattle.control_desk.specs.Woven.{IsTransaction};
 ghost use Rattle.control_desk.specs.Books.{IsClosed, IsDone};
 
 use crate::entry::{Entry, Log};
+use crate::logged_steps::LoggedSteps;
 use gen_publish::Control;
 use packet_pool::{OpenGate, do_step};
-use set_model::{Duplicate, Event, Events, Memory, Step, Steps};
+use set_model::{Event, Events, Memory, Step};
 use std::alloc::Global;
 
 /// Does the changes of a transaction. Returns which were refused, and whether the transaction has
@@ -74,17 +75,6 @@ fn end_transaction(control: &mut Control, failed: bool, end: &Step) -> Result<Ev
     }
 }
 
-/// Copies of steps, as a list.
-fn copies(alloc: Global, steps: &[Step]) -> Result<Steps, Memory>
-    ensures { IfOk result (λ copies. copies ≡ steps.now) }
-{
-    let mut copies = Steps::new(alloc);
-    for step in steps {
-        copies.push(step.copy(alloc)?)?;
-    }
-    Ok(copies)
-}
-
 /// Does a transaction of a control thread, logs it, and returns how it ended. It takes room for the
 /// entry before the transaction ends.
 ///
@@ -106,14 +96,14 @@ pub(crate) fn transact(
     ensures err { OnErr result ((log.new ≡ log.old) × (control.new.committed ≡ control.old.committed)) }
     ensures kept { OnErr result (IsSameStart control.old control.new) }
 {
-    let copy = copies(log.alloc, steps)?;
+    let logged = LoggedSteps::of(log.alloc, steps)?;
     log.entries.reserve(1)?;
     let count = steps.len() - 1;
     let (refused, failed) = try_changes(log.alloc, control, &steps[..count], keep_going)?;
     let end = end_transaction(control, failed, &steps[count])?;
     log.entries.push_reserved(Entry {
         clerk,
-        steps: copy,
+        steps: logged,
         keep_going,
         refused,
         end,

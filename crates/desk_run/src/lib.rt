@@ -18,6 +18,9 @@
 //! **Text.** [`desk`] returns the first section's reports, the reports of the log's transactions in their order, and the
 //! last generation as a script. Reports are comments, so nft(8) reads the text.
 //!
+//! **Steps.** If a change was refused, [`desk`] also returns the steps in the order of the log. The log doesn't have them:
+//! each transaction leaves the end of its section, the log's last one first.
+//!
 //! **No later sections.** Then no desk is opened, and the log is empty.
 //!
 //! **Definitions:** `specs/DeskText.antt`, over `control_desk`'s `specs/Woven.antt`. **Theory:**
@@ -26,6 +29,7 @@
 #![tactic(auto)]
 
 mod gate_bell;
+mod order;
 mod running;
 mod text;
 mod whole;

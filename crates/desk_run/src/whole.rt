@@ -13,6 +13,7 @@ ghost use Rattle.script_laws.specs.Sections.{section_at};
 ghost use Rattle.desk_run.specs.DeskText.{IsDeskOutput, log_text, refusals_by};
 
 use crate::gate_bell::GateBell;
+use crate::order::done_in_order;
 use crate::running::run_later;
 use crate::text::write_log;
 use control_desk::{Bell, Entry, Log};
@@ -113,18 +114,6 @@ fn any_failure(told: &Events, log: &Log) -> bool
     }
 }
 
-/// The steps in the order in which they were done: the first section, and then the log's transactions.
-fn done_in_order(alloc: Global, first: Steps, log: Log) -> Result<Sections, Memory>
-    ensures { IfOk result (λ done. done ≡ first ∷ map (λ e. e.steps) log) }
-{
-    let mut done = Sections::new(alloc);
-    done.push(first)?;
-    for Entry { steps, .. } in log.into_entries() {
-        done.push(steps)?;
-    }
-    Ok(done)
-}
-
 /// What a desk returns: the first section's reports, the log, and the last generation as a script, and whether a change was
 /// refused.
 fn write_desk(
@@ -192,7 +181,7 @@ pub fn desk<R: Threads + Wait + Sync, B: Bell, G: Gate>(
     let (control, log) = run_later(rt, alloc, control, &sections, keep_going, &bell)?;
     let output = write_desk(alloc, &declared, &control, &told, &log, last)?;
     if output.refused {
-        let done = done_in_order(alloc, first, log)?;
+        let done = done_in_order(alloc, first, sections, log)?;
         let script = Script {
             schema: declared,
             sections: done,

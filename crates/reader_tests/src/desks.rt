@@ -8,7 +8,7 @@ use crate::asserts::same;
 use crate::fixture::{addition, one_set};
 use control_desk::{Book, Clerk, DeskError, Log, open_desk};
 use gen_publish::start;
-use set_model::{Duplicate, Event, Memory, Schema, Step, Steps};
+use set_model::{Event, Memory, Schema, Step, Steps};
 use std::alloc::Global;
 use std::process::Abort;
 use std::sync::Wait;
@@ -120,19 +120,20 @@ fn assert_logged(rt: &impl Abort, log: &Log, steps: &Steps) {
     same(rt, log.at(0).steps.len(), steps.len());
 }
 
-fn assert_applies(rt: &impl Abort, alloc: Global, book: &mut Book, steps: &Steps)
-    requires steps { IsTransaction steps.now × All (IsRunnableStep book.old.control.schema) steps.now }
-    requires number { book.old.control.work.base.number < 2 ^ 63 }
+fn assert_applies(rt: &impl Abort, book: Book, steps: &Steps)
+    requires steps { IsTransaction steps.now × All (IsRunnableStep book.control.schema) steps.now }
+    requires number { book.control.work.base.number < 2 ^ 63 }
 {
+    let mut book = book;
     let end = book.apply(1, steps, false);
     assert!(rt; end == Ok(committed(1)));
-    assert_logged(rt, &book.log.copy(alloc).expect(rt, "memory"), steps);
+    let Book { log, .. } = book;
+    assert_logged(rt, &log, steps);
 }
 
 #[test]
 fn a_book_logs_a_transaction(rt: HostRuntime) -> Result<(), Fail> {
-    let alloc = rt.alloc();
-    let (mut book, steps) = book(alloc)?;
-    assert_applies(&rt, alloc, &mut book, &steps);
+    let (book, steps) = book(rt.alloc())?;
+    assert_applies(&rt, book, &steps);
     Ok(())
 }

@@ -1,5 +1,4 @@
-use Rattle.std.proofs.Common.{◌≡◌, ◌+◌, ◌*◌, ◌∷◌, [], Some, ap, sym, ◌∙◌, subst, arith, take, length, rules}
-use Rattle.std.proofs.lemmas.List.{take_all}
+use Rattle.std.proofs.Common.{◌≡◌, ◌*◌, ◌∷◌, [], Some, ap, sym, subst, arith, rules}
 use Rattle.atomic_table.specs.Table.{opening}
 use Rattle.log_turns.specs.LogRule.{Kept, opening_view, most}
 use Rattle.log_turns.proofs.Opening.{opens}

@@ -1,11 +1,10 @@
-use Rattle.std.proofs.Common.{◌≡◌, ◌<◌, ◌≤◌, ◌∷◌, ◌++◌, All, Some, ap, sym, ◌∙◌, subst, map, take, drop}
-use Rattle.history_laws.specs.Histories.{EndsWith}
+use Rattle.std.proofs.Common.{◌≡◌, ◌<◌, ◌≤◌, ◌∷◌, All, ap, sym, ◌∙◌, subst, map}
 use Rattle.gen_publish.specs.Publish.{Grown}
-use Rattle.log_turns.specs.LogRule.{Keeps, IsNamed}
+use Rattle.log_turns.specs.LogRule.{Keeps}
 use Rattle.control_desk.specs.Books.{Booked, IsClosed}
 use Rattle.control_desk.specs.Woven.{Replays, entries_of}
 use Rattle.control_desk.specs.Turns.{Seated}
-use Rattle.control_desk.specs.Work.{IsEnd, kept_by}
+use Rattle.control_desk.specs.Work.{kept_by}
 use Rattle.control_desk.proofs.Submitting.{log_of, base_of, number_of, clerk_of}
 use Rattle.control_desk.proofs.Weaving.{cut_first, own_of}
 use Rattle.control_desk.proofs.run.close.Goals as goal

@@ -1,4 +1,4 @@
-use Rattle.std.proofs.Common.{rules, ◌≡◌, ◌<◌, Some, Ok, IfOk, Result, List, ap, sym, ◌∙◌, subst, slice_get, option_map, length, map, arith}
+use Rattle.std.proofs.Common.{rules, ◌≡◌, Some, Ok, IfOk, Result, List, ap, sym, ◌∙◌, subst, slice_get, option_map, length, arith}
 use Rattle.std.proofs.lemmas.Option.{slice_get_within, slice_get-map, get_or_from_slice_get}
 use lib.ListN.{length-map}
 use Rattle.packet_pool.proofs.Lists.{get_at}
@@ -6,6 +6,9 @@ use Rattle.set_model.specs.declared.memory.Memory.{Memory}
 use Rattle.control_desk.specs.Turns.{Seated}
 use Rattle.control_desk.specs.Work.{HasDoneOf, IsRun}
 use Rattle.control_desk.proofs.Weaving.{all_share, run_of}
+use denote.Param.Send.{IsSend, sendable}
+use Rattle.control_desk.specs.contracts.clerk.Clerk as Clerk
+use Rattle.control_desk.proofs.Sending.{clerk_send}
 use Rattle.control_desk.proofs.run.run_clerks.Goals as goal
 
 pub close-requires : goal.close-requires
@@ -40,3 +43,9 @@ returns g c = λ first at_first.
     subst (λ j. HasDoneOf c.args.sections.now c.args.keep_going j b) (sym (gave.job_is a) ∙ get_or_from_slice_get jobs place a a at_a)
     (subst (λ o. IfOk o (HasDoneOf c.args.sections.now c.args.keep_going gave.job)) (get_or_from_slice_get c.in_ok-done.done.items place (Ok b) (Ok b) at) gave.call.met))
     c.close.result.0 c.close.result.1 own.0 own.1 (c.close.ensures own.0 own.1) (let a = some.0 in let b = some.1 in omega (arith, a, b)))
+
+pub map_vec-requires-send-J : goal.map_vec-requires-send-J
+map_vec-requires-send-J g c κs within = let a : IsSend Clerk.the_field.row = clerk_send in search sendable depth 20
+
+pub map_vec-requires-send-X : goal.map_vec-requires-send-X
+map_vec-requires-send-X g c κs within = let a : IsSend Clerk.the_field.row = clerk_send in search sendable depth 20

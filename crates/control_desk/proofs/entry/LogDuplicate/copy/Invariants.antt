@@ -1,5 +1,0 @@
-use Rattle.std.proofs.Common.{◌≡◌, take}
-use Rattle.control_desk.proofs.entry.LogDuplicate.copy.Given as goal
-
-abbrev pub invariant-entries : goal.invariant-entries
-invariant-entries l = l.entries.items ≡ take l.entry-index l.entry-items
