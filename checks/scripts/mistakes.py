@@ -113,7 +113,7 @@ MISTAKES = [
     (add("p", "*"), 2, 22, "'*' isn't supported", "write all ports as 0-65535", ""),
     (add("a", "* . 80"), 2, 22, "'*' isn't supported", "write all addresses as 0.0.0.0/0", "syntax error, unexpected ., expecting comma or '}'"),
     (add("v", "*"), 2, 22, "'*' isn't supported", "write all addresses as ::/0", ""),
-    (add("p", "80 // web"), 2, 25, "'//' doesn't begin a comment", "begin a comment with '#'", "syntax error, unexpected /, expecting number"),
+    (add("p", "80 // web"), 2, 25, "'//' doesn't begin a comment", "write it as: 80 comment \"web\"; or close the braces before a comment with '#'", "syntax error, unexpected /, expecting number"),
     (SETS + "// web\nadd element ip t p { 80 }\n", 2, 1, "'//' doesn't begin a comment", "begin a comment with '#'", "syntax error, unexpected /"),
     (add("a", "10.0.0.1 . { 80, 90 }"), 2, 33, "'{' begins a list in an element", "write an element for each value, as: 192.0.2.1 . 80, 192.0.2.1 . 443", "syntax error, unexpected '{'"),
     (add("p", "{ 80 }"), 2, 22, "'{' begins a list in a list", "write one pair of braces around all elements, as: { 80, 443 }", "taken"),
@@ -181,7 +181,7 @@ MISTAKES = [
     (SETS + "begin\nadd element ip t p { 80 }\n", 2, 1, "'begin' can't begin a statement", "leave it out: a transaction begins by itself, and ends with 'commit' or 'abort'", "syntax error, unexpected newline, expecting string"),
     ("comit\n", 1, 1, "'comit' can't begin a statement", "did you mean 'commit'?", "syntax error, unexpected newline, expecting string"),
     ("element ip t p { 80 }\n", 1, 1, "'element' can't begin a statement", "write 'add', 'create', 'delete' or 'destroy' before it", "No such file or directory"),
-    ("set s { type mark; }\n", 1, 1, "'set' can't begin a statement", "write 'add' before it", "syntax error, unexpected '{', expecting string"),
+    ("set s { type mark; }\n", 1, 1, "'set' can't begin a statement", "write it into the braces of a table, or as: add set [FAMILY] TABLE SET { .. }", "syntax error, unexpected '{', expecting string"),
     (SETS + "add element ip t p { 80 } }\n", 2, 27, "'}' closes no '{'", "remove it, or add the '{' that is missing before it", "syntax error, unexpected '}', expecting end of file or newline or semicolon"),
     ("table ip\n", 1, 9, "the end of the line isn't the name of a table", TABLE_NAME, "syntax error, unexpected newline, expecting string"),
     ("add", 1, 4, "the end of the text can't follow 'add'", "'add' is followed by table, set or element", "syntax error, unexpected end of file"),
@@ -189,7 +189,7 @@ MISTAKES = [
     ("}\n", 1, 1, "'}' closes no '{'", "remove it, or add the '{' that is missing before it", "syntax error, unexpected '}'"),
     ("add elements ip t p { 80 }\n", 1, 5, "'elements' can't follow 'add'", "did you mean 'element'?", "syntax error, unexpected elements, expecting string"),
     ("add ip t p { 80 }\n", 1, 5, "'ip' can't follow 'add'", "'add' is followed by table, set or element", "syntax error, unexpected newline"),
-    ("delete set ip t p\n", 1, 8, "'set' can't be deleted", "write 'flush set' to remove the set's elements", "Could not process rule: No such file or directory"),
+    ("delete set ip t p\n", 1, 8, "'set' can't be deleted", "leave it out, or write 'flush set' to remove the elements of a set that is declared", "Could not process rule: No such file or directory"),
     ("delete table ip t\n", 1, 8, "'table' can't be deleted", "leave it out: a script begins without sets; later 'flush set' removes a set's elements", "Could not process rule: No such file or directory"),
     ("create set ip t s { type mark; }\n", 1, 8, "'set' can't follow 'create'", "write 'add set' to declare a set", "No such file or directory"),
     ("create table ip t\n", 1, 8, "'table' can't follow 'create'", "write 'add table' to declare a table", "taken"),
@@ -199,7 +199,7 @@ MISTAKES = [
     (SETS + "flush set ip t p p\n", 2, 18, "'p' can't follow here", "'flush set' " + ENDS, "syntax error, unexpected string, expecting end of file or newline or semicolon"),
     (SETS + "flush set ip t p { 80 }\n", 2, 18, "'{' can't follow here", "'flush set' removes all elements: write 'delete element' to remove some", "syntax error, unexpected '{', expecting end of file or newline or semicolon"),
     ("add table ip t t\n", 1, 16, "'t' can't follow here", "'add table' ends with the table's name: write ';' or a new line after it", "syntax error, unexpected string, expecting end of file or newline or semicolon"),
-    (SETS + "ip t p 80\n", 2, 1, "'ip' can't begin a statement", "write 'add element' before it, or the line into a key file, which 'run' and 'judge' take after the script", "syntax error, unexpected newline"),
+    (SETS + "ip t p 80\n", 2, 1, "'ip' can't begin a statement", "to add it, write: add element ip t s { 80 }; to look it up, write the line into a key file, which 'run' takes after the script", "syntax error, unexpected newline"),
     # lines of a shell
     (SETS + "nft add element ip t p { 80 }\n", 2, 1, "'nft' can't begin a statement", "leave out 'nft', " + ALONE_LINE, "syntax error, unexpected add, expecting string"),
     (SETS + "sudo nft add element ip t p { 80 }\n", 2, 1, "'sudo' can't begin a statement", "leave out all up to 'nft', " + ALONE_LINE, "syntax error, unexpected element, expecting @ or '$'"),
@@ -252,7 +252,7 @@ MISTAKES = [
     (SETS + "flush table ip t\n", 2, 7, "'table' can't follow 'flush'", "leave it out: it removes rules, and a script has none", "taken"),
     (SETS + "flush element ip t p { 80 }\n", 2, 7, "'element' can't follow 'flush'", "write 'delete element' to remove some elements, or 'flush set' to remove all", "syntax error, unexpected element"),
     (SETS + "commit all\n", 2, 8, "'all' can't follow here", EXTRA, "syntax error, unexpected all, expecting string"),
-    (SETS + "delete element ip t p { 80 } if exists\n", 2, 30, "'if' can't follow here", EXTRA, "syntax error, unexpected string, expecting end of file or newline or semicolon"),
+    (SETS + "delete element ip t p { 80 } if exists\n", 2, 30, "'if' can't follow here", "leave it out, and write 'destroy element' in place of 'delete element'", "syntax error, unexpected string, expecting end of file or newline or semicolon"),
     (SETS + "add element ip t p { 80 }, { 443 }\n", 2, 26, "',' can't follow here", "write one list, with one pair of braces around all elements, as: { 80, 443 }", "syntax error, unexpected comma, expecting end of file or newline or semicolon"),
     # words and marks in an element
     (add("l", "6 . 1 ttl 30s"), 2, 28, "'ttl' can't follow an element", "did you mean 'timeout'?", "syntax error, unexpected string, expecting comma or '}'"),
@@ -295,7 +295,7 @@ SEVERAL = [
         "table ip t\nset s { type mark; }\n}\n",
         [
             (1, 11, "the end of the line can't follow the table's name", "write '{' after it, or 'add table' before it", False),
-            (2, 1, "'set' can't begin a statement", "write 'add' before it", True),
+            (2, 1, "'set' can't begin a statement", "write it into the braces of a table, or as: add set [FAMILY] TABLE SET { .. }", True),
             (3, 1, "'}' closes no '{'", "remove it, or add the '{' that is missing before it", True),
         ],
     ),
@@ -440,7 +440,7 @@ KEY_MISTAKES = [
     ("ip t p 80, 443", 10, "',' can't follow the last field", IN_A_LINE),
     ("ip t p 80 ip t p 443", 11, "'ip' can't follow the last field", IN_A_LINE),
     ("ip t p 80; ip t p 443", 10, "';' can't follow the last field", IN_A_LINE),
-    ("ip t a 10.0.0.1, 10.0.0.2 . 80", 16, "',' ends the key after 1 field", PAIR),
+    ("ip t a 10.0.0.1, 10.0.0.2 . 80", 16, "',' can't follow a value", OWN_LINES),
     # words that a key doesn't have
     ("ip t p 80 at 5", 11, "'at' can't follow the last field", "write the moment in a line of its own before the key, as: at 500"),
     ("ip t p 80 --at 5", 11, "'--at' can't follow the last field", "write the moment in a line of its own before the key, as: at 500"),
@@ -646,6 +646,7 @@ GET = "usage: pipapo get [--at MOMENT] [--keep-going] [--sets] SCRIPT [FAMILY] T
 COMMANDS = "the commands are get, explain, compare, stat, run, judge, capture, desk, drill, list, dump, sets and help"
 ALONE = "write it alone, or --help alone after a command"
 FROM_NFT = "write the kernel's sets into a file, and list that: nft list ruleset > rules.nft; pipapo list --sets rules.nft"
+FROM_IPSET = "translate the sets into nft's, and list those: ipset save | ipset-translate restore > sets.nft; pipapo list sets.nft"
 FROM_ELEMENT = "a file's name comes before the set: nft list ruleset > rules.nft; pipapo get --sets rules.nft [FAMILY] TABLE SET VALUE"
 HELP_PAGE = "write 'pipapo help' alone, or a command after it, as: pipapo help run"
 NO_OPTION = "isn't an option: a file's name comes after a command"
@@ -675,7 +676,7 @@ WORD_MISTAKES = [
     ("--file=a.nft run", f"'--file' {NO_OPTION}", "write files after the command, in their order: pipapo run a.nft .."),
     ("-f a.nft run b.keys", f"'-f' {NO_OPTION}", "write files after the command, in their order: pipapo run a.nft .."),
     # other programs
-    ("ipset list", "'ipset' isn't a command: pipapo reads files, and not the kernel's sets", FROM_NFT),
+    ("ipset list", "'ipset' isn't a command: pipapo reads files, and not the kernel's sets", FROM_IPSET),
     ("iptables -L INPUT", "'iptables' isn't a command: pipapo reads files, and not the kernel's sets", FROM_NFT),
     ("diff a.nft b.nft", "'diff' isn't a command", COMPARE),
     ("test a.nft t p 80", "'test' isn't a command", GET),

@@ -11,7 +11,10 @@ use crate::content::{is_other_kind, other_kind};
 use crate::explained::{Explained, Fault};
 use crate::families::explain_family;
 use crate::held::{explain_held, is_held};
-use crate::help::{TextKind, explain_plainly, explain_reference, explain_slashes, is_slashes};
+use crate::help::{
+    TextKind, explain_plainly, explain_reference, explain_slashes, explain_slashes_in_list,
+    is_slashes,
+};
 use crate::key_places::KeyPlace;
 use crate::keys::{KeyFault, explain_key, type_item};
 use crate::note::Note;
@@ -54,6 +57,9 @@ fn explain_in_script(said: &mut Explained, fault: Fault<'_>, reason: Reason) -> 
         Reason::Character if fault.token == b"\\".as_slice() => explain_backslash(said, fault),
         Reason::Character if is_quoted_comment(fault) => explain_quoted_comment(said),
         Reason::Character | Reason::End => explain_by_reason(said, fault, reason),
+        _ if is_slashes(fault.token) && fault.around.level == Level::Elements => {
+            explain_slashes_in_list(said)
+        }
         _ if is_slashes(fault.token) && !is_between_types(fault) => explain_slashes(said),
         _ if is_in_open(fault) => explain_open(said, fault),
         _ if is_held(fault) => explain_held(said, fault),

@@ -135,6 +135,14 @@ pub(crate) fn explain_slashes(said: &mut Explained) -> Result<(), Memory> {
     said.say(b" doesn't begin a comment", b"begin a comment with '#'")
 }
 
+/// Explains such a token in a list of elements. A comment with `#` would hide the closing brace.
+pub(crate) fn explain_slashes_in_list(said: &mut Explained) -> Result<(), Memory> {
+    said.say(
+        b" doesn't begin a comment",
+        b"write it as: 80 comment \"web\"; or close the braces before a comment with '#'",
+    )
+}
+
 /// Whether a token begins a comment in other languages.
 pub(crate) fn is_slashes(token: &[u8]) -> bool {
     token == b"/".as_slice() || token.starts_with(b"//")

@@ -114,7 +114,7 @@ fn explain_between(
     match fault.token {
         b":" | b"=" => explain_no_dot(said),
         b"," if fits_this && !fits_next => {
-            explain_fields(said, b" ends the key after ", fields, type_item)
+            said.say(b" can't follow a value", fault.place.for_several())
         }
         b"-" if fits_next && !fits_this => explain_no_dot(said),
         token if fault.place.for_word(token).is_some() => {

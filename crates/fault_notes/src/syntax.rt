@@ -76,6 +76,7 @@ fn for_extra(token: &[u8]) -> &'static [u8] {
     match token {
         b"," | b"{" =>
             b"write one list, with one pair of braces around all elements, as: { 80, 443 }",
+        b"if" => b"leave it out, and write 'destroy element' in place of 'delete element'",
         word if is_one_of(word, &STATEMENTS) => END_STATEMENT,
         _ => b"leave it out, or begin a new line with it",
     }
@@ -108,7 +109,10 @@ fn explain_first(said: &mut Explained, fault: Fault<'_>) -> Result<(), Memory> {
         return said.say(b" can't begin a statement", help);
     }
     match fault.token {
-        b"set" => said.say(b" can't begin a statement", b"write 'add' before it"),
+        b"set" => said.say(
+            b" can't begin a statement",
+            b"write it into the braces of a table, or as: add set [FAMILY] TABLE SET { .. }",
+        ),
         b"element" => said.say(
             b" can't begin a statement",
             b"write 'add', 'create', 'delete' or 'destroy' before it",
@@ -123,7 +127,7 @@ fn explain_first(said: &mut Explained, fault: Fault<'_>) -> Result<(), Memory> {
         ),
         word if is_family(word) => said.say(
             b" can't begin a statement",
-            b"write 'add element' before it, or the line into a key file, which 'run' and 'judge' take after the script",
+            b"to add it, write: add element ip t s { 80 }; to look it up, write the line into a key file, which 'run' takes after the script",
         ),
         word if for_other_verb(word).is_some() => said.say(
             b" can't begin a statement",
@@ -274,7 +278,7 @@ pub(crate) fn explain_left_out(said: &mut Explained, fault: Fault<'_>) -> Result
         ),
         b"set" => said.say(
             b" can't be deleted",
-            b"write 'flush set' to remove the set's elements",
+            b"leave it out, or write 'flush set' to remove the elements of a set that is declared",
         ),
         b"table" => said.say(
             b" can't be deleted",

@@ -20,6 +20,19 @@ const COMMANDS_ARE: &[u8] =
 pub(crate) const FROM_NFT: &[u8] =
     b"write the kernel's sets into a file, and list that: nft list ruleset > rules.nft; pipapo list --sets rules.nft";
 
+/// How the sets of ipset come into a file, and what lists them. `nft list ruleset` hasn't these sets.
+const FROM_IPSET: &[u8] =
+    b"translate the sets into nft's, and list those: ipset save | ipset-translate restore > sets.nft; pipapo list sets.nft";
+
+/// How the sets of another program come into a file.
+fn from_program(word: &str) -> &'static [u8] {
+    if word == "ipset" {
+        FROM_IPSET
+    } else {
+        FROM_NFT
+    }
+}
+
 /// The words with a dash that may come first.
 const FIRST_OPTIONS: [&[u8]; 4] = [b"--help", b"-h", b"--version", b"-V"];
 
@@ -345,7 +358,7 @@ pub(crate) fn explain(said: &mut Explained, fault: WordFault<'_>) -> Result<(), 
             said,
             word,
             b" isn't a command: pipapo reads files, and not the kernel's sets",
-            FROM_NFT,
+            from_program(word),
         ),
         WordFault::Synonym(word, verb) => explain_synonym(said, word, verb),
         WordFault::SetFirst(words) => explain_set_first(said, words),
