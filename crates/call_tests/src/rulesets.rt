@@ -272,12 +272,15 @@ const LEFT_OUT: [Read; 6] = [
         notes: Some(""),
         status: 0,
     },
-    // a second script that is none
+    // a second file without sets, whose line is skipped as a statement of nft's is
     Read {
         words: &["compare", "--sets", "m.nft", "keys"],
-        output: "pipapo: second script line 1: statement\n",
-        notes: None,
-        status: 3,
+        output: "",
+        notes: Some(
+            "m.nft:2:2: 'set m' is left out: 'auto-merge' isn't read here\n\
+              keys:1:1: 'ip t' is skipped: it isn't a set\n",
+        ),
+        status: 1,
     },
     Read {
         words: &["get", "--sets", "two.nft", "t", "p", "80"],
