@@ -4,5 +4,6 @@ pub mod FillLaws
 pub mod LedLaws
 pub mod MatchLaws
 pub mod SieveLaws
+pub mod SmallLaws
 pub mod CandidateLaws
 pub mod WindowLaws

@@ -6,7 +6,7 @@ use Rattle.std.proofs.lemmas.List.{get_or_past, length-replicate}
 use Rattle.std.proofs.Math.Bool.{and-true, and_comm, and_assoc}
 use Rattle.bit_rows.specs.Row.{Row, at, bit}
 use Rattle.bit_rows.proofs.Bits.{bit-ones, bit-zero}
-use Rattle.field_groups.specs.Groups.{IsWidth, every}
+use Rattle.field_groups.specs.Groups.{every}
 use Rattle.field_groups.specs.LastFour.{IsGroupPlace, AreLastFour}
 use Rattle.field_groups.specs.declared.places.LastFour.{LastFour}
 use Rattle.set_model.specs.declared.block.Block.{Block}

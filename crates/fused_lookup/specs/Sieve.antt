@@ -1,12 +1,11 @@
 -- The buckets of a value's groups, word by word, and the rules that they leave.
 use Rattle.std.specs.Prelude.{◌≡◌, ℕ, ◌+◌, ◌*◌, ◌<◌, ◌≤◌, Bool, false, ◌&&◌, List, slice_index}
 use Rattle.bit_rows.specs.Row.{bit}
-use Rattle.field_groups.specs.Groups.{every}
 use Rattle.set_model.specs.declared.block.Block.{Block}
 use Rattle.set_model.specs.Blocks.{holds_value}
 use Rattle.lookup_table.specs.declared.table.FieldTable.{FieldTable}
-use Rattle.lookup_table.specs.Table.{cell, block_at}
-use Rattle.lookup_table.specs.Rules.{Stands, place_of}
+use Rattle.lookup_table.specs.Table.{block_at}
+use Rattle.lookup_table.specs.Rules.{Stands}
 use Rattle.field_groups.specs.declared.places.LastFour.{LastFour}
 
 -- Each of four buckets has its line of eight in a page of n words.

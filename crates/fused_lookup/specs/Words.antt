@@ -1,6 +1,11 @@
 -- Words of a row of rules.
-use Rattle.std.specs.Prelude.{◌≡◌, ℕ, ◌+◌, ◌*◌, ◌<◌, ◌≤◌, Bool, true, false, List}
+use Rattle.std.specs.Prelude.{◌≡◌, ℕ, ◌+◌, ◌*◌, ◌<◌, ◌≤◌, Bool, true, false, List, map}
+use Rattle.std.specs.List.{range_with_len}
 use Rattle.bit_rows.specs.Row.{at, bit}
+
+-- a number of 128 bits as a row of 128 rules, the first in the lowest bit
+abbrev pub small_row : ℕ → List Bool
+small_row row = map (bit row) (range_with_len 0 128)
 
 -- Word i of a row: its 64 places from place 64 * i on, the first in the lowest bit. Past the row's end nothing is set.
 pub record IsWordOf (row : List Bool) (i word : ℕ) : Type 0 where

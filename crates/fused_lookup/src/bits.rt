@@ -1,6 +1,6 @@
-ghost use Rattle.std.specs.Prelude.{◌≡◌, ℕ, ◌≤◌, ◌<◌, true, false, MatchOption};
-ghost use Rattle.bit_rows.specs.Row.{bit};
-ghost use Rattle.fused_lookup.specs.Words.{IsNextBit, IsRunEnd};
+ghost use Rattle.std.specs.Prelude.{◌≡◌, ℕ, ◌+◌, ◌≤◌, ◌<◌, true, false, MatchOption};
+ghost use Rattle.bit_rows.specs.Row.{bit, with_run};
+ghost use Rattle.fused_lookup.specs.Words.{IsNextBit, IsRunEnd, small_row};
 
 /// The least set bit of a word that is not below `from`, if there is one.
 #[inline(always)]
@@ -29,4 +29,16 @@ pub(crate) fn run_end(word: u64, from: u32) -> u32
         Some(end) => end,
         None => 64,
     }
+}
+
+/// The row of 128 rules with the `n` rules from `from` on set.
+#[inline(always)]
+pub(crate) fn with_ones(row: u128, from: u32, n: u32) -> u128
+    requires { from + n ≤ 128 }
+    ensures { small_row result ≡ with_run (small_row row) from n }
+{
+    if n == 0 {
+        return row;
+    }
+    row | ((u128::MAX << from) & (u128::MAX >> (128 - (from + n))))
 }

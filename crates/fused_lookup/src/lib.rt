@@ -21,6 +21,10 @@
 //! that all 64 rules of a word are left, and that rule 0 has the span from 10, 2 rules, and rule 63
 //! the span from 100, 3 rules. Then the word sets rules 10 to 102 in one step.
 //!
+//! If no field has more than 128 rules, a row is a number of 128 bits. It then goes from field to field
+//! in registers, without rows of scratch and windows ([`refill_small_first`], [`refill_small`],
+//! [`lead_small`]).
+//!
 //! The buckets of a value's last four groups are ANDed first, since they tell most rules apart. If
 //! no rule of the word is left, the other groups aren't looked up.
 //!
@@ -36,8 +40,10 @@ mod led;
 mod probe;
 mod refill;
 mod sieve;
+mod small;
 mod window;
 
 pub use first_field::{lead_from_first, refill_from_first};
 pub use later_field::{lead_from, refill_from};
+pub use small::{lead_small, refill_small, refill_small_first};
 pub use window::Window;

@@ -1,7 +1,10 @@
 -- One field further in a fused walk.
-use Rattle.std.proofs.Common.{◌≡◌, refl, sym, ◌∙◌, ap, subst, ℕ, zero, suc, ◌+◌, ◌<◌, ◌≤◌, Bool, true, false, List, length, get_or, Option, ◌&&◌, arith}
-use Rattle.std.specs.Prelude.{All, replicate, slice_index}
+use Rattle.std.proofs.Common.{◌≡◌, refl, sym, ◌∙◌, ap, subst, ℕ, zero, suc, ◌+◌, ◌<◌, ◌≤◌, ◌⊎◌, inl, inr, Bool, true, false, List, length, get_or, Option, ◌&&◌, arith}
+use Rattle.std.specs.Prelude.{All, replicate, slice_index, nat_le}
+use Rattle.std.specs.List.{list_all}
+use Rattle.std.proofs.lemmas.Bool.{cases_lt, lt-leb}
 use Rattle.std.proofs.lemmas.List.{ext_get_or}
+use Rattle.std.proofs.lemmas.List.Folds.{list_all_at}
 use Rattle.std.proofs.lemmas.List.FromFn.{get_or-map-range_with_len}
 use Rattle.std.proofs.lemmas.List.Elements.{All-weaker}
 use Rattle.bit_rows.specs.Row.{at}
@@ -24,7 +27,7 @@ use Rattle.set_tables.proofs.RowLaws.{length-refilled}
 use Rattle.fused_lookup.specs.Filled.{Refills}
 use Rattle.fused_lookup.specs.Led.{Leads}
 use Rattle.fused_lookup.proofs.MatchLaws.{length-left, left-at}
-use Rattle.pipapo_image.specs.Index.Walk.{IsWalk}
+use Rattle.pipapo_image.specs.Index.Walk.{IsWalk, AreSmall}
 use Rattle.pipapo_image.proofs.Items.{a-table}
 use Rattle.pipapo_image.proofs.WalkLaws.{first-row, next-row}
 
@@ -66,6 +69,25 @@ inside-limit fields maps f n m spans w h me se e =
     let Q : Span → Type 0 = λ s. s.first + s.count ≤ n in
     let a : All Q (get_or maps f m).items = All-weaker P Q (λ s k. omega arith) (get_or maps f m).items (w.inside f t m h) in
     subst (λ z. All Q z) (sym (se ∙ ap (λ z. z.items) me)) a
+
+-- the spans of field f are within a small row
+pub inside-small : (fields : List FieldTable) (maps : List (Spared Span)) (f : ℕ) (m : Spared Span) → IsWalk fields maps → AreSmall fields → f < length maps → m ≡ get_or maps f m → All (λ s. s.first + s.count ≤ 128) m.items
+inside-small fields maps f m w small h me =
+    let some : 0 < length fields = omega (arith, w.one_fewer) in
+    let t = a-table fields some in
+    let g : f + 1 < length fields = omega (arith, w.one_fewer) in
+    let few = small.few (f + 1) t g in
+    let P : Span → Type 0 = λ s. s.first + s.count ≤ (get_or fields (f + 1) t).rules in
+    let Q : Span → Type 0 = λ s. s.first + s.count ≤ 128 in
+    let a : All Q (get_or maps f m).items = All-weaker P Q (λ s k. omega arith) (get_or maps f m).items (w.inside f t m h) in
+    subst (λ z. All Q z) (sym (ap (λ z. z.items) me)) a
+
+-- the test that no field has more than 128 rules
+pub are-small : (fields : List FieldTable) → list_all (λ t. nat_le t.rules 128) fields ≡ true → AreSmall fields
+are-small fields all = record { few = λ f t h. go f t h (cases_lt 128 (get_or fields f t).rules) } where
+  go : (f : ℕ) (t : FieldTable) → f < length fields → (128 < (get_or fields f t).rules) ⊎ ((get_or fields f t).rules ≤ 128) → (get_or fields f t).rules ≤ 128
+  go f t h (inl l) = let e : false ≡ true = sym (list_all_at (λ z. nat_le z.rules 128) fields f t h (lt-leb (get_or fields f t).rules 128 l)) ∙ all in absurd (cc e)
+  go f t h (inr l) = l
 
 -- what the first field's rules reach
 pub fused-first : (kinds : List Kind) (es : List Element) (key : List ℕ) (t : FieldTable) (spans : List Span) (next : List Bool) → Stands t (field_rules kinds 0 es) → spans ≡ field_spans kinds 0 es

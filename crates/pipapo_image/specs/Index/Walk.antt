@@ -20,3 +20,7 @@ pub record IsWalk (fields : List FieldTable) (maps : List (Spared Span)) : Type 
 pub record IsKeyOf (fields : List FieldTable) (key : List ℕ) : Type 0 where
   pub one_each : length key ≡ length fields
   pub within : (f : ℕ) (t : FieldTable) → f < length fields → slice_index key f < 2 ^ (get_or fields f t).bits
+
+-- No field has more than 128 rules, so a number of 128 bits is a whole row.
+pub record AreSmall (fields : List FieldTable) : Type 0 where
+  pub few : (f : ℕ) (t : FieldTable) → f < length fields → (get_or fields f t).rules ≤ 128

@@ -3,7 +3,7 @@ use Rattle.set_tables.specs.Rows.{led_to}
 use Rattle.set_tables.specs.Core.{row_of}
 use Rattle.set_tables.specs.Search.{key_tests}
 use Rattle.pipapo_image.proofs.Items.{field-stands, field-count, key-within}
-use Rattle.pipapo_image.proofs.FusedLaws.{fused-led, fused-led-first}
+use Rattle.pipapo_image.proofs.FusedLaws.{are-small, fused-led, fused-led-first}
 use Rattle.pipapo_image.proofs.index.fused.fused_walk.Goals as goal
 
 pub lead_from_first-requires : goal.lead_from_first-requires
@@ -21,6 +21,15 @@ returns-then-last-eq0-clause-led c = λ kinds es s m.
     fused-led-first kinds es c.args.key.now c.args.now c.index-fields-0.result c.args.ends.now.items c.lead_from_first.result
     (field-stands kinds es c.args.fields.now 0 c.index-fields-0.result s some c.index-fields-0.is) c.lead_from_first.ensures
     ∙ ap (λ n. led_to c.args.ends.now.items (row_of kinds es (key_tests c.args.key.now) n) c.args.now) (sym c.if-last-eq0.true)
+
+pub small_walk-requires : goal.small_walk-requires
+small_walk-requires c = record {
+  shaped = c.requires.shaped;
+  some = omega (arith, c.if-last-eq0.false);
+  small = are-small c.args.fields.now (sym c.are_small.ensures ∙ c.if-are_small.true);
+  ends = c.requires.ends;
+  key = c.requires.key;
+}
 
 pub lead_from-requires : goal.lead_from-requires
 lead_from-requires c =
