@@ -42,7 +42,9 @@ use Rattle.set_script.specs.declared.words.OptionWord.{OptionWord}
 use Rattle.set_script.specs.declared.words.OptionWord.TheVariants as options
 use Rattle.set_script.specs.Limits.{most_elements}
 use Rattle.set_script.specs.Values.{IsPart, IsLife, IsSize}
-use Rattle.set_script.specs.Names.{family_of, key_bytes, has_room, kind_of, kind_behind, is_set, set_place, may_declare, new_name, item_of, option_of}
+use Rattle.set_script.specs.declared.words.TypeWord.{TypeWord}
+use Rattle.set_script.proofs.ExpressionLaws.{kind_by_has}
+use Rattle.set_script.specs.Names.{family_of, key_bytes, has_room, is_set, set_place, may_declare, new_name, item_of, option_of}
 use Rattle.set_script.specs.Changes.{empty, no_options, declaration, declared, with_flag, with_timeout, with_size, with_gc_interval, with_policy, with_comment, with_elements, life_expiry, life, expiry, comment_of, adds, change, with_steps, flush, at_moment, commit, abort, round, begun, with_commit, ended, finished_script}
 use Rattle.set_script.specs.Script as form
 use Rattle.set_script.specs.ScriptText.{IsScriptText}
@@ -206,21 +208,19 @@ module _ (schema : List SetDecl) (target : Target) (s : SetDecl) (at : slice_get
 abbrev AreNarrow : List Kind → Type 0
 AreNarrow ks = sum_by key_bytes ks ≤ 64
 
-narrow_more : (ks : List Kind) (k : Option Kind) (kind : Kind) → kind_behind ks k ≡ Some kind → AreNarrow (ks ++ kind ∷ [])
-narrow_more ks None kind h = absurd (cc h)
-narrow_more ks (Some k) kind h =
-    let room = cond_some (has_room ks k) k kind h in
-    let fits = leb-true (sum_by key_bytes ks + key_bytes k) 64 (and_parts (nat_lt (length ks) 16) (nat_le (sum_by key_bytes ks + key_bytes k) 64) room.0).1 in
+narrow_more : (ks : List Kind) (kind : Kind) → has_room ks kind ≡ true → AreNarrow (ks ++ kind ∷ [])
+narrow_more ks kind h =
+    let fits = leb-true (sum_by key_bytes ks + key_bytes kind) 64 (and_parts (nat_lt (length ks) 16) (nat_le (sum_by key_bytes ks + key_bytes kind) 64) h).1 in
     let all = sum_by-append key_bytes ks (kind ∷ []) in
     let one = sum_by-cons key_bytes kind [] in
-    let same : key_bytes k ≡ key_bytes kind = ap key_bytes room.1 in
-    omega (arith, fits, all, one, same)
+    omega (arith, fits, all, one)
 
-kind_fits : (ks : List Kind) → Yields (form.kind_word ks) (λ kind. AreNarrow (ks ++ kind ∷ []))
-kind_fits ks = yields_word (reasons.TypeWord ∷ []) (λ t. kind_behind ks (kind_of t.bytes)) (λ kind. AreNarrow (ks ++ kind ∷ [])) (λ t kind bytes is. narrow_more ks (kind_of t.bytes) kind is)
+kind_fits : (w : TypeWord) (ks : List Kind) → Yields (form.kind_by w ks) (λ kind. AreNarrow (ks ++ kind ∷ []))
+kind_fits w ks = record { each = λ ts kind made is. narrow_more ks kind (kind_by_has w ks ts kind is) }
 
 type_narrow : Yields form.type_item AreNarrow
-type_narrow = yields_then (λ u. yields_bind (kind_fits []) (λ k h. yields_many form.more_kinds AreNarrow (λ ks n. yields_then (λ v. yields_bind (kind_fits ks) (λ kind m. yields_done AreNarrow (ks ++ kind ∷ []) m))) (k ∷ []) h))
+type_narrow =
+    yields_then (λ w. yields_bind (kind_fits w []) (λ k h. yields_many (form.more_kinds w) AreNarrow (λ ks n. yields_then (λ v. yields_bind (kind_fits w ks) (λ kind m. yields_done AreNarrow (ks ++ kind ∷ []) m))) (k ∷ []) h))
 
 -- A set that is being declared after these, with the steps up to it. Its elements come last, and the steps with them say
 -- what its declaration lets them say.

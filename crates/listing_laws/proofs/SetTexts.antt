@@ -25,7 +25,9 @@ use Rattle.set_script.specs.declared.words.ItemWord.{ItemWord}
 use Rattle.set_script.specs.declared.words.ItemWord.TheVariants as items
 use Rattle.set_script.specs.Limits.{most_elements}
 use Rattle.set_script.specs.Values.{IsSize}
-use Rattle.set_script.specs.Names.{kind_of, kind_behind, key_bytes, has_room, item_of, flag_of, may_declare, new_name}
+use Rattle.set_script.specs.declared.words.TypeWord.{TypeWord}
+use Rattle.set_script.specs.declared.words.TypeWord.TheVariants as types
+use Rattle.set_script.specs.Names.{type_word_of, kind_of, kind_behind, key_bytes, has_room, item_of, flag_of, may_declare, new_name}
 use Rattle.set_script.specs.Changes.{with_flag, with_timeout, with_size, with_elements, declaration, declared}
 use Rattle.set_script.specs.Script as form
 use Rattle.set_report.specs.KindText.{kind_text}
@@ -117,23 +119,24 @@ kinds_goes : (ks : List Kind) → Goes false false (flat_map next_kind ks)
 kinds_goes [] = λ rest fit. fit
 kinds_goes (k ∷ ks) = λ rest fit. refl
 
-kinds_mean : (ks before : List Kind) → HaveRoom (before ++ ks) → Means false (many form.more_kinds before) (flat_map next_kind ks) (Is (before ++ ks))
-kinds_mean [] before h = means_last form.more_kinds false before (Is (before ++ [])) (sym (append-nil before))
+kinds_mean : (ks before : List Kind) → HaveRoom (before ++ ks) → Means false (many (form.more_kinds types.Names) before) (flat_map next_kind ks) (Is (before ++ ks))
+kinds_mean [] before h = means_last (form.more_kinds types.Names) false before (Is (before ++ [])) (sym (append-nil before))
 kinds_mean (kind ∷ ks) before h =
     let same = append_assoc before (kind ∷ []) ks in
     let later = kinds_mean ks (before ++ kind ∷ []) (subst HaveRoom (sym same) h) in
     let after = means_weaken _ false _ (Is ((before ++ kind ∷ []) ++ ks)) (Is (before ++ kind ∷ ks)) (λ a e. e ∙ same) later in
     let value = means_then (form.kind_word before) (λ (k : Kind). done (before ++ k ∷ [])) false false (kind_text kind) [] kind (Is (before ++ kind ∷ [])) (kind_means before ks kind h) (λ rest fit. fit) (means_done false _ _ refl) in
     let step = means_seq (means_literal 46 [] refl) (means_space value) (λ rest fit. refl) in
-    means_next form.more_kinds before false false (next_kind kind) (flat_map next_kind ks) (Is (before ++ kind ∷ [])) (Is (before ++ kind ∷ ks))
+    means_next (form.more_kinds types.Names) before false false (next_kind kind) (flat_map next_kind ks) (Is (before ++ kind ∷ [])) (Is (before ++ kind ∷ ks))
     (means_as _ false (codes " . " ++ (kind_text kind ++ [])) (next_kind kind) _ (ap (λ (z : List ℕ). codes " . " ++ z) (append-nil (kind_text kind))) (means_space step)) (kinds_goes ks)
-    (λ s e. subst (λ (z : List Kind). Means false (many form.more_kinds z) (flat_map next_kind ks) (Is (before ++ kind ∷ ks))) (sym e) after)
+    (λ s e. subst (λ (z : List Kind). Means false (many (form.more_kinds types.Names) z) (flat_map next_kind ks) (Is (before ++ kind ∷ ks))) (sym e) after)
 
 type_means : (ks : List Kind) → 0 < length ks → HaveRoom ks → Means false form.type_item (codes "type " ++ join_by kind_text (codes " . ") ks) (Is ks)
 type_means [] some h = absurd (omega (arith, some))
 type_means (kind ∷ ks) some h =
-    let first = means_then (form.kind_word []) (λ (k : Kind). many form.more_kinds (k ∷ [])) false false (kind_text kind) (flat_map next_kind ks) kind (Is (kind ∷ ks)) (kind_means [] ks kind h) (kinds_goes ks) (kinds_mean ks (kind ∷ []) h) in
-    means_seq (means_literal 116 (codes "ype") refl) (means_space first) (λ rest fit. refl)
+    let first = means_then (form.kind_word []) (λ (k : Kind). many (form.more_kinds types.Names) (k ∷ [])) false false (kind_text kind) (flat_map next_kind ks) kind (Is (kind ∷ ks)) (kind_means [] ks kind h) (kinds_goes ks) (kinds_mean ks (kind ∷ []) h) in
+    means_then (word_by [] (λ t. type_word_of t.bytes)) (λ (w : TypeWord). form.kind_by w [] >>= λ (k : Kind). many (form.more_kinds w) (k ∷ [])) false false (codes "type") (32 ∷ (kind_text kind ++ flat_map next_kind ks)) types.Names (Is (kind ∷ ks))
+    (means_word_by [] (λ t. type_word_of t.bytes) (codes "type") types.Names (record { some = omega arith; bytes = record { all = refl } }) (λ behind line place. refl)) (λ rest fit. refl) (means_space first)
 
 -- A set that is being declared, as its items come: what they said, and which of them came.
 abbrev staged : ℕ → SetDecl → Option ℕ → (interval timed disjoint : Bool) → Option ℕ → (has_flags has_timeout_flag has_elements : Bool) → Declaration

@@ -26,6 +26,7 @@ use Rattle.set_script.specs.declared.draft.Target.{Target}
 use Rattle.set_script.specs.declared.draft.Options.{Options}
 use Rattle.set_script.specs.declared.words.Flag.{Flag}
 use Rattle.set_script.specs.declared.words.Flag.TheVariants as flags
+use Rattle.set_script.specs.declared.words.TypeWord.{TypeWord}
 use Rattle.set_script.specs.declared.words.FirstWord.{FirstWord}
 use Rattle.set_script.specs.declared.words.FirstWord.TheVariants as firsts
 use Rattle.set_script.specs.declared.words.AddWord.{AddWord}
@@ -36,10 +37,11 @@ use Rattle.set_script.specs.declared.words.ItemWord.{ItemWord}
 use Rattle.set_script.specs.declared.words.ItemWord.TheVariants as items
 use Rattle.set_script.specs.Values.{IsPart}
 use Rattle.set_script.specs.Limits.{most_sets}
-use Rattle.set_script.specs.Names.{is_set, set_place, may_declare, new_name, kind_of, kind_behind, has_room, key_bytes}
+use Rattle.set_script.specs.Names.{is_set, set_place, may_declare, new_name, has_room, key_bytes}
 use Rattle.set_script.specs.Changes.{empty, declaration, declared, with_flag, change, with_commit, ended}
 use Rattle.set_script.specs.Script as form
 use Rattle.set_script.specs.ScriptText.{IsScriptText}
+use Rattle.set_script.proofs.ExpressionLaws.{kind_by_has}
 use Rattle.set_model.specs.Runnable.{HasFields, IsRunnableStep, is_open, EndsClosed, IsRunnable}
 use Rattle.set_model.proofs.ClosedLaws.{closed-behind}
 
@@ -123,19 +125,17 @@ record AreKinds (ks : List Kind) : Type 0 where
   some : 0 < length ks
   few : length ks ≤ 16
 
-behind_some : (ks : List Kind) (k : Option Kind) (kind : Kind) → kind_behind ks k ≡ Some kind → length ks < 16
-behind_some ks None kind h = absurd (cc h)
-behind_some ks (Some k) kind h = ltb-true (length ks) 16 ((both (nat_lt (length ks) 16) (nat_le (sum_by key_bytes ks + key_bytes k) 64) ((cond_some (has_room ks k) k kind h).0)).0)
+room_few : (ks : List Kind) (kind : Kind) → has_room ks kind ≡ true → length ks < 16
+room_few ks kind h = ltb-true (length ks) 16 (both (nat_lt (length ks) 16) (nat_le (sum_by key_bytes ks + key_bytes kind) 64) h).0
 
 one_kind_more : (ks : List Kind) (kind : Kind) → length ks < 16 → AreKinds (ks ++ kind ∷ [])
 one_kind_more ks kind room = let l = length-append ks (kind ∷ []) in record { some = omega arith; few = omega arith }
 
-more_kinds_keeps : (ks behind : List Kind) (x : List Lexeme) → AreKinds ks → (form.more_kinds ks).whole x behind → AreKinds behind
-more_kinds_keeps ks behind x k (u, x1, y1, e1, w1, (kind, x2, y2, e2, (t, et, given), h)) =
-    subst AreKinds h.1 (one_kind_more ks kind (behind_some ks (kind_of t.bytes) kind (word_given (λ t. kind_behind ks (kind_of t.bytes)) t kind given)))
+more_kinds_keeps : (w : TypeWord) (ks behind : List Kind) (x : List Lexeme) → AreKinds ks → (form.more_kinds w ks).whole x behind → AreKinds behind
+more_kinds_keeps w ks behind x k (u, x1, y1, e1, w1, (kind, x2, y2, e2, w2, h)) = subst AreKinds h.1 (one_kind_more ks kind (room_few ks kind (kind_by_has w ks x2 kind w2)))
 
 type_kinds : (x : List Lexeme) (ks : List Kind) → form.type_item.whole x ks → AreKinds ks
-type_kinds x ks (u, x1, y1, e1, w1, (kind, x2, y2, e2, w2, w3)) = many_keeps form.more_kinds AreKinds more_kinds_keeps ks (kind ∷ []) y2 (one_kind_more [] kind (omega arith)) w3
+type_kinds x ks (w, x1, y1, e1, w1, (kind, x2, y2, e2, w2, w3)) = many_keeps (form.more_kinds w) AreKinds (more_kinds_keeps w) ks (kind ∷ []) y2 (one_kind_more [] kind (omega arith)) w3
 
 abbrev kinds_of : List SetDecl → List (List Kind)
 kinds_of schema = map (λ (s : SetDecl). s.kinds) schema

@@ -15,6 +15,9 @@ use Rattle.set_script.specs.declared.draft.Draft.{Draft}
 use Rattle.set_script.specs.declared.draft.Declaration.{Declaration}
 use Rattle.set_script.specs.declared.draft.Target.{Target}
 use Rattle.set_script.specs.declared.draft.Options.{Options}
+use Rattle.set_script.specs.declared.words.TypeWord.{TypeWord}
+use Rattle.set_script.specs.declared.words.TypeWord.TheVariants as types
+use Rattle.set_script.specs.declared.expression.Expression.{Expression}
 use Rattle.set_script.specs.declared.words.FirstWord.{FirstWord}
 use Rattle.set_script.specs.declared.words.FirstWord.TheVariants as firsts
 use Rattle.set_script.specs.declared.words.AddWord.{AddWord}
@@ -25,6 +28,7 @@ use Rattle.set_script.specs.declared.words.ItemWord.{ItemWord}
 use Rattle.set_script.specs.declared.words.ItemWord.TheVariants as items
 use Rattle.set_script.specs.declared.words.OptionWord.{OptionWord}
 use Rattle.set_script.specs.declared.words.OptionWord.TheVariants as options
+use Rattle.set_script.specs.Expressions.{kind_of_whole}
 use Rattle.set_script.specs.Script as form
 
 -- places
@@ -68,11 +72,31 @@ list_closed target s before =
     bind_closed (one_closed []) (λ _. bind_closed breaks_closed (λ _. bind_closed (many_closed (λ r. list_item_closed target s r.0 r.1) _) (λ _. bind_closed (one_closed []) (λ _. done_closed _))))
 
 -- sets
-more_kinds_closed : (ks : List Kind) → Closed (form.more_kinds ks)
-more_kinds_closed ks = bind_closed (one_closed []) (λ _. bind_closed (one_closed (reasons.TypeWord ∷ [])) (λ _. done_closed _))
+rest_word_closed : (ks : List Kind) (part : Expression) (kind : Option Kind) → Closed (form.rest_word ks part kind)
+rest_word_closed ks part None = one_closed (reasons.TypeWord ∷ [])
+rest_word_closed ks part (Some kind) = done_closed part
+
+whole_kind_closed : (kind : Option Kind) → Closed (form.whole_kind kind)
+whole_kind_closed None = nowhere_closed
+whole_kind_closed (Some kind) = done_closed kind
+
+expression_closed : (ks : List Kind) → Closed (form.expression ks)
+expression_closed ks =
+    bind_closed (one_closed (reasons.TypeWord ∷ [])) (λ first.
+    bind_closed (rest_word_closed ks first (kind_of_whole first)) (λ second.
+    bind_closed (rest_word_closed ks second (kind_of_whole second)) (λ third.
+    bind_closed (rest_word_closed ks third (kind_of_whole third)) (λ fourth.
+    whole_kind_closed (kind_of_whole fourth)))))
+
+kind_by_closed : (w : TypeWord) (ks : List Kind) → Closed (form.kind_by w ks)
+kind_by_closed types.Names ks = one_closed (reasons.TypeWord ∷ [])
+kind_by_closed types.Expressions ks = expression_closed ks
+
+more_kinds_closed : (w : TypeWord) (ks : List Kind) → Closed (form.more_kinds w ks)
+more_kinds_closed w ks = bind_closed (one_closed []) (λ _. bind_closed (kind_by_closed w ks) (λ _. done_closed _))
 
 type_item_closed : Closed form.type_item
-type_item_closed = bind_closed (one_closed []) (λ _. bind_closed (one_closed (reasons.TypeWord ∷ [])) (λ k. many_closed more_kinds_closed _))
+type_item_closed = bind_closed (one_closed []) (λ w. bind_closed (kind_by_closed w []) (λ k. many_closed (more_kinds_closed w) _))
 
 flag_closed : (b : Declaration) → Closed (form.flag b)
 flag_closed b = bind_closed (one_closed []) (λ _. done_closed _)

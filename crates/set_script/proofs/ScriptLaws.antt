@@ -30,6 +30,10 @@ use Rattle.set_script.specs.declared.draft.Target.{Target}
 use Rattle.set_script.specs.declared.draft.Options.{Options}
 use Rattle.set_script.specs.declared.words.OptionWord.{OptionWord}
 use Rattle.set_script.specs.declared.words.OptionWord.TheVariants as options
+use Rattle.set_script.specs.declared.words.TypeWord.{TypeWord}
+use Rattle.set_script.specs.declared.words.TypeWord.TheVariants as types
+use Rattle.set_script.specs.declared.expression.Expression.{Expression}
+use Rattle.set_script.specs.declared.expression.Expression.TheVariants as parts
 use Rattle.set_script.specs.declared.words.FirstWord.{FirstWord}
 use Rattle.set_script.specs.declared.words.FirstWord.TheVariants as firsts
 use Rattle.set_script.specs.declared.words.AddWord.{AddWord}
@@ -39,6 +43,7 @@ use Rattle.set_script.specs.declared.words.FlushWord.TheVariants as flushes
 use Rattle.set_script.specs.declared.words.ItemWord.{ItemWord}
 use Rattle.set_script.specs.declared.words.ItemWord.TheVariants as items
 use Rattle.set_script.specs.Values.{IsPart, IsLife}
+use Rattle.set_script.specs.Expressions.{kind_of_whole}
 use Rattle.set_script.specs.Names.{family_of}
 use Rattle.set_script.specs.Changes.{empty, no_options, declaration, declared, finished_script}
 use Rattle.set_script.specs.Script as form
@@ -252,13 +257,40 @@ list_reads target s before =
 kind_word_reads : (ks : List Kind) → Reads (form.kind_word ks) never (reading.kind_word ks)
 kind_word_reads ks = word_by_reads (reasons.TypeWord ∷ []) _
 
-more_kinds_reads : (ks : List Kind) → Reads (form.more_kinds ks) never (reading.more_kinds ks)
-unfolding reading.more_kinds
-more_kinds_reads ks = bind_definite (word_reads (codes ".")) (λ _. bind_definite (kind_word_reads ks) (λ k. done_reads _))
+expression_word_reads : (ks : List Kind) (part : Expression) → Reads (form.expression_word ks part) never (reading.expression_word ks part)
+expression_word_reads ks part = word_by_reads (reasons.TypeWord ∷ []) _
 
-are_kinds : AreItems starts_kind (λ _. never) any_word form.more_kinds reading.more_kinds
-are_kinds = record {
-  laws = more_kinds_reads;
+rest_word_reads : (ks : List Kind) (part : Expression) (kind : Option Kind) → Reads (form.rest_word ks part kind) never (reading.rest_word ks part kind)
+unfolding reading.rest_word
+rest_word_reads ks part None = expression_word_reads ks part
+rest_word_reads ks part (Some kind) = done_reads part
+
+whole_kind_reads : (kind : Option Kind) → Reads (form.whole_kind kind) never (reading.whole_kind kind)
+unfolding reading.whole_kind
+whole_kind_reads None = nowhere_reads
+whole_kind_reads (Some kind) = done_reads kind
+
+expression_reads : (ks : List Kind) → Reads (form.expression ks) never (reading.expression ks)
+unfolding reading.expression
+expression_reads ks =
+    bind_definite (expression_word_reads ks parts.Empty) (λ first.
+    bind_definite (rest_word_reads ks first (kind_of_whole first)) (λ second.
+    bind_definite (rest_word_reads ks second (kind_of_whole second)) (λ third.
+    bind_definite (rest_word_reads ks third (kind_of_whole third)) (λ fourth.
+    whole_kind_reads (kind_of_whole fourth)))))
+
+kind_by_reads : (w : TypeWord) (ks : List Kind) → Reads (form.kind_by w ks) never (reading.kind_by w ks)
+unfolding reading.kind_by
+kind_by_reads types.Names ks = kind_word_reads ks
+kind_by_reads types.Expressions ks = expression_reads ks
+
+more_kinds_reads : (w : TypeWord) (ks : List Kind) → Reads (form.more_kinds w ks) never (reading.more_kinds w ks)
+unfolding reading.more_kinds
+more_kinds_reads w ks = bind_definite (word_reads (codes ".")) (λ _. bind_definite (kind_by_reads w ks) (λ k. done_reads _))
+
+are_kinds : (w : TypeWord) → AreItems starts_kind (λ _. never) any_word (form.more_kinds w) (reading.more_kinds w)
+are_kinds w = record {
+  laws = more_kinds_reads w;
   begins = λ ks. bind_begins (word_reads (codes ".")) (word_begins (codes "."));
   apart = λ s s1 x t w h. refl;
   starts_more = λ s t h. h;
@@ -268,9 +300,9 @@ are_kinds = record {
 type_item_reads : Reads form.type_item (λ _. any_word) reading.type_item
 unfolding reading.type_item
 type_item_reads =
-    bind_definite (word_reads (codes "type")) (λ _.
-    bind_definite (kind_word_reads []) (λ k.
-    many_reads starts_kind (λ _. never) any_word form.more_kinds reading.more_kinds are_kinds (k ∷ [])))
+    bind_definite (word_by_reads [] _) (λ w.
+    bind_definite (kind_by_reads w []) (λ k.
+    many_reads starts_kind (λ _. never) any_word (form.more_kinds w) (reading.more_kinds w) (are_kinds w) (k ∷ [])))
 
 -- items
 flag_reads : (b : Declaration) → Reads (form.flag b) never (reading.flag b)
@@ -360,7 +392,7 @@ set_body_reads d p n =
     bind_definite (mark_reads 123) (λ _.
     bind_apart separators_reads (λ _.
     bind_apart type_item_reads (λ ks. items_end_reads d (declaration d p.0 p.1 n ks, d.steps)) (λ ks. items_end_begins d (declaration d p.0 p.1 n ks, d.steps)) (λ _. separator_or_closing_no_word))
-    (λ _. bind_begins type_item_reads (bind_begins (word_reads (codes "type")) (word_begins (codes "type")))) (λ _. word_no_separator))
+    (λ _. bind_begins type_item_reads (bind_begins (word_by_reads [] _) (word_by_begins [] _))) (λ _. word_no_separator))
 
 set_block_reads : (p : Family × List ℕ) (d : Draft) → Reads (form.set_block p d) never (reading.set_block p d)
 unfolding reading.set_block
@@ -455,8 +487,8 @@ pub list_item_shorter : {X : Type 0} (target : Target) (s : SetDecl) (r : List S
     → Gives view result new (reading.list_item target s r old) → OnOk result (length new < length old)
 list_item_shorter target s r view result old new g = gives_shorter (list_item_laws target s r.0 r.1) (list_item_begins target s r.0 r.1) view result old new g
 
-pub more_kinds_shorter : {X : Type 0} (ks : List Kind) (view : X → List Kind) (result : Result X ReadError) (old new : List Lexeme) → Gives view result new (reading.more_kinds ks old) → OnOk result (length new < length old)
-more_kinds_shorter ks view result old new g = gives_shorter (more_kinds_reads ks) (are_kinds.begins ks) view result old new g
+pub more_kinds_shorter : {X : Type 0} (w : TypeWord) (ks : List Kind) (view : X → List Kind) (result : Result X ReadError) (old new : List Lexeme) → Gives view result new (reading.more_kinds w ks old) → OnOk result (length new < length old)
+more_kinds_shorter w ks view result old new g = gives_shorter (more_kinds_reads w ks) ((are_kinds w).begins ks) view result old new g
 
 pub item_line_shorter : {X : Type 0} (s : (Declaration × List Step) × Bool) (view : X → (Declaration × List Step) × Bool) (result : Result X ReadError) (old new : List Lexeme)
     → Gives view result new (reading.item_line s old) → OnOk result (length new < length old)

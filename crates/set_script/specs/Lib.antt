@@ -2,6 +2,8 @@ pub mod Limits
 pub mod Values
 pub mod Changes
 pub mod Names
+pub mod Expressions
 pub mod Script
+pub mod ExpressionTable
 pub mod ScriptText
 pub mod ScriptReading

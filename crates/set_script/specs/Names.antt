@@ -16,6 +16,8 @@ use Rattle.set_script.specs.declared.words.AddWord.{AddWord}
 use Rattle.set_script.specs.declared.words.AddWord.TheVariants as adds
 use Rattle.set_script.specs.declared.words.FlushWord.{FlushWord}
 use Rattle.set_script.specs.declared.words.FlushWord.TheVariants as flushes
+use Rattle.set_script.specs.declared.words.TypeWord.{TypeWord}
+use Rattle.set_script.specs.declared.words.TypeWord.TheVariants as types
 use Rattle.set_script.specs.declared.words.ItemWord.{ItemWord}
 use Rattle.set_script.specs.declared.words.ItemWord.TheVariants as items
 use Rattle.set_script.specs.declared.words.Flag.{Flag}
@@ -72,6 +74,13 @@ family_number families.Inet = 2
 family_number families.Arp = 3
 family_number families.Bridge = 4
 family_number families.Netdev = 5
+
+-- what the type of a set is made of
+abbrev pub type_word_of : List ℕ → Option TypeWord
+type_word_of t =
+    if bytes_eq t (codes "type") then Some types.Names
+    else if bytes_eq t (codes "typeof") then Some types.Expressions
+    else None
 
 -- the kinds by their names in nft(8)
 abbrev pub kind_of : List ℕ → Option Kind

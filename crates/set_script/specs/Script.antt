@@ -17,6 +17,10 @@ use Rattle.set_script.specs.declared.words.AddWord.{AddWord}
 use Rattle.set_script.specs.declared.words.AddWord.TheVariants as adds
 use Rattle.set_script.specs.declared.words.FlushWord.{FlushWord}
 use Rattle.set_script.specs.declared.words.FlushWord.TheVariants as flushes
+use Rattle.set_script.specs.declared.words.TypeWord.{TypeWord}
+use Rattle.set_script.specs.declared.words.TypeWord.TheVariants as types
+use Rattle.set_script.specs.declared.expression.Expression.{Expression}
+use Rattle.set_script.specs.declared.expression.Expression.TheVariants as parts
 use Rattle.set_script.specs.declared.words.ItemWord.{ItemWord}
 use Rattle.set_script.specs.declared.words.ItemWord.TheVariants as items
 use Rattle.set_script.specs.declared.words.OptionWord.{OptionWord}
@@ -28,7 +32,8 @@ use Rattle.token_forms.specs.Form.{Form, done, nowhere, either_form, many, ◌>>
 use Rattle.token_forms.specs.Words.{if_true, word, word_by, word_is, lined_word_is, name, mark, text, the_end, breaks, breaks_off, separators, separates, passed, line, lines}
 use Rattle.addr_text.specs.Times.{IsTime}
 use Rattle.set_script.specs.Values.{IsPart, IsLife, IsMoment, IsSize}
-use Rattle.set_script.specs.Names.{first_of, add_of, flush_of, family_of, kind_of, kind_behind, set_place, new_name, item_of, flag_of, is_policy, option_of}
+use Rattle.set_script.specs.Expressions.{kind_of_whole, expression_behind}
+use Rattle.set_script.specs.Names.{first_of, add_of, flush_of, family_of, type_word_of, kind_of, kind_behind, set_place, new_name, item_of, flag_of, is_policy, option_of}
 use Rattle.set_script.specs.Changes.{empty, no_options, declaration, with_flag, with_timeout, with_size, with_gc_interval, with_policy, with_comment, with_elements, change, with_steps, flush, declared, begun, at_moment, commit, abort, round, finished_script}
 
 -- The family and the table. If the first word names a family, it is the family; else the family is
@@ -134,18 +139,46 @@ list target s before = do
 abbrev pub kind_word : List Kind → Form Kind
 kind_word ks = word_by (reasons.TypeWord ∷ []) (λ t. kind_behind ks (kind_of t.bytes))
 
-abbrev pub more_kinds : List Kind → Form (List Kind)
-more_kinds ks = do
+-- an expression's next word
+abbrev pub expression_word : List Kind → Expression → Form Expression
+expression_word ks part = word_by (reasons.TypeWord ∷ []) (λ t. expression_behind ks part t.bytes)
+
+-- the same, unless all of the expression has been read
+abbrev pub rest_word : List Kind → Expression → Option Kind → Form Expression
+rest_word ks part None = expression_word ks part
+rest_word ks part (Some kind) = done part
+
+-- the kind of a whole expression
+abbrev pub whole_kind : Option Kind → Form Kind
+whole_kind None = nowhere
+whole_kind (Some kind) = done kind
+
+-- an expression, which has one to four words
+abbrev pub expression : List Kind → Form Kind
+expression ks = do
+  first ← expression_word ks parts.Empty
+  second ← rest_word ks first (kind_of_whole first)
+  third ← rest_word ks second (kind_of_whole second)
+  fourth ← rest_word ks third (kind_of_whole third)
+  whole_kind (kind_of_whole fourth)
+
+-- a kind by its name, or by an expression
+abbrev pub kind_by : TypeWord → List Kind → Form Kind
+kind_by types.Names ks = kind_word ks
+kind_by types.Expressions ks = expression ks
+
+abbrev pub more_kinds : TypeWord → List Kind → Form (List Kind)
+more_kinds w ks = do
   word (codes ".")
-  k ← kind_word ks
+  k ← kind_by w ks
   done (ks ++ k ∷ [])
 
--- `type`, and one or more kinds with `.` between them
+-- `type` and one or more names of kinds, or `typeof` and one or more expressions, with `.` between them
 abbrev pub type_item : Form (List Kind)
 type_item = do
-  word (codes "type")
-  k ← kind_word []
-  many more_kinds (k ∷ [])
+  w ← word_by [] (λ t. type_word_of t.bytes)
+  k ← kind_by w []
+  many (more_kinds w) (k ∷ [])
 
 -- a flag
 abbrev pub flag : Declaration → Form Declaration

@@ -20,6 +20,10 @@ use Rattle.set_script.specs.declared.words.FlushWord.TheVariants as flushes
 use Rattle.set_script.specs.declared.words.ItemWord.{ItemWord}
 use Rattle.set_script.specs.declared.words.ItemWord.TheVariants as items
 use Rattle.set_script.specs.declared.words.Flag.{Flag}
+use Rattle.set_script.specs.declared.words.TypeWord.{TypeWord}
+use Rattle.set_script.specs.declared.words.TypeWord.TheVariants as types
+use Rattle.set_script.specs.declared.expression.Expression.{Expression}
+use Rattle.set_script.specs.declared.expression.Expression.TheVariants as parts
 use Rattle.set_script.specs.declared.words.OptionWord.{OptionWord}
 use Rattle.set_script.specs.declared.words.OptionWord.TheVariants as options
 use Rattle.set_model.specs.declared.script.Verb.{Verb}
@@ -31,7 +35,8 @@ use Rattle.token_forms.specs.Words.{if_true, any_word, breaks_off, separates, is
 use Rattle.token_forms.specs.WordReading.{Reading, word, word_by, lined_word_by, name, mark, text, the_end, breaks, separators, passed, line, line_starts, lines, many}
 use Rattle.addr_text.specs.TimesRead.{time_of}
 use Rattle.set_script.specs.Values.{part_of, life_of, moment_of, size_of}
-use Rattle.set_script.specs.Names.{first_of, add_of, flush_of, family_of, kind_of, kind_behind, set_place, new_name, item_of, flag_of, is_policy, option_of}
+use Rattle.set_script.specs.Expressions.{kind_of_whole, expression_behind}
+use Rattle.set_script.specs.Names.{first_of, add_of, flush_of, family_of, type_word_of, kind_of, kind_behind, set_place, new_name, item_of, flag_of, is_policy, option_of}
 use Rattle.set_script.specs.Changes.{empty, no_options, declaration, with_flag, with_timeout, with_size, with_gc_interval, with_policy, with_comment, with_elements, change, with_steps, flush, declared, begun, at_moment, commit, abort, round, finished_script}
 
 -- what starts one more
@@ -153,20 +158,46 @@ list target s before = do
 abbrev pub kind_word : List Kind → Reading Kind
 kind_word ks = word_by (reasons.TypeWord ∷ []) (λ t. kind_behind ks (kind_of t.bytes))
 
-unfoldable pub more_kinds : List Kind → Reading (List Kind)
-more_kinds ks = do
+abbrev pub expression_word : List Kind → Expression → Reading Expression
+expression_word ks part = word_by (reasons.TypeWord ∷ []) (λ t. expression_behind ks part t.bytes)
+
+unfoldable pub rest_word : List Kind → Expression → Option Kind → Reading Expression
+rest_word ks part None = expression_word ks part
+rest_word ks part (Some kind) = done part
+
+unfoldable pub whole_kind : Option Kind → Reading Kind
+whole_kind None = nowhere
+whole_kind (Some kind) = done kind
+
+unfoldable pub expression : List Kind → Reading Kind
+expression ks = do
+  first ← expression_word ks parts.Empty
+  second ← rest_word ks first (kind_of_whole first)
+  third ← rest_word ks second (kind_of_whole second)
+  fourth ← rest_word ks third (kind_of_whole third)
+  whole_kind (kind_of_whole fourth)
+
+unfoldable pub kind_by : TypeWord → List Kind → Reading Kind
+kind_by types.Names ks = kind_word ks
+kind_by types.Expressions ks = expression ks
+
+unfoldable pub more_kinds : TypeWord → List Kind → Reading (List Kind)
+more_kinds w ks = do
   word (codes ".")
-  k ← kind_word ks
+  k ← kind_by w ks
   done (ks ++ k ∷ [])
 
-abbrev pub kinds_behind : List Kind → Reading (List Kind)
-kinds_behind = many starts_kind more_kinds
+abbrev pub kinds_behind : TypeWord → List Kind → Reading (List Kind)
+kinds_behind w = many starts_kind (more_kinds w)
+
+abbrev pub type_word : Reading TypeWord
+type_word = word_by [] (λ t. type_word_of t.bytes)
 
 unfoldable pub type_item : Reading (List Kind)
 type_item = do
-  word (codes "type")
-  k ← kind_word []
-  kinds_behind (k ∷ [])
+  w ← type_word
+  k ← kind_by w []
+  kinds_behind w (k ∷ [])
 
 abbrev pub flag_word : Declaration → Reading Flag
 flag_word b = word_by [] (λ t. flag_of b t.bytes)

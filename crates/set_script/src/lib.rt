@@ -25,7 +25,8 @@
 //! reason that applies. [`bad_token`] finds that token's place.
 //!
 //! **Definitions:** `specs/Script.antt` is the grammar as a table of forms. `Names.antt`, `Values.antt`
-//! and `Limits.antt` say which words fit at its places. `Changes.antt` says what each statement does,
+//! and `Limits.antt` say which words fit at its places, and `Expressions.antt` which expressions a set's
+//! type may name. `Changes.antt` says what each statement does,
 //! and `ScriptText.antt` what a text means. **Theory:** docs/formats.md, "Scripts". **Proofs:**
 //! docs/proofs.md, "Grammars (`token_forms`)".
 #![tactic(auto)]
@@ -34,6 +35,8 @@ mod clock;
 mod declared;
 mod draft;
 mod elements;
+mod expression;
+mod kinds;
 mod parts;
 mod place;
 mod script;
@@ -41,6 +44,8 @@ mod sets;
 mod values;
 mod words;
 
+pub use expression::{Expression, ExpressionWord, read_expression_word};
+pub use kinds::expressions_law;
 pub use place::{place_of_set, table_place, used_set};
 pub use script::{
     ScriptError, bad_token, one_script_fault_law, one_script_law, read_script, script_fronts_law,

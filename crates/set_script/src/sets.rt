@@ -1,10 +1,9 @@
 ghost use Rattle.std.specs.Prelude.{◌≡◌, ◌<◌, List, length, true, false, OnOk};
 ghost use Rattle.std.specs.Bool.{OnTrue};
-ghost use Rattle.set_model.specs.declared.kind.Kind.{Kind as KindOf};
 ghost use Rattle.token_forms.specs.Gives.{Gives};
 ghost use Rattle.token_forms.specs.View.{lexeme_of};
 ghost use Rattle.set_script.specs.ScriptReading as reading;
-ghost use Rattle.set_script.specs.ScriptReading.{starts_kind, starts_flag};
+ghost use Rattle.set_script.specs.ScriptReading.{starts_flag};
 ghost use Rattle.set_script.specs.Changes.{with_flag};
 ghost use Rattle.set_script.specs.Limits.{most_sets, HasShortTimeout};
 ghost use Rattle.set_script.specs.Names.{may_declare};
@@ -12,10 +11,11 @@ ghost use Rattle.set_script.specs.declared.draft.Declaration.{Declaration as Dec
 
 use crate::draft::{Declaration, Draft, begin_declaration};
 use crate::elements::list;
+use crate::kinds::type_item;
 use crate::place::{place_of_set, table_place};
 use crate::values;
-use crate::words::{Flag, ItemWord, flag_of_word, is_a_policy, item_word_of, read_kind_behind};
-use set_model::{Family, Kind, Kinds, Listed, Steps};
+use crate::words::{Flag, ItemWord, flag_of_word, is_a_policy, item_word_of};
+use set_model::{Family, Steps};
 use std::alloc::Global;
 use token_forms::{ReadError, Reader, Reason, Seen, is_a_name};
 
@@ -47,69 +47,6 @@ pub fn new_set<'a>(
     } else {
         Err(t.refused(&[Reason::Set]))
     }
-}
-
-/// Reads a word that names a kind, if the key has room for one more after these.
-#[tactic(auto, unfolding(token_forms::specs::Gives::Refuses))]
-fn kind_word(reader: &mut Reader, kinds: &[Kind]) -> Result<Kind, ReadError>
-    ensures { Gives (λ x. x) result reader.new (reading.kind_word kinds.now reader.old) }
-{
-    let t = reader.next()?;
-    match read_kind_behind(kinds, t.bytes) {
-        Some(kind) if t.is_word() => Ok(kind),
-        _ => Err(t.refused(&[Reason::TypeWord])),
-    }
-}
-
-#[tactic(auto, using(token_forms::proofs::Refusals::refusals), unfolding(crate::specs::ScriptReading::more_kinds))]
-fn more_kinds(reader: &mut Reader, kinds: &mut Kinds) -> Result<(), ReadError>
-    ensures { Gives (λ _. kinds.new) result reader.new (reading.more_kinds kinds.old reader.old) }
-{
-    reader.word(b".")?;
-    let kind = kind_word(reader, kinds.as_slice())?;
-    kinds.push(kind)?;
-    Ok(())
-}
-
-fn next_kind(reader: &mut Reader, kinds: &mut Kinds) -> Result<(), ReadError>
-    ensures gives { Gives (λ _. kinds.new) result reader.new (reading.more_kinds kinds.old reader.old) }
-    ensures shorter { OnOk result (length reader.new < length reader.old) }
-{
-    more_kinds(reader, kinds)
-}
-
-fn starts_a_kind(t: &Seen) -> bool
-    ensures { (ks : List KindOf) → result ≡ starts_kind ks (lexeme_of t.now) }
-{
-    t.is_word()
-}
-
-fn kinds_behind(reader: &mut Reader, kinds: &mut Kinds) -> Result<(), ReadError>
-    ensures { Gives (λ _. kinds.new) result reader.new (reading.kinds_behind kinds.old reader.old) }
-{
-    'kinds: while let Some(t) = reader.peek() {
-        let starts = starts_a_kind(&t);
-        if !starts {
-            return Ok(());
-        }
-        match next_kind(reader, kinds) {
-            Ok(()) => {}
-            Err(e) => return Err(e),
-        }
-    }
-    Ok(())
-}
-
-#[tactic(auto, using(token_forms::proofs::Refusals::refusals), unfolding(crate::specs::ScriptReading::type_item))]
-fn type_item(reader: &mut Reader, alloc: Global) -> Result<Kinds, ReadError>
-    ensures { Gives (λ x. x) result reader.new (reading.type_item reader.old) }
-{
-    reader.word(b"type")?;
-    let kind = kind_word(reader, &[])?;
-    let mut kinds = Listed::new(alloc);
-    kinds.push(kind)?;
-    kinds_behind(reader, &mut kinds)?;
-    Ok(kinds)
 }
 
 #[tactic(auto, unfolding(token_forms::specs::Gives::Refuses))]

@@ -1,5 +1,5 @@
 ghost use Rattle.std.specs.Prelude.{◌≡◌, ◌<◌, ◌≤◌, ◌*◌, length, sum_by};
-ghost use Rattle.set_script.specs.Names.{first_of, add_of, flush_of, family_of, kind_of, key_bytes, has_room, kind_behind, item_of, flag_of, is_policy, option_of};
+ghost use Rattle.set_script.specs.Names.{first_of, add_of, flush_of, family_of, type_word_of, kind_of, key_bytes, has_room, kind_behind, item_of, flag_of, is_policy, option_of};
 
 use crate::draft::{Declaration, Options};
 use set_model::{Family, Kind};
@@ -32,6 +32,15 @@ pub enum AddWord {
 pub enum FlushWord {
     Set,
     Ruleset,
+}
+
+/// The first word of the type of a set.
+#[derive(Clone, Copy, Debug, PartialEq, Eq)]
+pub enum TypeWord {
+    /// `type`, and names of kinds.
+    Names,
+    /// `typeof`, and expressions.
+    Expressions,
 }
 
 /// The first word of an item of a set, after its type.
@@ -140,6 +149,19 @@ pub fn read_family(text: &[u8]) -> Option<Family>
     }
 }
 
+/// The type of a set that a word begins.
+pub fn read_type_word(text: &[u8]) -> Option<TypeWord>
+    ensures { result ≡ type_word_of text.now }
+{
+    if text == b"type".as_slice() {
+        Some(TypeWord::Names)
+    } else if text == b"typeof".as_slice() {
+        Some(TypeWord::Expressions)
+    } else {
+        None
+    }
+}
+
 fn read_kind(text: &[u8]) -> Option<Kind>
     ensures { result ≡ kind_of text.now }
 {
@@ -187,7 +209,8 @@ fn all_bytes(kinds: &[Kind]) -> u64
     sum
 }
 
-fn has_room_for(kinds: &[Kind], kind: Kind) -> bool
+/// Whether the key has room for a kind after these.
+pub fn has_room_for(kinds: &[Kind], kind: Kind) -> bool
     ensures { result ≡ has_room kinds.now kind }
 {
     kinds.len() < 16 && all_bytes(kinds) + bytes_in_key(kind) <= 64

@@ -41,6 +41,11 @@ fn type_refusal(alloc: Global, text: &[u8]) -> Result<Vec<u8>, Memory> {
     refusal(alloc, &joined(alloc, b"add set t s { type ", text)?)
 }
 
+/// The line and the reason for a set's expressions.
+fn expression_refusal(alloc: Global, text: &[u8]) -> Result<Vec<u8>, Memory> {
+    refusal(alloc, &joined(alloc, b"add set t s { typeof ", text)?)
+}
+
 /// The place of a script's bad token.
 fn place(alloc: Global, text: &[u8]) -> Result<Vec<u8>, Memory> {
     told_place(alloc, bad_token(alloc, text)?)
@@ -53,6 +58,8 @@ const PLACES: &[u8] = b"\
     at 5 \\\n$|7 1 2 1 character~\
     commit\nadd|10 0 2 4 end~\
     add set ip t p { type inet_service ; comment \"\xc3\xa4\" x }|50 1 1 51 statement~\
+    add set t s { typeof ip saddr . tcp flags }|36 5 1 37 type~\
+    add set t s { typeof ip6 saddr . ip6 saddr . ip6 daddr . ip6 daddr . ct mark }|72 4 1 73 type~\
     at 5\ncommit|none~\
 ";
 
@@ -90,7 +97,7 @@ const SETS: &[u8] = b"\
     add set ip filter s { type ipv4_addr; disjoint }|1 statement~\
     add set ip filter s { type ipv4_addr; flags constant }|1 left out~\
     add set ip filter s { type ipv4_addr; auto-merge }|1 left out~\
-    add set ip filter s { typeof ip saddr }|1 left out~\
+    add set ip filter s { type ipv4_addr; typeof ip saddr }|1 statement~\
     add set ip filter s { type ipv4_addr; timeout 5s; timeout 5s }|1 statement~\
     add set ip filter s { type ipv4_addr; timeout never }|1 time~\
     add set ip filter s { type ipv4_addr; elements = { }; flags interval }|1 statement~\
@@ -133,6 +140,23 @@ const KINDS: &[u8] = b"\
     }|1 statement~\
     ipv4_addr . }|1 statement~\
     ipv4_addr , mark }|1 statement~\
+";
+
+/// Expressions outside the grammar.
+const EXPRESSIONS: &[u8] = b"\
+    iifname }|1 type~\
+    ether type }|1 type~\
+    ip saddr . meta protocol }|1 type~\
+    ct protocol }|1 type~\
+    ct original proto-dst }|1 type~\
+    ipv4_addr }|1 type~\
+    ip saddr tcp dport }|1 statement~\
+    ip }|1 statement~\
+    arp saddr\nip }|1 statement~\
+    ip saddr . }|1 statement~\
+    ip saddr; type ipv4_addr }|1 statement~\
+    @th,0,16 }|1 character~\
+    ip6 saddr . ip6 saddr . ip6 saddr . ip6 saddr . ip protocol }|1 type~\
 ";
 
 /// Statements outside the grammar.
@@ -237,7 +261,7 @@ const NAMES: &[u8] = b"\
 
 #[test]
 fn refused_scripts(rt: HostRuntime) {
-    assert_told(&rt, rt.alloc(), PLACES, 6, place);
+    assert_told(&rt, rt.alloc(), PLACES, 8, place);
     assert_told(&rt, rt.alloc(), REASONS, 15, refusal);
     assert_told(&rt, rt.alloc(), SETS, 44, refusal);
     assert_told(&rt, rt.alloc(), COMMENTS, 2, refusal);
@@ -247,6 +271,7 @@ fn refused_scripts(rt: HostRuntime) {
 #[test]
 fn refused_parts_of_scripts(rt: HostRuntime) {
     assert_told(&rt, rt.alloc(), KINDS, 8, type_refusal);
+    assert_told(&rt, rt.alloc(), EXPRESSIONS, 13, expression_refusal);
     assert_told(&rt, rt.alloc(), STATEMENTS, 36, statement_refusal);
     assert_told(&rt, rt.alloc(), ELEMENTS, 25, element_refusal);
     assert_told(&rt, rt.alloc(), OPTIONS, 9, option_refusal);

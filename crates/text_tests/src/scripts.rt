@@ -218,6 +218,16 @@ const ELEMENTS: &[u8] = b"\
     table t {\nset s {\ntype ipv4_addr . inet_service\nsize 65535\nflags interval\ntimeout 1m\n}\n}\nadd element t s { 10.0.0.0/8 . 80-443 }\n|ip t s ipv4_addr inet_service interval timeout life 60000 size 65535;/9 add 0 167772160-184549375 80-443 at 0 until 60000;commit at 0;last 0~\
 ";
 
+/// Sets by expressions, with the types that nft 1.0.6 gives each.
+const EXPRESSIONS: &[u8] = b"\
+    add set t s { typeof ip saddr . ip daddr . ip protocol . meta l4proto . meta mark . mark . ct mark . tcp sport . udp dport . sctp sport . dccp dport . udplite sport . th dport }|ip t s ipv4_addr ipv4_addr inet_proto inet_proto mark mark mark inet_service inet_service inet_service inet_service inet_service inet_service;/last 0~\
+    add set arp t s { typeof arp saddr ip . arp daddr ip . arp saddr ether . arp daddr ether . ether saddr . ether daddr }|arp t s ipv4_addr ipv4_addr ether_addr ether_addr ether_addr ether_addr;/last 0~\
+    add set ip6 t s { typeof ip6 saddr . ip6 daddr . ip6 nexthdr . ct original ip6 saddr . ct reply protocol }|ip6 t s ipv6_addr ipv6_addr inet_proto ipv6_addr inet_proto;/last 0~\
+    add set t s { typeof ct original ip saddr . ct original ip daddr . ct reply ip saddr . ct reply ip daddr . ct original protocol }|ip t s ipv4_addr ipv4_addr ipv4_addr ipv4_addr inet_proto;/last 0~\
+    add set inet t s { typeof ct original ip6 daddr . ct reply ip6 saddr . ct reply ip6 daddr; size 5 }|inet t s ipv6_addr ipv6_addr ipv6_addr size 5;/last 0~\
+    table inet t {\n\tset s {\n\t\ttypeof ip saddr . tcp dport\n\t\tflags interval\n\t\telements = { 10.0.0.0/8 . 80 }\n\t}\n}\n|inet t s ipv4_addr inet_service interval;/5 add 0 167772160-184549375 80-80 at 0;commit at 0;last 0~\
+";
+
 /// Times, comments and all that nft lists of a set.
 const OPTIONS: &[u8] = b"\
     add set t s { type inet_service; flags timeout,interval; timeout 10s; size 9 }\nat 1000\nadd element t s { 80, 81 timeout 30s, 82 timeout 30s\ncomment \"web\" expires 5s,\n83 timeout never, 84 timeout 0s, 85 expires 0s }\ndelete element t s { 80 timeout 5s comment \"none\" }|ip t s inet_service interval timeout life 10000 size 9;/3 add 0 80-80 at 1000 until 11000;3 add 0 81-81 at 1000 until 31000;3 add 0 82-82 at 1000 until 6000 comment web;5 add 0 83-83 at 1000;5 add 0 84-84 at 1000;5 add 0 85-85 at 1000 until 1000;6 delete 0 80-80 at 1000;commit at 1000;last 1000~\
@@ -250,6 +260,7 @@ fn scripts(rt: HostRuntime) {
     assert_told(&rt, rt.alloc(), FLAGS, 18, told_text);
     assert_told(&rt, rt.alloc(), ELEMENTS, 8, told_text);
     assert_told(&rt, rt.alloc(), OPTIONS, 7, told_text);
+    assert_told(&rt, rt.alloc(), EXPRESSIONS, 6, told_text);
     assert_told(&rt, rt.alloc(), STEPS, 11, told_text);
 }
 

@@ -2,7 +2,7 @@ use Rattle.std.proofs.Common.{◌≡◌, true, false}
 use Rattle.token_forms.specs.View.{lexeme_of}
 use Rattle.token_forms.proofs.LoopLaws.{left_stop, left_next, left_bad}
 use Rattle.set_script.specs.ScriptReading.{starts_kind}
-use Rattle.set_script.proofs.sets.kinds_behind.Goals as goal
+use Rattle.set_script.proofs.kinds.kinds_behind.Goals as goal
 
 pub returns-then-not-starts : goal.returns-then-not-starts
 returns-then-not-starts c =
