@@ -48,7 +48,7 @@ const WITH_TIMEOUT: &str = "# commit generation 1 purged 0\n\
                            \t}\n\
                            }\n";
 
-const LISTED: [Case; 10] = [
+const LISTED: [Case; 11] = [
     // an element that is added twice
     Case {
         words: &LIST,
@@ -138,6 +138,25 @@ const LISTED: [Case; 10] = [
                  \t\telements = { 10.0.0.0/8 . 2001:db8::/32 . 00:00:00:00:00:00-00:00:00:00:00:ff . 0-255 . 0-65535 . 0x00000000-0xffffffff expires 1h comment \"web\",\n\
                  \t\t\t     11.0.0.1 . ::1 . 00:0a:0b:0c:0d:0e . tcp . 443 . 0x0000000a timeout 0s,\n\
                  \t\t\t     11.0.0.2 . :: . 00:00:00:00:00:00 . ipv6-icmp . 0 . 0x00000000 expires 0s }\n\
+                 \t}\n\
+                 }\n",
+        status: 0,
+    },
+    // a set by expressions is listed by its types
+    Case {
+        words: &LIST,
+        script: "table inet t {\n\
+                 \tset s {\n\
+                 \t\ttypeof ct original ip saddr . th dport\n\
+                 \t\telements = { 192.0.2.7 . 443 }\n\
+                 \t}\n\
+                 }\n",
+        keys: "",
+        output: "# commit generation 1 purged 0\n\
+                 table inet t {\n\
+                 \tset s {\n\
+                 \t\ttype ipv4_addr . inet_service\n\
+                 \t\telements = { 192.0.2.7 . 443 }\n\
                  \t}\n\
                  }\n",
         status: 0,

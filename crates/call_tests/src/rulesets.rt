@@ -14,7 +14,7 @@ struct Kept {
     status: u8,
 }
 
-const RULESETS: [Kept; 5] = [
+const RULESETS: [Kept; 6] = [
     // a set that is left out, a part that is dropped, and a brace in a string of a chain
     Kept {
         whole: "table inet filter {\n\
@@ -82,6 +82,29 @@ const RULESETS: [Kept; 5] = [
               r.nft:4:1: 'insert rule' is skipped: it isn't a set\n",
         ),
         status: 0,
+    },
+    // a set by expressions stays as it is, unless one of them has another type
+    Kept {
+        whole: "table inet t {\n\
+              \tset a {\n\
+              \t\ttypeof ip saddr . ct mark\n\
+              \t\telements = { 192.0.2.7 . 0x00000001 }\n\
+              \t}\n\
+              \tset b {\n\
+              \t\ttypeof ip saddr . iifname\n\
+              \t}\n\
+              }\n",
+        output: "table inet t {\n\
+               \tset a {\n\
+               \t\ttypeof ip saddr . ct mark\n\
+               \t\telements = { 192.0.2.7 . 0x00000001 }\n\
+               \t}\n\
+               \t       \n\
+               \t\t                         \n\
+               \t \n\
+               }\n",
+        notes: Some("r.nft:6:2: 'set b' is left out: it has a type that isn't known here\n"),
+        status: 1,
     },
     // a brace that nothing closes
     Kept {

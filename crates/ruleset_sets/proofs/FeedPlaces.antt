@@ -22,7 +22,10 @@ use Rattle.ruleset_sets.specs.declared.item.Level.{Level}
 use Rattle.ruleset_sets.specs.declared.item.Level.TheVariants as levels
 use Rattle.ruleset_sets.specs.Roles.{role_of, is_line_feed, opens}
 use Rattle.ruleset_sets.specs.RoleTokens.{role_token_of, role_tokens}
-use Rattle.ruleset_sets.specs.Sieve.{fate, is_dropped, spot_behind, dropped_among, body}
+use Rattle.set_script.specs.declared.expression.Expression.{Expression}
+use Rattle.set_script.specs.declared.expression.ExpressionWord.{ExpressionWord}
+use Rattle.set_script.specs.Expressions.{grown_by}
+use Rattle.ruleset_sets.specs.Sieve.{fate, expression_fate, is_dropped, spot_behind, dropped_among, body}
 use Rattle.ruleset_sets.specs.Inner.{before_inner}
 use Rattle.ruleset_sets.specs.Items.{cuts_from, first_item}
 use Rattle.ruleset_sets.specs.Kept.{IsKept, HaveSameLines, may_go, goes_for, taken_behind, taken_from, taken_in, all_taken, is_within, blank_if, kept_byte}
@@ -135,15 +138,23 @@ gone_for reasons.Unclosed r h = gone r (first (may_go r) (not (opens r)) h) wher
   first false b h = h
 gone_for _ r h = gone r h
 
-dropped : (r : Role) (spot : Spot) (ps : List RoleToken) → is_dropped (fate spot r ps) ≡ true → is_line_feed r ≡ false
-dropped roles.LineFeed spots.Plain ps h = sym h
-dropped roles.LineFeed spots.Types ps h = sym h
-dropped roles.LineFeed spots.Flags ps h = sym h
-dropped roles.LineFeed spots.FlagDropped ps h = sym h
-dropped roles.LineFeed spots.FlagKept ps h = sym h
-dropped roles.LineFeed spots.Tally ps h = sym h
-dropped roles.LineFeed spots.TallyValue ps h = sym h
-dropped _ spot ps h = refl
+among_expressions : (grown : Option Expression) → is_dropped (expression_fate roles.LineFeed grown) ≡ true → is_line_feed roles.LineFeed ≡ false
+among_expressions None h = sym h
+among_expressions (Some part) h = sym h
+
+abbrev placed : Role → Option ExpressionWord → ℕ → ℕ → ℕ → RoleToken
+placed r w line from size = record { role = r; word = w; line = line; from = from; size = size }
+
+dropped : (r : Role) (w : Option ExpressionWord) (line from size : ℕ) (spot : Spot) (ps : List RoleToken) → is_dropped (fate spot (placed r w line from size) ps) ≡ true → is_line_feed r ≡ false
+dropped roles.LineFeed w line from size spots.Plain ps h = sym h
+dropped roles.LineFeed w line from size spots.Types ps h = sym h
+dropped roles.LineFeed w line from size (spots.Expressions part) ps h = among_expressions (grown_by part w) h
+dropped roles.LineFeed w line from size spots.Flags ps h = sym h
+dropped roles.LineFeed w line from size spots.FlagDropped ps h = sym h
+dropped roles.LineFeed w line from size spots.FlagKept ps h = sym h
+dropped roles.LineFeed w line from size spots.Tally ps h = sym h
+dropped roles.LineFeed w line from size spots.TallyValue ps h = sym h
+dropped _ w line from size spot ps h = refl
 
 abbrev ClearAlways : List ℕ → RoleToken → Type 0
 ClearAlways whole p = IsClear whole p.from p.size
@@ -158,10 +169,10 @@ filter_clear whole why (p ∷ ps) h = go (goes_for why p.role) refl (filter_clea
 
 dropped_clear : (whole : List ℕ) (spot : Spot) (ps : List RoleToken) → Each (ClearToken whole) ps → Each (ClearAlways whole) (dropped_among spot ps)
 dropped_clear whole spot [] h = tt
-dropped_clear whole spot (p ∷ ps) h = go (is_dropped (fate spot p.role ps)) refl (dropped_clear whole (spot_behind spot p.role) ps h.1) where
-  go : (t : Bool) → is_dropped (fate spot p.role ps) ≡ t → Each (ClearAlways whole) (dropped_among (spot_behind spot p.role) ps)
-      → Each (ClearAlways whole) (cond t (p ∷ dropped_among (spot_behind spot p.role) ps) (dropped_among (spot_behind spot p.role) ps))
-  go true e rest = (h.0 (dropped p.role spot ps e), rest)
+dropped_clear whole spot (p ∷ ps) h = go (is_dropped (fate spot p ps)) refl (dropped_clear whole (spot_behind spot p) ps h.1) where
+  go : (t : Bool) → is_dropped (fate spot p ps) ≡ t → Each (ClearAlways whole) (dropped_among (spot_behind spot p) ps)
+      → Each (ClearAlways whole) (cond t (p ∷ dropped_among (spot_behind spot p) ps) (dropped_among (spot_behind spot p) ps))
+  go true e rest = (h.0 (dropped p.role p.word p.line p.from p.size spot ps e), rest)
   go false e rest = rest
 
 behind_clear : (whole : List ℕ) (ps : List RoleToken) → Each (ClearToken whole) ps → Each (ClearAlways whole) (taken_behind ps)

@@ -124,6 +124,17 @@ reasons-kept = refl
 reasons-noted : noted reasons ≡ (UnknownType, 1, 11) ∷ (CatchAll, 2, 31) ∷ (NoSet, 3, 61) ∷ []
 reasons-noted = refl
 
+-- A set by an expression whose type is known is kept, and `ct` counts no connections in it. An expression of another type
+-- leaves its set out.
+abbrev expressions : List ℕ
+expressions = codes "table ip t{set a{typeof ct original ip saddr . th dport;}" ++ 10 ∷ codes "set b{typeof ip saddr . iifname;}}"
+
+expressions-kept : kept_of expressions ≡ codes "table ip t{set a{typeof ct original ip saddr . th dport;}" ++ 10 ∷ codes "                                 }"
+expressions-kept = refl
+
+expressions-noted : noted expressions ≡ (UnknownType, 2, 58) ∷ []
+expressions-noted = refl
+
 -- A quote that begins no string stays, and a script with it is refused.
 abbrev an_open_quote : List ℕ
 an_open_quote = codes "chain c {" ++ 34 ∷ codes "x" ++ 10 ∷ codes "}"

@@ -130,6 +130,10 @@ abbrev pub is_type : Role → Bool
 is_type roles.TypeItem = true
 is_type _ = false
 
+abbrev pub is_typeof : Role → Bool
+is_typeof roles.Typeof = true
+is_typeof _ = false
+
 abbrev pub is_flags : Role → Bool
 is_flags roles.FlagsItem = true
 is_flags _ = false
@@ -157,6 +161,10 @@ is_count _ = false
 abbrev pub is_plain_word : Role → Bool
 is_plain_word roles.Word = true
 is_plain_word _ = false
+
+abbrev pub is_dot : Role → Bool
+is_dot roles.Dot = true
+is_dot _ = false
 
 -- a known type, or the `.` between two
 abbrev pub is_type_part : Role → Bool

@@ -166,6 +166,13 @@ impl Role {
         matches!(self, Role::TypeItem)
     }
 
+    /// Whether it is `typeof`.
+    pub fn is_typeof(self) -> bool
+        ensures { result ≡ roles.is_typeof self }
+    {
+        matches!(self, Role::Typeof)
+    }
+
     /// Whether it is `flags`.
     pub fn is_flags(self) -> bool
         ensures { result ≡ roles.is_flags self }
@@ -213,6 +220,13 @@ impl Role {
         ensures { result ≡ roles.is_plain_word self }
     {
         matches!(self, Role::Word)
+    }
+
+    /// Whether it is `.`.
+    pub fn is_dot(self) -> bool
+        ensures { result ≡ roles.is_dot self }
+    {
+        matches!(self, Role::Dot)
     }
 
     /// Whether it is a known type, or the `.` between two types.

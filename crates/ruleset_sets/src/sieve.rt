@@ -8,6 +8,7 @@ ghost use Rattle.ruleset_sets.specs.declared.sieve.Spot.TheVariants as spots;
 use crate::role::Role;
 use crate::role_token::RoleToken;
 use set_model::Memory;
+use set_script::Expression;
 use std::alloc::Global;
 
 /// Why an item of a ruleset, or a part of an item, isn't kept.
@@ -15,10 +16,8 @@ use std::alloc::Global;
 pub enum SkipReason {
     /// The item is no set and no statement on sets.
     NoSet,
-    /// The set has a type that isn't known.
+    /// The set has a type that isn't known, by its name or by an expression.
     UnknownType,
-    /// The set gets its type by `typeof`.
-    Typeof,
     /// The set has the flag `auto-merge`.
     AutoMerge,
     /// The set has the catch-all element `*`.
@@ -41,6 +40,8 @@ pub enum Spot {
     Plain,
     /// Among the types of `type`.
     Types,
+    /// Among the expressions of `typeof`, after this part of one.
+    Expressions(Expression),
     /// Among the flags of `flags`, if no flag that stays came before. The last token is no dropped flag.
     Flags,
     /// The same, right after a dropped flag.
@@ -86,12 +87,23 @@ impl Role {
         self.is_plain_word() || self.is_idle_flag() || self.is_comma()
     }
 
-    /// Why an item with this token is left out, if it is.
+    /// Whether it comes between two expressions, or after the last one.
+    fn ends_expression(self) -> bool
+        ensures { result ≡ sieve.ends_expression self }
+    {
+        self.is_dot()
+            || self.is_separator()
+            || self.opens()
+            || self.closes()
+            || self.is_unread()
+            || self.is_end()
+    }
+
+    /// Why an item with this token outside expressions is left out, if it is.
     fn why(self) -> Option<SkipReason>
         ensures { result ≡ sieve.why_left_out self }
     {
         match self {
-            Role::Typeof => Some(SkipReason::Typeof),
             Role::AutoMerge => Some(SkipReason::AutoMerge),
             Role::Star => Some(SkipReason::CatchAll),
             Role::Stateful => Some(SkipReason::Stateful),
@@ -158,14 +170,27 @@ fn fate_of_word(role: Role, rest: &[RoleToken]) -> Fate
     dropped_if(role.is_tally() || (role.is_flags() && !keeps_a_flag(rest)))
 }
 
-/// What becomes of a token that doesn't leave its item out, by its spot and the tokens after it.
-fn fate_inside(spot: Spot, role: Role, rest: &[RoleToken]) -> Fate
-    ensures { result ≡ sieve.fate_at spot role rest.now }
+/// What becomes of a token among expressions, by what has been read of an expression after it.
+fn fate_in_expression(role: Role, grown: Option<Expression>) -> Fate
+    ensures { result ≡ sieve.expression_fate role grown }
 {
+    match grown {
+        Some(_) => Fate::Keep,
+        None if role.ends_expression() => Fate::Keep,
+        None => Fate::Leave(SkipReason::UnknownType),
+    }
+}
+
+/// What becomes of a token that isn't special wherever it is, by its spot and the tokens after it.
+fn fate_inside(spot: Spot, p: &RoleToken, rest: &[RoleToken]) -> Fate
+    ensures { result ≡ sieve.fate_at spot p.now rest.now }
+{
+    let role = p.role;
     match spot {
         Spot::Plain => fate_of_word(role, rest),
         Spot::Types if role.is_type_part() || role.is_no_word() => Fate::Keep,
         Spot::Types => Fate::Leave(SkipReason::UnknownType),
+        Spot::Expressions(part) => fate_in_expression(role, part.grown(p.word)),
         Spot::Flags => dropped_if(is_a_whole_idle(role, rest)),
         Spot::FlagDropped => {
             dropped_if(is_a_whole_idle(role, rest) || (role.is_comma() && at_flag(rest)))
@@ -179,18 +204,28 @@ fn fate_inside(spot: Spot, role: Role, rest: &[RoleToken]) -> Fate
     }
 }
 
-/// What becomes of a token, by its spot and the tokens after it.
-fn fate_of(spot: Spot, role: Role, rest: &[RoleToken]) -> Fate
-    ensures { result ≡ sieve.fate spot role rest.now }
+/// Why an item with this token at this spot is left out whatever comes next, if it is.
+fn why_here(spot: Spot, role: Role) -> Option<SkipReason>
+    ensures { result ≡ sieve.why_at spot role }
 {
-    match role.why() {
+    match spot {
+        Spot::Expressions(_) => None,
+        _ => role.why(),
+    }
+}
+
+/// What becomes of a token, by its spot and the tokens after it.
+fn fate_of(spot: Spot, p: &RoleToken, rest: &[RoleToken]) -> Fate
+    ensures { result ≡ sieve.fate spot p.now rest.now }
+{
+    match why_here(spot, p.role) {
         Some(why) => Fate::Leave(why),
-        None => fate_inside(spot, role, rest),
+        None => fate_inside(spot, p, rest),
     }
 }
 
 fn spot_after_flag(role: Role) -> Spot
-    ensures { result ≡ sieve.spot_inside spots.Flags role }
+    ensures { result ≡ sieve.flag_spot role }
 {
     if role.is_idle_flag() {
         Spot::FlagDropped
@@ -201,12 +236,25 @@ fn spot_after_flag(role: Role) -> Spot
     }
 }
 
-/// The spot after a token that begins no part of its item.
-fn spot_within(spot: Spot, role: Role) -> Spot
-    ensures { result ≡ sieve.spot_inside spot role }
+/// The spot among expressions after a token that doesn't end one.
+fn spot_in_expression(grown: Option<Expression>) -> Spot
+    ensures { result ≡ sieve.expression_spot grown }
 {
+    match grown {
+        Some(part) => Spot::Expressions(part),
+        None => Spot::Plain,
+    }
+}
+
+/// The spot after a token that begins no part of its item.
+fn spot_within(spot: Spot, p: &RoleToken) -> Spot
+    ensures { result ≡ sieve.spot_inside spot p.now }
+{
+    let role = p.role;
     match spot {
         Spot::Types if role.is_type_part() => Spot::Types,
+        Spot::Expressions(_) if role.is_dot() => Spot::Expressions(Expression::Empty),
+        Spot::Expressions(part) => spot_in_expression(part.grown(p.word)),
         Spot::Flags | Spot::FlagDropped => spot_after_flag(role),
         Spot::FlagKept => Spot::FlagKept,
         Spot::Tally if role.is_count() => Spot::TallyValue,
@@ -216,19 +264,22 @@ fn spot_within(spot: Spot, role: Role) -> Spot
 }
 
 /// The spot after a token.
-fn spot_after(spot: Spot, role: Role) -> Spot
-    ensures { result ≡ sieve.spot_behind spot role }
+fn spot_after(spot: Spot, p: &RoleToken) -> Spot
+    ensures { result ≡ sieve.spot_behind spot p.now }
 {
+    let role = p.role;
     if role.is_separator() || role.opens() || role.closes() {
         Spot::Plain
     } else if role.is_type() {
         Spot::Types
+    } else if role.is_typeof() {
+        Spot::Expressions(Expression::Empty)
     } else if role.is_flags() {
         Spot::Flags
     } else if role.is_tally() {
         Spot::Tally
     } else {
-        spot_within(spot, role)
+        spot_within(spot, p)
     }
 }
 
@@ -239,11 +290,10 @@ fn reason_among(tokens: &[RoleToken]) -> Option<SkipReason>
     let mut spot = Spot::Plain;
     let mut left = tokens;
     'tokens: while let Some((first, rest)) = left.split_first() {
-        let role = first.role;
-        if let Fate::Leave(why) = fate_of(spot, role, rest) {
+        if let Fate::Leave(why) = fate_of(spot, first, rest) {
             return Some(why);
         }
-        spot = spot_after(spot, role);
+        spot = spot_after(spot, first);
         left = rest;
     }
     None
@@ -280,11 +330,10 @@ fn dropped_in_body(alloc: Global, body: &[RoleToken]) -> Result<Vec<RoleToken>, 
     let mut spot = Spot::Plain;
     let mut left = body;
     'tokens: while let Some((first, rest)) = left.split_first() {
-        let role = first.role;
-        if let Fate::Drop = fate_of(spot, role, rest) {
+        if let Fate::Drop = fate_of(spot, first, rest) {
             dropped.push(*first)?;
         }
-        spot = spot_after(spot, role);
+        spot = spot_after(spot, first);
         left = rest;
     }
     Ok(dropped)

@@ -11,7 +11,6 @@ use Rattle.fault_notes.specs.Shown.{shown}
 abbrev pub reason_words : SkipReason → List ℕ
 reason_words reasons.NoSet = codes "is skipped: it isn't a set"
 reason_words reasons.UnknownType = codes "is left out: it has a type that isn't known here"
-reason_words reasons.Typeof = codes "is left out: 'typeof' isn't read here"
 reason_words reasons.AutoMerge = codes "is left out: 'auto-merge' isn't read here"
 reason_words reasons.CatchAll = codes "is left out: it has the catch-all element '*'"
 reason_words reasons.Stateful = codes "is left out: it has a quota, a limit or a count of connections"

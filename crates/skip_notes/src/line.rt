@@ -17,7 +17,6 @@ fn reason_words(why: SkipReason) -> &'static [u8]
     match why {
         SkipReason::NoSet => b"is skipped: it isn't a set",
         SkipReason::UnknownType => b"is left out: it has a type that isn't known here",
-        SkipReason::Typeof => b"is left out: 'typeof' isn't read here",
         SkipReason::AutoMerge => b"is left out: 'auto-merge' isn't read here",
         SkipReason::CatchAll => b"is left out: it has the catch-all element '*'",
         SkipReason::Stateful => {

@@ -17,7 +17,6 @@ fn why_word(why: SkipReason) -> &'static [u8] {
     match why {
         SkipReason::NoSet => b" skipped",
         SkipReason::UnknownType => b" unknown type",
-        SkipReason::Typeof => b" typeof",
         SkipReason::AutoMerge => b" auto-merge",
         SkipReason::CatchAll => b" catch-all",
         SkipReason::Stateful => b" state",
@@ -210,7 +209,7 @@ const LISTED: &[u8] = b"\
     \t\tmeta mark & 0x000000ff != 0x00000001 counter packets 0 bytes 0 drop\n\
     \t}\n\
     }\n\
-    |6 sets 10 steps, 2 flags dormant skipped, 3 comment \"my table\" skipped, 5 counter c1 skipped, 9 quota q1 skipped, 13 limit l1 skipped, 17 ct helper skipped, 22 ct timeout skipped, 28 set blocked auto-merge, 38 dynamic dropped, 39 counter dropped, 46 dynamic dropped, 52 constant dropped, 58 constant dropped, 64 counter dropped, 68 set ifs unknown type, 73 set met state, 81 set quo state, 87 set cc state, 94 set ca catch-all, 100 set to typeof, 113 map m skipped, 118 chain input skipped~\
+    |7 sets 11 steps, 2 flags dormant skipped, 3 comment \"my table\" skipped, 5 counter c1 skipped, 9 quota q1 skipped, 13 limit l1 skipped, 17 ct helper skipped, 22 ct timeout skipped, 28 set blocked auto-merge, 38 dynamic dropped, 39 counter dropped, 46 dynamic dropped, 52 constant dropped, 58 constant dropped, 64 counter dropped, 68 set ifs unknown type, 73 set met state, 81 set quo state, 87 set cc state, 94 set ca catch-all, 113 map m skipped, 118 chain input skipped~\
 ";
 
 /// Rulesets in the forms of fail2ban, firewalld and kube-proxy, of a server, and of a script that blocks countries. The
@@ -294,6 +293,14 @@ const WRITTEN: &[u8] = b"\
     insert rule inet geo input iif lo accept\n\
     delete table ip old\n\
     |1 sets 3 steps, 3 add chain skipped, 5 add rule skipped, 6 insert rule skipped, 7 delete table skipped~\
+    table inet t {\n\
+    set a { typeof ct original ip saddr . th dport; elements = { 192.0.2.1 . 22 } }\n\
+    set b { typeof ip saddr . iifname; }\n\
+    set c { typeof @th,0,16; }\n\
+    set d { typeof ip saddr; ct count over 20; }\n\
+    set e { typeof ct count; }\n\
+    }\n\
+    |1 sets 2 steps, 3 set b unknown type, 4 set c unknown type, 5 set d state, 6 set e unknown type~\
     table ip t {\n\
     set s { type ipv4_addr; timeout 1h; }\n\
     chain c {\n\
@@ -413,6 +420,6 @@ const REFUSED: &[u8] = b"\
 #[test]
 fn rulesets(rt: HostRuntime) {
     assert_told(&rt, rt.alloc(), LISTED, 1, told_ruleset);
-    assert_told(&rt, rt.alloc(), WRITTEN, 6, told_ruleset);
+    assert_told(&rt, rt.alloc(), WRITTEN, 7, told_ruleset);
     assert_told(&rt, rt.alloc(), REFUSED, 18, told_ruleset);
 }
