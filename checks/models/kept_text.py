@@ -10,8 +10,15 @@ TOKEN = re.compile(
 )
 NAME = re.compile(rb"[A-Za-z_][A-Za-z0-9_./:-]{0,126}")
 KINDS = {b"ipv4_addr", b"ipv6_addr", b"ether_addr", b"inet_proto", b"inet_service", b"mark"}
+DIRECTIONS = [f"ct {way} {field}" for way in ("original", "reply") for field in ("ip saddr", "ip daddr", "ip6 saddr", "ip6 daddr", "protocol")]
+EXPRESSIONS = [
+    "ip saddr", "ip daddr", "ip protocol", "ip6 saddr", "ip6 daddr", "ip6 nexthdr", "meta l4proto", "meta mark", "mark", "ct mark",
+    "ether saddr", "ether daddr", "arp saddr ip", "arp daddr ip", "arp saddr ether", "arp daddr ether", *DIRECTIONS,
+    *(f"{protocol} {port}" for protocol in ("tcp", "udp", "sctp", "dccp", "udplite", "th") for port in ("sport", "dport")),
+]
+# how expressions begin, and the expressions themselves
+BEGUN = {tuple(e.encode().split()[:n]) for e in EXPRESSIONS for n in range(1, 5)}
 LEFT_OUT = {
-    b"typeof": "is left out: 'typeof' isn't read here",
     b"auto-merge": "is left out: 'auto-merge' isn't read here",
     b"*": "is left out: it has the catch-all element '*'",
     b"quota": "is left out: it has a quota, a limit or a count of connections",
@@ -47,7 +54,7 @@ class Token:
 
 
 KNOWN = (
-    KINDS | LEFT_OUT.keys() | IDLE | TALLIES | COUNTS | ON_SETS.keys() | TURNS | HEADS | {b"type", b"flags", b"table", b"element", b"ruleset"}
+    KINDS | LEFT_OUT.keys() | IDLE | TALLIES | COUNTS | ON_SETS.keys() | TURNS | HEADS | {b"type", b"typeof", b"flags", b"table", b"element", b"ruleset"}
 )
 
 
@@ -100,15 +107,21 @@ def second_word_within(item):
 
 def parts_of(body):
     """The tokens that a kept item loses, or why it is left out."""
-    dropped, spot, kept_flag, after_dropped = [], None, False, False
+    dropped, spot, kept_flag, after_dropped, expression = [], None, False, False, ()
     for n, t in enumerate(body):
-        if t.says in LEFT_OUT:
+        if spot != "expressions" and t.says in LEFT_OUT:
             return LEFT_OUT[t.says]
         following = body[n + 1] if n + 1 < len(body) else None
-        fresh = t.kind == "break" or t.says in (b";", b"{", b"}") or t.says in (b"type", b"flags") or t.says in TALLIES
+        fresh = t.kind == "break" or t.says in (b";", b"{", b"}") or t.says in (b"type", b"typeof", b"flags") or t.says in TALLIES
         if spot == "types" and t.kind == "word" and t.says not in KINDS and t.text != b".":
             return UNKNOWN
-        if spot == "flags":
+        if spot == "expressions":
+            is_dot = t.kind == "word" and t.text == b"."
+            expression = () if is_dot else (*expression, t.text if t.kind == "word" else b"")
+            ends = t.kind == "break" or t.says in (b";", b"{", b"}") or t.stays()
+            if not is_dot and not ends and expression not in BEGUN:
+                return UNKNOWN
+        elif spot == "flags":
             whole = t.says in IDLE and following is not None and (following.kind == "break" or following.says in (b";", b",", b"}"))
             comma = False
             if t.says == b",":
@@ -123,9 +136,12 @@ def parts_of(body):
             dropped.append(t)
         if fresh:
             kept_flag = after_dropped = False
-            spot = {b"type": "types", b"flags": "flags"}.get(t.says, "count" if t.says in TALLIES else None)
+            spot = {b"type": "types", b"typeof": "expressions", b"flags": "flags"}.get(t.says, "count" if t.says in TALLIES else None)
+            expression = ()
         elif spot == "types":
             spot = "types" if t.says in KINDS or t.text == b"." and t.kind == "word" else None
+        elif spot == "expressions":
+            spot = "expressions" if t.kind == "word" else None
         elif spot == "flags":
             if not kept_flag:
                 kept_flag, after_dropped = t.is_plain(), t.says in IDLE

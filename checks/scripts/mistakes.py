@@ -161,7 +161,7 @@ MISTAKES = [
     (declare("type mark; comment web"), 2, 37, "'web' isn't in quotes", 'quote the comment: comment "web"', "taken"),
     (declare("type mark; policy memroy"), 2, 36, "'memroy' isn't a policy", "did you mean 'memory'?", "syntax error, unexpected string, expecting memory or performance"),
     (declare("type mark; auto-merge"), 2, 29, "'auto-merge' isn't supported", "remove it: intervals aren't merged, and one that overlaps is refused", "auto-merge only works with interval sets"),
-    (declare("typeof ip saddr"), 2, 18, "'typeof' isn't supported", "write 'type' and the types themselves, as: type ipv4_addr . inet_service", "taken"),
+    (declare("typeof iifname"), 2, 25, "'iifname' isn't a supported type", TYPES, "taken"),
     ("table ip t {\n\tset s {\n\t\ttype mark\n\t}\n", 5, 1, "the end of the text leaves the '{' of line 1 open", "write '}' after the last set of the table", "syntax error, unexpected end of file"),
     ("table ip t {\n\tchain c {\n\t}\n}\n", 2, 2, "'chain' isn't supported", "remove chains and rules, or read a whole ruleset with --sets: a script has only sets", "taken"),
     ("table ip t {\n\tste s {\n\t}\n}\n", 2, 2, "'ste' can't come in a table", "did you mean 'set'?", "syntax error, unexpected string"),

@@ -1,7 +1,7 @@
 """Loads rulesets into a kernel of their own and lists them, pipes the listings through `pipapo sets`, and loads the outputs.
 
 The second kernel must have the sets of the first, without counters and the flags constant and dynamic. Sets with `auto-merge`
-or `typeof` must be left out. The notes must be those that this model makes of the listing's lines.
+must be left out. The notes must be those that this model makes of the listing's lines.
 
 Rulesets with an item in the braces of another one must be refused by both, at the same line. A ruleset with all forms of rules on
 sets must be read by both.
@@ -14,7 +14,7 @@ import subprocess
 import sys
 
 PROGRAM, RULESETS = sys.argv[1], sys.argv[2:]
-LEFT_OUT = {"auto-merge": "'auto-merge' isn't read here", "typeof": "'typeof' isn't read here"}
+LEFT_OUT = {"auto-merge": "'auto-merge' isn't read here"}
 DROPPED = ["constant", "dynamic", "counter", "last"]
 SET = "set s {\ntype ipv4_addr\n}\n"
 # rulesets with an item in the braces of another one, and the line of that item
