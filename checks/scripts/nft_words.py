@@ -45,7 +45,7 @@ ROWS = [
     ("add set ip t p { typeof tcp dport ; }", True, None),
     ("add set ip t p { typeof ip saddr . ct original ip daddr . meta mark . th sport ; }", True, None),
     ("add set ip t p { typeof mark . ct mark . ip6 nexthdr . ct reply protocol ; }", True, None),
-    ("add set arp t p { typeof arp saddr ip . arp daddr ether ; }", True, None),
+    ("add table arp t\nadd set arp t p { typeof arp saddr ip . arp daddr ether ; }", True, None),
     ("add set ip t p { typeof iifname ; }", True, "type"),
     ("add set ip t p { typeof ip saddr . icmp type ; }", True, "type"),
     ("add set ip t p { typeof ct protocol ; }", True, "type"),
