@@ -1,16 +1,14 @@
 -- The first element of exactly these intervals, found by the first element that holds their start
 -- key.
-use Rattle.std.proofs.Common.{◌≡◌, refl, sym, ◌∙◌, ap, ℕ, ◌+◌, ◌-◌, ◌<◌, ◌≤◌, ◌⊎◌, inl, inr, Bool, true, false, ◌&&◌, List, [], ◌∷◌, length, get_or, take, zip, flat_map, Some, None, nat_le, arith}
+use Rattle.std.proofs.Common.{◌≡◌, refl, sym, ◌∙◌, ap, ℕ, ◌-◌, ◌<◌, ◌≤◌, Bool, true, false, ◌&&◌, List, [], ◌∷◌, length, get_or, zip, Some, None, nat_le, arith}
 use Rattle.std.specs.Prelude.{All, ◌==◌}
 use Rattle.std.specs.List.{list_all}
-use Rattle.std.proofs.lemmas.Bool.{and_parts, and_from, cases_lt}
+use Rattle.std.proofs.lemmas.Bool.{and_parts, and_from}
 use Rattle.std.proofs.lemmas.Bool.Decides.{nat_tests}
-use Rattle.std.proofs.lemmas.List.{length-map, take_all, get_or_default}
+use Rattle.std.proofs.lemmas.List.{length-map}
 use Rattle.std.proofs.lemmas.List.Elements.{All-get_or}
 use Rattle.std.proofs.lemmas.List.Quantifiers.{position-Some}
-use Rattle.bit_rows.specs.Row.{at, IsNextSet}
 use Rattle.mapping_table.proofs.LedLaws.{position-first, position-nowhere}
-use Rattle.set_tables.specs.declared.End.{End}
 use Rattle.set_tables.specs.Core.{row_of, passes_fields}
 use Rattle.set_tables.specs.Search.{key_tests}
 use Rattle.set_tables.specs.Tables.{split, last_ends}
@@ -23,9 +21,9 @@ use Rattle.set_model.specs.Expiry.{live}
 use Rattle.set_model.specs.Key.{parts_fit, intervals_fit, is_good, is_value, contains, parts_hold, same_parts, start_key}
 use Rattle.set_model.specs.SetState.{State, answers, holds, place, is_exactly, element_at}
 use Rattle.expiry_scan.proofs.PlaceLaws.{no_element}
+use Rattle.pipapo_image.specs.Image.Among.{LeadsTo}
 use Rattle.pipapo_image.specs.Image.Steps.{IsExactPlace}
-use Rattle.pipapo_image.proofs.EndLaws.{end-below}
-use Rattle.pipapo_image.proofs.HitLaws.{key-hit, place-order}
+use Rattle.pipapo_image.proofs.HitLaws.{key-hit}
 use Rattle.pipapo_image.proofs.ImageUse.{parts-long, all-long}
 
 same-low : (xl pl : ℕ) → (xl == pl) ≡ true → nat_le xl pl ≡ true
@@ -124,91 +122,17 @@ exact-unfit s parts now fit un = record {
 
 -- ---- by the rules that the start key leads to
 
--- what the loop over these rules keeps: those before `from` lead to no element of these intervals
-pub record NoneExact (s : State) (parts : List Interval) (now : ℕ) (list : List End) (row : List Bool) (from : ℕ) : Type 0 where
-  pub each : (r : ℕ) (d : End) → r < from → at row r ≡ true → is_exactly parts now (element_at s (get_or list r d).place) ≡ false
-
-pub no_end : End
-no_end = record { place = 0; expiry = None }
-
 start-long : (kinds : List Kind) (parts : List Interval) → parts_fit kinds parts ≡ true → length (start_key parts) ≡ length kinds
 start-long kinds parts fit = length-map parts (λ part. part.low) ∙ parts-long kinds parts fit
 
--- the tables of a set, as the loop reads them
-pub record AreReached (s : State) (parts : List Interval) (list : List End) (row : List Bool) : Type 0 where
-  pub some : 1 ≤ length s.kinds
-  pub fit : parts_fit s.kinds parts ≡ true
-  pub all : All (λ e. parts_fit s.kinds e.parts ≡ true) s.elements
-  pub led : list ≡ last_ends s.kinds s.elements
-  pub is : row ≡ row_of s.kinds s.elements (key_tests (start_key parts)) (length s.kinds - 1)
-
-pub reached-long : (s : State) (parts : List Interval) (list : List End) (row : List Bool) → AreReached s parts list row → length row ≡ length list
-reached-long s parts list row r =
+-- they lead to each element of these intervals
+pub exact-leads : (s : State) (parts : List Interval) (now : ℕ) (row : List Bool) → 1 ≤ length s.kinds → parts_fit s.kinds parts ≡ true → All (λ e. parts_fit s.kinds e.parts ≡ true) s.elements
+    → row ≡ row_of s.kinds s.elements (key_tests (start_key parts)) (length s.kinds - 1) → LeadsTo s (is_exactly parts now) row
+exact-leads s parts now row some fit all is =
     let f = length s.kinds - 1 in
-    ap length r.is ∙ length-hits (split s.kinds f) (passes_fields s.kinds (key_tests (start_key parts)) f) (key_tests (start_key parts) f) s.elements
-    ∙ sym (length-ends (split s.kinds f) 0 s.elements) ∙ sym (ap length r.led)
-
-pub place-within : (s : State) (parts : List Interval) (list : List End) (row : List Bool) (r : ℕ) (d : End) → AreReached s parts list row → r < length list → (get_or list r d).place < length s.elements
-place-within s parts list row r d are h =
-    let f = length s.kinds - 1 in
-    let n = ap length are.led ∙ length-ends (split s.kinds f) 0 s.elements in
-    let whole : take (length s.elements) s.elements ≡ s.elements = take_all (length s.elements) s.elements (omega arith) in
-    let m : length (flat_map (split s.kinds f) (take (length s.elements) s.elements)) ≡ length (flat_map (split s.kinds f) s.elements) = ap (λ z. length (flat_map (split s.kinds f) z)) whole in
-    let b = end-below (split s.kinds f) 0 s.elements (length s.elements) r d (omega arith) in
-    omega (arith, ap (λ z. (get_or z r d).place) are.led, b)
-
--- An element has other intervals if each rule that leads to it shows that.
-unmet : (s : State) (parts : List Interval) (now : ℕ) (list : List End) (row : List Bool) (k : ℕ) → AreReached s parts list row → k < length s.elements
-    → ((r : ℕ) → r < length list → at row r ≡ true → (get_or list r no_end).place ≡ k → is_exactly parts now (element_at s (get_or list r no_end).place) ≡ false)
-    → is_exactly parts now (element_at s k) ≡ false
-unmet s parts now list row k are h none = go (is_exactly parts now (element_at s k)) refl where
-  go : (b : Bool) → is_exactly parts now (element_at s k) ≡ b → b ≡ false
-  go false e = refl
-  go true e =
-      let holding = exact-holds s.kinds parts now (element_at s k) are.fit e in
-      let hit = key-hit s.kinds s.elements (start_key parts) now list row k no_element are.some (start-long s.kinds parts are.fit) (all-long s.kinds s.elements are.all) are.led are.is h holding in
-      let off = none hit.rule hit.within hit.set (hit.leads no_end) in
-      let same = ap (λ p. is_exactly parts now (element_at s p)) (hit.leads no_end) in
-      sym e ∙ sym same ∙ off
-
--- a rule of the row, before `from` or after it
-met : (s : State) (parts : List Interval) (now : ℕ) (list : List End) (row : List Bool) (from to r : ℕ) → NoneExact s parts now list row from → ((i : ℕ) → from ≤ i → i < to → at row i ≡ false) → r < to → at row r ≡ true
-    → is_exactly parts now (element_at s (get_or list r no_end).place) ≡ false
-met s parts now list row from to r none gap h set = go (cases_lt r from) where
-  go : (r < from) ⊎ (from ≤ r) → is_exactly parts now (element_at s (get_or list r no_end).place) ≡ false
-  go (inl l) = none.each r no_end l set
-  go (inr g) = let e : false ≡ true = sym (gap r g h) ∙ set in absurd (cc e)
-
-pub among-some : (s : State) (parts : List Interval) (now : ℕ) (list : List End) (row : List Bool) (from r : ℕ) → AreReached s parts list row → NoneExact s parts now list row from → IsNextSet row from r → r < length list
-    → is_exactly parts now (element_at s (get_or list r no_end).place) ≡ true → IsExactPlace s parts now (Some (get_or list r no_end).place)
-among-some s parts now list row from r are none next h exact =
-    let p = (get_or list r no_end).place in
-    let within = place-within s parts list row r no_end are h in
     record {
-      value = position-first (is_exactly parts now) s.elements p no_element within
-          (λ k l.
-          unmet s parts now list row k are (omega arith)
-          (λ q a set leads. met s parts now list row from r q none next.least (place-order s.kinds s.elements list q r no_end are.led a (omega (arith, leads, l))) set))
-          exact;
-      within = within;
+      long = ap length is ∙ length-hits (split s.kinds f) (passes_fields s.kinds (key_tests (start_key parts)) f) (key_tests (start_key parts) f) s.elements ∙ sym (length-ends (split s.kinds f) 0 s.elements);
+      each = λ k h e.
+          key-hit s.kinds s.elements (start_key parts) now (last_ends s.kinds s.elements) row k no_element some (start-long s.kinds parts fit) (all-long s.kinds s.elements all) refl is h
+          (exact-holds s.kinds parts now (element_at s k) fit e);
     }
-
-pub among-none : (s : State) (parts : List Interval) (now : ℕ) (list : List End) (row : List Bool) (from : ℕ) → AreReached s parts list row → NoneExact s parts now list row from → ((i : ℕ) → from ≤ i → at row i ≡ false) → IsExactPlace s parts now None
-among-none s parts now list row from are none gap = record {
-  value = position-nowhere (is_exactly parts now) s.elements no_element
-      (λ k l. unmet s parts now list row k are l (λ q a set leads. met s parts now list row from (q + 1) q none (λ i b c. gap i b) (omega arith) set));
-  within = tt;
-}
-
--- one more rule that leads to other intervals
-pub one-more-met : (s : State) (parts : List Interval) (now : ℕ) (list : List End) (row : List Bool) (from r : ℕ) → NoneExact s parts now list row from → IsNextSet row from r → r < length list
-    → is_exactly parts now (element_at s (get_or list r no_end).place) ≡ false → NoneExact s parts now list row (r + 1)
-one-more-met s parts now list row from r none next h other = record { each = λ q d l set. go q d l set (cases_lt q r) } where
-  go : (q : ℕ) (d : End) → q < r + 1 → at row q ≡ true → (q < r) ⊎ (r ≤ q) → is_exactly parts now (element_at s (get_or list q d).place) ≡ false
-  go q d l set (inl a) =
-      let inside : q < length list = omega arith in
-      ap (λ z. is_exactly parts now (element_at s z.place)) (get_or_default list q d no_end inside) ∙ met s parts now list row from r q none next.least a set
-  go q d l set (inr a) =
-      let e : q ≡ r = omega arith in
-      let inside : q < length list = omega arith in
-      ap (λ z. is_exactly parts now (element_at s z.place)) (get_or_default list q d no_end inside ∙ ap (λ n. get_or list n no_end) e) ∙ other

@@ -1,5 +1,5 @@
 -- The rules that a key leads to, and the elements that hold it.
-use Rattle.std.proofs.Common.{◌≡◌, refl, sym, ◌∙◌, ap, ℕ, zero, suc, ◌+◌, ◌-◌, ◌<◌, ◌≤◌, Bool, true, false, ◌&&◌, ◌||◌, List, [], ◌∷◌, ◌++◌, length, map, get_or, arith, length-append}
+use Rattle.std.proofs.Common.{◌≡◌, refl, sym, ◌∙◌, ap, subst, zero-add, ℕ, zero, suc, ◌+◌, ◌-◌, ◌<◌, ◌≤◌, Bool, true, false, ◌&&◌, ◌||◌, List, [], ◌∷◌, ◌++◌, length, map, get_or, arith, length-append}
 use Rattle.std.specs.Prelude.{replicate, All}
 use Rattle.std.specs.List.{list_any}
 use Rattle.std.proofs.lemmas.Bool.{and_parts}
@@ -16,14 +16,9 @@ use Rattle.set_tables.specs.Core.{hits, row_of, passes_fields}
 use Rattle.set_tables.specs.Search.{key_tests}
 use Rattle.set_tables.specs.Tables.{split, ends, last_ends}
 use Rattle.set_tables.proofs.SearchLaws.{passed-held, held-all}
+use Rattle.pipapo_image.specs.Image.Among.{IsHit}
+use Rattle.pipapo_image.specs.Index.Narrow.{last_row}
 use Rattle.pipapo_image.proofs.EndLaws.{before-place, not-before-place}
-
--- a rule that is set in the row, and whose end has this place
-pub record IsHit (list : List End) (row : List Bool) (place : ℕ) : Type 0 where
-  pub rule : ℕ
-  pub within : rule < length list
-  pub set : at row rule ≡ true
-  pub leads : (d : End) → (get_or list rule d).place ≡ place
 
 record IsPassed (test : Block → Bool) (bs : List Block) : Type 0 where
   pub at : ℕ
@@ -97,6 +92,13 @@ key-hit kinds es key now list row k d some long all led is h holding =
       set = ap (λ z. at z hit.rule) is ∙ hit.set;
       leads = λ z. ap (λ y. (get_or y hit.rule z).place) led ∙ hit.leads z ∙ omega arith;
     }
+
+-- an element that passes in the last field has a rule that passes there
+pub last-hit : (kinds : List Kind) (es : List Element) (tests : ℕ → Block → Bool) (k : ℕ) (d : Element) → k < length es
+    → list_any (tests (length kinds - 1)) (split kinds (length kinds - 1) (get_or es k d)) ≡ true → IsHit (last_ends kinds es) (last_row kinds es tests) k
+last-hit kinds es tests k d h passes =
+    let hit = hit-at (split kinds (length kinds - 1)) (λ e. true) (tests (length kinds - 1)) 0 es k d h passes in
+    subst (λ i. IsHit (last_ends kinds es) (last_row kinds es tests) i) (zero-add k) hit
 
 -- a rule of an earlier place comes first
 pub place-order : (kinds : List Kind) (es : List Element) (list : List End) (a b : ℕ) (d : End) → list ≡ last_ends kinds es → a < length list → (get_or list a d).place < (get_or list b d).place → a < b

@@ -54,3 +54,6 @@ all-long kinds es h =
     let P : Element → Type 0 = λ e. parts_fit kinds e.parts ≡ true in
     let Q : Element → Type 0 = λ e. length e.parts ≡ length kinds in
     All-weaker P Q (λ e g. parts-long kinds e.parts g) es h
+
+pub key-long : (kinds : List Kind) (key : List ℕ) → key_fits kinds key ≡ true → length key ≡ length kinds
+key-long kinds key h = from-equal (length kinds) (length key) (and_parts (length kinds == length key) (values_fit kinds key) h).0

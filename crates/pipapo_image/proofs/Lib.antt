@@ -22,5 +22,7 @@ pub mod Shrinking
 pub mod Purging
 pub mod Leaving
 pub mod HitLaws
+pub mod AmongLaws
+pub mod NarrowLaws
 pub mod ExactLaws
 pub mod AcceptedLaws

@@ -1,5 +1,6 @@
 -- What holds of a set's parts at every moment between calls.
 pub mod Accepted
+pub mod Among
 pub mod Apart
 pub mod Append
 pub mod Deciding

@@ -3,6 +3,7 @@ pub mod Built
 pub mod Changes
 pub mod Copied
 pub mod Grow
+pub mod Narrow
 pub mod Room
 pub mod Runs
 pub mod Sharing

@@ -3,6 +3,7 @@ ghost use Rattle.set_model.specs.Key.{key_fits, parts_fit};
 ghost use Rattle.set_model.specs.SetState.{place, empty_set, cleared, element_at, rules_limit};
 ghost use Rattle.pipapo_image.specs.Image.Found.{found, found_at, IsPlace};
 
+pub(crate) mod among;
 pub(crate) mod append;
 pub(crate) mod decision;
 pub(crate) mod delete;

@@ -19,6 +19,7 @@ pub(crate) mod copy;
 pub(crate) mod drops;
 pub(crate) mod fused;
 pub(crate) mod grow;
+pub(crate) mod narrow;
 pub(crate) mod pages;
 pub(crate) mod place;
 pub(crate) mod scratch;
@@ -145,7 +146,7 @@ fn empty_table(alloc: Global, kind: Kind, is_first: bool) -> Result<FieldTable, 
 }
 
 /// Clears bit `r` of the row unless rule `r`'s block holds the value.
-fn match_field(table: &FieldTable, value: u128, row: &mut BitRow)
+pub(crate) fn match_field(table: &FieldTable, value: u128, row: &mut BitRow)
     requires length { length row.old.bits ≡ table.now.rules }
     requires value { value < 2 ^ table.now.bits }
     ensures bits { (blocks : List Block) → Stands table.now blocks → row.new.bits ≡ matched (λ b. holds_value b value) blocks row.old.bits }

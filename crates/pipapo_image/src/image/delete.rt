@@ -1,18 +1,16 @@
-ghost use Rattle.std.specs.Prelude.{◌≡◌, ◌-◌, ◌<◌, true, length, OnErr, IfOk};
-ghost use Rattle.set_model.specs.Key.{parts_fit, start_key};
-ghost use Rattle.set_tables.specs.Core.{row_of};
-ghost use Rattle.set_tables.specs.Search.{key_tests};
-ghost use Rattle.set_model.specs.SetState.{is_exactly, removed, element_at, without_at};
+ghost use Rattle.std.specs.Prelude.{◌≡◌, ◌<◌, true, length, OnErr, IfOk};
+ghost use Rattle.set_model.specs.Key.{parts_fit};
+ghost use Rattle.set_model.specs.SetState.{removed, element_at, without_at};
 ghost use Rattle.pipapo_image.specs.Image.Found.{exactly_found};
 ghost use Rattle.pipapo_image.specs.Image.Remove.{IsRemoval};
 ghost use Rattle.pipapo_image.specs.Image.Steps.{IsExactPlace};
 
 use crate::answers::ChangeError;
 use crate::image::SetImage;
+use crate::image::among::Sought;
 use crate::image::keys::starts;
 use crate::index::scratch::Scratch;
-use bit_rows::BitRow;
-use set_model::{Found, Memory, Parts, Why, is_live, parts_fit};
+use set_model::{Found, Memory, Parts, Why, parts_fit};
 use std::alloc::Global;
 
 impl SetImage {
@@ -74,33 +72,7 @@ impl SetImage {
         let row = &mut scratch.row;
         self.index
             .reach(&lows[..parts.len() as usize], row, &mut scratch.next);
-        self.exact_among(row, parts, now)
-    }
-
-    /// The same place, if these are the rules that the start key leads to.
-    fn exact_among(&self, row: &BitRow, parts: &Parts, now: u64) -> Option<u64>
-        requires fit { parts_fit self.now.kinds parts.now ≡ true }
-        requires row { row.now.bits ≡ row_of self.now.kinds self.now.elements (key_tests (start_key parts.now)) (length self.now.kinds - 1) }
-        ensures { IsExactPlace self.now parts.now now result }
-    {
-        let _rules = row.len();
-        let mut from = 0;
-        'rules: while let Some(r) = row.next_set(from) {
-            let place = self.index.ends.at(r).place;
-            if self.is_exactly_at(place, parts, now) {
-                return Some(place);
-            }
-            from = r + 1;
-        }
-        None
-    }
-
-    /// Whether the element at place `i` is live and has exactly these intervals.
-    fn is_exactly_at(&self, i: u64, parts: &Parts, now: u64) -> bool
-        requires { i < length self.now.elements }
-        ensures { result ≡ is_exactly parts.now now (element_at self.now i) }
-    {
-        is_live(self.elements.at(i).expiry, now) && self.has_parts(i, parts)
+        self.first_among(row, &Sought::Exactly(parts.as_slice()), now)
     }
 
     /// Removes the element at place `i`, and returns its id. The rules of later elements move down.

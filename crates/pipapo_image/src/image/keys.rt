@@ -1,8 +1,9 @@
 ghost use Rattle.std.specs.Prelude.{◌≡◌, ◌≤◌, true, length, take};
-ghost use Rattle.set_model.specs.Key.{parts_fit, start_key, end_key};
+ghost use Rattle.set_model.specs.Key.{key_fits, parts_fit, start_key, end_key};
 ghost use Rattle.pipapo_image.specs.Image.Found.{IsPlace};
 
 use crate::image::SetImage;
+use crate::image::among::Sought;
 use crate::index::scratch::Scratch;
 use set_model::Parts;
 
@@ -38,7 +39,7 @@ impl SetImage {
     {
         let _kinds = self.kinds.len();
         let lows = starts(parts);
-        self.place(&lows[..parts.len() as usize], now, scratch)
+        self.holder_place(&lows[..parts.len() as usize], now, scratch)
     }
 
     /// The place of the first live element that holds the end key.
@@ -48,6 +49,19 @@ impl SetImage {
     {
         let _kinds = self.kinds.len();
         let highs = ends(parts);
-        self.place(&highs[..parts.len() as usize], now, scratch)
+        self.holder_place(&highs[..parts.len() as usize], now, scratch)
+    }
+
+    /// The place of the first live element that holds the key. If few rules of the last field hold
+    /// the key's value there, their elements are compared with the key. Else it is a lookup.
+    fn holder_place(&self, key: &[u128], now: u64, scratch: &mut Scratch) -> Option<u64>
+        requires { key_fits self.now.kinds key.now ≡ true }
+        ensures { IsPlace self.now key.now now result }
+    {
+        let row = &mut scratch.row;
+        if self.index.is_key_narrow(key, row) {
+            return self.first_among(row, &Sought::Holding(key), now);
+        }
+        self.place(key, now, scratch)
     }
 }

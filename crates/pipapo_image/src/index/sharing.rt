@@ -179,7 +179,7 @@ fn share_word_blocks(table: &FieldTable, split: Blocks, i: u32, word: u64) -> u6
 }
 
 /// As `share_field`, with all words of the row. The other rows are overwritten.
-fn share_row(
+pub(crate) fn share_row(
     table: &FieldTable,
     part: Interval,
     row: &mut BitRow,

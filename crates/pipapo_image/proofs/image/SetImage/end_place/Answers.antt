@@ -10,12 +10,12 @@ ends-highs-requires c =
     let long = parts-long c.self.inside.kinds c.args.parts.now (ap (λ s. parts_fit s.kinds c.args.parts.now) c.self.view_is ∙ c.requires) in
     omega (arith, c.self.invariant.few_kinds)
 
-pub place-requires : goal.place-requires
-place-requires c =
+pub holder_place-requires : goal.holder_place-requires
+holder_place-requires c =
     let key : take c.len.result c.ends-highs.result ≡ end_key c.args.parts.now = ap (λ n. take n c.ends-highs.result) c.len.ensures ∙ c.ends-highs.ensures in
     subst (λ z. key_fits c.args.self.now.kinds z ≡ true) (sym key) (end-fits c.args.self.now.kinds c.args.parts.now c.requires)
 
 pub returns : goal.returns
 returns c =
     let key : take c.len.result c.ends-highs.result ≡ end_key c.args.parts.now = ap (λ n. take n c.ends-highs.result) c.len.ensures ∙ c.ends-highs.ensures in
-    subst (λ z. IsPlace c.args.self.now z c.args.now c.place.result) key c.place.ensures
+    subst (λ z. IsPlace c.args.self.now z c.args.now c.holder_place.result) key c.holder_place.ensures

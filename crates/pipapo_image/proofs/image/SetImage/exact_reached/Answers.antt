@@ -1,8 +1,13 @@
 use Rattle.std.proofs.Common.{◌≡◌, ◌-◌, sym, ◌∙◌, ap, subst, take, length, arith}
 use Rattle.set_model.specs.Key.{key_fits, parts_fit, start_key}
+use Rattle.std.specs.Prelude.{position}
+use Rattle.set_model.specs.SetState.{is_exactly}
 use Rattle.set_tables.specs.Core.{row_of}
 use Rattle.set_tables.specs.Search.{key_tests}
 use Rattle.pipapo_image.specs.Index.Walk.{IsKeyOf}
+use Rattle.pipapo_image.specs.Image.{IsImage}
+use Rattle.pipapo_image.specs.Image.Among.{LeadsTo}
+use Rattle.pipapo_image.proofs.ExactLaws.{exact-leads}
 use Rattle.pipapo_image.proofs.ImageUse.{parts-long, key-of}
 use Rattle.pipapo_image.proofs.ShapeLaws.{image-shaped}
 use Rattle.pipapo_image.proofs.AddLaws.{start-fits}
@@ -24,9 +29,21 @@ reach-requires c =
       next_room = c.scratch.invariant.1;
     }
 
-pub exact_among-requires-clause-row : goal.exact_among-requires-clause-row
-exact_among-requires-clause-row c =
+pub first_among-requires : goal.first_among-requires
+first_among-requires c =
+    let s = c.args.self.now in
     let key : take c.len.result c.starts-lows.result ≡ start_key c.args.parts.now = ap (λ n. take n c.starts-lows.result) c.len.ensures ∙ c.starts-lows.ensures in
-    c.reach.ensures.row c.self.inside.kinds c.self.inside.elements c.self.invariant.tables
-    ∙ ap (λ z. row_of c.self.inside.kinds c.self.inside.elements (key_tests z) (length c.self.inside.kinds - 1)) key
-    ∙ ap (λ s. row_of s.kinds s.elements (key_tests (start_key c.args.parts.now)) (length s.kinds - 1)) c.self.view_is
+    let i : IsImage s.kinds s.elements c.self.inside.index = subst (λ z. IsImage z.kinds z.elements c.self.inside.index) c.self.view_is c.self.invariant in
+    let row =
+    c.reach.ensures.row s.kinds s.elements i.tables
+    ∙ ap (λ z. row_of s.kinds s.elements (key_tests z) (length s.kinds - 1)) key in
+    subst (λ z. LeadsTo s (is_exactly z c.args.now) c.reach.new.row.bits) (sym c.as_slice.ensures) (exact-leads s c.args.parts.now c.args.now c.reach.new.row.bits i.some c.requires i.fit row)
+
+pub returns : goal.returns
+returns c =
+    let s = c.args.self.now in
+    let parts = c.as_slice.ensures in
+    record {
+      value = c.first_among.ensures.value ∙ ap (λ z. position (is_exactly z c.args.now) s.elements) parts;
+      within = c.first_among.ensures.within;
+    }

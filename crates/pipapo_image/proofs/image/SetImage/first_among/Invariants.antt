@@ -1,12 +1,12 @@
 use Rattle.std.proofs.Common.{◌-◌, ◌≤◌, length}
-use Rattle.set_tables.specs.Tables.{last_ends}
-use Rattle.pipapo_image.proofs.ExactLaws.{NoneExact}
-use Rattle.pipapo_image.proofs.image.SetImage.exact_among.Given as goal
+use Rattle.pipapo_image.specs.Image.Among.{is_sought}
+use Rattle.pipapo_image.proofs.AmongLaws.{NonePasses}
+use Rattle.pipapo_image.proofs.image.SetImage.first_among.Given as goal
 
 abbrev pub invariant-rules : goal.invariant-rules
 invariant-rules l = record {
   within : l.from ≤ length l.row.bits;
-  none : NoneExact l.self l.parts l.now (last_ends l.self.kinds l.self.elements) l.row.bits l.from;
+  none : NonePasses l.self (is_sought l.sought l.now) l.row.bits l.from;
 }
 
 abbrev pub decreases-rules : goal.decreases-rules
