@@ -20,8 +20,8 @@ use set_model::Parts;
 /// The last field is narrow if the first field has at least this many times as many rules.
 const TIMES: u32 = 16;
 
-/// The most rules of the last field whose elements are compared one by one.
-const FEW: u32 = 16;
+/// If this many rules of the last field are left, their elements aren't compared one by one.
+const MANY: u32 = 16;
 
 // Searches of changes, which may begin with the last field. Lookups of packets never do.
 impl Index {
@@ -87,7 +87,7 @@ fn is_last_narrow(fields: &[FieldTable]) -> bool
 fn has_few(row: &BitRow) -> bool {
     let _rules = row.len();
     let mut from = 0;
-    'rules: for _ in 0..FEW {
+    'rules: for _ in 0..MANY {
         match row.next_set(from) {
             Some(r) => from = r + 1,
             None => return true,
