@@ -62,7 +62,7 @@ fn insert_one(
 }
 
 /// Deletes the intervals of some element, which may be expired.
-fn delete_one(
+pub(crate) fn delete_one(
     rt: &impl Abort,
     random: &mut Random,
     trial: &mut Trial,

@@ -70,7 +70,7 @@ fn expiry_of(random: &mut Random, now: u64) -> Option<u64> {
 }
 
 /// Adds an element at a moment to both, and compares the results.
-fn add_one(
+pub(crate) fn add_one(
     rt: &impl Abort,
     trial: &mut Trial,
     plain: &mut PlainSet,

@@ -26,6 +26,8 @@ mod expiries;
 #[cfg(test)]
 mod fields;
 #[cfg(test)]
+mod narrow;
+#[cfg(test)]
 mod paged;
 #[cfg(test)]
 mod plain;
