@@ -159,6 +159,14 @@ def all_in_one_field(count):
     yield "commit"
 
 
+def wide_but_the_last(count):
+    """So many elements that each key matches in all fields but the last."""
+    yield "add set ip t s { type " + " . ".join(["inet_service"] * 16) + " ; flags interval ; }"
+    for n in range(1, count + 1):
+        yield "add element ip t s { " + "1-65534 . " * 15 + f"{n} }}"
+    yield "commit"
+
+
 def many_rules(count):
     """So many elements of 254 rules each, and a hundred commits that replace one in the middle."""
     yield "add set ip6 t s { type ipv6_addr ; flags interval ; }"
@@ -256,6 +264,7 @@ ROWS = [
     Row("replacements of the first element of a full set, one commit each", replacements, 2000),
     Row("replacements in the middle of elements of many rules", many_rules, 200),
     Row("additions of elements that each key matches in the first field", all_in_one_field, 1000),
+    Row("additions of elements that each key matches in all fields but the last", wide_but_the_last, 1000),
     Row("additions of ranges that share no key", disjoint_ranges, 2000),
     Row("rounds of one packet on sixteen threads", rounds, 5000, packet_each_round, threads=16),
     Row("transactions of sixteen control threads", control_threads, 1600, command="desk"),
